@@ -1,5 +1,5 @@
-//! The canvas of a list of drawops: rows of glyphs, each ended by a line feed. A later drawop of the
-//! list covers an earlier one.
+//! The canvas of a list of drawops: rows of glyphs, each ended by a line feed. A later drawop of
+//! the list covers an earlier one.
 
 ghost use Rattle.std.specs.Prelude.{◌≡◌, ◌+◌, ◌*◌, ◌<◌, ◌↔◌, IfOk, OnOk, IfErr, OnErr, true, false, length, take, []};
 ghost use Rattle.std.specs.Io.KnownBytes.{Appends};
@@ -113,12 +113,13 @@ impl Canvas {
         &self.bytes
     }
 
-    /// Writes the rows into the sink: all of them, or those bytes of which `Stopped` tells where the
-    /// sink has failed.
+    /// Writes the rows into the sink: all of them, or those bytes of which `Stopped` tells where
+    /// the sink has failed.
     #[tactic(auto, using(crate::proofs::Sent::sent_more))]
     pub fn write_to<W: Sink>(&self, sink: &mut W) -> Result<(), Stopped>
         ensures ok { OnOk result (Appends (W.taken sink.old) (W.taken sink.new) self.now) }
-        ensures part { IfErr result (λ s. Appends (W.taken sink.old) (W.taken sink.new) (take s.sent self.now)) }
+        ensures part { IfErr result
+            (λ s. Appends (W.taken sink.old) (W.taken sink.new) (take s.sent self.now)) }
         ensures short { IfErr result (λ s. s.sent < length self.now) }
         ensures failed { OnErr result (W.has_failed sink.new ≡ true) }
     {

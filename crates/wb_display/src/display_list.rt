@@ -23,7 +23,8 @@ fn place_in(list: &[Drawop], drawop: &Drawop) -> Result<usize, usize>
 /// has room for one more.
 pub(crate) fn set_shown(list: &mut Vec<Drawop>, drawop: &Drawop, shows: bool)
     requires { vec_len list.old < vec_capacity list.old }
-    ensures { IsStrictlySortedBy display_cmp list.old.items → TiesAlone list.old.items drawop.now → SetsShown drawop.now shows list.old.items list.new.items }
+    ensures { IsStrictlySortedBy display_cmp list.old.items → TiesAlone list.old.items drawop.now →
+        SetsShown drawop.now shows list.old.items list.new.items }
 {
     match place_in(list, drawop) {
         Ok(place) => {

@@ -132,8 +132,10 @@ impl LastWords {
     /// said of its target so far, it is the last word on that.
     pub fn update(&mut self, drawop: &Drawop) -> Result<(), AllocError>
         ensures page { self.new.page ≡ self.old.page }
-        ensures ok { OnOk result ((history : List DrawopValue) → AreLastWords history self.old → AreLastWords (history ++ drawop.now ∷ []) self.new) }
-        ensures err { OnErr result ((target : Target) → word_on self.new target ≡ word_on self.old target) }
+        ensures ok { OnOk result ((history : List DrawopValue) → AreLastWords history self.old →
+            AreLastWords (history ++ drawop.now ∷ []) self.new) }
+        ensures err { OnErr result ((target : Target) →
+            word_on self.new target ≡ word_on self.old target) }
         ensures succeeds { 1 ≤ spare self.old.latest → IsOk result }
         ensures room { spare self.old.latest ≤ spare self.new.latest + 1 }
     {
@@ -170,7 +172,8 @@ impl LastWords {
     /// Whether a drawop is shown on the page, by the last word on it.
     #[inline(always)]
     pub fn is_shown(&self, drawop: &Drawop) -> bool
-        ensures { result ≡ is_shown_by self.now.page drawop.now (word_on self.now (own_target drawop.now)) }
+        ensures { result ≡
+            is_shown_by self.now.page drawop.now (word_on self.now (own_target drawop.now)) }
     {
         self.is_on_page(drawop) && is_drawing(drawop.op()) && !self.is_hidden(naming(drawop))
     }

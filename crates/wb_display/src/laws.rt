@@ -1,4 +1,5 @@
-//! Laws of what a page shows. Each function does nothing: its contract is a law, for proofs to cite.
+//! Laws of what a page shows. Each function does nothing: its contract is a law, for proofs to
+//! cite.
 
 ghost use Rattle.wb_display.specs.Laws.{Converges, StaysAView, KeepsTheFirst, PaintsAlike, AgreesWithOlderRule, PutsShow, StandsAlone, HoldsItsPage, HoldsAHistory, LinesStepByOne};
 
@@ -12,7 +13,8 @@ pub fn view_is_free()
     ensures { StaysAView }
 {}
 
-/// Histories that hold the same drawops, in any order, paint the same canvas of every page and size.
+/// Histories that hold the same drawops, in any order, paint the same canvas of every page and
+/// size.
 pub fn canvas_is_free()
     ensures { PaintsAlike }
 {}
@@ -23,8 +25,8 @@ pub fn older_rule()
     ensures { AgreesWithOlderRule }
 {}
 
-/// What one more drawop changes of what a page shows: a drawing enters unless it is hidden, a delete
-/// takes its target out and a restore brings it back, where nothing later was said of that.
+/// What one more drawop changes of what a page shows: a drawing enters unless it is hidden, a
+/// delete takes its target out and a restore brings it back, where nothing later was said of that.
 pub fn put_shows()
     ensures { PutsShow }
 {}

@@ -52,10 +52,11 @@ impl Layer {
         }
     }
 
-    /// Puts a drawop. One of another page, or whose name was put before, changes nothing, whatever it
-    /// holds. All memory is asked for before anything is changed.
+    /// Puts a drawop. One of another page, or whose name was put before, changes nothing, whatever
+    /// it holds. All memory is asked for before anything is changed.
     pub fn put(&mut self, drawop: &Drawop) -> Result<(), AllocError>
-        ensures ok { OnOk result (self.new ≡ record self.old { held = held_with self.old.page self.old.held drawop.now }) }
+        ensures ok { OnOk result (self.new ≡
+            record self.old { held = held_with self.old.page self.old.held drawop.now }) }
         ensures err { OnErr result (self.new ≡ self.old) }
         ensures known { is_news_of self.old.page self.old.held drawop.now ≡ false → IsOk result }
     {
@@ -73,9 +74,11 @@ impl Layer {
     /// asked for before anything is changed: where it is refused, none was put.
     #[tactic(auto, using(crate::proofs::Layers::news_none))]
     pub fn put_all(&mut self, drawops: &[Drawop]) -> Result<(), AllocError>
-        ensures ok { OnOk result (self.new ≡ record self.old { held = held_with_all self.old.page self.old.held drawops.now }) }
+        ensures ok { OnOk result (self.new ≡
+            record self.old { held = held_with_all self.old.page self.old.held drawops.now }) }
         ensures err { OnErr result (self.new ≡ self.old) }
-        ensures known { All (λ d. is_news_of self.old.page self.old.held d ≡ false) drawops.now → IsOk result }
+        ensures known { All (λ d. is_news_of self.old.page self.old.held d ≡ false) drawops.now →
+            IsOk result }
     {
         let count = self.count_news(drawops);
         if count == 0 {
@@ -114,7 +117,8 @@ impl Layer {
 /// Whether a drawop is of the page and its name was not put before.
 #[inline(always)]
 fn is_news(words: &LastWords, drawops: &IndexMap<Target, Drawop>, drawop: &Drawop) -> bool
-    ensures { All (IsKeyed words.now.page) drawops.now.entries → result ≡ is_news_of words.now.page (held_of drawops.now.entries) drawop.now }
+    ensures { All (IsKeyed words.now.page) drawops.now.entries →
+        result ≡ is_news_of words.now.page (held_of drawops.now.entries) drawop.now }
 {
     words.is_on_page(drawop) && !drawops.contains_key(&naming(drawop))
 }
@@ -129,14 +133,20 @@ fn take_in_all(
 )
     requires held { AreHeld words.old drawops.old.entries }
     requires none { touched.old.items ≡ [] }
-    requires words { news_count words.old.page (held_of drawops.old.entries) list.now ≤ spare words.old.latest }
-    requires drawops { news_count words.old.page (held_of drawops.old.entries) list.now ≤ spare drawops.old }
-    requires touched { news_count words.old.page (held_of drawops.old.entries) list.now ≤ vec_capacity touched.old }
+    requires words { news_count words.old.page (held_of drawops.old.entries) list.now ≤
+        spare words.old.latest }
+    requires drawops { news_count words.old.page (held_of drawops.old.entries) list.now ≤
+        spare drawops.old }
+    requires touched { news_count words.old.page (held_of drawops.old.entries) list.now ≤
+        vec_capacity touched.old }
     ensures page { words.new.page ≡ words.old.page }
     ensures held { AreHeld words.new drawops.new.entries }
-    ensures all { held_of drawops.new.entries ≡ held_with_all words.old.page (held_of drawops.old.entries) list.now }
-    ensures touched { Touches words.old.page (held_of drawops.old.entries) (held_of drawops.new.entries) touched.new.items }
-    ensures count { vec_len touched.new ≤ news_count words.old.page (held_of drawops.old.entries) list.now }
+    ensures all { held_of drawops.new.entries ≡
+        held_with_all words.old.page (held_of drawops.old.entries) list.now }
+    ensures touched { Touches words.old.page (held_of drawops.old.entries)
+        (held_of drawops.new.entries) touched.new.items }
+    ensures count { vec_len touched.new ≤
+        news_count words.old.page (held_of drawops.old.entries) list.now }
 {
     for drawop in list {
         if is_news(words, drawops, drawop) {
@@ -147,8 +157,8 @@ fn take_in_all(
     }
 }
 
-/// Takes in a new drawop of the page, and whether the one that it affects is shown from now on. There
-/// is room for all three.
+/// Takes in a new drawop of the page, and whether the one that it affects is shown from now on.
+/// There is room for all three.
 fn take_in(
     words: &mut LastWords,
     drawops: &mut IndexMap<Target, Drawop>,
@@ -159,15 +169,16 @@ fn take_in(
     requires drawops { 1 ≤ spare drawops.old }
     requires shown { vec_len shown.old < vec_capacity shown.old }
     ensures page { words.new.page ≡ words.old.page }
-    ensures kept { TakesIn words.old drawops.old.entries shown.old.items drawop.now words.new drawops.new.entries shown.new.items }
+    ensures kept { TakesIn words.old drawops.old.entries shown.old.items drawop.now words.new
+        drawops.new.entries shown.new.items }
 {
     if let Some(affected) = hold(words, drawops, drawop) {
         set_shown(shown, &affected, words.is_shown(&affected));
     }
 }
 
-/// Takes in what a new drawop of the page says, and the drawop itself. Gives the one that it affects,
-/// where that is held.
+/// Takes in what a new drawop of the page says, and the drawop itself. Gives the one that it
+/// affects, where that is held.
 #[inline(always)]
 fn hold(
     words: &mut LastWords,
@@ -178,7 +189,8 @@ fn hold(
     requires drawops { 1 ≤ spare drawops.old }
     ensures page { words.new.page ≡ words.old.page }
     ensures held { HoldsToo words.old drawops.old.entries drawop.now words.new drawops.new.entries }
-    ensures affected { result ≡ lookup (same_target (affected_target drawop.now)) drawops.new.entries }
+    ensures affected { result ≡
+        lookup (same_target (affected_target drawop.now)) drawops.new.entries }
     ensures words_room { spare words.old.latest ≤ spare words.new.latest + 1 }
     ensures drawops_room { spare drawops.old ≤ spare drawops.new + 1 }
 {

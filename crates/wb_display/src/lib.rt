@@ -8,7 +8,8 @@
 //!
 //! This crate does not know datagrams, boards or threads, and it does not decide which drawops a
 //! host has. The meaning of deletes and the canvas are our own; pages, drawops, timestamps and
-//! deletes that come before their target are those of Floyd, Jacobson, Liu, McCanne and Zhang, 1997.
+//! deletes that come before their target are those of Floyd, Jacobson, Liu, McCanne and Zhang,
+//! 1997.
 #![tactic(auto)]
 
 mod canvas;

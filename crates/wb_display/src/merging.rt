@@ -18,7 +18,8 @@ fn merge(list: &mut [Drawop], front: usize, entering: &[Drawop])
     requires front { IsStrictlySortedBy display_cmp (take front list.old) }
     requires entering { IsStrictlySortedBy display_cmp entering.now }
     requires apart { AreApart (take front list.old) entering.now }
-    ensures { Lists display_cmp (λ x. Contains (take front list.old) x ⊎ Contains entering.now x) list.new }
+    ensures { Lists display_cmp (λ x. Contains (take front list.old) x ⊎
+        Contains entering.now x) list.new }
 {
     let mut left = front;
     let mut right = entering.len();
@@ -40,7 +41,8 @@ fn enter(list: &mut Vec<Drawop>, entering: &[Drawop])
     requires list { IsStrictlySortedBy display_cmp list.old.items }
     requires entering { IsStrictlySortedBy display_cmp entering.now }
     requires apart { AreApart list.old.items entering.now }
-    ensures { Lists display_cmp (λ x. Contains list.old.items x ⊎ Contains entering.now x) list.new.items }
+    ensures { Lists display_cmp (λ x. Contains list.old.items x ⊎
+        Contains entering.now x) list.new.items }
 {
     let front = list.len();
     list.extend_from_slice(entering).unwrap();
@@ -88,7 +90,8 @@ pub(crate) fn show_all(words: &LastWords, shown: &mut Vec<Drawop>, touched: Vec<
     requires rising { IsStrictlySortedBy display_cmp shown.old.items }
     requires ties { TieOnce shown.old.items touched.items }
     requires others { ShowsOthers (is_shown_now words.now) shown.old.items touched.items }
-    ensures { Lists display_cmp (λ x. (Contains shown.old.items x ⊎ Contains touched.items x) × (is_shown_now words.now x ≡ true)) shown.new.items }
+    ensures { Lists display_cmp (λ x. (Contains shown.old.items x ⊎ Contains touched.items x) ×
+        (is_shown_now words.now x ≡ true)) shown.new.items }
 {
     hide(words, shown, &touched);
     let entering = entering(words, shown, touched);

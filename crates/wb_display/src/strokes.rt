@@ -48,7 +48,8 @@ fn plot(cells: &mut [u8], size: Size, x: usize, y: usize, glyph: u8)
 /// Draws the cells of a row from one column to another, ends included.
 fn draw_row(cells: &mut [u8], size: Size, from: u16, to: u16, y: u16, glyph: u8)
     requires { length cells.old ≡ size.height * (size.width + 1) }
-    ensures { Overlays size.width size.height (is_on_row from to y) (λ _. glyph) cells.old cells.new }
+    ensures { Overlays size.width size.height (is_on_row from to y)
+        (λ _. glyph) cells.old cells.new }
 {
     let first = usize::from(from.min(to));
     let end = (usize::from(from.max(to)) + 1).min(size.width);
@@ -62,7 +63,8 @@ fn draw_row(cells: &mut [u8], size: Size, from: u16, to: u16, y: u16, glyph: u8)
 /// Draws the cells of a column from one row to another, ends included.
 fn draw_column(cells: &mut [u8], size: Size, from: u16, to: u16, x: u16, glyph: u8)
     requires { length cells.old ≡ size.height * (size.width + 1) }
-    ensures { Overlays size.width size.height (is_on_column from to x) (λ _. glyph) cells.old cells.new }
+    ensures { Overlays size.width size.height (is_on_column from to x)
+        (λ _. glyph) cells.old cells.new }
 {
     let first = usize::from(from.min(to));
     let end = usize::from(from.max(to)) + 1;
@@ -74,7 +76,8 @@ fn draw_column(cells: &mut [u8], size: Size, from: u16, to: u16, x: u16, glyph: 
 /// Draws the four sides of the rectangle with two opposite corners.
 fn draw_frame(cells: &mut [u8], size: Size, from: Point, to: Point, glyph: u8)
     requires { length cells.old ≡ size.height * (size.width + 1) }
-    ensures { Overlays size.width size.height (is_on_frame from.x from.y to.x to.y) (λ _. glyph) cells.old cells.new }
+    ensures { Overlays size.width size.height (is_on_frame from.x from.y to.x to.y)
+        (λ _. glyph) cells.old cells.new }
 {
     draw_row(cells, size, from.x, to.x, from.y, glyph);
     draw_row(cells, size, from.x, to.x, to.y, glyph);
@@ -85,7 +88,8 @@ fn draw_frame(cells: &mut [u8], size: Size, from: Point, to: Point, glyph: u8)
 /// Draws a text, each byte in a column of its own.
 fn draw_text(cells: &mut [u8], size: Size, from: Point, text: &[u8])
     requires { length cells.old ≡ size.height * (size.width + 1) }
-    ensures { Overlays size.width size.height (is_on_text from.x from.y (length text.now)) (text_glyph from.x text.now) cells.old cells.new }
+    ensures { Overlays size.width size.height (is_on_text from.x from.y (length text.now))
+        (text_glyph from.x text.now) cells.old cells.new }
 {
     for (i, byte) in text.iter().enumerate() {
         plot(
@@ -115,9 +119,11 @@ fn steps_on_canvas(size: Size, from: Point, to: Point, steps: u16) -> Steps
 fn draw_across(cells: &mut [u8], size: Size, from: Point, to: Point, inside: Steps, glyph: u8)
     requires len { length cells.old ≡ size.height * (size.width + 1) }
     requires level { distance from.y to.y ≤ distance from.x to.x }
-    requires inside { AreInside size.width size.height from.x from.y to.x to.y (distance from.x to.x) inside }
+    requires inside { AreInside size.width size.height from.x from.y to.x to.y
+        (distance from.x to.x) inside }
     requires some { inside.first < inside.end }
-    ensures { Overlays size.width size.height (is_on_line from.x from.y to.x to.y) (λ _. glyph) cells.old cells.new }
+    ensures { Overlays size.width size.height (is_on_line from.x from.y to.x to.y)
+        (λ _. glyph) cells.old cells.new }
 {
     let steps = from.x.abs_diff(to.x);
     let mut y = Walk::after(from.y, to.y, steps, inside.first as u16);
@@ -135,9 +141,11 @@ fn draw_across(cells: &mut [u8], size: Size, from: Point, to: Point, inside: Ste
 fn draw_down(cells: &mut [u8], size: Size, from: Point, to: Point, inside: Steps, glyph: u8)
     requires len { length cells.old ≡ size.height * (size.width + 1) }
     requires steep { distance from.x to.x ≤ distance from.y to.y }
-    requires inside { AreInside size.width size.height from.x from.y to.x to.y (distance from.y to.y) inside }
+    requires inside { AreInside size.width size.height from.x from.y to.x to.y
+        (distance from.y to.y) inside }
     requires some { inside.first < inside.end }
-    ensures { Overlays size.width size.height (is_on_line from.x from.y to.x to.y) (λ _. glyph) cells.old cells.new }
+    ensures { Overlays size.width size.height (is_on_line from.x from.y to.x to.y)
+        (λ _. glyph) cells.old cells.new }
 {
     let steps = from.y.abs_diff(to.y);
     let mut x = Walk::after(from.x, to.x, steps, inside.first as u16);
@@ -151,11 +159,12 @@ fn draw_down(cells: &mut [u8], size: Size, from: Point, to: Point, inside: Steps
     }
 }
 
-/// Draws the points of a line: a level one as a row, others from the first to the last step at which
-/// they are on the canvas.
+/// Draws the points of a line: a level one as a row, others from the first to the last step at
+/// which they are on the canvas.
 fn draw_line(cells: &mut [u8], size: Size, from: Point, to: Point, glyph: u8)
     requires { length cells.old ≡ size.height * (size.width + 1) }
-    ensures { Overlays size.width size.height (is_on_line from.x from.y to.x to.y) (λ _. glyph) cells.old cells.new }
+    ensures { Overlays size.width size.height (is_on_line from.x from.y to.x to.y)
+        (λ _. glyph) cells.old cells.new }
 {
     if from.y == to.y {
         draw_row(cells, size, from.x, to.x, from.y, glyph);
@@ -177,7 +186,8 @@ fn draw_line(cells: &mut [u8], size: Size, from: Point, to: Point, glyph: u8)
 /// Draws what an operation covers.
 pub(crate) fn paint_op(cells: &mut [u8], size: Size, op: &Op)
     requires { length cells.old ≡ size.height * (size.width + 1) }
-    ensures { Overlays size.width size.height (covers op.now) (glyph_of op.now) cells.old cells.new }
+    ensures { Overlays size.width size.height (covers op.now)
+        (glyph_of op.now) cells.old cells.new }
 {
     match *op {
         Op::Drawn(figure, stroke) => {

@@ -22,29 +22,33 @@ use std::ops::Bound;
 use wb_names::{Gap, Marks, PageId};
 
 impl Holdings {
-    /// The gaps of a page, found one by one. It walks the ranges of the page and the marks together, so that who stops
-    /// early has not paid for the rest. To begin costs a look-up.
+    /// The gaps of a page, found one by one. It walks the ranges of the page and the marks
+    /// together, so that who stops early has not paid for the rest. To begin costs a look-up.
     pub fn missing<'a>(&'a self, page: PageId, marks: &'a Marks) -> Missing<'a>
-        ensures { (history : List DrawopValue) → HoldNamesOf history self.now → AreGaps history page marks.now result }
+        ensures { (history : List DrawopValue) → HoldNamesOf history self.now →
+            AreGaps history page marks.now result }
     {
         Missing::new(runs_of(&self.ranges, page), marks.as_slice())
     }
 
-    /// The sequence numbers of a page that are missing: those from 1 up to the greatest that is held or that the
-    /// marks know of a source, without those that are held. They come as ranges, ascending by source and number,
-    /// that do not overlap or touch. It costs what the page has of ranges and of marks.
+    /// The sequence numbers of a page that are missing: those from 1 up to the greatest that is
+    /// held or that the marks know of a source, without those that are held. They come as ranges,
+    /// ascending by source and number, that do not overlap or touch. It costs what the page has of
+    /// ranges and of marks.
     pub fn gaps(&self, alloc: Global, page: PageId, marks: &Marks) -> Result<Vec<Gap>, AllocError>
-        ensures { (history : List DrawopValue) → HoldNamesOf history self.now → IfOk result (λ gaps. AreGaps history page marks.now gaps.items) }
+        ensures { (history : List DrawopValue) → HoldNamesOf history self.now →
+            IfOk result (λ gaps. AreGaps history page marks.now gaps.items) }
     {
         self.missing(page, marks).collect(alloc)
     }
 
-    /// The report of a page: for each source that has a drawop there, ascending, its greatest sequence number, as
-    /// session messages tell it (Floyd and others, 1997). At most 65,535 ranges are held, so that there are not too
-    /// many marks. It costs what the page has of ranges.
+    /// The report of a page: for each source that has a drawop there, ascending, its greatest
+    /// sequence number, as session messages tell it (Floyd and others, 1997). At most 65,535 ranges
+    /// are held, so that there are not too many marks. It costs what the page has of ranges.
     pub fn report(&self, alloc: Global, page: PageId) -> Result<Marks, AllocError>
         requires { length self.now ≤ 65535 }
-        ensures { (history : List DrawopValue) → HoldNamesOf history self.now → IfOk result (λ marks. IsReport history page marks) }
+        ensures { (history : List DrawopValue) → HoldNamesOf history self.now →
+            IfOk result (λ marks. IsReport history page marks) }
     {
         let marks = highs(alloc, runs_of(&self.ranges, page))?;
         Ok(Marks::from_ascending(marks))
@@ -59,7 +63,8 @@ impl Holdings {
 
     /// The pages that have drawops, ascending, each once. It costs the pages: a look-up for each.
     pub fn pages(&self, alloc: Global) -> Result<Vec<PageId>, AllocError>
-        ensures { (history : List DrawopValue) → HoldNamesOf history self.now → IfOk result (λ pages. ArePages history pages.items) }
+        ensures { (history : List DrawopValue) → HoldNamesOf history self.now →
+            IfOk result (λ pages. ArePages history pages.items) }
     {
         let pages = pages_of(alloc, &self.ranges)?;
         Ok(pages)

@@ -12,7 +12,8 @@ use std::collections::BTreeMap;
 use std::marker::Model;
 use wb_names::{Drawop, PageId};
 
-/// Where a range of numbers begins. Ranges are ordered by page, then by source, then by first number.
+/// Where a range of numbers begins. Ranges are ordered by page, then by source, then by first
+/// number.
 #[derive(Clone, Copy, Debug, PartialEq, Eq, PartialOrd, Ord)]
 pub(crate) struct Start {
     pub(crate) page: PageId,
@@ -52,11 +53,13 @@ impl Holdings {
         }
     }
 
-    /// Takes in a drawop, by which there is at most one range more. One whose name was put before changes
-    /// nothing and takes no memory. Where memory is refused nothing has changed.
+    /// Takes in a drawop, by which there is at most one range more. One whose name was put before
+    /// changes nothing and takes no memory. Where memory is refused nothing has changed.
     pub fn put(&mut self, drawop: &Drawop) -> Result<(), AllocError>
-        ensures ok { OnOk result ((history : List DrawopValue) → HoldNamesOf history self.old → HoldNamesOf (history ++ drawop.now ∷ []) self.new) }
-        ensures again { IsTrue (holds self.old drawop.now.name) → IsOk result × (self.new ≡ self.old) }
+        ensures ok { OnOk result ((history : List DrawopValue) → HoldNamesOf history self.old →
+            HoldNamesOf (history ++ drawop.now ∷ []) self.new) }
+        ensures again { IsTrue (holds self.old drawop.now.name) →
+            IsOk result × (self.new ≡ self.old) }
         ensures few { length self.new ≤ length self.old + 1 }
         ensures err { OnErr result (self.new ≡ self.old) }
     {
@@ -71,7 +74,8 @@ impl Holdings {
 
     /// The greatest number of a source that is held on a page, or 0.
     pub fn highest(&self, page: PageId, source: u32) -> u32
-        ensures { (history : List DrawopValue) → HoldNamesOf history self.now → result ≡ highest page source history }
+        ensures { (history : List DrawopValue) → HoldNamesOf history self.now →
+            result ≡ highest page source history }
     {
         highest_in(&self.ranges, page, source)
     }
@@ -80,11 +84,12 @@ impl Holdings {
 /// The range of this page and source that begins last of those that begin at this number or below.
 fn before(ranges: &BTreeMap<Start, u32>, at: Start) -> Option<(Start, u32)>
     ensures ordered { IsOrdered start_cmp ranges.now }
-    ensures found { MatchOption result
-        ((first last : ℕ) → last_at ranges.now.entries at.page at.source first ≡ some last → at.first < first)
-        (λ p. (p.0.page ≡ at.page) × (p.0.source ≡ at.source) × (p.0.first ≤ at.first)
-        × (last_at ranges.now.entries at.page at.source p.0.first ≡ some p.1)
-        × ((first last : ℕ) → last_at ranges.now.entries at.page at.source first ≡ some last → first ≤ at.first → first ≤ p.0.first)) }
+    ensures found { MatchOption result ((first last : ℕ) →
+        last_at ranges.now.entries at.page at.source first ≡ some last → at.first < first)
+        (λ p. (p.0.page ≡ at.page) × (p.0.source ≡ at.source) × (p.0.first ≤ at.first) ×
+        (last_at ranges.now.entries at.page at.source p.0.first ≡ some p.1) ×
+        ((first last : ℕ) → last_at ranges.now.entries at.page at.source first ≡ some last →
+        first ≤ at.first → first ≤ p.0.first)) }
 {
     let Some((start, last)) = ranges.range(..=at).next_back() else {
         return None;
@@ -99,9 +104,9 @@ fn before(ranges: &BTreeMap<Start, u32>, at: Start) -> Option<(Start, u32)>
 fn begin(ranges: &BTreeMap<Start, u32>, at: Start) -> Option<Start>
     requires ranges { AreRanges ranges.now.entries }
     requires positive { 1 ≤ at.first }
-    ensures { MatchOption result
-        (Covers (last_at ranges.now.entries at.page at.source) at.first)
-        (λ s. (s.page ≡ at.page) × (s.source ≡ at.source) × Begins (last_at ranges.now.entries at.page at.source) at.first s.first) }
+    ensures { MatchOption result (Covers (last_at ranges.now.entries at.page at.source) at.first)
+        (λ s. (s.page ≡ at.page) × (s.source ≡ at.source) ×
+        Begins (last_at ranges.now.entries at.page at.source) at.first s.first) }
 {
     let Some((start, last)) = before(ranges, at) else {
         return Some(at);
@@ -149,13 +154,17 @@ fn after(ranges: &BTreeMap<Start, u32>, at: Start) -> Option<(Start, u32)>
     Some((start, *last))
 }
 
-/// Adds a number: the range below it, which it extends, itself and the range above it, which is taken in, are one.
+/// Adds a number: the range below it, which it extends, itself and the range above it, which is
+/// taken in, are one.
 fn add(ranges: &mut BTreeMap<Start, u32>, at: Start) -> Result<(), AllocError>
     requires ranges { AreRanges ranges.old.entries }
     requires positive { 1 ≤ at.first }
     ensures ranges { AreRanges ranges.new.entries }
-    ensures ok { OnOk result (HoldsToo (ranges_of ranges.old.entries) (name_of at.page at.source at.first) (ranges_of ranges.new.entries)) }
-    ensures again { IsTrue (holds (ranges_of ranges.old.entries) (name_of at.page at.source at.first)) → IsOk result × (ranges.new.entries ≡ ranges.old.entries) }
+    ensures ok { OnOk result (HoldsToo (ranges_of ranges.old.entries)
+        (name_of at.page at.source at.first) (ranges_of ranges.new.entries)) }
+    ensures again { IsTrue
+        (holds (ranges_of ranges.old.entries) (name_of at.page at.source at.first)) →
+        IsOk result × (ranges.new.entries ≡ ranges.old.entries) }
     ensures few { length ranges.new.entries ≤ length ranges.old.entries + 1 }
     ensures err { OnErr result (ranges.new.entries ≡ ranges.old.entries) }
 {

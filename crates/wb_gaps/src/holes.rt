@@ -1,4 +1,5 @@
-//! The holes of what is held: the numbers that a page lacks below the greatest that it has of their source.
+//! The holes of what is held: the numbers that a page lacks below the greatest that it has of their
+//! source.
 
 ghost use Rattle.std.specs.Prelude.{◌≡◌, [], List, IfOk};
 ghost use Rattle.std.specs.List.{find};
@@ -25,9 +26,9 @@ pub struct Hole {
 }
 
 impl Holdings {
-    /// The first hole that begins after this number of a source on a page, where holes ascend by page, source and
-    /// number. None where there is none. It costs the pages, and of this page and the later ones the ranges up to the
-    /// hole.
+    /// The first hole that begins after this number of a source on a page, where holes ascend by
+    /// page, source and number. None where there is none. It costs the pages, and of this page and
+    /// the later ones the ranges up to the hole.
     pub fn hole_after(
         &self,
         alloc: Global,
@@ -35,7 +36,8 @@ impl Holdings {
         source: u32,
         number: u32,
     ) -> Result<Option<Hole>, AllocError>
-        ensures { IfOk result (λ found. (history : List DrawopValue) → HoldNamesOf history self.now → found ≡ hole_after history page source number) }
+        ensures { IfOk result (λ found. (history : List DrawopValue) →
+            HoldNamesOf history self.now → found ≡ hole_after history page source number) }
     {
         let place = Start {
             page,
@@ -54,7 +56,8 @@ impl Holdings {
 
     /// The first hole of a page that begins after a place. An earlier page has none.
     fn hole_on(&self, page: PageId, place: Start) -> Option<Hole>
-        ensures { (history : List DrawopValue) → HoldNamesOf history self.now → result ≡ find (begins_after place) (holes_on history page) }
+        ensures { (history : List DrawopValue) → HoldNamesOf history self.now →
+            result ≡ find (begins_after place) (holes_on history page) }
     {
         if is_before(page, place.page) {
             return None;
@@ -71,7 +74,8 @@ impl Holdings {
 
     /// The gaps of a page below what it has, found one by one.
     fn gaps_on(&self, page: PageId) -> Missing<'_>
-        ensures { (history : List DrawopValue) → HoldNamesOf history self.now → result ≡ gaps_of history page [] }
+        ensures { (history : List DrawopValue) → HoldNamesOf history self.now →
+            result ≡ gaps_of history page [] }
     {
         Missing::new(runs_of(&self.ranges, page), &[])
     }

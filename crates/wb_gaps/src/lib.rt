@@ -1,15 +1,17 @@
 //! What a list of drawops lacks, reports and holds: missing ranges, marks and pages.
 //!
-//! Members of a whiteboard find their losses by comparing what they hold with what others report. This crate keeps
-//! what is held as drawops come, as ranges of numbers (`holdings`), and answers of it (`asked`) which pages there
-//! are, the greatest number of each source on a page, and which numbers of a page are missing (`missing`), found one
-//! by one (`walk`); which hole comes after a place (`holes`); the reports of all pages (`page_reports`); and it merges
-//! what two members reported (`merged`).
-//! Each answer is a walk over ascending runs of numbers (`run`): a report wants the last of each source (`highest`),
-//! and a merge two lists of marks taken as one (`joined`). It costs what the page has of ranges.
+//! Members of a whiteboard find their losses by comparing what they hold with what others report.
+//! This crate keeps what is held as drawops come, as ranges of numbers (`holdings`), and answers of
+//! it (`asked`) which pages there are, the greatest number of each source on a page, and which
+//! numbers of a page are missing (`missing`), found one by one (`walk`); which hole comes after a
+//! place (`holes`); the reports of all pages (`page_reports`); and it merges what two members
+//! reported (`merged`). Each answer is a walk over ascending runs of numbers (`run`): a report
+//! wants the last of each source (`highest`), and a merge two lists of marks taken as one
+//! (`joined`). It costs what the page has of ranges.
 //!
-//! It knows no board, no clock and no datagram, and it asks for nothing that is missing. The definitions speak of the
-//! list of drawops that came, in any order, in which a name may stand twice.
+//! It knows no board, no clock and no datagram, and it asks for nothing that is missing. The
+//! definitions speak of the list of drawops that came, in any order, in which a name may stand
+//! twice.
 #![tactic(auto)]
 
 mod asked;

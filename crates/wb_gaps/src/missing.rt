@@ -9,8 +9,9 @@ use crate::walk::Walk;
 use std::marker::Model;
 use wb_names::{Gap, Mark};
 
-/// The gaps of a page, found one by one: the ranges of sequence numbers that are missing, ascending by source and
-/// number. It takes no memory. A gap costs the ranges that are held and the marks since the one before.
+/// The gaps of a page, found one by one: the ranges of sequence numbers that are missing, ascending
+/// by source and number. It takes no memory. A gap costs the ranges that are held and the marks
+/// since the one before.
 #[derive(Drop)]
 pub struct Missing<'a> {
     walk: Walk<'a>,

@@ -19,11 +19,13 @@ pub struct PageReport {
 }
 
 impl Holdings {
-    /// Each page that has drawops with its report, ascending by page. At most 65,535 ranges are held, so
-    /// that no report has too many marks. It costs what is held of ranges, and a look-up for each page.
+    /// Each page that has drawops with its report, ascending by page. At most 65,535 ranges are
+    /// held, so that no report has too many marks. It costs what is held of ranges, and a look-up
+    /// for each page.
     pub fn reports(&self, alloc: Global) -> Result<Vec<PageReport>, AllocError>
         requires { length self.now ≤ 65535 }
-        ensures { (history : List DrawopValue) → HoldNamesOf history self.now → IfOk result (λ reports. AreReports history reports.items) }
+        ensures { (history : List DrawopValue) → HoldNamesOf history self.now →
+            IfOk result (λ reports. AreReports history reports.items) }
     {
         let pages = self.pages(alloc)?;
         let mut reports = Vec::new(alloc);

@@ -23,7 +23,8 @@ pub(crate) struct Runs<'a> {
 impl Runs<'_> {
     /// Takes the next run.
     pub(crate) fn next(&mut self) -> Option<Run>
-        ensures { MatchOption result (runs_left self.old ≡ []) (λ run. runs_left self.old ≡ run ∷ runs_left self.new) }
+        ensures { MatchOption result (runs_left self.old ≡ [])
+            (λ run. runs_left self.old ≡ run ∷ runs_left self.new) }
     {
         let (start, last) = self.ranges.next()?;
         Some(Run {

@@ -1,4 +1,5 @@
-//! The walk over the runs of a page and marks of it together, which finds the numbers that are missing.
+//! The walk over the runs of a page and marks of it together, which finds the numbers that are
+//! missing.
 
 ghost use Rattle.std.specs.Prelude.{◌≡◌, [], ◌∷◌, MatchOption};
 ghost use Rattle.wb_gaps.specs.Walk.{gaps_left, mark_below, spans_left, done_of, up_to_mark, walk_of};
@@ -16,8 +17,8 @@ pub(crate) struct Span {
     last: u32,
 }
 
-/// What is left of a walk over ascending runs and marks. By each run it finds the numbers before it, and by each
-/// mark those up to it. Of one source the runs come first.
+/// What is left of a walk over ascending runs and marks. By each run it finds the numbers before
+/// it, and by each mark those up to it. Of one source the runs come first.
 #[derive(Drop)]
 pub(crate) struct Walk<'a> {
     /// The next run, and those after it.
@@ -47,7 +48,8 @@ impl<'a> Walk<'a> {
 
     /// Finds the next gap.
     pub(crate) fn next_gap(&mut self) -> Option<Gap>
-        ensures { MatchOption result ((gaps_left self.old ≡ []) × (gaps_left self.new ≡ [])) (λ gap. gaps_left self.old ≡ gap ∷ gaps_left self.new) }
+        ensures { MatchOption result ((gaps_left self.old ≡ []) × (gaps_left self.new ≡ []))
+            (λ gap. gaps_left self.old ≡ gap ∷ gaps_left self.new) }
     {
         while let Some(span) = self.next_span() {
             if span.done < span.last {
@@ -63,7 +65,8 @@ impl<'a> Walk<'a> {
 
     /// Passes the next run or mark.
     fn next_span(&mut self) -> Option<Span>
-        ensures { MatchOption result ((spans_left self.old ≡ []) × (spans_left self.new ≡ [])) (λ span. spans_left self.old ≡ span ∷ spans_left self.new) }
+        ensures { MatchOption result ((spans_left self.old ≡ []) × (spans_left self.new ≡ []))
+            (λ span. spans_left self.old ≡ span ∷ spans_left self.new) }
     {
         let Some(run) = self.run else {
             return self.next_mark();
@@ -103,7 +106,9 @@ impl<'a> Walk<'a> {
     /// Passes the next mark.
     fn next_mark(&mut self) -> Option<Span>
         ensures rest { self.new ≡ record self.old { marks = self.new.marks } }
-        ensures span { MatchOption result ((self.old.marks.now ≡ []) × (self.new ≡ self.old)) (λ span. (mark : MarkValue) × (self.old.marks.now ≡ mark ∷ self.new.marks.now) × (span ≡ up_to_mark self.old.source self.old.done mark)) }
+        ensures span { MatchOption result ((self.old.marks.now ≡ []) × (self.new ≡ self.old))
+            (λ span. (mark : MarkValue) × (self.old.marks.now ≡ mark ∷ self.new.marks.now) ×
+            (span ≡ up_to_mark self.old.source self.old.done mark)) }
     {
         let Some((mark, later)) = self.marks.split_first() else {
             return None;

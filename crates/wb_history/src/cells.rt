@@ -9,8 +9,8 @@ use atomic_table::{Seat, Table};
 use std::alloc::{AllocError, Global};
 use wb_names::Drawop;
 
-/// How many words a row has in the table. A record takes the first twelve of them: with sixteen, two lines of
-/// a processor's cache, no thread stores into a line that holds a row of another.
+/// How many words a row has in the table. A record takes the first twelve of them: with sixteen,
+/// two lines of a processor's cache, no thread stores into a line that holds a row of another.
 pub(crate) const ROW_STRIDE: usize = 16;
 
 /// A seat at the table of a history.
@@ -34,7 +34,8 @@ impl CellTable {
     #[tactic(auto, using(crate::proofs::Opens::opens))]
     pub(crate) fn make(alloc: Global, cells: u32) -> Result<(CellTable, HistorySeat), AllocError>
         requires { IsCellCount cells }
-        ensures { IfOk result (λ t. (t.0.cells ≡ cells) × (t.1.table_id ≡ t.0.table.shared.table_id) × (t.1.me ≡ (whole_pass cells, []))) }
+        ensures { IfOk result (λ t. (t.0.cells ≡ cells) ×
+            (t.1.table_id ≡ t.0.table.shared.table_id) × (t.1.me ≡ (whole_pass cells, []))) }
     {
         let words = Vec::from_elem(alloc, 0u64, cells as usize * (ROW_STRIDE + 1))?;
         let (table, seat) = Table::of_words(alloc, words.as_slice(), &cells)?;

@@ -1,5 +1,5 @@
-//! How a cursor claims a place for a drawop: its record goes into a free row, and then the next cells
-//! are tried one after another with that row, until one is won or names a member of its name.
+//! How a cursor claims a place for a drawop: its record goes into a free row, and then the next
+//! cells are tried one after another with that row, until one is won or names a member of its name.
 ghost use Rattle.wb_history.specs.Sizes.{row_words, member_steps};
 ghost use Rattle.std.specs.Prelude.{◌≡◌, ℕ, ◌+◌, ◌-◌, ◌*◌, ◌<◌, ◌≤◌, List, [], ◌∷◌, length, IsOk, MatchOption, MatchResult};
 ghost use mathlib.Core.Option.{some};
@@ -23,22 +23,27 @@ use wb_names::Drawop;
 
 impl CellTable {
     /// Exchanges the next cell for the row, in which the record of the drawop stands. Or else reads
-    /// the member whose cell it is, and answers its place. Room for the drawop is made before, so that nothing can be refused
-    /// after the exchange is won; it is put into the list and the index after, since every moment
-    /// between the look at a cell and its exchange is one in which another thread may win the cell.
+    /// the member whose cell it is, and answers its place. Room for the drawop is made before, so
+    /// that nothing can be refused after the exchange is won; it is put into the list and the index
+    /// after, since every moment between the look at a cell and its exchange is one in which
+    /// another thread may win the cell.
     fn exchange(
         &self,
         cursor: &mut Cursor,
         row: u32,
         drawop: &Drawop,
     ) -> Result<Option<usize>, AllocError>
-        requires cursor { SitsAt self.now cursor.old.seat × MatchesSeat cursor.old × (cursor.old.steps ≤ member_steps * length cursor.old.seen.items + member_steps) }
-        requires row { get_elem? cursor.old.free.items (length cursor.old.free.items - 1) ≡ some row }
+        requires cursor { SitsAt self.now cursor.old.seat × MatchesSeat cursor.old ×
+            (cursor.old.steps ≤ member_steps * length cursor.old.seen.items + member_steps) }
+        requires row { get_elem? cursor.old.free.items (length cursor.old.free.items - 1) ≡
+            some row }
         requires stored { cursor.old.seat.me.0.stored ≡ record_of drawop.now }
         requires new { IsDrawop drawop.now × ¬ HoldsName cursor.old.seen.items drawop.now.name }
-        ensures done { MatchResult result
-            (λ o. MatchOption o (Won cursor.old [] drawop.now (length cursor.old.seen.items) 1 cursor.new) (λ p. ReadsOne cursor.old p cursor.new × (cursor.new.seat.me.0.stored ≡ cursor.old.seat.me.0.stored)))
-            (λ _. (cursor.new.steps ≤ cursor.old.steps + 1) × Walked cursor.old [] (cursor.new.steps - cursor.old.steps) cursor.new) }
+        ensures done { MatchResult result (λ o.
+            MatchOption o (Won cursor.old [] drawop.now (length cursor.old.seen.items) 1 cursor.new)
+            (λ p. ReadsOne cursor.old p cursor.new × (cursor.new.seat.me.0.stored ≡
+            cursor.old.seat.me.0.stored))) (λ _. (cursor.new.steps ≤ cursor.old.steps + 1) ×
+            Walked cursor.old [] (cursor.new.steps - cursor.old.steps) cursor.new) }
     {
         cursor.seen.reserve(1)?;
         cursor.mine.reserve(1)?;
@@ -57,11 +62,15 @@ impl CellTable {
 
     /// Exchanges the next cell for the row until it wins or a member has the name.
     fn contend(&self, cursor: &mut Cursor, row: u32, drawop: &Drawop) -> Result<Claim, AllocError>
-        requires cursor { SitsAt self.now cursor.old.seat × MatchesSeat cursor.old × (cursor.old.steps ≤ member_steps * length cursor.old.seen.items + member_steps) }
-        requires row { get_elem? cursor.old.free.items (length cursor.old.free.items - 1) ≡ some row }
+        requires cursor { SitsAt self.now cursor.old.seat × MatchesSeat cursor.old ×
+            (cursor.old.steps ≤ member_steps * length cursor.old.seen.items + member_steps) }
+        requires row { get_elem? cursor.old.free.items (length cursor.old.free.items - 1) ≡
+            some row }
         requires stored { cursor.old.seat.me.0.stored ≡ record_of drawop.now }
         requires new { IsDrawop drawop.now × ¬ HoldsName cursor.old.seen.items drawop.now.name }
-        ensures done { MatchResult result (Answered cursor.old drawop.now 0 cursor.new) (λ _. (more : List DrawopValue) × (extra : ℕ) × (extra ≤ 1) × Walked cursor.old more extra cursor.new) }
+        ensures done { MatchResult result (Answered cursor.old drawop.now 0 cursor.new)
+            (λ _. (more : List DrawopValue) × (extra : ℕ) × (extra ≤ 1) ×
+            Walked cursor.old more extra cursor.new) }
     {
         while let Some(place) = self.exchange(cursor, row, drawop)? {
             if let Some(claim) = answer_at(&cursor.seen, place, drawop) {
@@ -73,10 +82,13 @@ impl CellTable {
 
     /// Stores the record of the drawop into the last free row.
     fn store(&self, cursor: &mut Cursor, row: u32, drawop: &Drawop)
-        requires cursor { SitsAt self.now cursor.old.seat × MatchesSeat cursor.old × (cursor.old.steps ≤ member_steps * length cursor.old.seen.items + 1) }
-        requires row { get_elem? cursor.old.free.items (length cursor.old.free.items - 1) ≡ some row }
+        requires cursor { SitsAt self.now cursor.old.seat × MatchesSeat cursor.old ×
+            (cursor.old.steps ≤ member_steps * length cursor.old.seen.items + 1) }
+        requires row { get_elem? cursor.old.free.items (length cursor.old.free.items - 1) ≡
+            some row }
         requires stored { cursor.old.seat.me.0.stored ≡ [] }
-        ensures done { Walked cursor.old [] row_words cursor.new × (cursor.new.seat.me.0.stored ≡ record_of drawop.now) × IsDrawop drawop.now }
+        ensures done { Walked cursor.old [] row_words cursor.new ×
+            (cursor.new.seat.me.0.stored ≡ record_of drawop.now) × IsDrawop drawop.now }
     {
         self.store_row(&mut cursor.seat, row as usize, drawop);
         cursor.steps += ROW_WORDS as u32;
@@ -89,11 +101,15 @@ impl CellTable {
         row: u32,
         drawop: &Drawop,
     ) -> Result<Claim, AllocError>
-        requires cursor { SitsAt self.now cursor.old.seat × MatchesSeat cursor.old × (cursor.old.steps ≤ member_steps * length cursor.old.seen.items + 1) }
-        requires row { get_elem? cursor.old.free.items (length cursor.old.free.items - 1) ≡ some row }
+        requires cursor { SitsAt self.now cursor.old.seat × MatchesSeat cursor.old ×
+            (cursor.old.steps ≤ member_steps * length cursor.old.seen.items + 1) }
+        requires row { get_elem? cursor.old.free.items (length cursor.old.free.items - 1) ≡
+            some row }
         requires stored { cursor.old.seat.me.0.stored ≡ [] }
         requires new { ¬ HoldsName cursor.old.seen.items drawop.now.name }
-        ensures done { MatchResult result (Answered cursor.old drawop.now row_words cursor.new) (λ _. (more : List DrawopValue) × (extra : ℕ) × (extra ≤ member_steps) × Walked cursor.old more extra cursor.new) }
+        ensures done { MatchResult result (Answered cursor.old drawop.now row_words cursor.new)
+            (λ _. (more : List DrawopValue) × (extra : ℕ) × (extra ≤ member_steps) ×
+            Walked cursor.old more extra cursor.new) }
     {
         self.store(cursor, row, drawop);
         self.contend(cursor, row, drawop)
@@ -107,9 +123,13 @@ impl CellTable {
         cursor: &mut Cursor,
         drawop: &Drawop,
     ) -> Result<Claim, ClaimFault>
-        requires cursor { SitsAt self.now cursor.old.seat × MatchesSeat cursor.old × (cursor.old.steps ≡ 0) }
-        ensures done { MatchResult result (λ c. (extra : ℕ) × (extra ≤ member_steps) × Answered cursor.old drawop.now extra cursor.new c) (Refused self.now.cells cursor.old drawop.now cursor.new) }
-        ensures known { HoldsName cursor.old.seen.items drawop.now.name → IsOk result × (cursor.new ≡ cursor.old) }
+        requires cursor { SitsAt self.now cursor.old.seat × MatchesSeat cursor.old ×
+            (cursor.old.steps ≡ 0) }
+        ensures done { MatchResult result (λ c. (extra : ℕ) ×
+            (extra ≤ member_steps) × Answered cursor.old drawop.now extra cursor.new c)
+            (Refused self.now.cells cursor.old drawop.now cursor.new) }
+        ensures known { HoldsName cursor.old.seen.items drawop.now.name →
+            IsOk result × (cursor.new ≡ cursor.old) }
     {
         if let Some(claim) = known(&cursor.seen, drawop) {
             return Ok(claim);
@@ -133,7 +153,8 @@ impl CellTable {
 #[tactic(auto, using(atomic_table::proofs::Lists::at_index, crate::proofs::Lists::at_same, crate::proofs::Words::get_is))]
 fn known(members: &Members, drawop: &Drawop) -> Option<Claim>
     requires { length members.now.items ≤ MAX_CELLS }
-    ensures { MatchOption result (¬ HoldsName members.now.items drawop.now.name) (λ c. TellsNamesake members.now.items drawop.now c) }
+    ensures { MatchOption result (¬ HoldsName members.now.items drawop.now.name)
+        (λ c. TellsNamesake members.now.items drawop.now c) }
 {
     let place = members.place_of(&drawop.name())?;
     Some(answer(drawop, &members.as_slice()[place], place))

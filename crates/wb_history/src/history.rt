@@ -102,10 +102,13 @@ impl History {
         ensures cells { pass.new.cells ≡ self.now.cells }
         ensures sound { IsSound pass.new }
         ensures grows { IsPrefix pass.old.seen pass.new.seen }
-        ensures answer { MatchResult result (Claimed pass.old drawop.now pass.new) (NotClaimed pass.old drawop.now pass.new) }
-        ensures known { HoldsName pass.old.seen drawop.now.name → IsOk result × (pass.new ≡ record pass.old { steps = 0 }) }
+        ensures answer { MatchResult result (Claimed pass.old drawop.now pass.new)
+            (NotClaimed pass.old drawop.now pass.new) }
+        ensures known { HoldsName pass.old.seen drawop.now.name →
+            IsOk result × (pass.new ≡ record pass.old { steps = 0 }) }
         ensures steps { pass.new.made ≡ pass.old.made + pass.new.steps }
-        ensures few_steps { MatchResult result (ClaimSteps pass.old pass.new) (FaultSteps pass.old pass.new) }
+        ensures few_steps { MatchResult result (ClaimSteps pass.old pass.new)
+            (FaultSteps pass.old pass.new) }
     {
         pass.cursor.steps = 0;
         self.cells.claim_with(&mut pass.cursor, drawop)

@@ -59,7 +59,9 @@ impl Members {
     /// The place of the member with this name.
     #[tactic(auto, using(crate::proofs::Names::place_found))]
     pub(crate) fn place_of(&self, name: &Name) -> Option<usize>
-        ensures { MatchOption result (¬ HoldsName self.now.items name.now) (λ i. (i < length self.now.items) × (d : DrawopValue) × (get_elem? self.now.items i ≡ some d) × (d.name ≡ name.now)) }
+        ensures { MatchOption result (¬ HoldsName self.now.items name.now)
+            (λ i. (i < length self.now.items) × (d : DrawopValue) ×
+            (get_elem? self.now.items i ≡ some d) × (d.name ≡ name.now)) }
     {
         self.names.get_index_of(name)
     }

@@ -74,7 +74,8 @@ impl History {
         requires pass { IsPassOf self.now pass.old }
         ensures same { IsSamePass pass.old pass.new }
         ensures sound { IsSound pass.new × IfOk result IsSound }
-        ensures parts { MatchResult result (IsSplit pass.old rows pass.new) (λ e. (pass.new ≡ pass.old) × IsSplitFault pass.old rows e) }
+        ensures parts { MatchResult result (IsSplit pass.old rows pass.new)
+            (λ e. (pass.new ≡ pass.old) × IsSplitFault pass.old rows e) }
         ensures too_many { pass.old.free < rows → result ≡ Err (fault.TooMany pass.old.free) }
     {
         let have = pass.cursor.free.len();
@@ -116,12 +117,14 @@ fn append(to: &mut Vec<u32>, from: &[u32])
 }
 
 impl CellTable {
-    /// Makes two cursors one. The load of the first cell tells what the join of the seats does not: that
-    /// the longer list begins with the shorter, and that no place was of both. The shorter comes back.
+    /// Makes two cursors one. The load of the first cell tells what the join of the seats does not:
+    /// that the longer list begins with the shorter, and that no place was of both. The shorter
+    /// comes back.
     fn take_in(&self, cursor: &mut Cursor, other: Cursor) -> Members
         requires cursor { SitsAt self.now cursor.old.seat × MatchesSeat cursor.old }
         requires other { SitsAt self.now other.seat × MatchesSeat other }
-        requires room { (vec_len cursor.old.mine + vec_len other.mine ≤ vec_capacity cursor.old.mine) × (other.free.parts ≤ cursor.old.free.room) }
+        requires room { (vec_len cursor.old.mine + vec_len other.mine ≤
+            vec_capacity cursor.old.mine) × (other.free.parts ≤ cursor.old.free.room) }
         ensures united { United cursor.old other.seat.me.0 cursor.new }
         ensures front { IsPrefix result.items cursor.new.seen.items }
     {
@@ -142,13 +145,15 @@ impl CellTable {
         seen
     }
 
-    /// Takes in a seat that owns nothing and has seen this list, which is no shorter. The cursor's own
-    /// list gets what the other has more; there is room for it.
+    /// Takes in a seat that owns nothing and has seen this list, which is no shorter. The cursor's
+    /// own list gets what the other has more; there is room for it.
     fn hear(&self, cursor: &mut Cursor, seat: HistorySeat, list: &[Drawop])
         requires cursor { SitsAt self.now cursor.old.seat × MatchesSeat cursor.old }
-        requires seat { SitsAt self.now seat × (seat.me.1 ≡ []) × (seat.me.0.mine ≡ []) × (seat.me.0.free ≡ []) }
+        requires seat { SitsAt self.now seat × (seat.me.1 ≡ []) × (seat.me.0.mine ≡ []) ×
+            (seat.me.0.free ≡ []) }
         requires list { (seat.me.0.seen ≡ list.now) × IsHistory list.now }
-        requires room { (length cursor.old.seen.items ≤ length list.now) × (length list.now ≤ length cursor.old.seen.items + cursor.old.seen.room) }
+        requires room { (length cursor.old.seen.items ≤ length list.now) ×
+            (length list.now ≤ length cursor.old.seen.items + cursor.old.seen.room) }
         ensures { United cursor.old seat.me.0 cursor.new }
     {
         self.unite(&mut cursor.seat, seat);
@@ -164,7 +169,8 @@ impl History {
         requires passes { IsPassOf self.now pass.old × IsPassOf self.now other }
         ensures same { IsSamePass pass.old pass.new × (pass.new.steps ≡ pass.old.steps) }
         ensures sound { IsSound pass.new × IfErr result (λ e. IsSound e.1) }
-        ensures joined { MatchResult result (λ _. IsJoined pass.old other pass.new) (λ e. (pass.new ≡ pass.old) × (e.1 ≡ other)) }
+        ensures joined { MatchResult result (λ _. IsJoined pass.old other pass.new)
+            (λ e. (pass.new ≡ pass.old) × (e.1 ≡ other)) }
     {
         if pass.cursor.mine.reserve(other.cursor.mine.len()).is_err() {
             return Err((JoinFault::Memory, other));
@@ -182,15 +188,19 @@ impl History {
         Ok(())
     }
 
-    /// Lets the hearer, whose list is no longer, know what the teller has seen. A refused call changes
-    /// nothing.
+    /// Lets the hearer, whose list is no longer, know what the teller has seen. A refused call
+    /// changes nothing.
     fn tell(&self, teller: &mut Pass, hearer: &mut Pass) -> Result<(), AllocError>
         requires passes { IsPassOf self.now teller.old × IsPassOf self.now hearer.old }
         requires longer { length hearer.old.seen ≤ length teller.old.seen }
         ensures same { IsSamePass teller.old teller.new × IsSamePass hearer.old hearer.new }
         ensures sound { IsSound teller.new × OnOk result (IsSound hearer.new) }
-        ensures teller { KeepsRows teller.old teller.new × (teller.new.seen ≡ teller.old.seen) × (teller.new.steps ≡ teller.old.steps) }
-        ensures hearer { OnOk result (KeepsRows hearer.old hearer.new × (hearer.new.seen ≡ longer hearer.old.seen teller.old.seen) × IsPrefix hearer.old.seen hearer.new.seen × IsPrefix teller.old.seen hearer.new.seen × (hearer.new.steps ≡ hearer.old.steps)) }
+        ensures teller { KeepsRows teller.old teller.new × (teller.new.seen ≡ teller.old.seen) ×
+            (teller.new.steps ≡ teller.old.steps) }
+        ensures hearer { OnOk result (KeepsRows hearer.old hearer.new ×
+            (hearer.new.seen ≡ longer hearer.old.seen teller.old.seen) ×
+            IsPrefix hearer.old.seen hearer.new.seen × IsPrefix teller.old.seen hearer.new.seen ×
+            (hearer.new.steps ≡ hearer.old.steps)) }
         ensures refused { OnErr result ((teller.new ≡ teller.old) × (hearer.new ≡ hearer.old)) }
     {
         let more = teller.cursor.seen.len() - hearer.cursor.seen.len();
@@ -201,15 +211,16 @@ impl History {
         Ok(())
     }
 
-    /// Both passes have then seen the same list, the longer of their two: the shorter grows where it
-    /// lies, by its own allocator. A refused call changes nothing.
+    /// Both passes have then seen the same list, the longer of their two: the shorter grows where
+    /// it lies, by its own allocator. A refused call changes nothing.
     #[tactic(auto, using(crate::proofs::Shows::sound_pass, crate::proofs::Shows::sound_heard))]
     pub fn meet(&self, first: &mut Pass, second: &mut Pass) -> Result<(), AllocError>
         requires passes { IsPassOf self.now first.old × IsPassOf self.now second.old }
         ensures sound { IsSound first.new × IsSound second.new }
         ensures first { HearsMore first.old first.new }
         ensures second { HearsMore second.old second.new }
-        ensures met { OnOk result ((first.new.seen ≡ second.new.seen) × (second.new.seen ≡ longer second.old.seen first.old.seen)) }
+        ensures met { OnOk result ((first.new.seen ≡ second.new.seen) ×
+            (second.new.seen ≡ longer second.old.seen first.old.seen)) }
         ensures refused { OnErr result ((first.new ≡ first.old) × (second.new ≡ second.old)) }
     {
         if first.cursor.seen.len() < second.cursor.seen.len() {

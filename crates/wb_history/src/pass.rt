@@ -14,8 +14,8 @@ use wb_names::{Drawop, Name};
 /// history that it came from, and it may go to another thread. A pass that is dropped keeps its
 /// rows, so they are lost.
 ///
-/// Of each pass that was joined to it it keeps a list of drawops, with its index, for its next split: at
-/// most eight, and about 40 MB of them, which are given back when it is dropped.
+/// Of each pass that was joined to it it keeps a list of drawops, with its index, for its next
+/// split: at most eight, and about 40 MB of them, which are given back when it is dropped.
 #[derive(Drop)]
 pub struct Pass {
     pub(crate) cursor: Cursor,
@@ -34,7 +34,8 @@ impl Model for Pass {
 
     ghost view = { λ p. view_of p.cursor };
 
-    ghost invariant = { λ p. PartsAgree p.cursor × (p.cells ≡ p.cursor.seat.me.0.cells) × AreFronts p.spares.items p.cursor.seen.items };
+    ghost invariant = { λ p. PartsAgree p.cursor × (p.cells ≡ p.cursor.seat.me.0.cells) ×
+        AreFronts p.spares.items p.cursor.seen.items };
 }
 
 impl Pass {
@@ -50,7 +51,8 @@ impl Pass {
     /// The place of the drawop with this name, by one look-up.
     #[tactic(auto, using(crate::proofs::Words::get_is))]
     pub fn place_of(&self, name: &Name) -> Option<u32>
-        ensures { MatchOption result (¬ HoldsName self.now.seen name.now) (λ i. (d : DrawopValue) × (slice_get self.now.seen i ≡ Some d) × (d.name ≡ name.now)) }
+        ensures { MatchOption result (¬ HoldsName self.now.seen name.now) (λ i. (d : DrawopValue) ×
+            (slice_get self.now.seen i ≡ Some d) × (d.name ≡ name.now)) }
     {
         match self.cursor.seen.place_of(name) {
             Some(place) => Some(place as u32),

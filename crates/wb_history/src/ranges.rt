@@ -55,7 +55,8 @@ impl Rows {
     /// The row that is used next.
     #[tactic(auto, using(crate::proofs::RowLists::last_is))]
     pub(crate) fn last(&self) -> Option<u32>
-        ensures { MatchOption result (self.now.items ≡ []) (λ r. get_elem? self.now.items (length self.now.items - 1) ≡ some r) }
+        ensures { MatchOption result (self.now.items ≡ [])
+            (λ r. get_elem? self.now.items (length self.now.items - 1) ≡ some r) }
     {
         let parts = self.ranges.len();
         if parts == 0 {
@@ -86,8 +87,10 @@ impl Rows {
     /// Takes the last rows out, so many. A refused call changes nothing.
     pub(crate) fn split_off(&mut self, rows: u32) -> Result<Rows, AllocError>
         requires { rows ≤ length self.old.items }
-        ensures items { OnOk result (self.new.items ≡ take (length self.old.items - rows) self.old.items) }
-        ensures tail { IfOk result (λ r. r.items ≡ drop (length self.old.items - rows) self.old.items) }
+        ensures items { OnOk result (self.new.items ≡
+            take (length self.old.items - rows) self.old.items) }
+        ensures tail { IfOk result
+            (λ r. r.items ≡ drop (length self.old.items - rows) self.old.items) }
         ensures err { OnErr result (self.new ≡ self.old) }
     {
         let keep = self.count - rows;
@@ -136,13 +139,14 @@ impl Rows {
     }
 }
 
-/// The range that so many rows reach into, and how many of its rows they take; past the last range if
-/// they are all rows.
+/// The range that so many rows reach into, and how many of its rows they take; past the last range
+/// if they are all rows.
 #[tactic(auto, using(crate::proofs::RowLists::rows_more, crate::proofs::Lists::at_read))]
 fn place_of(ranges: &[RowRange], rows: u32) -> (usize, u32)
     requires { rows ≤ length (rows_in ranges.now) }
     ensures before { length (rows_in (take result.0 ranges.now)) + result.1 ≡ rows }
-    ensures inside { (result.0 ≤ length ranges.now) × (0 < result.1 → (r : RowRange) × (get_elem? ranges.now result.0 ≡ some r) × (result.1 < r.count)) }
+    ensures inside { (result.0 ≤ length ranges.now) × (0 < result.1 →
+        (r : RowRange) × (get_elem? ranges.now result.0 ≡ some r) × (result.1 < r.count)) }
 {
     let mut left = rows;
     for (i, range) in ranges.iter().enumerate() {

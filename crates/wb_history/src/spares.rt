@@ -12,12 +12,13 @@ use std::alloc::AllocError;
 /// How many lists a pass keeps: as many as a batch has workers.
 const MOST: usize = 8;
 
-/// How many members the lists have together, at most, when one more is kept. A member takes some 150 bytes with its
-/// name in the index, so that all lists that are kept take about 40 MB: eight of 32,768 members, or four of all.
+/// How many members the lists have together, at most, when one more is kept. A member takes some
+/// 150 bytes with its name in the index, so that all lists that are kept take about 40 MB: eight of
+/// 32,768 members, or four of all.
 const MOST_MEMBERS: usize = 262_144;
 
-/// Another list of the members that were seen: a spare one with what came since, or a copy where there
-/// is none. After a fault the spare is gone.
+/// Another list of the members that were seen: a spare one with what came since, or a copy where
+/// there is none. After a fault the spare is gone.
 pub(crate) fn another(spares: &mut Vec<Members>, seen: &Members) -> Result<Members, AllocError>
     requires spares { AreFronts spares.old.items seen.now.items }
     requires once { IsHistory seen.now.items }
@@ -32,10 +33,11 @@ pub(crate) fn another(spares: &mut Vec<Members>, seen: &Members) -> Result<Membe
     Ok(list)
 }
 
-/// Keeps a list for a later split, while there are few and memory lasts. Otherwise it goes. So many members were
-/// seen, and no list that is kept has more.
+/// Keeps a list for a later split, while there are few and memory lasts. Otherwise it goes. So many
+/// members were seen, and no list that is kept has more.
 pub(crate) fn keep(spares: &mut Vec<Members>, list: Members, seen: usize)
-    ensures { (seen : List DrawopValue) → AreFronts spares.old.items seen → IsPrefix list.items seen → AreFronts spares.new.items seen }
+    ensures { (seen : List DrawopValue) → AreFronts spares.old.items seen →
+        IsPrefix list.items seen → AreFronts spares.new.items seen }
 {
     if spares.len() < MOST && seen <= MOST_MEMBERS / (spares.len() + 1) {
         let _kept = spares.push(list);

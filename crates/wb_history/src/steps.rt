@@ -19,8 +19,8 @@ use wb_codec::{ROW_WORDS, drawop_in, to_row};
 use wb_names::Drawop;
 
 impl CellTable {
-    /// Loads the first cell that the seat has not seen. It holds 0 while it is free, and otherwise a
-    /// row number plus one.
+    /// Loads the first cell that the seat has not seen. It holds 0 while it is free, and otherwise
+    /// a row number plus one.
     pub(crate) fn look(&self, seat: &mut HistorySeat, place: usize) -> u64
         requires seat { SitsAt self.now seat.old }
         requires place { (place ≡ length seat.old.me.0.seen) × (place < self.now.cells) }
@@ -30,8 +30,8 @@ impl CellTable {
         self.table.shared.load::<Look>(seat, place)
     }
 
-    /// The first word of a row. The rows stand after the cells, those of the greatest numbers first: a pass uses them in this
-    /// order, so that it goes forward in memory.
+    /// The first word of a row. The rows stand after the cells, those of the greatest numbers
+    /// first: a pass uses them in this order, so that it goes forward in memory.
     fn row_start(&self, row: usize) -> usize
         requires { row < self.now.cells }
         ensures { result ≡ self.now.cells + (self.now.cells - 1 - row) * row_stride }
@@ -44,9 +44,11 @@ impl CellTable {
     /// cell was won, and stores nothing there again.
     pub(crate) fn read_row(&self, seat: &mut HistorySeat, row: usize) -> Drawop
         requires seat { SitsAt self.now seat.old }
-        requires row { (row < self.now.cells) × (seat.old.me.0.looking ≡ row + 1) × (seat.old.me.0.read ≡ []) }
+        requires row { (row < self.now.cells) × (seat.old.me.0.looking ≡ row + 1) ×
+            (seat.old.me.0.read ≡ []) }
         ensures seat { SameSeat seat.old seat.new }
-        ensures member { IsMember seat.old.me.0 result seat.new.me.0 × IsDrawop result × IsConsistent seat.new.me.0 }
+        ensures member { IsMember seat.old.me.0 result seat.new.me.0 × IsDrawop result ×
+            IsConsistent seat.new.me.0 }
     {
         let start = self.row_start(row);
         let mut words = [0u64; ROW_WORDS];
@@ -67,10 +69,12 @@ impl CellTable {
     /// seat reads it.
     pub(crate) fn store_row(&self, seat: &mut HistorySeat, row: usize, drawop: &Drawop)
         requires seat { SitsAt self.now seat.old }
-        requires row { (row < self.now.cells) × (get_elem? seat.old.me.0.free (length seat.old.me.0.free - 1) ≡ some row) × (seat.old.me.0.stored ≡ []) }
+        requires row { (row < self.now.cells) × (get_elem? seat.old.me.0.free
+            (length seat.old.me.0.free - 1) ≡ some row) × (seat.old.me.0.stored ≡ []) }
         requires consistent { IsConsistent seat.old.me.0 }
         ensures seat { SameSeat seat.old seat.new }
-        ensures stored { IsStored seat.old.me.0 (record_of drawop.now) seat.new.me.0 × IsConsistent seat.new.me.0 }
+        ensures stored { IsStored seat.old.me.0 (record_of drawop.now) seat.new.me.0 ×
+            IsConsistent seat.new.me.0 }
         ensures lawful { IsDrawop drawop.now }
     {
         let start = self.row_start(row);
@@ -97,7 +101,8 @@ impl CellTable {
         requires stored { seat.old.me.0.stored ≡ record_of drawop.now }
         requires new { IsDrawop drawop.now × ¬ HoldsName seat.old.me.0.seen drawop.now.name }
         ensures seat { SameSeat seat.old seat.new }
-        ensures found { published (step 0 place 0 (row + 1) (some drawop.now)) seat.old.me result seat.new.me }
+        ensures found { published
+            (step 0 place 0 (row + 1) (some drawop.now)) seat.old.me result seat.new.me }
     {
         let new = u64::from(row) + 1;
         self.table
@@ -107,8 +112,8 @@ impl CellTable {
 }
 
 impl CellTable {
-    /// Loads the first cell after a join, which tells nothing by itself: of the two lists the longer
-    /// begins with the shorter, and a step tells that.
+    /// Loads the first cell after a join, which tells nothing by itself: of the two lists the
+    /// longer begins with the shorter, and a step tells that.
     pub(crate) fn confirm(&self, seat: &mut HistorySeat)
         requires seat { SitsAt self.now seat.old }
         ensures seat { SameSeat seat.old seat.new }
@@ -123,7 +128,8 @@ impl CellTable {
         requires seat { SitsAt self.now seat.old }
         requires rows { B.rows ≡ rows }
         ensures seat { SameSeat seat.old seat.new × (seat.new.me.0 ≡ left_part rows seat.old.me.0) }
-        ensures new { (result.table_id ≡ seat.old.table_id) × (result.me ≡ (right_part rows seat.old.me.0, [])) }
+        ensures new { (result.table_id ≡ seat.old.table_id) ×
+            (result.me ≡ (right_part rows seat.old.me.0, [])) }
     {
         self.table.shared.split_seat::<Cut<B>>(seat)
     }
@@ -133,7 +139,8 @@ impl CellTable {
     pub(crate) fn unite(&self, seat: &mut HistorySeat, other: HistorySeat)
         requires seat { SitsAt self.now seat.old }
         requires other { SitsAt self.now other × (other.me.1 ≡ []) }
-        ensures seat { SameSeat seat.old seat.new × (seat.new.me.0 ≡ united seat.old.me.0 other.me.0) }
+        ensures seat { SameSeat seat.old seat.new ×
+            (seat.new.me.0 ≡ united seat.old.me.0 other.me.0) }
     {
         self.table.shared.join_seat::<Unite>(seat, other);
     }

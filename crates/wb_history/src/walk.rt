@@ -1,5 +1,5 @@
-//! How a cursor goes on along the history. A walk begins at the first cell that the cursor has not seen,
-//! so that it reads no filled cell twice.
+//! How a cursor goes on along the history. A walk begins at the first cell that the cursor has not
+//! seen, so that it reads no filled cell twice.
 ghost use Rattle.wb_history.specs.Sizes.{row_words, member_steps};
 ghost use Rattle.std.specs.Prelude.{◌≡◌, ◌≢◌, ℕ, ◌+◌, ◌*◌, ◌<◌, ◌≤◌, List, [], ◌∷◌, ◌++◌, length, slice_get, Some, MatchOption, MatchResult, IsTrue, ◌↔◌};
 ghost use Rattle.wb_names.specs.Values.{DrawopValue};
@@ -28,7 +28,8 @@ pub(crate) fn is_namesake(member: &Drawop, drawop: &Drawop) -> bool
 /// The answer where the member at a place has the name of the drawop.
 pub(crate) fn answer(drawop: &Drawop, member: &Drawop, place: usize) -> Claim
     requires { (member.now.name ≡ drawop.now.name) × (place ≤ MAX_CELLS) }
-    ensures { (l : List DrawopValue) → slice_get l place ≡ Some member.now → TellsNamesake l drawop.now result }
+    ensures { (l : List DrawopValue) → slice_get l place ≡ Some member.now →
+        TellsNamesake l drawop.now result }
 {
     if member == drawop {
         Claim::Present(place as u32)
@@ -40,7 +41,8 @@ pub(crate) fn answer(drawop: &Drawop, member: &Drawop, place: usize) -> Claim
 /// The answer where the member at this place has the name of the drawop.
 pub(crate) fn answer_at(members: &Members, place: usize, drawop: &Drawop) -> Option<Claim>
     requires { (place < length members.now.items) × (place ≤ MAX_CELLS) }
-    ensures { MatchOption result ((d : DrawopValue) → slice_get members.now.items place ≡ Some d → d.name ≢ drawop.now.name) (λ c. TellsNamesake members.now.items drawop.now c) }
+    ensures { MatchOption result ((d : DrawopValue) → slice_get members.now.items place ≡ Some d →
+        d.name ≢ drawop.now.name) (λ c. TellsNamesake members.now.items drawop.now c) }
 {
     let member = &members.as_slice()[place];
     if is_namesake(member, drawop) {
@@ -51,15 +53,23 @@ pub(crate) fn answer_at(members: &Members, place: usize, drawop: &Drawop) -> Opt
 }
 
 impl CellTable {
-    /// Reads the member after those that were seen, whose cell was found to hold `found`, and puts it last. All growth
-    /// for it comes before its row is read, since the last word read makes it seen.
+    /// Reads the member after those that were seen, whose cell was found to hold `found`, and puts
+    /// it last. All growth for it comes before its row is read, since the last word read makes it
+    /// seen.
     pub(crate) fn take_member(&self, cursor: &mut Cursor, found: u64) -> Result<(), AllocError>
-        requires cursor { SitsAt self.now cursor.old.seat × MatchesSeat cursor.old × (cursor.old.steps ≤ member_steps * (length cursor.old.seen.items + 2)) }
-        requires found { (0 < found) × (found ≤ self.now.cells) × (cursor.old.seat.me.0.looking ≡ found) × (cursor.old.seat.me.0.read ≡ []) }
-        ensures matches { MatchesSeat cursor.new × (cursor.new.mine.items ≡ cursor.old.mine.items) × (cursor.new.free.items ≡ cursor.old.free.items) }
-        ensures done { MatchResult result
-            (λ _. (d : DrawopValue) × (cursor.new.seen.items ≡ cursor.old.seen.items ++ d ∷ []) × (cursor.new.steps ≡ cursor.old.steps + row_words) × IsMember cursor.old.seat.me.0 d cursor.new.seat.me.0 × SameSeat cursor.old.seat cursor.new.seat)
-            (λ _. (cursor.new.seen.items ≡ cursor.old.seen.items) × (cursor.new.steps ≡ cursor.old.steps) × (cursor.new.seat ≡ cursor.old.seat)) }
+        requires cursor { SitsAt self.now cursor.old.seat × MatchesSeat cursor.old ×
+            (cursor.old.steps ≤ member_steps * (length cursor.old.seen.items + 2)) }
+        requires found { (0 < found) × (found ≤ self.now.cells) ×
+            (cursor.old.seat.me.0.looking ≡ found) × (cursor.old.seat.me.0.read ≡ []) }
+        ensures matches { MatchesSeat cursor.new × (cursor.new.mine.items ≡ cursor.old.mine.items) ×
+            (cursor.new.free.items ≡ cursor.old.free.items) }
+        ensures done { MatchResult result (λ _. (d : DrawopValue) ×
+            (cursor.new.seen.items ≡ cursor.old.seen.items ++ d ∷ []) ×
+            (cursor.new.steps ≡ cursor.old.steps + row_words) ×
+            IsMember cursor.old.seat.me.0 d cursor.new.seat.me.0 ×
+            SameSeat cursor.old.seat cursor.new.seat)
+            (λ _. (cursor.new.seen.items ≡ cursor.old.seen.items) ×
+            (cursor.new.steps ≡ cursor.old.steps) × (cursor.new.seat ≡ cursor.old.seat)) }
     {
         cursor.seen.reserve(1)?;
         let drawop = self.read_row(&mut cursor.seat, found as usize - 1);
@@ -68,10 +78,15 @@ impl CellTable {
         Ok(())
     }
 
-    /// Reads the next member, if there is one: a load of its cell, and one of each word of its row. It answers its place.
+    /// Reads the next member, if there is one: a load of its cell, and one of each word of its row.
+    /// It answers its place.
     pub(crate) fn next_member(&self, cursor: &mut Cursor) -> Result<Option<usize>, AllocError>
-        requires cursor { SitsAt self.now cursor.old.seat × MatchesSeat cursor.old × (cursor.old.steps ≤ member_steps * length cursor.old.seen.items) }
-        ensures done { MatchResult result (λ o. MatchOption o (AtEnd self.now.cells cursor.old [] cursor.new) (λ place. ReadsOne cursor.old place cursor.new)) (λ _. Walked cursor.old [] 1 cursor.new) }
+        requires cursor { SitsAt self.now cursor.old.seat × MatchesSeat cursor.old ×
+            (cursor.old.steps ≤ member_steps * length cursor.old.seen.items) }
+        ensures done { MatchResult result
+            (λ o. MatchOption o (AtEnd self.now.cells cursor.old [] cursor.new)
+            (λ place. ReadsOne cursor.old place cursor.new))
+            (λ _. Walked cursor.old [] 1 cursor.new) }
     {
         let place = cursor.seen.len();
         if place == self.cells as usize {
@@ -88,8 +103,11 @@ impl CellTable {
 
     /// Reads all members to the end.
     pub(crate) fn catch_up(&self, cursor: &mut Cursor) -> Result<(), AllocError>
-        requires cursor { SitsAt self.now cursor.old.seat × MatchesSeat cursor.old × (cursor.old.steps ≡ 0) }
-        ensures done { MatchResult result (λ _. (more : List DrawopValue) × AtEnd self.now.cells cursor.old more cursor.new) (λ _. (more : List DrawopValue) × Walked cursor.old more 1 cursor.new) }
+        requires cursor { SitsAt self.now cursor.old.seat × MatchesSeat cursor.old ×
+            (cursor.old.steps ≡ 0) }
+        ensures done { MatchResult result (λ _. (more : List DrawopValue) ×
+            AtEnd self.now.cells cursor.old more cursor.new) (λ _. (more : List DrawopValue) ×
+            Walked cursor.old more 1 cursor.new) }
     {
         while let Some(_) = self.next_member(cursor)? {}
         Ok(())
@@ -101,9 +119,11 @@ impl CellTable {
         cursor: &mut Cursor,
         drawop: &Drawop,
     ) -> Result<Option<Claim>, AllocError>
-        requires cursor { SitsAt self.now cursor.old.seat × MatchesSeat cursor.old × (cursor.old.steps ≡ 0) }
+        requires cursor { SitsAt self.now cursor.old.seat × MatchesSeat cursor.old ×
+            (cursor.old.steps ≡ 0) }
         requires new { ¬ HoldsName cursor.old.seen.items drawop.now.name }
-        ensures done { MatchResult result (Sought self.now.cells cursor.old drawop.now cursor.new) (λ _. (more : List DrawopValue) × Walked cursor.old more 1 cursor.new) }
+        ensures done { MatchResult result (Sought self.now.cells cursor.old drawop.now cursor.new)
+            (λ _. (more : List DrawopValue) × Walked cursor.old more 1 cursor.new) }
     {
         while let Some(place) = self.next_member(cursor)? {
             if let Some(claim) = answer_at(&cursor.seen, place, drawop) {

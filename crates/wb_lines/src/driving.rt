@@ -41,13 +41,18 @@ fn hand_over<H: GroupHandler, R: Source, W: Sink>(
 ) -> Result<bool, DriveFault<H::Fault>>
     requires said { H.Said.says progress.old.lines.line said }
     requires taken { progress.old.lines.seen ≡ seens.Nothing }
-    ensures text { (printed : List ℕ) × (moves : Moves
-        (moment progress.old.lines progress.old.output (R.left source.old) (R.has_failed source.old) (W.taken sink.old) (W.has_failed sink.old))
-        (moment progress.new.lines progress.new.output (R.left source.new) (R.has_failed source.new) (W.taken sink.new) (W.has_failed sink.new)) printed)
-        × ((s : H.State) → H.is_at handler.old s
-        → Drives H.Said.by H.step (H.is_at handler.new) (OutcomeAt H.Said.by H.step progress.old.lines (Some (begin progress.old.lines.done progress.old.lines.line)) s) moves.given printed progress.new.lines result) }
+    ensures text { (printed : List ℕ) ×
+        (moves : Moves (moment progress.old.lines progress.old.output
+        (R.left source.old) (R.has_failed source.old) (W.taken sink.old) (W.has_failed sink.old))
+        (moment progress.new.lines progress.new.output (R.left source.new) (R.has_failed source.new)
+        (W.taken sink.new) (W.has_failed sink.new)) printed) ×
+        ((s : H.State) → H.is_at handler.old s →
+        Drives H.Said.by H.step (H.is_at handler.new) (OutcomeAt H.Said.by H.step progress.old.lines
+        (Some (begin progress.old.lines.done progress.old.lines.line)) s) moves.given printed
+        progress.new.lines result) }
     ensures going { result ≡ Ok true → is_broken progress.new.lines.seen ≡ false }
-    ensures faults { (result ≡ Err DriveFault.Read → progress.new.lines.seen ≡ seens.Failed) × (result ≡ Err DriveFault.Write → progress.new.lines.seen ≡ seens.Unwritten) }
+    ensures faults { (result ≡ Err DriveFault.Read → progress.new.lines.seen ≡ seens.Failed) ×
+        (result ≡ Err DriveFault.Write → progress.new.lines.seen ≡ seens.Unwritten) }
 {
     let number = progress.lines.done();
     if let Err(stop) = handler.take(alloc, said, progress, source, sink) {
@@ -69,14 +74,19 @@ fn hand_over_long<H: GroupHandler, R: Source, W: Sink>(
     sink: &mut W,
 ) -> Result<bool, DriveFault<H::Fault>>
     requires long { progress.old.lines.seen ≡ seens.TooLong }
-    ensures text { (printed : List ℕ) × (moves : Moves
-        (moment progress.old.lines progress.old.output (R.left source.old) (R.has_failed source.old) (W.taken sink.old) (W.has_failed sink.old))
-        (moment progress.new.lines progress.new.output (R.left source.new) (R.has_failed source.new) (W.taken sink.new) (W.has_failed sink.new)) printed)
-        × ((s : H.State) → H.is_at handler.old s
-        → Drives H.Said.by H.step (H.is_at handler.new) (OutcomeAt H.Said.by H.step progress.old.lines None s) moves.given printed progress.new.lines result) }
-    ensures on { (progress.old.lines.done < progress.old.lines.most) × (progress.old.lines.done < progress.new.lines.done) }
+    ensures text { (printed : List ℕ) ×
+        (moves : Moves (moment progress.old.lines progress.old.output
+        (R.left source.old) (R.has_failed source.old) (W.taken sink.old) (W.has_failed sink.old))
+        (moment progress.new.lines progress.new.output (R.left source.new) (R.has_failed source.new)
+        (W.taken sink.new) (W.has_failed sink.new)) printed) ×
+        ((s : H.State) → H.is_at handler.old s → Drives H.Said.by H.step (H.is_at handler.new)
+        (OutcomeAt H.Said.by H.step progress.old.lines None s) moves.given printed
+        progress.new.lines result) }
+    ensures on { (progress.old.lines.done < progress.old.lines.most) ×
+        (progress.old.lines.done < progress.new.lines.done) }
     ensures going { result ≡ Ok true → is_broken progress.new.lines.seen ≡ false }
-    ensures faults { (result ≡ Err DriveFault.Read → progress.new.lines.seen ≡ seens.Failed) × (result ≡ Err DriveFault.Write → progress.new.lines.seen ≡ seens.Unwritten) }
+    ensures faults { (result ≡ Err DriveFault.Read → progress.new.lines.seen ≡ seens.Failed) ×
+        (result ≡ Err DriveFault.Write → progress.new.lines.seen ≡ seens.Unwritten) }
 {
     progress.lines.take_too_long();
     let number = progress.lines.done();
@@ -100,13 +110,19 @@ fn drive_group<H: GroupHandler, R: Source, W: Sink>(
     sink: &mut W,
 ) -> Result<bool, DriveFault<H::Fault>>
     requires going { is_broken progress.old.lines.seen ≡ false }
-    ensures text { (printed : List ℕ) × (moves : Moves
-        (moment progress.old.lines progress.old.output (R.left source.old) (R.has_failed source.old) (W.taken sink.old) (W.has_failed sink.old))
-        (moment progress.new.lines progress.new.output (R.left source.new) (R.has_failed source.new) (W.taken sink.new) (W.has_failed sink.new)) printed)
-        × ((s : H.State) → H.is_at handler.old s
-        → Drives H.Said.by H.step (H.is_at handler.new) (OutcomeAt H.Said.by H.step progress.old.lines None s) moves.given printed progress.new.lines result) }
-    ensures on { result ≡ Ok true → (progress.old.lines.done < progress.old.lines.most) × (progress.old.lines.done < progress.new.lines.done) × (is_broken progress.new.lines.seen ≡ false) }
-    ensures faults { (result ≡ Err DriveFault.Read → progress.new.lines.seen ≡ seens.Failed) × (result ≡ Err DriveFault.Write → progress.new.lines.seen ≡ seens.Unwritten) }
+    ensures text { (printed : List ℕ) ×
+        (moves : Moves (moment progress.old.lines progress.old.output
+        (R.left source.old) (R.has_failed source.old) (W.taken sink.old) (W.has_failed sink.old))
+        (moment progress.new.lines progress.new.output (R.left source.new) (R.has_failed source.new)
+        (W.taken sink.new) (W.has_failed sink.new)) printed) ×
+        ((s : H.State) → H.is_at handler.old s → Drives H.Said.by H.step (H.is_at handler.new)
+        (OutcomeAt H.Said.by H.step progress.old.lines None s) moves.given printed
+        progress.new.lines result) }
+    ensures on { result ≡ Ok true → (progress.old.lines.done < progress.old.lines.most) ×
+        (progress.old.lines.done < progress.new.lines.done) ×
+        (is_broken progress.new.lines.seen ≡ false) }
+    ensures faults { (result ≡ Err DriveFault.Read → progress.new.lines.seen ≡ seens.Failed) ×
+        (result ≡ Err DriveFault.Write → progress.new.lines.seen ≡ seens.Unwritten) }
 {
     progress
         .lines
@@ -129,13 +145,17 @@ fn drive_all<H: GroupHandler, R: Source, W: Sink>(
     sink: &mut W,
 ) -> Result<u64, DriveFault<H::Fault>>
     requires going { is_broken progress.old.lines.seen ≡ false }
-    ensures text { (printed : List ℕ) × (moves : Moves
-        (moment progress.old.lines progress.old.output (R.left source.old) (R.has_failed source.old) (W.taken sink.old) (W.has_failed sink.old))
-        (moment progress.new.lines progress.new.output (R.left source.new) (R.has_failed source.new) (W.taken sink.new) (W.has_failed sink.new)) printed)
-        × ((s : H.State) → H.is_at handler.old s
-        → DrivesAll (H.is_at handler.new) (OutcomeAt H.Said.by H.step progress.old.lines None s) moves.given printed progress.new.lines result) }
+    ensures text { (printed : List ℕ) ×
+        (moves : Moves (moment progress.old.lines progress.old.output
+        (R.left source.old) (R.has_failed source.old) (W.taken sink.old) (W.has_failed sink.old))
+        (moment progress.new.lines progress.new.output (R.left source.new) (R.has_failed source.new)
+        (W.taken sink.new) (W.has_failed sink.new)) printed) ×
+        ((s : H.State) → H.is_at handler.old s →
+        DrivesAll (H.is_at handler.new) (OutcomeAt H.Said.by H.step progress.old.lines None s)
+        moves.given printed progress.new.lines result) }
     ensures few { IfOk result (λ lines. lines ≤ progress.old.lines.most) }
-    ensures faults { (result ≡ Err DriveFault.Read → progress.new.lines.seen ≡ seens.Failed) × (result ≡ Err DriveFault.Write → progress.new.lines.seen ≡ seens.Unwritten) }
+    ensures faults { (result ≡ Err DriveFault.Read → progress.new.lines.seen ≡ seens.Failed) ×
+        (result ≡ Err DriveFault.Write → progress.new.lines.seen ≡ seens.Unwritten) }
 {
     while drive_group(alloc, handler, progress, source, sink)? {}
     Ok(progress.lines.done())
@@ -154,10 +174,11 @@ pub fn close<F: Drop, W: Sink>(
     output: &mut Output,
     sink: &mut W,
 ) -> Result<u64, DriveFault<F>>
-    ensures text { (written : List ℕ) × Sends (W.taken sink.old) output.old (W.taken sink.new) output.new written
-        × Closes ending written output.new result }
+    ensures text { (written : List ℕ) × Sends (W.taken sink.old) output.old
+        (W.taken sink.new) output.new written × Closes ending written output.new result }
     ensures read { result ≡ Err DriveFault.Read → ending ≡ Err DriveFault.Read }
-    ensures failed { (ending ≡ Err DriveFault.Write → W.has_failed sink.old ≡ true) → result ≡ Err DriveFault.Write → W.has_failed sink.new ≡ true }
+    ensures failed { (ending ≡ Err DriveFault.Write → W.has_failed sink.old ≡ true) →
+        result ≡ Err DriveFault.Write → W.has_failed sink.new ≡ true }
 {
     if let Err(fault) = &ending {
         if is_stop(fault) {
@@ -168,12 +189,13 @@ pub fn close<F: Drop, W: Sink>(
     ending
 }
 
-/// Hands the lines that a source has left to a handler, in groups, and writes what it prints to a sink. Before it waits for
-/// more it has written what it has. Answers how many lines there were; or the first fault in their order, and then all is
-/// written that was printed before.
+/// Hands the lines that a source has left to a handler, in groups, and writes what it prints to a
+/// sink. Before it waits for more it has written what it has. Answers how many lines there were; or
+/// the first fault in their order, and then all is written that was printed before.
 ///
-/// The lines are taken up to the first at which the handler stops, and `most_lines` of them at most. A line that is too
-/// long is handed over as such; where the handler goes on, the rest of it is passed over.
+/// The lines are taken up to the first at which the handler stops, and `most_lines` of them at
+/// most. A line that is too long is handed over as such; where the handler goes on, the rest of it
+/// is passed over.
 ///
 /// Where memory runs out or the sink fails, a front of the text is written.
 pub fn drive_groups<H: GroupHandler, R: Source, W: Sink>(
@@ -184,10 +206,12 @@ pub fn drive_groups<H: GroupHandler, R: Source, W: Sink>(
     sink: &mut W,
 ) -> Result<u64, DriveFault<H::Fault>>
     requires { most_lines ≤ H.Said.at_most }
-    ensures lines { (input : List ℕ) × (written : List ℕ)
-        × Gave (R.left source.old) (R.left source.new) (R.has_failed source.new) input
-        × Appends (W.taken sink.old) (W.taken sink.new) written
-        × ((s : H.State) → H.is_at handler.old s → MeetsOne (IsOutcome (group_rules H.Said.by H.step most_lines) (R.has_failed source.new) s input) (H.is_at handler.new) written result) }
+    ensures lines { (input : List ℕ) × (written : List ℕ) ×
+        Gave (R.left source.old) (R.left source.new) (R.has_failed source.new) input ×
+        Appends (W.taken sink.old) (W.taken sink.new) written ×
+        ((s : H.State) → H.is_at handler.old s → MeetsOne
+        (IsOutcome (group_rules H.Said.by H.step most_lines) (R.has_failed source.new) s input)
+        (H.is_at handler.new) written result) }
     ensures few { IfOk result (λ lines. lines ≤ most_lines) }
     ensures read { result ≡ Err DriveFault.Read → R.has_failed source.new ≡ true }
     ensures write { result ≡ Err DriveFault.Write → W.has_failed sink.new ≡ true }
@@ -200,8 +224,8 @@ pub fn drive_groups<H: GroupHandler, R: Source, W: Sink>(
     close(ending, &mut progress.output, sink)
 }
 
-/// Hands the lines that a source has left to a handler one by one, as `drive_groups` does it with those of groups. What is
-/// written then is a function of the lines.
+/// Hands the lines that a source has left to a handler one by one, as `drive_groups` does it with
+/// those of groups. What is written then is a function of the lines.
 pub fn drive<H: Handler, R: Source, W: Sink>(
     alloc: Global,
     most_lines: u64,
@@ -209,10 +233,11 @@ pub fn drive<H: Handler, R: Source, W: Sink>(
     source: &mut R,
     sink: &mut W,
 ) -> Result<u64, DriveFault<H::Fault>>
-    ensures lines { (input : List ℕ) × (written : List ℕ)
-        × Gave (R.left source.old) (R.left source.new) (R.has_failed source.new) input
-        × Appends (W.taken sink.old) (W.taken sink.new) written
-        × ((s : H.State) → H.is_at handler.old s → Meets (outcome (rules_of H.step most_lines) (R.has_failed source.new) s input) written result) }
+    ensures lines { (input : List ℕ) × (written : List ℕ) ×
+        Gave (R.left source.old) (R.left source.new) (R.has_failed source.new) input ×
+        Appends (W.taken sink.old) (W.taken sink.new) written ×
+        ((s : H.State) → H.is_at handler.old s → Meets
+        (outcome (rules_of H.step most_lines) (R.has_failed source.new) s input) written result) }
     ensures few { IfOk result (λ lines. lines ≤ most_lines) }
     ensures read { result ≡ Err DriveFault.Read → R.has_failed source.new ≡ true }
     ensures write { result ≡ Err DriveFault.Write → W.has_failed sink.new ≡ true }

@@ -25,8 +25,8 @@ fn is_hex(word: &[u8]) -> bool
     word.len() % 2 == 0 && are_hex_digits(word)
 }
 
-/// The value of a hexadecimal digit, without a branch: its last four bits, and nine more for a letter.
-/// Of another byte it is some number below 16.
+/// The value of a hexadecimal digit, without a branch: its last four bits, and nine more for a
+/// letter. Of another byte it is some number below 16.
 fn digit_value(byte: u8) -> u8
     ensures value { result ≡ digit_of byte }
     ensures bound { result < 16 }
@@ -34,10 +34,11 @@ fn digit_value(byte: u8) -> u8
     (byte % 16 + 9 * (byte / 64)) % 16
 }
 
-/// The bytes that a word stands for, if it is an even number of hexadecimal digits, of either case. It
-/// is gone through once; only where memory is refused are the digits looked at alone.
+/// The bytes that a word stands for, if it is an even number of hexadecimal digits, of either case.
+/// It is gone through once; only where memory is refused are the digits looked at alone.
 pub fn unhex(alloc: Global, word: &[u8]) -> Result<Option<Vec<u8>>, AllocError>
-    ensures bytes { IfOk result (λ found. MatchOption found (is_hex word.now ≡ false) (λ bytes. (is_hex word.now ≡ true) × (decode_of word.now ≡ Ok bytes.items))) }
+    ensures bytes { IfOk result (λ found. MatchOption found (is_hex word.now ≡ false)
+        (λ bytes. (is_hex word.now ≡ true) × (decode_of word.now ≡ Ok bytes.items))) }
     ensures memory { OnErr result (is_hex word.now ≡ true) }
 {
     if word.len() % 2 != 0 {

@@ -75,9 +75,13 @@ impl Model for LineReader {
 
     ghost Value = { Ahead };
 
-    ghost view = { λ r. record { bytes = take (r.end - r.start) (drop r.start r.block.items); ended = r.ended } };
+    ghost view = { λ r. record {
+      bytes = take (r.end - r.start) (drop r.start r.block.items);
+      ended = r.ended;
+    } };
 
-    ghost invariant = { λ r. (r.start ≤ r.end) × (r.end ≤ length r.block.items) × (0 < length r.block.items) };
+    ghost invariant = { λ r. (r.start ≤ r.end) × (r.end ≤ length r.block.items) ×
+        (0 < length r.block.items) };
 }
 
 impl LineReader {
@@ -112,7 +116,9 @@ impl LineReader {
     fn pull_byte<R: Source>(&mut self, source: &mut R) -> Pulled
         requires { self.old.bytes ≡ [] }
         ensures asked { result ≢ Pulled.Unwritten }
-        ensures read { (given : List ℕ) × Pulls self.old self.new (R.left source.old) (R.left source.new) (R.has_failed source.old) (R.has_failed source.new) given × GivesByte self.old self.new given (R.has_failed source.new) result }
+        ensures read { (given : List ℕ) × Pulls self.old self.new (R.left source.old)
+            (R.left source.new) (R.has_failed source.old) (R.has_failed source.new) given ×
+            GivesByte self.old self.new given (R.has_failed source.new) result }
     {
         if self.ended {
             return Pulled::End;
@@ -138,9 +144,12 @@ impl LineReader {
         output: &mut Output,
         sink: &mut W,
     ) -> Pulled
-        ensures read { (given : List ℕ) × Pulls self.old self.new (R.left source.old) (R.left source.new) (R.has_failed source.old) (R.has_failed source.new) given × GivesByte self.old self.new given (R.has_failed source.new) result }
+        ensures read { (given : List ℕ) × Pulls self.old self.new (R.left source.old)
+            (R.left source.new) (R.has_failed source.old) (R.has_failed source.new) given ×
+            GivesByte self.old self.new given (R.has_failed source.new) result }
         ensures sends { Sends (W.taken sink.old) output.old (W.taken sink.new) output.new [] }
-        ensures unwritten { result ≡ Pulled.Unwritten → (W.has_failed sink.new ≡ true) × (output.old ≢ []) }
+        ensures unwritten { result ≡ Pulled.Unwritten →
+            (W.has_failed sink.new ≡ true) × (output.old ≢ []) }
         ensures nothing { output.old ≡ [] → output.new ≡ [] }
     {
         if !self.is_used_up() && !output.is_long() {
@@ -179,10 +188,12 @@ impl LineReader {
         output: &mut Output,
         sink: &mut W,
     ) -> Result<Found, AllocError>
-        ensures read { (given : List ℕ) × Pulls self.old self.new (R.left source.old) (R.left source.new) (R.has_failed source.old) (R.has_failed source.new) given
-            × MayGiveLine self.old self.new given (R.has_failed source.new) line.new.items result }
+        ensures read { (given : List ℕ) × Pulls self.old self.new (R.left source.old)
+            (R.left source.new) (R.has_failed source.old) (R.has_failed source.new) given ×
+            MayGiveLine self.old self.new given (R.has_failed source.new) line.new.items result }
         ensures sends { Sends (W.taken sink.old) output.old (W.taken sink.new) output.new [] }
-        ensures unwritten { result ≡ Ok Found.Unwritten → (W.has_failed sink.new ≡ true) × (output.old ≢ []) }
+        ensures unwritten { result ≡ Ok Found.Unwritten →
+            (W.has_failed sink.new ≡ true) × (output.old ≢ []) }
         ensures nothing { output.old ≡ [] → output.new ≡ [] }
         ensures failed { result ≡ Ok Found.Failed → R.has_failed source.new ≡ true }
     {
@@ -212,8 +223,8 @@ impl LineReader {
         }
     }
 
-    /// Passes over what stands in the block before the next line feed, but for no more bytes than these. Answers how
-    /// many there were.
+    /// Passes over what stands in the block before the next line feed, but for no more bytes than
+    /// these. Answers how many there were.
     fn pass_run(&mut self, most: usize) -> usize
         ensures run { PassesRun self.old self.new result }
         ensures few { result ≤ most }
@@ -226,16 +237,18 @@ impl LineReader {
         count
     }
 
-    /// Passes over the rest of a line, with its line feed where there is one. Answers how it ended: too
-    /// long where it had more bytes than are counted.
+    /// Passes over the rest of a line, with its line feed where there is one. Answers how it ended:
+    /// too long where it had more bytes than are counted.
     pub(crate) fn pass_over<R: Source, W: Sink>(
         &mut self,
         source: &mut R,
         output: &mut Output,
         sink: &mut W,
     ) -> Found
-        ensures read { (given : List ℕ) × (rest : List ℕ) × Pulls self.old self.new (R.left source.old) (R.left source.new) (R.has_failed source.old) (R.has_failed source.new) given
-            × PassesOver self.old self.new given (R.has_failed source.new) rest result }
+        ensures read { (given : List ℕ) ×
+            (rest : List ℕ) × Pulls self.old self.new (R.left source.old)
+            (R.left source.new) (R.has_failed source.old) (R.has_failed source.new) given ×
+            PassesOver self.old self.new given (R.has_failed source.new) rest result }
         ensures sends { Sends (W.taken sink.old) output.old (W.taken sink.new) output.new [] }
         ensures unwritten { result ≡ Found.Unwritten → W.has_failed sink.new ≡ true }
         ensures failed { result ≡ Found.Failed → R.has_failed source.new ≡ true }

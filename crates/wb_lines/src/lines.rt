@@ -45,8 +45,9 @@ fn found_over<S>(found: Found) -> Seen<S>
     }
 }
 
-/// Reads a source line by line, and counts the lines. The next line can be looked at before it is taken, so that who takes
-/// lines together leaves the one behind them. Each line is read once, when it is looked at.
+/// Reads a source line by line, and counts the lines. The next line can be looked at before it is
+/// taken, so that who takes lines together leaves the one behind them. Each line is read once, when
+/// it is looked at.
 #[derive(Drop)]
 pub struct Lines<S: Saying> {
     reader: LineReader,
@@ -63,9 +64,22 @@ impl<S: Saying> Model for Lines<S> {
 
     ghost Value = { LinesValue S };
 
-    ghost view = { λ l. record { done = l.done; most = l.most; reader = l.reader; line = record { bytes = l.line.items; ended = l.ended }; seen = l.seen } };
+    ghost view = { λ l. record {
+      done = l.done;
+      most = l.most;
+      reader = l.reader;
+      line = record { bytes = l.line.items; ended = l.ended };
+      seen = l.seen;
+    } };
 
-    ghost invariant = { λ l. (l.most ≤ S.at_most) × IsSound S.says (record { done = l.done; most = l.most; reader = l.reader; line = record { bytes = l.line.items; ended = l.ended }; seen = l.seen }) };
+    ghost invariant = { λ l. (l.most ≤ S.at_most) ×
+        IsSound S.says (record {
+          done = l.done;
+          most = l.most;
+          reader = l.reader;
+          line = record { bytes = l.line.items; ended = l.ended };
+          seen = l.seen;
+        }) };
 }
 
 impl<S: Saying> Lines<S> {
@@ -106,7 +120,8 @@ impl<S: Saying> Lines<S> {
         self.ended
     }
 
-    /// Whether no more lines can be read, though there may be some: what waited could not be written, or memory ran out.
+    /// Whether no more lines can be read, though there may be some: what waited could not be
+    /// written, or memory ran out.
     pub fn is_broken(&self) -> bool
         ensures broken { result ≡ is_broken self.now.seen }
         ensures sound { IsSound S.says self.now }
@@ -117,7 +132,8 @@ impl<S: Saying> Lines<S> {
     /// Reads the next line.
     fn read_line(&mut self, alloc: Global, ended: bool) -> Seen<S>
         requires { self.old.seen ≡ seens.Nothing }
-        ensures line { self.new ≡ record self.old { line = record { bytes = self.old.line.bytes; ended = ended } } }
+        ensures line { self.new ≡
+            record self.old { line = record { bytes = self.old.line.bytes; ended = ended } } }
         ensures said { IsLineOrMemory S.says self.new.line result }
     {
         self.ended = ended;
@@ -136,9 +152,10 @@ impl<S: Saying> Lines<S> {
         sink: &mut W,
     ) -> Seen<S>
         requires next { (self.old.seen ≡ seens.Nothing) × (self.old.done < self.old.most) }
-        ensures reads { Reads S.by
-            (moment self.old output.old (R.left source.old) (R.has_failed source.old) (W.taken sink.old) (W.has_failed sink.old))
-            (moment (with_seen self.new result) output.new (R.left source.new) (R.has_failed source.new) (W.taken sink.new) (W.has_failed sink.new)) [] [] }
+        ensures reads { Reads S.by (moment self.old output.old (R.left source.old)
+            (R.has_failed source.old) (W.taken sink.old) (W.has_failed sink.old))
+            (moment (with_seen self.new result) output.new (R.left source.new)
+            (R.has_failed source.new) (W.taken sink.new) (W.has_failed sink.new)) [] [] }
         ensures sound { IsSound S.says (with_seen self.new result) }
         ensures found { result ≢ seens.Nothing }
         ensures count { (self.new.done ≡ self.old.done) × (self.new.most ≡ self.old.most) }
@@ -162,9 +179,10 @@ impl<S: Saying> Lines<S> {
         sink: &mut W,
     ) -> Seen<S>
         requires last { (self.old.seen ≡ seens.Nothing) × (self.old.done ≡ self.old.most) }
-        ensures reads { Reads S.by
-            (moment self.old output.old (R.left source.old) (R.has_failed source.old) (W.taken sink.old) (W.has_failed sink.old))
-            (moment (with_seen self.new result) output.new (R.left source.new) (R.has_failed source.new) (W.taken sink.new) (W.has_failed sink.new)) [] [] }
+        ensures reads { Reads S.by (moment self.old output.old (R.left source.old)
+            (R.has_failed source.old) (W.taken sink.old) (W.has_failed sink.old))
+            (moment (with_seen self.new result) output.new (R.left source.new)
+            (R.has_failed source.new) (W.taken sink.new) (W.has_failed sink.new)) [] [] }
         ensures sound { IsSound S.says (with_seen self.new result) }
         ensures found { result ≢ seens.Nothing }
         ensures count { (self.new.done ≡ self.old.done) × (self.new.most ≡ self.old.most) }
@@ -186,9 +204,10 @@ impl<S: Saying> Lines<S> {
         sink: &mut W,
     ) -> Seen<S>
         requires next { self.old.seen ≡ seens.Nothing }
-        ensures reads { Reads S.by
-            (moment self.old output.old (R.left source.old) (R.has_failed source.old) (W.taken sink.old) (W.has_failed sink.old))
-            (moment (with_seen self.new result) output.new (R.left source.new) (R.has_failed source.new) (W.taken sink.new) (W.has_failed sink.new)) [] [] }
+        ensures reads { Reads S.by (moment self.old output.old (R.left source.old)
+            (R.has_failed source.old) (W.taken sink.old) (W.has_failed sink.old))
+            (moment (with_seen self.new result) output.new (R.left source.new)
+            (R.has_failed source.new) (W.taken sink.new) (W.has_failed sink.new)) [] [] }
         ensures sound { IsSound S.says (with_seen self.new result) }
         ensures found { result ≢ seens.Nothing }
         ensures count { (self.new.done ≡ self.old.done) × (self.new.most ≡ self.old.most) }
@@ -208,9 +227,10 @@ impl<S: Saying> Lines<S> {
         output: &mut Output,
         sink: &mut W,
     )
-        ensures reads { Reads S.by
-            (moment self.old output.old (R.left source.old) (R.has_failed source.old) (W.taken sink.old) (W.has_failed sink.old))
-            (moment self.new output.new (R.left source.new) (R.has_failed source.new) (W.taken sink.new) (W.has_failed sink.new)) [] [] }
+        ensures reads { Reads S.by (moment self.old output.old (R.left source.old)
+            (R.has_failed source.old) (W.taken sink.old) (W.has_failed sink.old))
+            (moment self.new output.new (R.left source.new) (R.has_failed source.new)
+            (W.taken sink.new) (W.has_failed sink.new)) [] [] }
         ensures looked { self.new.seen ≢ seens.Nothing }
         ensures count { (self.new.done ≡ self.old.done) × (self.new.most ≡ self.old.most) }
     {
@@ -265,10 +285,12 @@ impl<S: Saying> Lines<S> {
         matches!(&self.seen, Seen::TooLong)
     }
 
-    /// How a driver ends by what was found, which is no line: at the end of the input, or with a fault.
+    /// How a driver ends by what was found, which is no line: at the end of the input, or with a
+    /// fault.
     pub fn end<F>(&self) -> Result<bool, DriveFault<F>>
         ensures end { EndsBy self.now.seen result }
-        ensures faults { (result ≡ Err DriveFault.Read → self.now.seen ≡ seens.Failed) × (result ≡ Err DriveFault.Write → self.now.seen ≡ seens.Unwritten) }
+        ensures faults { (result ≡ Err DriveFault.Read → self.now.seen ≡ seens.Failed) ×
+            (result ≡ Err DriveFault.Write → self.now.seen ≡ seens.Unwritten) }
     {
         match &self.seen {
             Seen::Failed => Err(DriveFault::Read),
@@ -287,10 +309,11 @@ impl<S: Saying> Lines<S> {
         sink: &mut W,
     )
         requires taken { (self.old.seen ≡ seens.Nothing) × (self.old.done ≤ self.old.most) }
-        ensures passes { (moves : Moves
-            (moment self.old output.old (R.left source.old) (R.has_failed source.old) (W.taken sink.old) (W.has_failed sink.old))
-            (moment self.new output.new (R.left source.new) (R.has_failed source.new) (W.taken sink.new) (W.has_failed sink.new)) [])
-            × PassesLine S.by self.old self.new moves.given }
+        ensures passes { (moves : Moves (moment self.old output.old (R.left source.old)
+            (R.has_failed source.old) (W.taken sink.old) (W.has_failed sink.old))
+            (moment self.new output.new (R.left source.new)
+            (R.has_failed source.new) (W.taken sink.new) (W.has_failed sink.new)) []) ×
+            PassesLine S.by self.old self.new moves.given }
         ensures count { (self.new.done ≡ self.old.done) × (self.new.most ≡ self.old.most) }
     {
         let found = self.reader.pass_over(source, output, sink);

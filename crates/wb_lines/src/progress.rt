@@ -23,9 +23,10 @@ impl<S: Saying> Progress<S> {
         source: &mut R,
         sink: &mut W,
     ) -> Option<S>
-        ensures joined { TakesJoined S.says S.by
-            (moment self.old.lines self.old.output (R.left source.old) (R.has_failed source.old) (W.taken sink.old) (W.has_failed sink.old))
-            (moment self.new.lines self.new.output (R.left source.new) (R.has_failed source.new) (W.taken sink.new) (W.has_failed sink.new)) result }
+        ensures joined { TakesJoined S.says S.by (moment self.old.lines self.old.output
+            (R.left source.old) (R.has_failed source.old) (W.taken sink.old)
+            (W.has_failed sink.old)) (moment self.new.lines self.new.output (R.left source.new)
+            (R.has_failed source.new) (W.taken sink.new) (W.has_failed sink.new)) result }
         ensures few { IfSome result (λ said. self.new.lines.done ≤ S.at_most) }
     {
         self.lines.look(alloc, source, &mut self.output, sink);

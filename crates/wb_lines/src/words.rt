@@ -27,7 +27,8 @@ fn split_word(text: &[u8]) -> (&[u8], &[u8])
 
 /// The first word, and what follows it.
 pub fn next_word(line: &[u8]) -> Option<(&[u8], &[u8])>
-    ensures { MatchOption result (words line.now ≡ []) (λ x. words line.now ≡ x.0.now ∷ words x.1.now) }
+    ensures { MatchOption result (words line.now ≡ [])
+        (λ x. words line.now ≡ x.0.now ∷ words x.1.now) }
 {
     let text = skip_spaces(line);
     if text.is_empty() {

@@ -16,15 +16,16 @@ use std::alloc::{AllocError, Global};
 use std::collections::{BTreeMap, BTreeSet};
 use wb_names::Name;
 
-/// The moments at which all timers of one kind are due, by name. A timer that moves or ends takes no
-/// memory: only one that is set for a name without one does.
+/// The moments at which all timers of one kind are due, by name. A timer that moves or ends takes
+/// no memory: only one that is set for a name without one does.
 #[derive(Debug, Drop)]
 pub(crate) struct Alarms {
     dues: BTreeMap<Name, u64>,
-    /// No timer is due before this moment, so that up to it none is looked at. None where none stands.
+    /// No timer is due before this moment, so that up to it none is looked at. None where none
+    /// stands.
     soonest: Option<u64>,
-    /// Whether that moment is known to be the first one. It is not once the alarm at it was moved or
-    /// taken away.
+    /// Whether that moment is known to be the first one. It is not once the alarm at it was moved
+    /// or taken away.
     is_exact: bool,
 }
 
@@ -109,15 +110,17 @@ impl Alarms {
         self.dues.values().filter(|due| **due <= now).count()
     }
 
-    /// The names whose timers are due by this moment, ascending, without the stopped ones. Before the
-    /// bound no timer is looked at, and no memory is taken.
+    /// The names whose timers are due by this moment, ascending, without the stopped ones. Before
+    /// the bound no timer is looked at, and no memory is taken.
     pub(crate) fn names_until(
         &self,
         alloc: Global,
         now: u64,
         stopped: &BTreeSet<Name>,
     ) -> Result<Vec<Name>, AllocError>
-        ensures { (dues : NameValue → Option ℕ) → Keep dues self.now → IfOk result (λ v. Lists name_cmp (λ n. (not (contains name_cmp stopped.now n) && is_until now (dues n)) ≡ true) v.items) }
+        ensures { (dues : NameValue → Option ℕ) → Keep dues self.now →
+            IfOk result (λ v. Lists name_cmp (λ n.
+            (not (contains name_cmp stopped.now n) && is_until now (dues n)) ≡ true) v.items) }
     {
         if self.is_ahead_of(now) {
             return Ok(Vec::new(alloc));
@@ -133,7 +136,8 @@ impl Alarms {
         stopped: &BTreeSet<Name>,
     ) -> Result<Vec<Name>, AllocError>
         ensures ordered { IsOrdered name_cmp self.now.dues }
-        ensures names { IfOk result (λ v. v.items ≡ filter_map (λ e. due_name (contains name_cmp stopped.now) now e.0 e.1) self.now.dues.entries) }
+        ensures names { IfOk result (λ v. v.items ≡ filter_map
+            (λ e. due_name (contains name_cmp stopped.now) now e.0 e.1) self.now.dues.entries) }
     {
         let dues = self.dues.iter();
         let names = dues.filter_map(|(name, due)| due_name(*name, *due, now, stopped));
@@ -147,7 +151,9 @@ impl Alarms {
         test: F,
     ) -> Result<Vec<Name>, AllocError>
         requires { F.IsAlwaysCallable test }
-        ensures { (p : NameValue → Bool) → Tells (FnReturnsAt F.Fn test) p → (dues : NameValue → Option ℕ) → Keep dues self.now → IfOk result (λ v. Lists name_cmp (λ n. (p n && is_some (dues n)) ≡ true) v.items) }
+        ensures { (p : NameValue → Bool) →
+            Tells (FnReturnsAt F.Fn test) p → (dues : NameValue → Option ℕ) → Keep dues self.now →
+            IfOk result (λ v. Lists name_cmp (λ n. (p n && is_some (dues n)) ≡ true) v.items) }
     {
         self.some_names(alloc, test)
     }
@@ -160,7 +166,8 @@ impl Alarms {
     ) -> Result<Vec<Name>, AllocError>
         requires { F.IsAlwaysCallable test }
         ensures ordered { IsOrdered name_cmp self.now.dues }
-        ensures names { (p : NameValue → Bool) → Tells (FnReturnsAt F.Fn test) p → IfOk result (λ v. v.items ≡ filter p (keys self.now.dues)) }
+        ensures names { (p : NameValue → Bool) → Tells (FnReturnsAt F.Fn test) p →
+            IfOk result (λ v. v.items ≡ filter p (keys self.now.dues)) }
     {
         let mut names = Vec::new(alloc);
         for name in self.dues.keys() {
@@ -171,11 +178,14 @@ impl Alarms {
         Ok(names)
     }
 
-    /// Sets the alarm of a name, or moves it. The bound is exact then. A refused call leaves it as it was.
+    /// Sets the alarm of a name, or moves it. The bound is exact then. A refused call leaves it as
+    /// it was.
     pub(crate) fn set(&mut self, name: Name, due: u64) -> Result<(), AllocError>
-        ensures ok { OnOk result ((dues : NameValue → Option ℕ) → Keep dues self.old → Keep (with_due dues name (some due)) self.new) }
+        ensures ok { OnOk result ((dues : NameValue → Option ℕ) → Keep dues self.old →
+            Keep (with_due dues name (some due)) self.new) }
         ensures renewed { OnOk result (self.new.is_exact ≡ true) }
-        ensures err { OnErr result ((dues : NameValue → Option ℕ) → Keep dues self.old → Keep dues self.new) }
+        ensures err { OnErr result ((dues : NameValue → Option ℕ) → Keep dues self.old →
+            Keep dues self.new) }
         ensures exact { OnErr result (self.new.is_exact ≡ self.old.is_exact) }
     {
         self.put(name, due)?;
@@ -185,7 +195,8 @@ impl Alarms {
 
     /// Takes the alarm of a name away. The bound is exact then.
     pub(crate) fn end(&mut self, name: Name)
-        ensures kept { (dues : NameValue → Option ℕ) → Keep dues self.old → Keep (with_due dues name none) self.new }
+        ensures kept { (dues : NameValue → Option ℕ) → Keep dues self.old →
+            Keep (with_due dues name none) self.new }
         ensures exact { self.new.is_exact ≡ true }
     {
         self.clear(name);
@@ -194,8 +205,10 @@ impl Alarms {
 
     /// Sets the alarm of a name, or moves it, with a bound that need not be exact.
     fn put(&mut self, name: Name, due: u64) -> Result<(), AllocError>
-        ensures ok { OnOk result ((dues : NameValue → Option ℕ) → Keep dues self.old → Keep (with_due dues name (some due)) self.new) }
-        ensures err { OnErr result ((dues : NameValue → Option ℕ) → Keep dues self.old → Keep dues self.new) }
+        ensures ok { OnOk result ((dues : NameValue → Option ℕ) → Keep dues self.old →
+            Keep (with_due dues name (some due)) self.new) }
+        ensures err { OnErr result ((dues : NameValue → Option ℕ) → Keep dues self.old →
+            Keep dues self.new) }
         ensures exact { OnErr result (self.new.is_exact ≡ self.old.is_exact) }
     {
         let old = self.dues.insert(name, due)?;
@@ -205,11 +218,12 @@ impl Alarms {
         Ok(())
     }
 
-    /// Moves the alarm of a name that has one, or takes it away, as one of many: `renew` comes behind the
-    /// last. It takes no memory.
+    /// Moves the alarm of a name that has one, or takes it away, as one of many: `renew` comes
+    /// behind the last. It takes no memory.
     pub(crate) fn follow(&mut self, name: Name, due: Option<u64>)
         requires { IsSome (get name_cmp self.old.dues name) }
-        ensures { (dues : NameValue → Option ℕ) → Keep dues self.old → Keep (with_due dues name due) self.new }
+        ensures { (dues : NameValue → Option ℕ) → Keep dues self.old →
+            Keep (with_due dues name due) self.new }
     {
         match due {
             Some(due) => {
@@ -224,14 +238,15 @@ impl Alarms {
 
     /// Takes the alarm of a name away, as one of many: `renew` comes behind the last.
     pub(crate) fn clear(&mut self, name: Name)
-        ensures { (dues : NameValue → Option ℕ) → Keep dues self.old → Keep (with_due dues name none) self.new }
+        ensures { (dues : NameValue → Option ℕ) → Keep dues self.old →
+            Keep (with_due dues name none) self.new }
     {
         let old = self.dues.remove(&name);
         self.is_exact = self.is_exact_without(old);
     }
 
-    /// The same alarms, with a bound that is exact. They are looked through only where the alarm at the
-    /// bound was moved or taken away.
+    /// The same alarms, with a bound that is exact. They are looked through only where the alarm at
+    /// the bound was moved or taken away.
     pub(crate) fn renew(&mut self)
         ensures kept { (dues : NameValue → Option ℕ) → Keep dues self.old → Keep dues self.new }
         ensures exact { self.new.is_exact ≡ true }

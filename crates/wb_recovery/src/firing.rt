@@ -28,7 +28,8 @@ pub(crate) fn actions(
     asking: &[Name],
     answering: &[Name],
 ) -> Result<Vec<Action>, AllocError>
-    ensures { IfOk result (λ actions. actions.items ≡ map Ask asking.now ++ map Answer answering.now) }
+    ensures { IfOk result
+        (λ actions. actions.items ≡ map Ask asking.now ++ map Answer answering.now) }
 {
     let requests = asking.iter().map(|name| Action::Ask(*name));
     let answers = answering.iter().map(|name| Action::Answer(*name));
@@ -50,7 +51,9 @@ pub(crate) fn asked_after(
     requires delays { (n : NameValue) → AreDelays (timers_at records.now.entries n) }
     requires rising { IsStrictlySortedBy name_cmp asking.now }
     requires words { length asking.now ≤ length words.now }
-    ensures { IfOk result (λ after. after.items ≡ map (with_ask_fired tuning now words.now asking.now (timers_at records.now.entries)) asking.now) }
+    ensures { IfOk result (λ after. after.items ≡
+        map (with_ask_fired tuning now words.now asking.now (timers_at records.now.entries))
+        asking.now) }
 {
     let mut after = Vec::new(alloc);
     for (count, name) in asking.iter().enumerate() {
@@ -60,8 +63,8 @@ pub(crate) fn asked_after(
     Ok(after)
 }
 
-/// Writes over the records of these names, each of which has a request timer, and moves their alarms.
-/// It takes no memory.
+/// Writes over the records of these names, each of which has a request timer, and moves their
+/// alarms. It takes no memory.
 pub(crate) fn ask_all(
     records: &mut BTreeMap<Name, Timers>,
     alarms: &mut Alarms,
@@ -71,9 +74,12 @@ pub(crate) fn ask_all(
     requires ordered { IsOrdered name_cmp records.old }
     requires kept { Keep (λ n. ask_due (timers_at records.old.entries n)) alarms.old }
     requires rising { IsStrictlySortedBy name_cmp asking.now }
-    requires standing { (n : NameValue) → Contains asking.now n → is_some (ask_due (timers_at records.old.entries n)) ≡ true }
+    requires standing { (n : NameValue) → Contains asking.now n →
+        is_some (ask_due (timers_at records.old.entries n)) ≡ true }
     requires each { (f : NameValue → SomeTimers) × (after.now ≡ map f asking.now) }
-    ensures written { (f : NameValue → SomeTimers) → after.now ≡ map f asking.now → (n : NameValue) → timers_at records.new.entries n ≡ (if among asking.now n then f n else timers_at records.old.entries n) }
+    ensures written { (f : NameValue → SomeTimers) →
+        after.now ≡ map f asking.now → (n : NameValue) → timers_at records.new.entries n ≡
+        (if among asking.now n then f n else timers_at records.old.entries n) }
     ensures kept { Keep (λ n. ask_due (timers_at records.new.entries n)) alarms.new }
     ensures ordered { IsOrdered name_cmp records.new }
 {
@@ -96,8 +102,11 @@ pub(crate) fn answer_all(
     requires delays { (n : NameValue) → AreDelays (timers_at records.old.entries n) }
     requires kept { Keep (λ n. answer_due (timers_at records.old.entries n)) alarms.old }
     requires rising { IsStrictlySortedBy name_cmp answering.now }
-    requires due { (n : NameValue) → Contains answering.now n → is_answer_due now (timers_at records.old.entries n).answer ≡ true }
-    ensures written { (n : NameValue) → timers_at records.new.entries n ≡ (if among answering.now n then with_answer_fired now (timers_at records.old.entries) n else timers_at records.old.entries n) }
+    requires due { (n : NameValue) → Contains answering.now n →
+        is_answer_due now (timers_at records.old.entries n).answer ≡ true }
+    ensures written { (n : NameValue) → timers_at records.new.entries n ≡
+        (if among answering.now n then with_answer_fired now (timers_at records.old.entries) n else
+        timers_at records.old.entries n) }
     ensures delays { (n : NameValue) → AreDelays (timers_at records.new.entries n) }
     ensures kept { Keep (λ n. answer_due (timers_at records.new.entries n)) alarms.new }
     ensures ordered { IsOrdered name_cmp records.new }

@@ -1,9 +1,10 @@
-//! Laws of the timers over any list of accepted calls. Each function does nothing: its contract is a
-//! law, for proofs to cite.
+//! Laws of the timers over any list of accepted calls. Each function does nothing: its contract is
+//! a law, for proofs to cite.
 
 ghost use Rattle.wb_recovery.specs.Laws.{RequestStands, AnswerStands, LevelCounts, RequestStays, AnswerStays, QuietStays, DeafStays, QuietIsNotAnswered, UnnamedHasNone};
 
-/// A request timer stands exactly if a notice was made of its name, and the name did not come since.
+/// A request timer stands exactly if a notice was made of its name, and the name did not come
+/// since.
 pub fn request_stands()
     ensures { RequestStands }
 {}

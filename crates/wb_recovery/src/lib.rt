@@ -10,9 +10,10 @@
 //! member and the random word are handed in with each call, and `tick` answers what is to be sent.
 //!
 //! The rules are those of Floyd, Jacobson, Liu, McCanne and Zhang, "A Reliable Multicast Framework
-//! for Light-weight Sessions and Application Level Framing", 1997, in what it says of loss recovery:
-//! request timers and their backing off, repair timers, here called answer timers, and the quiet time
-//! after a repair. The constants do not adapt. `distance` is that of its session messages.
+//! for Light-weight Sessions and Application Level Framing", 1997, in what it says of loss
+//! recovery: request timers and their backing off, repair timers, here called answer timers, and
+//! the quiet time after a repair. The constants do not adapt. `distance` is that of its session
+//! messages.
 #![tactic(auto)]
 
 mod alarms;

@@ -12,7 +12,8 @@ pub enum Action {
     Answer(Name),
 }
 
-/// What a tick will do: `Recovery::plan` works it out and changes nothing, `Recovery::commit` does it.
+/// What a tick will do: `Recovery::plan` works it out and changes nothing, `Recovery::commit` does
+/// it.
 #[derive(Debug, Drop)]
 pub struct Plan {
     /// The moment of the tick, in microseconds.

@@ -31,8 +31,10 @@ pub(crate) fn copy_of(
 /// Writes over the record of a name with a timer.
 pub(crate) fn rewrite(records: &mut BTreeMap<Name, Timers>, name: Name, after: Timers)
     requires { is_standing (timers_at records.old.entries name) ≡ true }
-    ensures records { (n : NameValue) → record_at records.new.entries n ≡ (if same_name name n then some after else record_at records.old.entries n) }
-    ensures written { (n : NameValue) → timers_at records.new.entries n ≡ (if same_name name n then after else timers_at records.old.entries n) }
+    ensures records { (n : NameValue) → record_at records.new.entries n ≡
+        (if same_name name n then some after else record_at records.old.entries n) }
+    ensures written { (n : NameValue) → timers_at records.new.entries n ≡
+        (if same_name name n then after else timers_at records.old.entries n) }
     ensures ordered { IsOrdered name_cmp records.new }
 {
     // Only an insertion of a new name can want memory.

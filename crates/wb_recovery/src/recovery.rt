@@ -52,7 +52,8 @@ impl Model for Recovery {
 
     ghost Value = { RecoveryValue };
 
-    ghost view = { λ r. record { tuning = r.tuning; moment = r.moment; records = r.records.entries } };
+    ghost view = { λ r.
+        record { tuning = r.tuning; moment = r.moment; records = r.records.entries } };
 
     ghost invariant = { λ r. IsConsistent r.tuning r.moment r.records r.asks r.answers };
 }
@@ -60,7 +61,8 @@ impl Model for Recovery {
 impl Recovery {
     /// A recovery without timers. A constant that is not 1 to 16 is refused with `Constant`.
     pub fn new(alloc: Global, tuning: Tuning) -> Result<Recovery, TuningFault>
-        ensures constants { MatchResult result (λ r. IsTrue (are_constants tuning)) (λ e. are_constants tuning ≡ false) }
+        ensures constants { MatchResult result (λ r. IsTrue (are_constants tuning))
+            (λ e. are_constants tuning ≡ false) }
         ensures empty { IfOk result (StandsFor tuning []) }
     {
         if !tuning.is_in_range() {
@@ -75,12 +77,13 @@ impl Recovery {
         })
     }
 
-    /// Takes other constants: each timer that is set or backed off from now on is by them. A timer that stands keeps
-    /// its moment, and the present moment stays.
+    /// Takes other constants: each timer that is set or backed off from now on is by them. A timer
+    /// that stands keeps its moment, and the present moment stays.
     ///
     /// Refused with `Constant` where one is not 1 to 16.
     pub fn tune(&mut self, tuning: Tuning) -> Result<(), TuningFault>
-        ensures constants { MatchResult result (λ done. IsTrue (are_constants tuning)) (λ e. are_constants tuning ≡ false) }
+        ensures constants { MatchResult result (λ done. IsTrue (are_constants tuning))
+            (λ e. are_constants tuning ≡ false) }
         ensures ok { OnOk result (Accepts (Tune tuning) self.old self.new) }
         ensures moment { self.new.moment ≡ self.old.moment }
         ensures err { OnErr result (self.new ≡ self.old) }
@@ -92,7 +95,8 @@ impl Recovery {
         Ok(())
     }
 
-    /// A name is missed: sets its request timer, unless one stands. `now` and `delay` are in microseconds.
+    /// A name is missed: sets its request timer, unless one stands. `now` and `delay` are in
+    /// microseconds.
     ///
     /// Refused with `BackInTime`, `Range` or `Memory`, in this order.
     pub fn notice(
@@ -115,8 +119,8 @@ impl Recovery {
 
     /// Another member asks for a name. Where it is not held, a request timer of it that is not deaf
     /// backs off; `delay` is that to the name's source. Where it is held, an answer timer is set,
-    /// unless one stands or the name is quiet; `delay` is that to the member who asks. `now` and `delay`
-    /// are in microseconds.
+    /// unless one stands or the name is quiet; `delay` is that to the member who asks. `now` and
+    /// `delay` are in microseconds.
     ///
     /// Refused with `BackInTime`, `Range` or `Memory`, in this order.
     pub fn asked(
@@ -150,7 +154,8 @@ impl Recovery {
     ///
     /// Refused with `BackInTime` or `Range`, in this order. It takes no memory.
     pub fn got(&mut self, name: Name, now: u64, delay: u64) -> Result<(), RecoveryFault>
-        ensures fault { MatchOption (call_fault self.old.moment now (is_delay delay)) (IsOk result) (λ fault. result ≡ Err fault) }
+        ensures fault { MatchOption (call_fault self.old.moment now (is_delay delay)) (IsOk result)
+            (λ fault. result ≡ Err fault) }
         ensures ok { OnOk result (Accepts (Got name now delay) self.old self.new) }
         ensures moment { OnOk result (self.new.moment ≡ now) }
         ensures err { OnErr result (self.new ≡ self.old) }
@@ -164,14 +169,15 @@ impl Recovery {
         Ok(())
     }
 
-    /// Time goes on to a moment: each timer that is due by then fires once. Answers what to send:
-    /// a request for each name whose request timer fires, ascending, and then the drawop of each name
+    /// Time goes on to a moment: each timer that is due by then fires once. Answers what to send: a
+    /// request for each name whose request timer fires, ascending, and then the drawop of each name
     /// whose answer timer fires, ascending.
     ///
-    /// A request timer that fires backs off with its own delay, and takes a word: the first word goes
-    /// to the smallest name. An answer timer that fires takes none; it ends, and its name is quiet for
-    /// three of its delays. Where nothing is due, the timers are seldom looked at. The moment is in
-    /// microseconds. There are at least as many words as `due_count` says at this moment.
+    /// A request timer that fires backs off with its own delay, and takes a word: the first word
+    /// goes to the smallest name. An answer timer that fires takes none; it ends, and its name is
+    /// quiet for three of its delays. Where nothing is due, the timers are seldom looked at. The
+    /// moment is in microseconds. There are at least as many words as `due_count` says at this
+    /// moment.
     ///
     /// Refused with `BackInTime`, `Range` or `Memory`, in this order.
     pub fn tick(
@@ -180,9 +186,11 @@ impl Recovery {
         now: u64,
         words: &[u64],
     ) -> Result<Vec<Action>, RecoveryFault>
-        requires { length (due_asks (names_in self.old) (timers_in self.old) now) ≤ length words.now }
+        requires { length (due_asks (names_in self.old) (timers_in self.old) now) ≤
+            length words.now }
         ensures fault { IsCheckedBy (call_fault self.old.moment now true) result }
-        ensures actions { IfOk result (λ actions. (constants : Constants) (events : List Event) → StandsFor constants events self.old → actions.items ≡ actions_of constants events now) }
+        ensures actions { IfOk result (λ actions. (constants : Constants) (events : List Event) →
+            StandsFor constants events self.old → actions.items ≡ actions_of constants events now) }
         ensures ok { OnOk result (Accepts (Tick now words.now) self.old self.new) }
         ensures moment { OnOk result (self.new.moment ≡ now) }
         ensures err { OnErr result (self.new ≡ self.old) }
@@ -190,11 +198,13 @@ impl Recovery {
         self.stop_and_tick(alloc, &[], now, words)
     }
 
-    /// How many request timers are due at a moment, in microseconds, and so how many words `tick` then
-    /// wants. Where none is due, the timers are seldom looked at.
+    /// How many request timers are due at a moment, in microseconds, and so how many words `tick`
+    /// then wants. Where none is due, the timers are seldom looked at.
     pub fn due_count(&self, now: u64) -> usize
         ensures count { result ≡ length (due_asks (names_in self.now) (timers_in self.now) now) }
-        ensures events { (constants : Constants) (events : List Event) → StandsFor constants events self.now → result ≡ length (due_asks (names_of events) (timers_of constants events) now) }
+        ensures events { (constants : Constants) (events : List Event) →
+            StandsFor constants events self.now →
+            result ≡ length (due_asks (names_of events) (timers_of constants events) now) }
     {
         self.asks.count_until(now)
     }
@@ -202,7 +212,9 @@ impl Recovery {
     /// How many request timers stand: a number that is kept.
     pub fn asks(&self) -> usize
         ensures count { result ≡ length (asking (names_in self.now) (timers_in self.now)) }
-        ensures events { (constants : Constants) (events : List Event) → StandsFor constants events self.now → result ≡ length (asking (names_of events) (timers_of constants events)) }
+        ensures events { (constants : Constants) (events : List Event) →
+            StandsFor constants events self.now →
+            result ≡ length (asking (names_of events) (timers_of constants events)) }
     {
         self.asks.len()
     }
@@ -262,9 +274,11 @@ impl Recovery {
         timers_of(&self.records, name)
     }
 
-    /// Refuses a moment below the last one, and then a moment, or some delay of the call, out of its range.
+    /// Refuses a moment below the last one, and then a moment, or some delay of the call, out of
+    /// its range.
     fn check(&self, now: u64, in_range: bool) -> Result<(), RecoveryFault>
-        ensures fault { MatchOption (call_fault self.now.moment now in_range) (IsOk result) (λ fault. result ≡ Err fault) }
+        ensures fault { MatchOption (call_fault self.now.moment now in_range) (IsOk result)
+            (λ fault. result ≡ Err fault) }
         ensures moment { OnOk result (IsMoment now) }
         ensures delays { OnOk result (in_range ≡ true) }
         ensures tuning { IsTrue (are_constants self.now.tuning) }
@@ -289,7 +303,9 @@ impl Recovery {
         requires before { before ≡ timers_in self.old name }
         requires delay { IfSome ask (λ timer. IsDelay timer.delay) }
         ensures ok { OnOk result (Replaces self.old self.new name (with_ask before ask)) }
-        ensures records { OnOk result ((n : NameValue) → record_in self.new n ≡ (if same_name name n && is_some ask then some (with_ask before ask) else record_in self.old n)) }
+        ensures records { OnOk result ((n : NameValue) →
+            record_in self.new n ≡ (if same_name name n && is_some ask then
+            some (with_ask before ask) else record_in self.old n)) }
         ensures err { OnErr result (self.new ≡ self.old) }
     {
         let Some(ask) = ask else {
@@ -339,7 +355,8 @@ impl Recovery {
     fn end(&mut self, name: Name, before: Timers, quiet: u64)
         requires before { before ≡ timers_in self.old name }
         requires standing { is_standing before ≡ true }
-        ensures { Replaces self.old self.new name (record { ask = none; answer = none; quiet = quiet }) }
+        ensures { Replaces self.old self.new name
+            (record { ask = none; answer = none; quiet = quiet }) }
     {
         self.asks.end(name);
         self.answers.end(name);

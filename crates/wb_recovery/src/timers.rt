@@ -161,7 +161,8 @@ impl Timers {
         self.ask.is_some() || self.answer.is_some()
     }
 
-    /// The timers once the request timer has fired, where it is due: it backs off with its own delay.
+    /// The timers once the request timer has fired, where it is due: it backs off with its own
+    /// delay.
     pub(crate) fn ask_fired(self, tuning: Tuning, now: u64, word: u64) -> Timers
         requires tuning { IsTrue (are_constants tuning) }
         requires moment { IsMoment now }
@@ -183,7 +184,10 @@ impl Timers {
     pub(crate) fn answer_fired(self, now: u64) -> Timers
         requires moment { IsMoment now }
         requires delays { AreDelays self }
-        ensures timers { result ≡ record self { answer = fired_answer now self.answer; quiet = quiet_after now self.quiet self.answer } }
+        ensures timers { result ≡ record self {
+          answer = fired_answer now self.answer;
+          quiet = quiet_after now self.quiet self.answer;
+        } }
         ensures delays { AreDelays result }
     {
         match self.answer {

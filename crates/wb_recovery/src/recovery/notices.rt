@@ -25,9 +25,9 @@ use std::alloc::{AllocError, Global};
 use wb_names::Name;
 
 impl Recovery {
-    /// Names are missed: sets the request timer of each, in order, unless one stands. All are set or
-    /// none: where memory runs out, those that were set are taken away again. `now` and the delays are
-    /// in microseconds.
+    /// Names are missed: sets the request timer of each, in order, unless one stands. All are set
+    /// or none: where memory runs out, those that were set are taken away again. `now` and the
+    /// delays are in microseconds.
     ///
     /// Refused with `BackInTime`, `Range` (a delay of any of them) or `Memory`, in this order.
     pub fn notice_all(
@@ -36,8 +36,11 @@ impl Recovery {
         missed: &[Missed],
         now: u64,
     ) -> Result<(), RecoveryFault>
-        ensures fault { IsCheckedBy (call_fault self.old.moment now (list_all (λ m. is_delay m.delay) missed.now)) result }
-        ensures ok { OnOk result ((constants : Constants) (events : List Event) → StandsFor constants events self.old → StandsFor constants (notices now events missed.now) self.new) }
+        ensures fault { IsCheckedBy
+            (call_fault self.old.moment now (list_all (λ m. is_delay m.delay) missed.now)) result }
+        ensures ok { OnOk result ((constants : Constants) (events : List Event) →
+            StandsFor constants events self.old →
+            StandsFor constants (notices now events missed.now) self.new) }
         ensures moment { OnOk result (self.new.moment ≤ now) }
         ensures err { OnErr result (self.new ≡ self.old) }
     {
@@ -53,8 +56,8 @@ impl Recovery {
         Ok(())
     }
 
-    /// Sets the request timer of one name, unless one stands. Notes the name first, with whether it had
-    /// a record.
+    /// Sets the request timer of one name, unless one stands. Notes the name first, with whether it
+    /// had a record.
     fn start_noted(
         &mut self,
         one: Missed,
@@ -63,8 +66,10 @@ impl Recovery {
     ) -> Result<(), AllocError>
         requires moment { IsMoment now }
         requires delay { IsDelay one.delay }
-        ensures ok { OnOk result (Replaces self.old self.new one.name (noticed self.old.tuning now one.delay one.word (timers_in self.old one.name))) }
-        ensures back { (n : NameValue) → taken_back n set.new.items (record_in self.new n) ≡ taken_back n set.old.items (record_in self.old n) }
+        ensures ok { OnOk result (Replaces self.old self.new one.name
+            (noticed self.old.tuning now one.delay one.word (timers_in self.old one.name))) }
+        ensures back { (n : NameValue) → taken_back n set.new.items (record_in self.new n) ≡
+            taken_back n set.old.items (record_in self.old n) }
         ensures err { OnErr result (self.new ≡ self.old) }
         ensures ordered { IsStrictlySortedBy name_cmp (names_in self.old) }
     {
@@ -86,8 +91,12 @@ impl Recovery {
     pub(super) fn start(&mut self, one: Missed, now: u64) -> Result<(), AllocError>
         requires moment { IsMoment now }
         requires delay { IsDelay one.delay }
-        ensures ok { OnOk result (Replaces self.old self.new one.name (noticed self.old.tuning now one.delay one.word (timers_in self.old one.name))) }
-        ensures records { OnOk result ((n : NameValue) → record_in self.new n ≡ (if same_name one.name n && is_none (timers_in self.old one.name).ask then some (noticed self.old.tuning now one.delay one.word (timers_in self.old one.name)) else record_in self.old n)) }
+        ensures ok { OnOk result (Replaces self.old self.new one.name
+            (noticed self.old.tuning now one.delay one.word (timers_in self.old one.name))) }
+        ensures records { OnOk result ((n : NameValue) → record_in self.new n ≡
+            (if same_name one.name n && is_none (timers_in self.old one.name).ask then
+            some (noticed self.old.tuning now one.delay one.word (timers_in self.old one.name)) else
+            record_in self.old n)) }
         ensures err { OnErr result (self.new ≡ self.old) }
     {
         let before = self.timers(&one.name);
@@ -97,10 +106,12 @@ impl Recovery {
 
     /// Takes the request timers of these names away, the last first.
     fn take_back(&mut self, set: Vec<(Name, bool)>)
-        ensures back { (n : NameValue) → record_in self.new n ≡ taken_back n set.items (record_in self.old n) }
+        ensures back { (n : NameValue) →
+            record_in self.new n ≡ taken_back n set.items (record_in self.old n) }
         ensures tuning { self.new.tuning ≡ self.old.tuning }
         ensures moment { self.new.moment ≡ self.old.moment }
-        ensures ordered { IsStrictlySortedBy name_cmp (names_in self.old) → IsStrictlySortedBy name_cmp (names_in self.new) }
+        ensures ordered { IsStrictlySortedBy name_cmp (names_in self.old) →
+            IsStrictlySortedBy name_cmp (names_in self.new) }
     {
         let mut set = set;
         while let Some(last) = set.pop() {
@@ -108,10 +119,11 @@ impl Recovery {
         }
     }
 
-    /// Takes the request timer of a name away, where one stands, and where the name had no record the
-    /// record too.
+    /// Takes the request timer of a name away, where one stands, and where the name had no record
+    /// the record too.
     fn unset_ask(&mut self, name: Name, had: bool)
-        ensures back { (n : NameValue) → record_in self.new n ≡ unset_at n (name, had) (record_in self.old n) }
+        ensures back { (n : NameValue) →
+            record_in self.new n ≡ unset_at n (name, had) (record_in self.old n) }
         ensures tuning { self.new.tuning ≡ self.old.tuning }
         ensures moment { self.new.moment ≡ self.old.moment }
         ensures ordered { IsStrictlySortedBy name_cmp (names_in self.new) }

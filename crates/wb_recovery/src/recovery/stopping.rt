@@ -26,9 +26,10 @@ use std::collections::BTreeSet;
 use wb_names::Name;
 
 impl Recovery {
-    /// Names have come, and time goes on to a moment: stops the timers of these names, each as `got`
-    /// does, and then fires what is due as `tick` does, as one call. Answers what to send. The moment is
-    /// in microseconds. There are at least as many words as `due_count` says at this moment.
+    /// Names have come, and time goes on to a moment: stops the timers of these names, each as
+    /// `got` does, and then fires what is due as `tick` does, as one call. Answers what to send.
+    /// The moment is in microseconds. There are at least as many words as `due_count` says at this
+    /// moment.
     ///
     /// Refused with `BackInTime`, `Range` (a delay of any of them) or `Memory`, in this order.
     pub fn stop_and_tick(
@@ -38,10 +39,16 @@ impl Recovery {
         now: u64,
         words: &[u64],
     ) -> Result<Vec<Action>, RecoveryFault>
-        requires { length (due_asks (names_in self.old) (timers_in self.old) now) ≤ length words.now }
-        ensures fault { IsCheckedBy (call_fault self.old.moment now (list_all (λ c. is_delay c.delay) received.now)) result }
-        ensures actions { IfOk result (λ actions. (constants : Constants) (events : List Event) → StandsFor constants events self.old → actions.items ≡ actions_of constants (receipts now events received.now) now) }
-        ensures ok { OnOk result ((constants : Constants) (events : List Event) → StandsFor constants events self.old → StandsFor constants (Tick now words.now ∷ receipts now events received.now) self.new) }
+        requires { length (due_asks (names_in self.old) (timers_in self.old) now) ≤
+            length words.now }
+        ensures fault { IsCheckedBy (call_fault self.old.moment now
+            (list_all (λ c. is_delay c.delay) received.now)) result }
+        ensures actions { IfOk result (λ actions. (constants : Constants) (events : List Event) →
+            StandsFor constants events self.old →
+            actions.items ≡ actions_of constants (receipts now events received.now) now) }
+        ensures ok { OnOk result ((constants : Constants) (events : List Event) →
+            StandsFor constants events self.old →
+            StandsFor constants (Tick now words.now ∷ receipts now events received.now) self.new) }
         ensures moment { OnOk result (self.new.moment ≡ now) }
         ensures err { OnErr result (self.new ≡ self.old) }
     {
@@ -49,9 +56,9 @@ impl Recovery {
         Ok(self.commit(plan, received))
     }
 
-    /// What `stop_and_tick` would do at this moment, in microseconds. It changes nothing: `commit` does
-    /// it. Where nothing is due and no name has come, it takes no memory. There are at least as many
-    /// words as `due_count` says at this moment.
+    /// What `stop_and_tick` would do at this moment, in microseconds. It changes nothing: `commit`
+    /// does it. Where nothing is due and no name has come, it takes no memory. There are at least
+    /// as many words as `due_count` says at this moment.
     ///
     /// Refused as `stop_and_tick`.
     pub fn plan(
@@ -61,9 +68,13 @@ impl Recovery {
         now: u64,
         words: &[u64],
     ) -> Result<Plan, RecoveryFault>
-        requires { length (due_asks (names_in self.now) (timers_in self.now) now) ≤ length words.now }
-        ensures fault { IsCheckedBy (call_fault self.now.moment now (list_all (λ c. is_delay c.delay) received.now)) result }
-        ensures actions { IfOk result (λ plan. (constants : Constants) (events : List Event) → StandsFor constants events self.now → plan.actions.items ≡ actions_of constants (receipts now events received.now) now) }
+        requires { length (due_asks (names_in self.now) (timers_in self.now) now) ≤
+            length words.now }
+        ensures fault { IsCheckedBy (call_fault self.now.moment now
+            (list_all (λ c. is_delay c.delay) received.now)) result }
+        ensures actions { IfOk result (λ plan. (constants : Constants) (events : List Event) →
+            StandsFor constants events self.now →
+            plan.actions.items ≡ actions_of constants (receipts now events received.now) now) }
         ensures moment { IfOk result (λ plan. plan.moment ≡ now) }
         ensures plan { IfOk result (IsPlanOf self.now received.now words.now) }
     {
@@ -87,7 +98,10 @@ impl Recovery {
     pub fn commit(&mut self, plan: Plan, received: &[Received]) -> Vec<Action>
         requires { IsPlan self.old received.now plan }
         ensures actions { result ≡ plan.actions }
-        ensures ok { (words : List ℕ) → IsPlanOf self.old received.now words plan → (constants : Constants) (events : List Event) → StandsFor constants events self.old → StandsFor constants (Tick plan.moment words ∷ receipts plan.moment events received.now) self.new }
+        ensures ok { (words : List ℕ) → IsPlanOf self.old received.now words plan →
+            (constants : Constants) (events : List Event) → StandsFor constants events self.old →
+            StandsFor constants (Tick plan.moment words ∷
+            receipts plan.moment events received.now) self.new }
         ensures moment { self.new.moment ≡ plan.moment }
     {
         self.fire(&plan);
@@ -104,7 +118,8 @@ impl Recovery {
         test: F,
     ) -> Result<Vec<Name>, AllocError>
         requires { F.IsAlwaysCallable test }
-        ensures { (p : NameValue → Bool) → Tells (FnReturnsAt F.Fn test) p → IfOk result (λ names. names.items ≡ filter p (asking (names_in self.now) (timers_in self.now))) }
+        ensures { (p : NameValue → Bool) → Tells (FnReturnsAt F.Fn test) p → IfOk result
+            (λ names. names.items ≡ filter p (asking (names_in self.now) (timers_in self.now))) }
     {
         self.asks.names_where(alloc, test)
     }
@@ -112,7 +127,9 @@ impl Recovery {
     /// Fires the timers that a plan names. It takes no memory.
     fn fire(&mut self, plan: &Plan)
         requires { (received : List AReceived) × IsPlan self.old received plan.now }
-        ensures { (received : List AReceived) (words : List ℕ) → IsPlanOf self.old received words plan.now → FiresThese plan.now.moment words plan.now.asking.items plan.now.answering.items self.old self.new }
+        ensures { (received : List AReceived) (words : List ℕ) →
+            IsPlanOf self.old received words plan.now → FiresThese plan.now.moment words
+            plan.now.asking.items plan.now.answering.items self.old self.new }
     {
         ask_all(&mut self.records, &mut self.asks, &plan.asking, &plan.after);
         answer_all(
@@ -149,7 +166,8 @@ fn are_delays(received: &[Received]) -> bool
 
 /// The names that have come, to be looked up in.
 fn stopped_names(alloc: Global, received: &[Received]) -> Result<BTreeSet<Name>, AllocError>
-    ensures { IfOk result (λ names. (n : NameValue) → contains name_cmp names n ≡ is_received received.now n) }
+    ensures { IfOk result (λ names. (n : NameValue) →
+        contains name_cmp names n ≡ is_received received.now n) }
 {
     let mut names = BTreeSet::new(alloc);
     for one in received {
