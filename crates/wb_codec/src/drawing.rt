@@ -129,7 +129,11 @@ fn drawop_from(
     time: u64,
     shape: Shape<'_>,
 ) -> Result<Drawop, ReadFault>
-    ensures { result ≡ drawop_in_version version (record { source = fields.source; page = fields.page; seq = fields.seq }) time (op_of shape.entry) }
+    ensures { result ≡ drawop_in_version version (record {
+      source = fields.source;
+      page = fields.page;
+      seq = fields.seq;
+    }) time (op_of shape.entry) }
 {
     let name = Name::new(fields.source, fields.page, fields.seq)?;
     let made = Drawop::new(name, time, shape);

@@ -91,7 +91,8 @@ impl Spelled for Echo {
 
 /// The bytes after so many entries, all of which are checked.
 pub(crate) fn after_entries<E: Spelled>(count: u16, bytes: &[u8]) -> Result<&[u8], ReadFault>
-    ensures { let read = list_at E.entry_at E.source count None bytes.now in Gives (λ rest. (listed read, rest.now)) result read }
+    ensures { let read = list_at E.entry_at E.source count None bytes.now in
+        Gives (λ rest. (listed read, rest.now)) result read }
 {
     let mut rest = bytes;
     let mut before = None;
@@ -109,7 +110,8 @@ pub(crate) fn entries_of<E: Spelled>(
     unread: Unread<'_>,
 ) -> Result<Entries<E>, AllocError>
     requires { is_ok (list_at E.entry_at E.source unread.count None unread.bytes.now) ≡ true }
-    ensures { IfOk result (λ list. list ≡ listed (list_at E.entry_at E.source unread.entry.count None unread.entry.bytes.now)) }
+    ensures { IfOk result (λ list. list ≡
+        listed (list_at E.entry_at E.source unread.entry.count None unread.entry.bytes.now)) }
 {
     let mut entries = Vec::with_capacity(alloc, unread.count as usize)?;
     let mut rest = unread.bytes;

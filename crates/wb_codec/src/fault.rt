@@ -10,9 +10,9 @@ use wb_names::FieldFault;
 /// they are a datagram, for whose lists there was no memory.
 ///
 /// The checks come in the order of the variants, with three exceptions. That the header tells more
-/// bytes than follow is found after the kind. The number of an operation is checked where it stands,
-/// before the sizes of what follows it. And the entries of lists are checked one by one, each for its
-/// size, its number and its order; bytes behind the last list are found then.
+/// bytes than follow is found after the kind. The number of an operation is checked where it
+/// stands, before the sizes of what follows it. And the entries of lists are checked one by one,
+/// each for its size, its number and its order; bytes behind the last list are found then.
 #[derive(Clone, Copy, Debug, PartialEq, Eq, Error)]
 pub enum ReadFault {
     /// Fewer bytes than the header has, or fewer than it tells.

@@ -76,7 +76,8 @@ pub(crate) fn page_of(bytes: &[u8]) -> Result<(PageId, &[u8]), ReadFault>
 #[inline(always)]
 #[tactic(auto, unfolding(crate::specs::Reading::name_at))]
 pub(crate) fn name_of(bytes: &[u8]) -> Result<(NameFields, &[u8]), ReadFault>
-    ensures { Gives (λ x. (record { source = x.0.source; page = x.0.page; seq = x.0.seq }, x.1.now)) result (name_at bytes.now) }
+    ensures { Gives (λ x. (record { source = x.0.source; page = x.0.page; seq = x.0.seq }, x.1.now))
+        result (name_at bytes.now) }
 {
     let (source, rest) = u32_of(bytes)?;
     let (page, rest) = page_of(rest)?;

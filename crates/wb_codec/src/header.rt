@@ -55,7 +55,11 @@ fn kind_of(version: Version, number: u8) -> Result<Kind, ReadFault>
 #[inline(always)]
 #[tactic(auto, unfolding(crate::specs::Reading::frame_at))]
 pub(crate) fn frame_of(bytes: &[u8]) -> Result<Frame<'_>, ReadFault>
-    ensures { Gives (λ frame. record { version = frame.version; kind = frame.kind; body = frame.body.now }) result (frame_at bytes.now) }
+    ensures { Gives (λ frame. record {
+      version = frame.version;
+      kind = frame.kind;
+      body = frame.body.now;
+    }) result (frame_at bytes.now) }
 {
     let [m0, m1, version, kind, l0, l1, l2, l3, body @ ..] = bytes else {
         return Err(ReadFault::Short);

@@ -34,7 +34,8 @@ fn pair(first: u32, second: u32) -> [u8; 8]
 /// A drawop's name and time, eight bytes a row: longer arrays are stored byte by byte.
 #[inline(always)]
 pub(crate) fn drawop_front(drawop: &Drawop) -> [[u8; 8]; 3]
-    ensures { flat_map (λ row. row) result ≡ name_bytes drawop.now.name ++ to_be_bytes w64 drawop.now.time }
+    ensures { flat_map (λ row. row) result ≡ name_bytes drawop.now.name ++
+        to_be_bytes w64 drawop.now.time }
 {
     let name = drawop.name();
     let page = name.page();
@@ -72,7 +73,8 @@ pub(crate) fn target_part(change: Change, target: Target) -> [u8; 9]
 /// A text's number, its point and how many bytes it has.
 #[inline(always)]
 pub(crate) fn text_front(x: u16, y: u16, count: u8) -> [u8; 6]
-    ensures { result ≡ Kinds.op_code OpKind.Text ∷ (to_be_bytes w16 x ++ to_be_bytes w16 y ++ count ∷ []) }
+    ensures { result ≡ Kinds.op_code OpKind.Text ∷
+        (to_be_bytes w16 x ++ to_be_bytes w16 y ++ count ∷ []) }
 {
     let [x0, x1] = x.to_be_bytes();
     let [y0, y1] = y.to_be_bytes();

@@ -75,7 +75,8 @@ fn datagram_from(alloc: Global, body: &Body<'_>) -> Result<Datagram, AllocError>
 /// allocation for each. Datagrams without lists take none, and are never refused for want of it.
 pub fn read(alloc: Global, bytes: &[u8]) -> Result<Datagram, ReadFault>
     ensures found { IfOk result (Spells bytes.now) }
-    ensures only { (v : DatagramValue) → Spells bytes.now v → (result ≡ Ok v) ⊎ ((result ≡ Err ReadFault.Memory) × HasLists v) }
+    ensures only { (v : DatagramValue) → Spells bytes.now v →
+        (result ≡ Ok v) ⊎ ((result ≡ Err ReadFault.Memory) × HasLists v) }
     ensures fault { IfErr result (IsFaultOf bytes.now) }
 {
     match checked(bytes) {

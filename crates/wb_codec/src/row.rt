@@ -115,9 +115,9 @@ fn op_words(drawop: &Drawop) -> [u64; 9]
     }
 }
 
-/// The record of a drawop: its source and number, its page, its time, its operation, and at last the
-/// target or the text, from the most significant bits of each word on; words that it has no use for
-/// are 0.
+/// The record of a drawop: its source and number, its page, its time, its operation, and at last
+/// the target or the text, from the most significant bits of each word on; words that it has no use
+/// for are 0.
 pub fn to_row(drawop: &Drawop) -> [u64; 12]
     ensures record { result ≡ row drawop.now }
     ensures len { length result ≡ row_words }
@@ -181,8 +181,9 @@ fn shape_in<'a>(word: u64, target: u64, bytes: &'a [u8; 64]) -> Option<Shape<'a>
     }
 }
 
-/// The drawop whose record these words are, for callers who know that they are one. Unused words and parts of
-/// words are not looked at, so of other words it may answer a drawop too: `from_row` tells them apart.
+/// The drawop whose record these words are, for callers who know that they are one. Unused words
+/// and parts of words are not looked at, so of other words it may answer a drawop too: `from_row`
+/// tells them apart.
 #[inline(always)]
 pub fn drawop_in(words: &[u64; 12]) -> Option<Drawop>
     ensures { (d : DrawopValue) → IsDrawop d → row d ≡ words.now → result ≡ Some d }

@@ -57,7 +57,8 @@ fn put_session(
     marks: &Marks,
     echoes: &Echoes,
 ) -> Result<(), AllocError>
-    ensures { OnOk result (out.new.items ≡ out.old.items ++ body (DatagramValue.Session sender sent page marks.now echoes.now)) }
+    ensures { OnOk result (out.new.items ≡
+        out.old.items ++ body (DatagramValue.Session sender sent page marks.now echoes.now)) }
 {
     out.extend_from_slice(&session_front(sender, sent, page))?;
     put_entries(out, marks)?;
@@ -67,7 +68,8 @@ fn put_session(
 
 #[inline(always)]
 fn put_request(out: &mut Vec<u8>, asker: u32, name: Name) -> Result<(), AllocError>
-    ensures { OnOk result (out.new.items ≡ out.old.items ++ body (DatagramValue.Request asker name)) }
+    ensures { OnOk result (out.new.items ≡
+        out.old.items ++ body (DatagramValue.Request asker name)) }
 {
     out.extend_from_slice(request_part(asker, name).as_flattened())
 }
@@ -78,7 +80,8 @@ fn put_page_state(
     page: PageId,
     marks: &Marks,
 ) -> Result<(), AllocError>
-    ensures { OnOk result (out.new.items ≡ out.old.items ++ body (DatagramValue.PageState sender page marks.now)) }
+    ensures { OnOk result (out.new.items ≡
+        out.old.items ++ body (DatagramValue.PageState sender page marks.now)) }
 {
     out.extend_from_slice(page_state_front(sender, page).as_flattened())?;
     put_entries(out, marks)?;

@@ -62,7 +62,8 @@ impl<E: Entry> Model for Entries<E> {
 
 /// Whether each source is above the one before it.
 fn ascend<E: Entry>(entries: &[E]) -> bool
-    ensures { MatchBool result (AllPairs (λ a b. E.source a < E.source b) entries.now × All E.IsPositive entries.now) (Descends (map E.source entries.now)) }
+    ensures { MatchBool result (AllPairs (λ a b. E.source a < E.source b) entries.now ×
+        All E.IsPositive entries.now) (Descends (map E.source entries.now)) }
 {
     for (place, entry) in entries.iter().enumerate() {
         let source = entry.source();
@@ -89,8 +90,10 @@ impl<E: Entry> Entries<E> {
     /// The list of these entries. It comes back with `TooMany` where there are over 65,535, else
     /// with `Order` where the sources are not strictly ascending.
     pub fn new(entries: Vec<E>) -> Result<Entries<E>, (ListFault, Vec<E>)>
-        ensures list { MatchResult result (λ m. m ≡ entries.items) (λ e. e.1.items ≡ entries.items) }
-        ensures fault { MatchResult result (AreEntries E.source E.IsPositive) (λ e. IsListFault (map E.source entries.items) e.0) }
+        ensures list { MatchResult result (λ m. m ≡ entries.items)
+            (λ e. e.1.items ≡ entries.items) }
+        ensures fault { MatchResult result (AreEntries E.source E.IsPositive)
+            (λ e. IsListFault (map E.source entries.items) e.0) }
     {
         if entries.len() > MAX_ENTRIES {
             return Err((ListFault::TooMany, entries));

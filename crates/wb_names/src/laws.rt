@@ -1,5 +1,5 @@
-//! Laws of the orders of pages and names, and of arrivals. Each function does nothing: its contract is a law, for
-//! callers to cite.
+//! Laws of the orders of pages and names, and of arrivals. Each function does nothing: its contract
+//! is a law, for callers to cite.
 
 ghost use Rattle.std.specs.Prelude.{◌≡◌, ℕ, List};
 ghost use Rattle.std.specs.Cmp.{IsTotalOrder};
@@ -32,7 +32,10 @@ pub fn names_are_ordered()
 /// them, and how many came to what.
 #[tactic(auto, using(crate::proofs::Arrivals::outcome_is))]
 pub fn arrivals_have_one_answer()
-    ensures outcome { (cells : ℕ) (history : List DrawopValue) (d : DrawopValue) (o : Outcome) → IsHistory history → IsTaken cells history d o → o ≡ outcome_of cells history d }
-    ensures batch { (cells : ℕ) (history arrivals after : List DrawopValue) (n : Counts) → IsHistory history → IsBatch cells history arrivals after n
-        → (after ≡ history_after cells history arrivals) × (n ≡ counts_of (outcomes_of cells history arrivals)) }
+    ensures outcome { (cells : ℕ) (history : List DrawopValue) (d : DrawopValue) (o : Outcome) →
+        IsHistory history → IsTaken cells history d o → o ≡ outcome_of cells history d }
+    ensures batch { (cells : ℕ) (history arrivals after : List DrawopValue) (n : Counts) →
+        IsHistory history → IsBatch cells history arrivals after n →
+        (after ≡ history_after cells history arrivals) ×
+        (n ≡ counts_of (outcomes_of cells history arrivals)) }
 {}

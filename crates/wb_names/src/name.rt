@@ -41,7 +41,8 @@ impl Name {
     /// The name with these fields. The sequence number 0 is refused with `SeqZero`.
     #[inline(always)]
     pub fn new(source: u32, page: PageId, seq: u32) -> Result<Name, FieldFault>
-        ensures { result ≡ value_unless (seq_fault seq) (record { source = source; page = page; seq = seq }) }
+        ensures { result ≡
+            value_unless (seq_fault seq) (record { source = source; page = page; seq = seq }) }
     {
         if seq == 0 {
             return Err(FieldFault::SeqZero);

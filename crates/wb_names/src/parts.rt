@@ -1,4 +1,5 @@
-//! What operations are made of: what is drawn between two ends, a text at a place, and a change of a target.
+//! What operations are made of: what is drawn between two ends, a text at a place, and a change of
+//! a target.
 
 ghost use Rattle.std.specs.Prelude.{◌≡◌};
 ghost use Rattle.wb_names.specs.Kinds.{op_kind};

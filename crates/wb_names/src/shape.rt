@@ -12,8 +12,8 @@ use crate::name::Name;
 use crate::parts::{Change, Figure, Op, Stroke, Target};
 use crate::text::Text;
 
-/// An operation as a caller hands it in, its fields not yet checked. Coordinates are cells, x to the
-/// right and y down; glyphs and bytes are of ASCII.
+/// An operation as a caller hands it in, its fields not yet checked. Coordinates are cells, x to
+/// the right and y down; glyphs and bytes are of ASCII.
 #[derive(Clone, Copy, Debug)]
 pub enum Shape<'a> {
     /// Draws between two ends.
@@ -119,7 +119,8 @@ impl Drawop {
     /// `Glyph`, `TextLength`, `TextByte`, `TargetZero` or `TargetSelf`, in this order.
     #[inline(always)]
     pub fn new(name: Name, time: u64, shape: Shape<'_>) -> Result<Drawop, FieldFault>
-        ensures drawop { let op = op_of shape.entry in result ≡ value_unless (op_fault name op) (record { name = name; time = time; op = op }) }
+        ensures drawop { let op = op_of shape.entry in result ≡
+            value_unless (op_fault name op) (record { name = name; time = time; op = op }) }
         ensures lawful { OnOk result (IsLawful name (op_of shape.entry)) }
     {
         if let Some(fault) = fault_of(name, &shape) {

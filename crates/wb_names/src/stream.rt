@@ -30,8 +30,8 @@ pub trait Sink {
     /// Whether it has failed.
     ghost has_failed: { Self → Bool };
 
-    /// Takes bytes from the front, and says how many: at least one. `None` where it failed, and then
-    /// nothing was taken.
+    /// Takes bytes from the front, and says how many: at least one. `None` where it failed, and
+    /// then nothing was taken.
     fn push(&mut self, bytes: &[u8]) -> Option<usize>
         requires { 0 < length bytes.now }
         ensures bytes { Pushes (taken self.old) (taken self.new) result bytes.now }

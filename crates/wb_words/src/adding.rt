@@ -46,7 +46,9 @@ fn some_name() -> Name {
 /// A figure, whose words stand where those of a drawop do.
 #[tactic(auto, using(crate::proofs::AddingLaws::figure_drawn, crate::proofs::AddingLaws::figure_wrong))]
 fn figure(figure: Figure, rest: Rest<'_>) -> Result<Op, WrongWord>
-    ensures { (page : PageIdValue) (time : ℕ) → Gives (λ op. record { name = numberless page; time = time; op = op }) result (figure_at figure (numberless page) time (words_left rest.entry)) }
+    ensures { (page : PageIdValue) (time : ℕ) →
+        Gives (λ op. record { name = numberless page; time = time; op = op }) result
+        (figure_at figure (numberless page) time (words_left rest.entry)) }
 {
     match figure_of(figure, some_name(), 0, rest) {
         Ok(drawop) => Ok(*drawop.op()),
@@ -57,7 +59,9 @@ fn figure(figure: Figure, rest: Rest<'_>) -> Result<Op, WrongWord>
 /// A text, whose words stand where those of a drawop do.
 #[tactic(auto, using(crate::proofs::AddingLaws::written_drawn, crate::proofs::AddingLaws::written_wrong))]
 fn text(alloc: Global, rest: Rest<'_>) -> Result<Op, WordsFault>
-    ensures { (page : PageIdValue) (time : ℕ) → MayGive (λ op. record { name = numberless page; time = time; op = op }) result (written_at (numberless page) time (words_left rest.entry)) }
+    ensures { (page : PageIdValue) (time : ℕ) →
+        MayGive (λ op. record { name = numberless page; time = time; op = op }) result
+        (written_at (numberless page) time (words_left rest.entry)) }
 {
     match written_of(alloc, some_name(), 0, rest) {
         Ok(drawop) => Ok(*drawop.op()),
@@ -69,7 +73,9 @@ fn text(alloc: Global, rest: Rest<'_>) -> Result<Op, WordsFault>
 /// The change of a target, whose words stand where those of a drawop do.
 #[tactic(auto, unfolding(crate::specs::Reading::change_at))]
 fn change(change: Change, rest: Rest<'_>) -> Result<Op, WrongWord>
-    ensures { (page : PageIdValue) (time : ℕ) → Gives (λ op. record { name = numberless page; time = time; op = op }) result (change_at change (numberless page) time (words_left rest.entry)) }
+    ensures { (page : PageIdValue) (time : ℕ) →
+        Gives (λ op. record { name = numberless page; time = time; op = op }) result
+        (change_at change (numberless page) time (words_left rest.entry)) }
 {
     let (source, rest) = u32_of(7, rest)?;
     let (seq, rest) = u32_of(8, rest)?;
@@ -83,7 +89,9 @@ fn change(change: Change, rest: Rest<'_>) -> Result<Op, WrongWord>
 /// The operation of a word, whose further words stand where those of a drawop do.
 #[tactic(auto, unfolding(crate::specs::Reading::op_at))]
 fn op_of(alloc: Global, word: &[u8], rest: Rest<'_>) -> Result<Op, WordsFault>
-    ensures { (page : PageIdValue) (time : ℕ) → MayGive (λ op. record { name = numberless page; time = time; op = op }) result (op_at (numberless page) time word.now (words_left rest.entry)) }
+    ensures { (page : PageIdValue) (time : ℕ) →
+        MayGive (λ op. record { name = numberless page; time = time; op = op }) result
+        (op_at (numberless page) time word.now (words_left rest.entry)) }
 {
     let Some(kind) = kind_in(word) else {
         return Err(WordsFault::Word(WordFault::Operation.at(6)));
@@ -108,9 +116,9 @@ fn earlier(fault: WordsFault) -> WordsFault
     }
 }
 
-/// The drawing that words say, as `1000 500 7/1 line 0 0 4 0 *`: the moment, the time of its user's clock, its page, and
-/// what is drawn, as in the words of a drawop. Or the first word from the left that is wrong, or want of memory for a
-/// text.
+/// The drawing that words say, as `1000 500 7/1 line 0 0 4 0 *`: the moment, the time of its user's
+/// clock, its page, and what is drawn, as in the words of a drawop. Or the first word from the left
+/// that is wrong, or want of memory for a text.
 #[tactic(auto, unfolding(crate::specs::Adding::adding_at))]
 pub fn read_adding(alloc: Global, line: &[u8]) -> Result<Adding, WordsFault>
     ensures reading { MayGive (λ a. a) result (adding_reading line.now) }

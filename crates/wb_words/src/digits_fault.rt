@@ -3,8 +3,8 @@
 use std::{error, fmt};
 use wb_codec::ReadFault;
 
-/// Why a word of hexadecimal digits is no datagram for its line: the first fault in the order of the
-/// variants.
+/// Why a word of hexadecimal digits is no datagram for its line: the first fault in the order of
+/// the variants.
 #[derive(Clone, Copy, Debug, PartialEq, Eq)]
 pub enum DigitsFault {
     /// The word is no even number of hexadecimal digits.

@@ -128,7 +128,8 @@ pub(crate) fn entries_of<E: Worded>(
     rest: Rest<'_>,
 ) -> Result<Entries<E>, WordsFault>
     requires { place ≤ 65540 }
-    ensures { MayGive (λ entries. entries) result (entries_at E.entry_at E.source E.stops place 0 None (words_left rest.entry)) }
+    ensures { MayGive (λ entries. entries) result
+        (entries_at E.entry_at E.source E.stops place 0 None (words_left rest.entry)) }
 {
     let mut entries = Vec::new(alloc);
     let mut left = rest;

@@ -15,7 +15,8 @@ use wb_names::{MAX_COORDINATE, MAX_MOMENT, Name, PageId};
 /// A number up to `most`.
 #[tactic(auto, unfolding(crate::specs::Reading::number_at))]
 fn number_of(place: u32, most: u64, rest: Rest<'_>) -> Result<(u64, Rest<'_>), WrongWord>
-    ensures number { Gives (λ x. (x.0, words_left x.1)) result (number_at place most (words_left rest.entry)) }
+    ensures number { Gives (λ x. (x.0, words_left x.1)) result
+        (number_at place most (words_left rest.entry)) }
     ensures bound { IfOk result (λ x. x.0 ≤ most) }
 {
     let (word, rest) = next_word(place, rest)?;
@@ -27,7 +28,8 @@ fn number_of(place: u32, most: u64, rest: Rest<'_>) -> Result<(u64, Rest<'_>), W
 
 /// A moment in microseconds, below 2^48.
 pub(crate) fn moment_of(place: u32, rest: Rest<'_>) -> Result<(u64, Rest<'_>), WrongWord>
-    ensures number { Gives (λ x. (x.0, words_left x.1)) result (number_at place MAX_MOMENT (words_left rest.entry)) }
+    ensures number { Gives (λ x. (x.0, words_left x.1)) result
+        (number_at place MAX_MOMENT (words_left rest.entry)) }
     ensures bound { IfOk result (λ x. x.0 ≤ MAX_MOMENT) }
 {
     number_of(place, MAX_MOMENT, rest)
@@ -35,14 +37,16 @@ pub(crate) fn moment_of(place: u32, rest: Rest<'_>) -> Result<(u64, Rest<'_>), W
 
 /// A number of 64 bits.
 pub(crate) fn u64_of(place: u32, rest: Rest<'_>) -> Result<(u64, Rest<'_>), WrongWord>
-    ensures { Gives (λ x. (x.0, words_left x.1)) result (number_at place most64 (words_left rest.entry)) }
+    ensures { Gives (λ x. (x.0, words_left x.1)) result
+        (number_at place most64 (words_left rest.entry)) }
 {
     number_of(place, u64::MAX, rest)
 }
 
 /// A number of 32 bits.
 pub(crate) fn u32_of(place: u32, rest: Rest<'_>) -> Result<(u32, Rest<'_>), WrongWord>
-    ensures { Gives (λ x. (x.0, words_left x.1)) result (number_at place most32 (words_left rest.entry)) }
+    ensures { Gives (λ x. (x.0, words_left x.1)) result
+        (number_at place most32 (words_left rest.entry)) }
 {
     let (number, rest) = number_of(place, u64::from(u32::MAX), rest)?;
     Ok((number as u32, rest))
@@ -50,7 +54,8 @@ pub(crate) fn u32_of(place: u32, rest: Rest<'_>) -> Result<(u32, Rest<'_>), Wron
 
 /// A coordinate, in cells.
 pub(crate) fn coordinate_of(place: u32, rest: Rest<'_>) -> Result<(u16, Rest<'_>), WrongWord>
-    ensures { Gives (λ x. (x.0, words_left x.1)) result (number_at place MAX_COORDINATE (words_left rest.entry)) }
+    ensures { Gives (λ x. (x.0, words_left x.1)) result
+        (number_at place MAX_COORDINATE (words_left rest.entry)) }
 {
     let (number, rest) = number_of(place, u64::from(MAX_COORDINATE), rest)?;
     Ok((number as u16, rest))
@@ -109,7 +114,9 @@ pub(crate) struct NameFields {
 #[tactic(auto, unfolding(crate::specs::Reading::name_at))]
 pub(crate) fn name_of(place: u32, rest: Rest<'_>) -> Result<(NameFields, Rest<'_>), WrongWord>
     requires { place ≤ 3 }
-    ensures { Gives (λ x. (record { source = x.0.source; page = x.0.page; seq = x.0.seq }, words_left x.1)) result (name_at place (words_left rest.entry)) }
+    ensures { Gives (λ x.
+        (record { source = x.0.source; page = x.0.page; seq = x.0.seq }, words_left x.1)) result
+        (name_at place (words_left rest.entry)) }
 {
     let (source, rest) = u32_of(place, rest)?;
     let (page, rest) = page_of(place + 1, rest)?;
@@ -119,7 +126,8 @@ pub(crate) fn name_of(place: u32, rest: Rest<'_>) -> Result<(NameFields, Rest<'_
 
 /// The name of these fields, the last of which stands at the place.
 pub(crate) fn named(place: u32, fields: NameFields) -> Result<Name, WrongWord>
-    ensures { result ≡ named place (record { source = fields.source; page = fields.page; seq = fields.seq }) }
+    ensures { result ≡
+        named place (record { source = fields.source; page = fields.page; seq = fields.seq }) }
 {
     match Name::new(fields.source, fields.page, fields.seq) {
         Ok(name) => Ok(name),

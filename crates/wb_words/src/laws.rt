@@ -3,8 +3,8 @@
 
 ghost use Rattle.wb_words.specs.Laws.{WordsAreRead, OneLine};
 
-/// The line of each datagram is read as that datagram, so that writing and reading undo one another;
-/// and two datagrams never have one line.
+/// The line of each datagram is read as that datagram, so that writing and reading undo one
+/// another; and two datagrams never have one line.
 pub fn words_are_one_form()
     ensures again { WordsAreRead }
     ensures one { OneLine }

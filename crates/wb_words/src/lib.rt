@@ -1,8 +1,8 @@
 //! Datagrams in words, so that people can write and read them.
 //!
 //! Each datagram has one readable line, as `request 8 7 7/4 2` or `draw 7 7/1 1 10 line 0 1 4 1 *`.
-//! `write_words` gives it, and `read_words` reads it, or says which word is wrong first. `DigitsFault` is for those who
-//! read a datagram from the digits of its bytes instead.
+//! `write_words` gives it, and `read_words` reads it, or says which word is wrong first.
+//! `DigitsFault` is for those who read a datagram from the digits of its bytes instead.
 #![tactic(auto)]
 
 mod adding;

@@ -91,7 +91,8 @@ fn is_kind(word: &[u8]) -> bool
         || word == b"page-state".as_slice()
 }
 
-/// Whether the first word of a line tells the kind of a datagram and others follow: the line is meant as one in words.
+/// Whether the first word of a line tells the kind of a datagram and others follow: the line is
+/// meant as one in words.
 pub fn begins_datagram(line: &[u8]) -> bool
     ensures { result ≡ begins_datagram line.now }
 {
@@ -124,7 +125,8 @@ fn datagram_of(alloc: Global, word: &[u8], rest: Rest<'_>) -> Result<Datagram, W
 #[tactic(auto, using(crate::proofs::SpellingLaws::first_read, crate::proofs::SpellingLaws::answer_found))]
 pub fn read_words(alloc: Global, line: &[u8]) -> Result<Datagram, WordsFault>
     ensures found { IfOk result (Says line.now) }
-    ensures only { (v : DatagramValue) → Says line.now v → (result ≡ Ok v) ⊎ (result ≡ Err WordsFault.Memory) }
+    ensures only { (v : DatagramValue) → Says line.now v →
+        (result ≡ Ok v) ⊎ (result ≡ Err WordsFault.Memory) }
     ensures fault { MayGive (λ v. v) result (reading line.now) }
 {
     let (word, rest) = first_word(line);

@@ -42,7 +42,8 @@ pub(crate) fn first_word(bytes: &[u8]) -> (&[u8], Rest<'_>)
 
 /// The word at a place, and what follows it.
 pub(crate) fn next_word<'a>(place: u32, rest: Rest<'a>) -> Result<(&'a [u8], Rest<'a>), WrongWord>
-    ensures { Gives (λ x. (x.0.now, words_left x.1)) result (word_at place (words_left rest.entry)) }
+    ensures { Gives (λ x. (x.0.now, words_left x.1)) result
+        (word_at place (words_left rest.entry)) }
 {
     match rest {
         Rest::Words(bytes) => Ok(first_word(bytes)),

@@ -97,7 +97,8 @@ fn write_session(
     marks: &[Mark],
     echoes: &[Echo],
 ) -> Result<Vec<u8>, AllocError>
-    ensures { IfOk result (λ line. line.items ≡ spelled (DatagramValue.Session sender sent page marks.now echoes.now)) }
+    ensures { IfOk result (λ line. line.items ≡
+        spelled (DatagramValue.Session sender sent page marks.now echoes.now)) }
 {
     let PageId { creator, number } = page;
     let front = format!(in alloc; "session-message {sender} {sent} {creator}/{number}")?;
@@ -113,7 +114,8 @@ fn write_page_state(
     page: PageId,
     marks: &[Mark],
 ) -> Result<Vec<u8>, AllocError>
-    ensures { IfOk result (λ line. line.items ≡ spelled (DatagramValue.PageState sender page marks.now)) }
+    ensures { IfOk result
+        (λ line. line.items ≡ spelled (DatagramValue.PageState sender page marks.now)) }
 {
     let PageId { creator, number } = page;
     let front = format!(in alloc; "page-state {sender} {creator}/{number}")?;
