@@ -11,9 +11,9 @@ use wb_commands::LineFault;
 /// Why a line of a driver is refused.
 #[derive(Clone, Copy, Debug, PartialEq, Eq)]
 pub enum Refusal {
-    /// As a script's line is: `unknown`, `words`, `number`, `hex`, `datagram N`, `kind`, `no
-    /// board`, `second board`, `back in time`, `too many` or `word N: ..`. The last of what is to
-    /// be said or added, too.
+    /// As a script's line is: `unknown`, `words`, `number`, `hex`, `datagram N`, `kind`,
+    /// `no board`, `second board`, `back in time`, `too many` or `word N: ..`. The last of what is
+    /// to be said or added, too.
     Line(LineFault),
     /// What is to be said names another member as its source, sender or asker.
     Member,

@@ -16,8 +16,8 @@ fn step(level: u32, constant: u32, delay: u64) -> u64
     2u64.pow(level) * u64::from(constant) * delay
 }
 
-/// The random moment at which a timer is due: `2^level * lead` delays after now, or up to `2^level
-/// * spread` delays later.
+/// The random moment at which a timer is due: `2^level * lead` delays after now, or up to
+/// `2^level * spread` delays later.
 pub(crate) fn expiry(now: u64, level: u32, lead: u32, spread: u32, delay: u64, word: u64) -> u64
     requires moment { IsMoment now }
     requires level { level ≤ 16 }
