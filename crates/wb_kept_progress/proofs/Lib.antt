@@ -10,3 +10,4 @@ pub mod PerLine
 pub mod Timely
 pub mod Performed
 pub mod KeptInTime
+pub mod WholeParts

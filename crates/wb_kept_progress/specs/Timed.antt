@@ -113,6 +113,35 @@ pub record IsTimely (hosts : ℕ → Start) (terms : Terms) (trace : List Perfor
   pub fresh_drawops : (newer older : List Performed) (e : Performed) (d : DrawopValue) → trace ≡ newer ++ e ∷ older → settled_by terms < e.time → e.line ≡ Arrives d → WasSent hosts older e.time terms.delivery (Draw d)
   pub fresh_requests : (newer older : List Performed) (e : Performed) (asker : ℕ) (m : NameValue) → trace ≡ newer ++ e ∷ older → settled_by terms < e.time → e.line ≡ Hears (Request asker m) → WasSent hosts older e.time terms.delivery (Request asker m)
 
+-- from `quiet` on nothing is drawn, no request is said, and what is held is not given up
+pub record IsQuietLine (host : Opened) (line : Line) : Type 0 where
+  pub drawn : (d : DrawopValue) → line ≢ Says (Draw d)
+  pub said : (asker : ℕ) (m : NameValue) → line ≢ Says (Request asker m)
+  pub given_up : (m : NameValue) → line ≡ Stops m → holds host m ≡ false
+
+-- The terms are those of wb_progress, without pages: nothing is asked of looks and of reports.
+pub record IsTimelyTrace (hosts : ℕ → Start) (terms : Terms) (trace : List Performed) : Type 0 where
+  pub distinct : (i j : ℕ) → (hosts i).number ≡ (hosts j).number → i ≡ j
+  pub waits : (i : ℕ) → IsUnder (longest terms) (hosts i).constants
+  pub tuned : (newer older : List Performed) (i : ℕ) → trace ≡ newer ++ older → Contains terms.live i → let host = host_after hosts older i in IsUnder (longest terms) (constants_after host.is.constants (events host))
+  pub order : AreInOrder trace
+  pub reported : 1 ≤ terms.reporting
+  -- a tick makes the moment the time and the offset of its place, and a datagram is heard behind such a tick
+  pub times : (newer older : List Performed) (e : Performed) (now : ℕ) → trace ≡ newer ++ e ∷ older → e.line ≡ Ticks now → now ≡ e.time + terms.offset e.place
+  pub behind : (newer older : List Performed) (e : Performed) (v : Datagram) → trace ≡ newer ++ e ∷ older → e.line ≡ Hears v → present (host_after hosts older e.place) ≡ e.time + terms.offset e.place
+  -- a tick comes once a timer is due: until a line comes, no timer that stands at a live place is overdue
+  pub soon : (newer older : List Performed) (e : Performed) (i : ℕ) (m : NameValue) → trace ≡ newer ++ e ∷ older → Contains terms.live i → AreNotOverdue (timers_after hosts older i m) (e.time + terms.offset i) terms.late
+  pub delays : (newer older : List Performed) (i source : ℕ) → trace ≡ newer ++ older → Contains terms.live i → delay (host_after hosts older i) source ≤ terms.far
+  -- from `quiet` on
+  pub alone : (newer older : List Performed) (e : Performed) → trace ≡ newer ++ e ∷ older → terms.quiet < e.time → Contains terms.live e.place
+  pub quiet : (newer older : List Performed) (e : Performed) → trace ≡ newer ++ e ∷ older → terms.quiet < e.time → IsQuietLine (host_after hosts older e.place) e.line
+  pub room : (newer older : List Performed) (e : Performed) (d : DrawopValue) → trace ≡ newer ++ e ∷ older → terms.quiet < e.time → e.line ≡ Arrives d → (holds (host_after hosts older e.place) d.name ≡ true) ⊎ (is_full (host_after hosts older e.place) ≡ false)
+  -- what a live place sends comes to each other one in time, and what comes was sent shortly before
+  pub drawops : (newer older : List Performed) (e : Performed) (j : ℕ) (d : DrawopValue) → trace ≡ newer ++ e ∷ older → Contains terms.live j → e.place ≢ j → terms.quiet < e.time → Contains (sends hosts older e) (Draw d) → e.time + terms.delivery < time_of trace → ComesTo newer j (e.time + terms.delivery) (Arrives d)
+  pub requests : (newer older : List Performed) (e : Performed) (j asker : ℕ) (m : NameValue) → trace ≡ newer ++ e ∷ older → Contains terms.live j → e.place ≢ j → terms.quiet < e.time → Contains (sends hosts older e) (Request asker m) → e.time + terms.delivery < time_of trace → ComesTo newer j (e.time + terms.delivery) (Hears (Request asker m))
+  pub fresh_drawops : (newer older : List Performed) (e : Performed) (d : DrawopValue) → trace ≡ newer ++ e ∷ older → settled_by terms < e.time → e.line ≡ Arrives d → WasSent hosts older e.time terms.delivery (Draw d)
+  pub fresh_requests : (newer older : List Performed) (e : Performed) (asker : ℕ) (m : NameValue) → trace ≡ newer ++ e ∷ older → settled_by terms < e.time → e.line ≡ Hears (Request asker m) → WasSent hosts older e.time terms.delivery (Request asker m)
+
 -- ---- by when it comes
 
 -- a live place held the name once what was on its way had arrived
