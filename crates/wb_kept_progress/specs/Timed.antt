@@ -162,6 +162,23 @@ abbrev pub TimerLeads : Type 0
 TimerLeads = (hosts : ℕ → Start) (terms : Terms) (trace newer older : List Performed) (i : ℕ) (n : NameValue) (ask : AskTimer) (due : ℕ) → IsTimely hosts terms trace n → trace ≡ newer ++ older → Contains terms.live i → known_from terms ≤ time_of older
     → (timers_after hosts older i n).ask ≡ Some ask → ask.due ≤ due + terms.offset i → IsAnswerable hosts terms trace n → AllHoldBehind hosts terms trace (max (time_of older) due + repairing terms) n
 
+-- a name is given up at a place behind a part, while its timer stands as it was
+pub record IsGivenUp (hosts : ℕ → Start) (trace base : List Performed) (i : ℕ) (n : NameValue) (ask : AskTimer) (by : ℕ) : Type 0 where
+  pub front : List Performed
+  pub e : Performed
+  pub between : List Performed
+  pub split : trace ≡ front ++ e ∷ (between ++ base)
+  pub place : e.place ≡ i
+  pub line : e.line ≡ Stops n
+  pub stands : (timers_after hosts (between ++ base) i n).ask ≡ Some ask
+  pub soon : e.time ≤ by
+
+-- Whatever is given up: a request timer that stands late enough leads to where all hold its name, or is given up itself before.
+abbrev pub TimerLeadsOrIsGivenUp : Type 0
+TimerLeadsOrIsGivenUp = (hosts : ℕ → Start) (terms : Terms) (trace newer older : List Performed) (i : ℕ) (n : NameValue) (ask : AskTimer) (due : ℕ) → IsTimelyTrace hosts terms trace → trace ≡ newer ++ older → Contains terms.live i → known_from terms ≤ time_of older
+    → (timers_after hosts older i n).ask ≡ Some ask → ask.due ≤ due + terms.offset i → IsAnswerable hosts terms trace n
+    → AllHoldBehind hosts terms trace (max (time_of older) due + repairing terms) n ⊎ IsGivenUp hosts trace older i n ask (max (time_of older) due + terms.late)
+
 -- ---- hosts that keep themselves
 
 -- a host is handed a line at a time
