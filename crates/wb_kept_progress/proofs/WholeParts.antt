@@ -119,11 +119,15 @@ StillnessEnds = (hosts : ℕ → Opening) (terms : Terms) (trace newest window b
     → known_from terms + wait + repairing terms ≤ called_at base → Contains terms.live i → IsAsking hosts terms trace (window ++ base) i back → called_at base + request_span terms < time_of back
     → called_at (window ++ base) ≤ time_of back + most * request_span terms + repairing terms
 
+-- There is no credit behind the newest call, which is one of this host.
+abbrev pub HasNoCredit : (ℕ → Opening) → Terms → List TimedLine → ℕ → Type 0
+HasNoCredit hosts terms calls i = let k = there hosts calls i in (present k.host ≡ called_at calls + terms.offset i) × (has_credit k.policy.owed (present k.host) ≡ false)
+
 -- Where there is no credit behind a call, what another holds was asked for lately.
 abbrev pub NoCreditIsAsked : Type 0
 NoCreditIsAsked = (hosts : ℕ → Opening) (terms : Terms) (trace newest window base front part : List TimedLine) (sizes : Sizes) (wait most i : ℕ) → Holds hosts terms trace sizes wait most → IsStill hosts terms trace newest window base
     → known_from terms + wait + repairing terms ≤ called_at base → Contains terms.live i → window ≡ front ++ part → called_at base + 21000000 < called_at (part ++ base)
-    → (let k = there hosts (part ++ base) i in has_credit k.policy.owed (present k.host)) ≡ false
+    → HasNoCredit hosts terms (part ++ base) i
     → (back : List Performed) × IsAsking hosts terms trace (window ++ base) i back × (called_at (part ++ base) ≤ time_of back + 21000000)
 
 -- behind a call a live host asks for what another holds, or has no credit
@@ -133,7 +137,7 @@ pub record IsWanting (hosts : ℕ → Opening) (terms : Terms) (trace window bas
   pub split : window ≡ front ++ part
   pub behind : from < called_at (part ++ base)
   pub soon : called_at (part ++ base) ≤ by
-  pub wants : ((back : List Performed) × IsAsking hosts terms trace (window ++ base) i back × (time_of back ≡ called_at (part ++ base))) ⊎ ((let k = there hosts (part ++ base) i in has_credit k.policy.owed (present k.host)) ≡ false)
+  pub wants : ((back : List Performed) × IsAsking hosts terms trace (window ++ base) i back × (time_of back ≡ called_at (part ++ base))) ⊎ HasNoCredit hosts terms (part ++ base) i
 
 -- What a live host lacks is wanted in time.
 abbrev pub LackIsWanted : Type 0
