@@ -70,14 +70,14 @@ module _ (hosts : ℕ → Opening) where
   abbrev does : TimedLine → List TimedLine → List Line
   does e older = let k = kept_at hosts (lines_of older) e.at.place in (doing_of e.at.line (sees k.host) k.policy).lines
 
-  front_of : (newer older : List TimedLine) → (front : List Performed) × (performed hosts (newer ++ older) ≡ front ++ performed hosts older)
+  pub front_of : (newer older : List TimedLine) → (front : List Performed) × (performed hosts (newer ++ older) ≡ front ++ performed hosts older)
   front_of [] older = ([], refl)
   front_of (e ∷ newer) older =
       let a = then_front e.time e.at.place (does e (newer ++ older)) (performed hosts (newer ++ older)) in
       let b = front_of newer older in
       (a.0 ++ b.0, a.1 ∙ ap (λ (t : List Performed). a.0 ++ t) b.1 ∙ sym (append_assoc a.0 b.0 (performed hosts older)))
 
-  time_is : (trace : List TimedLine) → time_of (performed hosts trace) ≡ called_at trace
+  pub time_is : (trace : List TimedLine) → time_of (performed hosts trace) ≡ called_at trace
   time_is [] = refl
   time_is (e ∷ older) =
       let k = kept_at hosts (lines_of older) e.at.place in

@@ -11,3 +11,5 @@ pub mod Timely
 pub mod Performed
 pub mod KeptInTime
 pub mod WholeParts
+pub mod CallParts
+pub mod Becoming

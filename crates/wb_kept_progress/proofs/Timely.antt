@@ -88,11 +88,11 @@ module _ (hosts : ℕ → Start) where
 
 -- ---- parts of a trace
 
-before_end : (newer older : List Performed) → AreInOrder (newer ++ older) → time_of older ≤ time_of (newer ++ older)
+pub before_end : (newer older : List Performed) → AreInOrder (newer ++ older) → time_of older ≤ time_of (newer ++ older)
 before_end [] older order = omega arith
 before_end (e ∷ newer) older order = let rest = before_end newer older order.1 in let o = order.0 in omega (arith, rest, o)
 
-order_of : (newer older : List Performed) → AreInOrder (newer ++ older) → AreInOrder older
+pub order_of : (newer older : List Performed) → AreInOrder (newer ++ older) → AreInOrder older
 order_of [] older order = order
 order_of (e ∷ newer) older order = order_of newer older order.1
 

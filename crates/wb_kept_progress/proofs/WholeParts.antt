@@ -82,6 +82,10 @@ CreditIsSpent = (hosts : ℕ → Opening) (terms : Terms) (trace newer older : L
     ⊎ ((next.policy.owed ≤ k.policy.owed)
     ⊎ ((k.policy.reports.due ≤ e.time + terms.offset e.at.place) × (next.policy.owed ≤ spent k.policy.owed (e.time + terms.offset e.at.place)))))
 
+-- The next report is due within 96 seconds.
+abbrev pub ReportsAreDue : Type 0
+ReportsAreDue = (hosts : ℕ → Opening) (terms : Terms) (trace newer older : List TimedLine) (i : ℕ) → IsTimelySession hosts terms trace → trace ≡ newer ++ older → Contains terms.live i → (there hosts older i).policy.reports.due ≤ called_at older + terms.offset i + 96000000
+
 -- ---- timers
 
 -- A request timer for what some hold was not backed off since requests are answered, or they are answered soon.

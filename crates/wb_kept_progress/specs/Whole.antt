@@ -127,7 +127,7 @@ request_span terms = terms.asking * terms.far + terms.late
 abbrev pub step : Terms → Sizes → ℕ → ℕ
 step terms sizes most =
     21000000 + request_span terms
-    + (sizes.slices + 2 * sizes.numbers * sizes.holes) * report_span terms + terms.delivery
+    + (sizes.slices + 2 * sizes.numbers * sizes.holes + 1) * report_span terms + terms.delivery
     + most * request_span terms + repairing terms
 
 -- the time by which all hold all
