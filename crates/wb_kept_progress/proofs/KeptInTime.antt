@@ -25,17 +25,17 @@ abbrev at_place : ℕ → ℕ → Line → Performed
 at_place time place line = record { time = time; place = place; line = line }
 
 -- lines that are performed stand before the older ones
-then_front : (time place : ℕ) (lines : List Line) (older : List Performed) → (front : List Performed) × (performed_then time place lines older ≡ front ++ older)
+pub then_front : (time place : ℕ) (lines : List Line) (older : List Performed) → (front : List Performed) × (performed_then time place lines older ≡ front ++ older)
 then_front time place [] older = ([], refl)
 then_front time place (line ∷ lines) older =
     let rest = then_front time place lines (at_place time place line ∷ older) in
     (rest.0 ++ at_place time place line ∷ [], rest.1 ∙ sym (append_assoc rest.0 (at_place time place line ∷ []) older))
 
-then_both : (time place : ℕ) (one other : List Line) (older : List Performed) → performed_then time place (one ++ other) older ≡ performed_then time place other (performed_then time place one older)
+pub then_both : (time place : ℕ) (one other : List Line) (older : List Performed) → performed_then time place (one ++ other) older ≡ performed_then time place other (performed_then time place one older)
 then_both time place [] other older = refl
 then_both time place (line ∷ one) other older = then_both time place one other (at_place time place line ∷ older)
 
-then_time : (time place : ℕ) (lines : List Line) (line : Line) (older : List Performed) → time_of (performed_then time place lines (at_place time place line ∷ older)) ≡ time
+pub then_time : (time place : ℕ) (lines : List Line) (line : Line) (older : List Performed) → time_of (performed_then time place lines (at_place time place line ∷ older)) ≡ time
 then_time time place [] line older = refl
 then_time time place (next ∷ lines) line older = then_time time place lines next (at_place time place line ∷ older)
 

@@ -13,3 +13,13 @@ pub mod KeptInTime
 pub mod WholeParts
 pub mod CallParts
 pub mod Becoming
+pub mod WantedIn
+pub mod InTurn
+pub mod StillCalls
+pub mod OwedAndDue
+pub mod NextReports
+pub mod Told
+pub mod WantingCalls
+pub mod AsksStand
+pub mod NoCredit
+pub mod LackWanted
