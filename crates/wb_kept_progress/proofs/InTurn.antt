@@ -28,7 +28,7 @@ use Rattle.wb_progress.proofs.OneCall.{le_true}
 use Rattle.wb_kept_progress.proofs.Going.{answers_small, asks_pages_small, reports_small, turn_small}
 use Rattle.wb_kept_progress.proofs.Lines.{IsOf, Rests, is_false, lines_of, lines_rest}
 use Rattle.wb_kept_progress.proofs.Turning.{Leaves, answers_leave, answers_on, asks_leave, rest_leaves, rest_soon, told_of, turn_due, turn_told}
-use Rattle.wb_kept_progress.proofs.WantedIn.{IsAskedIn, IsAskedInCall, IsBroke, IsWantedIn, MayBeWanted, turn_wants, wanted_later}
+use Rattle.wb_kept_progress.proofs.WantedIn.{IsAskedIn, IsAskedInCall, LacksCredit, IsWantedIn, MayBeWanted, turn_wants, wanted_later}
 
 -- ---- what a policy tells and whose turn it is
 
@@ -49,7 +49,7 @@ pub record IsTimedCall (does : Transition) (k : Keeping) (now : ℕ) : Type 0 wh
   pub m : Keeping
   pub behind : after_doing does k ≡ after_doing timed m
   pub sends : (v : Datagram) → Contains (sent_by_doing timed m) v → Contains (sent_by_doing does k) v
-  pub wants : (n : NameValue) → IsWantedIn n timed m → IsAskedInCall n does k ⊎ IsBroke (after_doing does k)
+  pub wants : (n : NameValue) → IsWantedIn n timed m → IsAskedInCall n does k ⊎ LacksCredit (after_doing does k)
   pub policy : SamePolicy k.policy m.policy
   pub held : m.host.is.held ≡ k.host.is.held
   pub now_is : present m.host ≡ now
@@ -73,7 +73,7 @@ pub record IsReporting (does : Transition) (k : Keeping) (now : ℕ) : Type 0 wh
   pub moment : ℕ
   pub echoes : List Echo
   pub sends : Contains (sent_by_doing does k) (Session k.host.is.number moment (page_in_turn k.host.is.held (told_of k.policy)) (marks_in_turn k.host.is.held (told_of k.policy)) echoes)
-  pub wants : (n : NameValue) → holds k.host.is.held n ≡ false → is_full k.host ≡ false → name_in_turn k.host.is.held k.policy.turns ≡ Some n → IsAskedInCall n does k ⊎ IsBroke (after_doing does k)
+  pub wants : (n : NameValue) → holds k.host.is.held n ≡ false → is_full k.host ≡ false → name_in_turn k.host.is.held k.policy.turns ≡ Some n → IsAskedInCall n does k ⊎ LacksCredit (after_doing does k)
 
 -- ---- a report comes a second later at least
 
@@ -137,7 +137,7 @@ module _ (m : Keeping) where
   to_due : after_doing timed m ≡ after_doing reports_due q
   to_due = then_after answers (and_then asks_pages reports_due) m ∙ then_after asks_pages reports_due a
 
-  by_due : Bool → Keeping
+  abbrev by_due : Bool → Keeping
   by_due b = done q (cond b (and_then reports turn (sees q.host) q.policy) (still (sees q.host) q.policy))
 
   -- no report is due
@@ -245,7 +245,7 @@ module _ (m : Keeping) where
           lines = ap (λ (b : Bool). (cond b (and_then reports turn (sees q.host) q.policy) (still (sees q.host) q.policy)).lines) is_due_now ∙ x.lines;
           stands = x.stands;
         }))
-        (λ (broke : IsBroke (after_doing (and_then reports turn) q)). inr (subst IsBroke (sym (ap by_due is_due_now)) broke))
+        (λ (without : LacksCredit (after_doing (and_then reports turn) q)). inr (subst LacksCredit (sym (ap by_due is_due_now)) without))
         is
 
     pub due_wants : (n : NameValue) → MayBeWanted m n → name_in_turn m.host.is.held m.policy.turns ≡ Some n → IsWantedIn n timed m

@@ -36,7 +36,7 @@ use Rattle.wb_kept_progress.proofs.Repairs.{is_itself, of_opening}
 use Rattle.wb_kept_progress.proofs.StillCalls.{came_now}
 use Rattle.wb_kept_progress.proofs.Told.{told_wants}
 use Rattle.wb_kept_progress.proofs.Turning.{answers_at, in_hole, in_map, missing_is_lacked, told_of}
-use Rattle.wb_kept_progress.proofs.WantedIn.{IsAskedInCall, IsBroke}
+use Rattle.wb_kept_progress.proofs.WantedIn.{IsAskedInCall, LacksCredit}
 use Rattle.wb_kept_progress.proofs.WantingCalls.{wanting_in_call}
 use Rattle.wb_kept_progress.proofs.WholeParts.{HeldWasHeld, Holds, IsStill, IsWanting, LackIsWanted}
 
@@ -273,17 +273,20 @@ module _ (was_held : HeldWasHeld) (hosts : ℕ → Opening) (terms : Terms) (tra
           other : kj.host.is.number ≡ k.host.is.number → ⊥
           other e = differ (s.distinct j i (sym (of_opening hosts (lines_of (r.between ++ b.part)) j).number ∙ e ∙ (of_opening hosts (lines_of older) i).number))
 
-          told_so : IsAskedInCall top_name (came h.now _) k ⊎ IsBroke (after_doing (came h.now _) k)
+          report : Datagram
+          report = Session kj.host.is.number r.reporting.moment (page_in_turn kj.host.is.held (told_of kj.policy)) (marks_in_turn kj.host.is.held (told_of kj.policy)) r.reporting.echoes
+
+          told_so : IsAskedInCall top_name (came h.now report) k ⊎ LacksCredit (after_doing (came h.now report) k)
           told_so = told_wants k h.now kj.host.is.number r.reporting.moment (page_in_turn kj.host.is.held (told_of kj.policy)) (marks_in_turn kj.host.is.held (told_of kj.policy)) r.reporting.echoes other top_name
-              (in_names k.host.is.number _ _ page_is among)
+              (in_names k.host.is.number (page_in_turn kj.host.is.held (told_of kj.policy)) (marks_in_turn kj.host.is.held (told_of kj.policy)) page_is among)
               (record { answers_held = answers_at hosts (lines_of older) i; lacks = ap (λ (x : List DrawopValue). holds x top_name) k_held ∙ lacks; room = room_there hosts terms trace s (newest ++ c.0) older h.call i whole live })
 
-          wants : IsAskedInCall top_name (doing_of h.call.at.line) k ⊎ IsBroke (after_doing (doing_of h.call.at.line) k)
-          wants = subst (λ (line : KeptLine). IsAskedInCall top_name (doing_of line) k ⊎ IsBroke (after_doing (doing_of line) k)) (sym h.is) told_so
+          wants : IsAskedInCall top_name (doing_of h.call.at.line) k ⊎ LacksCredit (after_doing (doing_of h.call.at.line) k)
+          wants = subst (λ (line : KeptLine). IsAskedInCall top_name (doing_of line) k ⊎ LacksCredit (after_doing (doing_of line) k)) (sym h.is) told_so
 
           now_is : present (after_doing (doing_of h.call.at.line) k).host ≡ h.call.time + terms.offset i
           now_is =
-              ap (λ (line : KeptLine). present (after_doing (doing_of line) k).host) h.is ∙ came_now h.now _ k
+              ap (λ (line : KeptLine). present (after_doing (doing_of line) k).host) h.is ∙ came_now h.now report k
               ∙ subst (IsTold (h.call.time + terms.offset i)) h.is (told_there hosts terms trace s (newest ++ c.0) older h.call i whole (same_place h.call.at.place i h.place))
 
           behind : from < h.call.time
@@ -333,7 +336,7 @@ module _ (was_held : HeldWasHeld) (hosts : ℕ → Opening) (terms : Terms) (tra
         by_now true e = refl
         by_now false e =
             let before = lacked_until hosts s.opened (newest ++ window) base (settled_by terms) j n (subst AreCalledInOrder split_base s.order) settled e in
-            true≢false (sym has ∙ ap (λ (t : List TimedLine). holds (host_after (λ k. start_of (hosts k)) (until (settled_by terms) (performed hosts t)) j).is.held n) split_base ∙ before)
+            absurd (true≢false (sym has ∙ ap (λ (t : List TimedLine). holds (host_after (λ k. start_of (hosts k)) (until (settled_by terms) (performed hosts t)) j).is.held n) split_base ∙ before))
 
         holds_j : holds (held_by j) n ≡ true
         holds_j = by_now (holds (held_by j) n) refl
@@ -364,6 +367,6 @@ module _ (was_held : HeldWasHeld) (hosts : ℕ → Opening) (terms : Terms) (tra
 
 pub lack_is_wanted : HeldWasHeld → LackIsWanted
 lack_is_wanted was_held hosts terms trace newest window base sizes wait most i from n all still late live held lacks since before_end =
-    lack_is_wanted_here was_held hosts terms trace newest window base sizes all.session all.sizes still (settled terms (called_at base) wait all.session.reported late) from since before_end i live n held lacks where
+    lack_is_wanted_here was_held hosts terms trace newest window base sizes all.session all.within still (settled terms (called_at base) wait all.session.reported late) from since before_end i live n held lacks where
       settled : (terms : Terms) (time wait : ℕ) → 1 ≤ terms.reporting → known_from terms + wait + repairing terms ≤ time → settled_by terms < time
       settled terms time wait some le = omega (arith, some, le)

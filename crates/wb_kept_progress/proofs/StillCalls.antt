@@ -29,7 +29,7 @@ use Rattle.wb_kept_progress.proofs.Performed.{AreNoTicks, Begins, IsNoTick, adds
 use Rattle.wb_kept_progress.proofs.PerLine.{line_moment}
 use Rattle.wb_kept_progress.proofs.Repairs.{came_after, drawop_held}
 use Rattle.wb_kept_progress.proofs.Turning.{answers_on, told_of}
-use Rattle.wb_kept_progress.proofs.WantedIn.{IsAskedIn, IsAskedInCall, IsBroke, IsWantedIn, asked_behind_tick, asked_second}
+use Rattle.wb_kept_progress.proofs.WantedIn.{IsAskedIn, IsAskedInCall, LacksCredit, IsWantedIn, asked_behind_tick, asked_second}
 
 -- ---- the moment of a call
 
@@ -143,7 +143,7 @@ ticked_call now k answers_held =
       sends = λ v c. subst (λ (s : List Datagram). Contains s v) (sym (then_sent first timed k)) (Contains-append_right (sent_by_doing first k) (sent_by_doing timed m) v c);
       wants = λ n is. ⊎_elim
           (λ (a : IsAskedIn n timed m). inl (asked_behind_tick n now timed k a))
-          (λ (broke : IsBroke (after_doing timed m)). inr (subst IsBroke (sym behind) broke))
+          (λ (without : LacksCredit (after_doing timed m)). inr (subst LacksCredit (sym behind) without))
           is;
       policy = same_policy k.policy;
       held = refl;
@@ -167,7 +167,7 @@ came_call now v k answers_held room same =
           (subst (λ (s : List Datagram). Contains s w) (sym (then_sent (hears v) timed t)) (Contains-append_right (sent_by_doing (hears v) t) (sent_by_doing timed m) w c)));
       wants = λ n is. ⊎_elim
           (λ (a : IsAskedIn n timed m). inl (asked_behind_tick n now (and_then (hears v) timed) k (asked_second n (hears v) timed t a)))
-          (λ (broke : IsBroke (after_doing timed m)). inr (subst IsBroke (sym behind) broke))
+          (λ (without : LacksCredit (after_doing timed m)). inr (subst LacksCredit (sym behind) without))
           is;
       policy = hears_leaves v t old;
       held = sym (ap (λ (x : Keeping). x.host.is.held) behind ∙ (lines_rest (timed (sees m.host) m.policy).lines m.host (timed_small (sees m.host) m.policy)).held) ∙ same;

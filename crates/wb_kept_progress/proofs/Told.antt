@@ -16,7 +16,7 @@ use Rattle.wb_keeping.proofs.Performed.{then_after}
 use Rattle.wb_kept_progress.proofs.Going.{measures_small}
 use Rattle.wb_kept_progress.proofs.Lines.{is_false, line_of, lines_of, lines_rest}
 use Rattle.wb_kept_progress.proofs.Turning.{answers_on}
-use Rattle.wb_kept_progress.proofs.WantedIn.{IsAskedIn, IsAskedInCall, IsBroke, IsWantedIn, MayBeWanted, asked_behind_tick, timed_costs, told_is_wanted, wanted_behind, wanted_later}
+use Rattle.wb_kept_progress.proofs.WantedIn.{IsAskedIn, IsAskedInCall, LacksCredit, IsWantedIn, MayBeWanted, asked_behind_tick, timed_costs, told_is_wanted, wanted_behind, wanted_later}
 
 -- what it holds stays, and its cells
 same_may : (n : NameValue) (does : Transition) (k : Keeping) → (after_doing does k).host.is.held ≡ k.host.is.held → MayBeWanted k n → MayBeWanted (after_doing does k) n
@@ -64,7 +64,7 @@ module _ (k : Keeping) (now sender sent : ℕ) (page : PageId) (marks : List Mar
 
   may_two : MayBeWanted two n
   may_two = same_may n second one (lines_rest (second (sees one.host) one.policy).lines one.host (measures_small sender (distance_in now echo) (sees one.host) one.policy)).held
-      (same_may n first t (hearing_holds _ t) (same_may n (performs (Ticks now)) k refl may))
+      (same_may n first t (hearing_holds (Session sender sent page (own_marks k.host.is.number (nat_lt now k.policy.ready) marks) echo) t) (same_may n (performs (Ticks now)) k refl may))
 
   all_heard : IsWantedIn n (and_then first (and_then second third)) t
   all_heard = wanted_later n first (and_then second third) t (wanted_later n second third one (told_is_wanted (told_names k.host.is.number page marks) n two told may_two))
@@ -78,11 +78,11 @@ module _ (k : Keeping) (now sender sent : ℕ) (page : PageId) (marks : List Mar
   heard_so : IsWantedIn n (hears v) t
   heard_so = ⊎_elim
       (λ (a : IsAskedIn n (and_then first (and_then second third)) t). inl (record { before = a.before; later = a.later; lines = ap (λ (b : Bool). (by_sender b).lines) of_another ∙ a.lines; stands = a.stands }))
-      (λ (broke : IsBroke (after_doing (and_then first (and_then second third)) t)). inr (subst IsBroke (sym (ap (λ (b : Bool). done t (by_sender b)) of_another)) broke))
+      (λ (without : LacksCredit (after_doing (and_then first (and_then second third)) t)). inr (subst LacksCredit (sym (ap (λ (b : Bool). done t (by_sender b)) of_another)) without))
       all_heard
 
-  pub told_wants : IsAskedInCall n (came now v) k ⊎ IsBroke (after_doing (came now v) k)
+  pub told_wants : IsAskedInCall n (came now v) k ⊎ LacksCredit (after_doing (came now v) k)
   told_wants = ⊎_elim
       (λ (a : IsAskedIn n (and_then (hears v) timed) t). inl (asked_behind_tick n now (and_then (hears v) timed) k a))
-      (λ (broke : IsBroke (after_doing (and_then (hears v) timed) t)). inr (subst IsBroke (sym (then_after (performs (Ticks now)) (and_then (hears v) timed) k)) broke))
+      (λ (without : LacksCredit (after_doing (and_then (hears v) timed) t)). inr (subst LacksCredit (sym (then_after (performs (Ticks now)) (and_then (hears v) timed) k)) without))
       (wanted_behind n (hears v) timed t (timed_costs (after_doing (hears v) t)) heard_so)

@@ -45,11 +45,11 @@ pub record IsAskedInCall (n : NameValue) (does : Transition) (k : Keeping) : Typ
   pub lines : (does (sees k.host) k.policy).lines ≡ (first ∷ before) ++ later
   pub stands : asks_for n (after_lines (first ∷ before) k.host) ≡ true
 
-abbrev pub IsBroke : Keeping → Type 0
-IsBroke k = has_credit k.policy.owed (present k.host) ≡ false
+abbrev pub LacksCredit : Keeping → Type 0
+LacksCredit k = has_credit k.policy.owed (present k.host) ≡ false
 
 abbrev pub IsWantedIn : NameValue → Transition → Keeping → Type 0
-IsWantedIn n does k = IsAskedIn n does k ⊎ IsBroke (after_doing does k)
+IsWantedIn n does k = IsAskedIn n does k ⊎ LacksCredit (after_doing does k)
 
 module _ (n : NameValue) (first second : Transition) (k : Keeping) where
   abbrev one : Doing
@@ -106,9 +106,9 @@ no_credit_then owed owes now le none = is_false (has_credit owes now) (λ e.
     let few = leb-true (max owes now - now) (63 * cost) e in
     true≢false (sym (le_true (max owed now - now) (63 * cost) (omega (arith, few, le))) ∙ none))
 
-pub stays_broke : (k m : Keeping) → CostsMore k m → IsBroke k → IsBroke m
-stays_broke k m costs broke =
-    no_credit_then k.policy.owed m.policy.owed (present m.host) costs.owed (ap (λ (now : ℕ). has_credit k.policy.owed now) costs.now ∙ broke)
+pub stays_without : (k m : Keeping) → CostsMore k m → LacksCredit k → LacksCredit m
+stays_without k m costs without =
+    no_credit_then k.policy.owed m.policy.owed (present m.host) costs.owed (ap (λ (now : ℕ). has_credit k.policy.owed now) costs.now ∙ without)
 
 pub want_costs : (name : NameValue) (anew : Bool) (k : Keeping) → CostsMore k (after_doing (want name anew) k)
 want_costs name anew k = record { owed = by (is_wanted_here name anew (sees k.host) k.policy); now = (lines_rest (want name anew (sees k.host) k.policy).lines k.host (want_small name anew (sees k.host) k.policy)).now } where
@@ -179,13 +179,13 @@ pub record MayBeWanted (k : Keeping) (n : NameValue) : Type 0 where
 pub wanted_behind : (n : NameValue) (first second : Transition) (k : Keeping) → CostsMore (after_doing first k) (after_doing second (after_doing first k)) → IsWantedIn n first k → IsWantedIn n (and_then first second) k
 wanted_behind n first second k costs is = ⊎_elim
     (λ (a : IsAskedIn n first k). inl (asked_first n first second k a))
-    (λ (broke : IsBroke (after_doing first k)). inr (subst IsBroke (sym (then_after first second k)) (stays_broke (after_doing first k) (after_doing second (after_doing first k)) costs broke)))
+    (λ (without : LacksCredit (after_doing first k)). inr (subst LacksCredit (sym (then_after first second k)) (stays_without (after_doing first k) (after_doing second (after_doing first k)) costs without)))
     is
 
 pub wanted_later : (n : NameValue) (first second : Transition) (k : Keeping) → IsWantedIn n second (after_doing first k) → IsWantedIn n (and_then first second) k
 wanted_later n first second k is = ⊎_elim
     (λ (a : IsAskedIn n second (after_doing first k)). inl (asked_second n first second k a))
-    (λ (broke : IsBroke (after_doing second (after_doing first k))). inr (subst IsBroke (sym (then_after first second k)) broke))
+    (λ (without : LacksCredit (after_doing second (after_doing first k))). inr (subst LacksCredit (sym (then_after first second k)) without))
     is
 
 pub is_wanted_so : (n : NameValue) (k : Keeping) → MayBeWanted k n → IsWantedIn n (want n true) k
@@ -200,7 +200,7 @@ is_wanted_so n k may = by (has_credit k.policy.owed (present k.host)) refl where
     lines = sym (append-nil (want n true (sees k.host) k.policy).lines);
     stands = stands_asked m.host n (wanted_is_asked n true k may.answers_held may.lacks may.room credit);
   })
-  by false none = inr (stays_broke k m (want_costs n true k) none)
+  by false none = inr (stays_without k m (want_costs n true k) none)
 
 -- what is wanted beside it changes nothing of that
 wanted_beside : (name n : NameValue) (k : Keeping) → MayBeWanted k n → MayBeWanted (after_doing (want name true) k) n
@@ -238,14 +238,14 @@ module _ (n : NameValue) (r : Keeping) (may : MayBeWanted r n) where
       let m = with_policy (after_turn h r.policy) r in
       ⊎_elim
       (λ (a : IsAskedIn n (want (name_in r.policy.turns.round h) true) m). inl (record { before = a.before; later = a.later; lines = a.lines; stands = a.stands }))
-      (λ (broke : IsBroke (after_doing (want (name_in r.policy.turns.round h) true) m)). inr broke)
+      (λ (without : LacksCredit (after_doing (want (name_in r.policy.turns.round h) true) m)). inr without)
       (from_turns m (name_in r.policy.turns.round h) refl (some_name (name_in r.policy.turns.round h) n e))
   to_it None (Some h) e =
       let q = in_next_round r.policy in
       let m = with_policy (after_turn h q) r in
       ⊎_elim
       (λ (a : IsAskedIn n (want (name_in q.turns.round h) true) m). inl (record { before = a.before; later = a.later; lines = a.lines; stands = a.stands }))
-      (λ (broke : IsBroke (after_doing (want (name_in q.turns.round h) true) m)). inr broke)
+      (λ (without : LacksCredit (after_doing (want (name_in q.turns.round h) true) m)). inr without)
       (from_turns m (name_in q.turns.round h) refl (some_name (name_in q.turns.round h) n e))
   to_it None None e = absurd (none_some n e) where
     none_some : (n : NameValue) → None ≡ Some n → ⊥
@@ -258,5 +258,5 @@ module _ (n : NameValue) (r : Keeping) (may : MayBeWanted r n) where
       let first = hole_after r.host.is.held nowhere 0 0 in
       ⊎_elim
       (λ (a : IsAskedIn n (turn_to next first) r). inl (record { before = a.before; later = a.later; lines = a.lines; stands = a.stands }))
-      (λ (broke : IsBroke (after_doing (turn_to next first) r)). inr broke)
+      (λ (without : LacksCredit (after_doing (turn_to next first) r)). inr without)
       (to_it next first e)

@@ -17,7 +17,7 @@ use Rattle.wb_kept_progress.proofs.CallParts.{host_is}
 use Rattle.wb_kept_progress.proofs.KeptInTime.{front_of, then_both, then_front, then_time}
 use Rattle.wb_kept_progress.proofs.NextReports.{there_here}
 use Rattle.wb_kept_progress.proofs.Performed.{after_all}
-use Rattle.wb_kept_progress.proofs.WantedIn.{IsAskedInCall, IsBroke}
+use Rattle.wb_kept_progress.proofs.WantedIn.{IsAskedInCall, LacksCredit}
 use Rattle.wb_kept_progress.proofs.WholeParts.{HasNoCredit, IsAsking, IsWanting, does, timer_then}
 
 some_timer : (o : Option AskTimer) → is_some o ≡ true → (a : AskTimer) × (o ≡ Some a)
@@ -67,7 +67,7 @@ module _ (hosts : ℕ → Opening) (terms : Terms) (trace : List TimedLine) (ope
   -- so a name that is wanted in a call is asked for, or there is no credit
   pub wanting_in_call : (window base front grown older : List TimedLine) (e : TimedLine) (from by : ℕ) → window ≡ front ++ e ∷ grown → older ≡ grown ++ base → nat_eq e.at.place i ≡ true
       → present (after_doing (doing_of e.at.line) (there hosts older i)).host ≡ e.time + terms.offset i
-      → IsAskedInCall n (doing_of e.at.line) (there hosts older i) ⊎ IsBroke (after_doing (doing_of e.at.line) (there hosts older i)) → from < e.time → e.time ≤ by → IsWanting hosts terms trace window base i from by
+      → IsAskedInCall n (doing_of e.at.line) (there hosts older i) ⊎ LacksCredit (after_doing (doing_of e.at.line) (there hosts older i)) → from < e.time → e.time ≤ by → IsWanting hosts terms trace window base i from by
   wanting_in_call window base front grown older e from by split is same now wants behind soon = record {
     front = front;
     part = e ∷ grown;
@@ -76,9 +76,9 @@ module _ (hosts : ℕ → Opening) (terms : Terms) (trace : List TimedLine) (ope
     soon = soon;
     wants = ⊎_elim
         (λ (a : IsAskedInCall n (doing_of e.at.line) (there hosts older i)). inl (asking_in_call window base front grown e split same (subst (λ (t : List TimedLine). IsAskedInCall n (doing_of e.at.line) (there hosts t i)) is a)))
-        (λ (broke : IsBroke (after_doing (doing_of e.at.line) (there hosts older i))). inr (subst (λ (t : List TimedLine). HasNoCredit hosts terms (e ∷ t) i) is (
+        (λ (without : LacksCredit (after_doing (doing_of e.at.line) (there hosts older i))). inr (subst (λ (t : List TimedLine). HasNoCredit hosts terms (e ∷ t) i) is (
           ap (λ (x : Keeping). present x.host) (there_here hosts e older i same) ∙ now,
-          ap (λ (x : Keeping). has_credit x.policy.owed (present x.host)) (there_here hosts e older i same) ∙ broke,
+          ap (λ (x : Keeping). has_credit x.policy.owed (present x.host)) (there_here hosts e older i same) ∙ without,
         )))
         wants;
   }
