@@ -1,15 +1,13 @@
 -- Behind a line by which a host asks for a name its timer stands.
 use Rattle.std.proofs.Common.{◌≡◌, ℕ, Bool, true, false, cond, List, [], ◌∷◌, ◌++◌, ◌∙◌, Option, Some, None, ap, append_assoc, map, refl, subst, sym, ⊎_elim}
-use Rattle.std.specs.Prelude.{◌⊎◌, ◌&&◌, Contains, length, nat_eq, nat_le, not, take}
+use Rattle.std.specs.Prelude.{Contains, length, nat_eq, nat_le, not, take}
 use Rattle.std.proofs.lemmas.Bool.{and_parts}
 use Rattle.std.proofs.lemmas.List.Elements.{Contains-append_cases}
-use Rattle.wb_names.specs.Values.{DrawopValue, NameValue}
+use Rattle.wb_names.specs.Values.{NameValue}
 use Rattle.wb_names.specs.declared.name.PageId.{PageId}
 use Rattle.wb_names.proofs.Listings.{Contains-cases, Contains-none}
-use Rattle.wb_codec.specs.declared.datagram.Datagram.{Datagram}
 use Rattle.wb_gaps.specs.Answers.{pages_of}
 use Rattle.wb_member.specs.Opened.{Opened, asks_for}
-use Rattle.wb_keeping.specs.Credit.{has_credit}
 use Rattle.wb_keeping.specs.Fairness.{AnswersWhatIsHeld}
 use Rattle.wb_keeping.specs.Kept.{Arrives, Asks, Doing, Hears, Line, Says, SetsDistance, Stops, Ticks, Tunes, room_lines, state_of, still, stops_oldest, usual_lines, want}
 use Rattle.wb_keeping.specs.Laws.{KeptLine, doing_of, fault_of}
@@ -134,7 +132,8 @@ wants_stand name anew k = record { at = refl; stand = λ answers_held n c. by an
   flipped true e = sym e
   flipped false e = refl
 
-  asked : AnswersWhatIsHeld k.host → is_wanted (holds v name) (is_full v) anew (level v name) k.policy.owed v.now ≡ true → asks_for name (after_lines (first ++ (usual ++ Asks name ∷ [])) k.host) ≡ true
+  asked : AnswersWhatIsHeld k.host → is_wanted (holds v name) (is_full v) anew (level v name) k.policy.owed v.now ≡ true
+      → asks_for name (after_lines (first ++ (usual ++ Asks name ∷ [])) k.host) ≡ true
   asked answers_held e =
       let one = and_parts (not (holds v name)) _ e in
       let two = and_parts (not (is_full v)) _ one.1 in
@@ -142,7 +141,8 @@ wants_stand name anew k = record { at = refl; stand = λ answers_held n c. by an
       ap (λ (d : Doing). asks_for name (after_lines d.lines k.host)) (sym (is_asked_for name anew (sees k.host) k.policy e))
       ∙ stands_asked (after_doing (want name anew) k).host name (wanted_is_asked name anew k answers_held (flipped (holds v name) one.0) (flipped (is_full v) two.0) three.1)
 
-  by : AnswersWhatIsHeld k.host → (n : NameValue) (b : Bool) → is_wanted (holds v name) (is_full v) anew (level v name) k.policy.owed v.now ≡ b → Contains (so b).lines (Asks n) → Stands (so b).lines k.host n
+  by : AnswersWhatIsHeld k.host → (n : NameValue) (b : Bool) → is_wanted (holds v name) (is_full v) anew (level v name) k.policy.owed v.now ≡ b
+      → Contains (so b).lines (Asks n) → Stands (so b).lines k.host n
   by answers_held n false e c = absurd (Contains-none (Asks n) c)
   by answers_held n true e c = subst (Stands (first ++ (usual ++ Asks name ∷ [])) k.host) (only n c) (record {
     before = first ++ usual;
@@ -177,10 +177,12 @@ steps_stand = record {
 
 in_call : (n : NameValue) (line : KeptLine) (k : Keeping) → Stands (doing_of line (sees k.host) k.policy).lines k.host n → IsAskedInCall n (doing_of line) k
 in_call n line k s = by s.before s.split s.stands where
-  by : (before : List Line) → (doing_of line (sees k.host) k.policy).lines ≡ before ++ Asks n ∷ s.later → asks_for n (after_lines (before ++ Asks n ∷ []) k.host) ≡ true → IsAskedInCall n (doing_of line) k
+  by : (before : List Line) → (doing_of line (sees k.host) k.policy).lines ≡ before ++ Asks n ∷ s.later
+      → asks_for n (after_lines (before ++ Asks n ∷ []) k.host) ≡ true → IsAskedInCall n (doing_of line) k
   by [] split stands = record { first = Asks n; before = []; later = s.later; lines = split; stands = stands }
   by (x ∷ before) split stands = record { first = x; before = before ++ Asks n ∷ []; later = s.later; lines = split ∙ ap (λ (ls : List Line). x ∷ ls) (sym (append_assoc before (Asks n ∷ []) s.later)); stands = stands }
 
 -- what a call asks for has its timer behind that
-pub asks_stand : (line : KeptLine) (k : Keeping) (n : NameValue) → fault_of line k ≡ None → AnswersWhatIsHeld k.host → Contains (doing_of line (sees k.host) k.policy).lines (Asks n) → IsAskedInCall n (doing_of line) k
+pub asks_stand : (line : KeptLine) (k : Keeping) (n : NameValue) → fault_of line k ≡ None → AnswersWhatIsHeld k.host
+    → Contains (doing_of line (sees k.host) k.policy).lines (Asks n) → IsAskedInCall n (doing_of line) k
 asks_stand line k n none answers_held c = in_call n line k ((line_holds AsksStand steps_stand line k none).stand answers_held n c)

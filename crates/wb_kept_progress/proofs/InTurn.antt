@@ -1,6 +1,6 @@
 -- A call of a host whose board stays as it is: where no report is due, turns and tellings stay; where one is, it is made, and a name has its turn.
-use Rattle.std.proofs.Common.{◌≡◌, ℕ, ◌+◌, ◌*◌, ◌/◌, ◌<◌, ◌≤◌, Bool, true, false, cond, List, [], ◌∷◌, ◌++◌, ◌∙◌, Option, Some, None, ap, arith, inl, inr, length, refl, subst, sym, true≢false, ⊎_elim}
-use Rattle.std.specs.Prelude.{◌⊎◌, ◌||◌, ◌%◌, Contains, max, min, nat_eq, nat_le, nat_lt}
+use Rattle.std.proofs.Common.{◌≡◌, ℕ, ◌+◌, ◌/◌, ◌<◌, ◌≤◌, Bool, true, false, cond, List, [], ◌∷◌, ◌∙◌, Option, Some, ap, arith, inl, inr, length, refl, subst, sym, true≢false, ⊎_elim}
+use Rattle.std.specs.Prelude.{◌⊎◌, Contains, max, min, nat_le}
 use Rattle.std.proofs.lemmas.Bool.Decides.{leb_tells}
 use Rattle.std.proofs.lemmas.List.Elements.{Contains-append_left, Contains-append_right}
 use Rattle.wb_names.specs.Values.{DrawopValue, MarkValue, NameValue}
@@ -8,19 +8,16 @@ use Rattle.wb_names.specs.declared.echo.Echo.{Echo}
 use Rattle.wb_names.specs.declared.name.PageId.{PageId}
 use Rattle.wb_names.proofs.Listings.{Contains-here}
 use Rattle.wb_codec.specs.declared.datagram.Datagram.{Datagram}
-use Rattle.wb_codec.specs.declared.datagram.Datagram.TheVariants.{Draw, Session, Request, AskPages, PageState}
+use Rattle.wb_codec.specs.declared.datagram.Datagram.TheVariants.{Session}
 use Rattle.wb_gaps.specs.Answers.{report_of}
 use Rattle.wb_host.specs.Keeper.{holds}
 use Rattle.wb_member.specs.Judged.{is_full}
 use Rattle.wb_member.specs.Opened.{present}
 use Rattle.wb_keeping.specs.Fairness.{AnswersWhatIsHeld, Told, after_telling, after_turn, marks_in_turn, name_in_turn, page_in_turn}
-use Rattle.wb_keeping.specs.Kept.{Doing, Line, Ticks, Transition, and_then, answers, asks_pages, last_heard, performs, reports, reports_due, reports_rest, still, timed, turn}
+use Rattle.wb_keeping.specs.Kept.{Doing, Line, Transition, and_then, answers, asks_pages, last_heard, reports, reports_due, reports_rest, still, timed, turn}
 use Rattle.wb_keeping.specs.Performing.{Keeping, after_doing, after_lines, sees, sent_by_doing, sent_by_lines, view_of}
 use Rattle.wb_keeping.specs.Policy.{Policy, View}
 use Rattle.wb_keeping.specs.Reports.{next_report, slice_after}
-use Rattle.wb_keeping.specs.Words.{word_of}
-use Rattle.wb_keeping.specs.declared.turns.Turns.{Turns}
-use Rattle.wb_keeping.proofs.EachStep.{having}
 use Rattle.wb_keeping.proofs.FairTurns.{turns_are_taken}
 use Rattle.wb_keeping.proofs.Performed.{then_after, then_sent}
 use Rattle.wb_keeping.proofs.ToldMarks.{reports_tell}
@@ -73,7 +70,8 @@ pub record IsReporting (does : Transition) (k : Keeping) (now : ℕ) : Type 0 wh
   pub moment : ℕ
   pub echoes : List Echo
   pub sends : Contains (sent_by_doing does k) (Session k.host.is.number moment (page_in_turn k.host.is.held (told_of k.policy)) (marks_in_turn k.host.is.held (told_of k.policy)) echoes)
-  pub wants : (n : NameValue) → holds k.host.is.held n ≡ false → is_full k.host ≡ false → name_in_turn k.host.is.held k.policy.turns ≡ Some n → IsAskedInCall n does k ⊎ LacksCredit (after_doing does k)
+  pub wants : (n : NameValue) → holds k.host.is.held n ≡ false → is_full k.host ≡ false → name_in_turn k.host.is.held k.policy.turns ≡ Some n
+      → IsAskedInCall n does k ⊎ LacksCredit (after_doing does k)
 
 -- ---- a report comes a second later at least
 

@@ -1,10 +1,9 @@
 -- What a live host lacks is wanted in time: the greatest number of its source is told to it, or its hole has its turn.
-use Rattle.std.proofs.Common.{◌≡◌, ℕ, zero, suc, ◌+◌, ◌-◌, ◌*◌, ◌^◌, ◌<◌, ◌≤◌, Bool, true, false, List, [], ◌∷◌, ◌++◌, ◌∙◌, Option, Some, ap, append_assoc, arith, eqb-true, inl, inr, length, map, max, mul-le-mul, refl, subst, sym, true≢false, ⊎_elim}
-use Rattle.std.specs.Prelude.{◌≢◌, ◌⊎◌, ◌&&◌, Contains, filter, nat_eq, nat_le, not}
+use Rattle.std.proofs.Common.{◌≡◌, ℕ, suc, ◌+◌, ◌-◌, ◌*◌, ◌^◌, ◌<◌, ◌≤◌, Bool, true, false, List, [], ◌∷◌, ◌++◌, ◌∙◌, Some, ap, append_assoc, arith, eqb-true, length, mul-le-mul, refl, subst, sym, true≢false}
+use Rattle.std.specs.Prelude.{◌⊎◌, ◌&&◌, Contains, filter, nat_eq, nat_le, not}
 use Rattle.std.proofs.lemmas.Bool.{leb-true}
 use Rattle.wb_names.specs.History.{IsHeld, highest, name_of}
 use Rattle.wb_names.specs.Values.{DrawopValue, MarkValue, NameValue}
-use Rattle.wb_names.specs.declared.echo.Echo.{Echo}
 use Rattle.wb_names.specs.declared.name.PageId.{PageId}
 use Rattle.wb_names.proofs.Listings.{Contains-filter}
 use Rattle.wb_codec.specs.declared.datagram.Datagram.{Datagram}
@@ -12,33 +11,32 @@ use Rattle.wb_codec.specs.declared.datagram.Datagram.TheVariants.{Session}
 use Rattle.wb_gaps.specs.Answers.{top_mark}
 use Rattle.wb_gaps.specs.Gaps.{IsMissing}
 use Rattle.wb_gaps.specs.Holes.{hole_on, holes_of}
-use Rattle.wb_gaps.specs.declared.holes.Hole.{Hole}
 use Rattle.wb_gaps.proofs.HeldNames.{held-by, held-from}
 use Rattle.wb_host.specs.Keeper.{holds}
 use Rattle.wb_progress.specs.InTime.{known_from, repairing}
 use Rattle.wb_progress.specs.Turns.{Terms, settled_by}
-use Rattle.wb_member.specs.Opened.{Opened, present}
+use Rattle.wb_member.specs.Opened.{present}
 use Rattle.wb_keeping.specs.Fairness.{Told, after_tellings, after_turns, marks_in_turn, name_in_turn, page_in_turn, slices_of, slices_on}
 use Rattle.wb_keeping.specs.Kept.{came, told_names}
-use Rattle.wb_keeping.specs.Laws.{Came, KeptLine, doing_of}
+use Rattle.wb_keeping.specs.Laws.{KeptLine, doing_of}
 use Rattle.wb_keeping.specs.Performing.{Keeping, after_doing, sent_by_doing}
+use Rattle.wb_keeping.specs.Policy.{Policy}
 use Rattle.wb_keeping.proofs.FairTurns.{each_number_has_its_turn}
 use Rattle.wb_keeping.proofs.ToldMarks.{each_mark_is_told}
 use Rattle.wb_kept_progress.specs.Sessions.{Opening}
 use Rattle.wb_kept_progress.specs.Timed.{IsTold, TimedLine, called_at, host_after, lines_of, performed, start_of, until}
-use Rattle.wb_kept_progress.specs.Whole.{AreCalledInOrder, AreWithin, IsHandedIn, IsHeldBySome, IsTimelySession, Sizes, report_span, sends_then, there}
-use Rattle.wb_kept_progress.proofs.CallParts.{calls_end, calls_order, lacked_until}
+use Rattle.wb_kept_progress.specs.Whole.{AreCalledInOrder, AreWithin, IsHandedIn, IsHeldBySome, IsTimelySession, Sizes, report_span, there}
+use Rattle.wb_kept_progress.proofs.CallParts.{calls_end, lacked_until}
 use Rattle.wb_kept_progress.proofs.Coming.{below_top, missing_below, page_there, top_held, top_told}
-use Rattle.wb_kept_progress.proofs.InTurn.{IsReporting}
 use Rattle.wb_kept_progress.proofs.Lines.{is_false}
-use Rattle.wb_kept_progress.proofs.NextReports.{IsBehind, Reports, first, is_behind, ordered, report_behind, room_there, start, still_older, told_there}
+use Rattle.wb_kept_progress.proofs.NextReports.{IsBehind, IsCut, Reports, first, is_behind, ordered, report_behind, room_there, start, still_older, told_there}
 use Rattle.wb_kept_progress.proofs.Repairs.{is_itself, of_opening}
 use Rattle.wb_kept_progress.proofs.StillCalls.{came_now}
 use Rattle.wb_kept_progress.proofs.Told.{told_wants}
-use Rattle.wb_kept_progress.proofs.Turning.{answers_at, in_hole, in_map, missing_is_lacked, told_of}
+use Rattle.wb_kept_progress.proofs.Turning.{answers_at, in_hole, in_map, told_of}
 use Rattle.wb_kept_progress.proofs.WantedIn.{IsAskedInCall, LacksCredit}
 use Rattle.wb_kept_progress.proofs.WantingCalls.{wanting_in_call}
-use Rattle.wb_kept_progress.proofs.WholeParts.{HeldWasHeld, Holds, IsStill, IsWanting, LackIsWanted}
+use Rattle.wb_kept_progress.proofs.WholeParts.{HeldWasHeld, IsStill, IsWanting, LackIsWanted}
 
 -- ---- spans
 
@@ -55,7 +53,8 @@ more_turns numbers most holes all a b =
 -- ---- a call within a window
 
 -- a call that comes before the end of a window comes in it
-within : (newest front later between rest : List TimedLine) (call : TimedLine) → AreCalledInOrder (newest ++ (front ++ rest)) → newest ++ front ≡ later ++ call ∷ between → call.time < called_at (front ++ rest) → (c : List TimedLine) × (front ≡ c ++ call ∷ between)
+within : (newest front later between rest : List TimedLine) (call : TimedLine) → AreCalledInOrder (newest ++ (front ++ rest))
+    → newest ++ front ≡ later ++ call ∷ between → call.time < called_at (front ++ rest) → (c : List TimedLine) × (front ≡ c ++ call ∷ between)
 within [] front later between rest call order split lt = (later, split)
 within (x ∷ newest) front [] between rest call order split lt =
     let same : x ≡ call = cc in
@@ -66,7 +65,8 @@ within (x ∷ newest) front (y ∷ later) between rest call order split lt = wit
   tail : (x y : TimedLine) (a b : List TimedLine) → x ∷ a ≡ y ∷ b → a ≡ b
   tail x y a b e = cc
 
-module _ (was_held : HeldWasHeld) (hosts : ℕ → Opening) (terms : Terms) (trace newest window base : List TimedLine) (sizes : Sizes) (s : IsTimelySession hosts terms trace) (small : AreWithin hosts terms trace sizes) (still : IsStill hosts terms trace newest window base)
+module _ (was_held : HeldWasHeld) (hosts : ℕ → Opening) (terms : Terms) (trace newest window base : List TimedLine) (sizes : Sizes)
+    (s : IsTimelySession hosts terms trace) (small : AreWithin hosts terms trace sizes) (still : IsStill hosts terms trace newest window base)
     (settled : settled_by terms < called_at base) (from : ℕ) (since : called_at base ≤ from) where
   abbrev span : ℕ
   span = report_span terms
@@ -83,8 +83,34 @@ module _ (was_held : HeldWasHeld) (hosts : ℕ → Opening) (terms : Terms) (tra
   abbrev held_by : ℕ → List DrawopValue
   held_by j = (there hosts base j).host.is.held
 
+  -- the calls of the window behind its first moment, and the policy of a host there
+  abbrev cut_at : (k : ℕ) → Contains terms.live k → IsCut window base from
+  cut_at k live = start hosts terms trace newest window base s still quiet k live from since
+
+  abbrev policy_at : (k : ℕ) → Contains terms.live k → Policy
+  policy_at k live = first hosts terms trace newest window base s still quiet k live from since
+
+  -- a part behind so many of its reports, and the next report
+  abbrev BehindAt : (k : ℕ) → Contains terms.live k → ℕ → Type 0
+  BehindAt k live count = IsBehind hosts terms trace newest window base s still quiet k live from since count
+
+  behind_at : (k : ℕ) (live : Contains terms.live k) (count : ℕ) → from + count * span < called_at (window ++ base) → BehindAt k live count
+  behind_at k live count lt = is_behind hosts terms trace newest window base s still quiet k live from since count lt
+
+  report_at : (k : ℕ) (live : Contains terms.live k) (count : ℕ) (b : BehindAt k live count) → from + suc count * span < called_at (window ++ base)
+      → (r : Reports hosts terms trace s k live b.front b.part) × (r.e.time ≤ from + suc count * span)
+  report_at k live count b lt = report_behind hosts terms trace newest window base s still quiet k live from since count b lt
+
+  abbrev WantedBy : ℕ → Type 0
+  WantedBy i = IsWanting hosts terms trace window base i from by
+
   split_base : trace ≡ (newest ++ window) ++ base
   split_base = still.split ∙ sym (append_assoc newest window base)
+
+  cut_split : (c : IsCut window base from) → trace ≡ (newest ++ c.front) ++ (c.grown ++ base)
+  cut_split c =
+      still.split ∙ ap (λ (t : List TimedLine). newest ++ (t ++ base)) c.split
+      ∙ ap (λ (t : List TimedLine). newest ++ t) (append_assoc c.front c.grown base) ∙ sym (append_assoc newest c.front (c.grown ++ base))
 
   module _ (before_end : by < called_at (window ++ base)) (i : ℕ) (live : Contains terms.live i) where
     -- so many reports come before the end
@@ -96,25 +122,24 @@ module _ (was_held : HeldWasHeld) (hosts : ℕ → Opening) (terms : Terms) (tra
 
     -- ---- the turn of a number that is missing
 
-    by_turn : (n : NameValue) → IsHeldBySome hosts terms trace n → holds (held_by i) n ≡ false → IsMissing (held_by i) n.page [] n.source n.seq → IsWanting hosts terms trace window base i from by
+    by_turn : (n : NameValue) → IsHeldBySome hosts terms trace n → holds (held_by i) n ≡ false → IsMissing (held_by i) n.page [] n.source n.seq
+        → WantedBy i
     by_turn n held lacks missing =
-        let p = first hosts terms trace newest window base s still quiet i live from since in
-        let st = start hosts terms trace newest window base s still quiet i live from since in
+        let p = policy_at i live in
+        let st = cut_at i live in
         let h = in_hole (held_by i) n missing in
         let hole = hole_on n.page h.gap in
         let first_number = h.first in
         let last_number = h.last in
         let numbers = small.numbers (newest ++ window) base i hole split_base live h.there in
         let holes = small.holes (newest ++ window) base i split_base live in
-        let cut_split : trace ≡ (newest ++ st.front) ++ (st.grown ++ base) =
-        still.split ∙ ap (λ (t : List TimedLine). newest ++ (t ++ base)) st.split ∙ ap (λ (t : List TimedLine). newest ++ t) (append_assoc st.front st.grown base) ∙ sym (append_assoc newest st.front (st.grown ++ base)) in
-        let rounds = small.rounds (newest ++ st.front) (st.grown ++ base) i cut_split live in
+        let rounds = small.rounds (newest ++ st.front) (st.grown ++ base) i (cut_split st) live in
         let turn = each_number_has_its_turn (held_by i) p.turns hole n.seq h.there first_number last_number (few_rounds p.turns.round (h.gap.last + 1 - h.gap.first) sizes.numbers numbers rounds) in
         let count = turn.0 in
         let less = turn.1 in
         let most = more_turns (h.gap.last + 1 - h.gap.first) sizes.numbers (length (holes_of (held_by i))) sizes.holes numbers holes in
         let fits : suc count ≤ turns_most = under count (2 * (h.gap.last + 1 - h.gap.first) * length (holes_of (held_by i))) (2 * sizes.numbers * sizes.holes) sizes.slices less most in
-        let b = is_behind hosts terms trace newest window base s still quiet i live from since count (in_time_at_least count fits) in
+        let b = behind_at i live count (in_time_at_least count fits) in
         let n_is = turn.2 ∙ ap (λ (source : ℕ). Some (name_of n.page source n.seq)) h.source in
         at_report n held lacks count fits b n_is where
           few_rounds : (round numbers most : ℕ) → numbers ≤ most → round + 2 * most < 2 ^ 32 → round + 2 * numbers < 2 ^ 32
@@ -123,10 +148,11 @@ module _ (was_held : HeldWasHeld) (hosts : ℕ → Opening) (terms : Terms) (tra
           under : (count a b slices : ℕ) → count < a → a ≤ b → suc count ≤ slices + b
           under count a b slices lt le = omega (arith, lt, le)
 
-          at_report : (n : NameValue) → IsHeldBySome hosts terms trace n → holds (held_by i) n ≡ false → (count : ℕ) → suc count ≤ turns_most → (b : IsBehind hosts terms trace newest window base s still quiet i live from since count)
-              → name_in_turn (held_by i) (after_turns (held_by i) count (first hosts terms trace newest window base s still quiet i live from since).turns) ≡ Some n → IsWanting hosts terms trace window base i from by
+          at_report : (n : NameValue) → IsHeldBySome hosts terms trace n → holds (held_by i) n ≡ false → (count : ℕ) → suc count ≤ turns_most
+              → (b : BehindAt i live count)
+              → name_in_turn (held_by i) (after_turns (held_by i) count (policy_at i live).turns) ≡ Some n → WantedBy i
           at_report n held lacks count fits b n_is =
-              let found = report_behind hosts terms trace newest window base s still quiet i live from since count b (in_time count fits) in
+              let found = report_at i live count b (in_time count fits) in
               let r = found.0 in
               let soon = found.1 in
               let older = r.between ++ b.part in
@@ -144,7 +170,8 @@ module _ (was_held : HeldWasHeld) (hosts : ℕ → Opening) (terms : Terms) (tra
 
     -- ---- the greatest number of a source is told
 
-    module _ (j : ℕ) (live_j : Contains terms.live j) (differ : j ≡ i → ⊥) (d : DrawopValue) (there_d : Contains (held_by j) d) (counted : 1 ≤ d.name.seq) (top_small : highest d.name.page d.name.source (held_by j) < 2147483648) where
+    module _ (j : ℕ) (live_j : Contains terms.live j) (differ : j ≡ i → ⊥) (d : DrawopValue) (there_d : Contains (held_by j) d) (counted : 1 ≤ d.name.seq)
+        (top_small : highest d.name.page d.name.source (held_by j) < 2147483648) where
       abbrev page : PageId
       page = d.name.page
 
@@ -158,7 +185,7 @@ module _ (was_held : HeldWasHeld) (hosts : ℕ → Opening) (terms : Terms) (tra
       mark = top_mark (held_by j) page d.name.source
 
       abbrev u : Told
-      u = told_of (first hosts terms trace newest window base s still quiet j live_j from since)
+      u = told_of (policy_at j live_j)
 
       -- among names that are told
       in_names : (me : ℕ) (told : PageId) (marks : List MarkValue) → told ≡ page → Contains marks mark → Contains (told_names me told marks) top_name
@@ -187,12 +214,10 @@ module _ (was_held : HeldWasHeld) (hosts : ℕ → Opening) (terms : Terms) (tra
 
       told_at : (count : ℕ) × IsToldAt count
       told_at =
-          let st = start hosts terms trace newest window base s still quiet j live_j from since in
-          let cut_split : trace ≡ (newest ++ st.front) ++ (st.grown ++ base) =
-          still.split ∙ ap (λ (t : List TimedLine). newest ++ (t ++ base)) st.split ∙ ap (λ (t : List TimedLine). newest ++ t) (append_assoc st.front st.grown base) ∙ sym (append_assoc newest st.front (st.grown ++ base)) in
+          let st = cut_at j live_j in
           let same = still.same st.front st.grown j st.split live_j in
           let slices : slices_of (held_by j) + slices_on (held_by j) u.page ≤ sizes.slices =
-          subst (λ (h : List DrawopValue). slices_of h + slices_on h u.page ≤ sizes.slices) same (small.slices (newest ++ st.front) (st.grown ++ base) j cut_split live_j) in
+          subst (λ (h : List DrawopValue). slices_of h + slices_on h u.page ≤ sizes.slices) same (small.slices (newest ++ st.front) (st.grown ++ base) j (cut_split st) live_j) in
           let t = each_mark_is_told (held_by j) u page mark (page_there (held_by j) d there_d counted) (top_told (held_by j) d there_d counted) in
           let less = t.1 in
           (t.0, record { fits = under t.0 (slices_of (held_by j) + slices_on (held_by j) u.page) sizes.slices (2 * sizes.numbers * sizes.holes) less slices; page_is = t.2; among = t.3 }) where
@@ -201,9 +226,11 @@ module _ (was_held : HeldWasHeld) (hosts : ℕ → Opening) (terms : Terms) (tra
 
       module _ (lacks : holds (held_by i) top_name ≡ false) (held : IsHeldBySome hosts terms trace top_name) where
         -- the report of it is handed in, and then it is wanted
-        handed_in : (count : ℕ) → IsToldAt count → (b : IsBehind hosts terms trace newest window base s still quiet j live_j from since count) (r : Reports hosts terms trace s j live_j b.front b.part) → r.e.time ≤ from + suc count * span
+        handed_in : (count : ℕ) → IsToldAt count
+            → (b : BehindAt j live_j count) (r : Reports hosts terms trace s j live_j b.front b.part)
+            → r.e.time ≤ from + suc count * span
             → (h : IsHandedIn (newest ++ r.later) i (r.e.time + terms.delivery) (Session (there hosts (r.between ++ b.part) j).host.is.number r.reporting.moment (page_in_turn (there hosts (r.between ++ b.part) j).host.is.held (told_of (there hosts (r.between ++ b.part) j).policy)) (marks_in_turn (there hosts (r.between ++ b.part) j).host.is.held (told_of (there hosts (r.between ++ b.part) j).policy)) r.reporting.echoes))
-            → IsWanting hosts terms trace window base i from by
+            → WantedBy i
         handed_in count t b r soon h = wanting_in_call hosts terms trace s.opened i top_name held window base c.0 (h.between ++ r.e ∷ (r.between ++ b.grown)) older h.call from by split_w is_w (same_place h.call.at.place i h.place) now_is wants behind in_by where
           more : List TimedLine
           more = r.e ∷ r.between
@@ -295,14 +322,16 @@ module _ (was_held : HeldWasHeld) (hosts : ℕ → Opening) (terms : Terms) (tra
               let end = calls_end (h.call ∷ h.between) part (ordered hosts terms trace s (newest ++ c.0) (h.call ∷ older) whole) in
               omega (arith, first, end)
 
-        by_report : IsWanting hosts terms trace window base i from by
+        by_report : WantedBy i
         by_report =
             let t = told_at in
             let count = t.0 in
-            let b = is_behind hosts terms trace newest window base s still quiet j live_j from since count (in_time_at_least count t.1.fits) in
-            let found = report_behind hosts terms trace newest window base s still quiet j live_j from since count b (in_time count t.1.fits) in
+            let b = behind_at j live_j count (in_time_at_least count t.1.fits) in
+            let found = report_at j live_j count b (in_time count t.1.fits) in
             told_by count t.1 b found.0 found.1 where
-              told_by : (count : ℕ) → IsToldAt count → (b : IsBehind hosts terms trace newest window base s still quiet j live_j from since count) (r : Reports hosts terms trace s j live_j b.front b.part) → r.e.time ≤ from + suc count * span → IsWanting hosts terms trace window base i from by
+              told_by : (count : ℕ) → IsToldAt count
+                  → (b : BehindAt j live_j count) (r : Reports hosts terms trace s j live_j b.front b.part)
+                  → r.e.time ≤ from + suc count * span → WantedBy i
               told_by count t b r soon =
                   let older = r.between ++ b.part in
                   let st_all : IsStill hosts terms trace newest (r.later ++ r.e ∷ r.between) b.part = subst (λ (t : List TimedLine). IsStill hosts terms trace newest t b.part) r.split b.still_here in
@@ -317,20 +346,22 @@ module _ (was_held : HeldWasHeld) (hosts : ℕ → Opening) (terms : Terms) (tra
                   handed_in count t b r soon (s.delivered (newest ++ r.later) older r.e i _ whole live (λ same. differ (sym at_j ∙ same)) (omega (arith, q, first, since)) sent (omega (arith, soon, m, end, last, before_end)))
 
       -- which of both
-      top_or_turn : (is_lacked : holds (held_by i) d.name ≡ false) → IsHeldBySome hosts terms trace d.name → IsWanting hosts terms trace window base i from by
+      top_or_turn : (is_lacked : holds (held_by i) d.name ≡ false) → IsHeldBySome hosts terms trace d.name → WantedBy i
       top_or_turn is_lacked held = by_top (holds (held_by i) top_name) refl where
         at_top : IsHeld (held_by j) page d.name.source top
         at_top = top_held (held_by j) d there_d counted
 
-        by_top : (b : Bool) → holds (held_by i) top_name ≡ b → IsWanting hosts terms trace window base i from by
+        by_top : (b : Bool) → holds (held_by i) top_name ≡ b → WantedBy i
         by_top true has = by_turn d.name held is_lacked (missing_below (held_by i) d.name top counted (below_top (held_by j) d there_d counted) is_lacked (held-by (held_by i) page d.name.source top has))
         by_top false lacks = by_report lacks (was_held hosts terms trace (newest ++ window) base j top_name s split_base live_j (held-from (held_by j) page d.name.source top at_top))
 
     -- ---- any name
 
-    lack_is_wanted_here : (n : NameValue) → IsHeldBySome hosts terms trace n → holds (held_by i) n ≡ false → IsWanting hosts terms trace window base i from by
+    lack_is_wanted_here : (n : NameValue) → IsHeldBySome hosts terms trace n → holds (held_by i) n ≡ false → WantedBy i
     lack_is_wanted_here n held lacks = by_holder held.0 held.1 held.2 where
-      by_holder : (j : ℕ) → Contains terms.live j → holds (host_after (λ k. start_of (hosts k)) (until (settled_by terms) (performed hosts trace)) j).is.held n ≡ true → IsWanting hosts terms trace window base i from by
+      by_holder : (j : ℕ) → Contains terms.live j
+          → holds (host_after (λ k. start_of (hosts k)) (until (settled_by terms) (performed hosts trace)) j).is.held n ≡ true
+          → WantedBy i
       by_holder j live_j has = top_or_turn j live_j (λ same. true≢false (sym holds_j ∙ ap (λ (k : ℕ). holds (held_by k) n) same ∙ lacks)) d there_d (numbered d there_d).0 top_small (subst (λ (m : NameValue). holds (held_by i) m ≡ false) (sym name_is) lacks) (subst (IsHeldBySome hosts terms trace) (sym name_is) held) where
         by_now : (b : Bool) → holds (held_by j) n ≡ b → b ≡ true
         by_now true e = refl

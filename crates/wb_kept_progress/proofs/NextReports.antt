@@ -1,25 +1,20 @@
 -- In a window of time in which what is held stays, a live host reports again and again, and turns and tellings move with its reports alone.
-use Rattle.std.proofs.Common.{◌≡◌, ℕ, zero, suc, ◌+◌, ◌-◌, ◌*◌, ◌<◌, ◌≤◌, Bool, true, false, cond, List, [], ◌∷◌, ◌++◌, ◌∙◌, ap, append_assoc, arith, eqb-true, inl, inr, refl, subst, sym, ⊎_elim}
+use Rattle.std.proofs.Common.{◌≡◌, ℕ, zero, suc, ◌+◌, ◌*◌, ◌<◌, ◌≤◌, Bool, true, false, cond, List, [], ◌∷◌, ◌++◌, ◌∙◌, ap, append_assoc, arith, eqb-true, inl, inr, refl, subst, sym, ⊎_elim}
 use Rattle.std.specs.Prelude.{◌⊎◌, Contains, nat_eq}
 use Rattle.std.proofs.lemmas.Bool.Decides.{leb_tells}
 use Rattle.wb_names.specs.Values.{DrawopValue}
-use Rattle.wb_names.specs.declared.name.PageId.{PageId}
-use Rattle.wb_names.specs.declared.parts.Op.{Op}
 use Rattle.wb_progress.specs.Turns.{Terms}
 use Rattle.wb_member.specs.Judged.{is_full}
-use Rattle.wb_member.specs.Opened.{present}
-use Rattle.wb_keeping.specs.Fairness.{Told, after_telling, after_tellings, after_turn, after_turns}
-use Rattle.wb_keeping.specs.Laws.{Added, doing_of}
-use Rattle.wb_keeping.specs.Performing.{Keeping, after_doing, due}
+use Rattle.wb_keeping.specs.Fairness.{after_telling, after_tellings, after_turn, after_turns}
+use Rattle.wb_keeping.specs.Laws.{doing_of}
+use Rattle.wb_keeping.specs.Performing.{Keeping, after_doing}
 use Rattle.wb_keeping.specs.Policy.{Policy}
-use Rattle.wb_keeping.specs.declared.turns.Turns.{Turns}
 use Rattle.wb_kept_progress.specs.Sessions.{Opening}
 use Rattle.wb_kept_progress.specs.Timed.{IsTold, TellTimes, TimedLine, called_at, lines_of}
 use Rattle.wb_kept_progress.specs.Whole.{AreCalledInOrder, IsTimelySession, report_span, there}
 use Rattle.wb_kept_progress.proofs.CallParts.{calls_end, calls_order, due_by_report}
 use Rattle.wb_kept_progress.proofs.InTurn.{IsIdle, IsReporting, IsTimedCall, SamePolicy, one_or_other, same_both, same_policy}
 use Rattle.wb_kept_progress.proofs.OwedAndDue.{due_there, tells_of}
-use Rattle.wb_kept_progress.proofs.Repairs.{idle}
 use Rattle.wb_kept_progress.proofs.StillCalls.{IsTuning, still_call}
 use Rattle.wb_kept_progress.proofs.Turning.{answers_at, told_of}
 use Rattle.wb_kept_progress.proofs.WholeParts.{IsStill}
@@ -27,13 +22,15 @@ use Rattle.wb_kept_progress.proofs.WholeParts.{IsStill}
 -- ---- parts of a window
 
 -- what is still in a window is so in each part of it
-pub still_newer : (hosts : ℕ → Opening) (terms : Terms) (trace newest front part base : List TimedLine) → IsStill hosts terms trace newest (front ++ part) base → IsStill hosts terms trace (newest ++ front) part base
+pub still_newer : (hosts : ℕ → Opening) (terms : Terms) (trace newest front part base : List TimedLine) → IsStill hosts terms trace newest (front ++ part) base
+    → IsStill hosts terms trace (newest ++ front) part base
 still_newer hosts terms trace newest front part base still = record {
   split = still.split ∙ ap (λ (t : List TimedLine). newest ++ t) (append_assoc front part base) ∙ sym (append_assoc newest front (part ++ base));
   same = λ before rest j split live. still.same (front ++ before) rest j (ap (λ (t : List TimedLine). front ++ t) split ∙ sym (append_assoc front before rest)) live;
 }
 
-pub still_older : (hosts : ℕ → Opening) (terms : Terms) (trace newest front part base : List TimedLine) → IsStill hosts terms trace newest (front ++ part) base → IsStill hosts terms trace newest front (part ++ base)
+pub still_older : (hosts : ℕ → Opening) (terms : Terms) (trace newest front part base : List TimedLine) → IsStill hosts terms trace newest (front ++ part) base
+    → IsStill hosts terms trace newest front (part ++ base)
 still_older hosts terms trace newest front part base still = record {
   split = still.split ∙ ap (λ (t : List TimedLine). newest ++ t) (append_assoc front part base);
   same = λ before rest j split live.
@@ -44,24 +41,29 @@ still_older hosts terms trace newest front part base still = record {
 
 -- ---- a call
 
-pub there_here : (hosts : ℕ → Opening) (e : TimedLine) (older : List TimedLine) (i : ℕ) → nat_eq e.at.place i ≡ true → there hosts (e ∷ older) i ≡ after_doing (doing_of e.at.line) (there hosts older i)
+pub there_here : (hosts : ℕ → Opening) (e : TimedLine) (older : List TimedLine) (i : ℕ) → nat_eq e.at.place i ≡ true
+    → there hosts (e ∷ older) i ≡ after_doing (doing_of e.at.line) (there hosts older i)
 there_here hosts e older i same = ap (λ (b : Bool). cond b (after_doing (doing_of e.at.line) (there hosts older i)) (there hosts older i)) same
 
-pub there_other : (hosts : ℕ → Opening) (e : TimedLine) (older : List TimedLine) (i : ℕ) → nat_eq e.at.place i ≡ false → there hosts (e ∷ older) i ≡ there hosts older i
+pub there_other : (hosts : ℕ → Opening) (e : TimedLine) (older : List TimedLine) (i : ℕ) → nat_eq e.at.place i ≡ false
+    → there hosts (e ∷ older) i ≡ there hosts older i
 there_other hosts e older i other = ap (λ (b : Bool). cond b (after_doing (doing_of e.at.line) (there hosts older i)) (there hosts older i)) other
 
 module _ (hosts : ℕ → Opening) (terms : Terms) (trace : List TimedLine) (s : IsTimelySession hosts terms trace) where
   pub ordered : (newer part : List TimedLine) → trace ≡ newer ++ part → AreCalledInOrder part
   ordered newer part split = calls_order newer part (subst AreCalledInOrder split s.order)
 
-  pub told_there : (newer older : List TimedLine) (e : TimedLine) (i : ℕ) → trace ≡ newer ++ e ∷ older → nat_eq e.at.place i ≡ true → IsTold (e.time + terms.offset i) e.at.line
+  pub told_there : (newer older : List TimedLine) (e : TimedLine) (i : ℕ) → trace ≡ newer ++ e ∷ older → nat_eq e.at.place i ≡ true
+      → IsTold (e.time + terms.offset i) e.at.line
   told_there newer older e i split same = subst (λ (p : ℕ). IsTold (e.time + terms.offset p) e.at.line) (eqb-true e.at.place i same) (tells_of terms newer (e ∷ older) (subst (TellTimes terms) split s.times)).0
 
-  pub room_there : (newer older : List TimedLine) (e : TimedLine) (i : ℕ) → trace ≡ newer ++ e ∷ older → Contains terms.live i → is_full (there hosts older i).host ≡ false
+  pub room_there : (newer older : List TimedLine) (e : TimedLine) (i : ℕ) → trace ≡ newer ++ e ∷ older → Contains terms.live i
+      → is_full (there hosts older i).host ≡ false
   room_there newer older e i split live = s.room (newer ++ e ∷ []) older i (split ∙ sym (append_assoc newer (e ∷ []) older)) live
 
   -- a call comes at most so late behind a report that is due
-  pub soon_there : (newer older : List TimedLine) (e : TimedLine) (i by : ℕ) → trace ≡ newer ++ e ∷ older → Contains terms.live i → (there hosts older i).policy.reports.due ≤ by → e.time + terms.offset i ≤ by + terms.late
+  pub soon_there : (newer older : List TimedLine) (e : TimedLine) (i by : ℕ) → trace ≡ newer ++ e ∷ older → Contains terms.live i
+      → (there hosts older i).policy.reports.due ≤ by → e.time + terms.offset i ≤ by + terms.late
   soon_there newer older e i by split live le =
       let soon = s.soon newer older e i split live in
       let first = due_by_report (there hosts older i) in
@@ -69,7 +71,8 @@ module _ (hosts : ℕ → Opening) (terms : Terms) (trace : List TimedLine) (s :
 
   -- a call of a live host in a window in which what is held stays
   module _ (i : ℕ) (live : Contains terms.live i) where
-    pub window_call : (newest part base : List TimedLine) (e : TimedLine) → IsStill hosts terms trace newest (e ∷ part) base → terms.quiet < called_at base → nat_eq e.at.place i ≡ true
+    pub window_call : (newest part base : List TimedLine) (e : TimedLine) → IsStill hosts terms trace newest (e ∷ part) base → terms.quiet < called_at base
+        → nat_eq e.at.place i ≡ true
         → IsTuning (doing_of e.at.line) (there hosts (part ++ base) i) ⊎ IsTimedCall (doing_of e.at.line) (there hosts (part ++ base) i) (e.time + terms.offset i)
     window_call newest part base e still late same =
         let older = part ++ base in
@@ -93,7 +96,8 @@ module _ (hosts : ℕ → Opening) (terms : Terms) (trace : List TimedLine) (s :
       pub same : SamePolicy (there hosts base i).policy (there hosts (between ++ base) i).policy
       pub reporting : IsReporting (doing_of e.at.line) (there hosts (between ++ base) i) (e.time + terms.offset i)
 
-    first_report : (front newest base : List TimedLine) → IsStill hosts terms trace newest front base → terms.quiet < called_at base → Reports front base ⊎ SamePolicy (there hosts base i).policy (there hosts (front ++ base) i).policy
+    first_report : (front newest base : List TimedLine) → IsStill hosts terms trace newest front base → terms.quiet < called_at base
+        → Reports front base ⊎ SamePolicy (there hosts base i).policy (there hosts (front ++ base) i).policy
     first_report [] newest base still late = inr (same_policy (there hosts base i).policy)
     first_report (e ∷ front) newest base still late = ⊎_elim
         (λ (r : Reports front base). inl (record { later = e ∷ r.later; e = r.e; between = r.between; split = ap (λ (t : List TimedLine). e ∷ t) r.split; place = r.place; same = r.same; reporting = r.reporting }))
@@ -105,10 +109,12 @@ module _ (hosts : ℕ → Opening) (terms : Terms) (trace : List TimedLine) (s :
           k : Keeping
           k = there hosts older i
 
-          on : SamePolicy (there hosts base i).policy k.policy → nat_eq e.at.place i ≡ true → SamePolicy k.policy (after_doing (doing_of e.at.line) k).policy → SamePolicy (there hosts base i).policy (there hosts (e ∷ older) i).policy
+          on : SamePolicy (there hosts base i).policy k.policy → nat_eq e.at.place i ≡ true → SamePolicy k.policy (after_doing (doing_of e.at.line) k).policy
+              → SamePolicy (there hosts base i).policy (there hosts (e ∷ older) i).policy
           on same here next = same_both (there hosts base i).policy k.policy (there hosts (e ∷ older) i).policy same (subst (λ (x : Keeping). SamePolicy k.policy x.policy) (sym (there_here hosts e older i here)) next)
 
-          by : SamePolicy (there hosts base i).policy k.policy → (b : Bool) → nat_eq e.at.place i ≡ b → Reports (e ∷ front) base ⊎ SamePolicy (there hosts base i).policy (there hosts (e ∷ older) i).policy
+          by : SamePolicy (there hosts base i).policy k.policy → (b : Bool) → nat_eq e.at.place i ≡ b
+              → Reports (e ∷ front) base ⊎ SamePolicy (there hosts base i).policy (there hosts (e ∷ older) i).policy
           by same false other = inr (subst (λ (x : Keeping). SamePolicy (there hosts base i).policy x.policy) (sym (there_other hosts e older i other)) same)
           by same true here = ⊎_elim
               (λ (t : IsTuning (doing_of e.at.line) k). inr (on same here (subst (SamePolicy k.policy) (sym t.policy) (same_policy k.policy))))
@@ -118,7 +124,8 @@ module _ (hosts : ℕ → Opening) (terms : Terms) (trace : List TimedLine) (s :
               (one_or_other (doing_of e.at.line) k (e.time + terms.offset i) c))
               (window_call newest front base e still late here)
 
-    pub next_report : (front newest base : List TimedLine) (x : ℕ) → IsStill hosts terms trace newest front base → terms.quiet < called_at base → called_at base ≤ x → (there hosts base i).policy.reports.due ≤ x + terms.offset i + 96000000
+    pub next_report : (front newest base : List TimedLine) (x : ℕ) → IsStill hosts terms trace newest front base → terms.quiet < called_at base
+        → called_at base ≤ x → (there hosts base i).policy.reports.due ≤ x + terms.offset i + 96000000
         → x + report_span terms < called_at (front ++ base) → (r : Reports front base) × (r.e.time ≤ x + report_span terms)
     next_report [] newest base x still late from due_by lt = absurd (omega (arith, from, lt))
     next_report (e ∷ front) newest base x still late from due_by lt = ⊎_elim
@@ -158,13 +165,15 @@ cut (e ∷ window) base from le = ⊎_elim
     let rest = cut window base from le in
     record { front = e ∷ rest.front; grown = rest.grown; split = ap (λ (t : List TimedLine). e ∷ t) rest.split; until = rest.until; behind = λ a b y is. later rest.front rest.behind no.1 a b y is })
     (leb_tells e.time from) where
-      later : (front : List TimedLine) → ((a b : List TimedLine) (y : TimedLine) → front ≡ a ++ y ∷ b → from < y.time) → from < e.time → (a b : List TimedLine) (y : TimedLine) → e ∷ front ≡ a ++ y ∷ b → from < y.time
+      later : (front : List TimedLine) → ((a b : List TimedLine) (y : TimedLine) → front ≡ a ++ y ∷ b → from < y.time) → from < e.time
+          → (a b : List TimedLine) (y : TimedLine) → e ∷ front ≡ a ++ y ∷ b → from < y.time
       later front rest lt [] b y is = let same : e ≡ y = cc in subst (λ (z : TimedLine). from < z.time) same lt
       later front rest lt (x ∷ a) b y is = rest a b y cc
 
 -- ---- so many reports
 
-module _ (hosts : ℕ → Opening) (terms : Terms) (trace newest window base : List TimedLine) (s : IsTimelySession hosts terms trace) (still : IsStill hosts terms trace newest window base) (late : terms.quiet < called_at base) (i : ℕ) (live : Contains terms.live i)
+module _ (hosts : ℕ → Opening) (terms : Terms) (trace newest window base : List TimedLine) (s : IsTimelySession hosts terms trace)
+    (still : IsStill hosts terms trace newest window base) (late : terms.quiet < called_at base) (i : ℕ) (live : Contains terms.live i)
     (from : ℕ) (since : called_at base ≤ from) where
   abbrev pub start : IsCut window base from
   start = cut window base from since
@@ -221,7 +230,8 @@ module _ (hosts : ℕ → Opening) (terms : Terms) (trace newest window base : L
       }
 
   -- the next report behind those
-  pub report_behind : (count : ℕ) (b : IsBehind count) → from + suc count * span < called_at (window ++ base) → (r : Reports hosts terms trace s i live b.front b.part) × (r.e.time ≤ from + suc count * span)
+  pub report_behind : (count : ℕ) (b : IsBehind count) → from + suc count * span < called_at (window ++ base)
+      → (r : Reports hosts terms trace s i live b.front b.part) × (r.e.time ≤ from + suc count * span)
   report_behind count b lt =
       let w = whole count b in
       let r = next_report hosts terms trace s i live b.front newest b.part (from + count * span) b.still_here b.quiet b.soon b.due_by (omega (arith, lt, w)) in

@@ -3,13 +3,13 @@
 use Rattle.std.proofs.Common.{◌≡◌, ℕ, ◌+◌, ◌-◌, ◌*◌, ◌<◌, ◌≤◌, Bool, true, false, List, [], ◌∷◌, ◌++◌, ◌∙◌, None, ap, append_assoc, arith, eqb-true, inl, inr, max, refl, subst, sym, true≢false, ⊎_elim}
 use Rattle.std.specs.Prelude.{◌≢◌, ◌⊎◌, Contains, min, nat_eq}
 use Rattle.std.proofs.lemmas.Bool.Decides.{leb_tells}
-use Rattle.wb_names.specs.Values.{DrawopValue, NameValue}
+use Rattle.wb_names.specs.Values.{NameValue}
 use Rattle.wb_progress.specs.InTime.{known_from, repairing}
 use Rattle.wb_progress.specs.Turns.{Terms, settled_by}
 use Rattle.wb_progress.proofs.OneCall.{le_true}
 use Rattle.wb_member.specs.Opened.{present}
 use Rattle.wb_keeping.specs.Credit.{cost, has_credit, spent}
-use Rattle.wb_keeping.specs.Kept.{Asks, Line}
+use Rattle.wb_keeping.specs.Kept.{Asks}
 use Rattle.wb_keeping.specs.Laws.{doing_of, fault_of}
 use Rattle.wb_keeping.specs.Performing.{Keeping, after_doing, sees}
 use Rattle.wb_keeping.specs.Policy.{Policy}
@@ -38,7 +38,8 @@ covered_first owed due now moment last le before = omega (arith, le, before)
 covered_on : (owed owes due later now then last : ℕ) → owes ≤ owed → due ≤ later → now ≤ then → IsCovered owed due now last → IsCovered owes later then last
 covered_on owed owes due later now then last le rises goes covered = omega (arith, le, rises, goes, covered)
 
-covered_report : (owed owes due later now then last : ℕ) → owes ≤ max owed then + 250000 → due ≤ then → then + 1000000 ≤ later → last ≤ then + 21000000 → then ≤ last → IsCovered owed due now last → IsCovered owes later then last
+covered_report : (owed owes due later now then last : ℕ) → owes ≤ max owed then + 250000 → due ≤ then → then + 1000000 ≤ later → last ≤ then + 21000000
+    → then ≤ last → IsCovered owed due now last → IsCovered owes later then last
 covered_report owed owes due later now then last le due_then next after before covered = omega (arith, le, due_then, next, after, before, covered)
 
 covered_last : (owed due last : ℕ) → 21000000 ≤ last → IsCovered owed due last last → has_credit owed last ≡ true
@@ -46,7 +47,8 @@ covered_last owed due last long covered = le_true (max owed last - last) (63 * c
 
 -- ---- in a window in which what is held stays
 
-module _ (is_spent : CreditIsSpent) (hosts : ℕ → Opening) (terms : Terms) (trace newest window base : List TimedLine) (s : IsTimelySession hosts terms trace) (still : IsStill hosts terms trace newest window base) (late : settled_by terms < called_at base)
+module _ (is_spent : CreditIsSpent) (hosts : ℕ → Opening) (terms : Terms) (trace newest window base : List TimedLine) (s : IsTimelySession hosts terms trace)
+    (still : IsStill hosts terms trace newest window base) (late : settled_by terms < called_at base)
     (i : ℕ) (live : Contains terms.live i) (last : ℕ) (long : called_at base + 21000000 ≤ last) where
   -- something that some hold was asked for lately
   abbrev IsFound : Type 0
@@ -68,7 +70,8 @@ module _ (is_spent : CreditIsSpent) (hosts : ℕ → Opening) (terms : Terms) (t
       covered_first k.policy.owed k.policy.reports.due (present k.host) (called_at (part ++ base) + terms.offset i) moment owed (omega (arith, before))
 
   -- a call in the last 21 seconds
-  module _ (front rest : List TimedLine) (e : TimedLine) (split : window ≡ front ++ e ∷ rest) (lately : last < e.time + 21000000) (by_last : e.time ≤ last) (here : nat_eq e.at.place i ≡ true) where
+  module _ (front rest : List TimedLine) (e : TimedLine) (split : window ≡ front ++ e ∷ rest) (lately : last < e.time + 21000000) (by_last : e.time ≤ last)
+      (here : nat_eq e.at.place i ≡ true) where
     abbrev older : List TimedLine
     older = rest ++ base
 
@@ -188,7 +191,8 @@ module _ (is_spent : CreditIsSpent) (hosts : ℕ → Opening) (terms : Terms) (t
         before : e.time ≤ last → called_at (rest ++ base) ≤ last
         before le = let order = ordered hosts terms trace s (newest ++ front) (e ∷ (rest ++ base)) (split_at front (e ∷ rest) split) in let first = order.0 in omega (arith, first, le)
 
-        by : IsPaid (there hosts (rest ++ base) i) → last < e.time + 21000000 → (b : Bool) → nat_eq e.at.place i ≡ b → IsFound ⊎ IsPaid (there hosts (e ∷ (rest ++ base)) i)
+        by : IsPaid (there hosts (rest ++ base) i) → last < e.time + 21000000 → (b : Bool) → nat_eq e.at.place i ≡ b
+            → IsFound ⊎ IsPaid (there hosts (e ∷ (rest ++ base)) i)
         by paid lately true here = paid_next front rest e split lately le here paid
         by paid lately false other = inr (subst IsPaid (sym (there_other hosts e (rest ++ base) i other)) paid)
 

@@ -1,22 +1,20 @@
 -- What is owed is at most 16 seconds ahead of the present moment, and the next report is due within 96 seconds of it.
-use Rattle.std.proofs.Common.{◌≡◌, ℕ, ◌+◌, ◌-◌, ◌*◌, ◌<◌, ◌≤◌, Bool, true, false, cond, List, [], ◌∷◌, ◌++◌, ◌∙◌, ap, append_assoc, arith, eqb-true, map, max, refl, subst, sym, ⊎_elim}
-use Rattle.std.specs.Prelude.{◌⊎◌, ◌&&◌, ◌%◌, Contains, None, nat_eq, nat_le, not, take}
+use Rattle.std.proofs.Common.{◌≡◌, ℕ, ◌+◌, ◌-◌, ◌*◌, ◌≤◌, Bool, true, false, cond, List, [], ◌∷◌, ◌++◌, ap, arith, eqb-true, map, max, refl, subst, sym, ⊎_elim}
+use Rattle.std.specs.Prelude.{◌%◌, None, nat_eq, not, take}
 use Rattle.std.proofs.lemmas.Bool.{and_parts, leb-true}
-use Rattle.wb_names.specs.Values.{MarkValue, NameValue}
-use Rattle.wb_names.specs.declared.name.PageId.{PageId}
+use Rattle.wb_names.specs.Values.{NameValue}
 use Rattle.wb_codec.specs.declared.datagram.Datagram.{Datagram}
-use Rattle.wb_gaps.specs.Answers.{pages_of, report_of}
+use Rattle.wb_gaps.specs.Answers.{pages_of}
 use Rattle.wb_progress.specs.Turns.{Terms}
-use Rattle.wb_member.specs.Opened.{Opened, has_room_for, heard, opened_with, present}
-use Rattle.wb_keeping.specs.Credit.{cost, has_credit}
-use Rattle.wb_keeping.specs.Kept.{Doing, Hears, Line, Says, Ticks, reports_page, state_of, still, want}
-use Rattle.wb_keeping.specs.Laws.{KeptLine, doing_of, fault_of}
+use Rattle.wb_member.specs.Opened.{has_room_for, heard, opened_with, present}
+use Rattle.wb_keeping.specs.Credit.{cost}
+use Rattle.wb_keeping.specs.Kept.{Doing, Hears, Line, Says, Ticks, state_of, still, want}
+use Rattle.wb_keeping.specs.Laws.{doing_of, fault_of}
 use Rattle.wb_keeping.specs.Performing.{Keeping, after_doing, after_lines, sees, view_of}
-use Rattle.wb_keeping.specs.Policy.{Policy, View, after_answer, after_wanting, holds, is_full, level}
-use Rattle.wb_keeping.specs.Reports.{slice_after}
+use Rattle.wb_keeping.specs.Policy.{View, after_answer, after_wanting, holds, is_full, level}
 use Rattle.wb_keeping.specs.Wanting.{goes_on, is_wanted}
-use Rattle.wb_keeping.specs.Words.{after_word, started, word_of}
-use Rattle.wb_keeping.proofs.EachStep.{HoldsOfSteps, doing, having, having_done, line_holds, with_policy}
+use Rattle.wb_keeping.specs.Words.{started, word_of}
+use Rattle.wb_keeping.proofs.EachStep.{HoldsOfSteps, doing, having, having_done, line_holds}
 use Rattle.wb_keeping.proofs.Saying.{says_after}
 use Rattle.wb_keeping.proofs.Wanted.{lines_wanted}
 use Rattle.wb_kept_progress.specs.Sessions.{AreTaken, LineAt, Opening, kept_at, opened, opened_host}
@@ -38,10 +36,12 @@ pub record IsNearNow (k : Keeping) : Type 0 where
 record StaysNear (k : Keeping) (lines : List Line) (m : Keeping) : Type 0 where
   near : IsNearNow k → IsNearNow m
 
-near_then : (k m : Keeping) → m.policy.owed ≤ k.policy.owed → m.policy.reports.due ≡ k.policy.reports.due → present k.host ≤ present m.host → IsNearNow k → IsNearNow m
+near_then : (k m : Keeping) → m.policy.owed ≤ k.policy.owed → m.policy.reports.due ≡ k.policy.reports.due → present k.host ≤ present m.host → IsNearNow k
+    → IsNearNow m
 near_then k m owed due now n = record { owed = let o = n.owed in omega (arith, o, owed, now); due = let d = n.due in omega (arith, d, due, now) }
 
-same_near : (k m : Keeping) → m.policy.owed ≡ k.policy.owed → m.policy.reports.due ≡ k.policy.reports.due → present m.host ≡ present k.host → IsNearNow k → IsNearNow m
+same_near : (k m : Keeping) → m.policy.owed ≡ k.policy.owed → m.policy.reports.due ≡ k.policy.reports.due → present m.host ≡ present k.host → IsNearNow k
+    → IsNearNow m
 same_near k m owed due now n = near_then k m (omega (arith, owed)) due (omega (arith, now)) n
 
 hears_near : (v : Datagram) (k : Keeping) → IsNearNow k → IsNearNow (having (Hears v) k)
@@ -67,7 +67,8 @@ wants_near name anew k n = record {
   one_more : (owed now : ℕ) → max owed now - now ≤ 63 * cost → max owed now + cost ≤ now + 16000000
   one_more owed now le = omega (arith, le)
 
-  by : (b : Bool) → is_wanted (holds v name) (is_full v) anew (level v name) k.policy.owed v.now ≡ b → (let d : Doing = cond b wanted (still (sees k.host) k.policy) in d.policy.owed) ≤ present k.host + 16000000
+  by : (b : Bool) → is_wanted (holds v name) (is_full v) anew (level v name) k.policy.owed v.now ≡ b
+      → (let d : Doing = cond b wanted (still (sees k.host) k.policy) in d.policy.owed) ≤ present k.host + 16000000
   by false e = n.owed
   by true e =
       let one = and_parts (not (holds v name)) _ e in
@@ -111,7 +112,8 @@ begins_near o = record { owed = omega arith; due = soon (present (opened_host o)
 pub near_at : (hosts : ℕ → Opening) (lines : List LineAt) (i : ℕ) → AreTaken hosts lines → IsNearNow (kept_at hosts lines i)
 near_at hosts [] i taken = begins_near (hosts i)
 near_at hosts (e ∷ older) i taken = by (near_at hosts older i taken.1) (nat_eq e.place i) refl where
-  by : IsNearNow (kept_at hosts older i) → (b : Bool) → nat_eq e.place i ≡ b → IsNearNow (cond b (after_doing (doing_of e.line) (kept_at hosts older i)) (kept_at hosts older i))
+  by : IsNearNow (kept_at hosts older i) → (b : Bool) → nat_eq e.place i ≡ b
+      → IsNearNow (cond b (after_doing (doing_of e.line) (kept_at hosts older i)) (kept_at hosts older i))
   by near false other = near
   by near true same =
       let none = subst (λ (p : ℕ). fault_of e.line (kept_at hosts older p) ≡ None) (eqb-true e.place i same) taken.0 in
@@ -126,13 +128,15 @@ tells_of terms [] older tells = tells
 tells_of terms (e ∷ newer) older tells = tells_of terms newer older tells.1
 
 -- the present moment of a host is not behind the newest call
-pub present_by : (hosts : ℕ → Opening) (terms : Terms) (calls : List TimedLine) (i : ℕ) → (hosts i).moments ≡ [] → AreCalledInOrder calls → TellTimes terms calls → present (there hosts calls i).host ≤ called_at calls + terms.offset i
+pub present_by : (hosts : ℕ → Opening) (terms : Terms) (calls : List TimedLine) (i : ℕ) → (hosts i).moments ≡ [] → AreCalledInOrder calls
+    → TellTimes terms calls → present (there hosts calls i).host ≤ called_at calls + terms.offset i
 present_by hosts terms [] i none order tells = subst (λ (moments : List ℕ). present (after_lines (map Ticks moments) (opened_with (hosts i).constants (hosts i).number (hosts i).cells (hosts i).seed)) ≤ 0 + terms.offset i) (sym none) (omega arith)
 present_by hosts terms (e ∷ older) i none order tells = by (present_by hosts terms older i none order.1 tells.1) (nat_eq e.at.place i) refl where
   k : Keeping
   k = there hosts older i
 
-  by : present k.host ≤ called_at older + terms.offset i → (b : Bool) → nat_eq e.at.place i ≡ b → present (cond b (after_doing (doing_of e.at.line) k) k).host ≤ e.time + terms.offset i
+  by : present k.host ≤ called_at older + terms.offset i → (b : Bool) → nat_eq e.at.place i ≡ b
+      → present (cond b (after_doing (doing_of e.at.line) k) k).host ≤ e.time + terms.offset i
   by le false other = let o = order.0 in omega (arith, le, o)
   by le true same =
       let told = subst (λ (p : ℕ). IsTold (e.time + terms.offset p) e.at.line) (eqb-true e.at.place i same) tells.0 in
@@ -143,7 +147,8 @@ present_by hosts terms (e ∷ older) i none order tells = by (present_by hosts t
       (call_now e.at.line k (e.time + terms.offset i) told)
 
 -- what is owed at a call, and when the next report is due
-module _ (hosts : ℕ → Opening) (terms : Terms) (trace newer older : List TimedLine) (i : ℕ) (s : IsTimelySession hosts terms trace) (split : trace ≡ newer ++ older) where
+module _ (hosts : ℕ → Opening) (terms : Terms) (trace newer older : List TimedLine) (i : ℕ) (s : IsTimelySession hosts terms trace)
+    (split : trace ≡ newer ++ older) where
   near_there : IsNearNow (there hosts older i)
   near_there = near_at hosts (lines_of older) i (taken_of hosts newer older (subst (λ (t : List TimedLine). AreTaken hosts (lines_of t)) split s.taken))
 

@@ -1,6 +1,6 @@
 -- A call behind which a host holds what it held: what it hears moves neither turns nor tellings, and it ends with what is due.
-use Rattle.std.proofs.Common.{◌≡◌, ℕ, ◌+◌, ◌<◌, ◌≤◌, Bool, true, false, cond, List, [], ◌∷◌, ◌++◌, ◌∙◌, Option, Some, None, ap, arith, inl, inr, length, length-append, refl, subst, sym, true≢false, ⊎_elim}
-use Rattle.std.specs.Prelude.{◌⊎◌, ◌||◌, Contains, nat_eq, nat_le, nat_lt}
+use Rattle.std.proofs.Common.{◌≡◌, ℕ, Bool, true, false, cond, List, [], ◌∷◌, ◌++◌, ◌∙◌, Option, Some, None, ap, arith, inl, inr, length, length-append, refl, subst, sym, true≢false, ⊎_elim}
+use Rattle.std.specs.Prelude.{◌⊎◌, ◌||◌, Contains, nat_eq, nat_lt}
 use Rattle.std.proofs.lemmas.List.Elements.{Contains-append_right}
 use Rattle.wb_names.specs.Values.{DrawopValue, MarkValue, NameValue}
 use Rattle.wb_names.specs.declared.echo.Echo.{Echo}
@@ -9,14 +9,13 @@ use Rattle.wb_names.specs.declared.parts.Op.{Op}
 use Rattle.wb_codec.specs.declared.datagram.Datagram.{Datagram}
 use Rattle.wb_codec.specs.declared.datagram.Datagram.TheVariants.{Draw, Session, Request, AskPages, PageState}
 use Rattle.wb_host.specs.Keeper.{holds}
-use Rattle.wb_recovery.specs.declared.tuning.Tuning.{Tuning}
 use Rattle.wb_member.specs.Judged.{is_full}
 use Rattle.wb_member.specs.Opened.{Opened, present}
 use Rattle.wb_keeping.specs.Fairness.{AnswersWhatIsHeld}
-use Rattle.wb_keeping.specs.Kept.{Arrives, Doing, Hears, Line, Ticks, Transition, and_then, came, distance_in, hears, hears_session, hears_some, hears_state, learned, measures, of_other, own_echo, own_marks, performs, still, takes, takes_question, ticks, timed, told_names, want, want_told}
+use Rattle.wb_keeping.specs.Kept.{Arrives, Doing, Hears, Line, Ticks, Transition, and_then, came, distance_in, hears, hears_session, hears_some, hears_state, learned, measures, of_other, own_echo, own_marks, performs, still, takes_question, ticks, timed, told_names, want, want_told}
 use Rattle.wb_keeping.specs.Laws.{KeptLine, Came, Ticked, Added, Tuned, doing_of}
 use Rattle.wb_keeping.specs.Performing.{Keeping, after_doing, after_line, after_lines, sees, sent_by_doing}
-use Rattle.wb_keeping.specs.Policy.{Policy, View, after_state, after_taking_up, after_wanting, is_asked, is_full as is_full_by, holds as holds_by, with_distance}
+use Rattle.wb_keeping.specs.Policy.{Policy, View, after_state, after_taking_up, after_wanting, is_asked}
 use Rattle.wb_keeping.specs.Questions.{is_to_answer}
 use Rattle.wb_keeping.proofs.EachStep.{having}
 use Rattle.wb_keeping.proofs.Performed.{then_after, then_sent}
@@ -24,12 +23,12 @@ use Rattle.wb_keeping.proofs.Wanted.{is_wanted_here, lines_wanted}
 use Rattle.wb_kept_progress.specs.Timed.{IsTold}
 use Rattle.wb_kept_progress.proofs.Going.{timed_small}
 use Rattle.wb_kept_progress.proofs.InTurn.{IsTimedCall, SamePolicy, same_both, same_policy}
-use Rattle.wb_kept_progress.proofs.Lines.{IsOf, line_of, lines_of, lines_rest}
+use Rattle.wb_kept_progress.proofs.Lines.{line_of, lines_of, lines_rest}
 use Rattle.wb_kept_progress.proofs.Performed.{AreNoTicks, Begins, IsNoTick, adds_begin, came_begins, hears_none, ticks_begin}
 use Rattle.wb_kept_progress.proofs.PerLine.{line_moment}
 use Rattle.wb_kept_progress.proofs.Repairs.{came_after, drawop_held}
-use Rattle.wb_kept_progress.proofs.Turning.{answers_on, told_of}
-use Rattle.wb_kept_progress.proofs.WantedIn.{IsAskedIn, IsAskedInCall, LacksCredit, IsWantedIn, asked_behind_tick, asked_second}
+use Rattle.wb_kept_progress.proofs.Turning.{answers_on}
+use Rattle.wb_kept_progress.proofs.WantedIn.{IsAskedIn, LacksCredit, asked_behind_tick, asked_second}
 
 -- ---- the moment of a call
 
@@ -54,7 +53,8 @@ pub record IsTuning (does : Transition) (k : Keeping) : Type 0 where
   pub now_is : present (after_doing does k).host ≡ present k.host
 
 -- the moment behind a call is that of the call, unless it sets constants
-pub call_now : (line : KeptLine) (k : Keeping) (moment : ℕ) → IsTold moment line → IsTuning (doing_of line) k ⊎ (present (after_doing (doing_of line) k).host ≡ moment)
+pub call_now : (line : KeptLine) (k : Keeping) (moment : ℕ) → IsTold moment line
+    → IsTuning (doing_of line) k ⊎ (present (after_doing (doing_of line) k).host ≡ moment)
 call_now (Came now v) k moment told = inr (came_now now v k ∙ told)
 call_now (Ticked now) k moment told = inr (begun_now now (ticks now (sees k.host) k.policy) k.host (ticks_begin now (sees k.host) k.policy) ∙ told)
 call_now (Added now page time op) k moment told = inr (begun_now now (doing_of (Added now page time op) (sees k.host) k.policy) k.host (adds_begin now page time op (sees k.host) k.policy) ∙ told)
@@ -117,7 +117,8 @@ question_leaves see p =
     (record { turns = refl; due = refl; told = refl }) (same_policy p)
 
 -- where no drawop comes that is new
-hears_leaves : (v : Datagram) (k : Keeping) → ((d : DrawopValue) → v ≡ Draw d → holds k.host.is.held d.name ≡ true) → SamePolicy k.policy (after_doing (hears v) k).policy
+hears_leaves : (v : Datagram) (k : Keeping) → ((d : DrawopValue) → v ≡ Draw d → holds k.host.is.held d.name ≡ true)
+    → SamePolicy k.policy (after_doing (hears v) k).policy
 hears_leaves (Draw d) k old = by (holds k.host.is.held d.name) (old d refl) where
   new : Doing
   new = and_then (performs (Arrives d)) (learned d.name (is_asked (sees k.host []) d.name)) (sees k.host) k.policy
@@ -152,7 +153,8 @@ ticked_call now k answers_held =
       answers_held = answers_on first k answers_held;
     }
 
-came_call : (now : ℕ) (v : Datagram) (k : Keeping) → AnswersWhatIsHeld k.host → is_full k.host ≡ false → (after_doing (came now v) k).host.is.held ≡ k.host.is.held → IsTimedCall (came now v) k now
+came_call : (now : ℕ) (v : Datagram) (k : Keeping) → AnswersWhatIsHeld k.host → is_full k.host ≡ false
+    → (after_doing (came now v) k).host.is.held ≡ k.host.is.held → IsTimedCall (came now v) k now
 came_call now v k answers_held room same =
     let first = performs (Ticks now) in
     let t = having (Ticks now) k in
@@ -193,7 +195,8 @@ came_call now v k answers_held room same =
             absurd (longer k.host.is.held d (sym all ∙ subst (λ (w : Datagram). (after_doing (came now w) k).host.is.held ≡ k.host.is.held) e same))
 
 -- Where nobody draws, and what is held stays: it sets constants, or ends with what is due at its moment.
-pub still_call : (line : KeptLine) (k : Keeping) (moment : ℕ) → IsTold moment line → ((now : ℕ) (page : PageId) (time : ℕ) (op : Op) → line ≡ Added now page time op → ⊥) → AnswersWhatIsHeld k.host → is_full k.host ≡ false
+pub still_call : (line : KeptLine) (k : Keeping) (moment : ℕ) → IsTold moment line
+    → ((now : ℕ) (page : PageId) (time : ℕ) (op : Op) → line ≡ Added now page time op → ⊥) → AnswersWhatIsHeld k.host → is_full k.host ≡ false
     → (after_doing (doing_of line) k).host.is.held ≡ k.host.is.held → IsTuning (doing_of line) k ⊎ IsTimedCall (doing_of line) k moment
 still_call (Came now v) k moment told drawn answers_held room same = inr (subst (IsTimedCall (came now v) k) told (came_call now v k answers_held room same))
 still_call (Ticked now) k moment told drawn answers_held room same = inr (subst (IsTimedCall (ticks now) k) told (ticked_call now k answers_held))

@@ -1,5 +1,5 @@
 -- A host that hears a report of a number that it lacks wants it.
-use Rattle.std.proofs.Common.{◌≡◌, ℕ, ◌≤◌, Bool, true, false, cond, List, [], ◌∷◌, ◌∙◌, Option, ap, eqb-true, inl, inr, length, refl, subst, sym, ⊎_elim}
+use Rattle.std.proofs.Common.{◌≡◌, ℕ, Bool, true, false, cond, List, ◌∙◌, ap, eqb-true, inl, inr, length, refl, subst, sym, ⊎_elim}
 use Rattle.std.specs.Prelude.{◌⊎◌, Contains, nat_eq, nat_le, nat_lt}
 use Rattle.wb_names.specs.Values.{DrawopValue, MarkValue, NameValue}
 use Rattle.wb_names.specs.declared.echo.Echo.{Echo}
@@ -7,19 +7,19 @@ use Rattle.wb_names.specs.declared.name.PageId.{PageId}
 use Rattle.wb_codec.specs.declared.datagram.Datagram.{Datagram}
 use Rattle.wb_codec.specs.declared.datagram.Datagram.TheVariants.{Session}
 use Rattle.wb_host.specs.Keeper.{holds}
-use Rattle.wb_member.specs.Judged.{is_full}
 use Rattle.wb_member.specs.Opened.{has_room_for, heard}
-use Rattle.wb_keeping.specs.Kept.{Doing, Hears, Line, Ticks, Transition, and_then, came, distance_in, hears, hears_session, measures, own_echo, own_marks, performs, still, timed, told_names, want_told}
+use Rattle.wb_keeping.specs.Kept.{Doing, Hears, Ticks, Transition, and_then, came, distance_in, hears, hears_session, measures, own_echo, own_marks, performs, still, timed, told_names, want_told}
 use Rattle.wb_keeping.specs.Performing.{Keeping, after_doing, after_lines, sees}
 use Rattle.wb_keeping.proofs.EachStep.{having}
 use Rattle.wb_keeping.proofs.Performed.{then_after}
 use Rattle.wb_kept_progress.proofs.Going.{measures_small}
-use Rattle.wb_kept_progress.proofs.Lines.{is_false, line_of, lines_of, lines_rest}
+use Rattle.wb_kept_progress.proofs.Lines.{is_false, lines_of, lines_rest}
 use Rattle.wb_kept_progress.proofs.Turning.{answers_on}
 use Rattle.wb_kept_progress.proofs.WantedIn.{IsAskedIn, IsAskedInCall, LacksCredit, IsWantedIn, MayBeWanted, asked_behind_tick, timed_costs, told_is_wanted, wanted_behind, wanted_later}
 
 -- what it holds stays, and its cells
-same_may : (n : NameValue) (does : Transition) (k : Keeping) → (after_doing does k).host.is.held ≡ k.host.is.held → MayBeWanted k n → MayBeWanted (after_doing does k) n
+same_may : (n : NameValue) (does : Transition) (k : Keeping) → (after_doing does k).host.is.held ≡ k.host.is.held → MayBeWanted k n
+    → MayBeWanted (after_doing does k) n
 same_may n does k same may =
     let of = lines_of (does (sees k.host) k.policy).lines k.host in
     record {
@@ -37,7 +37,8 @@ hearing_holds v k = by (has_room_for v k.host) where
 abbrev done : Keeping → Doing → Keeping
 done k d = record { host = after_lines d.lines k.host; policy = d.policy }
 
-module _ (k : Keeping) (now sender sent : ℕ) (page : PageId) (marks : List MarkValue) (echoes : List Echo) (other : sender ≡ k.host.is.number → ⊥) (n : NameValue) (told : Contains (told_names k.host.is.number page marks) n) (may : MayBeWanted k n) where
+module _ (k : Keeping) (now sender sent : ℕ) (page : PageId) (marks : List MarkValue) (echoes : List Echo) (other : sender ≡ k.host.is.number → ⊥)
+    (n : NameValue) (told : Contains (told_names k.host.is.number page marks) n) (may : MayBeWanted k n) where
   abbrev v : Datagram
   v = Session sender sent page marks echoes
 

@@ -1,9 +1,9 @@
 -- A name that is wanted has a timer behind some lines of what is done, or there is no credit behind all of it.
 use Rattle.std.proofs.Common.{◌≡◌, ℕ, ◌+◌, ◌-◌, ◌*◌, ◌≤◌, Bool, true, false, cond, List, [], ◌∷◌, ◌++◌, ◌∙◌, Option, Some, None, ap, append-nil, append_assoc, arith, inl, inr, length, refl, subst, sym, true≢false, ⊎_elim}
-use Rattle.std.specs.Prelude.{◌⊎◌, Contains, is_some, max, nat_le, unwrap_or}
+use Rattle.std.specs.Prelude.{◌⊎◌, Contains, is_some, max, nat_le}
 use Rattle.std.specs.Option.{option_map, option_or}
 use Rattle.std.proofs.lemmas.Bool.{leb-true}
-use Rattle.wb_names.specs.Values.{DrawopValue, MarkValue, NameValue}
+use Rattle.wb_names.specs.Values.{DrawopValue, NameValue}
 use Rattle.wb_names.proofs.Listings.{Contains-cases, Contains-none}
 use Rattle.wb_gaps.specs.Answers.{report_of}
 use Rattle.wb_gaps.specs.Holes.{hole_after}
@@ -24,7 +24,7 @@ use Rattle.wb_keeping.proofs.StandingTimers.{stands_asked}
 use Rattle.wb_keeping.proofs.Wanted.{is_wanted_here, lines_wanted}
 use Rattle.wb_keeping.proofs.WantedNames.{wanted_is_asked}
 use Rattle.wb_progress.proofs.OneCall.{le_true}
-use Rattle.wb_kept_progress.proofs.Going.{answers_small, asks_pages_small, reports_small, want_small, want_told_small}
+use Rattle.wb_kept_progress.proofs.Going.{answers_small, asks_pages_small, reports_small, want_small}
 use Rattle.wb_kept_progress.proofs.Lines.{is_false, lines_of, lines_rest}
 use Rattle.wb_kept_progress.proofs.Turning.{answers_leave, answers_on, asks_leave, rest_leaves, some_name}
 
@@ -79,7 +79,8 @@ module _ (n : NameValue) (first second : Transition) (k : Keeping) where
     stands = ap (asks_for n) (after_both one.lines a.before k.host) ∙ a.stands;
   }
 
-pub asked_behind_tick : (n : NameValue) (now : ℕ) (second : Transition) (k : Keeping) → IsAskedIn n second (having (Ticks now) k) → IsAskedInCall n (and_then (performs (Ticks now)) second) k
+pub asked_behind_tick : (n : NameValue) (now : ℕ) (second : Transition) (k : Keeping) → IsAskedIn n second (having (Ticks now) k)
+    → IsAskedInCall n (and_then (performs (Ticks now)) second) k
 asked_behind_tick n now second k a = record {
   first = Ticks now;
   before = a.before;
@@ -176,13 +177,15 @@ pub record MayBeWanted (k : Keeping) (n : NameValue) : Type 0 where
   pub lacks : holds k.host.is.held n ≡ false
   pub room : is_full k.host ≡ false
 
-pub wanted_behind : (n : NameValue) (first second : Transition) (k : Keeping) → CostsMore (after_doing first k) (after_doing second (after_doing first k)) → IsWantedIn n first k → IsWantedIn n (and_then first second) k
+pub wanted_behind : (n : NameValue) (first second : Transition) (k : Keeping) → CostsMore (after_doing first k) (after_doing second (after_doing first k))
+    → IsWantedIn n first k → IsWantedIn n (and_then first second) k
 wanted_behind n first second k costs is = ⊎_elim
     (λ (a : IsAskedIn n first k). inl (asked_first n first second k a))
     (λ (without : LacksCredit (after_doing first k)). inr (subst LacksCredit (sym (then_after first second k)) (stays_without (after_doing first k) (after_doing second (after_doing first k)) costs without)))
     is
 
-pub wanted_later : (n : NameValue) (first second : Transition) (k : Keeping) → IsWantedIn n second (after_doing first k) → IsWantedIn n (and_then first second) k
+pub wanted_later : (n : NameValue) (first second : Transition) (k : Keeping) → IsWantedIn n second (after_doing first k)
+    → IsWantedIn n (and_then first second) k
 wanted_later n first second k is = ⊎_elim
     (λ (a : IsAskedIn n second (after_doing first k)). inl (asked_second n first second k a))
     (λ (without : LacksCredit (after_doing second (after_doing first k))). inr (subst LacksCredit (sym (then_after first second k)) without))
@@ -233,7 +236,8 @@ module _ (n : NameValue) (r : Keeping) (may : MayBeWanted r n) where
         room = ap is_full same ∙ may.room;
       }))
 
-  to_it : (next first : Option Hole) → option_map (name_in (led_to next first r.policy.turns).round) (option_or next first) ≡ Some n → IsWantedIn n (turn_to next first) r
+  to_it : (next first : Option Hole) → option_map (name_in (led_to next first r.policy.turns).round) (option_or next first) ≡ Some n
+      → IsWantedIn n (turn_to next first) r
   to_it (Some h) first e =
       let m = with_policy (after_turn h r.policy) r in
       ⊎_elim

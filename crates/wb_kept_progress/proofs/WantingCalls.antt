@@ -1,17 +1,16 @@
 -- A call in which a name is wanted: a timer stands behind some of its lines, or it has no credit.
-use Rattle.std.proofs.Common.{◌≡◌, ℕ, ◌+◌, ◌<◌, ◌≤◌, Bool, true, false, List, [], ◌∷◌, ◌++◌, ◌∙◌, Option, Some, None, ap, append_assoc, eqb-true, inl, inr, refl, subst, sym, true≢false, ⊎_elim}
-use Rattle.std.specs.Prelude.{◌⊎◌, Contains, is_some, nat_eq}
+use Rattle.std.proofs.Common.{◌≡◌, ℕ, ◌+◌, ◌<◌, ◌≤◌, true, List, [], ◌∷◌, ◌++◌, ◌∙◌, Option, Some, None, ap, append_assoc, eqb-true, inl, inr, refl, subst, sym, true≢false, ⊎_elim}
+use Rattle.std.specs.Prelude.{◌⊎◌, is_some, nat_eq}
 use Rattle.wb_names.specs.Values.{NameValue}
-use Rattle.wb_recovery.specs.Events.{timers_of}
 use Rattle.wb_recovery.specs.declared.timers.AskTimer.{AskTimer}
 use Rattle.wb_progress.specs.Turns.{Terms}
-use Rattle.wb_member.specs.Opened.{Opened, asks_for, events, present}
+use Rattle.wb_member.specs.Opened.{asks_for, present}
 use Rattle.wb_keeping.specs.Credit.{has_credit}
 use Rattle.wb_keeping.specs.Kept.{Line}
 use Rattle.wb_keeping.specs.Laws.{doing_of}
 use Rattle.wb_keeping.specs.Performing.{Keeping, after_doing, after_lines, sees}
 use Rattle.wb_kept_progress.specs.Sessions.{Opening}
-use Rattle.wb_kept_progress.specs.Timed.{Performed, Start, TimedLine, called_at, host_after, performed, performed_then, start_of, time_of}
+use Rattle.wb_kept_progress.specs.Timed.{Performed, TimedLine, host_after, performed, performed_then, start_of, time_of}
 use Rattle.wb_kept_progress.specs.Whole.{IsHeldBySome, there}
 use Rattle.wb_kept_progress.proofs.CallParts.{host_is}
 use Rattle.wb_kept_progress.proofs.KeptInTime.{front_of, then_both, then_front, then_time}
@@ -24,9 +23,11 @@ some_timer : (o : Option AskTimer) → is_some o ≡ true → (a : AskTimer) × 
 some_timer None e = absurd (true≢false (sym e))
 some_timer (Some a) e = (a, refl)
 
-module _ (hosts : ℕ → Opening) (terms : Terms) (trace : List TimedLine) (opened : (i : ℕ) → (hosts i).moments ≡ []) (i : ℕ) (n : NameValue) (held : IsHeldBySome hosts terms trace n) where
+module _ (hosts : ℕ → Opening) (terms : Terms) (trace : List TimedLine) (opened : (i : ℕ) → (hosts i).moments ≡ []) (i : ℕ) (n : NameValue)
+    (held : IsHeldBySome hosts terms trace n) where
   -- behind lines of a call the timer stands
-  pub asking_in_call : (window base front grown : List TimedLine) (e : TimedLine) → window ≡ front ++ e ∷ grown → nat_eq e.at.place i ≡ true → IsAskedInCall n (doing_of e.at.line) (there hosts (grown ++ base) i)
+  pub asking_in_call : (window base front grown : List TimedLine) (e : TimedLine) → window ≡ front ++ e ∷ grown → nat_eq e.at.place i ≡ true
+      → IsAskedInCall n (doing_of e.at.line) (there hosts (grown ++ base) i)
       → (back : List Performed) × IsAsking hosts terms trace (window ++ base) i back × (time_of back ≡ e.time)
   asking_in_call window base front grown e split same a = (back, record { front = f.0 ++ g.0; split = whole; name = n; ask = timer.0; stands = timer.1; held = held }, then_time e.time e.at.place a.before a.first (performed hosts older)) where
     older : List TimedLine
@@ -65,7 +66,8 @@ module _ (hosts : ℕ → Opening) (terms : Terms) (trace : List TimedLine) (ope
     timer = some_timer (timer_then hosts back i n) (ap (asks_for n) there_is ∙ a.stands)
 
   -- so a name that is wanted in a call is asked for, or there is no credit
-  pub wanting_in_call : (window base front grown older : List TimedLine) (e : TimedLine) (from by : ℕ) → window ≡ front ++ e ∷ grown → older ≡ grown ++ base → nat_eq e.at.place i ≡ true
+  pub wanting_in_call : (window base front grown older : List TimedLine) (e : TimedLine) (from by : ℕ) → window ≡ front ++ e ∷ grown → older ≡ grown ++ base
+      → nat_eq e.at.place i ≡ true
       → present (after_doing (doing_of e.at.line) (there hosts older i)).host ≡ e.time + terms.offset i
       → IsAskedInCall n (doing_of e.at.line) (there hosts older i) ⊎ LacksCredit (after_doing (doing_of e.at.line) (there hosts older i)) → from < e.time → e.time ≤ by → IsWanting hosts terms trace window base i from by
   wanting_in_call window base front grown older e from by split is same now wants behind soon = record {
