@@ -8,6 +8,8 @@ pub mod Coming
 pub mod Lining
 pub mod PerLine
 pub mod Timely
+pub mod GivenUp
 pub mod Performed
 pub mod KeptInTime
 pub mod WholeParts
+pub mod Young
