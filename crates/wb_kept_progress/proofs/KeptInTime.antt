@@ -19,7 +19,7 @@ use Rattle.wb_kept_progress.specs.Sessions.{Opening, kept_at}
 use Rattle.wb_kept_progress.specs.Timed.{AllHoldBehind, AllKeptHoldBehind, IsKeptTimely, KeptRequestIsAnswered, KeptTimerLeads, Performed, Start, TimedLine, called_at, host_after, lines_of, performed, performed_then, start_of, time_of}
 use Rattle.wb_kept_progress.proofs.Performed.{after_all, kept_is_performed}
 use Rattle.wb_kept_progress.proofs.Repairs.{is_itself}
-use Rattle.wb_kept_progress.proofs.Timely.{request_is_answered, timer_leads}
+use Rattle.wb_kept_progress.proofs.GivenUp.{request_is_answered, timer_leads}
 
 abbrev at_place : ℕ → ℕ → Line → Performed
 at_place time place line = record { time = time; place = place; line = line }

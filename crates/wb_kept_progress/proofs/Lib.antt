@@ -8,6 +8,7 @@ pub mod Coming
 pub mod Lining
 pub mod PerLine
 pub mod Timely
+pub mod GivenUp
 pub mod Performed
 pub mod KeptInTime
 pub mod WholeParts
@@ -23,3 +24,4 @@ pub mod WantingCalls
 pub mod AsksStand
 pub mod NoCredit
 pub mod LackWanted
+pub mod Young

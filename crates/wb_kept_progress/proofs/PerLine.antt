@@ -43,7 +43,7 @@ IsMade host line (Arrive now names) = (d : DrawopValue) × ((line ≡ Arrives d)
 IsMade host line (Miss now names words) = now ≡ present host
 IsMade host line (GoOn now words names) = (line ≡ Ticks now) × (names ≡ stopped_after host.is.number host.is.constants host.is.calls host.is.held)
 IsMade host line (Report now) = ⊥
-IsMade host line (GiveUp now name asked) = (line ≡ Stops name) × (now ≡ present host)
+IsMade host line (GiveUp now name asked) = (line ≡ Stops name) × (now ≡ present host) × (asked ≡ asks_for name host)
 
 abbrev pub Did : Opened → Line → Opened → Type 0
 Did host line next = (next.is.calls ≡ host.is.calls) ⊎ ((call : KeeperCall) × (next.is.calls ≡ call ∷ host.is.calls) × IsMade host line call)
@@ -59,7 +59,7 @@ line_did (Asks name) host = by (may_ask name host) where
   by : (b : Bool) → Did host (Asks name) (cond b (doing (Misses (present host) (name ∷ []) (word_of host.random ∷ [])) 1 host) host)
   by true = inr (Miss (present host) (name ∷ []) (word_of host.random ∷ []), refl, refl)
   by false = inl refl
-line_did (Stops name) host = inr (GiveUp (present host) name (asks_for name host), refl, (refl, refl))
+line_did (Stops name) host = inr (GiveUp (present host) name (asks_for name host), refl, (refl, refl, refl))
 line_did (SetsDistance source micros) host = inr (SetDelay source micros, refl, tt)
 line_did (Tunes constants) host = inr (SetConstants constants, refl, tt)
 line_did (Says (Draw d)) host = inr (Arrive (present host) (filter (holds (accepted d host).is.held) (d.name ∷ [])), refl, (d, inr refl, refl, refl))

@@ -43,6 +43,7 @@ record IsMissed (far : ℕ) (bound : Tuning) (now : ℕ) (s next : Timers) : Typ
   quiet : next.quiet ≡ s.quiet
   stays : (ask : AskTimer) → s.ask ≡ Some ask → next.ask ≡ Some ask
   new : s.ask ≡ None → IfSome next.ask (λ (ask : AskTimer). ask.due ≤ now + (bound.c1 + bound.c2) * far)
+  lowest : s.ask ≡ None → IfSome next.ask (λ (ask : AskTimer). ask.level ≡ 0)
 
 -- a tick of which it is no name that was stopped
 record IsTicked (call : KeeperCall) (s next : Timers) : Type 0 where
@@ -68,7 +69,7 @@ new_within bound t far now delay word under le =
 
 module _ (far : ℕ) (bound : Tuning) (now : ℕ) where
   untouched : (s : Timers) → s.ask ≡ s.ask → IsMissed far bound now s s
-  untouched s e = record { answer = refl; quiet = refl; stays = λ ask h. h; new = λ none. subst (λ (o : Option AskTimer). IfSome o (λ (ask : AskTimer). ask.due ≤ now + (bound.c1 + bound.c2) * far)) (sym none) tt }
+  untouched s e = record { answer = refl; quiet = refl; stays = λ ask h. h; new = λ none. subst (λ (o : Option AskTimer). IfSome o (λ (ask : AskTimer). ask.due ≤ now + (bound.c1 + bound.c2) * far)) (sym none) tt; lowest = λ none. subst (λ (o : Option AskTimer). IfSome o (λ (ask : AskTimer). ask.level ≡ 0)) (sym none) tt }
 
   one_missed : (t : Tuning) (delay word : ℕ) (s : Timers) → IsUnder bound t → delay ≤ far → IsMissed far bound now s (noticed t now delay word s)
   one_missed t delay word s under le = from s.ask refl where
@@ -79,6 +80,7 @@ module _ (far : ℕ) (bound : Tuning) (now : ℕ) where
       quiet = refl;
       stays = λ ask h. absurd (none_some ask (sym e ∙ h));
       new = λ none. new_within bound t far now delay word under le;
+      lowest = λ none. refl;
     }) where
       none_some : (ask : AskTimer) → ◌≡◌ {A = Option AskTimer} None (Some ask) → ⊥
       none_some ask h = cc
@@ -88,14 +90,12 @@ module _ (far : ℕ) (bound : Tuning) (now : ℕ) where
     answer = b.answer ∙ a.answer;
     quiet = b.quiet ∙ a.quiet;
     stays = λ ask h. b.stays ask (a.stays ask h);
-    new = λ none. from mid.ask refl (a.new none);
+    new = λ none. from (λ (ask : AskTimer). ask.due ≤ now + (bound.c1 + bound.c2) * far) b.new mid.ask refl (a.new none);
+    lowest = λ none. from (λ (ask : AskTimer). ask.level ≡ 0) b.lowest mid.ask refl (a.lowest none);
   } where
-    Near : Option AskTimer → Type 0
-    Near o = IfSome o (λ (ask : AskTimer). ask.due ≤ now + (bound.c1 + bound.c2) * far)
-
-    from : (o : Option AskTimer) → mid.ask ≡ o → Near mid.ask → Near next.ask
-    from None e near = b.new e
-    from (Some ask) e near = subst Near (sym (b.stays ask e)) (subst Near e near)
+    from : (Q : AskTimer → Type 0) → (mid.ask ≡ None → IfSome next.ask Q) → (o : Option AskTimer) → mid.ask ≡ o → IfSome mid.ask Q → IfSome next.ask Q
+    from Q new None e near = new e
+    from Q new (Some ask) e near = subst (λ (o : Option AskTimer). IfSome o Q) (sym (b.stays ask e)) (subst (λ (o : Option AskTimer). IfSome o Q) e near)
 
   module _ (t : Tuning) (delays : ℕ → ℕ) (short : (source : ℕ) → delays source ≤ far) (n : NameValue) where
     all_missed : (names : List NameValue) (words : List ℕ) (events : List Event) → IsUnder bound (constants_after t events) → (timers_of t (notices now events (missed_of delays names words)) n ≡ timers_of t events n) ⊎ (Contains names n × IsMissed far bound now (timers_of t events n) (timers_of t (notices now events (missed_of delays names words)) n))
@@ -180,7 +180,7 @@ module _ (far me : ℕ) (bound t : Tuning) (calls : List KeeperCall) (n : NameVa
   gives_up now name false = inl refl
   gives_up now name true = ⊎_elim
       (λ (e : timers_of t (receipts now events (received_of (λ source. 0) (name ∷ []))) n ≡ s). inl e)
-      (λ (c : Contains (name ∷ []) n × ((timers_of t (receipts now events (received_of (λ source. 0) (name ∷ []))) n).ask ≡ None)). inr (inl (one name n c.0, c.1)))
+      (λ (c : Contains (name ∷ []) n × ((timers_of t (receipts now events (received_of (λ source. 0) (name ∷ []))) n).ask ≡ None)). inr (inl ((one name n c.0, refl), c.1)))
       (came now (λ source. 0) (name ∷ [])) where
         one : (a b : NameValue) → Contains (a ∷ []) b → a ≡ b
         one a b c = ⊎_elim (λ (e : a ≡ b). e) (λ (none : Contains [] b). absurd (Contains-none b none)) (Contains-cases a b [] c)
@@ -294,10 +294,10 @@ module _ (far me : ℕ) (bound t : Tuning) (call : KeeperCall) (calls : List Kee
       (λ (le : answer.due ≤ k.now). inr (inr (fires answer.due k.is le)))
       (answer_fires k.now answer))
 
-  pub ask_goes_on : (ask : AskTimer) → s_0.ask ≡ Some ask → (s_1.ask ≡ Some ask) ⊎ (Brings n call ⊎ (Fires ask.due call ⊎ Requests me n call))
+  pub ask_goes_on : (ask : AskTimer) → s_0.ask ≡ Some ask → (s_1.ask ≡ Some ask) ⊎ (Brought ⊎ (Fires ask.due call ⊎ Requests me n call))
   ask_goes_on ask is = by_case
       (λ e. inl (ap (λ (k : Timers). k.ask) e ∙ is))
-      (λ b. inr (inl b.0))
+      (λ b. inr (inl b))
       (λ h. inr (inr (inr h.by)))
       (λ m. inl (m.1.stays ask is))
       (λ k. ⊎_elim
@@ -321,12 +321,12 @@ module _ (far me : ℕ) (bound t : Tuning) (call : KeeperCall) (calls : List Kee
   none_some : (o : Option AskTimer) (ask : AskTimer) → o ≡ None → o ≡ Some ask → ⊥
   none_some o ask e f = cc
 
-  pub ask_begins : (ask : AskTimer) → s_0.ask ≡ None → s_1.ask ≡ Some ask → Misses n call × (ask.due ≤ moment_at (call ∷ calls) + (bound.c1 + bound.c2) * far)
+  pub ask_begins : (ask : AskTimer) → s_0.ask ≡ None → s_1.ask ≡ Some ask → Misses n call × (ask.due ≤ moment_at (call ∷ calls) + (bound.c1 + bound.c2) * far) × (ask.level ≡ 0)
   ask_begins ask none is = by_case
       (λ e. absurd (none_some s_1.ask ask (ap (λ (k : Timers). k.ask) e ∙ none) is))
       (λ b. absurd (none_some s_1.ask ask b.1 is))
       (λ h. absurd (none_some s_1.ask ask (ap (λ (k : Timers). k.ask) h.becomes ∙ asked_no_ask h.constants h.by.held h.by.now h.delay h.by.word s_0 none) is))
-      (λ m. (m.0, at_miss m.0 (subst (λ (o : Option AskTimer). IfSome o (λ (a : AskTimer). a.due ≤ moment_at (call ∷ []) + (bound.c1 + bound.c2) * far)) is (m.1.new none))))
+      (λ m. (m.0, at_miss m.0 (subst (λ (o : Option AskTimer). IfSome o (λ (a : AskTimer). a.due ≤ moment_at (call ∷ []) + (bound.c1 + bound.c2) * far)) is (m.1.new none)), subst (λ (o : Option AskTimer). IfSome o (λ (a : AskTimer). a.level ≡ 0)) is (m.1.lowest none)))
       (λ k. absurd (none_some s_1.ask ask (ap (λ (r : Timers). r.ask) k.becomes ∙ ap (fired_ask k.constants k.now k.word) none) is)) where
         at_miss : Misses n call → ask.due ≤ moment_at (call ∷ []) + (bound.c1 + bound.c2) * far → ask.due ≤ moment_at (call ∷ calls) + (bound.c1 + bound.c2) * far
         at_miss m le = subst (λ (k : ℕ). ask.due ≤ k + (bound.c1 + bound.c2) * far) (ap (λ (c : KeeperCall). moment_at (c ∷ [])) m.is ∙ sym (ap (λ (c : KeeperCall). moment_at (c ∷ calls)) m.is)) le
