@@ -11,3 +11,4 @@ pub mod Timely
 pub mod Performed
 pub mod KeptInTime
 pub mod WholeParts
+pub mod StopCauses
