@@ -12,3 +12,7 @@ pub mod Performed
 pub mod KeptInTime
 pub mod WholeParts
 pub mod StopCauses
+pub mod ToldHeld
+pub mod AskedInCalls
+pub mod Courses
+pub mod Causes
