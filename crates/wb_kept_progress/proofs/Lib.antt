@@ -16,3 +16,4 @@ pub mod ToldHeld
 pub mod AskedInCalls
 pub mod Courses
 pub mod Causes
+pub mod Spent
