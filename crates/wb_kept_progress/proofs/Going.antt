@@ -260,7 +260,7 @@ steps_go_on = record {
   arrives = λ d k. record { at = refl; goes = λ g. record { orderly = (itself (present k.host), tt, g.orderly); near = g.near } };
   answered = λ d k lacks asked. record { at = refl; goes = λ g. record { orderly = (itself (present k.host), tt, g.orderly); near = g.near } };
   hears = λ v k. record { at = refl; goes = λ g. record { orderly = hears_orderly v k.host g.orderly; near = g.near } };
-  stops = λ name k. record { at = refl; goes = λ g. record { orderly = (itself (present k.host), tt, g.orderly); near = g.near } };
+  stops = λ name k full. record { at = refl; goes = λ g. record { orderly = (itself (present k.host), tt, g.orderly); near = g.near } };
   tunes = λ constants k within. record { at = refl; goes = λ g. record { orderly = (itself (present k.host), within, g.orderly); near = g.near } };
   sets = λ source micros k. record { at = refl; goes = λ g. record { orderly = (itself (present k.host), bounded_fits micros, g.orderly); near = g.near } };
   wants = wants_on;

@@ -25,3 +25,9 @@ pub mod AsksStand
 pub mod NoCredit
 pub mod LackWanted
 pub mod Young
+pub mod StopCauses
+pub mod ToldHeld
+pub mod AskedInCalls
+pub mod Courses
+pub mod Causes
+pub mod Spent

@@ -137,7 +137,7 @@ line_none (Says (PageState sender page marks)) host none = none
 
 -- ---- what it sends
 
-one_of : (a b : Datagram) → Contains (a ∷ []) b → a ≡ b
+pub one_of : (a b : Datagram) → Contains (a ∷ []) b → a ≡ b
 one_of a b c = ⊎_elim (λ (e : a ≡ b). e) (λ (d : Contains [] b). absurd (Contains-none b d)) (Contains-cases a b [] c)
 
 no_answer_asks : (me : ℕ) (held : List DrawopValue) (v : Datagram) (asker : ℕ) (n : NameValue) → Contains (answers_to me held v) (Request asker n) → ⊥
