@@ -13,3 +13,9 @@ pub mod KeptInTime
 pub mod WholeParts
 pub mod CallParts
 pub mod Becoming
+pub mod AskedSince
+pub mod ReportsApart
+pub mod TurnsHad
+pub mod YoungestAsked
+pub mod WindowParts
+pub mod Stillness

@@ -73,23 +73,23 @@ abbrev pub told_of : Policy → Told
 told_of p = record { page = p.told_page; last = p.told }
 
 -- What a policy has due before it reports leaves its turns, its reports and what it owes.
-record Leaves (p q : Policy) : Type 0 where
-  turns : q.turns ≡ p.turns
-  owed : q.owed ≡ p.owed
-  due : q.reports.due ≡ p.reports.due
-  told : told_of q ≡ told_of p
+pub record Leaves (p q : Policy) : Type 0 where
+  pub turns : q.turns ≡ p.turns
+  pub owed : q.owed ≡ p.owed
+  pub due : q.reports.due ≡ p.reports.due
+  pub told : told_of q ≡ told_of p
 
 either : (p : Policy) (b : Bool) (x y : Doing) → Leaves p x.policy → Leaves p y.policy → Leaves p (cond b x y).policy
 either p true x y l m = l
 either p false x y l m = m
 
-answers_leave : (see : List Line → View) (p : Policy) → Leaves p (answers see p).policy
+pub answers_leave : (see : List Line → View) (p : Policy) → Leaves p (answers see p).policy
 answers_leave see p =
     let v = see [] in
     either p (is_due v.now p.questions.answer) (record { policy = after_answer v.now p; lines = map (λ (page : PageId). Says (state_of v page)) (take 64 (pages_of v.held)) }) (still see p)
     (record { turns = refl; owed = refl; due = refl; told = refl }) (record { turns = refl; owed = refl; due = refl; told = refl })
 
-asks_leave : (see : List Line → View) (p : Policy) → Leaves p (asks_pages see p).policy
+pub asks_leave : (see : List Line → View) (p : Policy) → Leaves p (asks_pages see p).policy
 asks_leave see p =
     let v = see [] in
     either p (is_due v.now p.questions.ask) (record { policy = after_question v.now p; lines = Says (AskPages v.me) ∷ [] }) (still see p)
@@ -167,7 +167,7 @@ turn_to_due (Some h) first see p = want_due (name_in p.turns.round h) see (polic
 turn_to_due None (Some h) see p = want_due (name_in (in_next_round p).turns.round h) see (policy_after h (in_next_round p))
 turn_to_due None None see p = refl
 
-turn_due : (see : List Line → View) (p : Policy) → (turn see p).policy.reports.due ≡ p.reports.due
+pub turn_due : (see : List Line → View) (p : Policy) → (turn see p).policy.reports.due ≡ p.reports.due
 turn_due see p = turn_to_due (hole_after (see []).held p.turns.page p.turns.source p.turns.number) (hole_after (see []).held nowhere 0 0) see p
 
 turn_to_owed : (next first : Option Hole) (see : List Line → View) (p : Policy) → p.owed ≤ (see []).now → (turn_to next first see p).policy.owed ≤ (see []).now + 250000
