@@ -47,7 +47,7 @@ want_due name anew see p = either_due p (is_wanted_here name anew see p) (record
 
 told_due : (names : List NameValue) → LeavesDue (want_told names)
 told_due [] see p = refl
-told_due (name ∷ names) = then_due (want name true) (want_told names) (want_due name true) (told_due names)
+told_due (name ∷ names) see p = then_due (want name true) (want_told names) (want_due name true) (told_due names) see p
 
 near_due : (names : List NameValue) → LeavesDue (want_near names)
 near_due [] see p = refl

@@ -43,9 +43,6 @@ tunes_only constants n c = ⊎_elim (λ (e : Tunes constants ≡ Asks n). other 
   other : Tunes constants ≡ Asks n → ⊥
   other e = cc
 
-itself : (n : ℕ) → n ≤ n
-itself n = omega arith
-
 some_timer : (a b : AskTimer) → Some a ≡ Some b → a ≡ b
 some_timer a b e = cc
 
@@ -302,15 +299,15 @@ module _ (hosts : ℕ → Opening) (terms : Terms) (trace newest window base : L
         let by = g.soon in
         inl (omega (arith, end, same, time, by, soon))
 
-    since : time_of back ≤ time_of then_back
-    since = before_end g.between back order_then.1
+    behind_part : time_of back ≤ time_of then_back
+    behind_part = before_end g.between back order_then.1
 
     next_of : (w : List Performed) (is : lines ≡ w ++ g.e ∷ then_back) (late_then : called_at base + request_span terms < time_of then_back) → Another calls_of causes w then_back g.e is late_then n → Next back n
     next_of w is late_then other = record {
       front = w ++ g.e ∷ [];
       later = then_back;
       split = is ∙ sym (append_assoc w (g.e ∷ []) then_back);
-      since = since;
+      since = behind_part;
       soon = let o = order_then.0 in let by = g.soon in omega (arith, o, by, soon);
       name = other.name;
       greater = other.greater;
@@ -331,7 +328,7 @@ module _ (hosts : ℕ → Opening) (terms : Terms) (trace newest window base : L
         let six = h.2 in
         absurd (omega (arith, zero_level, six)))
         (λ (h : (64 ≤ length (view_of (host_then hosts then_back i)).asked) × (a : AskedName) × (oldest (view_of (host_then hosts then_back i)).asked ≡ Some a) × (a.name ≡ n)).
-        let le = since in
+        let le = behind_part in
         let late_then : called_at base + request_span terms < time_of then_back = omega (arith, le, late) in
         inr (next_of w is late_then (another calls_of causes w then_back g.e is late_then n h.1 (new_level (timer_then hosts then_back i n) ask g.stands new) h.0 h.2 h.3)))
         (subst Stopped g.place (stops hosts terms trace g.front g.e then_back n are.session (subst (Contains terms.live) (sym g.place) live) g.split g.line))
@@ -373,7 +370,7 @@ module _ (hosts : ℕ → Opening) (terms : Terms) (trace newest window base : L
       enough : suc (length lacks) ≤ most
       enough = are.lacks (one ∷ lacks) one_more.0 one_more.1
 
-      Ends : Type 0
+      abbrev Ends : Type 0
       Ends = (called_at whole ≤ time_of back + request_span terms + repairing terms) ⊎ Next back n
 
       in_all : all ≡ (newest_lines.0 ++ front) ++ back
@@ -433,9 +430,11 @@ module _ (hosts : ℕ → Opening) (terms : Terms) (trace newest window base : L
           last end back span repair fuel le = let product : suc fuel * span ≡ fuel * span + span = omega arith in omega (arith, le, product)
 
           more : (end back later span repair fuel : ℕ) → later ≤ back + span → end ≤ later + fuel * span + repair → end ≤ back + suc fuel * span + repair
-          more end back later span repair fuel soon le = let product : suc fuel * span ≡ fuel * span + span = omega arith in omega (arith, soon, le, product)
+          more end back later span repair fuel near le = let product : suc fuel * span ≡ fuel * span + span = omega arith in omega (arith, near, le, product)
 
 pub stillness_ends : TimersAreYoung → TimerLeadsOrIsGivenUp → PerformedIsTimely → LinesHaveCalls → AsksHaveCause → StopsHaveCause → StillnessEnds
 stillness_ends young leads timely_so calls_of causes stops hosts terms trace newest window base sizes wait most i back are still known live asking late =
     follow hosts terms trace newest window base sizes wait most i timely_so are still known live calls_of causes stops young leads most asking.front back asking.name asking.ask []
-    (record { split = asking.split; late = late; stands = asking.stands; held = asking.held; apart = tt; each = λ x c. absurd (Contains-none x c) }) (itself most)
+    (record { split = asking.split; late = late; stands = asking.stands; held = asking.held; apart = tt; each = λ x c. absurd (Contains-none x c) }) (none_yet most) where
+      none_yet : (n : ℕ) → n ≤ 0 + n
+      none_yet n = omega arith

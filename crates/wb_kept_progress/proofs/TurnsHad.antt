@@ -110,7 +110,7 @@ module _ (hosts : ℕ → Opening) (terms : Terms) (i : ℕ) (base : List TimedL
 
     -- where a report is due
     module _ (next : Keeping) (h : Had part (at_i part)) (due : due_at (at_i part) ≤ e.time + terms.offset i) (later : e.time + terms.offset i + 1000000 ≤ due_at next) where
-      in_turn : Option NameValue
+      abbrev in_turn : Option NameValue
       in_turn = name_in_turn (at_i part).host.is.held (at_i part).policy.turns
 
       one_turn : from ≤ e.time → e.time ≤ by → Had (e ∷ part) next
