@@ -20,7 +20,7 @@ use Rattle.wb_keeping.specs.Performing.{after_line}
 use Rattle.wb_kept_progress.specs.Timed.{AreInOrder, IsTimelyTrace, Performed, Start, host_after, time_of, timers_after}
 use Rattle.wb_kept_progress.proofs.Lines.{line_of}
 use Rattle.wb_kept_progress.proofs.PerLine.{IsMade, line_did, line_moment}
-use Rattle.wb_kept_progress.proofs.Timely.{before_end, order_of}
+use Rattle.wb_kept_progress.proofs.Timely.{order_of}
 
 -- ---- one line
 

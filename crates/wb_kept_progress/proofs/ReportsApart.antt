@@ -1,5 +1,5 @@
 -- Two reports of a host are a second apart or more: when the next one is due, behind a call.
-use Rattle.std.proofs.Common.{◌≡◌, ℕ, ◌+◌, ◌*◌, ◌<◌, ◌≤◌, Bool, true, false, cond, List, [], ◌∷◌, ◌++◌, ◌∙◌, Option, Some, None, ap, arith, inl, inr, refl, subst, sym, ⊎_elim}
+use Rattle.std.proofs.Common.{◌≡◌, ℕ, ◌+◌, ◌<◌, ◌≤◌, Bool, true, false, cond, List, [], ◌∷◌, ◌++◌, ◌∙◌, Option, Some, None, arith, inl, inr, refl, subst, sym, ⊎_elim}
 use Rattle.std.specs.Prelude.{◌⊎◌, ◌≢◌, ◌||◌, ◌/◌, filter, length, max, min, nat_eq, nat_le, nat_lt}
 use Rattle.std.proofs.lemmas.Bool.{leb-false, leb-true}
 use Rattle.wb_names.specs.History.{highest}
@@ -23,7 +23,7 @@ use Rattle.wb_keeping.proofs.Performed.{then_after}
 use Rattle.wb_keeping.proofs.Wanted.{is_wanted_here, lines_wanted}
 use Rattle.wb_kept_progress.specs.Timed.{IsTold}
 use Rattle.wb_kept_progress.proofs.Going.{answers_small, asks_pages_small}
-use Rattle.wb_kept_progress.proofs.Lines.{Rests, lines_rest}
+use Rattle.wb_kept_progress.proofs.Lines.{lines_rest}
 use Rattle.wb_kept_progress.proofs.Performed.{AreNoTicks, IsNoTick, hears_none}
 use Rattle.wb_kept_progress.proofs.PerLine.{line_moment}
 use Rattle.wb_kept_progress.proofs.Repairs.{came_after}

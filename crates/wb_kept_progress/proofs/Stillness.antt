@@ -1,6 +1,6 @@
 -- While nothing new comes, a host does not ask for long for what another holds: what it asks for comes, or is given up, and then it asks for
 -- something greater that another holds.
-use Rattle.std.proofs.Common.{◌≡◌, ℕ, zero, suc, ◌+◌, ◌-◌, ◌*◌, ◌<◌, ◌≤◌, Bool, true, false, cond, List, [], ◌∷◌, ◌++◌, ◌∙◌, Option, Some, None, ap, append_assoc, arith, inl, inr, length, max, refl, subst, sym, true≢false, ⊎_elim}
+use Rattle.std.proofs.Common.{◌≡◌, ℕ, zero, suc, ◌+◌, ◌-◌, ◌*◌, ◌<◌, ◌≤◌, Bool, true, false, List, [], ◌∷◌, ◌++◌, ◌∙◌, Option, Some, None, ap, append_assoc, arith, inl, inr, length, max, refl, subst, sym, true≢false, ⊎_elim}
 use Rattle.std.specs.Prelude.{◌⊎◌, ◌≢◌, Contains, IfSome, nat_le}
 use Rattle.std.specs.Ordering.{ordering_reverse}
 use Rattle.std.specs.declared.cmp.Ordering.{Ordering}
@@ -13,27 +13,27 @@ use Rattle.wb_names.proofs.Listings.{Contains-cases, Contains-here, Contains-non
 use Rattle.wb_names.proofs.Orders.{name_total}
 use Rattle.wb_recovery.specs.declared.timers.AskTimer.{AskTimer}
 use Rattle.wb_recovery.specs.declared.tuning.Tuning.{Tuning}
-use Rattle.wb_progress.specs.InTime.{answering_by, known_from, repairing}
+use Rattle.wb_progress.specs.InTime.{known_from, repairing}
 use Rattle.wb_progress.specs.Turns.{Terms, settled_by}
-use Rattle.wb_progress.proofs.NamesApart.{AreMost, most_are}
+use Rattle.wb_progress.proofs.NamesApart.{most_are}
 use Rattle.wb_member.specs.Judged.{holds, level}
 use Rattle.wb_member.specs.Opened.{Opened}
 use Rattle.wb_host.specs.Keeper.{holds as history_holds}
-use Rattle.wb_keeping.specs.Kept.{Line, Asks, Stops, Tunes}
-use Rattle.wb_keeping.specs.Laws.{KeptLine, Tuned, doing_of}
-use Rattle.wb_keeping.specs.Performing.{Keeping, sees, view_of}
+use Rattle.wb_keeping.specs.Kept.{Line, Asks, Tunes}
+use Rattle.wb_keeping.specs.Laws.{KeptLine, doing_of}
+use Rattle.wb_keeping.specs.Performing.{sees, view_of}
 use Rattle.wb_keeping.specs.Wanting.{oldest}
 use Rattle.wb_keeping.specs.declared.wanting.AskedName.{AskedName}
 use Rattle.wb_kept_progress.specs.Sessions.{Opening}
-use Rattle.wb_kept_progress.specs.Timed.{AllHoldBehind, AreInOrder, IsGivenUp, IsTimelyTrace, Performed, Start, TellTimes, TimedLine, TimerLeadsOrIsGivenUp, called_at, performed, start_of, time_of, timers_after, until}
-use Rattle.wb_kept_progress.specs.Whole.{AreApart, AreCalledInOrder, IsHeldBySome, IsLackedAt, Lack, LackAtMost, Sizes, request_span, there}
+use Rattle.wb_kept_progress.specs.Timed.{AllHoldBehind, AreInOrder, IsGivenUp, IsTimelyTrace, Performed, Start, TellTimes, TimedLine, TimerLeadsOrIsGivenUp, called_at, performed, start_of, time_of, until}
+use Rattle.wb_kept_progress.specs.Whole.{AreApart, AreCalledInOrder, IsHeldBySome, IsLackedAt, Lack, Sizes, request_span, there}
 use Rattle.wb_kept_progress.proofs.AskedSince.{WasAsked, was_asked}
 use Rattle.wb_kept_progress.proofs.CallParts.{calls_end, calls_order, host_is, lacked_until, lines_order}
 use Rattle.wb_kept_progress.proofs.KeptInTime.{front_of, time_is}
 use Rattle.wb_kept_progress.proofs.ReportsApart.{IsTuned}
 use Rattle.wb_kept_progress.proofs.Timely.{before_end, held_later, in_past, none_held, order_of}
 use Rattle.wb_kept_progress.proofs.TurnsHad.{AreOrdinary, Had, had}
-use Rattle.wb_kept_progress.proofs.WholeParts.{AsksHaveCause, HasTurn, Holds, IsAsking, IsOfCall, IsStill, LinesHaveCalls, PerformedIsTimely, StillnessEnds, StopsHaveCause, TimersAreYoung, does, host_then, timer_then}
+use Rattle.wb_kept_progress.proofs.WholeParts.{AsksHaveCause, HasTurn, Holds, IsOfCall, IsStill, LinesHaveCalls, PerformedIsTimely, StillnessEnds, StopsHaveCause, TimersAreYoung, does, host_then, timer_then}
 use Rattle.wb_kept_progress.proofs.WindowParts.{IsInWindow, in_window, line_by, told_in, two_parts}
 use Rattle.wb_kept_progress.proofs.YoungestAsked.{Others, new_level, new_timer, others}
 
@@ -129,8 +129,12 @@ module _ (hosts : ℕ → Opening) (terms : Terms) (trace newest window base : L
           absurd (true≢false (sym (comes newest_lines.0 lines i newest_lines.1 (subst (λ (t : ℕ). time < t) (sym (time_is hosts whole)) lt) live) ∙ lacked_whole))
 
     is_lacked : IsHeldBySome hosts terms trace n → IsLackedAt hosts terms trace (until (settled_by terms) all) (record { place = i; name = n })
-    is_lacked held = (live, held, subst (λ (t : List TimedLine). holds (host_then hosts (until (settled_by terms) (performed hosts t)) i) n ≡ false) (sym split_base)
-        (lacked_until hosts are.session.opened (newest ++ window) base (settled_by terms) i n (subst AreCalledInOrder split_base are.session.order) settled lacked_base)) where
+    is_lacked held = (
+      live,
+      held,
+      subst (λ (t : List TimedLine). holds (host_then hosts (until (settled_by terms) (performed hosts t)) i) n ≡ false) (sym split_base)
+          (lacked_until hosts are.session.opened (newest ++ window) base (settled_by terms) i n (subst AreCalledInOrder split_base are.session.order) settled lacked_base),
+    ) where
       split_base : trace ≡ (newest ++ window) ++ base
       split_base = still.split ∙ sym (append_assoc newest window base)
 
@@ -412,10 +416,13 @@ module _ (hosts : ℕ → Opening) (terms : Terms) (trace newest window base : L
         stands = next.stands;
         held = next.held;
         apart = one_more.0;
-        each = λ x c. (one_more.1 x c, ⊎_elim
-            (λ (same : one ≡ x). subst (λ (y : Lack). name_cmp y.name next.name ≡ Less) same next.greater)
-            (λ (d : Contains lacks x). name_total.trans x.name n next.name (is.each x d).1 next.greater)
-            (Contains-cases one x lacks c));
+        each = λ x c. (
+          one_more.1 x c,
+          ⊎_elim
+              (λ (same : one ≡ x). subst (λ (y : Lack). name_cmp y.name next.name ≡ Less) same next.greater)
+              (λ (d : Contains lacks x). name_total.trans x.name n next.name (is.each x d).1 next.greater)
+              (Contains-cases one x lacks c),
+        );
       }
 
     follow : (fuel : ℕ) (front back : List Performed) (n : NameValue) (ask : AskTimer) (lacks : List Lack) → IsFollowed front back n ask lacks → most ≤ length lacks + fuel → called_at whole ≤ time_of back + fuel * request_span terms + repairing terms

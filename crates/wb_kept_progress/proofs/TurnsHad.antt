@@ -1,9 +1,9 @@
 -- How many names have their turn in a time: no more than reports of a host, which are a second apart or more.
-use Rattle.std.proofs.Common.{◌≡◌, ℕ, suc, ◌+◌, ◌*◌, ◌<◌, ◌≤◌, Bool, true, false, cond, List, [], ◌∷◌, ◌++◌, ◌∙◌, Option, Some, None, ap, arith, eq-eqb, eqb-true, inl, inr, length, refl, subst, sym, true≢false, ⊎_elim}
-use Rattle.std.specs.Prelude.{◌⊎◌, Contains, max, nat_eq, nat_le, unwrap_or}
+use Rattle.std.proofs.Common.{◌≡◌, ℕ, ◌+◌, ◌*◌, ◌<◌, ◌≤◌, Bool, true, false, cond, List, [], ◌∷◌, ◌++◌, ◌∙◌, Option, Some, None, ap, arith, eq-eqb, eqb-true, length, refl, subst, sym, true≢false, ⊎_elim}
+use Rattle.std.specs.Prelude.{Contains, max, nat_eq, nat_le, unwrap_or}
 use Rattle.std.proofs.lemmas.Bool.{leb-false, leb-true}
 use Rattle.wb_names.specs.Values.{NameValue}
-use Rattle.wb_names.proofs.Listings.{Contains-here, Contains-none, Contains-there}
+use Rattle.wb_names.proofs.Listings.{Contains-here, Contains-there}
 use Rattle.wb_progress.specs.Turns.{Terms}
 use Rattle.wb_keeping.specs.Fairness.{name_in_turn}
 use Rattle.wb_keeping.specs.Laws.{doing_of}

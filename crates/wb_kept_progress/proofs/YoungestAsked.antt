@@ -1,5 +1,5 @@
 -- Where the timer that was backed off most was not backed off, none was, and it is that of the least name.
-use Rattle.std.proofs.Common.{◌≡◌, ℕ, suc, ◌+◌, ◌<◌, ◌≤◌, Bool, true, false, cond, List, [], ◌∷◌, ◌∙◌, Option, Some, None, ap, arith, length, map, refl, subst, sym, true≢false}
+use Rattle.std.proofs.Common.{◌≡◌, ℕ, suc, ◌≤◌, Bool, true, false, cond, List, [], ◌∷◌, ◌∙◌, Option, Some, None, ap, arith, length, map, refl, subst, sym}
 use Rattle.std.specs.Prelude.{Contains, is_some, nat_lt, unwrap_or}
 use Rattle.std.specs.List.{fold}
 use Rattle.std.specs.List.Sorted.{IsStrictlySortedBy}
