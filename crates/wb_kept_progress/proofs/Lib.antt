@@ -31,3 +31,9 @@ pub mod AskedInCalls
 pub mod Courses
 pub mod Causes
 pub mod Spent
+pub mod AskedSince
+pub mod ReportsApart
+pub mod TurnsHad
+pub mod YoungestAsked
+pub mod WindowParts
+pub mod Stillness

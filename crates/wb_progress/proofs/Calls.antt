@@ -1,6 +1,6 @@
 -- What one call of a keeper makes of the timers of a name.
 use Rattle.std.proofs.Common.{◌≡◌, ℕ, ◌+◌, ◌*◌, ◌≤◌, ◌<◌, Bool, true, false, cond, List, [], ◌∷◌, Option, Some, None, refl, ap, ◌∙◌, sym, subst, arith, ◌⊎◌, inl, inr, ⊎_elim, eqb-true, eq-eqb, true≢false}
-use Rattle.std.specs.Prelude.{Contains, IfSome, nat_eq, nat_le, is_none, ◌&&◌}
+use Rattle.std.specs.Prelude.{Contains, IfSome, min, nat_eq, nat_le, is_none, ◌&&◌}
 use Rattle.std.proofs.Math.Nat.{mul-le-mul_left, mul-le-mul_right}
 use Rattle.std.proofs.lemmas.Bool.Decides.{nat_tests}
 use Rattle.wb_names.specs.Values.{NameValue}
@@ -356,3 +356,60 @@ requests_are_heard far me bound t calls now asker word n other within = subst Fo
 
   heard : events_of me (Hear now (Request asker n) word true ∷ calls) ≡ Asked n true now delay word ∷ events
   heard = ap (λ (b : Bool). cond b events (Asked n true now delay word ∷ events)) (is_false (nat_eq asker me) (λ e. other (eqb-true asker me e)))
+
+-- ---- a request timer that was not backed off
+
+some_ask : (a b : AskTimer) → Some a ≡ Some b → a ≡ b
+some_ask a b e = cc
+
+backed_level : (level : ℕ) → min (level + 1) 16 ≡ 0 → ⊥
+backed_level level e = omega (arith, e)
+
+no_ask : (ask : AskTimer) → ◌≡◌ {A = Option AskTimer} None (Some ask) → ⊥
+no_ask ask e = cc
+
+-- what backs off or not, and was not backed off, is as it was
+as_it_was : (b : Bool) (t : Tuning) (now delay word : ℕ) (a ask : AskTimer) → Some (cond b (backed_off t a now delay word) a) ≡ Some ask → ask.level ≡ 0 → Some a ≡ Some ask
+as_it_was true t now delay word a ask e level = absurd (backed_level a.level (ap (λ (x : AskTimer). x.level) (some_ask (backed_off t a now delay word) ask e) ∙ level))
+as_it_was false t now delay word a ask e level = e
+
+heard_fresh : (t : Tuning) (now delay word : ℕ) (o : Option AskTimer) (ask : AskTimer) → heard_ask t now delay word o ≡ Some ask → ask.level ≡ 0 → o ≡ Some ask
+heard_fresh t now delay word None ask e level = absurd (no_ask ask e)
+heard_fresh t now delay word (Some a) ask e level = as_it_was (nat_le a.deaf now) t now delay word a ask e level
+
+fired_fresh : (t : Tuning) (now word : ℕ) (o : Option AskTimer) (ask : AskTimer) → fired_ask t now word o ≡ Some ask → ask.level ≡ 0 → o ≡ Some ask
+fired_fresh t now word None ask e level = absurd (no_ask ask e)
+fired_fresh t now word (Some a) ask e level = as_it_was (nat_le a.due now) t now a.delay word a ask e level
+
+asked_fresh : (t : Tuning) (held : Bool) (now delay word : ℕ) (s : Timers) (ask : AskTimer) → (asked t held now delay word s).ask ≡ Some ask → ask.level ≡ 0 → s.ask ≡ Some ask
+asked_fresh t false now delay word s ask e level = heard_fresh t now delay word s.ask ask e level
+asked_fresh t true now delay word s ask e level = from (is_none s.answer && nat_le s.quiet now) e where
+  from : (b : Bool) → (cond b (record s { answer = Some (new_answer t now delay word) }) s).ask ≡ Some ask → s.ask ≡ Some ask
+  from true e = e
+  from false e = e
+
+missed_fresh : (far : ℕ) (bound : Tuning) (now : ℕ) (s next : Timers) (ask : AskTimer) → IsMissed far bound now s next → next.ask ≡ Some ask → (s.ask ≡ Some ask) ⊎ (ask.due ≤ now + (bound.c1 + bound.c2) * far)
+missed_fresh far bound now s next ask m e = from s.ask refl where
+  from : (o : Option AskTimer) → s.ask ≡ o → (s.ask ≡ Some ask) ⊎ (ask.due ≤ now + (bound.c1 + bound.c2) * far)
+  from (Some a) is = inl (is ∙ sym (m.stays a is) ∙ e)
+  from None is = inr (subst (λ (o : Option AskTimer). IfSome o (λ (a : AskTimer). a.due ≤ now + (bound.c1 + bound.c2) * far)) e (m.new is))
+
+-- Where no delay and no constants are above the bound, it stood so before, or its name is missed by the call.
+pub fresh_ask : (far me : ℕ) (bound t : Tuning) (call : KeeperCall) (calls : List KeeperCall) (n : NameValue) → ((source : ℕ) → delay_to me calls source ≤ far) → IsUnder bound (constants_at me t calls)
+    → (ask : AskTimer) → (timers_at me t (call ∷ calls) n).ask ≡ Some ask → ask.level ≡ 0 → ((timers_at me t calls n).ask ≡ Some ask) ⊎ (Misses n call × (ask.due ≤ moment_at (call ∷ []) + (bound.c1 + bound.c2) * far))
+fresh_ask far me bound t call calls n short under ask is level = by (does far me bound t calls n short under call) where
+  old : Timers
+  old = timers_at me t calls n
+
+  next : Timers
+  next = timers_at me t (call ∷ calls) n
+
+  by : Does far me bound n call old next → (old.ask ≡ Some ask) ⊎ (Misses n call × (ask.due ≤ moment_at (call ∷ []) + (bound.c1 + bound.c2) * far))
+  by (inl same) = inl (sym (ap (λ (s : Timers). s.ask) same) ∙ is)
+  by (inr (inl brought)) = absurd (no_ask ask (sym brought.1 ∙ is))
+  by (inr (inr (inl heard))) = inl (asked_fresh heard.constants heard.by.held heard.by.now heard.delay heard.by.word old ask (sym (ap (λ (s : Timers). s.ask) heard.becomes) ∙ is) level)
+  by (inr (inr (inr (inl missed)))) = ⊎_elim
+      (λ (stood : old.ask ≡ Some ask). inl stood)
+      (λ (due : ask.due ≤ moment_at (call ∷ []) + (bound.c1 + bound.c2) * far). inr (missed.0, due))
+      (missed_fresh far bound (moment_at (call ∷ [])) old next ask missed.1 is)
+  by (inr (inr (inr (inr ticks)))) = inl (fired_fresh ticks.constants ticks.now ticks.word old.ask ask (sym (ap (λ (s : Timers). s.ask) ticks.becomes) ∙ is) level)
