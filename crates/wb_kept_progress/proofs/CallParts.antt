@@ -15,6 +15,7 @@ use Rattle.wb_kept_progress.specs.Whole.{AreCalledInOrder, there}
 use Rattle.wb_kept_progress.proofs.KeptInTime.{front_of, time_is}
 use Rattle.wb_kept_progress.proofs.Performed.{kept_is_performed}
 use Rattle.wb_kept_progress.proofs.Timely.{before_end, held_later}
+use Rattle.wb_kept_progress.proofs.WholeParts.{does}
 
 pub calls_order : (front part : List TimedLine) → AreCalledInOrder (front ++ part) → AreCalledInOrder part
 calls_order [] part order = order
@@ -50,25 +51,22 @@ lines_in_order time place (line ∷ lines) older le order = lines_in_order time 
 -- a part up to a time is within each part that ends later
 until_within : (s : ℕ) (part : List Performed) → (middle : List Performed) × (part ≡ middle ++ until s part)
 until_within s [] = ([], refl)
-until_within s (e ∷ older) = by (nat_le e.time s) where
-  by : (b : Bool) → (middle : List Performed) × (e ∷ older ≡ middle ++ cond b (e ∷ older) (until s older))
-  by true = ([], refl)
-  by false = let rest = until_within s older in (e ∷ rest.0, ap (λ (t : List Performed). e ∷ t) rest.1)
+until_within s (e ∷ older) = by (until_within s older) (nat_le e.time s) where
+  by : (middle : List Performed) × (older ≡ middle ++ until s older) → (b : Bool) → (middle : List Performed) × (e ∷ older ≡ middle ++ cond b (e ∷ older) (until s older))
+  by rest true = ([], refl)
+  by rest false = (e ∷ rest.0, ap (λ (t : List Performed). e ∷ t) rest.1)
 
 until_front : (s : ℕ) (front part : List Performed) → AreInOrder (front ++ part) → s < time_of part → until s (front ++ part) ≡ until s part
 until_front s [] part order lt = refl
-until_front s (e ∷ front) part order lt = by (nat_le e.time s) (leb_tells e.time s) where
-  rest : until s (front ++ part) ≡ until s part
-  rest = until_front s front part order.1 lt
-
-  by : (b : Bool) → ((b ≡ true) × (e.time ≤ s)) ⊎ ((b ≡ false) × (s < e.time)) → cond b (e ∷ (front ++ part)) (until s (front ++ part)) ≡ until s part
-  by true tells = absurd (⊎_elim (λ yes. let le = yes.1 in let o = order.0 in let end = before_end front part order.1 in omega (arith, le, o, end, lt)) (λ no. true≢false no.0) tells)
-  by false tells = rest
+until_front s (e ∷ front) part order lt = by (until_front s front part order.1 lt) (nat_le e.time s) (leb_tells e.time s) where
+  by : until s (front ++ part) ≡ until s part → (b : Bool) → ((b ≡ true) × (e.time ≤ s)) ⊎ ((b ≡ false) × (s < e.time)) → cond b (e ∷ (front ++ part)) (until s (front ++ part)) ≡ until s part
+  by rest true tells = absurd (⊎_elim (λ yes. let le = yes.1 in let o = order.0 in let end = before_end front part order.1 in omega (arith, le, o, end, lt)) (λ no. true≢false no.0) tells)
+  by rest false tells = rest
 
 module _ (hosts : ℕ → Opening) where
   pub lines_order : (part : List TimedLine) → AreCalledInOrder part → AreInOrder (performed hosts part)
   lines_order [] order = tt
-  lines_order (e ∷ older) order = lines_in_order e.time e.at.place _ (performed hosts older) (subst (λ (t : ℕ). t ≤ e.time) (sym (time_is hosts older)) order.0) (lines_order older order.1)
+  lines_order (e ∷ older) order = lines_in_order e.time e.at.place (does hosts e older) (performed hosts older) (subst (λ (t : ℕ). t ≤ e.time) (sym (time_is hosts older)) order.0) (lines_order older order.1)
 
   -- lines that are performed in a part end with it
   pub lines_end : (part : List TimedLine) (front back : List Performed) → AreCalledInOrder part → performed hosts part ≡ front ++ back → time_of back ≤ called_at part

@@ -103,7 +103,7 @@ pub record IsStill (hosts : ℕ → Opening) (terms : Terms) (trace newest windo
 -- all that is said of a session below
 pub record Holds (hosts : ℕ → Opening) (terms : Terms) (trace : List TimedLine) (sizes : Sizes) (wait most : ℕ) : Type 0 where
   pub session : IsTimelySession hosts terms trace
-  pub sizes : AreWithin hosts terms trace sizes
+  pub within : AreWithin hosts terms trace sizes
   pub waits : WaitAtMost hosts terms trace wait
   pub lacks : LackAtMost hosts terms trace most
   pub short : request_span terms ≤ 60000000
