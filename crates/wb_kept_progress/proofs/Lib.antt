@@ -13,3 +13,4 @@ pub mod KeptInTime
 pub mod WholeParts
 pub mod CallParts
 pub mod Becoming
+pub mod CallLines
