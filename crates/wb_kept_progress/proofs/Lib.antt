@@ -14,3 +14,7 @@ pub mod WholeParts
 pub mod CallParts
 pub mod Becoming
 pub mod CallLines
+pub mod FirstLines
+pub mod TimersAhead
+pub mod Tunings
+pub mod CallsInTime

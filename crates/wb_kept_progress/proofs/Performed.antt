@@ -56,11 +56,11 @@ kept_is_performed hosts trace none = record { same = by trace } where
 
 -- ---- no ticks but the first
 
-abbrev IsNoTick : Line → Type 0
+abbrev pub IsNoTick : Line → Type 0
 IsNoTick (Ticks now) = ⊥
 IsNoTick line = Unit {0}
 
-abbrev AreNoTicks : List Line → Type 0
+abbrev pub AreNoTicks : List Line → Type 0
 AreNoTicks [] = Unit {0}
 AreNoTicks (line ∷ lines) = IsNoTick line × AreNoTicks lines
 
@@ -137,18 +137,18 @@ ends_none : HasNoTick ends_full
 ends_none see p = choose (is_full (see [])) (end see p) (still see p) (from_small _ (stops_small (see []).asked)) tt
 
 -- a call is a tick to its moment, and lines that are none
-record Begins (now : ℕ) (d : Doing) : Type 0 where
-  rest : List Line
-  is : d.lines ≡ Ticks now ∷ rest
-  none : AreNoTicks rest
+pub record Begins (now : ℕ) (d : Doing) : Type 0 where
+  pub rest : List Line
+  pub is : d.lines ≡ Ticks now ∷ rest
+  pub none : AreNoTicks rest
 
-came_begins : (now : ℕ) (v : Datagram) (see : List Line → View) (p : Policy) → Begins now (came now v see p)
+pub came_begins : (now : ℕ) (v : Datagram) (see : List Line → View) (p : Policy) → Begins now (came now v see p)
 came_begins now v see p = record { rest = _; is = refl; none = both (hears v) timed (hears_none v) timed_none (λ (lines : List Line). see (Ticks now ∷ lines)) p }
 
-ticks_begin : (now : ℕ) (see : List Line → View) (p : Policy) → Begins now (ticks now see p)
+pub ticks_begin : (now : ℕ) (see : List Line → View) (p : Policy) → Begins now (ticks now see p)
 ticks_begin now see p = record { rest = _; is = refl; none = timed_none (λ (lines : List Line). see (Ticks now ∷ lines)) p }
 
-adds_begin : (now : ℕ) (page : PageId) (time : ℕ) (op : Op) (see : List Line → View) (p : Policy) → Begins now (adds now page time op see p)
+pub adds_begin : (now : ℕ) (page : PageId) (time : ℕ) (op : Op) (see : List Line → View) (p : Policy) → Begins now (adds now page time op see p)
 adds_begin now page time op see p = record {
   rest = _;
   is = refl;

@@ -55,7 +55,7 @@ module _ (hosts : ℕ → Start) where
   history : (trace : List Performed) (i : ℕ) → IsHistory (host_after hosts trace i).is.held
   history = at_each (λ i host. IsHistory host.is.held) (λ i. λ j k d jk lt. absurd (omega arith)) (λ i line host rest. (line_grows line host).once rest)
 
-  none_held : (trace : List Performed) (i : ℕ) → HeldNone (host_after hosts trace i).is
+  pub none_held : (trace : List Performed) (i : ℕ) → HeldNone (host_after hosts trace i).is
   none_held = at_each (λ i host. HeldNone host.is) (λ i. λ n h. refl) (λ i line host rest. line_none line host rest)
 
   pub timers_here : (trace : List Performed) (i : ℕ) (n : NameValue) → turning.timers_there places (turns_of hosts trace) i n ≡ timers_after hosts trace i n
@@ -100,7 +100,7 @@ tails : (a b : Performed) (x y : List Performed) → a ∷ x ≡ b ∷ y → x �
 tails a b x y same = cc
 
 -- a part that ends earlier than another is within it
-in_past : (newer later front base : List Performed) → newer ++ later ≡ front ++ base → AreInOrder (newer ++ later) → time_of base < time_of later → (middle : List Performed) × (later ≡ middle ++ base)
+pub in_past : (newer later front base : List Performed) → newer ++ later ≡ front ++ base → AreInOrder (newer ++ later) → time_of base < time_of later → (middle : List Performed) × (later ≡ middle ++ base)
 in_past [] later front base same order lt = (front, same)
 in_past (e ∷ newer) later [] base same order lt =
     let le : time_of later ≤ time_of (newer ++ later) = before_end newer later order.1 in
