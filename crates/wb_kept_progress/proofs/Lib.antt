@@ -18,3 +18,4 @@ pub mod FirstLines
 pub mod TimersAhead
 pub mod Tunings
 pub mod CallsInTime
+pub mod NothingNew
