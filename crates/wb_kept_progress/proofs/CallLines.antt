@@ -14,6 +14,7 @@ use Rattle.wb_kept_progress.proofs.CallParts.{host_is}
 use Rattle.wb_kept_progress.proofs.KeptInTime.{at_place, front_of, then_both, then_front}
 use Rattle.wb_kept_progress.proofs.Performed.{after_all}
 use Rattle.wb_kept_progress.proofs.Repairs.{is_itself}
+use Rattle.wb_kept_progress.proofs.Timely.{tails}
 use Rattle.wb_kept_progress.proofs.WholeParts.{IsOfCall, LinesHaveCalls, does}
 
 -- ---- lists that end in others
@@ -26,9 +27,6 @@ ends_both one other part a b = (a.0 ++ b.0, a.1 ∙ ap (λ (t : List Performed).
 
 heads : (a b : Performed) (x y : List Performed) → a ∷ x ≡ b ∷ y → a ≡ b
 heads a b x y same = cc
-
-tails : (a b : Performed) (x y : List Performed) → a ∷ x ≡ b ∷ y → x ≡ y
-tails a b x y same = cc
 
 -- ---- the call of a line
 
@@ -63,7 +61,7 @@ among time place (line ∷ lines) older front x back same = ⊎_elim
     (λ (w : Ends (at_place time place line ∷ older) (x ∷ back)). newest time place line lines older w.0 x back w.1)
     (among time place lines (at_place time place line ∷ older) front x back same)
 
-nil_ends : (front : List Performed) (x : Performed) (back : List Performed) → ◌≡◌ {A = List Performed} [] (front ++ x ∷ back) → ⊥
+pub nil_ends : (front : List Performed) (x : Performed) (back : List Performed) → ◌≡◌ {A = List Performed} [] (front ++ x ∷ back) → ⊥
 nil_ends [] x back same = cc
 nil_ends (y ∷ front) x back same = cc
 

@@ -2,28 +2,27 @@
 use Rattle.std.proofs.Common.{◌≡◌, ◌⊎◌, ℕ, ◌<◌, ◌≤◌, Bool, true, false, cond, List, [], ◌∷◌, ◌++◌, ◌∙◌, ap, append_assoc, arith, inl, inr, refl, subst, sym, true≢false, ⊎_elim}
 use Rattle.std.specs.Prelude.{Contains, nat_eq, nat_le}
 use Rattle.std.proofs.lemmas.Bool.{cases_lt}
-use Rattle.std.proofs.lemmas.List.Elements.{Contains-append_cases}
-use Rattle.wb_names.specs.Arrivals.{Outcome, Fresh, Known, Clashed, Left, history_with, outcome_of}
 use Rattle.wb_names.specs.Values.{DrawopValue, NameValue}
 use Rattle.wb_names.proofs.Listings.{Contains-cases, Contains-none}
 use Rattle.wb_codec.specs.declared.datagram.Datagram.TheVariants.{Draw, Session, Request, AskPages, PageState}
-use Rattle.wb_host.specs.Keeper.{holds as history_holds}
 use Rattle.wb_host.proofs.KeptCalls.{holds_from}
 use Rattle.wb_progress.specs.Turns.{Terms, settled_by}
 use Rattle.wb_progress.proofs.Giving.{held_as}
 use Rattle.wb_progress.proofs.OneCall.{le_true}
 use Rattle.wb_member.specs.Judged.{holds}
-use Rattle.wb_member.specs.Members.{Misses}
-use Rattle.wb_member.specs.Opened.{Opened, doing, has_room_for, heard, may_ask, present}
+use Rattle.wb_member.specs.Members.{Misses, Takes}
+use Rattle.wb_member.specs.Opened.{Opened, accepted, doing, has_room_for, heard, may_ask, present}
 use Rattle.wb_member.specs.Random.{word_of}
+use Rattle.wb_session.proofs.Members.{held_after}
 use Rattle.wb_keeping.specs.Kept.{Arrives, Asks, Hears, Line, Says, SetsDistance, Tunes, Stops, Ticks}
 use Rattle.wb_keeping.specs.Performing.{after_line}
 use Rattle.wb_kept_progress.specs.Timed.{IsAnswerable, IsTimelyTrace, Performed, Start, WasSent, host_after, performed, start_of, until}
+use Rattle.wb_kept_progress.proofs.CallLines.{nil_ends}
 use Rattle.wb_kept_progress.proofs.CallParts.{host_is}
 use Rattle.wb_kept_progress.proofs.CallsInTime.{performed_is_timely}
 use Rattle.wb_kept_progress.proofs.KeptInTime.{front_of}
 use Rattle.wb_kept_progress.proofs.PerLine.{draws}
-use Rattle.wb_kept_progress.proofs.Timely.{held_later}
+use Rattle.wb_kept_progress.proofs.Timely.{held_later, tails}
 use Rattle.wb_kept_progress.proofs.WholeParts.{HeldWasHeld}
 
 -- ---- one line
@@ -32,23 +31,20 @@ use Rattle.wb_kept_progress.proofs.WholeParts.{HeldWasHeld}
 abbrev WasOrComes : Line → Opened → NameValue → Type 0
 WasOrComes line host n = (holds host n ≡ true) ⊎ ((d : DrawopValue) × (d.name ≡ n) × ((line ≡ Arrives d) ⊎ (line ≡ Says (Draw d))))
 
-with_new : (h : List DrawopValue) (d : DrawopValue) (o : Outcome) (n : NameValue) → history_holds (history_with h d o) n ≡ true → (history_holds h n ≡ true) ⊎ (d.name ≡ n)
-with_new h d (Fresh i) n e =
-    let x = held_as (h ++ d ∷ []) n e in
+arrival_new : (d : DrawopValue) (host : Opened) (n : NameValue) → holds (accepted d host) n ≡ true → (holds host n ≡ true) ⊎ (d.name ≡ n)
+arrival_new d host n e =
+    let x = held_as (accepted d host).is.held n e in
     ⊎_elim
-    (λ (c : Contains h x.0). inl (holds_from h n x.0 c x.2))
+    (λ (c : Contains host.is.held x.0). inl (holds_from host.is.held n x.0 c x.2))
     (λ (c : Contains (d ∷ []) x.0). inr (⊎_elim (λ (same : d ≡ x.0). ap (λ (y : DrawopValue). y.name) same ∙ x.2) (λ (none : Contains [] x.0). absurd (Contains-none x.0 none)) (Contains-cases d x.0 [] c)))
-    (Contains-append_cases h (d ∷ []) x.0 x.1)
-with_new h d (Known i) n e = inl e
-with_new h d (Clashed i) n e = inl e
-with_new h d Left n e = inl e
+    (held_after (Takes (present host) (d ∷ []) (d ∷ [])) host.is x.0 x.1)
 
 line_new : (line : Line) (host : Opened) (n : NameValue) → holds (after_line line host) n ≡ true → WasOrComes line host n
 line_new (Ticks now) host n e = inl e
 line_new (Arrives d) host n e = ⊎_elim
     (λ (h : holds host n ≡ true). inl h)
     (λ (named : d.name ≡ n). inr (d, named, inl refl))
-    (with_new host.is.held d (outcome_of host.is.cells host.is.held d) n e)
+    (arrival_new d host n e)
 line_new (Hears v) host n e = by (has_room_for v host) e where
   by : (b : Bool) → holds (cond b (heard v host) host) n ≡ true → WasOrComes (Hears v) host n
   by true e = inl e
@@ -63,7 +59,7 @@ line_new (Tunes constants) host n e = inl e
 line_new (Says (Draw d)) host n e = ⊎_elim
     (λ (h : holds host n ≡ true). inl h)
     (λ (named : d.name ≡ n). inr (d, named, inr refl))
-    (with_new host.is.held d (outcome_of host.is.cells host.is.held d) n e)
+    (arrival_new d host n e)
 line_new (Says (Session sender sent page marks echoes)) host n e = inl e
 line_new (Says (Request asker name)) host n e = inl e
 line_new (Says (AskPages asker)) host n e = inl e
@@ -78,12 +74,6 @@ up_to s (x ∷ newer) older e le = from (up_to s newer older e le) (nat_le x.tim
   from : (more : List Performed) × (until s (newer ++ e ∷ older) ≡ more ++ e ∷ older) → (b : Bool) → (more : List Performed) × (cond b (x ∷ (newer ++ e ∷ older)) (until s (newer ++ e ∷ older)) ≡ more ++ e ∷ older)
   from rest true = (x ∷ newer, refl)
   from rest false = rest
-
-tails : (a b : Performed) (x y : List Performed) → a ∷ x ≡ b ∷ y → x ≡ y
-tails a b x y same = cc
-
-nil_cons : (e : Performed) (x : List Performed) → ◌≡◌ {A = List Performed} [] (e ∷ x) → ⊥
-nil_cons e x same = cc
 
 -- ---- each part
 
@@ -150,7 +140,7 @@ module _ (hosts : ℕ → Start) (terms : Terms) (trace : List Performed) (timel
 
   each_part : (longest : List Performed) → Up longest
   each_part [] [] part newer i is split live held = absurd (true≢false (sym held ∙ ap (λ (t : List Performed). holds (host_after hosts t i) n) (sym is)))
-  each_part [] (b ∷ between) part newer i is split live held = absurd (nil_cons b (between ++ part) is)
+  each_part [] (b ∷ between) part newer i is split live held = absurd (nil_ends [] b (between ++ part) is)
   each_part (e ∷ older) [] part newer i is split live held =
       one_part newer older e i (each_part older) (split ∙ ap (λ (t : List Performed). newer ++ t) (sym is)) live (subst (λ (t : List Performed). Has t i) (sym is) held)
   each_part (e ∷ older) (b ∷ between) part newer i is split live held = each_part older between part newer i (tails e b older (between ++ part) is) split live held

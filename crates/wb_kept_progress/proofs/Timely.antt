@@ -96,7 +96,7 @@ pub order_of : (newer older : List Performed) → AreInOrder (newer ++ older) �
 order_of [] older order = order
 order_of (e ∷ newer) older order = order_of newer older order.1
 
-tails : (a b : Performed) (x y : List Performed) → a ∷ x ≡ b ∷ y → x ≡ y
+pub tails : (a b : Performed) (x y : List Performed) → a ∷ x ≡ b ∷ y → x ≡ y
 tails a b x y same = cc
 
 -- a part that ends earlier than another is within it
