@@ -37,3 +37,9 @@ pub mod TurnsHad
 pub mod YoungestAsked
 pub mod WindowParts
 pub mod Stillness
+pub mod CallLines
+pub mod FirstLines
+pub mod TimersAhead
+pub mod Tunings
+pub mod CallsInTime
+pub mod NothingNew
