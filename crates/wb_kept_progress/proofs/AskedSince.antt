@@ -17,7 +17,7 @@ use Rattle.wb_member.specs.Judged.{delay}
 use Rattle.wb_member.specs.Opened.{Opened, events, present}
 use Rattle.wb_keeping.specs.Kept.{Line, Asks, Ticks}
 use Rattle.wb_keeping.specs.Performing.{after_line}
-use Rattle.wb_kept_progress.specs.Timed.{AreInOrder, IsTimelyTrace, Performed, Start, host_after, time_of, timers_after}
+use Rattle.wb_kept_progress.specs.Timed.{AreInOrder, IsTimely, Performed, Start, host_after, time_of, timers_after}
 use Rattle.wb_kept_progress.proofs.Lines.{line_of}
 use Rattle.wb_kept_progress.proofs.PerLine.{IsMade, line_did, line_moment}
 use Rattle.wb_kept_progress.proofs.Timely.{order_of}
@@ -61,7 +61,7 @@ module _ (line : Line) (host : Opened) (far : ℕ) (bound : Tuning) (n : NameVal
 
 -- ---- a trace that keeps to times
 
-module _ (hosts : ℕ → Start) (terms : Terms) (trace : List Performed) (timely : IsTimelyTrace hosts terms trace) where
+module _ (hosts : ℕ → Start) (terms : Terms) (trace : List Performed) (timely : IsTimely hosts terms trace) where
   split_part : (front part : List Performed) (e : Performed) → trace ≡ front ++ e ∷ part → trace ≡ (front ++ e ∷ []) ++ part
   split_part front part e split = split ∙ sym (append_assoc front (e ∷ []) part)
 

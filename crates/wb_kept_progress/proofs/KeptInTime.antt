@@ -1,5 +1,5 @@
 -- By when what is asked for comes to hosts that keep themselves: as to the hosts that perform their lines.
-use Rattle.std.proofs.Common.{◌≡◌, ℕ, ◌+◌, ◌<◌, ◌≤◌, true, List, [], ◌∷◌, ◌++◌, ◌∙◌, ap, append_assoc, max, refl, subst, sym, ⊎_elim}
+use Rattle.std.proofs.Common.{◌≡◌, ℕ, ◌+◌, ◌<◌, ◌≤◌, true, List, [], ◌∷◌, ◌++◌, ◌∙◌, ap, append_assoc, inl, inr, max, refl, subst, sym, ⊎_elim}
 use Rattle.std.specs.Prelude.{Contains, nat_eq}
 use Rattle.std.proofs.lemmas.List.Elements.{Contains-append_cases}
 use Rattle.wb_names.specs.Values.{NameValue}
@@ -16,10 +16,10 @@ use Rattle.wb_keeping.specs.Laws.{KeptLine, Came, Ticked, Added, Tuned, doing_of
 use Rattle.wb_keeping.specs.Performing.{after_line, after_lines, sees, sent_by_line, sent_by_lines}
 use Rattle.wb_keeping.specs.Policy.{Policy, View}
 use Rattle.wb_kept_progress.specs.Sessions.{Opening, kept_at}
-use Rattle.wb_kept_progress.specs.Timed.{AllHoldBehind, AllKeptHoldBehind, IsKeptTimely, KeptRequestIsAnswered, KeptTimerLeads, Performed, Start, TimedLine, called_at, host_after, lines_of, performed, performed_then, start_of, time_of}
+use Rattle.wb_kept_progress.specs.Timed.{AllHoldBehind, AllKeptHoldBehind, IsGivenUp, IsKeptTimely, KeptRequestIsAnswered, KeptTimerLeadsOrIsGivenUp, Performed, Start, TimedLine, called_at, host_after, lines_of, performed, performed_then, start_of, time_of}
 use Rattle.wb_kept_progress.proofs.Performed.{after_all, kept_is_performed}
 use Rattle.wb_kept_progress.proofs.Repairs.{is_itself}
-use Rattle.wb_kept_progress.proofs.GivenUp.{request_is_answered, timer_leads}
+use Rattle.wb_kept_progress.proofs.GivenUp.{request_is_answered, timer_leads_or_is_given_up}
 
 abbrev pub at_place : ℕ → ℕ → Line → Performed
 at_place time place line = record { time = time; place = place; line = line }
@@ -84,27 +84,30 @@ module _ (hosts : ℕ → Opening) where
       let b = first_of_call e.at.line (sees k.host) k.policy in
       ap (λ (lines : List Line). time_of (performed_then e.time e.at.place lines (performed hosts older))) b.2 ∙ then_time e.time e.at.place b.1 b.0 (performed hosts older)
 
-  module _ (terms : Terms) (trace : List TimedLine) (n : NameValue) (is : IsKeptTimely hosts terms trace n) where
+  module _ (terms : Terms) (trace : List TimedLine) (is : IsKeptTimely hosts terms trace) where
     same : (part : List TimedLine) (i : ℕ) → host_after starts (performed hosts part) i ≡ (kept_at hosts (lines_of part) i).host
     same part i = (kept_is_performed hosts part is.opened).same i
 
-    holding : (time : ℕ) → AllHoldBehind starts terms (performed hosts trace) time n → AllKeptHoldBehind hosts terms trace time n
-    holding time all newer later i split lt live =
+    holding : (n : NameValue) (time : ℕ) → AllHoldBehind starts terms (performed hosts trace) time n → AllKeptHoldBehind hosts terms trace time n
+    holding n time all newer later i split lt live =
         let f = front_of newer later in
         sym (ap (λ (h : Opened). holds h n) (same later i))
         ∙ all f.0 (performed hosts later) i (ap (performed hosts) split ∙ f.1) (subst (λ (t : ℕ). time < t) (sym (time_is later)) lt) live
 
-pub kept_timer_leads : KeptTimerLeads
-kept_timer_leads hosts terms trace newer older i n ask due is split live from stands by =
+pub kept_timer_leads_or_is_given_up : KeptTimerLeadsOrIsGivenUp
+kept_timer_leads_or_is_given_up hosts terms trace newer older i n ask due is split live from stands by a =
     let f = front_of hosts newer older in
     let time = time_is hosts older in
-    holding hosts terms trace n is (max (called_at older) due + repairing terms)
-    (subst (λ (t : ℕ). AllHoldBehind (starts hosts) terms (performed hosts trace) (max t due + repairing terms) n) time
-    (timer_leads (starts hosts) terms (performed hosts trace) f.0 (performed hosts older) i n ask due is.timely (ap (performed hosts) split ∙ f.1) live (subst (λ (t : ℕ). known_from terms ≤ t) (sym time) from)
-    (ap (λ (h : Opened). (timers_of h.is.constants (events h) n).ask) (same hosts terms trace n is older i) ∙ stands) by is.answerable))
+    ⊎_elim
+    (λ (h : AllHoldBehind (starts hosts) terms (performed hosts trace) (max (time_of (performed hosts older)) due + repairing terms) n). inl (holding hosts terms trace is n (max (called_at older) due + repairing terms)
+    (subst (λ (t : ℕ). AllHoldBehind (starts hosts) terms (performed hosts trace) (max t due + repairing terms) n) time h)))
+    (λ (g : IsGivenUp (starts hosts) (performed hosts trace) (performed hosts older) i n ask (max (time_of (performed hosts older)) due + terms.late)). inr
+    (subst (λ (t : ℕ). IsGivenUp (starts hosts) (performed hosts trace) (performed hosts older) i n ask (max t due + terms.late)) time g))
+    (timer_leads_or_is_given_up (starts hosts) terms (performed hosts trace) f.0 (performed hosts older) i n ask due is.timely (ap (performed hosts) split ∙ f.1) live (subst (λ (t : ℕ). known_from terms ≤ t) (sym time) from)
+    (ap (λ (h : Opened). (timers_of h.is.constants (events h) n).ask) (same hosts terms trace is older i) ∙ stands) by a)
 
 pub kept_request_is_answered : KeptRequestIsAnswered
-kept_request_is_answered hosts terms trace newer older e asker n is split late later sent =
+kept_request_is_answered hosts terms trace newer older e asker n is split late later sent a =
     let k = kept_at hosts (lines_of older) e.at.place in
     let s = sent_by_one (does hosts e older) k.host (Request asker n) sent in
     let f = front_of hosts newer (e ∷ older) in
@@ -114,8 +117,8 @@ kept_request_is_answered hosts terms trace newer older e asker n is split late l
     let parted : performed hosts (e ∷ older) ≡ g.0 ++ x ∷ base = ap (λ (lines : List Line). performed_then e.time e.at.place lines (performed hosts older)) s.split ∙ then_both e.time e.at.place s.before (s.line ∷ s.later) (performed hosts older) ∙ g.1 in
     let whole : performed hosts trace ≡ (f.0 ++ g.0) ++ x ∷ base = ap (performed hosts) split ∙ f.1 ∙ ap (λ (t : List Performed). f.0 ++ t) parted ∙ sym (append_assoc f.0 g.0 (x ∷ base)) in
     let there : host_after (starts hosts) base e.at.place ≡ after_lines s.before k.host =
-    after_all (starts hosts) e.time e.at.place s.before (performed hosts older) e.at.place true (itself e.at.place) ∙ ap (after_lines s.before) (same hosts terms trace n is older e.at.place) in
-    holding hosts terms trace n is (e.time + answering_by terms)
-    (request_is_answered (starts hosts) terms (performed hosts trace) (f.0 ++ g.0) base x asker n is.timely whole late later (subst (λ (h : Opened). Contains (sent_by_line s.line h) (Request asker n)) (sym there) s.sent) is.answerable) where
+    after_all (starts hosts) e.time e.at.place s.before (performed hosts older) e.at.place true (itself e.at.place) ∙ ap (after_lines s.before) (same hosts terms trace is older e.at.place) in
+    holding hosts terms trace is n (e.time + answering_by terms)
+    (request_is_answered (starts hosts) terms (performed hosts trace) (f.0 ++ g.0) base x asker n is.timely whole late later (subst (λ (h : Opened). Contains (sent_by_line s.line h) (Request asker n)) (sym there) s.sent) a) where
       itself : (n : ℕ) → nat_eq n n ≡ true
       itself n = is_itself n

@@ -16,7 +16,7 @@ use Rattle.wb_member.specs.Random.{word_of}
 use Rattle.wb_session.proofs.Members.{held_after}
 use Rattle.wb_keeping.specs.Kept.{Arrives, Asks, Hears, Line, Says, SetsDistance, Tunes, Stops, Ticks}
 use Rattle.wb_keeping.specs.Performing.{after_line}
-use Rattle.wb_kept_progress.specs.Timed.{IsAnswerable, IsTimelyTrace, Performed, Start, WasSent, host_after, performed, start_of, until}
+use Rattle.wb_kept_progress.specs.Timed.{IsAnswerable, IsTimely, Performed, Start, WasSent, host_after, performed, start_of, until}
 use Rattle.wb_kept_progress.proofs.CallLines.{nil_ends}
 use Rattle.wb_kept_progress.proofs.CallParts.{host_is}
 use Rattle.wb_kept_progress.proofs.CallsInTime.{performed_is_timely}
@@ -77,7 +77,7 @@ up_to s (x ∷ newer) older e le = from (up_to s newer older e le) (nat_le x.tim
 
 -- ---- each part
 
-module _ (hosts : ℕ → Start) (terms : Terms) (trace : List Performed) (timely : IsTimelyTrace hosts terms trace) (n : NameValue) where
+module _ (hosts : ℕ → Start) (terms : Terms) (trace : List Performed) (timely : IsTimely hosts terms trace) (n : NameValue) where
   abbrev Goal : Type 0
   Goal = IsAnswerable hosts terms trace n
 

@@ -25,7 +25,7 @@ use Rattle.wb_keeping.specs.Performing.{sees, view_of}
 use Rattle.wb_keeping.specs.Wanting.{oldest}
 use Rattle.wb_keeping.specs.declared.wanting.AskedName.{AskedName}
 use Rattle.wb_kept_progress.specs.Sessions.{Opening}
-use Rattle.wb_kept_progress.specs.Timed.{AllHoldBehind, AreInOrder, IsGivenUp, IsTimelyTrace, Performed, Start, TellTimes, TimedLine, TimerLeadsOrIsGivenUp, called_at, performed, start_of, time_of, until}
+use Rattle.wb_kept_progress.specs.Timed.{AllHoldBehind, AreInOrder, IsGivenUp, IsTimely, Performed, Start, TellTimes, TimedLine, TimerLeadsOrIsGivenUp, called_at, performed, start_of, time_of, until}
 use Rattle.wb_kept_progress.specs.Whole.{AreApart, AreCalledInOrder, IsHeldBySome, IsLackedAt, Lack, Sizes, request_span, there}
 use Rattle.wb_kept_progress.proofs.AskedSince.{WasAsked, was_asked}
 use Rattle.wb_kept_progress.proofs.CallParts.{calls_end, calls_order, host_is, lacked_until, lines_order}
@@ -71,7 +71,7 @@ module _ (hosts : ℕ → Opening) (terms : Terms) (trace newest window base : L
   abbrev lines : List Performed
   lines = performed hosts whole
 
-  timely : IsTimelyTrace starts terms all
+  timely : IsTimely starts terms all
   timely = timely_so hosts terms trace are.session
 
   newest_lines : (front : List Performed) × (all ≡ front ++ lines)

@@ -24,7 +24,7 @@ use Rattle.wb_member.specs.Opened.{Opened, accepted, asks_for, heard, opened_wit
 use Rattle.wb_member.specs.Random.{word_of}
 use Rattle.wb_keeping.specs.Kept.{Line, Arrives, Hears, Says, Ticks}
 use Rattle.wb_keeping.specs.Performing.{after_line, sent_by_line}
-use Rattle.wb_kept_progress.specs.Timed.{AllHoldBehind, AreInOrder, ComesTo, IsAnswerable, IsTimelyTrace, Performed, Start, WasSent, host_after, time_of, timers_after, until}
+use Rattle.wb_kept_progress.specs.Timed.{AllHoldBehind, AreInOrder, ComesTo, IsAnswerable, IsTimely, Performed, Start, WasSent, host_after, time_of, timers_after, until}
 use Rattle.wb_kept_progress.proofs.Lines.{IsOf, line_grows, line_of, same_member}
 use Rattle.wb_kept_progress.proofs.Lining.{by_line, by_part, desk_is, desk_of, order_is, over_join, time_is, turn_of, turns_join, turns_of, turns_over, until_is}
 use Rattle.wb_kept_progress.proofs.PerLine.{IsMade, asks, draws, is_made, line_did, line_moment, line_none}
@@ -108,7 +108,7 @@ in_past (e ∷ newer) later (y ∷ front) base same order lt = in_past newer lat
 
 -- ---- a timely trace
 
-module _ (hosts : ℕ → Start) (terms : Terms) (trace : List Performed) (timely : IsTimelyTrace hosts terms trace) where
+module _ (hosts : ℕ → Start) (terms : Terms) (trace : List Performed) (timely : IsTimely hosts terms trace) where
   abbrev at : Places
   at = places hosts
 

@@ -14,7 +14,7 @@ use Rattle.wb_keeping.specs.Performing.{Keeping, sees, view_of}
 use Rattle.wb_keeping.specs.Wanting.{oldest}
 use Rattle.wb_keeping.specs.declared.wanting.AskedName.{AskedName}
 use Rattle.wb_kept_progress.specs.Sessions.{Opening}
-use Rattle.wb_kept_progress.specs.Timed.{IsTimelyTrace, Performed, TimedLine, called_at, host_after, performed, performed_then, start_of, time_of, timers_after}
+use Rattle.wb_kept_progress.specs.Timed.{IsTimely, Performed, TimedLine, called_at, host_after, performed, performed_then, start_of, time_of, timers_after}
 use Rattle.wb_kept_progress.specs.Whole.{IsHeldBySome, IsTimelySession, LackAtMost, AreWithin, Sizes, WaitAtMost, report_span, request_span, there}
 
 -- ---- calls and their lines
@@ -47,7 +47,7 @@ LinesHaveCalls = (hosts : ℕ → Opening) (trace : List TimedLine) (front : Lis
 
 -- Of a session that keeps to times, the lines that are performed do.
 abbrev pub PerformedIsTimely : Type 0
-PerformedIsTimely = (hosts : ℕ → Opening) (terms : Terms) (trace : List TimedLine) → IsTimelySession hosts terms trace → IsTimelyTrace (λ j. start_of (hosts j)) terms (performed hosts trace)
+PerformedIsTimely = (hosts : ℕ → Opening) (terms : Terms) (trace : List TimedLine) → IsTimelySession hosts terms trace → IsTimely (λ j. start_of (hosts j)) terms (performed hosts trace)
 
 -- Nothing new comes: what a live host holds, one of them held once what was on its way had arrived.
 abbrev pub HeldWasHeld : Type 0
@@ -90,7 +90,7 @@ ReportsAreDue = (hosts : ℕ → Opening) (terms : Terms) (trace newer older : L
 
 -- A request timer for what some hold was not backed off since requests are answered, or they are answered soon.
 abbrev pub TimersAreYoung : Type 0
-TimersAreYoung = (hosts : ℕ → Opening) (terms : Terms) (trace : List TimedLine) (front back : List Performed) (i wait : ℕ) (n : NameValue) (ask : AskTimer) → IsTimelyTrace (λ j. start_of (hosts j)) terms (performed hosts trace) → WaitAtMost hosts terms trace wait
+TimersAreYoung = (hosts : ℕ → Opening) (terms : Terms) (trace : List TimedLine) (front back : List Performed) (i wait : ℕ) (n : NameValue) (ask : AskTimer) → IsTimely (λ j. start_of (hosts j)) terms (performed hosts trace) → WaitAtMost hosts terms trace wait
     → performed hosts trace ≡ front ++ back → Contains terms.live i → known_from terms + wait + terms.late < time_of back → IsHeldBySome hosts terms trace n → timer_then hosts back i n ≡ Some ask
     → (ask.level ≡ 0) ⊎ ((newer later : List Performed) (j : ℕ) → performed hosts trace ≡ newer ++ later → time_of back + repairing terms < time_of later → Contains terms.live j → holds (host_then hosts later j) n ≡ true)
 

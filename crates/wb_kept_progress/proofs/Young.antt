@@ -10,12 +10,12 @@ use Rattle.wb_progress.specs.Turns.{IsOtherOrLacked, Terms, Turn}
 use Rattle.wb_progress.specs.Turns as turning
 use Rattle.wb_progress.proofs.Giving.{spares_held}
 use Rattle.wb_progress.proofs.Young.{timers_are_young as keepers_are_young}
-use Rattle.wb_kept_progress.specs.Timed.{AllHoldBehind, IsAnswerable, IsTimelyTrace, Performed, Start, performed, start_of, time_of, timers_after, until}
+use Rattle.wb_kept_progress.specs.Timed.{AllHoldBehind, IsAnswerable, IsTimely, Performed, Start, performed, start_of, time_of, timers_after, until}
 use Rattle.wb_kept_progress.proofs.Lining.{time_is, turns_of, turns_over, until_is}
 use Rattle.wb_kept_progress.proofs.Timely.{answerable, holding, joined, keep_time, places, timers_here}
 use Rattle.wb_kept_progress.proofs.WholeParts.{TimersAreYoung}
 
-module _ (hosts : ℕ → Start) (terms : Terms) (trace : List Performed) (timely : IsTimelyTrace hosts terms trace) where
+module _ (hosts : ℕ → Start) (terms : Terms) (trace : List Performed) (timely : IsTimely hosts terms trace) where
   pub are_young : (front back : List Performed) (i wait : ℕ) (n : NameValue) (ask : AskTimer) → ((other : AskTimer) → (timers_after hosts (until (known_from terms) trace) i n).ask ≡ Some other → other.due ≤ known_from terms + wait + terms.offset i)
       → trace ≡ front ++ back → Contains terms.live i → known_from terms + wait + terms.late < time_of back → IsAnswerable hosts terms trace n → (timers_after hosts back i n).ask ≡ Some ask → (ask.level ≡ 0) ⊎ AllHoldBehind hosts terms trace (time_of back + answering_by terms) n
   are_young front back i wait n ask waits split live lt a stands =
