@@ -238,35 +238,70 @@ module _ (hosts : ℕ → Opening) (terms : Terms) (trace newest window base : L
       let le = r.1 in
       (r.0, omega (arith, le))
 
+  -- what stands at such a report
+  module _ (count : ℕ) (b : IsBehind count) (r : Reports hosts terms trace s i live b.front b.part) where
+    abbrev more : List TimedLine
+    more = r.e ∷ r.between
+
+    abbrev pub before_it : List TimedLine
+    before_it = r.between ++ b.part
+
+    pub still_there : IsStill hosts terms trace newest (r.later ++ more) b.part
+    still_there = subst (λ (t : List TimedLine). IsStill hosts terms trace newest t b.part) r.split b.still_here
+
+    pub split_there : trace ≡ (newest ++ r.later) ++ r.e ∷ before_it
+    split_there =
+        still_there.split ∙ ap (λ (t : List TimedLine). newest ++ t) (append_assoc r.later more b.part)
+        ∙ sym (append_assoc newest r.later (more ++ b.part))
+
+    pub held_there : (there hosts before_it i).host.is.held ≡ held
+    held_there = still_there.same (r.later ++ r.e ∷ []) r.between i (sym (append_assoc r.later (r.e ∷ []) r.between)) live ∙ b.kept i live
+
+    pub turns_there : (there hosts before_it i).policy.turns ≡ after_turns held count first.turns
+    turns_there = r.same.turns ∙ b.turns
+
+    pub tells_there : told_of (there hosts before_it i).policy ≡ after_tellings held count (told_of first)
+    tells_there = r.same.told ∙ b.told
+
+    pub window_there : window ≡ r.later ++ r.e ∷ (r.between ++ b.grown)
+    window_there = b.split ∙ ap (λ (t : List TimedLine). t ++ b.grown) r.split ∙ append_assoc r.later more b.grown
+
+    pub before_is : before_it ≡ (r.between ++ b.grown) ++ base
+    before_is = ap (λ (t : List TimedLine). r.between ++ t) b.is ∙ sym (append_assoc r.between b.grown base)
+
   one_more : (count : ℕ) → IsBehind count → from + suc count * span < called_at (window ++ base) → IsBehind (suc count)
   one_more count b lt =
       let n = report_behind count b lt in
-      let r = n.0 in
-      let le = n.1 in
-      let more = r.e ∷ r.between in
-      let older = r.between ++ b.part in
-      let here = there_here hosts r.e older i r.place in
-      let st_all : IsStill hosts terms trace newest (r.later ++ more) b.part = subst (λ (t : List TimedLine). IsStill hosts terms trace newest t b.part) r.split b.still_here in
-      let k_held : (there hosts older i).host.is.held ≡ held = st_all.same (r.later ++ r.e ∷ []) r.between i (sym (append_assoc r.later (r.e ∷ []) r.between)) live ∙ b.kept i live in
-      let most = r.reporting.most in
-      let order = ordered hosts terms trace s (newest ++ r.later) (more ++ b.part) (st_all.split ∙ ap (λ (t : List TimedLine). newest ++ t) (append_assoc r.later more b.part) ∙ sym (append_assoc newest r.later (more ++ b.part))) in
-      let end = calls_end more b.part order in
-      let q = b.quiet in
-      record {
-        front = r.later;
-        grown = more ++ b.grown;
-        part = more ++ b.part;
-        is = ap (λ (t : List TimedLine). more ++ t) b.is ∙ sym (append_assoc more b.grown base);
-        split = b.split ∙ ap (λ (t : List TimedLine). t ++ b.grown) r.split ∙ append_assoc r.later more b.grown;
-        still_here = still_older hosts terms trace newest r.later more b.part st_all;
-        turns = ap (λ (x : Keeping). x.policy.turns) here ∙ r.reporting.turns ∙ ap (λ (h : List DrawopValue). after_turn h (there hosts older i).policy.turns) k_held ∙ ap (after_turn held) (r.same.turns ∙ b.turns);
-        told = ap (λ (x : Keeping). told_of x.policy) here ∙ r.reporting.told ∙ ap (λ (h : List DrawopValue). after_telling h (told_of (there hosts older i).policy)) k_held ∙ ap (after_telling held) (r.same.told ∙ b.told);
-        due_by = let e = ap (λ (x : Keeping). x.policy.reports.due) here in omega (arith, e, most, le);
-        soon = le;
-        quiet = omega (arith, q, end);
-        behind = λ a c y is. b.behind a (c ++ more) y (r.split ∙ ap (λ (t : List TimedLine). t ++ more) is ∙ append_assoc a (y ∷ c) more);
-        kept = λ j live_j. st_all.same r.later more j refl live_j ∙ b.kept j live_j;
-      }
+      behind_it count b n.0 n.1 where
+        behind_it : (count : ℕ) (b : IsBehind count) (r : Reports hosts terms trace s i live b.front b.part) → r.e.time ≤ from + suc count * span → IsBehind (suc count)
+        behind_it count b r le =
+            let more = r.e ∷ r.between in
+            let older = r.between ++ b.part in
+            let here = there_here hosts r.e older i r.place in
+            let st = still_there count b r in
+            let k_held = held_there count b r in
+            let most = r.reporting.most in
+            let end = calls_end more b.part (ordered hosts terms trace s (newest ++ r.later) (more ++ b.part) (split_there count b r)) in
+            let q = b.quiet in
+            record {
+              front = r.later;
+              grown = more ++ b.grown;
+              part = more ++ b.part;
+              is = ap (λ (t : List TimedLine). r.e ∷ t) (before_is count b r);
+              split = window_there count b r;
+              still_here = still_older hosts terms trace newest r.later more b.part st;
+              turns =
+                  ap (λ (x : Keeping). x.policy.turns) here ∙ r.reporting.turns
+                  ∙ ap (λ (h : List DrawopValue). after_turn h (there hosts older i).policy.turns) k_held ∙ ap (after_turn held) (turns_there count b r);
+              told =
+                  ap (λ (x : Keeping). told_of x.policy) here ∙ r.reporting.told
+                  ∙ ap (λ (h : List DrawopValue). after_telling h (told_of (there hosts older i).policy)) k_held ∙ ap (after_telling held) (tells_there count b r);
+              due_by = let e = ap (λ (x : Keeping). x.policy.reports.due) here in omega (arith, e, most, le);
+              soon = le;
+              quiet = omega (arith, q, end);
+              behind = λ a c y is. b.behind a (c ++ more) y (r.split ∙ ap (λ (t : List TimedLine). t ++ more) is ∙ append_assoc a (y ∷ c) more);
+              kept = λ j live_j. st.same r.later more j refl live_j ∙ b.kept j live_j;
+            }
 
   pub is_behind : (count : ℕ) → from + count * span < called_at (window ++ base) → IsBehind count
   is_behind zero lt = at_start
