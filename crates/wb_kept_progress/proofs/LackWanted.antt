@@ -61,9 +61,10 @@ within (x ∷ newest) front [] between rest call order split lt =
     let end = calls_end (x ∷ newest) (front ++ rest) order in
     let time : x.time ≡ call.time = ap (λ (y : TimedLine). y.time) same in
     absurd (omega (arith, end, lt, time))
-within (x ∷ newest) front (y ∷ later) between rest call order split lt = within newest front later between rest call order.1 (tail x y (newest ++ front) (later ++ call ∷ between) split) lt where
-  tail : (x y : TimedLine) (a b : List TimedLine) → x ∷ a ≡ y ∷ b → a ≡ b
-  tail x y a b e = cc
+within (x ∷ newest) front (y ∷ later) between rest call order split lt =
+    within newest front later between rest call order.1 (tail x y (newest ++ front) (later ++ call ∷ between) split) lt where
+      tail : (x y : TimedLine) (a b : List TimedLine) → x ∷ a ≡ y ∷ b → a ≡ b
+      tail x y a b e = cc
 
 module _ (was_held : HeldWasHeld) (hosts : ℕ → Opening) (terms : Terms) (trace newest window base : List TimedLine) (sizes : Sizes)
     (s : IsTimelySession hosts terms trace) (small : AreWithin hosts terms trace sizes) (still : IsStill hosts terms trace newest window base)
@@ -128,7 +129,8 @@ module _ (was_held : HeldWasHeld) (hosts : ℕ → Opening) (terms : Terms) (tra
     abbrev told_in : Datagram
     told_in =
         let h = there hosts (r.between ++ b.part) k in
-        Session h.host.is.number r.reporting.moment (page_in_turn h.host.is.held (told_of h.policy)) (marks_in_turn h.host.is.held (told_of h.policy)) r.reporting.echoes
+        Session h.host.is.number r.reporting.moment (page_in_turn h.host.is.held (told_of h.policy))
+        (marks_in_turn h.host.is.held (told_of h.policy)) r.reporting.echoes
 
   abbrev WantedBy : ℕ → Type 0
   WantedBy i = IsWanting hosts terms trace window base i from by
@@ -168,7 +170,8 @@ module _ (was_held : HeldWasHeld) (hosts : ℕ → Opening) (terms : Terms) (tra
         let count = turn.0 in
         let less = turn.1 in
         let most = more_turns (h.gap.last + 1 - h.gap.first) sizes.numbers (length (holes_of (held_by i))) sizes.holes numbers holes in
-        let fits : suc count ≤ turns_most = under count (2 * (h.gap.last + 1 - h.gap.first) * length (holes_of (held_by i))) (2 * sizes.numbers * sizes.holes) sizes.slices less most in
+        let fits : suc count ≤ turns_most =
+        under count (2 * (h.gap.last + 1 - h.gap.first) * length (holes_of (held_by i))) (2 * sizes.numbers * sizes.holes) sizes.slices less most in
         let b = behind_at i live count (in_time_at_least count fits) in
         let n_is = turn.2 ∙ ap (λ (source : ℕ). Some (name_of n.page source n.seq)) h.source in
         at_report n held lacks count fits b n_is where
@@ -196,7 +199,8 @@ module _ (was_held : HeldWasHeld) (hosts : ℕ → Opening) (terms : Terms) (tra
                     (ap (λ (h : List DrawopValue). name_in_turn h k.policy.turns) k_held ∙ ap (name_in_turn (held_by i)) (turns_report i live count b r) ∙ n_is) in
                     let m = more_spans (suc count) turns_most span fits in
                     wanting_in_call hosts terms trace s.opened i n held window base r.later (r.between ++ b.grown) older r.e from by
-                    (window_report i live count b r) (before_report i live count b r) r.place r.reporting.now_is wants (b.behind r.later r.between r.e r.split) (omega (arith, soon, m))
+                    (window_report i live count b r) (before_report i live count b r) r.place r.reporting.now_is wants (b.behind r.later r.between r.e r.split)
+                    (omega (arith, soon, m))
 
     -- ---- the greatest number of a source is told
 
@@ -247,7 +251,8 @@ module _ (was_held : HeldWasHeld) (hosts : ℕ → Opening) (terms : Terms) (tra
           let st = cut_at j live_j in
           let same = still.same st.front st.grown j st.split live_j in
           let slices : slices_of (held_by j) + slices_on (held_by j) u.page ≤ sizes.slices =
-          subst (λ (h : List DrawopValue). slices_of h + slices_on h u.page ≤ sizes.slices) same (small.slices (newest ++ st.front) (st.grown ++ base) j (cut_split st) live_j) in
+          subst (λ (h : List DrawopValue). slices_of h + slices_on h u.page ≤ sizes.slices) same
+          (small.slices (newest ++ st.front) (st.grown ++ base) j (cut_split st) live_j) in
           let t = each_mark_is_told (held_by j) u page mark (page_there (held_by j) d there_d counted) (top_told (held_by j) d there_d counted) in
           let less = t.1 in
           (t.0, record { fits = under t.0 (slices_of (held_by j) + slices_on (held_by j) u.page) sizes.slices (2 * sizes.numbers * sizes.holes) less slices; page_is = t.2; among = t.3 }) where
@@ -261,7 +266,8 @@ module _ (was_held : HeldWasHeld) (hosts : ℕ → Opening) (terms : Terms) (tra
             → r.e.time ≤ from + suc count * span
             → IsHandedIn (newest ++ r.later) i (r.e.time + terms.delivery) (told_in j live_j count b r) → WantedBy i
         handed_in count t b r soon h =
-            wanting_in_call hosts terms trace s.opened i top_name held window base c.0 (h.between ++ r.e ∷ (r.between ++ b.grown)) older h.call from by split_w is_w
+            wanting_in_call hosts terms trace s.opened i top_name held window base c.0
+            (h.between ++ r.e ∷ (r.between ++ b.grown)) older h.call from by split_w is_w
             (same_place h.call.at.place i h.place) now_is wants behind in_by where
               more : List TimedLine
               more = r.e ∷ r.between
@@ -299,7 +305,8 @@ module _ (was_held : HeldWasHeld) (hosts : ℕ → Opening) (terms : Terms) (tra
 
               split_w : window ≡ c.0 ++ h.call ∷ (h.between ++ (more ++ b.grown))
               split_w =
-                  window_report j live_j count b r ∙ ap (λ (t : List TimedLine). t ++ (more ++ b.grown)) c.1 ∙ append_assoc c.0 (h.call ∷ h.between) (more ++ b.grown)
+                  window_report j live_j count b r ∙ ap (λ (t : List TimedLine). t ++ (more ++ b.grown)) c.1
+                  ∙ append_assoc c.0 (h.call ∷ h.between) (more ++ b.grown)
 
               is_w : older ≡ (h.between ++ (more ++ b.grown)) ++ base
               is_w = ap (λ (t : List TimedLine). h.between ++ r.e ∷ t) (before_report j live_j count b r) ∙ sym (append_assoc h.between (more ++ b.grown) base)
@@ -337,17 +344,20 @@ module _ (was_held : HeldWasHeld) (hosts : ℕ → Opening) (terms : Terms) (tra
                   (sym (ap (λ (x : List DrawopValue). marks_in_turn x (told_of kj.policy)) kj_held ∙ ap (marks_in_turn (held_by j)) kj_told)) t.among
 
               other : kj.host.is.number ≡ k.host.is.number → ⊥
-              other e = differ (s.distinct j i (sym (of_opening hosts (lines_of (r.between ++ b.part)) j).number ∙ e ∙ (of_opening hosts (lines_of older) i).number))
+              other e =
+                  differ (s.distinct j i (sym (of_opening hosts (lines_of (r.between ++ b.part)) j).number ∙ e ∙ (of_opening hosts (lines_of older) i).number))
 
               report : Datagram
               report = told_in j live_j count b r
 
               told_so : IsAskedInCall top_name (came h.now report) k ⊎ LacksCredit (after_doing (came h.now report) k)
-              told_so = told_wants k h.now kj.host.is.number r.reporting.moment told_page marks r.reporting.echoes other top_name (in_names k.host.is.number told_page marks page_is among) (record {
-                answers_held = answers_at hosts (lines_of older) i;
-                lacks = ap (λ (x : List DrawopValue). holds x top_name) k_held ∙ lacks;
-                room = room_there hosts terms trace s (newest ++ c.0) older h.call i whole live;
-              })
+              told_so =
+                  told_wants k h.now kj.host.is.number r.reporting.moment told_page marks r.reporting.echoes other top_name
+                  (in_names k.host.is.number told_page marks page_is among) (record {
+                    answers_held = answers_at hosts (lines_of older) i;
+                    lacks = ap (λ (x : List DrawopValue). holds x top_name) k_held ∙ lacks;
+                    room = room_there hosts terms trace s (newest ++ c.0) older h.call i whole live;
+                  })
 
               wants : IsAskedInCall top_name (doing_of h.call.at.line) k ⊎ LacksCredit (after_doing (doing_of h.call.at.line) k)
               wants = subst (λ (line : KeptLine). IsAskedInCall top_name (doing_of line) k ⊎ LacksCredit (after_doing (doing_of line) k)) (sym h.is) told_so
@@ -355,7 +365,8 @@ module _ (was_held : HeldWasHeld) (hosts : ℕ → Opening) (terms : Terms) (tra
               now_is : present (after_doing (doing_of h.call.at.line) k).host ≡ h.call.time + terms.offset i
               now_is =
                   ap (λ (line : KeptLine). present (after_doing (doing_of line) k).host) h.is ∙ came_now h.now report k
-                  ∙ subst (IsTold (h.call.time + terms.offset i)) h.is (told_there hosts terms trace s (newest ++ c.0) older h.call i whole (same_place h.call.at.place i h.place))
+                  ∙ subst (IsTold (h.call.time + terms.offset i)) h.is
+                  (told_there hosts terms trace s (newest ++ c.0) older h.call i whole (same_place h.call.at.place i h.place))
 
               behind : from < h.call.time
               behind =
@@ -376,13 +387,16 @@ module _ (was_held : HeldWasHeld) (hosts : ℕ → Opening) (terms : Terms) (tra
               told_by count t b r soon =
                   let older = r.between ++ b.part in
                   let at_j : r.e.at.place ≡ j = eqb-true r.e.at.place j r.place in
-                  let sent = subst (λ (p : ℕ). Contains (sent_by_doing (doing_of r.e.at.line) (there hosts older p)) (told_in j live_j count b r)) (sym at_j) r.reporting.sends in
+                  let sent =
+                  subst (λ (p : ℕ). Contains (sent_by_doing (doing_of r.e.at.line) (there hosts older p)) (told_in j live_j count b r))
+                  (sym at_j) r.reporting.sends in
                   let first = b.behind r.later r.between r.e r.split in
                   let m = more_spans (suc count) turns_most span t.fits in
                   let end = calls_end newest (window ++ base) (subst AreCalledInOrder still.split s.order) in
                   let last = ap called_at still.split in
                   let q = quiet in
-                  handed_in count t b r soon (s.delivered (newest ++ r.later) older r.e i (told_in j live_j count b r) (split_report j live_j count b r) live (λ same. differ (sym at_j ∙ same))
+                  handed_in count t b r soon
+                  (s.delivered (newest ++ r.later) older r.e i (told_in j live_j count b r) (split_report j live_j count b r) live (λ same. differ (sym at_j ∙ same))
                   (omega (arith, q, first, since)) sent (omega (arith, soon, m, end, last, before_end)))
 
       -- which of both
@@ -392,8 +406,11 @@ module _ (was_held : HeldWasHeld) (hosts : ℕ → Opening) (terms : Terms) (tra
         at_top = top_held (held_by j) d there_d counted
 
         by_top : (b : Bool) → holds (held_by i) top_name ≡ b → WantedBy i
-        by_top true has = by_turn d.name held is_lacked (missing_below (held_by i) d.name top counted (below_top (held_by j) d there_d counted) is_lacked (held-by (held_by i) page d.name.source top has))
-        by_top false lacks = by_report lacks (was_held hosts terms trace (newest ++ window) base j top_name s split_base live_j (held-from (held_by j) page d.name.source top at_top))
+        by_top true has =
+            by_turn d.name held is_lacked
+            (missing_below (held_by i) d.name top counted (below_top (held_by j) d there_d counted) is_lacked (held-by (held_by i) page d.name.source top has))
+        by_top false lacks =
+            by_report lacks (was_held hosts terms trace (newest ++ window) base j top_name s split_base live_j (held-from (held_by j) page d.name.source top at_top))
 
     -- ---- any name
 
@@ -440,6 +457,7 @@ module _ (was_held : HeldWasHeld) (hosts : ℕ → Opening) (terms : Terms) (tra
 
 pub lack_is_wanted : HeldWasHeld → LackIsWanted
 lack_is_wanted was_held hosts terms trace newest window base sizes wait most i from n all still late live held lacks since before_end =
-    lack_is_wanted_here was_held hosts terms trace newest window base sizes all.session all.within still (settled terms (called_at base) wait all.session.reported late) from since before_end i live n held lacks where
+    lack_is_wanted_here was_held hosts terms trace newest window base sizes all.session all.within still
+    (settled terms (called_at base) wait all.session.reported late) from since before_end i live n held lacks where
       settled : (terms : Terms) (time wait : ℕ) → 1 ≤ terms.reporting → known_from terms + wait + repairing terms ≤ time → settled_by terms < time
       settled terms time wait some le = omega (arith, some, le)
