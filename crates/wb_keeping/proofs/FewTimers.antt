@@ -154,7 +154,7 @@ steps_keep_few = record {
   arrives = λ d k. quietly k _ k.policy (refl, tt);
   answered = λ d k lacks asked. quietly k _ _ (refl, tt);
   hears = λ v k. quietly k _ k.policy (refl, tt);
-  stops = λ name k. quietly k _ k.policy (refl, tt);
+  stops = λ name k full. quietly k _ k.policy (refl, tt);
   sets = λ source micros k. quietly k _ k.policy (refl, tt);
   tunes = λ constants k within. quietly k _ k.policy (refl, tt);
   wants = λ name anew k. record { at = refl; few = wanted_few name anew k };

@@ -19,9 +19,9 @@ use Rattle.wb_kept_progress.specs.Sessions.{Opening, kept_at}
 use Rattle.wb_kept_progress.specs.Timed.{AllHoldBehind, AllKeptHoldBehind, IsKeptTimely, KeptRequestIsAnswered, KeptTimerLeads, Performed, Start, TimedLine, called_at, host_after, lines_of, performed, performed_then, start_of, time_of}
 use Rattle.wb_kept_progress.proofs.Performed.{after_all, kept_is_performed}
 use Rattle.wb_kept_progress.proofs.Repairs.{is_itself}
-use Rattle.wb_kept_progress.proofs.Timely.{request_is_answered, timer_leads}
+use Rattle.wb_kept_progress.proofs.GivenUp.{request_is_answered, timer_leads}
 
-abbrev at_place : ℕ → ℕ → Line → Performed
+abbrev pub at_place : ℕ → ℕ → Line → Performed
 at_place time place line = record { time = time; place = place; line = line }
 
 -- lines that are performed stand before the older ones
@@ -40,14 +40,14 @@ then_time time place [] line older = refl
 then_time time place (next ∷ lines) line older = then_time time place lines next (at_place time place line ∷ older)
 
 -- the line that sends a datagram, of some that are performed
-record IsSentBy (lines : List Line) (host : Opened) (v : Datagram) : Type 0 where
-  before : List Line
-  line : Line
-  later : List Line
-  split : lines ≡ before ++ line ∷ later
-  sent : Contains (sent_by_line line (after_lines before host)) v
+pub record IsSentBy (lines : List Line) (host : Opened) (v : Datagram) : Type 0 where
+  pub before : List Line
+  pub line : Line
+  pub later : List Line
+  pub split : lines ≡ before ++ line ∷ later
+  pub sent : Contains (sent_by_line line (after_lines before host)) v
 
-sent_by_one : (lines : List Line) (host : Opened) (v : Datagram) → Contains (sent_by_lines lines host) v → IsSentBy lines host v
+pub sent_by_one : (lines : List Line) (host : Opened) (v : Datagram) → Contains (sent_by_lines lines host) v → IsSentBy lines host v
 sent_by_one [] host v c = absurd (Contains-none v c)
 sent_by_one (line ∷ lines) host v c = ⊎_elim
     (λ (h : Contains (sent_by_line line host) v). record { before = []; line = line; later = lines; split = refl; sent = h })
@@ -57,14 +57,14 @@ sent_by_one (line ∷ lines) host v c = ⊎_elim
     (Contains-append_cases (sent_by_line line host) (sent_by_lines lines (after_line line host)) v c)
 
 -- the first line of what a call performs
-first_of_call : (line : KeptLine) (see : List Line → View) (p : Policy) → (first : Line) × (rest : List Line) × ((doing_of line see p).lines ≡ first ∷ rest)
+pub first_of_call : (line : KeptLine) (see : List Line → View) (p : Policy) → (first : Line) × (rest : List Line) × ((doing_of line see p).lines ≡ first ∷ rest)
 first_of_call (Came now v) see p = (Ticks now, _, refl)
 first_of_call (Ticked now) see p = (Ticks now, _, refl)
 first_of_call (Added now page time op) see p = (Ticks now, _, refl)
 first_of_call (Tuned constants) see p = (Tunes constants, [], refl)
 
 module _ (hosts : ℕ → Opening) where
-  abbrev starts : ℕ → Start
+  abbrev pub starts : ℕ → Start
   starts j = start_of (hosts j)
 
   abbrev does : TimedLine → List TimedLine → List Line

@@ -113,11 +113,10 @@ pub record IsTimely (hosts : ℕ → Start) (terms : Terms) (trace : List Perfor
   pub fresh_drawops : (newer older : List Performed) (e : Performed) (d : DrawopValue) → trace ≡ newer ++ e ∷ older → settled_by terms < e.time → e.line ≡ Arrives d → WasSent hosts older e.time terms.delivery (Draw d)
   pub fresh_requests : (newer older : List Performed) (e : Performed) (asker : ℕ) (m : NameValue) → trace ≡ newer ++ e ∷ older → settled_by terms < e.time → e.line ≡ Hears (Request asker m) → WasSent hosts older e.time terms.delivery (Request asker m)
 
--- from `quiet` on nothing is drawn, no request is said, and what is held is not given up
-pub record IsQuietLine (host : Opened) (line : Line) : Type 0 where
+-- from `quiet` on nothing is drawn, and no request is said
+pub record IsQuietLine (line : Line) : Type 0 where
   pub drawn : (d : DrawopValue) → line ≢ Says (Draw d)
   pub said : (asker : ℕ) (m : NameValue) → line ≢ Says (Request asker m)
-  pub given_up : (m : NameValue) → line ≡ Stops m → holds host m ≡ false
 
 -- The terms are those of wb_progress, without pages: nothing is asked of looks and of reports.
 pub record IsTimelyTrace (hosts : ℕ → Start) (terms : Terms) (trace : List Performed) : Type 0 where
@@ -134,7 +133,7 @@ pub record IsTimelyTrace (hosts : ℕ → Start) (terms : Terms) (trace : List P
   pub delays : (newer older : List Performed) (i source : ℕ) → trace ≡ newer ++ older → Contains terms.live i → delay (host_after hosts older i) source ≤ terms.far
   -- from `quiet` on
   pub alone : (newer older : List Performed) (e : Performed) → trace ≡ newer ++ e ∷ older → terms.quiet < e.time → Contains terms.live e.place
-  pub quiet : (newer older : List Performed) (e : Performed) → trace ≡ newer ++ e ∷ older → terms.quiet < e.time → IsQuietLine (host_after hosts older e.place) e.line
+  pub quiet : (newer older : List Performed) (e : Performed) → trace ≡ newer ++ e ∷ older → terms.quiet < e.time → IsQuietLine e.line
   pub room : (newer older : List Performed) (e : Performed) (d : DrawopValue) → trace ≡ newer ++ e ∷ older → terms.quiet < e.time → e.line ≡ Arrives d → (holds (host_after hosts older e.place) d.name ≡ true) ⊎ (is_full (host_after hosts older e.place) ≡ false)
   -- what a live place sends comes to each other one in time, and what comes was sent shortly before
   pub drawops : (newer older : List Performed) (e : Performed) (j : ℕ) (d : DrawopValue) → trace ≡ newer ++ e ∷ older → Contains terms.live j → e.place ≢ j → terms.quiet < e.time → Contains (sends hosts older e) (Draw d) → e.time + terms.delivery < time_of trace → ComesTo newer j (e.time + terms.delivery) (Arrives d)

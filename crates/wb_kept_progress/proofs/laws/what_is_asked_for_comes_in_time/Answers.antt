@@ -1,5 +1,5 @@
 use Rattle.wb_kept_progress.proofs.KeptInTime.{kept_request_is_answered, kept_timer_leads}
-use Rattle.wb_kept_progress.proofs.Timely.{request_is_answered, timer_leads}
+use Rattle.wb_kept_progress.proofs.GivenUp.{request_is_answered, timer_leads}
 use Rattle.wb_kept_progress.proofs.laws.what_is_asked_for_comes_in_time.Goals as goal
 
 pub returns : goal.returns
