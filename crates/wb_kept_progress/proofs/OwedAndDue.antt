@@ -88,7 +88,7 @@ steps_stay_near = record {
   arrives = λ d k. record { near = λ n. record { owed = n.owed; due = n.due } };
   answered = λ d k lacks asked. record { near = λ n. record { owed = let o = n.owed in omega (arith, o); due = n.due } };
   hears = λ v k. record { near = hears_near v k };
-  stops = λ name k. record { near = λ n. record { owed = n.owed; due = n.due } };
+  stops = λ name k full. record { near = λ n. record { owed = n.owed; due = n.due } };
   sets = λ source micros k. record { near = λ n. record { owed = n.owed; due = n.due } };
   tunes = λ constants k within. record { near = λ n. record { owed = n.owed; due = n.due } };
   wants = λ name anew k. record { near = wants_near name anew k };
