@@ -1,6 +1,6 @@
 -- What a call asks for because of what it hears.
-use Rattle.std.proofs.Common.{◌≡◌, ℕ, ◌+◌, ◌<◌, Bool, true, false, cond, List, [], ◌∷◌, ◌++◌, ◌∙◌, Option, Some, None, ap, arith, inl, inr, length, length-append, map, refl, subst, sym, ⊎_elim}
-use Rattle.std.specs.Prelude.{◌⊎◌, ◌||◌, Contains, nat_eq, nat_le, nat_lt, take}
+use Rattle.std.proofs.Common.{◌≡◌, ℕ, ◌<◌, Bool, true, false, cond, List, [], ◌∷◌, ◌++◌, ◌∙◌, Option, Some, None, ap, arith, inl, inr, length, length-append, map, refl, subst, sym, ⊎_elim}
+use Rattle.std.specs.Prelude.{◌⊎◌, ◌||◌, Contains, nat_eq, nat_le, nat_lt}
 use Rattle.std.proofs.lemmas.List.Elements.{Contains-append_left, Contains-append_right}
 use Rattle.wb_names.specs.Arrivals.{Outcome, Fresh, Known, Clashed, Left, history_with, outcome_of}
 use Rattle.wb_names.specs.Values.{DrawopValue, MarkValue, NameValue}
@@ -10,9 +10,8 @@ use Rattle.wb_names.proofs.Listings.{Contains-cases, Contains-here, Contains-non
 use Rattle.wb_codec.specs.declared.datagram.Datagram.{Datagram}
 use Rattle.wb_codec.specs.declared.datagram.Datagram.TheVariants.{Draw, Session, Request, AskPages, PageState}
 use Rattle.wb_member.specs.Opened.{has_room_for, heard, present}
-use Rattle.wb_keeping.specs.Credit.{spent}
 use Rattle.wb_keeping.specs.Distances.{bounded}
-use Rattle.wb_keeping.specs.Kept.{Arrives, Asks, Doing, Hears, Line, Says, SetsDistance, Tunes, Stops, Ticks, Transition, and_then, distance_in, hears, hears_session, hears_some, hears_state, learned, measures, of_other, own_echo, own_marks, performs, reports, room_lines, state_of, still, stops_oldest, takes, takes_question, told_names, usual_lines, want, want_told}
+use Rattle.wb_keeping.specs.Kept.{Arrives, Asks, Doing, Hears, Line, Says, SetsDistance, Tunes, Stops, Ticks, Transition, and_then, distance_in, hears, hears_session, hears_some, hears_state, learned, measures, of_other, own_echo, own_marks, performs, room_lines, state_of, still, stops_oldest, takes, takes_question, told_names, usual_lines, want, want_told}
 use Rattle.wb_keeping.specs.Performing.{Keeping, after_doing, after_line, after_lines, sees, view_of}
 use Rattle.wb_keeping.specs.Policy.{Policy, View, after_state, after_taking_up, after_wanting, holds, is_asked, is_full, level, with_distance}
 use Rattle.wb_keeping.specs.Questions.{is_to_answer}

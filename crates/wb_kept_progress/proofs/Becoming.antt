@@ -1,12 +1,13 @@
 -- A session of hosts that keep themselves becomes whole: while something is lacked that some hold, something new comes in each step.
 use Rattle.std.proofs.Common.{◌≡◌, ℕ, ◌+◌, ◌*◌, ◌<◌, ◌≤◌, Bool, true, false, cond, List, [], ◌∷◌, ◌++◌, ◌∙◌, Some, ap, append-nil, append_assoc, arith, inl, inr, refl, subst, suc, sym, zero, ⊎_elim, true≢false, get_or, length-append}
 use Rattle.std.specs.Prelude.{◌≢◌, ◌⊎◌, Contains, length, max, min, nat_eq, nat_le, nat_lt}
-use Rattle.std.proofs.lemmas.List.{append_cancel_left}
+use Rattle.std.proofs.lemmas.List.{append_cancel_left, get_or_append_left}
 use Rattle.std.proofs.lemmas.Bool.Decides.{leb_tells}
 use Rattle.wb_names.specs.Arrivals.{Outcome, Fresh, Known, Clashed, Left, history_with, outcome_of}
 use Rattle.wb_names.specs.History.{IsHistory}
 use Rattle.wb_names.specs.Values.{DrawopValue, NameValue}
-use Rattle.wb_names.proofs.Listings.{Contains-append_right, Contains-cases, Contains-here, Contains-none, Contains-there}
+use Rattle.std.proofs.lemmas.List.Elements.{Contains-append_left, Contains-append_right}
+use Rattle.wb_names.proofs.Listings.{Contains-cases, Contains-here, Contains-none, Contains-there}
 use Rattle.wb_codec.specs.declared.datagram.Datagram.TheVariants.{Draw, Session, Request, AskPages, PageState}
 use Rattle.wb_host.proofs.KeptCalls.{holds_from}
 use Rattle.wb_progress.specs.InTime.{known_from, repairing}
@@ -17,17 +18,28 @@ use Rattle.wb_member.specs.Judged.{holds}
 use Rattle.wb_member.specs.Members.{Misses}
 use Rattle.wb_member.specs.Opened.{Opened, accepted, doing, has_room_for, heard, may_ask, present}
 use Rattle.wb_member.specs.Random.{word_of}
-use Rattle.wb_keeping.specs.Credit.{has_credit}
 use Rattle.wb_keeping.specs.Kept.{Line, Arrives, Asks, Hears, Says, SetsDistance, Stops, Ticks, Tunes}
 use Rattle.wb_keeping.specs.Laws.{doing_of}
 use Rattle.wb_keeping.specs.Performing.{Keeping, after_doing, after_line, after_lines, due, sees}
 use Rattle.wb_kept_progress.specs.Sessions.{Opening, kept_at}
 use Rattle.wb_kept_progress.specs.Timed.{AllKeptHoldBehind, Performed, TimedLine, called_at, host_after, lines_of, performed, start_of, time_of, until}
 use Rattle.wb_kept_progress.specs.Whole.{AreApart, AreCalledInOrder, AreWithin, IsHeldBySome, IsLackedAt, IsTimelySession, Lack, LackAtMost, SessionsBecomeWhole, Sizes, WaitAtMost, report_span, request_span, step, there, whole_by}
+use Rattle.wb_kept_progress.proofs.CallLines.{lines_have_calls}
+use Rattle.wb_kept_progress.proofs.CallsInTime.{performed_is_timely}
+use Rattle.wb_kept_progress.proofs.Causes.{asks_have_cause}
+use Rattle.wb_kept_progress.proofs.GivenUp.{timer_leads_or_is_given_up}
+use Rattle.wb_kept_progress.proofs.LackWanted.{lack_is_wanted}
+use Rattle.wb_kept_progress.proofs.NoCredit.{no_credit_is_asked}
+use Rattle.wb_kept_progress.proofs.NothingNew.{held_was_held}
+use Rattle.wb_kept_progress.proofs.OwedAndDue.{reports_are_due}
+use Rattle.wb_kept_progress.proofs.Spent.{credit_is_spent}
+use Rattle.wb_kept_progress.proofs.Stillness.{stillness_ends}
+use Rattle.wb_kept_progress.proofs.StopCauses.{stops_have_cause}
+use Rattle.wb_kept_progress.proofs.Young.{timers_are_young}
 use Rattle.wb_kept_progress.proofs.CallParts.{calls_order, due_by_report, lacked_until, lines_end}
 use Rattle.wb_kept_progress.proofs.KeptInTime.{front_of}
 use Rattle.wb_kept_progress.proofs.Repairs.{held_once}
-use Rattle.wb_kept_progress.proofs.WholeParts.{HeldWasHeld, Holds, IsAsking, IsStill, IsWanting, LackIsWanted, NoCreditIsAsked, ReportsAreDue, StillnessEnds}
+use Rattle.wb_kept_progress.proofs.WholeParts.{HasNoCredit, HeldWasHeld, Holds, IsAsking, IsStill, IsWanting, LackIsWanted, NoCreditIsAsked, ReportsAreDue, StillnessEnds}
 
 -- ---- what is held is followed by what comes
 
@@ -90,7 +102,7 @@ nothing_more a b c one two same = one.is ∙ ap (λ (m : List DrawopValue). a ++
 apart : (h more : List DrawopValue) (d x : DrawopValue) → IsHistory (h ++ d ∷ more) → Contains h x → x.name ≡ d.name → ⊥
 apart h more d x once c same =
     once c.0 (length h) x c.1 (within h)
-    (ap (λ (y : DrawopValue). y.name) (get_or_append_left h (d ∷ more) c.0 x c.1 ∙ c.2) ∙ same ∙ sym (ap (λ (y : DrawopValue). y.name) (at_end h))) where
+    (ap (λ (y : DrawopValue). y.name) (get_or_append_left h (d ∷ more) x c.0 c.1 ∙ c.2) ∙ same ∙ sym (ap (λ (y : DrawopValue). y.name) (at_end h))) where
       within : (h : List DrawopValue) → length h < length (h ++ d ∷ more)
       within [] = omega arith
       within (y ∷ h) = let rest = within h in omega (arith, rest)
@@ -239,7 +251,7 @@ module _ (hosts : ℕ → Opening) (terms : Terms) (trace : List TimedLine) (siz
     }
 
     without : (front part : List TimedLine) → window ≡ front ++ part → from < called_at (part ++ base) → called_at (part ++ base) ≤ by
-        → (let k = there hosts (part ++ base) i in has_credit k.policy.owed (present k.host)) ≡ false → called_at (window ++ base) ≤ still_by (called_at base)
+        → HasNoCredit hosts terms (part ++ base) i → called_at (window ++ base) ≤ still_by (called_at base)
     without front part is behind soon none =
         let s = still_part front part is in
         let found = no_credit hosts terms trace (newest ++ front) part base [] part sizes wait most i all s late live refl (omega (arith, behind)) none in
@@ -270,7 +282,7 @@ module _ (hosts : ℕ → Opening) (terms : Terms) (trace : List TimedLine) (siz
         let at = a.2 in
         let soon = w.soon in
         asking a.0 a.1 (omega (arith, at, behind)) (omega (arith, at, soon)))
-        (λ (none : (let k = there hosts (w.part ++ base) i in has_credit k.policy.owed (present k.host)) ≡ false). without w.front w.part w.split behind w.soon none)
+        (λ (none : HasNoCredit hosts terms (w.part ++ base) i). without w.front w.part w.split behind w.soon none)
         w.wants)
         (leb_tells (called_at (window ++ base)) by)
 
@@ -306,9 +318,10 @@ module _ (hosts : ℕ → Opening) (terms : Terms) (trace : List TimedLine) (siz
   }
   filled (suc k) newer part i n split late live held lacks =
       let r = reached newer part (at_step k) i split live (omega (arith, late)) in
-      by_window r.window r.base r.split r.from r.soon where
-        by_window : (window base : List TimedLine) → part ≡ window ++ base → at_step k < called_at base → called_at base ≤ at_step k + report_span terms → AreFilled part i n (suc k)
-        by_window window base is from soon = ⊎_elim
+      by_window r.window r.base r.split r.from r.soon (filled k (newer ++ r.window) r.base) where
+        by_window : (window base : List TimedLine) → part ≡ window ++ base → at_step k < called_at base → called_at base ≤ at_step k + report_span terms
+            → ((j : ℕ) (m : NameValue) → trace ≡ (newer ++ window) ++ base → at_step k < called_at base → Contains terms.live j → IsHeldBySome hosts terms trace m → holds (there hosts base j).host m ≡ false → AreFilled base j m k) → AreFilled part i n (suc k)
+        by_window window base is from soon before = ⊎_elim
             (λ (same : AreSame hosts terms.live window base).
             let still : IsStill hosts terms trace newer window base = record {
               split = whole;
@@ -318,7 +331,7 @@ module _ (hosts : ℕ → Opening) (terms : Terms) (trace : List TimedLine) (siz
             let e = ends_soon newer window base still (omega (arith, from)) i live n held lacked in
             let top : called_at part ≡ called_at (window ++ base) = ap called_at is in
             absurd (omega (arith, e, soon, late, top)))
-            (λ (g : Gains hosts terms.live window base). more g (filled k (newer ++ window) base g.place g.name (whole ∙ sym (append_assoc newer window base)) from g.among
+            (λ (g : Gains hosts terms.live window base). more g (before g.place g.name (whole ∙ sym (append_assoc newer window base)) from g.among
             (was_held hosts terms trace newer (window ++ base) g.place g.name all.session whole g.among g.held) g.lacked))
             (gains hosts terms.live window base (λ j. held_once hosts (lines_of (window ++ base)) j)) where
               whole : trace ≡ newer ++ (window ++ base)
@@ -327,7 +340,7 @@ module _ (hosts : ℕ → Opening) (terms : Terms) (trace : List TimedLine) (siz
               lacked : holds (there hosts base i).host n ≡ false
               lacked = lacked_before hosts window base i n (subst (λ (t : List TimedLine). holds (there hosts t i).host n ≡ false) is lacks)
 
-              abbrev x : Lack
+              x : Lack
               x = record { place = i; name = n }
 
               more : (g : Gains hosts terms.live window base) → AreFilled base g.place g.name k → AreFilled part i n (suc k)
@@ -357,3 +370,10 @@ module _ (hosts : ℕ → Opening) (terms : Terms) (trace : List TimedLine) (siz
         let le = all.lacks f.lacks f.apart f.first in
         let c = f.count in
         absurd (omega (arith, le, c))
+
+pub sessions_become_whole : SessionsBecomeWhole
+sessions_become_whole hosts terms trace sizes wait most n session within waits lacks short held =
+    all_hold hosts terms trace sizes wait most (record { session = session; within = within; waits = waits; lacks = lacks; short = short })
+    held_was_held reports_are_due (lack_is_wanted held_was_held) (no_credit_is_asked (credit_is_spent held_was_held))
+    (stillness_ends timers_are_young timer_leads_or_is_given_up performed_is_timely lines_have_calls (asks_have_cause held_was_held) (stops_have_cause lines_have_calls))
+    n held

@@ -1,5 +1,5 @@
 -- Why a name is asked for.
-use Rattle.std.proofs.Common.{◌≡◌, ◌≢◌, ℕ, ◌+◌, ◌<◌, ◌≤◌, Bool, true, List, [], ◌∷◌, ◌++◌, ◌∙◌, ap, append_assoc, arith, inl, inr, length, map, refl, subst, sym, ⊎_elim}
+use Rattle.std.proofs.Common.{◌≡◌, ◌≢◌, ℕ, ◌+◌, ◌<◌, ◌≤◌, Bool, true, List, [], ◌∷◌, ◌++◌, ◌∙◌, ap, append_assoc, arith, inl, inr, length, refl, subst, sym, ⊎_elim}
 use Rattle.std.specs.Prelude.{◌⊎◌, ◌&&◌, Contains, filter, nat_eq, nat_le, not}
 use Rattle.wb_names.specs.History.{name_of}
 use Rattle.wb_names.specs.Values.{DrawopValue, MarkValue, NameValue}
@@ -10,9 +10,7 @@ use Rattle.wb_codec.specs.declared.datagram.Datagram.TheVariants.{Draw, Session,
 use Rattle.wb_gaps.proofs.HeldNames.{held-from}
 use Rattle.wb_progress.specs.Turns.{Terms, settled_by}
 use Rattle.wb_host.specs.Keeper.{holds as history_holds}
-use Rattle.wb_member.specs.Judged.{holds}
-use Rattle.wb_member.specs.Opened.{Opened}
-use Rattle.wb_keeping.specs.Kept.{Asks, Line, told_names}
+use Rattle.wb_keeping.specs.Kept.{told_names}
 use Rattle.wb_keeping.specs.Laws.{Added, Came, KeptLine, Ticked, Tuned, doing_of}
 use Rattle.wb_keeping.specs.Performing.{Keeping, after_doing}
 use Rattle.wb_kept_progress.specs.Sessions.{AreTaken, Opening}

@@ -1,13 +1,10 @@
 -- What a call spends of the credit.
-use Rattle.std.proofs.Common.{◌≡◌, ◌≢◌, ℕ, ◌+◌, ◌<◌, ◌≤◌, List, [], ◌∷◌, ◌++◌, arith, inl, inr, ⊎_elim}
+use Rattle.std.proofs.Common.{◌≡◌, ℕ, ◌+◌, ◌≤◌, ◌∷◌, arith, inl, inr, ⊎_elim}
 use Rattle.std.specs.Prelude.{◌⊎◌, Contains}
 use Rattle.wb_names.specs.Values.{NameValue}
-use Rattle.wb_progress.specs.Turns.{Terms, settled_by}
 use Rattle.wb_keeping.specs.Credit.{spent}
 use Rattle.wb_keeping.specs.Kept.{Asks}
-use Rattle.wb_kept_progress.specs.Sessions.{Opening}
-use Rattle.wb_kept_progress.specs.Timed.{TimedLine}
-use Rattle.wb_kept_progress.specs.Whole.{IsHeldBySome, IsTimelySession, there}
+use Rattle.wb_kept_progress.specs.Whole.{IsHeldBySome, there}
 use Rattle.wb_kept_progress.proofs.Causes.{goes, more_differs}
 use Rattle.wb_kept_progress.proofs.AskedInCalls.{IsMore}
 use Rattle.wb_kept_progress.proofs.Courses.{IsCourse}

@@ -10,16 +10,15 @@ use Rattle.wb_gaps.specs.Answers.{pages_of}
 use Rattle.wb_recovery.specs.Events.{timers_of}
 use Rattle.wb_recovery.specs.declared.timers.AskTimer.{AskTimer}
 use Rattle.wb_host.specs.GivingUp.{level as level_in}
-use Rattle.wb_progress.specs.Turns.{Terms}
 use Rattle.wb_member.specs.Judged.{is_full}
 use Rattle.wb_member.specs.Members.{Misses}
-use Rattle.wb_member.specs.Opened.{Opened, accepted, doing as doing_act, events, has_room_for, heard, may_ask, present}
+use Rattle.wb_member.specs.Opened.{Opened, doing as doing_act, events, has_room_for, heard, may_ask, present}
 use Rattle.wb_member.specs.Random.{word_of}
 use Rattle.wb_keeping.specs.Credit.{has_credit}
 use Rattle.wb_keeping.specs.Kept.{Arrives, Asks, Doing, Hears, Line, Says, SetsDistance, Tunes, Stops, Ticks, room_lines, state_of, still, stops_oldest, usual_lines, want}
-use Rattle.wb_keeping.specs.Laws.{doing_of, fault_of}
+use Rattle.wb_keeping.specs.Laws.{fault_of}
 use Rattle.wb_keeping.specs.Performing.{Keeping, after_line, after_lines, sees, view_of}
-use Rattle.wb_keeping.specs.Policy.{Policy, View, after_wanting, holds, is_asked, level, is_full as shows_full}
+use Rattle.wb_keeping.specs.Policy.{Policy, View, after_wanting, holds, level, is_full as shows_full}
 use Rattle.wb_keeping.specs.Wanting.{goes_on, is_wanted, oldest}
 use Rattle.wb_keeping.specs.declared.wanting.AskedName.{AskedName}
 use Rattle.wb_keeping.proofs.AskedTimers.{level_seen}
@@ -27,10 +26,10 @@ use Rattle.wb_keeping.proofs.EachStep.{HoldsOfSteps, doing, line_holds}
 use Rattle.wb_keeping.proofs.Performed.{after_both}
 use Rattle.wb_keeping.proofs.Wanted.{lines_wanted}
 use Rattle.wb_kept_progress.specs.Sessions.{AreTaken, Opening}
-use Rattle.wb_kept_progress.specs.Timed.{Performed, TimedLine, host_after, lines_of, performed, performed_then, start_of}
-use Rattle.wb_kept_progress.specs.Whole.{IsTimelySession, there}
+use Rattle.wb_kept_progress.specs.Timed.{Performed, TimedLine, lines_of, performed, performed_then, start_of}
+use Rattle.wb_kept_progress.specs.Whole.{there}
 use Rattle.wb_kept_progress.proofs.Coming.{has_room}
-use Rattle.wb_kept_progress.proofs.Lines.{lines_of as lines_keep, line_of}
+use Rattle.wb_kept_progress.proofs.Lines.{lines_of as lines_keep}
 use Rattle.wb_kept_progress.proofs.Performed.{after_all, kept_is_performed}
 use Rattle.wb_kept_progress.proofs.Repairs.{is_itself, moved}
 use Rattle.wb_kept_progress.proofs.WholeParts.{LinesHaveCalls, StopsHaveCause, does, host_then}

@@ -7,7 +7,6 @@ use Rattle.std.proofs.lemmas.List.Elements.{Contains-append_cases}
 use Rattle.wb_names.specs.Arrivals.{Outcome, Fresh, Known, Clashed, Left}
 use Rattle.wb_names.specs.History.{IsHeld, highest}
 use Rattle.wb_names.specs.Values.{DrawopValue, MarkValue, NameValue}
-use Rattle.wb_names.specs.declared.echo.Echo.{Echo}
 use Rattle.wb_names.specs.declared.name.PageId.{PageId}
 use Rattle.wb_names.proofs.Listings.{Any-from_map, Contains-cases, Contains-from_filter, Contains-none}
 use Rattle.wb_codec.specs.declared.datagram.Datagram.{Datagram}
@@ -15,7 +14,6 @@ use Rattle.wb_codec.specs.declared.datagram.Datagram.TheVariants.{Draw, Session,
 use Rattle.wb_gaps.specs.Answers.{pages_of, report_of, reports_of, sources_of, top_mark}
 use Rattle.wb_gaps.specs.declared.page_reports.PageReport.{PageReport}
 use Rattle.wb_gaps.proofs.Reports.{greatest_held}
-use Rattle.wb_recovery.specs.Events.{actions_of}
 use Rattle.wb_recovery.specs.declared.plan.Action.{Action}
 use Rattle.wb_recovery.specs.declared.plan.Action.TheVariants.{Ask, Answer}
 use Rattle.wb_host.specs.Hearing.{answers_to, asks_for_pages, page_states}
@@ -23,10 +21,10 @@ use Rattle.wb_host.specs.Ticks.{drawop_of, sent_for}
 use Rattle.wb_host.proofs.TickSends.{sent_from}
 use Rattle.wb_progress.proofs.NamesApart.{from_take}
 use Rattle.wb_member.specs.Opened.{Opened, becomes, has_room_for, present, sent_by}
-use Rattle.wb_keeping.specs.Kept.{Arrives, Asks, Doing, Hears, Line, Says, SetsDistance, Tunes, Stops, Ticks, last_heard, reports_page, room_lines, state_of, still, stops_oldest, usual_lines, want}
+use Rattle.wb_keeping.specs.Kept.{Arrives, Asks, Hears, Line, Says, SetsDistance, Tunes, Stops, Ticks, last_heard, room_lines, state_of, still, stops_oldest, usual_lines, want}
 use Rattle.wb_keeping.specs.Laws.{KeptLine, doing_of, fault_of}
 use Rattle.wb_keeping.specs.Performing.{Keeping, after_doing, after_line, after_lines, said_where, sees, sent_by_doing, sent_by_line, sent_by_lines, view_of}
-use Rattle.wb_keeping.specs.Policy.{Policy, View, after_answer, after_wanting, holds, is_asked, is_full, level}
+use Rattle.wb_keeping.specs.Policy.{Policy, View, after_wanting, holds, is_asked, is_full, level}
 use Rattle.wb_keeping.specs.Reports.{is_untold, slice_after}
 use Rattle.wb_keeping.specs.Wanting.{is_wanted, oldest}
 use Rattle.wb_keeping.specs.declared.wanting.AskedName.{AskedName}

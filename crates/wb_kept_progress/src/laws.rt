@@ -2,6 +2,7 @@
 
 ghost use Rattle.wb_kept_progress.specs.Repairs.{AskedCanCome, LostCanCome, MarksComeToBeTold, MissingCanCome, MissingIsAsked, MissingIsAskedSoon};
 ghost use Rattle.wb_kept_progress.specs.Timed.{KeptIsPerformed, KeptKeepsMoments, KeptRequestIsAnswered, KeptTimerLeads, RequestIsAnswered, TimerLeads};
+ghost use Rattle.wb_kept_progress.specs.Whole.{SessionsBecomeWhole};
 
 /// Whatever came in before, a drawop that one host asks for, and that another holds, comes by six more lines of the
 /// two. None of them is refused, and none hands in what was not sent.
@@ -39,4 +40,10 @@ pub fn what_is_asked_for_comes_in_time()
 pub fn kept_hosts_perform_lines()
     ensures same { KeptIsPerformed }
     ensures moments { KeptKeepsMoments }
+{}
+
+/// A session of hosts that keep themselves becomes whole. Where from some time on nobody draws, nothing is lost, and drivers tick
+/// in time, each live host comes to hold, by a stated time, what one of them held.
+pub fn sessions_become_whole()
+    ensures { SessionsBecomeWhole }
 {}
