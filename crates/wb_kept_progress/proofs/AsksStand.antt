@@ -139,7 +139,8 @@ wants_stand name anew k = record { at = refl; stand = λ answers_held n c. by an
       let two = and_parts (not (is_full v)) _ one.1 in
       let three = and_parts (not (goes_on anew (level v name))) _ two.1 in
       ap (λ (d : Doing). asks_for name (after_lines d.lines k.host)) (sym (is_asked_for name anew (sees k.host) k.policy e))
-      ∙ stands_asked (after_doing (want name anew) k).host name (wanted_is_asked name anew k answers_held (flipped (holds v name) one.0) (flipped (is_full v) two.0) three.1)
+      ∙ stands_asked (after_doing (want name anew) k).host name
+      (wanted_is_asked name anew k answers_held (flipped (holds v name) one.0) (flipped (is_full v) two.0) three.1)
 
   by : AnswersWhatIsHeld k.host → (n : NameValue) (b : Bool) → is_wanted (holds v name) (is_full v) anew (level v name) k.policy.owed v.now ≡ b
       → Contains (so b).lines (Asks n) → Stands (so b).lines k.host n

@@ -205,10 +205,13 @@ module _ (m : Keeping) where
         omega (arith, later, n, e)
 
     pub due_now : present (after_doing timed m).host ≡ present m.host
-    due_now = ap (λ (x : Keeping). present x.host) there ∙ (lines_rest (turn (sees r.host) r.policy).lines r.host (turn_small (sees r.host) r.policy)).now ∙ now_r
+    due_now =
+        ap (λ (x : Keeping). present x.host) there ∙ (lines_rest (turn (sees r.host) r.policy).lines r.host (turn_small (sees r.host) r.policy)).now ∙ now_r
 
     abbrev report : Datagram
-    report = Session q.host.is.number (present q.host) (page_in_turn q.host.is.held (told_of q.policy)) (marks_in_turn q.host.is.held (told_of q.policy)) (last_heard (view_of q.host).echoes)
+    report =
+        Session q.host.is.number (present q.host) (page_in_turn q.host.is.held (told_of q.policy)) (marks_in_turn q.host.is.held (told_of q.policy))
+        (last_heard (view_of q.host).echoes)
 
     report_sent : Contains (sent_by_doing reports q) report
     report_sent =
@@ -218,22 +221,29 @@ module _ (m : Keeping) where
     all_sent : Contains (sent_by_doing timed m) report
     all_sent =
         let due : Contains (sent_by_doing reports_due q) report =
-        subst (λ (b : Bool). Contains (sent_by_lines (cond b (and_then reports turn (sees q.host) q.policy) (still (sees q.host) q.policy)).lines q.host) report) (sym is_due_now)
+        subst (λ (b : Bool). Contains (sent_by_lines (cond b (and_then reports turn (sees q.host) q.policy) (still (sees q.host) q.policy)).lines q.host) report)
+        (sym is_due_now)
         (subst (λ (s : List Datagram). Contains s report) (sym (then_sent reports turn q)) (Contains-append_left (sent_by_doing reports q) (sent_by_doing turn r) report report_sent)) in
-        let two : Contains (sent_by_doing (and_then asks_pages reports_due) a) report = subst (λ (s : List Datagram). Contains s report) (sym (then_sent asks_pages reports_due a)) (Contains-append_right (sent_by_doing asks_pages a) (sent_by_doing reports_due q) report due) in
-        subst (λ (s : List Datagram). Contains s report) (sym (then_sent answers (and_then asks_pages reports_due) m)) (Contains-append_right (sent_by_doing answers m) (sent_by_doing (and_then asks_pages reports_due) a) report two)
+        let two : Contains (sent_by_doing (and_then asks_pages reports_due) a) report =
+        subst (λ (s : List Datagram). Contains s report) (sym (then_sent asks_pages reports_due a))
+        (Contains-append_right (sent_by_doing asks_pages a) (sent_by_doing reports_due q) report due) in
+        subst (λ (s : List Datagram). Contains s report) (sym (then_sent answers (and_then asks_pages reports_due) m))
+        (Contains-append_right (sent_by_doing answers m) (sent_by_doing (and_then asks_pages reports_due) a) report two)
 
     pub due_sends : (held : List DrawopValue) (number : ℕ) (t : Told) → m.host.is.held ≡ held → m.host.is.number ≡ number → told_of m.policy ≡ t
         → (moment : ℕ) × (echoes : List Echo) × Contains (sent_by_doing timed m) (Session number moment (page_in_turn held t) (marks_in_turn held t) echoes)
-    due_sends held number t same_held same_number same_told = (present q.host, last_heard (view_of q.host).echoes, subst (λ (v : Datagram). Contains (sent_by_doing timed m) v) same all_sent) where
-      echoes : List Echo
-      echoes = last_heard (view_of q.host).echoes
+    due_sends held number t same_held same_number same_told =
+        (present q.host, last_heard (view_of q.host).echoes, subst (λ (v : Datagram). Contains (sent_by_doing timed m) v) same all_sent) where
+          echoes : List Echo
+          echoes = last_heard (view_of q.host).echoes
 
-      same : report ≡ Session number (present q.host) (page_in_turn held t) (marks_in_turn held t) echoes
-      same =
-          ap (λ (me : ℕ). Session me (present q.host) (page_in_turn q.host.is.held (told_of q.policy)) (marks_in_turn q.host.is.held (told_of q.policy)) echoes) (number_q ∙ same_number)
-          ∙ ap (λ (h : List DrawopValue). Session number (present q.host) (page_in_turn h (told_of q.policy)) (marks_in_turn h (told_of q.policy)) echoes) (held_q ∙ same_held)
-          ∙ ap (λ (u : Told). Session number (present q.host) (page_in_turn held u) (marks_in_turn held u) echoes) (told_q ∙ same_told)
+          same : report ≡ Session number (present q.host) (page_in_turn held t) (marks_in_turn held t) echoes
+          same =
+              ap (λ (me : ℕ). Session me (present q.host) (page_in_turn q.host.is.held (told_of q.policy)) (marks_in_turn q.host.is.held (told_of q.policy)) echoes)
+              (number_q ∙ same_number)
+              ∙ ap (λ (h : List DrawopValue). Session number (present q.host) (page_in_turn h (told_of q.policy)) (marks_in_turn h (told_of q.policy)) echoes)
+              (held_q ∙ same_held)
+              ∙ ap (λ (u : Told). Session number (present q.host) (page_in_turn held u) (marks_in_turn held u) echoes) (told_q ∙ same_told)
 
     when_due : (n : NameValue) → IsWantedIn n (and_then reports turn) q → IsWantedIn n reports_due q
     when_due n is = ⊎_elim
@@ -257,8 +267,10 @@ module _ (m : Keeping) where
           lacks = ap (λ (h : List DrawopValue). holds h n) held_r ∙ may.lacks;
           room = ap (λ (h : List DrawopValue). nat_le r.host.is.cells (length h)) held_r ∙ ap (λ (c : ℕ). nat_le c (length m.host.is.held)) cells ∙ may.room;
         } in
-        let turn_r : name_in_turn r.host.is.held r.policy.turns ≡ Some n = ap (λ (h : List DrawopValue). name_in_turn h r.policy.turns) held_r ∙ ap (name_in_turn m.host.is.held) turns_r ∙ in_turn in
-        wanted_later n answers (and_then asks_pages reports_due) m (wanted_later n asks_pages reports_due a (when_due n (wanted_later n reports turn q (turn_wants n r may_r turn_r))))
+        let turn_r : name_in_turn r.host.is.held r.policy.turns ≡ Some n =
+        ap (λ (h : List DrawopValue). name_in_turn h r.policy.turns) held_r ∙ ap (name_in_turn m.host.is.held) turns_r ∙ in_turn in
+        wanted_later n answers (and_then asks_pages reports_due) m
+        (wanted_later n asks_pages reports_due a (when_due n (wanted_later n reports turn q (turn_wants n r may_r turn_r))))
 
 -- ---- the whole call
 
@@ -273,7 +285,9 @@ module _ (does : Transition) (k : Keeping) (now : ℕ) (call : IsTimedCall does 
       let early_m : present here.host < here.policy.reports.due = omega (arith, early, due, n) in
       record {
         early = early;
-        same = subst (λ (x : Keeping). SamePolicy k.policy x.policy) (sym call.behind) (same_both k.policy here.policy (after_doing timed here).policy call.policy (idle_same here early_m));
+        same =
+            subst (λ (x : Keeping). SamePolicy k.policy x.policy) (sym call.behind)
+            (same_both k.policy here.policy (after_doing timed here).policy call.policy (idle_same here early_m));
         now_is = ap (λ (x : Keeping). present x.host) call.behind ∙ idle_now here early_m ∙ call.now_is;
       }
 
@@ -288,8 +302,12 @@ module _ (does : Transition) (k : Keeping) (now : ℕ) (call : IsTimedCall does 
       let e = ap (λ (x : Keeping). x.policy.reports.due) call.behind in
       record {
         late = late;
-        turns = ap (λ (x : Keeping). x.policy.turns) call.behind ∙ due_turns here late_m ∙ ap (λ (h : List DrawopValue). after_turn h here.policy.turns) call.held ∙ ap (after_turn k.host.is.held) call.policy.turns;
-        told = ap (λ (x : Keeping). told_of x.policy) call.behind ∙ due_tells here late_m ∙ ap (λ (h : List DrawopValue). after_telling h (told_of here.policy)) call.held ∙ ap (after_telling k.host.is.held) call.policy.told;
+        turns =
+            ap (λ (x : Keeping). x.policy.turns) call.behind ∙ due_turns here late_m ∙ ap (λ (h : List DrawopValue). after_turn h here.policy.turns) call.held
+            ∙ ap (after_turn k.host.is.held) call.policy.turns;
+        told =
+            ap (λ (x : Keeping). told_of x.policy) call.behind ∙ due_tells here late_m
+            ∙ ap (λ (h : List DrawopValue). after_telling h (told_of here.policy)) call.held ∙ ap (after_telling k.host.is.held) call.policy.told;
         least = omega (arith, later, e, n);
         most = omega (arith, soon, e, n);
         now_is = ap (λ (x : Keeping). present x.host) call.behind ∙ due_now here late_m ∙ call.now_is;
@@ -299,7 +317,9 @@ module _ (does : Transition) (k : Keeping) (now : ℕ) (call : IsTimedCall does 
         wants = λ n lacks room in_turn. call.wants n (due_wants here late_m n (record {
           answers_held = call.answers_held;
           lacks = ap (λ (h : List DrawopValue). holds h n) call.held ∙ lacks;
-          room = ap (λ (h : List DrawopValue). nat_le here.host.is.cells (length h)) call.held ∙ ap (λ (c : ℕ). nat_le c (length k.host.is.held)) call.of.cells ∙ room;
+          room =
+              ap (λ (h : List DrawopValue). nat_le here.host.is.cells (length h)) call.held ∙ ap (λ (c : ℕ). nat_le c (length k.host.is.held)) call.of.cells
+              ∙ room;
         }) (ap (λ (h : List DrawopValue). name_in_turn h here.policy.turns) call.held ∙ ap (name_in_turn k.host.is.held) call.policy.turns ∙ in_turn));
       }
 

@@ -55,7 +55,9 @@ module _ (hosts : ℕ → Opening) (terms : Terms) (trace : List TimedLine) (s :
 
   pub told_there : (newer older : List TimedLine) (e : TimedLine) (i : ℕ) → trace ≡ newer ++ e ∷ older → nat_eq e.at.place i ≡ true
       → IsTold (e.time + terms.offset i) e.at.line
-  told_there newer older e i split same = subst (λ (p : ℕ). IsTold (e.time + terms.offset p) e.at.line) (eqb-true e.at.place i same) (tells_of terms newer (e ∷ older) (subst (TellTimes terms) split s.times)).0
+  told_there newer older e i split same =
+      subst (λ (p : ℕ). IsTold (e.time + terms.offset p) e.at.line) (eqb-true e.at.place i same)
+      (tells_of terms newer (e ∷ older) (subst (TellTimes terms) split s.times)).0
 
   pub room_there : (newer older : List TimedLine) (e : TimedLine) (i : ℕ) → trace ≡ newer ++ e ∷ older → Contains terms.live i
       → is_full (there hosts older i).host ≡ false
@@ -73,7 +75,8 @@ module _ (hosts : ℕ → Opening) (terms : Terms) (trace : List TimedLine) (s :
   module _ (i : ℕ) (live : Contains terms.live i) where
     pub window_call : (newest part base : List TimedLine) (e : TimedLine) → IsStill hosts terms trace newest (e ∷ part) base → terms.quiet < called_at base
         → nat_eq e.at.place i ≡ true
-        → IsTuning (doing_of e.at.line) (there hosts (part ++ base) i) ⊎ IsTimedCall (doing_of e.at.line) (there hosts (part ++ base) i) (e.time + terms.offset i)
+        → IsTuning (doing_of e.at.line) (there hosts (part ++ base) i) ⊎ IsTimedCall (doing_of e.at.line) (there hosts (part ++ base) i)
+        (e.time + terms.offset i)
     window_call newest part base e still late same =
         let older = part ++ base in
         let k = there hosts older i in
@@ -82,8 +85,10 @@ module _ (hosts : ℕ → Opening) (terms : Terms) (trace : List TimedLine) (s :
         let first = order.0 in
         let last = calls_end part base order.1 in
         let held : (after_doing (doing_of e.at.line) k).host.is.held ≡ k.host.is.held =
-        ap (λ (x : Keeping). x.host.is.held) (sym (there_here hosts e older i same)) ∙ still.same [] (e ∷ part) i refl live ∙ sym (still.same (e ∷ []) part i refl live) in
-        still_call e.at.line k (e.time + terms.offset i) (told_there newest older e i split same) (λ now page time op is. s.drawn newest older e now page time op split (omega (arith, first, last, late)) is)
+        ap (λ (x : Keeping). x.host.is.held) (sym (there_here hosts e older i same)) ∙ still.same [] (e ∷ part) i refl live
+        ∙ sym (still.same (e ∷ []) part i refl live) in
+        still_call e.at.line k (e.time + terms.offset i) (told_there newest older e i split same)
+        (λ now page time op is. s.drawn newest older e now page time op split (omega (arith, first, last, late)) is)
         (answers_at hosts (lines_of older) i) (room_there newest older e i split live) held
 
     -- one of the calls reports, the first behind a part
@@ -111,7 +116,9 @@ module _ (hosts : ℕ → Opening) (terms : Terms) (trace : List TimedLine) (s :
 
           on : SamePolicy (there hosts base i).policy k.policy → nat_eq e.at.place i ≡ true → SamePolicy k.policy (after_doing (doing_of e.at.line) k).policy
               → SamePolicy (there hosts base i).policy (there hosts (e ∷ older) i).policy
-          on same here next = same_both (there hosts base i).policy k.policy (there hosts (e ∷ older) i).policy same (subst (λ (x : Keeping). SamePolicy k.policy x.policy) (sym (there_here hosts e older i here)) next)
+          on same here next =
+              same_both (there hosts base i).policy k.policy (there hosts (e ∷ older) i).policy same
+              (subst (λ (x : Keeping). SamePolicy k.policy x.policy) (sym (there_here hosts e older i here)) next)
 
           by : SamePolicy (there hosts base i).policy k.policy → (b : Bool) → nat_eq e.at.place i ≡ b
               → Reports (e ∷ front) base ⊎ SamePolicy (there hosts base i).policy (there hosts (e ∷ older) i).policy
@@ -132,7 +139,9 @@ module _ (hosts : ℕ → Opening) (terms : Terms) (trace : List TimedLine) (s :
         (λ (r : Reports front base).
         let d = r.same.due in
         let split : trace ≡ (newest ++ e ∷ r.later) ++ r.e ∷ (r.between ++ base) =
-        still.split ∙ ap (λ (t : List TimedLine). newest ++ e ∷ (t ++ base)) r.split ∙ ap (λ (t : List TimedLine). newest ++ e ∷ t) (append_assoc r.later (r.e ∷ r.between) base) ∙ sym (append_assoc newest (e ∷ r.later) (r.e ∷ (r.between ++ base))) in
+        still.split ∙ ap (λ (t : List TimedLine). newest ++ e ∷ (t ++ base)) r.split
+        ∙ ap (λ (t : List TimedLine). newest ++ e ∷ t) (append_assoc r.later (r.e ∷ r.between) base)
+        ∙ sym (append_assoc newest (e ∷ r.later) (r.e ∷ (r.between ++ base))) in
         let soon = soon_there (newest ++ e ∷ r.later) (r.between ++ base) r.e i (x + terms.offset i + 96000000) split live (omega (arith, d, due_by)) in (
           record { later = e ∷ r.later; e = r.e; between = r.between; split = ap (λ (t : List TimedLine). e ∷ t) r.split; place = r.place; same = r.same; reporting = r.reporting },
           omega (arith, soon),
@@ -204,14 +213,19 @@ module _ (hosts : ℕ → Opening) (terms : Terms) (trace newest window base : L
     pub kept : (j : ℕ) → Contains terms.live j → (there hosts part j).host.is.held ≡ (there hosts base j).host.is.held
 
   pub whole : (count : ℕ) (b : IsBehind count) → called_at (b.front ++ b.part) ≡ called_at (window ++ base)
-  whole count b = ap called_at (ap (λ (t : List TimedLine). b.front ++ t) b.is ∙ sym (append_assoc b.front b.grown base) ∙ ap (λ (t : List TimedLine). t ++ base) (sym b.split))
+  whole count b =
+      ap called_at (ap (λ (t : List TimedLine). b.front ++ t) b.is ∙ sym (append_assoc b.front b.grown base) ∙ ap (λ (t : List TimedLine). t ++ base) (sym b.split))
 
   at_start : IsBehind 0
   at_start =
-      let st : IsStill hosts terms trace newest start.front (start.grown ++ base) = still_older hosts terms trace newest start.front start.grown base (subst (λ (t : List TimedLine). IsStill hosts terms trace newest t base) start.split still) in
-      let due_by = due_there hosts terms trace (newest ++ start.front) (start.grown ++ base) i s (st.split ∙ sym (append_assoc newest start.front (start.grown ++ base))) in
+      let st : IsStill hosts terms trace newest start.front (start.grown ++ base) =
+      still_older hosts terms trace newest start.front start.grown base
+      (subst (λ (t : List TimedLine). IsStill hosts terms trace newest t base) start.split still) in
+      let due_by =
+      due_there hosts terms trace (newest ++ start.front) (start.grown ++ base) i s (st.split ∙ sym (append_assoc newest start.front (start.grown ++ base))) in
       let le = start.until in
-      let order = ordered hosts terms trace s (newest ++ start.front) (start.grown ++ base) (st.split ∙ sym (append_assoc newest start.front (start.grown ++ base))) in
+      let order =
+      ordered hosts terms trace s (newest ++ start.front) (start.grown ++ base) (st.split ∙ sym (append_assoc newest start.front (start.grown ++ base))) in
       let end = calls_end start.grown base order in
       record {
         front = start.front;
@@ -238,35 +252,71 @@ module _ (hosts : ℕ → Opening) (terms : Terms) (trace newest window base : L
       let le = r.1 in
       (r.0, omega (arith, le))
 
+  -- what stands at such a report
+  module _ (count : ℕ) (b : IsBehind count) (r : Reports hosts terms trace s i live b.front b.part) where
+    abbrev more : List TimedLine
+    more = r.e ∷ r.between
+
+    abbrev pub before_it : List TimedLine
+    before_it = r.between ++ b.part
+
+    pub still_there : IsStill hosts terms trace newest (r.later ++ more) b.part
+    still_there = subst (λ (t : List TimedLine). IsStill hosts terms trace newest t b.part) r.split b.still_here
+
+    pub split_there : trace ≡ (newest ++ r.later) ++ r.e ∷ before_it
+    split_there =
+        still_there.split ∙ ap (λ (t : List TimedLine). newest ++ t) (append_assoc r.later more b.part)
+        ∙ sym (append_assoc newest r.later (more ++ b.part))
+
+    pub held_there : (there hosts before_it i).host.is.held ≡ held
+    held_there = still_there.same (r.later ++ r.e ∷ []) r.between i (sym (append_assoc r.later (r.e ∷ []) r.between)) live ∙ b.kept i live
+
+    pub turns_there : (there hosts before_it i).policy.turns ≡ after_turns held count first.turns
+    turns_there = r.same.turns ∙ b.turns
+
+    pub tells_there : told_of (there hosts before_it i).policy ≡ after_tellings held count (told_of first)
+    tells_there = r.same.told ∙ b.told
+
+    pub window_there : window ≡ r.later ++ r.e ∷ (r.between ++ b.grown)
+    window_there = b.split ∙ ap (λ (t : List TimedLine). t ++ b.grown) r.split ∙ append_assoc r.later more b.grown
+
+    pub before_is : before_it ≡ (r.between ++ b.grown) ++ base
+    before_is = ap (λ (t : List TimedLine). r.between ++ t) b.is ∙ sym (append_assoc r.between b.grown base)
+
   one_more : (count : ℕ) → IsBehind count → from + suc count * span < called_at (window ++ base) → IsBehind (suc count)
   one_more count b lt =
       let n = report_behind count b lt in
-      let r = n.0 in
-      let le = n.1 in
-      let more = r.e ∷ r.between in
-      let older = r.between ++ b.part in
-      let here = there_here hosts r.e older i r.place in
-      let st_all : IsStill hosts terms trace newest (r.later ++ more) b.part = subst (λ (t : List TimedLine). IsStill hosts terms trace newest t b.part) r.split b.still_here in
-      let k_held : (there hosts older i).host.is.held ≡ held = st_all.same (r.later ++ r.e ∷ []) r.between i (sym (append_assoc r.later (r.e ∷ []) r.between)) live ∙ b.kept i live in
-      let most = r.reporting.most in
-      let order = ordered hosts terms trace s (newest ++ r.later) (more ++ b.part) (st_all.split ∙ ap (λ (t : List TimedLine). newest ++ t) (append_assoc r.later more b.part) ∙ sym (append_assoc newest r.later (more ++ b.part))) in
-      let end = calls_end more b.part order in
-      let q = b.quiet in
-      record {
-        front = r.later;
-        grown = more ++ b.grown;
-        part = more ++ b.part;
-        is = ap (λ (t : List TimedLine). more ++ t) b.is ∙ sym (append_assoc more b.grown base);
-        split = b.split ∙ ap (λ (t : List TimedLine). t ++ b.grown) r.split ∙ append_assoc r.later more b.grown;
-        still_here = still_older hosts terms trace newest r.later more b.part st_all;
-        turns = ap (λ (x : Keeping). x.policy.turns) here ∙ r.reporting.turns ∙ ap (λ (h : List DrawopValue). after_turn h (there hosts older i).policy.turns) k_held ∙ ap (after_turn held) (r.same.turns ∙ b.turns);
-        told = ap (λ (x : Keeping). told_of x.policy) here ∙ r.reporting.told ∙ ap (λ (h : List DrawopValue). after_telling h (told_of (there hosts older i).policy)) k_held ∙ ap (after_telling held) (r.same.told ∙ b.told);
-        due_by = let e = ap (λ (x : Keeping). x.policy.reports.due) here in omega (arith, e, most, le);
-        soon = le;
-        quiet = omega (arith, q, end);
-        behind = λ a c y is. b.behind a (c ++ more) y (r.split ∙ ap (λ (t : List TimedLine). t ++ more) is ∙ append_assoc a (y ∷ c) more);
-        kept = λ j live_j. st_all.same r.later more j refl live_j ∙ b.kept j live_j;
-      }
+      behind_it count b n.0 n.1 where
+        behind_it : (count : ℕ) (b : IsBehind count) (r : Reports hosts terms trace s i live b.front b.part) → r.e.time ≤ from + suc count * span → IsBehind (suc count)
+        behind_it count b r le =
+            let more = r.e ∷ r.between in
+            let older = r.between ++ b.part in
+            let here = there_here hosts r.e older i r.place in
+            let st = still_there count b r in
+            let k_held = held_there count b r in
+            let most = r.reporting.most in
+            let end = calls_end more b.part (ordered hosts terms trace s (newest ++ r.later) (more ++ b.part) (split_there count b r)) in
+            let q = b.quiet in
+            record {
+              front = r.later;
+              grown = more ++ b.grown;
+              part = more ++ b.part;
+              is = ap (λ (t : List TimedLine). r.e ∷ t) (before_is count b r);
+              split = window_there count b r;
+              still_here = still_older hosts terms trace newest r.later more b.part st;
+              turns =
+                  ap (λ (x : Keeping). x.policy.turns) here ∙ r.reporting.turns
+                  ∙ ap (λ (h : List DrawopValue). after_turn h (there hosts older i).policy.turns) k_held ∙ ap (after_turn held) (turns_there count b r);
+              told =
+                  ap (λ (x : Keeping). told_of x.policy) here ∙ r.reporting.told
+                  ∙ ap (λ (h : List DrawopValue). after_telling h (told_of (there hosts older i).policy)) k_held
+                  ∙ ap (after_telling held) (tells_there count b r);
+              due_by = let e = ap (λ (x : Keeping). x.policy.reports.due) here in omega (arith, e, most, le);
+              soon = le;
+              quiet = omega (arith, q, end);
+              behind = λ a c y is. b.behind a (c ++ more) y (r.split ∙ ap (λ (t : List TimedLine). t ++ more) is ∙ append_assoc a (y ∷ c) more);
+              kept = λ j live_j. st.same r.later more j refl live_j ∙ b.kept j live_j;
+            }
 
   pub is_behind : (count : ℕ) → from + count * span < called_at (window ++ base) → IsBehind count
   is_behind zero lt = at_start

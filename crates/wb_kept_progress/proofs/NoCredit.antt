@@ -61,7 +61,9 @@ module _ (is_spent : CreditIsSpent) (hosts : ℕ → Opening) (terms : Terms) (t
   IsPaid k = IsCovered k.policy.owed k.policy.reports.due (present k.host) moment
 
   split_at : (front part : List TimedLine) → window ≡ front ++ part → trace ≡ (newest ++ front) ++ (part ++ base)
-  split_at front part split = still.split ∙ ap (λ (t : List TimedLine). newest ++ (t ++ base)) split ∙ ap (λ (t : List TimedLine). newest ++ t) (append_assoc front part base) ∙ sym (append_assoc newest front (part ++ base))
+  split_at front part split =
+      still.split ∙ ap (λ (t : List TimedLine). newest ++ (t ++ base)) split ∙ ap (λ (t : List TimedLine). newest ++ t) (append_assoc front part base)
+      ∙ sym (append_assoc newest front (part ++ base))
 
   paid_first : (front part : List TimedLine) → window ≡ front ++ part → called_at (part ++ base) + 21000000 ≤ last → IsPaid (there hosts (part ++ base) i)
   paid_first front part split before =
@@ -91,7 +93,8 @@ module _ (is_spent : CreditIsSpent) (hosts : ℕ → Opening) (terms : Terms) (t
     whole = split_at front (e ∷ rest) split
 
     still_here : IsStill hosts terms trace (newest ++ front) (e ∷ rest) base
-    still_here = still_newer hosts terms trace newest front (e ∷ rest) base (subst (λ (t : List TimedLine). IsStill hosts terms trace newest t base) split still)
+    still_here =
+        still_newer hosts terms trace newest front (e ∷ rest) base (subst (λ (t : List TimedLine). IsStill hosts terms trace newest t base) split still)
 
     settled : settled_by terms < e.time
     settled =
@@ -110,12 +113,16 @@ module _ (is_spent : CreditIsSpent) (hosts : ℕ → Opening) (terms : Terms) (t
     same_held = still_here.same [] (e ∷ rest) i refl live ∙ sym (still_here.same (e ∷ []) rest i refl live)
 
     not_refused : fault_of e.at.line k ≡ None
-    not_refused = subst (λ (p : ℕ). fault_of e.at.line (there hosts older p) ≡ None) at_i (taken_of hosts (newest ++ front) (e ∷ older) (subst (λ (t : List TimedLine). AreTaken hosts (lines_of t)) whole s.taken)).0
+    not_refused =
+        subst (λ (p : ℕ). fault_of e.at.line (there hosts older p) ≡ None) at_i
+        (taken_of hosts (newest ++ front) (e ∷ older) (subst (λ (t : List TimedLine). AreTaken hosts (lines_of t)) whole s.taken)).0
 
     found : (n : NameValue) → Contains (does hosts e older) (Asks n) → IsHeldBySome hosts terms trace n → IsFound
     found n c held =
         let asked = subst (λ (p : ℕ). let m = there hosts older p in Contains (doing_of e.at.line (sees m.host) m.policy).lines (Asks n)) at_i c in
-        let a = asking_in_call hosts terms trace s.opened i n held window base front rest e split here (asks_stand e.at.line k n not_refused (answers_at hosts (lines_of older) i) asked) in
+        let a =
+        asking_in_call hosts terms trace s.opened i n held window base front rest e split here
+        (asks_stand e.at.line k n not_refused (answers_at hosts (lines_of older) i) asked) in
         let time = a.2 in
         (a.0, a.1, omega (arith, time, lately))
 

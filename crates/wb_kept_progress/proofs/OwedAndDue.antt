@@ -130,7 +130,9 @@ tells_of terms (e ∷ newer) older tells = tells_of terms newer older tells.1
 -- the present moment of a host is not behind the newest call
 pub present_by : (hosts : ℕ → Opening) (terms : Terms) (calls : List TimedLine) (i : ℕ) → (hosts i).moments ≡ [] → AreCalledInOrder calls
     → TellTimes terms calls → present (there hosts calls i).host ≤ called_at calls + terms.offset i
-present_by hosts terms [] i none order tells = subst (λ (moments : List ℕ). present (after_lines (map Ticks moments) (opened_with (hosts i).constants (hosts i).number (hosts i).cells (hosts i).seed)) ≤ 0 + terms.offset i) (sym none) (omega arith)
+present_by hosts terms [] i none order tells =
+    subst (λ (moments : List ℕ). present (after_lines (map Ticks moments) (opened_with (hosts i).constants (hosts i).number (hosts i).cells (hosts i).seed)) ≤ 0 + terms.offset i)
+    (sym none) (omega arith)
 present_by hosts terms (e ∷ older) i none order tells = by (present_by hosts terms older i none order.1 tells.1) (nat_eq e.at.place i) refl where
   k : Keeping
   k = there hosts older i
@@ -153,7 +155,9 @@ module _ (hosts : ℕ → Opening) (terms : Terms) (trace newer older : List Tim
   near_there = near_at hosts (lines_of older) i (taken_of hosts newer older (subst (λ (t : List TimedLine). AreTaken hosts (lines_of t)) split s.taken))
 
   pub now_there : present (there hosts older i).host ≤ called_at older + terms.offset i
-  now_there = present_by hosts terms older i (s.opened i) (calls_order newer older (subst AreCalledInOrder split s.order)) (tells_of terms newer older (subst (TellTimes terms) split s.times))
+  now_there =
+      present_by hosts terms older i (s.opened i) (calls_order newer older (subst AreCalledInOrder split s.order))
+      (tells_of terms newer older (subst (TellTimes terms) split s.times))
 
   pub owed_there : (there hosts older i).policy.owed ≤ called_at older + terms.offset i + 16000000
   owed_there = let n = near_there in let o = n.owed in let now = now_there in omega (arith, o, now)

@@ -57,7 +57,8 @@ pub call_now : (line : KeptLine) (k : Keeping) (moment : ℕ) → IsTold moment 
     → IsTuning (doing_of line) k ⊎ (present (after_doing (doing_of line) k).host ≡ moment)
 call_now (Came now v) k moment told = inr (came_now now v k ∙ told)
 call_now (Ticked now) k moment told = inr (begun_now now (ticks now (sees k.host) k.policy) k.host (ticks_begin now (sees k.host) k.policy) ∙ told)
-call_now (Added now page time op) k moment told = inr (begun_now now (doing_of (Added now page time op) (sees k.host) k.policy) k.host (adds_begin now page time op (sees k.host) k.policy) ∙ told)
+call_now (Added now page time op) k moment told =
+    inr (begun_now now (doing_of (Added now page time op) (sees k.host) k.policy) k.host (adds_begin now page time op (sees k.host) k.policy) ∙ told)
 call_now (Tuned constants) k moment told = inl (record { policy = refl; now_is = refl })
 
 -- ---- what is heard leaves turns and tellings
@@ -76,7 +77,9 @@ both first second f s see p =
     same_both p one.policy (second view one.policy).policy (f see p) (s view one.policy)
 
 want_leaves : (name : NameValue) (anew : Bool) → LeavesTurns (want name anew)
-want_leaves name anew see p = choose p (is_wanted_here name anew see p) (record { policy = after_wanting (see []).now p; lines = lines_wanted name anew see p }) (still see p) (record { turns = refl; due = refl; told = refl }) (same_policy p)
+want_leaves name anew see p =
+    choose p (is_wanted_here name anew see p) (record { policy = after_wanting (see []).now p; lines = lines_wanted name anew see p }) (still see p)
+    (record { turns = refl; due = refl; told = refl }) (same_policy p)
 
 told_leaves : (names : List NameValue) → LeavesTurns (want_told names)
 told_leaves [] see p = same_policy p
@@ -97,7 +100,8 @@ session_leaves sender sent page marks echoes see p =
     let first = performs (Hears (Session sender sent page (own_marks v.me (nat_lt v.now p.ready) marks) echo)) in
     let second = measures sender (distance_in v.now echo) in
     let third = want_told (told_names v.me page marks) in
-    both first (and_then second third) (λ see p. same_policy p) (both second third (measures_leave sender (distance_in v.now echo)) (told_leaves (told_names v.me page marks))) see p
+    both first (and_then second third) (λ see p. same_policy p)
+    (both second third (measures_leave sender (distance_in v.now echo)) (told_leaves (told_names v.me page marks))) see p
 
 state_leaves : (sender : ℕ) (page : PageId) (marks : List MarkValue) → LeavesTurns (hears_state sender page marks)
 state_leaves sender page marks see p =
@@ -126,7 +130,8 @@ hears_leaves (Draw d) k old = by (holds k.host.is.held d.name) (old d refl) wher
   by : (b : Bool) → b ≡ true → SamePolicy k.policy (cond (b || is_full k.host) (performs (Arrives d) (sees k.host) k.policy) new).policy
   by true e = same_policy k.policy
   by false e = absurd (true≢false (sym e))
-hears_leaves (Session sender sent page marks echoes) k old = other_leaves sender (hears_session sender sent page marks echoes) (session_leaves sender sent page marks echoes) (sees k.host) k.policy
+hears_leaves (Session sender sent page marks echoes) k old =
+    other_leaves sender (hears_session sender sent page marks echoes) (session_leaves sender sent page marks echoes) (sees k.host) k.policy
 hears_leaves (PageState sender page marks) k old = other_leaves sender (hears_state sender page marks) (state_leaves sender page marks) (sees k.host) k.policy
 hears_leaves (Request asker name) k old = other_leaves asker (performs (Hears (Request asker name))) (λ see p. same_policy p) (sees k.host) k.policy
 hears_leaves (AskPages asker) k old = other_leaves asker takes_question question_leaves (sees k.host) k.policy
@@ -172,7 +177,9 @@ came_call now v k answers_held room same =
           (λ (without : LacksCredit (after_doing timed m)). inr (subst LacksCredit (sym behind) without))
           is;
       policy = hears_leaves v t old;
-      held = sym (ap (λ (x : Keeping). x.host.is.held) behind ∙ (lines_rest (timed (sees m.host) m.policy).lines m.host (timed_small (sees m.host) m.policy)).held) ∙ same;
+      held =
+          sym (ap (λ (x : Keeping). x.host.is.held) behind ∙ (lines_rest (timed (sees m.host) m.policy).lines m.host (timed_small (sees m.host) m.policy)).held)
+          ∙ same;
       now_is = no_ticks_stand lines t.host (hears_none v (sees t.host) t.policy);
       of = record { number = more.number ∙ one.number; cells = more.cells ∙ one.cells; constants = more.constants ∙ one.constants };
       answers_held = answers_on (hears v) t (answers_on first k answers_held);

@@ -25,7 +25,9 @@ same_may n does k same may =
     record {
       answers_held = answers_on does k may.answers_held;
       lacks = ap (λ (h : List DrawopValue). holds h n) same ∙ may.lacks;
-      room = ap (λ (h : List DrawopValue). nat_le (after_doing does k).host.is.cells (length h)) same ∙ ap (λ (c : ℕ). nat_le c (length k.host.is.held)) of.cells ∙ may.room;
+      room =
+          ap (λ (h : List DrawopValue). nat_le (after_doing does k).host.is.cells (length h)) same ∙ ap (λ (c : ℕ). nat_le c (length k.host.is.held)) of.cells
+          ∙ may.room;
     }
 
 hearing_holds : (v : Datagram) (k : Keeping) → (after_doing (performs (Hears v)) k).host.is.held ≡ k.host.is.held
@@ -64,11 +66,15 @@ module _ (k : Keeping) (now sender sent : ℕ) (page : PageId) (marks : List Mar
   two = after_doing second one
 
   may_two : MayBeWanted two n
-  may_two = same_may n second one (lines_rest (second (sees one.host) one.policy).lines one.host (measures_small sender (distance_in now echo) (sees one.host) one.policy)).held
+  may_two =
+      same_may n second one
+      (lines_rest (second (sees one.host) one.policy).lines one.host (measures_small sender (distance_in now echo) (sees one.host) one.policy)).held
       (same_may n first t (hearing_holds (Session sender sent page (own_marks k.host.is.number (nat_lt now k.policy.ready) marks) echo) t) (same_may n (performs (Ticks now)) k refl may))
 
   all_heard : IsWantedIn n (and_then first (and_then second third)) t
-  all_heard = wanted_later n first (and_then second third) t (wanted_later n second third one (told_is_wanted (told_names k.host.is.number page marks) n two told may_two))
+  all_heard =
+      wanted_later n first (and_then second third) t
+      (wanted_later n second third one (told_is_wanted (told_names k.host.is.number page marks) n two told may_two))
 
   of_another : nat_eq sender k.host.is.number ≡ false
   of_another = is_false (nat_eq sender k.host.is.number) (λ same. other (eqb-true sender k.host.is.number same))

@@ -127,7 +127,8 @@ pub told_costs : (names : List NameValue) (k : Keeping) → CostsMore k (after_d
 told_costs [] k = costs_nothing k
 told_costs (name ∷ names) k =
     let m = after_doing (want name true) k in
-    subst (CostsMore k) (sym (then_after (want name true) (want_told names) k)) (costs_both k m (after_doing (want_told names) m) (want_costs name true k) (told_costs names m))
+    subst (CostsMore k) (sym (then_after (want name true) (want_told names) k))
+    (costs_both k m (after_doing (want_told names) m) (want_costs name true k) (told_costs names m))
 
 turn_to_costs : (next first : Option Hole) (k : Keeping) → CostsMore k (after_doing (turn_to next first) k)
 turn_to_costs (Some h) first k = let c = want_costs (name_in k.policy.turns.round h) true (with_policy (after_turn h k.policy) k) in record { owed = c.owed; now = c.now }
@@ -135,19 +136,26 @@ turn_to_costs None (Some h) k = let q = in_next_round k.policy in let c = want_c
 turn_to_costs None None k = record { owed = omega arith; now = refl }
 
 pub turn_costs : (k : Keeping) → CostsMore k (after_doing turn k)
-turn_costs k = turn_to_costs (hole_after k.host.is.held k.policy.turns.page k.policy.turns.source k.policy.turns.number) (hole_after k.host.is.held nowhere 0 0) k
+turn_costs k =
+    turn_to_costs (hole_after k.host.is.held k.policy.turns.page k.policy.turns.source k.policy.turns.number) (hole_after k.host.is.held nowhere 0 0) k
 
 same_owed : (k m : Keeping) → m.policy.owed ≡ k.policy.owed → present m.host ≡ present k.host → CostsMore k m
 same_owed k m e now = record { owed = omega (arith, e); now = now }
 
 pub answers_cost : (k : Keeping) → CostsMore k (after_doing answers k)
-answers_cost k = same_owed k (after_doing answers k) (answers_leave (sees k.host) k.policy).owed (lines_rest (answers (sees k.host) k.policy).lines k.host (answers_small (sees k.host) k.policy)).now
+answers_cost k =
+    same_owed k (after_doing answers k) (answers_leave (sees k.host) k.policy).owed
+    (lines_rest (answers (sees k.host) k.policy).lines k.host (answers_small (sees k.host) k.policy)).now
 
 pub asks_cost : (k : Keeping) → CostsMore k (after_doing asks_pages k)
-asks_cost k = same_owed k (after_doing asks_pages k) (asks_leave (sees k.host) k.policy).owed (lines_rest (asks_pages (sees k.host) k.policy).lines k.host (asks_pages_small (sees k.host) k.policy)).now
+asks_cost k =
+    same_owed k (after_doing asks_pages k) (asks_leave (sees k.host) k.policy).owed
+    (lines_rest (asks_pages (sees k.host) k.policy).lines k.host (asks_pages_small (sees k.host) k.policy)).now
 
 pub reports_cost : (k : Keeping) → CostsMore k (after_doing reports k)
-reports_cost k = same_owed k (after_doing reports k) (rest_leaves (slice_after k.policy.told (report_of k.host.is.held k.policy.told_page)) (sees k.host) k.policy).1 (lines_rest (reports (sees k.host) k.policy).lines k.host (reports_small (sees k.host) k.policy)).now
+reports_cost k =
+    same_owed k (after_doing reports k) (rest_leaves (slice_after k.policy.told (report_of k.host.is.held k.policy.told_page)) (sees k.host) k.policy).1
+    (lines_rest (reports (sees k.host) k.policy).lines k.host (reports_small (sees k.host) k.policy)).now
 
 abbrev done : Keeping → Doing → Keeping
 done k d = record { host = after_lines d.lines k.host; policy = d.policy }
@@ -214,7 +222,9 @@ wanted_beside name n k may =
     record {
       answers_held = answers_on (want name true) k may.answers_held;
       lacks = ap (λ (h : List DrawopValue). holds h n) rests.held ∙ may.lacks;
-      room = ap (λ (h : List DrawopValue). nat_le (after_doing (want name true) k).host.is.cells (length h)) rests.held ∙ ap (λ (c : ℕ). nat_le c (length k.host.is.held)) of.cells ∙ may.room;
+      room =
+          ap (λ (h : List DrawopValue). nat_le (after_doing (want name true) k).host.is.cells (length h)) rests.held
+          ∙ ap (λ (c : ℕ). nat_le c (length k.host.is.held)) of.cells ∙ may.room;
     }
 
 pub told_is_wanted : (names : List NameValue) (n : NameValue) (k : Keeping) → Contains names n → MayBeWanted k n → IsWantedIn n (want_told names) k

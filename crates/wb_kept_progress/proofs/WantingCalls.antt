@@ -52,7 +52,9 @@ module _ (hosts : ℕ → Opening) (terms : Terms) (trace : List TimedLine) (ope
     g = then_front e.time e.at.place a.later back
 
     of_call : performed hosts (e ∷ older) ≡ g.0 ++ back
-    of_call = ap (λ (ls : List Line). performed_then e.time e.at.place ls (performed hosts older)) lines ∙ then_both e.time e.at.place (a.first ∷ a.before) a.later (performed hosts older) ∙ g.1
+    of_call =
+        ap (λ (ls : List Line). performed_then e.time e.at.place ls (performed hosts older)) lines
+        ∙ then_both e.time e.at.place (a.first ∷ a.before) a.later (performed hosts older) ∙ g.1
 
     whole : performed hosts (window ++ base) ≡ (f.0 ++ g.0) ++ back
     whole =
@@ -60,7 +62,9 @@ module _ (hosts : ℕ → Opening) (terms : Terms) (trace : List TimedLine) (ope
         ∙ f.1 ∙ ap (λ (t : List Performed). f.0 ++ t) of_call ∙ sym (append_assoc f.0 g.0 back)
 
     there_is : host_after (λ j. start_of (hosts j)) back i ≡ after_lines (a.first ∷ a.before) k.host
-    there_is = after_all (λ j. start_of (hosts j)) e.time e.at.place (a.first ∷ a.before) (performed hosts older) i true same ∙ ap (after_lines (a.first ∷ a.before)) (host_is hosts opened older i)
+    there_is =
+        after_all (λ j. start_of (hosts j)) e.time e.at.place (a.first ∷ a.before) (performed hosts older) i true same
+        ∙ ap (after_lines (a.first ∷ a.before)) (host_is hosts opened older i)
 
     timer : (ask : AskTimer) × (timer_then hosts back i n ≡ Some ask)
     timer = some_timer (timer_then hosts back i n) (ap (asks_for n) there_is ∙ a.stands)
@@ -69,7 +73,8 @@ module _ (hosts : ℕ → Opening) (terms : Terms) (trace : List TimedLine) (ope
   pub wanting_in_call : (window base front grown older : List TimedLine) (e : TimedLine) (from by : ℕ) → window ≡ front ++ e ∷ grown → older ≡ grown ++ base
       → nat_eq e.at.place i ≡ true
       → present (after_doing (doing_of e.at.line) (there hosts older i)).host ≡ e.time + terms.offset i
-      → IsAskedInCall n (doing_of e.at.line) (there hosts older i) ⊎ LacksCredit (after_doing (doing_of e.at.line) (there hosts older i)) → from < e.time → e.time ≤ by → IsWanting hosts terms trace window base i from by
+      → IsAskedInCall n (doing_of e.at.line) (there hosts older i) ⊎ LacksCredit
+      (after_doing (doing_of e.at.line) (there hosts older i)) → from < e.time → e.time ≤ by → IsWanting hosts terms trace window base i from by
   wanting_in_call window base front grown older e from by split is same now wants behind soon = record {
     front = front;
     part = e ∷ grown;
