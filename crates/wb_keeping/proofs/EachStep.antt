@@ -1,9 +1,8 @@
 -- What is so of each step of a policy is so of all that a kept host does.
-use Rattle.std.proofs.Common.{◌≡◌, ℕ, ◌≤◌, Bool, true, false, cond, List, [], ◌∷◌, ◌++◌, ◌∙◌, ap, filter, length, map, refl, sym, subst}
-use Rattle.std.specs.Prelude.{Option, Some, None, ◌||◌, not, nat_eq, nat_le, nat_lt, take}
+use Rattle.std.proofs.Common.{◌≡◌, ℕ, ◌≤◌, Bool, true, false, cond, List, [], ◌∷◌, ◌++◌, length, map, refl, sym, subst}
+use Rattle.std.specs.Prelude.{Option, Some, None, ◌||◌, nat_eq, nat_le, nat_lt, take}
 use Rattle.std.proofs.lemmas.Bool.{leb-true}
 use Rattle.wb_names.specs.Faults.{fault_unless, first_of}
-use Rattle.wb_names.specs.History.{highest}
 use Rattle.wb_names.specs.Values.{DrawopValue, MarkValue, NameValue}
 use Rattle.wb_names.specs.declared.echo.Echo.{Echo}
 use Rattle.wb_names.specs.declared.name.PageId.{PageId}
@@ -17,7 +16,7 @@ use Rattle.wb_member.specs.Opened.{Opened, present}
 use Rattle.wb_keeping.specs.Distances.{bounded}
 use Rattle.wb_recovery.specs.Timing.{are_constants}
 use Rattle.wb_recovery.specs.declared.tuning.Tuning.{Tuning}
-use Rattle.wb_keeping.specs.Kept.{Arrives, Doing, Hears, Line, Says, SetsDistance, Tunes, Stops, Ticks, Transition, and_then, answers, asks_pages, came, distance_in, draws_it, drawing, end, ends_full, hears, hears_session, hears_some, hears_state, is_begun, is_unasked, learned, measures, own_echo, own_marks, paid_for, performs, reports, reports_due, reports_page, reports_rest, state_of, still, takes, takes_question, timed, told_names, turn, turn_to, want, want_near, want_told}
+use Rattle.wb_keeping.specs.Kept.{Arrives, Doing, Hears, Line, Says, SetsDistance, Tunes, Stops, Ticks, Transition, and_then, answers, asks_pages, distance_in, draws_it, drawing, end, ends_full, hears, hears_session, hears_some, hears_state, is_begun, is_unasked, learned, measures, own_echo, own_marks, performs, reports, reports_due, reports_page, reports_rest, state_of, still, takes, takes_question, timed, told_names, turn, turn_to, want, want_near, want_told}
 use Rattle.wb_keeping.specs.Laws.{Added, AreTaken, Came, KeptLine, Ticked, Tuned, after_kept, doing_of, expand, fault_of}
 use Rattle.wb_keeping.specs.Performing.{Keeping, after_doing, after_line, after_lines, sees, view_of}
 use Rattle.wb_keeping.specs.Policy.{Policy, View, after_answer, after_came, after_question, after_state, after_taking_up, after_turn, holds, in_next_round, is_asked, is_full, with_distance}
