@@ -1,6 +1,6 @@
 -- A session of hosts that keep themselves becomes whole: while something is lacked that some hold, something new comes in each step.
-use Rattle.std.proofs.Common.{◌≡◌, ℕ, ◌+◌, ◌*◌, ◌<◌, ◌≤◌, Bool, true, false, cond, List, [], ◌∷◌, ◌++◌, ◌∙◌, Some, ap, append-nil, append_assoc, arith, inl, inr, refl, subst, suc, sym, zero, ⊎_elim, true≢false, get_or, length-append}
-use Rattle.std.specs.Prelude.{◌≢◌, ◌⊎◌, Contains, length, max, min, nat_eq, nat_le, nat_lt}
+use Rattle.std.proofs.Common.{◌≡◌, ℕ, ◌+◌, ◌*◌, ◌<◌, ◌≤◌, Bool, true, false, cond, List, [], ◌∷◌, ◌++◌, ◌∙◌, ap, append-nil, append_assoc, arith, inl, inr, refl, subst, suc, sym, zero, ⊎_elim, true≢false, get_or}
+use Rattle.std.specs.Prelude.{◌⊎◌, Contains, length, nat_eq}
 use Rattle.std.proofs.lemmas.List.{append_cancel_left, get_or_append_left}
 use Rattle.std.proofs.lemmas.Bool.Decides.{leb_tells}
 use Rattle.wb_names.specs.Arrivals.{Outcome, Fresh, Known, Clashed, Left, history_with, outcome_of}
@@ -20,10 +20,10 @@ use Rattle.wb_member.specs.Opened.{Opened, accepted, doing, has_room_for, heard,
 use Rattle.wb_member.specs.Random.{word_of}
 use Rattle.wb_keeping.specs.Kept.{Line, Arrives, Asks, Hears, Says, SetsDistance, Stops, Ticks, Tunes}
 use Rattle.wb_keeping.specs.Laws.{doing_of}
-use Rattle.wb_keeping.specs.Performing.{Keeping, after_doing, after_line, after_lines, due, sees}
+use Rattle.wb_keeping.specs.Performing.{Keeping, after_doing, after_line, after_lines, sees}
 use Rattle.wb_kept_progress.specs.Sessions.{Opening, kept_at}
 use Rattle.wb_kept_progress.specs.Timed.{AllKeptHoldBehind, Performed, TimedLine, called_at, host_after, lines_of, performed, start_of, time_of, until}
-use Rattle.wb_kept_progress.specs.Whole.{AreApart, AreCalledInOrder, AreWithin, IsHeldBySome, IsLackedAt, IsTimelySession, Lack, LackAtMost, SessionsBecomeWhole, Sizes, WaitAtMost, report_span, request_span, step, there, whole_by}
+use Rattle.wb_kept_progress.specs.Whole.{AreApart, AreCalledInOrder, IsHeldBySome, IsLackedAt, Lack, SessionsBecomeWhole, Sizes, report_span, request_span, step, there, whole_by}
 use Rattle.wb_kept_progress.proofs.CallLines.{lines_have_calls}
 use Rattle.wb_kept_progress.proofs.CallsInTime.{performed_is_timely}
 use Rattle.wb_kept_progress.proofs.Causes.{asks_have_cause}
@@ -39,7 +39,7 @@ use Rattle.wb_kept_progress.proofs.Young.{timers_are_young}
 use Rattle.wb_kept_progress.proofs.CallParts.{calls_order, due_by_report, lacked_until, lines_end}
 use Rattle.wb_kept_progress.proofs.KeptInTime.{front_of}
 use Rattle.wb_kept_progress.proofs.Repairs.{held_once}
-use Rattle.wb_kept_progress.proofs.WholeParts.{HasNoCredit, HeldWasHeld, Holds, IsAsking, IsStill, IsWanting, LackIsWanted, NoCreditIsAsked, ReportsAreDue, StillnessEnds}
+use Rattle.wb_kept_progress.proofs.WholeParts.{HasNoCredit, HeldWasHeld, Holds, IsAsking, IsStill, LackIsWanted, NoCreditIsAsked, ReportsAreDue, StillnessEnds}
 
 -- ---- what is held is followed by what comes
 
@@ -168,12 +168,14 @@ module _ (hosts : ℕ → Opening) where
       from : (more : List DrawopValue) → held_at (window ++ base) i ≡ held_at base i ++ more
           → (held_at (window ++ base) i ≡ held_at base i) ⊎ ((n : NameValue) × (holds (there hosts (window ++ base) i).host n ≡ true) × (holds (there hosts base i).host n ≡ false))
       from [] is = inl (is ∙ append-nil (held_at base i))
-      from (d ∷ more) is = inr (d.name,
-          holds_from (held_at (window ++ base) i) d.name d (subst (λ (h : List DrawopValue). Contains h d) (sym is) (Contains-append_right (held_at base i) (d ∷ more) d (Contains-here d more))) refl,
-          lacked (history_holds (held_at base i) d.name) refl) where
-            lacked : (b : Bool) → history_holds (held_at base i) d.name ≡ b → b ≡ false
-            lacked false e = refl
-            lacked true e = absurd (new_name (held_at base i) more d (subst IsHistory is once) e)
+      from (d ∷ more) is = inr (
+        d.name,
+        holds_from (held_at (window ++ base) i) d.name d (subst (λ (h : List DrawopValue). Contains h d) (sym is) (Contains-append_right (held_at base i) (d ∷ more) d (Contains-here d more))) refl,
+        lacked (history_holds (held_at base i) d.name) refl,
+      ) where
+        lacked : (b : Bool) → history_holds (held_at base i) d.name ≡ b → b ≡ false
+        lacked false e = refl
+        lacked true e = absurd (new_name (held_at base i) more d (subst IsHistory is once) e)
 
   gains : (live : List ℕ) (window base : List TimedLine) → ((i : ℕ) → IsHistory (held_at (window ++ base) i)) → AreSame live window base ⊎ Gains live window base
   gains [] window base once = inl (λ i c. absurd (Contains-none i c))
@@ -302,8 +304,12 @@ module _ (hosts : ℕ → Opening) (terms : Terms) (trace : List TimedLine) (siz
   -- what is lacked behind a time is lacked before
   lacked_first : (newer part : List TimedLine) (i : ℕ) (n : NameValue) → trace ≡ newer ++ part → start < called_at part → Contains terms.live i → IsHeldBySome hosts terms trace n → holds (there hosts part i).host n ≡ false
       → IsLackedAt hosts terms trace (until (settled_by terms) (performed hosts trace)) (record { place = i; name = n })
-  lacked_first newer part i n split late live held lacks = (live, held, subst (λ (t : List TimedLine). holds (host_after (λ j. start_of (hosts j)) (until (settled_by terms) (performed hosts t)) i) n ≡ false) (sym split)
-      (lacked_until hosts all.session.opened newer part (settled_by terms) i n (subst AreCalledInOrder split all.session.order) (omega (arith, late)) lacks))
+  lacked_first newer part i n split late live held lacks = (
+    live,
+    held,
+    subst (λ (t : List TimedLine). holds (host_after (λ j. start_of (hosts j)) (until (settled_by terms) (performed hosts t)) i) n ≡ false) (sym split)
+        (lacked_until hosts all.session.opened newer part (settled_by terms) i n (subst AreCalledInOrder split all.session.order) (omega (arith, late)) lacks),
+  )
 
   filled : (k : ℕ) (newer part : List TimedLine) (i : ℕ) (n : NameValue) → trace ≡ newer ++ part → at_step k < called_at part → Contains terms.live i → IsHeldBySome hosts terms trace n → holds (there hosts part i).host n ≡ false → AreFilled part i n k
   filled zero newer part i n split late live held lacks = record {

@@ -1,5 +1,5 @@
 -- By when all of a session has come to hosts that keep themselves, where from some time on nobody draws and nothing is lost.
-use Rattle.std.specs.Prelude.{◌≡◌, ◌≢◌, ℕ, ◌+◌, ◌*◌, ◌^◌, ◌-◌, ◌<◌, ◌≤◌, true, false, List, [], ◌∷◌, ◌++◌, Contains, Some, length}
+use Rattle.std.specs.Prelude.{◌≡◌, ◌≢◌, ℕ, ◌+◌, ◌*◌, ◌^◌, ◌-◌, ◌<◌, ◌≤◌, false, List, [], ◌∷◌, ◌++◌, Contains, Some, length}
 use Rattle.wb_names.specs.Values.{DrawopValue, NameValue}
 use Rattle.wb_names.specs.declared.name.PageId.{PageId}
 use Rattle.wb_names.specs.declared.parts.Op.{Op}
@@ -13,9 +13,9 @@ use Rattle.wb_progress.specs.InTime.{known_from, repairing}
 use Rattle.wb_progress.specs.Turns.{Terms, longest, settled_by}
 use Rattle.wb_member.specs.Judged.{delay, holds, is_full}
 use Rattle.wb_keeping.specs.Fairness.{slices_of, slices_on}
-use Rattle.wb_keeping.specs.Laws.{KeptLine, Added, Came, Tuned, doing_of}
+use Rattle.wb_keeping.specs.Laws.{Added, Came, Tuned, doing_of}
 use Rattle.wb_keeping.specs.Performing.{Keeping, due, sent_by_doing}
-use Rattle.wb_kept_progress.specs.Sessions.{AreTaken, LineAt, Opening, kept_at}
+use Rattle.wb_kept_progress.specs.Sessions.{AreTaken, Opening, kept_at}
 use Rattle.wb_kept_progress.specs.Timed.{AllKeptHoldBehind, IsAnswerable, Performed, TellTimes, TimedLine, called_at, host_after, lines_of, performed, start_of, timers_after, until}
 
 -- the host at a place, with its policy, after some calls, of which the newest is the first
