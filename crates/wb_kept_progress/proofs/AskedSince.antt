@@ -1,5 +1,5 @@
 -- A request timer that was not backed off was set by a line that asks for its name, and is due soon behind that.
-use Rattle.std.proofs.Common.{◌≡◌, ℕ, ◌+◌, ◌*◌, ◌≤◌, Bool, true, false, cond, List, [], ◌∷◌, ◌++◌, ◌∙◌, Option, Some, None, ap, append_assoc, arith, eqb-true, inl, inr, refl, subst, sym, ⊎_elim}
+use Rattle.std.proofs.Common.{◌≡◌, ℕ, ◌+◌, ◌*◌, ◌≤◌, Bool, true, false, cond, List, [], ◌∷◌, ◌++◌, ◌∙◌, Option, Some, None, ap, arith, eqb-true, inl, inr, refl, subst, sym, ⊎_elim}
 use Rattle.std.specs.Prelude.{◌⊎◌, Contains, nat_eq}
 use Rattle.std.proofs.Math.Nat.{mul-le-mul_right}
 use Rattle.wb_names.specs.Values.{NameValue}
@@ -15,12 +15,12 @@ use Rattle.wb_progress.specs.Turns.{Terms, longest}
 use Rattle.wb_progress.proofs.Calls.{fresh_ask}
 use Rattle.wb_member.specs.Judged.{delay}
 use Rattle.wb_member.specs.Opened.{Opened, events, present}
-use Rattle.wb_keeping.specs.Kept.{Line, Asks, Ticks}
+use Rattle.wb_keeping.specs.Kept.{Line, Asks}
 use Rattle.wb_keeping.specs.Performing.{after_line}
-use Rattle.wb_kept_progress.specs.Timed.{AreInOrder, IsTimely, Performed, Start, host_after, time_of, timers_after}
+use Rattle.wb_kept_progress.specs.Timed.{AreInOrder, IsTimely, Performed, Start, host_after, timers_after}
 use Rattle.wb_kept_progress.proofs.Lines.{line_of}
-use Rattle.wb_kept_progress.proofs.PerLine.{IsMade, line_did, line_moment}
-use Rattle.wb_kept_progress.proofs.Timely.{order_of}
+use Rattle.wb_kept_progress.proofs.PerLine.{IsMade, line_did}
+use Rattle.wb_kept_progress.proofs.Timely.{clock, order_of, split_part}
 
 -- ---- one line
 
@@ -62,34 +62,8 @@ module _ (line : Line) (host : Opened) (far : ℕ) (bound : Tuning) (n : NameVal
 -- ---- a trace that keeps to times
 
 module _ (hosts : ℕ → Start) (terms : Terms) (trace : List Performed) (timely : IsTimely hosts terms trace) where
-  split_part : (front part : List Performed) (e : Performed) → trace ≡ front ++ e ∷ part → trace ≡ (front ++ e ∷ []) ++ part
-  split_part front part e split = split ∙ sym (append_assoc front (e ∷ []) part)
-
   order_at : (front part : List Performed) → trace ≡ front ++ part → AreInOrder part
   order_at front part split = order_of front part (subst AreInOrder split timely.order)
-
-  -- no moment is ahead of its time
-  pub moment_by : (front part : List Performed) (i : ℕ) → trace ≡ front ++ part → present (host_after hosts part i) ≤ time_of part + terms.offset i
-  moment_by front [] i split = omega arith
-  moment_by front (e ∷ older) i split = from (nat_eq e.place i) refl (moment_by (front ++ e ∷ []) older i (split_part front older e split)) where
-    h : Opened
-    h = host_after hosts older i
-
-    later : (m : ℕ) → m ≤ time_of older + terms.offset i → m ≤ e.time + terms.offset i
-    later m le = let o = (order_at front (e ∷ older) split).0 in omega (arith, le, o)
-
-    itself : (m : ℕ) → m ≤ m
-    itself m = omega arith
-
-    from : (b : Bool) → nat_eq e.place i ≡ b → present h ≤ time_of older + terms.offset i → present (cond b (after_line e.line h) h) ≤ e.time + terms.offset i
-    from false other rest = later (present h) rest
-    from true same rest = ⊎_elim
-        (λ (s : present (after_line e.line h) ≡ present h). subst (λ (m : ℕ). m ≤ e.time + terms.offset i) (sym s) (later (present h) rest))
-        (λ (t : (now : ℕ) × (e.line ≡ Ticks now) × (present (after_line e.line h) ≡ now)).
-        let told = timely.times front older e t.0 split t.1 in
-        let here = ap (λ (k : ℕ). e.time + terms.offset k) (eqb-true e.place i same) in
-        subst (λ (m : ℕ). m ≤ e.time + terms.offset i) (sym (t.2 ∙ told ∙ here)) (itself (e.time + terms.offset i)))
-        (line_moment e.line h)
 
   -- a line of these asks for the name at a place, and the timer that it sets is due within the waits of a request
   pub record WasAsked (back : List Performed) (i : ℕ) (n : NameValue) (ask : AskTimer) : Type 0 where
@@ -108,7 +82,7 @@ module _ (hosts : ℕ → Start) (terms : Terms) (trace : List Performed) (timel
   was_asked front [] i n ask split live stands level = absurd (none_some ask stands)
   was_asked front (e ∷ older) i n ask split live stands level = from (nat_eq e.place i) refl stands (λ stood. was_asked (front ++ e ∷ []) older i n ask part live stood level) where
     part : trace ≡ (front ++ e ∷ []) ++ older
-    part = split_part front older e split
+    part = split_part hosts terms trace timely front older e split
 
     h : Opened
     h = host_after hosts older i
@@ -119,7 +93,7 @@ module _ (hosts : ℕ → Start) (terms : Terms) (trace : List Performed) (timel
     soon : ask.due ≤ present h + ((longest terms).c1 + (longest terms).c2) * terms.far → ask.due ≤ e.time + terms.offset i + terms.asking * terms.far
     soon due =
         let o = (order_at front (e ∷ older) split).0 in
-        let m = moment_by (front ++ e ∷ []) older i part in
+        let m = clock hosts terms trace timely (front ++ e ∷ []) older i part in
         let wait : ((longest terms).c1 + (longest terms).c2) * terms.far ≤ terms.asking * terms.far = mul-le-mul_right terms.far (omega arith) in
         omega (arith, due, o, m, wait)
 

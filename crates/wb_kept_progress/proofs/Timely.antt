@@ -115,12 +115,12 @@ module _ (hosts : ℕ → Start) (terms : Terms) (trace : List Performed) (timel
   abbrev all : List Turn
   all = turns_of hosts trace
 
-  split_part : (front part : List Performed) (e : Performed) → trace ≡ front ++ e ∷ part → trace ≡ (front ++ e ∷ []) ++ part
+  pub split_part : (front part : List Performed) (e : Performed) → trace ≡ front ++ e ∷ part → trace ≡ (front ++ e ∷ []) ++ part
   split_part front part e split = split ∙ sym (append_assoc front (e ∷ []) part)
 
   -- ---- its moment
 
-  clock : (front part : List Performed) (i : ℕ) → trace ≡ front ++ part → present (host_after hosts part i) ≤ time_of part + terms.offset i
+  pub clock : (front part : List Performed) (i : ℕ) → trace ≡ front ++ part → present (host_after hosts part i) ≤ time_of part + terms.offset i
   clock front [] i split = omega arith
   clock front (e ∷ older) i split = from (nat_eq e.place i) refl (clock (front ++ e ∷ []) older i (split_part front older e split)) where
     order : AreInOrder (e ∷ older)
