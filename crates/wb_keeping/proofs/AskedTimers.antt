@@ -1,7 +1,7 @@
 -- The names that a host asks for, and their timers.
-use Rattle.std.proofs.Common.{◌≡◌, ℕ, suc, Bool, true, false, List, [], ◌∷◌, ◌∙◌, Option, Some, None, ap, cond, is_some, refl, sym, subst, arith, true≢false}
-use Rattle.std.specs.Prelude.{filter, length, map, ◌||◌}
-use Rattle.std.specs.List.{cons_option, find, list_any, filter_map}
+use Rattle.std.proofs.Common.{◌≡◌, suc, Bool, true, false, List, [], ◌∷◌, ◌∙◌, Option, Some, None, ap, cond, is_some, refl, sym, subst, arith, true≢false}
+use Rattle.std.specs.Prelude.{length, map, ◌||◌}
+use Rattle.std.specs.List.{cons_option, find, list_any}
 use Rattle.std.specs.Option.{option_map}
 use Rattle.wb_names.specs.Orders.{same_name}
 use Rattle.wb_names.specs.Values.{NameValue}

@@ -1,5 +1,5 @@
 -- The next of a list that ascends: behind each element the one that follows it is found, and behind the last one none is.
-use Rattle.std.proofs.Common.{◌≡◌, ℕ, zero, suc, ◌+◌, ◌<◌, Bool, true, false, cond, List, [], ◌∷◌, ◌∙◌, Option, Some, None, ap, arith, get_or, length, refl}
+use Rattle.std.proofs.Common.{◌≡◌, ℕ, zero, suc, ◌+◌, ◌<◌, Bool, true, false, cond, List, [], ◌∷◌, ◌∙◌, Some, None, ap, arith, get_or, length}
 use Rattle.std.specs.List.{find}
 
 module _ {X : Type 0} (after : X → X → Bool) where

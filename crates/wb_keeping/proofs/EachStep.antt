@@ -1,9 +1,8 @@
 -- What is so of each step of a policy is so of all that a kept host does.
-use Rattle.std.proofs.Common.{◌≡◌, ℕ, ◌≤◌, Bool, true, false, cond, List, [], ◌∷◌, ◌++◌, ◌∙◌, ap, filter, length, map, refl, sym, subst}
-use Rattle.std.specs.Prelude.{Option, Some, None, ◌||◌, not, nat_eq, nat_le, nat_lt, take}
+use Rattle.std.proofs.Common.{◌≡◌, ℕ, ◌≤◌, Bool, true, false, cond, List, [], ◌∷◌, ◌++◌, length, map, refl, sym, subst}
+use Rattle.std.specs.Prelude.{Option, Some, None, ◌||◌, nat_eq, nat_le, nat_lt, take}
 use Rattle.std.proofs.lemmas.Bool.{leb-true}
 use Rattle.wb_names.specs.Faults.{fault_unless, first_of}
-use Rattle.wb_names.specs.History.{highest}
 use Rattle.wb_names.specs.Values.{DrawopValue, MarkValue, NameValue}
 use Rattle.wb_names.specs.declared.echo.Echo.{Echo}
 use Rattle.wb_names.specs.declared.name.PageId.{PageId}
@@ -17,7 +16,7 @@ use Rattle.wb_member.specs.Opened.{Opened, present}
 use Rattle.wb_keeping.specs.Distances.{bounded}
 use Rattle.wb_recovery.specs.Timing.{are_constants}
 use Rattle.wb_recovery.specs.declared.tuning.Tuning.{Tuning}
-use Rattle.wb_keeping.specs.Kept.{Arrives, Doing, Hears, Line, Says, SetsDistance, Tunes, Stops, Ticks, Transition, and_then, answers, asks_pages, came, distance_in, draws_it, drawing, end, ends_full, hears, hears_session, hears_some, hears_state, is_begun, is_unasked, learned, measures, own_echo, own_marks, paid_for, performs, reports, reports_due, reports_page, reports_rest, state_of, still, takes, takes_question, timed, told_names, turn, turn_to, want, want_near, want_told}
+use Rattle.wb_keeping.specs.Kept.{Arrives, Doing, Hears, Line, Says, SetsDistance, Tunes, Stops, Ticks, Transition, and_then, answers, asks_pages, distance_in, draws_it, drawing, end, ends_full, hears, hears_session, hears_some, hears_state, is_begun, is_unasked, learned, measures, own_echo, own_marks, performs, reports, reports_due, reports_page, reports_rest, state_of, still, takes, takes_question, timed, told_names, turn, turn_to, want, want_near, want_told}
 use Rattle.wb_keeping.specs.Laws.{Added, AreTaken, Came, KeptLine, Ticked, Tuned, after_kept, doing_of, expand, fault_of}
 use Rattle.wb_keeping.specs.Performing.{Keeping, after_doing, after_line, after_lines, sees, view_of}
 use Rattle.wb_keeping.specs.Policy.{Policy, View, after_answer, after_came, after_question, after_state, after_taking_up, after_turn, holds, in_next_round, is_asked, is_full, with_distance}
@@ -54,7 +53,8 @@ pub record HoldsOfSteps (R : Keeping → List Line → Keeping → Type 0) : Typ
   pub arrives : (d : DrawopValue) (k : Keeping) → R k (Arrives d ∷ []) (having (Arrives d) k)
   pub answered : (d : DrawopValue) (k : Keeping) → holds (view_of k.host) d.name ≡ false → is_asked (view_of k.host) d.name ≡ true → R k (Arrives d ∷ []) (with_policy (after_came k.policy) (having (Arrives d) k))
   pub hears : (v : Datagram) (k : Keeping) → R k (Hears v ∷ []) (having (Hears v) k)
-  pub stops : (name : NameValue) (k : Keeping) → R k (Stops name ∷ []) (having (Stops name) k)
+  -- outside of `wants` only a full board gives names up
+  pub stops : (name : NameValue) (k : Keeping) → is_full (view_of k.host) ≡ true → R k (Stops name ∷ []) (having (Stops name) k)
   pub sets : (source micros : ℕ) (k : Keeping) → R k (SetsDistance source (bounded micros) ∷ []) (having (SetsDistance source (bounded micros)) k)
   pub tunes : (constants : Tuning) (k : Keeping) → are_constants constants ≡ true → R k (Tunes constants ∷ []) (having (Tunes constants) k)
   pub wants : (name : NameValue) (anew : Bool) (k : Keeping) → R k (want name anew (sees k.host) k.policy).lines (after_doing (want name anew) k)
@@ -135,12 +135,12 @@ module _ (R : Keeping → List Line → Keeping → Type 0) (is : HoldsOfSteps R
   turn_holds : Holds turn
   turn_holds k = turn_to_holds (hole_after k.host.is.held k.policy.turns.page k.policy.turns.source k.policy.turns.number) (hole_after k.host.is.held nowhere 0 0) k
 
-  stops_hold : (asked : List AskedName) (k : Keeping) → HoldsOf k (doing k.policy (map (λ (a : AskedName). Stops a.name) asked))
-  stops_hold [] k = is.nothing k
-  stops_hold (a ∷ asked) k = is.both k (having (Stops a.name) k) (having_done (doing k.policy (map (λ (a : AskedName). Stops a.name) (a ∷ asked))) k) (Stops a.name ∷ []) (map (λ (a : AskedName). Stops a.name) asked) (is.stops a.name k) (stops_hold asked (having (Stops a.name) k))
+  stops_hold : (asked : List AskedName) (k : Keeping) → is_full (view_of k.host) ≡ true → HoldsOf k (doing k.policy (map (λ (a : AskedName). Stops a.name) asked))
+  stops_hold [] k full = is.nothing k
+  stops_hold (a ∷ asked) k full = is.both k (having (Stops a.name) k) (having_done (doing k.policy (map (λ (a : AskedName). Stops a.name) (a ∷ asked))) k) (Stops a.name ∷ []) (map (λ (a : AskedName). Stops a.name) asked) (is.stops a.name k full) (stops_hold asked (having (Stops a.name) k) full)
 
-  end_holds : Holds end
-  end_holds k = stops_hold (view_of k.host).asked k
+  end_holds : (k : Keeping) → is_full (view_of k.host) ≡ true → HoldsAt end k
+  end_holds k full = stops_hold (view_of k.host).asked k full
 
   -- a drawop came that was asked for, which costs nothing by now; one came that was not
   asked_holds : (name : NameValue) (k : Keeping) → HoldsOf (with_policy (after_came k.policy) k) (with_room_done name true (sees k.host) k.policy)
@@ -181,7 +181,7 @@ module _ (R : Keeping → List Line → Keeping → Type 0) (is : HoldsOfSteps R
   timed_holds = then_holds answers (and_then asks_pages reports_due) answers_hold (then_holds asks_pages reports_due asks_pages_hold reports_due_hold)
 
   ends_hold : Holds ends_full
-  ends_hold k = either (HoldsOf k) (is_full (view_of k.host)) (end (sees k.host) k.policy) (still (sees k.host) k.policy) (λ full. end_holds k) (λ room. is.nothing k)
+  ends_hold k = either (HoldsOf k) (is_full (view_of k.host)) (end (sees k.host) k.policy) (still (sees k.host) k.policy) (λ full. end_holds k full) (λ room. is.nothing k)
 
   -- ---- what comes in
 
@@ -191,7 +191,7 @@ module _ (R : Keeping → List Line → Keeping → Type 0) (is : HoldsOfSteps R
       let m = having (Arrives d) k in
       let see = sees m.host in
       either (λ (e : Doing). HoldsOf k (doing e.policy (Arrives d ∷ e.lines))) (is_full (view_of m.host)) (end see m.policy) (with_room_done d.name was see m.policy)
-      (λ full. is.both k m (having_done (end see m.policy) m) (Arrives d ∷ []) (end see m.policy).lines (is.arrives d k) (end_holds m))
+      (λ full. is.both k m (having_done (end see m.policy) m) (Arrives d ∷ []) (end see m.policy).lines (is.arrives d k) (end_holds m full))
       (λ room. by was asked) where
         room_left : Bool → Doing
         room_left b = with_room_done d.name b (sees (having (Arrives d) k).host) k.policy

@@ -1,6 +1,6 @@
 -- Each hole has its turn, and each number of it.
 use Rattle.std.proofs.Common.{◌≡◌, ℕ, zero, suc, ◌+◌, ◌-◌, ◌*◌, ◌≤◌, ◌<◌, Bool, true, false, cond, List, [], ◌∷◌, ◌∙◌, Option, Some, None, ap, arith, get_or, inl, inr, length, refl, subst, sym, ⊎_elim}
-use Rattle.std.specs.Prelude.{◌⊎◌, ◌/◌, ◌%◌, ◌^◌, Contains, nat_eq, nat_le}
+use Rattle.std.specs.Prelude.{◌⊎◌, ◌/◌, ◌%◌, Contains, nat_eq, nat_le}
 use Rattle.std.specs.List.{find}
 use Rattle.std.proofs.Math.Nat.{add-mod_right, mod-eq_of_lt, mul-le-mul_right}
 use Rattle.std.proofs.lemmas.Bool.{leb-false, leb-true}
@@ -12,9 +12,9 @@ use Rattle.wb_names.specs.Values.{DrawopValue, NameValue}
 use Rattle.wb_gaps.specs.Holes.{begins_after, hole_after, holes_of}
 use Rattle.wb_gaps.specs.declared.holes.Hole.{Hole}
 use Rattle.wb_keeping.specs.Fairness.{EachHoleHasItsTurn, EachNumberHasItsTurn, TurnsAreTaken, after_turn, after_turns, hole_in_turn, led_to, name_in_turn}
-use Rattle.wb_keeping.specs.Kept.{Line, still, turn, turn_to, want}
+use Rattle.wb_keeping.specs.Kept.{Line, still, turn_to, want}
 use Rattle.wb_keeping.specs.Policy.{Policy, View, after_turn as policy_after, after_wanting, in_next_round}
-use Rattle.wb_keeping.specs.Turns.{after_hole, name_in, next_round, nowhere, number_in}
+use Rattle.wb_keeping.specs.Turns.{name_in, nowhere}
 use Rattle.wb_keeping.specs.declared.turns.Turns.{Turns}
 use Rattle.wb_keeping.proofs.Cycle.{found_at, found_next, found_none}
 use Rattle.wb_keeping.proofs.EachStep.{doing}

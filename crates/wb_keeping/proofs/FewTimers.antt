@@ -1,27 +1,27 @@
 -- At most 64 request timers stand, whatever comes in.
-use Rattle.std.proofs.Common.{◌≡◌, ℕ, ◌+◌, ◌≤◌, ◌<◌, zero, suc, Bool, true, false, cond, List, [], ◌∷◌, ◌++◌, ◌∙◌, Option, Some, None, ap, arith, filter, inl, inr, length, map, refl, subst, sym, true≢false, ⊎_elim}
-use Rattle.std.specs.Prelude.{◌⊎◌, Contains, is_some, nat_eq, nat_le, nat_lt, take}
+use Rattle.std.proofs.Common.{◌≡◌, ℕ, ◌≤◌, zero, suc, Bool, true, false, cond, List, [], ◌∷◌, ◌++◌, ◌∙◌, Option, Some, None, ap, arith, inl, inr, length, map, refl, subst, sym, ⊎_elim}
+use Rattle.std.specs.Prelude.{◌⊎◌, Contains, nat_eq, nat_le, nat_lt, take}
 use Rattle.std.specs.List.{fold}
 use Rattle.std.proofs.lemmas.Bool.{leb-false, leb-true}
-use Rattle.wb_names.specs.Values.{DrawopValue, MarkValue, NameValue}
+use Rattle.wb_names.specs.Values.{NameValue}
 use Rattle.wb_names.specs.declared.name.PageId.{PageId}
 use Rattle.wb_names.proofs.Listings.{Contains-here, Contains-there}
-use Rattle.wb_gaps.specs.Answers.{pages_of, report_of}
+use Rattle.wb_gaps.specs.Answers.{pages_of}
 use Rattle.wb_recovery.specs.Events.{timers_of}
 use Rattle.wb_recovery.specs.declared.tuning.Tuning.{Tuning}
 use Rattle.wb_member.specs.Judged.{asked_names}
 use Rattle.wb_member.specs.Opened.{Opened, events, opened_with, present}
-use Rattle.wb_keeping.specs.Bounds.{FewRequestsAtOnce, FewTimersStand, is_ask, is_request, new_keeping, timer_count}
-use Rattle.wb_keeping.specs.Kept.{Asks, Doing, Line, Says, SetsDistance, Tunes, Stops, Ticks, Transition, performs, reports_page, room_lines, state_of, still, stops_oldest, usual_lines, want}
-use Rattle.wb_keeping.specs.Laws.{AreTaken, KeptLine, after_kept, expand}
-use Rattle.wb_keeping.specs.Performing.{Keeping, after_doing, after_line, after_lines, sees, sent_by_line, view_of}
+use Rattle.wb_keeping.specs.Bounds.{FewRequestsAtOnce, FewTimersStand, is_ask, new_keeping, timer_count}
+use Rattle.wb_keeping.specs.Kept.{Asks, Line, Says, SetsDistance, Stops, Ticks, room_lines, state_of, still, stops_oldest, usual_lines, want}
+use Rattle.wb_keeping.specs.Laws.{AreTaken, KeptLine, expand}
+use Rattle.wb_keeping.specs.Performing.{Keeping, after_line, after_lines, sees, view_of}
 use Rattle.wb_keeping.specs.Policy.{Policy, View, after_wanting, holds, is_asked, is_full, level}
 use Rattle.wb_keeping.specs.Wanting.{is_wanted, older, oldest}
 use Rattle.wb_keeping.specs.declared.wanting.AskedName.{AskedName}
 use Rattle.wb_keeping.proofs.AskedTimers.{count_seen, named}
-use Rattle.wb_keeping.proofs.EachStep.{HoldsOfSteps, all_hold, doing, having}
+use Rattle.wb_keeping.proofs.EachStep.{HoldsOfSteps, all_hold, doing}
 use Rattle.wb_keeping.proofs.Performed.{after_both}
-use Rattle.wb_keeping.proofs.StandingTimers.{Stands, few_requests, no_more, one_less, one_more, stands_asked, stands_in}
+use Rattle.wb_keeping.proofs.StandingTimers.{few_requests, no_more, one_less, one_more, stands_asked, stands_in}
 use Rattle.wb_keeping.proofs.Wanted.{lines_wanted}
 
 -- ---- before each line, and behind them
@@ -154,7 +154,7 @@ steps_keep_few = record {
   arrives = λ d k. quietly k _ k.policy (refl, tt);
   answered = λ d k lacks asked. quietly k _ _ (refl, tt);
   hears = λ v k. quietly k _ k.policy (refl, tt);
-  stops = λ name k. quietly k _ k.policy (refl, tt);
+  stops = λ name k full. quietly k _ k.policy (refl, tt);
   sets = λ source micros k. quietly k _ k.policy (refl, tt);
   tunes = λ constants k within. quietly k _ k.policy (refl, tt);
   wants = λ name anew k. record { at = refl; few = wanted_few name anew k };

@@ -1,8 +1,7 @@
 -- The holes of a board ascend, so that each is found behind the one before it.
-use Rattle.std.proofs.Common.{◌≡◌, ℕ, zero, suc, ◌+◌, ◌≤◌, ◌<◌, Bool, true, false, cond, List, [], ◌∷◌, ◌++◌, ◌∙◌, Option, Some, None, ap, arith, get_or, inl, inr, length, map, refl, subst, sym, true≢false, ⊎_elim}
-use Rattle.std.specs.Prelude.{◌⊎◌, AllPairs, Contains}
+use Rattle.std.proofs.Common.{◌≡◌, ℕ, suc, ◌+◌, ◌≤◌, ◌<◌, Bool, true, false, List, [], ◌∷◌, ◌++◌, ◌∙◌, Some, ap, arith, get_or, length, map, refl, subst, sym, true≢false, ⊎_elim}
+use Rattle.std.specs.Prelude.{AllPairs, Contains}
 use Rattle.std.specs.List.{find, flat_map}
-use Rattle.std.specs.Cmp.{nat_cmp_total}
 use Rattle.std.specs.List.Sorted.{IsStrictlySortedBy}
 use Rattle.std.specs.Ordering.{is_lt, nat_cmp, ordering_then}
 use Rattle.std.specs.declared.cmp.Ordering.{Ordering}
@@ -16,7 +15,7 @@ use Rattle.wb_names.specs.Orders.{page_cmp}
 use Rattle.wb_names.specs.Values.{DrawopValue}
 use Rattle.wb_names.specs.declared.gap.Gap.{Gap}
 use Rattle.wb_names.specs.declared.name.PageId.{PageId}
-use Rattle.wb_names.proofs.Listings.{below_all, Contains-cases, Contains-here, Contains-there}
+use Rattle.wb_names.proofs.Listings.{below_all, Contains-here, Contains-there}
 use Rattle.wb_names.proofs.Orders.{page_total}
 use Rattle.wb_gaps.specs.Answers.{gaps_of, pages_of}
 use Rattle.wb_gaps.specs.Gaps.{IsApart}

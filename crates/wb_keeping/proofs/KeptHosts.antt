@@ -1,5 +1,5 @@
 -- A kept host is a host, and what its driver draws is not locked.
-use Rattle.std.proofs.Common.{◌≡◌, ◌<◌, ◌≤◌, ℕ, Bool, true, false, List, [], ◌∷◌, ◌++◌, ◌∙◌, ap, arith, refl, sym}
+use Rattle.std.proofs.Common.{◌≡◌, Bool, true, false, List, [], ◌∷◌, ◌++◌, ◌∙◌, ap, arith, refl, sym}
 use Rattle.std.specs.Prelude.{Option, None, Some, nat_le, nat_lt, not}
 use Rattle.std.specs.Option.{option_map}
 use Rattle.std.proofs.lemmas.Bool.Decides.{nat_tests}
@@ -9,10 +9,9 @@ use Rattle.wb_names.specs.Faults.{fault_unless, first_of}
 use Rattle.wb_names.specs.declared.fault.FieldFault.{FieldFault}
 use Rattle.wb_host.specs.declared.keep_fault.KeepFault.TheVariants.{BackInTime}
 use Rattle.wb_member.specs.Opened.{last_number, present}
-use Rattle.wb_keeping.specs.Kept.{Doing, drawing}
-use Rattle.wb_keeping.specs.Laws.{DrawingIsNotLocked, KeptHostsAreHosts, KeptLine, doing_of, expand, sent_by_kept}
-use Rattle.wb_keeping.specs.Performing.{Keeping, after_doing, after_lines, sees, sent_by_lines, view_of}
-use Rattle.wb_keeping.specs.declared.kept_fault.KeptFault.{KeptFault}
+use Rattle.wb_keeping.specs.Kept.{drawing}
+use Rattle.wb_keeping.specs.Laws.{DrawingIsNotLocked, KeptHostsAreHosts, doing_of, expand}
+use Rattle.wb_keeping.specs.Performing.{after_doing, sees, sent_by_lines, view_of}
 use Rattle.wb_keeping.specs.declared.kept_fault.KeptFault.TheVariants.{Host, Listening, Numbers, Operation}
 use Rattle.wb_keeping.proofs.Performed.{after_both, sent_by_both}
 

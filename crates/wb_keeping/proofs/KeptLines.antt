@@ -1,5 +1,5 @@
 -- The lines of a kept host.
-use Rattle.std.proofs.Common.{◌≡◌, ◌⊎◌, ℕ, ◌≤◌, Bool, true, false, cond, List, [], ◌∷◌, arith, filter, inl, inr, length, refl, sym, true≢false}
+use Rattle.std.proofs.Common.{◌≡◌, ◌⊎◌, Bool, true, false, cond, [], arith, filter, inl, inr, refl, sym, true≢false}
 use Rattle.std.specs.Prelude.{IsTrue, not, ◌&&◌}
 use Rattle.std.proofs.lemmas.List.{length-take}
 use Rattle.wb_names.specs.Values.{MarkValue}

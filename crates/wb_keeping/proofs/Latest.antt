@@ -1,6 +1,6 @@
 -- At most 32 senders were heard last.
-use Rattle.std.proofs.Common.{◌≡◌, ℕ, suc, ◌+◌, ◌*◌, ◌<◌, ◌≤◌, Bool, true, false, cond, List, [], ◌∷◌, ◌∙◌, ap, arith, filter, get_or, length, refl, sym, subst, true≢false, inl, inr, ⊎_elim}
-use Rattle.std.specs.Prelude.{◌⊎◌, ◌&&◌, ◌||◌, AllPairs, nat_eq, nat_lt, Option}
+use Rattle.std.proofs.Common.{◌≡◌, ℕ, suc, ◌+◌, ◌<◌, ◌≤◌, Bool, true, false, cond, List, [], ◌∷◌, ◌∙◌, ap, arith, filter, get_or, length, refl, sym, true≢false, inl, inr}
+use Rattle.std.specs.Prelude.{◌⊎◌, ◌&&◌, ◌||◌, AllPairs, nat_eq, nat_lt}
 use Rattle.std.specs.List.{count_by}
 use Rattle.std.specs.Ordering.{is_lt, nat_cmp, ordering_then}
 use Rattle.std.proofs.lemmas.Bool.{ltb-true}
@@ -8,11 +8,9 @@ use Rattle.std.proofs.lemmas.Bool.Decides.{nat_tests}
 use Rattle.std.proofs.lemmas.Grind.{common_steps}
 use Rattle.std.proofs.lemmas.List.Recursion.{is_count_by}
 use Rattle.wb_names.specs.Ascending.{AreEchoes}
-use Rattle.wb_names.specs.Values.{MarkValue}
 use Rattle.wb_names.specs.declared.echo.Echo.{Echo}
 use Rattle.wb_keeping.specs.Kept.{heard_later, last_heard}
 use Rattle.wb_keeping.specs.Laws.{ReportsAreSmall}
-use Rattle.wb_keeping.specs.Reports.{slice_after}
 use Rattle.wb_keeping.proofs.KeptLines.{slices_are_short}
 
 -- ---- who was heard later

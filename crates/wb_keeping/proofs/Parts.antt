@@ -1,5 +1,5 @@
 -- Parts of lists of entries that ascend.
-use Rattle.std.proofs.Common.{◌≡◌, ℕ, ◌<◌, Bool, List, arith, filter, get_or, length, take}
+use Rattle.std.proofs.Common.{◌≡◌, ℕ, ◌<◌, Bool, List, arith, filter, get_or, take}
 use Rattle.std.proofs.lemmas.List.{get_or-take, length-take}
 use Rattle.std.proofs.lemmas.List.Elements.{All-filter, All-take}
 use Rattle.std.proofs.lemmas.List.Kept.{AllPairs-filter}

@@ -1,5 +1,5 @@
 -- Transitions that are performed one after the other.
-use Rattle.std.proofs.Common.{◌≡◌, ℕ, Bool, true, false, List, [], ◌∷◌, ◌++◌, ◌∙◌, ap, append-nil, append_assoc, cond, refl, sym, subst}
+use Rattle.std.proofs.Common.{◌≡◌, List, [], ◌∷◌, ◌++◌, ◌∙◌, ap, append-nil, append_assoc, refl, sym, subst}
 use Rattle.wb_codec.specs.declared.datagram.Datagram.{Datagram}
 use Rattle.wb_member.specs.Holding.{IsOpenAt, MemberValue}
 use Rattle.wb_member.specs.Opened.{Opened}

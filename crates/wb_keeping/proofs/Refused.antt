@@ -1,6 +1,6 @@
 -- What refuses a call, and what becomes of a drawop that comes.
-use Rattle.std.proofs.Common.{◌≡◌, ◌≤◌, ◌∙◌, ℕ, ◌+◌, Bool, true, false, cond, [], ◌∷◌, ap, arith, refl, subst, sym}
-use Rattle.std.specs.Prelude.{Option, None, Some, Result, Ok, Err, IsTrue, is_some, nat_le, nat_lt, not}
+use Rattle.std.proofs.Common.{◌≡◌, ◌≤◌, ℕ, ◌+◌, Bool, true, false, cond, [], ◌∷◌, arith, refl, subst, sym}
+use Rattle.std.specs.Prelude.{Option, None, Some, Result, Ok, Err, nat_le, nat_lt, not}
 use Rattle.std.proofs.lemmas.Bool.{leb-false}
 use Rattle.wb_names.specs.Drawing.{seq_fault}
 use Rattle.wb_names.specs.Faults.{fault_unless, first_of, value_unless}
@@ -13,7 +13,7 @@ use Rattle.wb_host.specs.declared.keep_fault.KeepFault.TheVariants.{BackInTime, 
 use Rattle.wb_member.specs.Opened.{Opened, last_number, next_number, ticked}
 use Rattle.wb_keeping.specs.Refusing.{IsRefusedBy, came_as}
 use Rattle.wb_keeping.specs.declared.kept_fault.KeptFault.{KeptFault}
-use Rattle.wb_keeping.specs.declared.kept_fault.KeptFault.TheVariants.{Host, Listening, Ours}
+use Rattle.wb_keeping.specs.declared.kept_fault.KeptFault.TheVariants.{Host, Listening}
 
 pub came_later : (v : Datagram) (now : ℕ) (host : Opened) → came_as v (ticked now host) ≡ came_as v host
 came_later (Draw d) now host = refl

@@ -1,5 +1,5 @@
 -- How many names are asked for from one moment to another.
-use Rattle.std.proofs.Common.{◌≡◌, ℕ, ◌+◌, ◌-◌, ◌*◌, ◌≤◌, List, [], ◌∷◌, arith}
+use Rattle.std.proofs.Common.{ℕ, ◌+◌, ◌-◌, ◌*◌, ◌≤◌, List, [], ◌∷◌, arith}
 use Rattle.std.specs.Prelude.{max}
 use Rattle.std.proofs.lemmas.Bool.{leb-true}
 use Rattle.wb_keeping.specs.Laws.{Spending, Asks, Comes, owed_after, asks_in, comes_in, IsSpent, FewAreAsked}

@@ -18,12 +18,11 @@ use Rattle.wb_names.proofs.Listings.{Contains-cases, Contains-filter, Contains-h
 use Rattle.wb_names.proofs.Orders.{name_total, same_name-is}
 use Rattle.wb_codec.specs.declared.datagram.Datagram.{Datagram}
 use Rattle.wb_codec.specs.declared.datagram.Datagram.TheVariants.{Draw, Session, Request, AskPages, PageState}
-use Rattle.wb_recovery.specs.Events.{Asked, Event, Got, Notice, Tick, asking, due_answers, due_asks, names_of, timers_of}
+use Rattle.wb_recovery.specs.Events.{Asked, Event, Got, due_answers, due_asks, names_of, timers_of}
 use Rattle.wb_recovery.specs.Laws.{arrives, notices, since}
 use Rattle.wb_recovery.specs.Stopping.{receipts}
 use Rattle.wb_recovery.specs.Timing.{is_ask_due}
 use Rattle.wb_recovery.specs.declared.missed.Received.{Received}
-use Rattle.wb_recovery.specs.declared.plan.Action.{Action}
 use Rattle.wb_recovery.specs.declared.plan.Action.TheVariants.{Ask, Answer}
 use Rattle.wb_recovery.specs.declared.timers.AskTimer.{AskTimer}
 use Rattle.wb_recovery.specs.declared.timers.Timers.{Timers}
@@ -34,7 +33,7 @@ use Rattle.wb_gaps.specs.declared.page_reports.PageReport.{PageReport}
 use Rattle.wb_host.specs.GivingUp.{is_asked, level as level_in}
 use Rattle.wb_host.specs.Hearing.{answers_to, asks_for_held, asks_for_pages, page_states}
 use Rattle.wb_host.specs.Keeper.{asked_by, delay_to, given_up, holds, received_of}
-use Rattle.wb_host.specs.Ticks.{drawop_of, sends_for, sent_for, stopped_after}
+use Rattle.wb_host.specs.Ticks.{drawop_of, sent_for, stopped_after}
 use Rattle.wb_member.specs.Judged.{asked_names}
 use Rattle.wb_member.specs.Members.{Misses}
 use Rattle.wb_member.specs.Opened.{Opened, becomes, doing, events, has_room_for, heard, may_ask, present, word_at}

@@ -6,15 +6,14 @@ use Rattle.std.specs.Cmp.{nat_cmp_total}
 use Rattle.std.specs.List.Sorted.{IsStrictlySortedBy}
 use Rattle.std.specs.Option.{option_or}
 use Rattle.std.specs.Ordering.{is_lt, nat_cmp, ordering_reverse}
-use Rattle.std.specs.declared.cmp.Ordering.{Ordering}
-use Rattle.std.specs.declared.cmp.Ordering.TheVariants.{Less, Equal, Greater}
+use Rattle.std.specs.declared.cmp.Ordering.TheVariants.{Less}
 use Rattle.std.proofs.Math.ListN.{drop_of_length-le}
 use Rattle.std.proofs.lemmas.Bool.{leb-false, leb-true, ltb-true}
 use Rattle.std.proofs.lemmas.Bool.Decides.{nat_tests}
 use Rattle.std.proofs.lemmas.Grind.{common_steps}
 use Rattle.std.proofs.lemmas.List.{get_or-drop, get_or-take, length-drop, length-take, take_all}
 use Rattle.std.proofs.lemmas.List.Elements.{Contains-get_or}
-use Rattle.std.proofs.lemmas.List.Sums.{count_by-le-length, length-filter, sum_by-take-le, sum_by_more, sum_by_more_le}
+use Rattle.std.proofs.lemmas.List.Sums.{count_by-le-length, length-filter, sum_by_more, sum_by_more_le}
 use Rattle.std.proofs.lemmas.Map.Keys.{sorted_head, sorted_tail}
 use Rattle.wb_names.specs.Orders.{page_cmp, same_page}
 use Rattle.wb_names.specs.Values.{DrawopValue, MarkValue}
@@ -24,9 +23,9 @@ use Rattle.wb_gaps.specs.Answers.{pages_of, report_of, sources_of, top_mark}
 use Rattle.wb_gaps.proofs.PageAnswers.{pages_of_history}
 use Rattle.wb_gaps.proofs.Sorting.{sorted_rises}
 use Rattle.wb_gaps.proofs.Starts.{page_itself}
-use Rattle.wb_keeping.specs.Fairness.{EachMarkIsTold, ReportsTell, Told, after_telling, after_tellings, marks_in_turn, page_in_turn, slices_of, slices_on, where_left}
+use Rattle.wb_keeping.specs.Fairness.{EachMarkIsTold, ReportsTell, Told, after_tellings, marks_in_turn, page_in_turn, slices_of, slices_on, where_left}
 use Rattle.wb_codec.specs.declared.datagram.Datagram.TheVariants.{Session}
-use Rattle.wb_keeping.specs.Kept.{Line, Says, last_heard, last_source, reports, reports_rest}
+use Rattle.wb_keeping.specs.Kept.{Line, Says, last_heard, last_source, reports_rest}
 use Rattle.wb_keeping.specs.Policy.{Policy, View}
 use Rattle.wb_keeping.specs.Reports.{first_of_pages, is_after, is_untold, page_after, slice_after}
 use Rattle.wb_keeping.specs.Turns.{nowhere}

@@ -1,22 +1,20 @@
 -- A name that is wanted has a request timer then, where there is credit.
-use Rattle.std.proofs.Common.{◌≡◌, ℕ, ◌+◌, Bool, true, false, cond, List, [], ◌∷◌, ◌++◌, ◌∙◌, Option, Some, None, ap, arith, inl, inr, refl, subst, sym, true≢false, ⊎_elim}
+use Rattle.std.proofs.Common.{◌≡◌, ℕ, Bool, true, false, cond, List, [], ◌∷◌, ◌++◌, ◌∙◌, Option, Some, None, ap, inl, inr, refl, subst, sym, true≢false, ⊎_elim}
 use Rattle.std.specs.Prelude.{◌⊎◌, ◌&&◌, ◌||◌, filter, is_none, is_some, length, nat_eq, nat_le, not}
-use Rattle.std.specs.List.{list_any}
-use Rattle.std.proofs.lemmas.Bool.{and_parts}
-use Rattle.wb_names.specs.Arrivals.{Outcome, Fresh, Known, Clashed, Left, history_after, history_with, outcome_of}
+use Rattle.wb_names.specs.Arrivals.{Outcome, Fresh, Known, Clashed, Left, history_with, outcome_of}
 use Rattle.wb_names.specs.Orders.{same_name}
 use Rattle.wb_names.specs.Values.{DrawopValue, NameValue}
 use Rattle.wb_names.proofs.Orders.{same_name-is}
 use Rattle.wb_codec.specs.declared.datagram.Datagram.{Datagram}
 use Rattle.wb_codec.specs.declared.datagram.Datagram.TheVariants.{Draw, Session, Request, AskPages, PageState}
-use Rattle.wb_recovery.specs.Events.{Asked, Event, Got, Notice, Tick, timers_of}
+use Rattle.wb_recovery.specs.Events.{Asked, Event, Got, timers_of}
 use Rattle.wb_recovery.specs.Laws.{arrives, ends_answer, notices, sets_answer, since}
 use Rattle.wb_recovery.specs.Stopping.{receipts}
 use Rattle.wb_recovery.specs.Timing.{is_answer_due}
 use Rattle.wb_recovery.specs.declared.missed.Received.{Received}
 use Rattle.wb_recovery.specs.declared.tuning.Tuning.{Tuning}
-use Rattle.wb_recovery.proofs.TimerLaws.{answer_stands, request_stands}
-use Rattle.wb_host.specs.GivingUp.{is_asked as is_asked_in, level as level_in}
+use Rattle.wb_recovery.proofs.TimerLaws.{answer_stands}
+use Rattle.wb_host.specs.GivingUp.{is_asked as is_asked_in}
 use Rattle.wb_host.specs.Hearing.{asks_for_held}
 use Rattle.wb_host.specs.Keeper.{asked_by, delay_to, given_up, holds, received_of}
 use Rattle.wb_host.specs.Ticks.{stopped_after}
@@ -24,9 +22,9 @@ use Rattle.wb_member.specs.Members.{Misses}
 use Rattle.wb_member.specs.Opened.{Opened, doing as doing_act, events, has_room_for, heard, may_ask, opened_with, present, word_at}
 use Rattle.wb_member.specs.Random.{word_of}
 use Rattle.wb_keeping.specs.Credit.{has_credit}
-use Rattle.wb_keeping.specs.Fairness.{AnswersWhatIsHeld, OnlyHeldIsAnswered, WantedIsAsked, is_answering}
-use Rattle.wb_keeping.specs.Kept.{Arrives, Asks, Doing, Hears, Line, Says, SetsDistance, Tunes, Stops, Ticks, room_lines, still, stops_oldest, usual_lines, want}
-use Rattle.wb_keeping.specs.Performing.{Keeping, after_doing, after_line, after_lines, sees, view_of}
+use Rattle.wb_keeping.specs.Fairness.{OnlyHeldIsAnswered, WantedIsAsked, is_answering}
+use Rattle.wb_keeping.specs.Kept.{Arrives, Asks, Doing, Hears, Line, Says, SetsDistance, Tunes, Stops, Ticks, room_lines, still, stops_oldest, usual_lines}
+use Rattle.wb_keeping.specs.Performing.{after_line, after_lines, sees, view_of}
 use Rattle.wb_keeping.specs.Policy.{View, after_wanting, is_asked, is_full, level}
 use Rattle.wb_keeping.specs.Wanting.{goes_on, is_wanted, oldest}
 use Rattle.wb_keeping.specs.declared.wanting.AskedName.{AskedName}

@@ -1,5 +1,5 @@
 -- The time of a drawing: it comes after all that its page shows, unless that is an hour ahead.
-use Rattle.std.specs.Prelude.{ℕ, ◌+◌, ◌-◌, ◌^◌, Bool, ◌&&◌, List, [], ◌∷◌, Option, Some, None, map, filter, max, min, nat_lt, if◌then◌else◌}
+use Rattle.std.specs.Prelude.{ℕ, ◌+◌, ◌-◌, ◌^◌, Bool, ◌&&◌, List, [], ◌∷◌, map, filter, max, min, nat_lt, if◌then◌else◌}
 use Rattle.wb_names.specs.Orders.{same_page}
 use Rattle.wb_names.specs.Values.{DrawopValue}
 use Rattle.wb_names.specs.declared.name.PageId.{PageId}

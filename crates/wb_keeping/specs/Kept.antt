@@ -1,10 +1,9 @@
 -- A host that keeps itself whole: what it does for a datagram that comes, as time goes on, and for a drawing. Each is a list of lines
 -- that a host takes today, performed one after the other. So a kept host is a host whose driver hands in these lines.
-use Rattle.std.specs.Prelude.{ℕ, zero, suc, ◌+◌, ◌-◌, ◌*◌, ◌/◌, Bool, true, false, not, ◌&&◌, ◌||◌, List, [], ◌∷◌, ◌++◌, Option, Some, None, filter, is_some, length, map, max, min, nat_eq, nat_le, nat_lt, take, if◌then◌else◌}
-use Rattle.std.specs.List.{count_by, filter_map, find}
+use Rattle.std.specs.Prelude.{ℕ, zero, suc, ◌+◌, ◌-◌, ◌*◌, Bool, true, false, not, ◌&&◌, ◌||◌, List, [], ◌∷◌, ◌++◌, Option, Some, None, filter, length, map, max, min, nat_eq, nat_le, nat_lt, take, if◌then◌else◌}
+use Rattle.std.specs.List.{count_by}
 use Rattle.std.specs.Ordering.{is_lt, nat_cmp, ordering_then}
 use Rattle.wb_names.specs.History.{highest, name_of}
-use Rattle.wb_names.specs.Orders.{same_name}
 use Rattle.wb_names.specs.Values.{NameValue, DrawopValue, MarkValue}
 use Rattle.wb_names.specs.declared.echo.Echo.{Echo}
 use Rattle.wb_names.specs.declared.name.PageId.{PageId}

@@ -1,10 +1,9 @@
 -- What becomes of a host that performs lines, and what it sends by them: a host that keeps itself is a member and a policy.
-use Rattle.std.specs.Prelude.{◌≡◌, ℕ, ◌+◌, Bool, true, false, List, [], ◌∷◌, ◌++◌, Option, Some, None, map, min, if◌then◌else◌}
+use Rattle.std.specs.Prelude.{◌≡◌, ℕ, List, [], ◌∷◌, ◌++◌, Option, Some, None, min, if◌then◌else◌}
 use Rattle.std.specs.List.{filter_map}
 use Rattle.std.specs.Option.{option_map}
 use Rattle.wb_names.specs.Arrivals.{Outcome, Fresh, Known, Clashed, Left}
 use Rattle.wb_names.specs.Values.{DrawopValue, NameValue}
-use Rattle.wb_names.specs.declared.name.PageId.{PageId}
 use Rattle.wb_codec.specs.declared.datagram.Datagram.{Datagram}
 use Rattle.wb_codec.specs.declared.datagram.Datagram.TheVariants.{Draw, Session, Request, AskPages, PageState}
 use Rattle.wb_recovery.specs.Events.{timers_of, names_of}

@@ -1,5 +1,5 @@
 -- Questions for pages: a newcomer asks which there are, and asks less often from time to time; about one member answers.
-use Rattle.std.specs.Prelude.{ℕ, ◌+◌, ◌*◌, ◌/◌, Bool, false, ◌&&◌, Option, Some, None, is_none, min, nat_le, if◌then◌else◌}
+use Rattle.std.specs.Prelude.{ℕ, ◌+◌, ◌*◌, ◌/◌, Bool, false, ◌&&◌, Option, Some, None, is_none, min, nat_le}
 use Rattle.wb_keeping.specs.declared.questions.Questions.{Questions}
 
 -- a moment is due

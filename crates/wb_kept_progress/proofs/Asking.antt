@@ -164,7 +164,7 @@ asks_sets name host may =
 -- ---- the oldest
 
 -- each of some names is no older
-oldest_most : (a : AskedName) (later : List AskedName) (b : AskedName) → Contains (a ∷ later) b → b.level ≤ (fold older a later).level
+pub oldest_most : (a : AskedName) (later : List AskedName) (b : AskedName) → Contains (a ∷ later) b → b.level ≤ (fold older a later).level
 oldest_most a [] b c = ⊎_elim (λ (e : a ≡ b). subst (λ (x : AskedName). x.level ≤ a.level) e (omega arith)) (λ (c : Contains [] b). absurd (Contains-none b c)) (Contains-cases a b [] c)
 oldest_most a (x ∷ later) b c =
     let first = oldest_most (older a x) later (older a x) (Contains-here (older a x) later) in
@@ -187,7 +187,7 @@ oldest_most a (x ∷ later) b c =
         by true e = omega arith
         by false e = let le = ltb-false a.level x.level e in omega (arith, le)
 
-oldest_is_one : (a : AskedName) (later : List AskedName) → Contains (a ∷ later) (fold older a later)
+pub oldest_is_one : (a : AskedName) (later : List AskedName) → Contains (a ∷ later) (fold older a later)
 oldest_is_one a [] = Contains-here a []
 oldest_is_one a (x ∷ later) =
     ⊎_elim
@@ -211,18 +211,18 @@ told_level timers (n ∷ names) b c = by (told_level timers names b) (timers n).
       later
       (Contains-cases first b (asked_with timers names) c)
 
-level_told : (host : Opened) (b : AskedName) → Contains (view_of host).asked b → level host b.name ≡ Some b.level
+pub level_told : (host : Opened) (b : AskedName) → Contains (view_of host).asked b → level host b.name ≡ Some b.level
 level_told host b c = told_level (timers_of host.is.constants (events host)) (names_of (events host)) b c
 
 -- a name with a timer is told
-from_names : (asked : List AskedName) (n : NameValue) → Contains (map (λ (a : AskedName). a.name) asked) n → (b : AskedName) × Contains asked b × (b.name ≡ n)
+pub from_names : (asked : List AskedName) (n : NameValue) → Contains (map (λ (a : AskedName). a.name) asked) n → (b : AskedName) × Contains asked b × (b.name ≡ n)
 from_names [] n c = absurd (Contains-none n c)
 from_names (a ∷ asked) n c = ⊎_elim
     (λ (e : a.name ≡ n). (a, Contains-here a asked, e))
     (λ (c : Contains (map (λ (a : AskedName). a.name) asked) n). let rest = from_names asked n c in (rest.0, Contains-there a rest.0 asked rest.1, rest.2))
     (Contains-cases a.name n (map (λ (a : AskedName). a.name) asked) c)
 
-same_zero : (a : ℕ) → Some a ≡ Some 0 → a ≡ 0
+pub same_zero : (a : ℕ) → Some a ≡ Some 0 → a ≡ 0
 same_zero a e = ap (λ (o : Option ℕ). unwrap_or o 0) e
 
 -- Where fewer than 64 are new, and 64 stand, the oldest is not new.

@@ -32,12 +32,6 @@ use Rattle.wb_kept_progress.proofs.Lines.{AreSmall, IsSmall, small_both}
 
 -- ---- small lines
 
-none_small : AreSmall []
-none_small = tt
-
-one_small : (line : Line) → IsSmall line → AreSmall (line ∷ [])
-one_small line small = (small, tt)
-
 oldest_small : (o : Option AskedName) → AreSmall (stops_oldest o)
 oldest_small None = tt
 oldest_small (Some a) = (tt, tt)
@@ -63,8 +57,8 @@ choose false x y p q = q
 abbrev pub SaysLittle : Transition → Type 0
 SaysLittle does = (see : List Line → View) (p : Policy) → AreSmall (does see p).lines
 
-both : (first second : Transition) → SaysLittle first → SaysLittle second → SaysLittle (and_then first second)
-both first second f s see p = small_both (first see p).lines _ (f see p) (s (λ (lines : List Line). see ((first see p).lines ++ lines)) (first see p).policy)
+pub small_then : (first second : Transition) → SaysLittle first → SaysLittle second → SaysLittle (and_then first second)
+small_then first second f s see p = small_both (first see p).lines _ (f see p) (s (λ (lines : List Line). see ((first see p).lines ++ lines)) (first see p).policy)
 
 wanted_small : (name : NameValue) (v : View) (usual : Option ℕ) → AreSmall (room_lines name v ++ (usual_lines name.source (v.distance name.source) usual ++ Asks name ∷ []))
 wanted_small name v usual = small_both (room_lines name v) _ (room_small name v) (small_both (usual_lines name.source (v.distance name.source) usual) (Asks name ∷ []) (usual_small name.source (v.distance name.source) usual) (tt, tt))
@@ -86,12 +80,12 @@ want_near_small : (names : List NameValue) → SaysLittle (want_near names)
 want_near_small [] see p = tt
 want_near_small (name ∷ names) see p =
     choose (is_unasked (see []) name) (cond (is_begun (want name false see p)) (and_then (want name false) (want_near names) see p) (still see p)) (want_near names see p)
-    (choose (is_begun (want name false see p)) (and_then (want name false) (want_near names) see p) (still see p) (both (want name false) (want_near names) (want_small name false) (want_near_small names) see p) tt)
+    (choose (is_begun (want name false see p)) (and_then (want name false) (want_near names) see p) (still see p) (small_then (want name false) (want_near names) (want_small name false) (want_near_small names) see p) tt)
     (want_near_small names see p)
 
 pub want_told_small : (names : List NameValue) → SaysLittle (want_told names)
 want_told_small [] see p = tt
-want_told_small (name ∷ names) see p = both (want name true) (want_told names) (want_small name true) (want_told_small names) see p
+want_told_small (name ∷ names) see p = small_then (want name true) (want_told names) (want_small name true) (want_told_small names) see p
 
 pub measures_small : (sender : ℕ) (distance : Option ℕ) → SaysLittle (measures sender distance)
 measures_small sender None see p = tt
@@ -136,10 +130,10 @@ pub reports_small : SaysLittle reports
 reports_small see p = rest_small (slice_after p.told (report_of (see []).held p.told_page)) see p
 
 reports_due_small : SaysLittle reports_due
-reports_due_small see p = choose (nat_le p.reports.due (see []).now) (and_then reports turn see p) (still see p) (both reports turn reports_small turn_small see p) tt
+reports_due_small see p = choose (nat_le p.reports.due (see []).now) (and_then reports turn see p) (still see p) (small_then reports turn reports_small turn_small see p) tt
 
 pub timed_small : SaysLittle timed
-timed_small = both answers (and_then asks_pages reports_due) answers_small (both asks_pages reports_due asks_pages_small reports_due_small)
+timed_small = small_then answers (and_then asks_pages reports_due) answers_small (small_then asks_pages reports_due asks_pages_small reports_due_small)
 
 -- ---- delays in range
 
@@ -260,7 +254,7 @@ steps_go_on = record {
   arrives = λ d k. record { at = refl; goes = λ g. record { orderly = (itself (present k.host), tt, g.orderly); near = g.near } };
   answered = λ d k lacks asked. record { at = refl; goes = λ g. record { orderly = (itself (present k.host), tt, g.orderly); near = g.near } };
   hears = λ v k. record { at = refl; goes = λ g. record { orderly = hears_orderly v k.host g.orderly; near = g.near } };
-  stops = λ name k. record { at = refl; goes = λ g. record { orderly = (itself (present k.host), tt, g.orderly); near = g.near } };
+  stops = λ name k full. record { at = refl; goes = λ g. record { orderly = (itself (present k.host), tt, g.orderly); near = g.near } };
   tunes = λ constants k within. record { at = refl; goes = λ g. record { orderly = (itself (present k.host), within, g.orderly); near = g.near } };
   sets = λ source micros k. record { at = refl; goes = λ g. record { orderly = (itself (present k.host), bounded_fits micros, g.orderly); near = g.near } };
   wants = wants_on;

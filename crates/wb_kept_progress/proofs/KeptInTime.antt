@@ -1,5 +1,5 @@
 -- By when what is asked for comes to hosts that keep themselves: as to the hosts that perform their lines.
-use Rattle.std.proofs.Common.{◌≡◌, ℕ, ◌+◌, ◌<◌, ◌≤◌, true, List, [], ◌∷◌, ◌++◌, ◌∙◌, ap, append_assoc, max, refl, subst, sym, ⊎_elim}
+use Rattle.std.proofs.Common.{◌≡◌, ℕ, ◌+◌, ◌<◌, ◌≤◌, true, List, [], ◌∷◌, ◌++◌, ◌∙◌, ap, append_assoc, inl, inr, max, refl, subst, sym, ⊎_elim}
 use Rattle.std.specs.Prelude.{Contains, nat_eq}
 use Rattle.std.proofs.lemmas.List.Elements.{Contains-append_cases}
 use Rattle.wb_names.specs.Values.{NameValue}
@@ -16,38 +16,38 @@ use Rattle.wb_keeping.specs.Laws.{KeptLine, Came, Ticked, Added, Tuned, doing_of
 use Rattle.wb_keeping.specs.Performing.{after_line, after_lines, sees, sent_by_line, sent_by_lines}
 use Rattle.wb_keeping.specs.Policy.{Policy, View}
 use Rattle.wb_kept_progress.specs.Sessions.{Opening, kept_at}
-use Rattle.wb_kept_progress.specs.Timed.{AllHoldBehind, AllKeptHoldBehind, IsKeptTimely, KeptRequestIsAnswered, KeptTimerLeads, Performed, Start, TimedLine, called_at, host_after, lines_of, performed, performed_then, start_of, time_of}
+use Rattle.wb_kept_progress.specs.Timed.{AllHoldBehind, AllKeptHoldBehind, IsGivenUp, IsKeptTimely, KeptRequestIsAnswered, KeptTimerLeadsOrIsGivenUp, Performed, Start, TimedLine, called_at, host_after, lines_of, performed, performed_then, start_of, time_of}
 use Rattle.wb_kept_progress.proofs.Performed.{after_all, kept_is_performed}
 use Rattle.wb_kept_progress.proofs.Repairs.{is_itself}
-use Rattle.wb_kept_progress.proofs.Timely.{request_is_answered, timer_leads}
+use Rattle.wb_kept_progress.proofs.GivenUp.{request_is_answered, timer_leads_or_is_given_up}
 
-abbrev at_place : ℕ → ℕ → Line → Performed
+abbrev pub at_place : ℕ → ℕ → Line → Performed
 at_place time place line = record { time = time; place = place; line = line }
 
 -- lines that are performed stand before the older ones
-then_front : (time place : ℕ) (lines : List Line) (older : List Performed) → (front : List Performed) × (performed_then time place lines older ≡ front ++ older)
+pub then_front : (time place : ℕ) (lines : List Line) (older : List Performed) → (front : List Performed) × (performed_then time place lines older ≡ front ++ older)
 then_front time place [] older = ([], refl)
 then_front time place (line ∷ lines) older =
     let rest = then_front time place lines (at_place time place line ∷ older) in
     (rest.0 ++ at_place time place line ∷ [], rest.1 ∙ sym (append_assoc rest.0 (at_place time place line ∷ []) older))
 
-then_both : (time place : ℕ) (one other : List Line) (older : List Performed) → performed_then time place (one ++ other) older ≡ performed_then time place other (performed_then time place one older)
+pub then_both : (time place : ℕ) (one other : List Line) (older : List Performed) → performed_then time place (one ++ other) older ≡ performed_then time place other (performed_then time place one older)
 then_both time place [] other older = refl
 then_both time place (line ∷ one) other older = then_both time place one other (at_place time place line ∷ older)
 
-then_time : (time place : ℕ) (lines : List Line) (line : Line) (older : List Performed) → time_of (performed_then time place lines (at_place time place line ∷ older)) ≡ time
+pub then_time : (time place : ℕ) (lines : List Line) (line : Line) (older : List Performed) → time_of (performed_then time place lines (at_place time place line ∷ older)) ≡ time
 then_time time place [] line older = refl
 then_time time place (next ∷ lines) line older = then_time time place lines next (at_place time place line ∷ older)
 
 -- the line that sends a datagram, of some that are performed
-record IsSentBy (lines : List Line) (host : Opened) (v : Datagram) : Type 0 where
-  before : List Line
-  line : Line
-  later : List Line
-  split : lines ≡ before ++ line ∷ later
-  sent : Contains (sent_by_line line (after_lines before host)) v
+pub record IsSentBy (lines : List Line) (host : Opened) (v : Datagram) : Type 0 where
+  pub before : List Line
+  pub line : Line
+  pub later : List Line
+  pub split : lines ≡ before ++ line ∷ later
+  pub sent : Contains (sent_by_line line (after_lines before host)) v
 
-sent_by_one : (lines : List Line) (host : Opened) (v : Datagram) → Contains (sent_by_lines lines host) v → IsSentBy lines host v
+pub sent_by_one : (lines : List Line) (host : Opened) (v : Datagram) → Contains (sent_by_lines lines host) v → IsSentBy lines host v
 sent_by_one [] host v c = absurd (Contains-none v c)
 sent_by_one (line ∷ lines) host v c = ⊎_elim
     (λ (h : Contains (sent_by_line line host) v). record { before = []; line = line; later = lines; split = refl; sent = h })
@@ -57,54 +57,57 @@ sent_by_one (line ∷ lines) host v c = ⊎_elim
     (Contains-append_cases (sent_by_line line host) (sent_by_lines lines (after_line line host)) v c)
 
 -- the first line of what a call performs
-first_of_call : (line : KeptLine) (see : List Line → View) (p : Policy) → (first : Line) × (rest : List Line) × ((doing_of line see p).lines ≡ first ∷ rest)
+pub first_of_call : (line : KeptLine) (see : List Line → View) (p : Policy) → (first : Line) × (rest : List Line) × ((doing_of line see p).lines ≡ first ∷ rest)
 first_of_call (Came now v) see p = (Ticks now, _, refl)
 first_of_call (Ticked now) see p = (Ticks now, _, refl)
 first_of_call (Added now page time op) see p = (Ticks now, _, refl)
 first_of_call (Tuned constants) see p = (Tunes constants, [], refl)
 
 module _ (hosts : ℕ → Opening) where
-  abbrev starts : ℕ → Start
+  abbrev pub starts : ℕ → Start
   starts j = start_of (hosts j)
 
   abbrev does : TimedLine → List TimedLine → List Line
   does e older = let k = kept_at hosts (lines_of older) e.at.place in (doing_of e.at.line (sees k.host) k.policy).lines
 
-  front_of : (newer older : List TimedLine) → (front : List Performed) × (performed hosts (newer ++ older) ≡ front ++ performed hosts older)
+  pub front_of : (newer older : List TimedLine) → (front : List Performed) × (performed hosts (newer ++ older) ≡ front ++ performed hosts older)
   front_of [] older = ([], refl)
   front_of (e ∷ newer) older =
       let a = then_front e.time e.at.place (does e (newer ++ older)) (performed hosts (newer ++ older)) in
       let b = front_of newer older in
       (a.0 ++ b.0, a.1 ∙ ap (λ (t : List Performed). a.0 ++ t) b.1 ∙ sym (append_assoc a.0 b.0 (performed hosts older)))
 
-  time_is : (trace : List TimedLine) → time_of (performed hosts trace) ≡ called_at trace
+  pub time_is : (trace : List TimedLine) → time_of (performed hosts trace) ≡ called_at trace
   time_is [] = refl
   time_is (e ∷ older) =
       let k = kept_at hosts (lines_of older) e.at.place in
       let b = first_of_call e.at.line (sees k.host) k.policy in
       ap (λ (lines : List Line). time_of (performed_then e.time e.at.place lines (performed hosts older))) b.2 ∙ then_time e.time e.at.place b.1 b.0 (performed hosts older)
 
-  module _ (terms : Terms) (trace : List TimedLine) (n : NameValue) (is : IsKeptTimely hosts terms trace n) where
+  module _ (terms : Terms) (trace : List TimedLine) (is : IsKeptTimely hosts terms trace) where
     same : (part : List TimedLine) (i : ℕ) → host_after starts (performed hosts part) i ≡ (kept_at hosts (lines_of part) i).host
     same part i = (kept_is_performed hosts part is.opened).same i
 
-    holding : (time : ℕ) → AllHoldBehind starts terms (performed hosts trace) time n → AllKeptHoldBehind hosts terms trace time n
-    holding time all newer later i split lt live =
+    holding : (n : NameValue) (time : ℕ) → AllHoldBehind starts terms (performed hosts trace) time n → AllKeptHoldBehind hosts terms trace time n
+    holding n time all newer later i split lt live =
         let f = front_of newer later in
         sym (ap (λ (h : Opened). holds h n) (same later i))
         ∙ all f.0 (performed hosts later) i (ap (performed hosts) split ∙ f.1) (subst (λ (t : ℕ). time < t) (sym (time_is later)) lt) live
 
-pub kept_timer_leads : KeptTimerLeads
-kept_timer_leads hosts terms trace newer older i n ask due is split live from stands by =
+pub kept_timer_leads_or_is_given_up : KeptTimerLeadsOrIsGivenUp
+kept_timer_leads_or_is_given_up hosts terms trace newer older i n ask due is split live from stands by a =
     let f = front_of hosts newer older in
     let time = time_is hosts older in
-    holding hosts terms trace n is (max (called_at older) due + repairing terms)
-    (subst (λ (t : ℕ). AllHoldBehind (starts hosts) terms (performed hosts trace) (max t due + repairing terms) n) time
-    (timer_leads (starts hosts) terms (performed hosts trace) f.0 (performed hosts older) i n ask due is.timely (ap (performed hosts) split ∙ f.1) live (subst (λ (t : ℕ). known_from terms ≤ t) (sym time) from)
-    (ap (λ (h : Opened). (timers_of h.is.constants (events h) n).ask) (same hosts terms trace n is older i) ∙ stands) by is.answerable))
+    ⊎_elim
+    (λ (h : AllHoldBehind (starts hosts) terms (performed hosts trace) (max (time_of (performed hosts older)) due + repairing terms) n). inl (holding hosts terms trace is n (max (called_at older) due + repairing terms)
+    (subst (λ (t : ℕ). AllHoldBehind (starts hosts) terms (performed hosts trace) (max t due + repairing terms) n) time h)))
+    (λ (g : IsGivenUp (starts hosts) (performed hosts trace) (performed hosts older) i n ask (max (time_of (performed hosts older)) due + terms.late)). inr
+    (subst (λ (t : ℕ). IsGivenUp (starts hosts) (performed hosts trace) (performed hosts older) i n ask (max t due + terms.late)) time g))
+    (timer_leads_or_is_given_up (starts hosts) terms (performed hosts trace) f.0 (performed hosts older) i n ask due is.timely (ap (performed hosts) split ∙ f.1) live (subst (λ (t : ℕ). known_from terms ≤ t) (sym time) from)
+    (ap (λ (h : Opened). (timers_of h.is.constants (events h) n).ask) (same hosts terms trace is older i) ∙ stands) by a)
 
 pub kept_request_is_answered : KeptRequestIsAnswered
-kept_request_is_answered hosts terms trace newer older e asker n is split late later sent =
+kept_request_is_answered hosts terms trace newer older e asker n is split late later sent a =
     let k = kept_at hosts (lines_of older) e.at.place in
     let s = sent_by_one (does hosts e older) k.host (Request asker n) sent in
     let f = front_of hosts newer (e ∷ older) in
@@ -114,8 +117,8 @@ kept_request_is_answered hosts terms trace newer older e asker n is split late l
     let parted : performed hosts (e ∷ older) ≡ g.0 ++ x ∷ base = ap (λ (lines : List Line). performed_then e.time e.at.place lines (performed hosts older)) s.split ∙ then_both e.time e.at.place s.before (s.line ∷ s.later) (performed hosts older) ∙ g.1 in
     let whole : performed hosts trace ≡ (f.0 ++ g.0) ++ x ∷ base = ap (performed hosts) split ∙ f.1 ∙ ap (λ (t : List Performed). f.0 ++ t) parted ∙ sym (append_assoc f.0 g.0 (x ∷ base)) in
     let there : host_after (starts hosts) base e.at.place ≡ after_lines s.before k.host =
-    after_all (starts hosts) e.time e.at.place s.before (performed hosts older) e.at.place true (itself e.at.place) ∙ ap (after_lines s.before) (same hosts terms trace n is older e.at.place) in
-    holding hosts terms trace n is (e.time + answering_by terms)
-    (request_is_answered (starts hosts) terms (performed hosts trace) (f.0 ++ g.0) base x asker n is.timely whole late later (subst (λ (h : Opened). Contains (sent_by_line s.line h) (Request asker n)) (sym there) s.sent) is.answerable) where
+    after_all (starts hosts) e.time e.at.place s.before (performed hosts older) e.at.place true (itself e.at.place) ∙ ap (after_lines s.before) (same hosts terms trace is older e.at.place) in
+    holding hosts terms trace is n (e.time + answering_by terms)
+    (request_is_answered (starts hosts) terms (performed hosts trace) (f.0 ++ g.0) base x asker n is.timely whole late later (subst (λ (h : Opened). Contains (sent_by_line s.line h) (Request asker n)) (sym there) s.sent) a) where
       itself : (n : ℕ) → nat_eq n n ≡ true
       itself n = is_itself n

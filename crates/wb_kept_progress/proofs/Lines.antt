@@ -117,7 +117,7 @@ lines_grow (line ∷ lines) host =
     let rest = lines_grow lines (after_line line host) in
     record { kept = λ x c. rest.kept x (one.kept x c); once = λ once. rest.once (one.once once) }
 
--- ---- lines by which time stands still and nothing comes
+-- ---- lines by which time stands still, nothing comes, and no request is said
 
 abbrev pub IsSmall : Line → Type 0
 IsSmall (Ticks now) = ⊥
@@ -126,10 +126,10 @@ IsSmall (Hears v) = ⊥
 IsSmall (Asks name) = Unit {0}
 IsSmall (Stops name) = Unit {0}
 IsSmall (SetsDistance source micros) = Unit {0}
-IsSmall (Tunes constants) = Unit {0}
+IsSmall (Tunes constants) = ⊥
 IsSmall (Says (Draw d)) = ⊥
 IsSmall (Says (Session sender sent page marks echoes)) = Unit {0}
-IsSmall (Says (Request asker name)) = Unit {0}
+IsSmall (Says (Request asker name)) = ⊥
 IsSmall (Says (AskPages asker)) = Unit {0}
 IsSmall (Says (PageState sender page marks)) = Unit {0}
 
@@ -186,10 +186,10 @@ line_rests (Hears v) host small = absurd small
 line_rests (Asks name) host small = asks_rest name host
 line_rests (Stops name) host small = stops_rest name host
 line_rests (SetsDistance source micros) host small = record { held = refl; now = refl; timers = λ n held none. refl }
-line_rests (Tunes constants) host small = record { held = refl; now = refl; timers = λ n held none. refl }
+line_rests (Tunes constants) host small = absurd small
 line_rests (Says (Draw d)) host small = absurd small
 line_rests (Says (Session sender sent page marks echoes)) host small = rest host
-line_rests (Says (Request asker name)) host small = rest host
+line_rests (Says (Request asker name)) host small = absurd small
 line_rests (Says (AskPages asker)) host small = rest host
 line_rests (Says (PageState sender page marks)) host small = rest host
 

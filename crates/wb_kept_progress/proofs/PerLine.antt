@@ -40,10 +40,10 @@ IsMade host line (SetDelay source micros) = Unit {0}
 IsMade host line (SetConstants constants) = Unit {0}
 IsMade host line (Hear now v word held) = (line ≡ Hears v) × (now ≡ present host) × (held ≡ asks_for_held host.is.held v)
 IsMade host line (Arrive now names) = (d : DrawopValue) × ((line ≡ Arrives d) ⊎ (line ≡ Says (Draw d))) × (now ≡ present host) × (names ≡ filter (holds (accepted d host).is.held) (d.name ∷ []))
-IsMade host line (Miss now names words) = now ≡ present host
+IsMade host line (Miss now names words) = (name : NameValue) × (line ≡ Asks name) × (names ≡ name ∷ []) × (now ≡ present host)
 IsMade host line (GoOn now words names) = (line ≡ Ticks now) × (names ≡ stopped_after host.is.number host.is.constants host.is.calls host.is.held)
 IsMade host line (Report now) = ⊥
-IsMade host line (GiveUp now name asked) = (line ≡ Stops name) × (now ≡ present host)
+IsMade host line (GiveUp now name asked) = (line ≡ Stops name) × (now ≡ present host) × (asked ≡ asks_for name host)
 
 abbrev pub Did : Opened → Line → Opened → Type 0
 Did host line next = (next.is.calls ≡ host.is.calls) ⊎ ((call : KeeperCall) × (next.is.calls ≡ call ∷ host.is.calls) × IsMade host line call)
@@ -57,9 +57,9 @@ line_did (Hears v) host = by (has_room_for v host) where
   by false = inl refl
 line_did (Asks name) host = by (may_ask name host) where
   by : (b : Bool) → Did host (Asks name) (cond b (doing (Misses (present host) (name ∷ []) (word_of host.random ∷ [])) 1 host) host)
-  by true = inr (Miss (present host) (name ∷ []) (word_of host.random ∷ []), refl, refl)
+  by true = inr (Miss (present host) (name ∷ []) (word_of host.random ∷ []), refl, (name, refl, refl, refl))
   by false = inl refl
-line_did (Stops name) host = inr (GiveUp (present host) name (asks_for name host), refl, (refl, refl))
+line_did (Stops name) host = inr (GiveUp (present host) name (asks_for name host), refl, (refl, refl, refl))
 line_did (SetsDistance source micros) host = inr (SetDelay source micros, refl, tt)
 line_did (Tunes constants) host = inr (SetConstants constants, refl, tt)
 line_did (Says (Draw d)) host = inr (Arrive (present host) (filter (holds (accepted d host).is.held) (d.name ∷ [])), refl, (d, inr refl, refl, refl))
@@ -74,7 +74,7 @@ call_moment host line (SetDelay source micros) m = inl refl
 call_moment host line (SetConstants constants) m = inl refl
 call_moment host line (Hear now v word held) m = inl m.1
 call_moment host line (Arrive now names) m = inl m.2
-call_moment host line (Miss now names words) m = inl m
+call_moment host line (Miss now names words) m = inl m.3
 call_moment host line (GoOn now words names) m = inr (now, m.0, refl)
 call_moment host line (Report now) m = absurd m
 call_moment host line (GiveUp now name asked) m = inl m.1
@@ -137,7 +137,7 @@ line_none (Says (PageState sender page marks)) host none = none
 
 -- ---- what it sends
 
-one_of : (a b : Datagram) → Contains (a ∷ []) b → a ≡ b
+pub one_of : (a b : Datagram) → Contains (a ∷ []) b → a ≡ b
 one_of a b c = ⊎_elim (λ (e : a ≡ b). e) (λ (d : Contains [] b). absurd (Contains-none b d)) (Contains-cases a b [] c)
 
 no_answer_asks : (me : ℕ) (held : List DrawopValue) (v : Datagram) (asker : ℕ) (n : NameValue) → Contains (answers_to me held v) (Request asker n) → ⊥

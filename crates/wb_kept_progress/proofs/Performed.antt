@@ -56,11 +56,11 @@ kept_is_performed hosts trace none = record { same = by trace } where
 
 -- ---- no ticks but the first
 
-abbrev IsNoTick : Line → Type 0
+abbrev pub IsNoTick : Line → Type 0
 IsNoTick (Ticks now) = ⊥
 IsNoTick line = Unit {0}
 
-abbrev AreNoTicks : List Line → Type 0
+abbrev pub AreNoTicks : List Line → Type 0
 AreNoTicks [] = Unit {0}
 AreNoTicks (line ∷ lines) = IsNoTick line × AreNoTicks lines
 
@@ -79,7 +79,7 @@ from_small (SetsDistance source micros ∷ lines) small = (tt, from_small lines 
 from_small (Tunes constants ∷ lines) small = (tt, from_small lines small.1)
 from_small (Says v ∷ lines) small = (tt, from_small lines small.1)
 
-abbrev HasNoTick : Transition → Type 0
+abbrev pub HasNoTick : Transition → Type 0
 HasNoTick does = (see : List Line → View) (p : Policy) → AreNoTicks (does see p).lines
 
 both : (first second : Transition) → HasNoTick first → HasNoTick second → HasNoTick (and_then first second)
@@ -126,7 +126,7 @@ other_none sender does none see p = choose (nat_eq sender (see []).me) (still se
 question_none : HasNoTick takes_question
 question_none see p = choose (is_to_answer (see []).now (nat_lt 0 (length (see []).held)) p.questions) (still see (after_taking_up (see []).now p)) (still see p) tt tt
 
-hears_none : (v : Datagram) → HasNoTick (hears v)
+pub hears_none : (v : Datagram) → HasNoTick (hears v)
 hears_none (Draw d) = takes_none d
 hears_none (Session sender sent page marks echoes) = other_none sender (hears_session sender sent page marks echoes) (session_none sender sent page marks echoes)
 hears_none (PageState sender page marks) = other_none sender (hears_state sender page marks) (state_none sender page marks)
@@ -137,18 +137,18 @@ ends_none : HasNoTick ends_full
 ends_none see p = choose (is_full (see [])) (end see p) (still see p) (from_small _ (stops_small (see []).asked)) tt
 
 -- a call is a tick to its moment, and lines that are none
-record Begins (now : ℕ) (d : Doing) : Type 0 where
-  rest : List Line
-  is : d.lines ≡ Ticks now ∷ rest
-  none : AreNoTicks rest
+pub record Begins (now : ℕ) (d : Doing) : Type 0 where
+  pub rest : List Line
+  pub is : d.lines ≡ Ticks now ∷ rest
+  pub none : AreNoTicks rest
 
-came_begins : (now : ℕ) (v : Datagram) (see : List Line → View) (p : Policy) → Begins now (came now v see p)
+pub came_begins : (now : ℕ) (v : Datagram) (see : List Line → View) (p : Policy) → Begins now (came now v see p)
 came_begins now v see p = record { rest = _; is = refl; none = both (hears v) timed (hears_none v) timed_none (λ (lines : List Line). see (Ticks now ∷ lines)) p }
 
-ticks_begin : (now : ℕ) (see : List Line → View) (p : Policy) → Begins now (ticks now see p)
+pub ticks_begin : (now : ℕ) (see : List Line → View) (p : Policy) → Begins now (ticks now see p)
 ticks_begin now see p = record { rest = _; is = refl; none = timed_none (λ (lines : List Line). see (Ticks now ∷ lines)) p }
 
-adds_begin : (now : ℕ) (page : PageId) (time : ℕ) (op : Op) (see : List Line → View) (p : Policy) → Begins now (adds now page time op see p)
+pub adds_begin : (now : ℕ) (page : PageId) (time : ℕ) (op : Op) (see : List Line → View) (p : Policy) → Begins now (adds now page time op see p)
 adds_begin now page time op see p = record {
   rest = _;
   is = refl;

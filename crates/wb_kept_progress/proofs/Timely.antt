@@ -1,6 +1,6 @@
 -- Hosts that keep to stated times are keepers that take turns in time.
-use Rattle.std.proofs.Common.{◌≡◌, ℕ, ◌+◌, ◌<◌, ◌≤◌, Bool, true, false, cond, List, [], ◌∷◌, ◌++◌, ◌∙◌, None, ap, append_assoc, arith, eqb-true, eq-eqb, inl, inr, max, refl, subst, sym, true≢false, ⊎_elim}
-use Rattle.std.specs.Prelude.{◌⊎◌, ◌≢◌, ◌||◌, Contains, nat_eq}
+use Rattle.std.proofs.Common.{◌≡◌, ℕ, ◌+◌, ◌<◌, ◌≤◌, Bool, true, false, cond, List, [], ◌∷◌, ◌++◌, ◌∙◌, None, ap, append_assoc, arith, eqb-true, eq-eqb, inl, inr, refl, subst, sym, true≢false, ⊎_elim}
+use Rattle.std.specs.Prelude.{◌⊎◌, ◌≢◌, ◌||◌, Contains, is_some, nat_eq}
 use Rattle.std.proofs.lemmas.List.Elements.{Contains-append_right}
 use Rattle.wb_names.specs.History.{IsHistory}
 use Rattle.wb_names.specs.Values.{DrawopValue, NameValue}
@@ -12,22 +12,19 @@ use Rattle.wb_recovery.specs.declared.tuning.Tuning.{Tuning}
 use Rattle.wb_host.specs.Keeper.{KeeperCall, Arrive, GiveUp, GoOn, Hear, delay_to, holds, is_own, moment_at}
 use Rattle.wb_host.specs.Ticks.{sent_by_tick, stopped_after}
 use Rattle.wb_host.proofs.KeptCalls.{holds_from}
-use Rattle.wb_progress.specs.InTime as keepers
 use Rattle.wb_progress.specs.Bounds.{IsUnder}
 use Rattle.wb_progress.specs.Keepers.{AreWithin, constants_at}
 use Rattle.wb_progress.specs.Repairs.{timers_at}
-use Rattle.wb_progress.specs.Turns.{Accepts, AreTurns, Desk, IsHeardAt, IsQuietBut, IsTurn, KeepTimeBut, Places, Terms, Turn, longest, settled_by}
+use Rattle.wb_progress.specs.Turns.{Accepts, AreTurns, Desk, IsHeardAt, IsOtherOrLacked, IsQuietBut, IsTurn, KeepTimeBut, Places, Terms, Turn, longest, settled_by}
 use Rattle.wb_progress.specs.Turns as turning
-use Rattle.wb_progress.proofs.Answering.{request_is_answered_other}
 use Rattle.wb_progress.proofs.Giving.{held_as}
-use Rattle.wb_progress.proofs.Leading.{timer_leads_other}
 use Rattle.wb_session.proofs.Holding.{HeldNone}
 use Rattle.wb_member.specs.Judged.{is_full}
-use Rattle.wb_member.specs.Opened.{Opened, accepted, heard, opened_with, present}
+use Rattle.wb_member.specs.Opened.{Opened, accepted, asks_for, heard, opened_with, present}
 use Rattle.wb_member.specs.Random.{word_of}
-use Rattle.wb_keeping.specs.Kept.{Line, Arrives, Hears, Says, Stops, Ticks}
+use Rattle.wb_keeping.specs.Kept.{Line, Arrives, Hears, Says, Ticks}
 use Rattle.wb_keeping.specs.Performing.{after_line, sent_by_line}
-use Rattle.wb_kept_progress.specs.Timed.{AllHoldBehind, AreInOrder, ComesTo, IsAnswerable, IsTimely, Performed, RequestIsAnswered, Start, TimerLeads, WasSent, host_after, time_of, timers_after, until}
+use Rattle.wb_kept_progress.specs.Timed.{AllHoldBehind, AreInOrder, ComesTo, IsAnswerable, IsTimely, Performed, Start, WasSent, host_after, time_of, timers_after, until}
 use Rattle.wb_kept_progress.proofs.Lines.{IsOf, line_grows, line_of, same_member}
 use Rattle.wb_kept_progress.proofs.Lining.{by_line, by_part, desk_is, desk_of, order_is, over_join, time_is, turn_of, turns_join, turns_of, turns_over, until_is}
 use Rattle.wb_kept_progress.proofs.PerLine.{IsMade, asks, draws, is_made, line_did, line_moment, line_none}
@@ -55,7 +52,7 @@ module _ (hosts : ℕ → Start) where
   history : (trace : List Performed) (i : ℕ) → IsHistory (host_after hosts trace i).is.held
   history = at_each (λ i host. IsHistory host.is.held) (λ i. λ j k d jk lt. absurd (omega arith)) (λ i line host rest. (line_grows line host).once rest)
 
-  none_held : (trace : List Performed) (i : ℕ) → HeldNone (host_after hosts trace i).is
+  pub none_held : (trace : List Performed) (i : ℕ) → HeldNone (host_after hosts trace i).is
   none_held = at_each (λ i host. HeldNone host.is) (λ i. λ n h. refl) (λ i line host rest. line_none line host rest)
 
   pub timers_here : (trace : List Performed) (i : ℕ) (n : NameValue) → turning.timers_there places (turns_of hosts trace) i n ≡ timers_after hosts trace i n
@@ -88,19 +85,19 @@ module _ (hosts : ℕ → Start) where
 
 -- ---- parts of a trace
 
-before_end : (newer older : List Performed) → AreInOrder (newer ++ older) → time_of older ≤ time_of (newer ++ older)
+pub before_end : (newer older : List Performed) → AreInOrder (newer ++ older) → time_of older ≤ time_of (newer ++ older)
 before_end [] older order = omega arith
 before_end (e ∷ newer) older order = let rest = before_end newer older order.1 in let o = order.0 in omega (arith, rest, o)
 
-order_of : (newer older : List Performed) → AreInOrder (newer ++ older) → AreInOrder older
+pub order_of : (newer older : List Performed) → AreInOrder (newer ++ older) → AreInOrder older
 order_of [] older order = order
 order_of (e ∷ newer) older order = order_of newer older order.1
 
-tails : (a b : Performed) (x y : List Performed) → a ∷ x ≡ b ∷ y → x ≡ y
+pub tails : (a b : Performed) (x y : List Performed) → a ∷ x ≡ b ∷ y → x ≡ y
 tails a b x y same = cc
 
 -- a part that ends earlier than another is within it
-in_past : (newer later front base : List Performed) → newer ++ later ≡ front ++ base → AreInOrder (newer ++ later) → time_of base < time_of later → (middle : List Performed) × (later ≡ middle ++ base)
+pub in_past : (newer later front base : List Performed) → newer ++ later ≡ front ++ base → AreInOrder (newer ++ later) → time_of base < time_of later → (middle : List Performed) × (later ≡ middle ++ base)
 in_past [] later front base same order lt = (front, same)
 in_past (e ∷ newer) later [] base same order lt =
     let le : time_of later ≤ time_of (newer ++ later) = before_end newer later order.1 in
@@ -111,19 +108,19 @@ in_past (e ∷ newer) later (y ∷ front) base same order lt = in_past newer lat
 
 -- ---- a timely trace
 
-module _ (hosts : ℕ → Start) (terms : Terms) (trace : List Performed) (n : NameValue) (timely : IsTimely hosts terms trace n) where
+module _ (hosts : ℕ → Start) (terms : Terms) (trace : List Performed) (timely : IsTimely hosts terms trace) where
   abbrev at : Places
   at = places hosts
 
   abbrev all : List Turn
   all = turns_of hosts trace
 
-  split_part : (front part : List Performed) (e : Performed) → trace ≡ front ++ e ∷ part → trace ≡ (front ++ e ∷ []) ++ part
+  pub split_part : (front part : List Performed) (e : Performed) → trace ≡ front ++ e ∷ part → trace ≡ (front ++ e ∷ []) ++ part
   split_part front part e split = split ∙ sym (append_assoc front (e ∷ []) part)
 
   -- ---- its moment
 
-  clock : (front part : List Performed) (i : ℕ) → trace ≡ front ++ part → present (host_after hosts part i) ≤ time_of part + terms.offset i
+  pub clock : (front part : List Performed) (i : ℕ) → trace ≡ front ++ part → present (host_after hosts part i) ≤ time_of part + terms.offset i
   clock front [] i split = omega arith
   clock front (e ∷ older) i split = from (nat_eq e.place i) refl (clock (front ++ e ∷ []) older i (split_part front older e split)) where
     order : AreInOrder (e ∷ older)
@@ -252,11 +249,16 @@ module _ (hosts : ℕ → Start) (terms : Terms) (trace : List Performed) (n : N
           (λ (s : (a : ℕ) × (k : NameValue) × (e.line ≡ Says (Request a k))). absurd ((timely.quiet front back e split late).said s.0 s.1 s.2))
           (asks h (none_held hosts back q) asker m e.line c)
 
-      is_quiet : IsQuietBut (λ m. m ≢ n) at (turns_of hosts back) x
-      is_quiet = record {
-        goes_on = λ now m asked accepts same.
-            let made_it = made hosts back e (GiveUp now m asked) accepts in
-            (timely.quiet front back e split late).stopped (made_it.0 ∙ ap Stops same);
+      -- what is given up while a request timer stands for it is not held
+      lacked : (m : NameValue) → true ≡ asks_for m h → holds h.is.held m ≡ false
+      lacked m asked = from (holds h.is.held m) refl where
+        from : (b : Bool) → holds h.is.held m ≡ b → b ≡ false
+        from false e = refl
+        from true e = absurd (true≢false (asked ∙ ap is_some (none_held hosts back q m e)))
+
+      is_quiet : (n : NameValue) → IsQuietBut (IsOtherOrLacked n) at (turns_of hosts back) x
+      is_quiet n = record {
+        goes_on = λ now m accepts same. has_here hosts back q n ∙ subst (λ (k : NameValue). holds h.is.held k ≡ false) same (lacked m (made hosts back e (GiveUp now m true) accepts).2);
         held = held;
         asked = asked;
       }
@@ -378,13 +380,13 @@ module _ (hosts : ℕ → Start) (terms : Terms) (trace : List Performed) (n : N
         (λ front back split held. ap (λ (s : Timers). s.ask) (timers_here hosts back i m) ∙ none_held hosts back i m (sym (has_here hosts back i m) ∙ held)) newer older same;
   }
 
-  keep_time : KeepTimeBut (λ m. m ≢ n) at terms all
-  keep_time = record {
+  pub keep_time : (n : NameValue) → KeepTimeBut (IsOtherOrLacked n) at terms all
+  keep_time n = record {
     order = order_is hosts trace timely.order;
     reported = timely.reported;
     are = are;
     alone = λ newer older x same. by_line hosts trace (λ newer x older. terms.quiet < x.time → Contains terms.live x.place) timely.alone newer older x same;
-    quiet = λ newer older x same. by_line hosts trace (λ newer x older. terms.quiet < x.time → IsQuietBut (λ m. m ≢ n) at older x) (λ front back e split late. is_quiet front back e split late) newer older x same;
+    quiet = λ newer older x same. by_line hosts trace (λ newer x older. terms.quiet < x.time → IsQuietBut (IsOtherOrLacked n) at older x) (λ front back e split late. is_quiet front back e split late n) newer older x same;
     delivered = record {
       drawops = λ newer older x d same. by_line hosts trace (λ newer x older. terms.quiet < x.time → Contains x.sent (Draw d) → turning.AllHoldBehind terms all (x.time + terms.delivery) d.name)
           (λ front back e split late sent. λ newest later i part lt live.
@@ -408,25 +410,12 @@ module _ (hosts : ℕ → Start) (terms : Terms) (trace : List Performed) (n : N
 
   -- ---- what follows
 
-  answerable : IsAnswerable hosts terms trace n → turning.IsAnswerable terms all n
-  answerable a = (a.0, a.1, ap (λ (t : List Turn). turning.has t a.0 n) (until_is hosts (settled_by terms) trace) ∙ has_here hosts (until (settled_by terms) trace) a.0 n ∙ a.2)
+  pub answerable : (n : NameValue) → IsAnswerable hosts terms trace n → turning.IsAnswerable terms all n
+  answerable n a = (a.0, a.1, ap (λ (t : List Turn). turning.has t a.0 n) (until_is hosts (settled_by terms) trace) ∙ has_here hosts (until (settled_by terms) trace) a.0 n ∙ a.2)
 
-  holding : (time : ℕ) → turning.AllHoldBehind terms all time n → AllHoldBehind hosts terms trace time n
-  holding time h newer later i split lt live =
+  pub holding : (n : NameValue) (time : ℕ) → turning.AllHoldBehind terms all time n → AllHoldBehind hosts terms trace time n
+  holding n time h newer later i split lt live =
       sym (has_here hosts later i n) ∙ h (turns_over hosts newer later) (turns_of hosts later) i (ap (turns_of hosts) split ∙ turns_join hosts newer later) (subst (λ (k : ℕ). time < k) (sym (time_is hosts later)) lt) live
 
-  joined : (newer older : List Performed) → trace ≡ newer ++ older → all ≡ turns_over hosts newer older ++ turns_of hosts older
+  pub joined : (newer older : List Performed) → trace ≡ newer ++ older → all ≡ turns_over hosts newer older ++ turns_of hosts older
   joined newer older split = ap (turns_of hosts) split ∙ turns_join hosts newer older
-
-pub request_is_answered : RequestIsAnswered
-request_is_answered hosts terms trace newer older e asker n timely split late later sent a =
-    holding hosts terms trace n timely _
-    (request_is_answered_other (places hosts) terms (turns_of hosts trace) (turns_over hosts newer (e ∷ older)) (turns_of hosts older) (turn_of hosts older e) asker n (keep_time hosts terms trace n timely) (joined hosts terms trace n timely newer (e ∷ older) split) late later sent (answerable hosts terms trace n timely a))
-
-pub timer_leads : TimerLeads
-timer_leads hosts terms trace newer older i n ask due timely split live from stands by a =
-    let time = time_is hosts older in
-    holding hosts terms trace n timely (max (time_of older) due + keepers.repairing terms)
-    (subst (λ (t : ℕ). turning.AllHoldBehind terms (turns_of hosts trace) (max t due + keepers.repairing terms) n) time
-    (timer_leads_other (places hosts) terms (turns_of hosts trace) (turns_over hosts newer older) (turns_of hosts older) i n ask due (keep_time hosts terms trace n timely) (joined hosts terms trace n timely newer older split) live
-    (subst (λ (t : ℕ). keepers.known_from terms ≤ t) (sym time) from) (ap (λ (s : Timers). s.ask) (timers_here hosts older i n) ∙ stands) by (answerable hosts terms trace n timely a)))

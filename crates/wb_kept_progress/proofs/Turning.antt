@@ -73,29 +73,29 @@ abbrev pub told_of : Policy → Told
 told_of p = record { page = p.told_page; last = p.told }
 
 -- What a policy has due before it reports leaves its turns, its reports and what it owes.
-record Leaves (p q : Policy) : Type 0 where
-  turns : q.turns ≡ p.turns
-  owed : q.owed ≡ p.owed
-  due : q.reports.due ≡ p.reports.due
-  told : told_of q ≡ told_of p
+pub record Leaves (p q : Policy) : Type 0 where
+  pub turns : q.turns ≡ p.turns
+  pub owed : q.owed ≡ p.owed
+  pub due : q.reports.due ≡ p.reports.due
+  pub told : told_of q ≡ told_of p
 
 either : (p : Policy) (b : Bool) (x y : Doing) → Leaves p x.policy → Leaves p y.policy → Leaves p (cond b x y).policy
 either p true x y l m = l
 either p false x y l m = m
 
-answers_leave : (see : List Line → View) (p : Policy) → Leaves p (answers see p).policy
+pub answers_leave : (see : List Line → View) (p : Policy) → Leaves p (answers see p).policy
 answers_leave see p =
     let v = see [] in
     either p (is_due v.now p.questions.answer) (record { policy = after_answer v.now p; lines = map (λ (page : PageId). Says (state_of v page)) (take 64 (pages_of v.held)) }) (still see p)
     (record { turns = refl; owed = refl; due = refl; told = refl }) (record { turns = refl; owed = refl; due = refl; told = refl })
 
-asks_leave : (see : List Line → View) (p : Policy) → Leaves p (asks_pages see p).policy
+pub asks_leave : (see : List Line → View) (p : Policy) → Leaves p (asks_pages see p).policy
 asks_leave see p =
     let v = see [] in
     either p (is_due v.now p.questions.ask) (record { policy = after_question v.now p; lines = Says (AskPages v.me) ∷ [] }) (still see p)
     (record { turns = refl; owed = refl; due = refl; told = refl }) (record { turns = refl; owed = refl; due = refl; told = refl })
 
-next_soon : (now sum word : ℕ) → next_report now (min (max sum 2000000) 64000000) (word % (min (max sum 2000000) 64000000 + 1)) ≤ now + 96000000
+pub next_soon : (now sum word : ℕ) → next_report now (min (max sum 2000000) 64000000) (word % (min (max sum 2000000) 64000000 + 1)) ≤ now + 96000000
 next_soon now sum word = by (min (max sum 2000000) 64000000) (omega arith) where
   under : (a b : ℕ) → a % (b + 1) ≤ b
   under a b = omega arith
@@ -103,7 +103,7 @@ next_soon now sum word = by (min (max sum 2000000) 64000000) (omega arith) where
   by : (mean : ℕ) → mean ≤ 64000000 → next_report now mean (word % (mean + 1)) ≤ now + 96000000
   by mean le = let few = under word mean in omega (arith, le, few)
 
-rest_leaves : (marks : List MarkValue) (see : List Line → View) (p : Policy) → ((reports_rest marks see p).policy.turns ≡ p.turns) × ((reports_rest marks see p).policy.owed ≡ p.owed)
+pub rest_leaves : (marks : List MarkValue) (see : List Line → View) (p : Policy) → ((reports_rest marks see p).policy.turns ≡ p.turns) × ((reports_rest marks see p).policy.owed ≡ p.owed)
 rest_leaves [] see p = (refl, refl)
 rest_leaves (m ∷ marks) see p = (refl, refl)
 
@@ -111,7 +111,7 @@ abbrev done : Keeping → Doing → Keeping
 done k d = record { host = after_lines d.lines k.host; policy = d.policy }
 
 -- a turn that comes to a name asks for it
-some_name : (a b : NameValue) → Some a ≡ Some b → a ≡ b
+pub some_name : (a b : NameValue) → Some a ≡ Some b → a ≡ b
 some_name a b e = ap (λ (o : Option NameValue). unwrap_or o a) e
 
 module _ (n : NameValue) (r : Keeping) (answers_held : AnswersWhatIsHeld r.host) (lacks : holds r.host.is.held n ≡ false) (room : is_full r.host ≡ false) (credit : r.policy.owed ≤ present r.host) where
@@ -135,7 +135,7 @@ module _ (n : NameValue) (r : Keeping) (answers_held : AnswersWhatIsHeld r.host)
   turn_asks e = to_it (hole_after r.host.is.held r.policy.turns.page r.policy.turns.source r.policy.turns.number) (hole_after r.host.is.held nowhere 0 0) e
 
 -- a report is followed by the next within 96 seconds
-rest_soon : (marks : List MarkValue) (see : List Line → View) (p : Policy) → (reports_rest marks see p).policy.reports.due ≤ (see []).now + 96000000
+pub rest_soon : (marks : List MarkValue) (see : List Line → View) (p : Policy) → (reports_rest marks see p).policy.reports.due ≤ (see []).now + 96000000
 rest_soon [] see p = next_soon (see []).now _ (word_of p.words)
 rest_soon (m ∷ marks) see p = next_soon (see []).now _ (word_of p.words)
 
@@ -167,7 +167,7 @@ turn_to_due (Some h) first see p = want_due (name_in p.turns.round h) see (polic
 turn_to_due None (Some h) see p = want_due (name_in (in_next_round p).turns.round h) see (policy_after h (in_next_round p))
 turn_to_due None None see p = refl
 
-turn_due : (see : List Line → View) (p : Policy) → (turn see p).policy.reports.due ≡ p.reports.due
+pub turn_due : (see : List Line → View) (p : Policy) → (turn see p).policy.reports.due ≡ p.reports.due
 turn_due see p = turn_to_due (hole_after (see []).held p.turns.page p.turns.source p.turns.number) (hole_after (see []).held nowhere 0 0) see p
 
 turn_to_owed : (next first : Option Hole) (see : List Line → View) (p : Policy) → p.owed ≤ (see []).now → (turn_to next first see p).policy.owed ≤ (see []).now + 250000
@@ -192,7 +192,7 @@ turn_to_told (Some h) first see p = want_told_same (name_in p.turns.round h) see
 turn_to_told None (Some h) see p = want_told_same (name_in (in_next_round p).turns.round h) see (policy_after h (in_next_round p))
 turn_to_told None None see p = refl
 
-turn_told : (see : List Line → View) (p : Policy) → told_of (turn see p).policy ≡ told_of p
+pub turn_told : (see : List Line → View) (p : Policy) → told_of (turn see p).policy ≡ told_of p
 turn_told see p = turn_to_told (hole_after (see []).held p.turns.page p.turns.source p.turns.number) (hole_after (see []).held nowhere 0 0) see p
 
 -- by a tick at which a report is due, and all names are paid for
@@ -541,12 +541,12 @@ pub missing_is_lacked : (held : List DrawopValue) (n : NameValue) → IsMissing 
 missing_is_lacked held n missing = holds_not held n missing.not_held
 
 -- it is in a hole
-record IsInHole (held : List DrawopValue) (n : NameValue) : Type 0 where
-  gap : Gap
-  there : Contains (holes_of held) (hole_on n.page gap)
-  source : gap.source ≡ n.source
-  first : gap.first ≤ n.seq
-  last : n.seq ≤ gap.last
+pub record IsInHole (held : List DrawopValue) (n : NameValue) : Type 0 where
+  pub gap : Gap
+  pub there : Contains (holes_of held) (hole_on n.page gap)
+  pub source : gap.source ≡ n.source
+  pub first : gap.first ≤ n.seq
+  pub last : n.seq ≤ gap.last
 
 -- its page has drawops
 on_page : (held : List DrawopValue) (n : NameValue) → IsMissing held n.page [] n.source n.seq → Contains (pages_of held) n.page
@@ -555,7 +555,7 @@ on_page held n missing = by (greatest_held held n.page n.source).reached where
   by (inl none) = let below = missing.below in let counted = missing.counted in absurd (omega (arith, none, below, counted))
   by (inr (i, d, lt, at_i, e)) = ((pages_of_history held).members n.page).1 (i, d, lt, at_i, ap (λ (m : NameValue). m.page) e)
 
-in_hole : (held : List DrawopValue) (n : NameValue) → IsMissing held n.page [] n.source n.seq → IsInHole held n
+pub in_hole : (held : List DrawopValue) (n : NameValue) → IsMissing held n.page [] n.source n.seq → IsInHole held n
 in_hole held n missing =
     let c = ((gaps_of_page held n.page []).missing n.source n.seq).1 missing in
     record {

@@ -1,3 +1,4 @@
 pub mod Sessions
 pub mod Repairs
 pub mod Timed
+pub mod Whole

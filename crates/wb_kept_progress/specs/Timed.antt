@@ -58,13 +58,12 @@ abbrev pub until : ℕ → List Performed → List Performed
 until s [] = []
 until s (e ∷ older) = if nat_le e.time s then e ∷ older else until s older
 
--- ---- what drivers and the network keep to, of one name
+-- ---- what drivers and the network keep to
 
--- from `quiet` on nothing is drawn, no request is said, and the name is not given up
-pub record IsQuiet (n : NameValue) (line : Line) : Type 0 where
+-- from `quiet` on nothing is drawn, and no request is said
+pub record IsQuietLine (line : Line) : Type 0 where
   pub drawn : (d : DrawopValue) → line ≢ Says (Draw d)
   pub said : (asker : ℕ) (m : NameValue) → line ≢ Says (Request asker m)
-  pub stopped : line ≢ Stops n
 
 -- no timer is overdue by more than this
 pub record AreNotOverdue (s : Timers) (now late : ℕ) : Type 0 where
@@ -90,8 +89,8 @@ pub record WasSent (hosts : ℕ → Start) (older : List Performed) (time within
   pub soon : time ≤ e.time + within
   pub sent : Contains (sends hosts before e) v
 
--- The terms are those of wb_progress, without pages: nothing is asked of looks and of reports.
-pub record IsTimely (hosts : ℕ → Start) (terms : Terms) (trace : List Performed) (n : NameValue) : Type 0 where
+-- The terms are those of wb_progress, without pages: nothing is asked of looks, of reports, and of what is asked for and given up.
+pub record IsTimely (hosts : ℕ → Start) (terms : Terms) (trace : List Performed) : Type 0 where
   pub distinct : (i j : ℕ) → (hosts i).number ≡ (hosts j).number → i ≡ j
   pub waits : (i : ℕ) → IsUnder (longest terms) (hosts i).constants
   pub tuned : (newer older : List Performed) (i : ℕ) → trace ≡ newer ++ older → Contains terms.live i → let host = host_after hosts older i in IsUnder (longest terms) (constants_after host.is.constants (events host))
@@ -105,7 +104,7 @@ pub record IsTimely (hosts : ℕ → Start) (terms : Terms) (trace : List Perfor
   pub delays : (newer older : List Performed) (i source : ℕ) → trace ≡ newer ++ older → Contains terms.live i → delay (host_after hosts older i) source ≤ terms.far
   -- from `quiet` on
   pub alone : (newer older : List Performed) (e : Performed) → trace ≡ newer ++ e ∷ older → terms.quiet < e.time → Contains terms.live e.place
-  pub quiet : (newer older : List Performed) (e : Performed) → trace ≡ newer ++ e ∷ older → terms.quiet < e.time → IsQuiet n e.line
+  pub quiet : (newer older : List Performed) (e : Performed) → trace ≡ newer ++ e ∷ older → terms.quiet < e.time → IsQuietLine e.line
   pub room : (newer older : List Performed) (e : Performed) (d : DrawopValue) → trace ≡ newer ++ e ∷ older → terms.quiet < e.time → e.line ≡ Arrives d → (holds (host_after hosts older e.place) d.name ≡ true) ⊎ (is_full (host_after hosts older e.place) ≡ false)
   -- what a live place sends comes to each other one in time, and what comes was sent shortly before
   pub drawops : (newer older : List Performed) (e : Performed) (j : ℕ) (d : DrawopValue) → trace ≡ newer ++ e ∷ older → Contains terms.live j → e.place ≢ j → terms.quiet < e.time → Contains (sends hosts older e) (Draw d) → e.time + terms.delivery < time_of trace → ComesTo newer j (e.time + terms.delivery) (Arrives d)
@@ -123,15 +122,27 @@ IsAnswerable hosts terms trace n = (j : ℕ) × Contains terms.live j × (holds 
 abbrev pub AllHoldBehind : (ℕ → Start) → Terms → List Performed → ℕ → NameValue → Type 0
 AllHoldBehind hosts terms trace time n = (newer later : List Performed) (i : ℕ) → trace ≡ newer ++ later → time < time_of later → Contains terms.live i → holds (host_after hosts later i) n ≡ true
 
--- A request for what a live place held, once it is sent late enough, brings it to all, whatever other names are given up or asked for.
+-- A request for what a live place held, once it is sent late enough, brings it to all, whatever names are given up or asked for.
 abbrev pub RequestIsAnswered : Type 0
-RequestIsAnswered = (hosts : ℕ → Start) (terms : Terms) (trace newer older : List Performed) (e : Performed) (asker : ℕ) (n : NameValue) → IsTimely hosts terms trace n → trace ≡ newer ++ e ∷ older → settled_by terms < e.time → settled_by terms + 3 * terms.far ≤ e.time
+RequestIsAnswered = (hosts : ℕ → Start) (terms : Terms) (trace newer older : List Performed) (e : Performed) (asker : ℕ) (n : NameValue) → IsTimely hosts terms trace → trace ≡ newer ++ e ∷ older → settled_by terms < e.time → settled_by terms + 3 * terms.far ≤ e.time
     → Contains (sends hosts older e) (Request asker n) → IsAnswerable hosts terms trace n → AllHoldBehind hosts terms trace (e.time + answering_by terms) n
 
--- A request timer of the name that stands late enough leads to such a request.
-abbrev pub TimerLeads : Type 0
-TimerLeads = (hosts : ℕ → Start) (terms : Terms) (trace newer older : List Performed) (i : ℕ) (n : NameValue) (ask : AskTimer) (due : ℕ) → IsTimely hosts terms trace n → trace ≡ newer ++ older → Contains terms.live i → known_from terms ≤ time_of older
-    → (timers_after hosts older i n).ask ≡ Some ask → ask.due ≤ due + terms.offset i → IsAnswerable hosts terms trace n → AllHoldBehind hosts terms trace (max (time_of older) due + repairing terms) n
+-- a name is given up at a place behind a part, while its timer stands as it was
+pub record IsGivenUp (hosts : ℕ → Start) (trace base : List Performed) (i : ℕ) (n : NameValue) (ask : AskTimer) (by : ℕ) : Type 0 where
+  pub front : List Performed
+  pub e : Performed
+  pub between : List Performed
+  pub split : trace ≡ front ++ e ∷ (between ++ base)
+  pub place : e.place ≡ i
+  pub line : e.line ≡ Stops n
+  pub stands : (timers_after hosts (between ++ base) i n).ask ≡ Some ask
+  pub soon : e.time ≤ by
+
+-- A request timer that stands late enough leads to such a request, or its name is given up there before. So where it is not, all come to hold the name.
+abbrev pub TimerLeadsOrIsGivenUp : Type 0
+TimerLeadsOrIsGivenUp = (hosts : ℕ → Start) (terms : Terms) (trace newer older : List Performed) (i : ℕ) (n : NameValue) (ask : AskTimer) (due : ℕ) → IsTimely hosts terms trace → trace ≡ newer ++ older → Contains terms.live i → known_from terms ≤ time_of older
+    → (timers_after hosts older i n).ask ≡ Some ask → ask.due ≤ due + terms.offset i → IsAnswerable hosts terms trace n
+    → AllHoldBehind hosts terms trace (max (time_of older) due + repairing terms) n ⊎ IsGivenUp hosts trace older i n ask (max (time_of older) due + terms.late)
 
 -- ---- hosts that keep themselves
 
@@ -189,11 +200,14 @@ abbrev pub called_at : List TimedLine → ℕ
 called_at [] = 0
 called_at (e ∷ older) = e.time
 
--- What they perform keeps to the terms, and a live one held the name once what was on its way had arrived.
-pub record IsKeptTimely (hosts : ℕ → Opening) (terms : Terms) (trace : List TimedLine) (n : NameValue) : Type 0 where
+-- What they perform keeps to the terms.
+pub record IsKeptTimely (hosts : ℕ → Opening) (terms : Terms) (trace : List TimedLine) : Type 0 where
   pub opened : (i : ℕ) → (hosts i).moments ≡ []
-  pub timely : IsTimely (λ j. start_of (hosts j)) terms (performed hosts trace) n
-  pub answerable : IsAnswerable (λ j. start_of (hosts j)) terms (performed hosts trace) n
+  pub timely : IsTimely (λ j. start_of (hosts j)) terms (performed hosts trace)
+
+-- a live host held the name once what was on its way had arrived
+abbrev pub IsKeptAnswerable : (ℕ → Opening) → Terms → List TimedLine → NameValue → Type 0
+IsKeptAnswerable hosts terms trace n = IsAnswerable (λ j. start_of (hosts j)) terms (performed hosts trace) n
 
 -- each live host has it once the calls have gone on behind a time
 abbrev pub AllKeptHoldBehind : (ℕ → Opening) → Terms → List TimedLine → ℕ → NameValue → Type 0
@@ -201,10 +215,11 @@ AllKeptHoldBehind hosts terms trace time n = (newer later : List TimedLine) (i :
 
 -- A request that a call sends late enough brings the name to all.
 abbrev pub KeptRequestIsAnswered : Type 0
-KeptRequestIsAnswered = (hosts : ℕ → Opening) (terms : Terms) (trace newer older : List TimedLine) (e : TimedLine) (asker : ℕ) (n : NameValue) → IsKeptTimely hosts terms trace n → trace ≡ newer ++ e ∷ older → settled_by terms < e.time → settled_by terms + 3 * terms.far ≤ e.time
-    → Contains (sent_by_doing (doing_of e.at.line) (kept_at hosts (lines_of older) e.at.place)) (Request asker n) → AllKeptHoldBehind hosts terms trace (e.time + answering_by terms) n
+KeptRequestIsAnswered = (hosts : ℕ → Opening) (terms : Terms) (trace newer older : List TimedLine) (e : TimedLine) (asker : ℕ) (n : NameValue) → IsKeptTimely hosts terms trace → trace ≡ newer ++ e ∷ older → settled_by terms < e.time → settled_by terms + 3 * terms.far ≤ e.time
+    → Contains (sent_by_doing (doing_of e.at.line) (kept_at hosts (lines_of older) e.at.place)) (Request asker n) → IsKeptAnswerable hosts terms trace n → AllKeptHoldBehind hosts terms trace (e.time + answering_by terms) n
 
--- A request timer that stands behind a call late enough does so.
-abbrev pub KeptTimerLeads : Type 0
-KeptTimerLeads = (hosts : ℕ → Opening) (terms : Terms) (trace newer older : List TimedLine) (i : ℕ) (n : NameValue) (ask : AskTimer) (due : ℕ) → IsKeptTimely hosts terms trace n → trace ≡ newer ++ older → Contains terms.live i → known_from terms ≤ called_at older
-    → (let host = (kept_at hosts (lines_of older) i).host in (timers_of host.is.constants (events host) n).ask) ≡ Some ask → ask.due ≤ due + terms.offset i → AllKeptHoldBehind hosts terms trace (max (called_at older) due + repairing terms) n
+-- A request timer that stands behind a call late enough does so, or its name is given up there before.
+abbrev pub KeptTimerLeadsOrIsGivenUp : Type 0
+KeptTimerLeadsOrIsGivenUp = (hosts : ℕ → Opening) (terms : Terms) (trace newer older : List TimedLine) (i : ℕ) (n : NameValue) (ask : AskTimer) (due : ℕ) → IsKeptTimely hosts terms trace → trace ≡ newer ++ older → Contains terms.live i → known_from terms ≤ called_at older
+    → (let host = (kept_at hosts (lines_of older) i).host in (timers_of host.is.constants (events host) n).ask) ≡ Some ask → ask.due ≤ due + terms.offset i → IsKeptAnswerable hosts terms trace n
+    → AllKeptHoldBehind hosts terms trace (max (called_at older) due + repairing terms) n ⊎ IsGivenUp (λ j. start_of (hosts j)) (performed hosts trace) (performed hosts older) i n ask (max (called_at older) due + terms.late)

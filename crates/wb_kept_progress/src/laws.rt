@@ -2,7 +2,8 @@
 //! law, for proofs to cite.
 
 ghost use Rattle.wb_kept_progress.specs.Repairs.{AskedCanCome, LostCanCome, MarksComeToBeTold, MissingCanCome, MissingIsAsked, MissingIsAskedSoon};
-ghost use Rattle.wb_kept_progress.specs.Timed.{KeptIsPerformed, KeptKeepsMoments, KeptRequestIsAnswered, KeptTimerLeads, RequestIsAnswered, TimerLeads};
+ghost use Rattle.wb_kept_progress.specs.Timed.{KeptIsPerformed, KeptKeepsMoments, KeptRequestIsAnswered, KeptTimerLeadsOrIsGivenUp, RequestIsAnswered, TimerLeadsOrIsGivenUp};
+ghost use Rattle.wb_kept_progress.specs.Whole.{SessionsBecomeWhole};
 
 /// Whatever came in before, a drawop that one host asks for, and that another holds, comes by six
 /// more lines of the two. None of them is refused, and none hands in what was not sent.
@@ -27,14 +28,15 @@ pub fn what_is_lost_can_come()
     ensures comes { LostCanCome }
 {}
 
-/// Where hosts, drivers and the network keep to stated times: a request for what a live host held
-/// is answered to all of them, and a request timer leads to one, whatever else hosts ask for, give
-/// up and report. So it is with hosts that keep themselves.
+/// Where hosts, drivers and the network keep to stated times, whatever hosts ask for, give up and
+/// report: a request for what a live host held is answered to all of them, and a request timer
+/// leads to one, or its own host gives the name up first. So of a name that is not given up each
+/// timer leads to where all hold it. So it is with hosts that keep themselves.
 pub fn what_is_asked_for_comes_in_time()
     ensures answered { RequestIsAnswered }
-    ensures leads { TimerLeads }
+    ensures leads { TimerLeadsOrIsGivenUp }
     ensures kept_answered { KeptRequestIsAnswered }
-    ensures kept_leads { KeptTimerLeads }
+    ensures kept_leads { KeptTimerLeadsOrIsGivenUp }
 {}
 
 /// A host that keeps itself from its opening on is the host that performed the lines of its policy,
@@ -43,4 +45,11 @@ pub fn what_is_asked_for_comes_in_time()
 pub fn kept_hosts_perform_lines()
     ensures same { KeptIsPerformed }
     ensures moments { KeptKeepsMoments }
+{}
+
+/// A session of hosts that keep themselves becomes whole. Where from some time on nobody draws,
+/// nothing is lost, and drivers tick in time, each live host comes to hold, by a stated time, what
+/// one of them held.
+pub fn sessions_become_whole()
+    ensures { SessionsBecomeWhole }
 {}

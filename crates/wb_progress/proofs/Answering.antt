@@ -1,6 +1,6 @@
 -- A request that is sent late enough brings its drawop to all live places.
-use Rattle.std.proofs.Common.{◌≡◌, ℕ, ◌+◌, ◌*◌, ◌<◌, ◌≤◌, Bool, true, false, List, [], ◌∷◌, ◌++◌, Some, sym, ap, ◌∙◌, subst, arith, ◌⊎◌, inl, inr, ⊎_elim, append_assoc, true≢false, refl}
-use Rattle.std.specs.Prelude.{◌≢◌, Contains, IfSome}
+use Rattle.std.proofs.Common.{◌≡◌, ℕ, ◌+◌, ◌*◌, ◌<◌, ◌≤◌, Bool, true, false, List, [], ◌∷◌, ◌++◌, Some, sym, ap, ◌∙◌, subst, arith, ◌⊎◌, inl, inr, ⊎_elim, append_assoc, true≢false}
+use Rattle.std.specs.Prelude.{Contains, IfSome}
 use Rattle.std.proofs.Math.Nat.{mul-le-mul_right}
 use Rattle.wb_names.specs.Values.{NameValue}
 use Rattle.wb_codec.specs.declared.datagram.Datagram.TheVariants.{Request}
@@ -10,12 +10,12 @@ use Rattle.wb_progress.specs.Calls.{Brings, Fires, Answers}
 use Rattle.wb_progress.specs.InTime.{answering_by, RequestIsAnswered, RequestIsAnsweredBut}
 use Rattle.wb_progress.specs.Keepers.{AreWithin}
 use Rattle.wb_progress.specs.Repairs.{timers_at}
-use Rattle.wb_progress.specs.Turns.{longest, Terms, settled_by, Turn, Places, desk_at, has, timers_there, time_of, AreInOrder, IsAnswerable, AllHoldBehind, IsTurn, IsHeardAt, KeepTimeBut}
+use Rattle.wb_progress.specs.Turns.{longest, Terms, settled_by, Turn, Places, desk_at, has, timers_there, time_of, AreInOrder, IsAnswerable, AllHoldBehind, IsTurn, IsHeardAt, IsOtherOrLacked, KeepTimeBut}
 use Rattle.wb_progress.proofs.Calls.{answer_goes_on, requests_are_heard}
-use Rattle.wb_progress.proofs.Giving.{desk_here, Called, changes, keeps, held_before, Gave, why_quiet, brought, answered, copy_comes}
+use Rattle.wb_progress.proofs.Giving.{Spares, spares_held, desk_here, Called, changes, keeps, held_before, Gave, why_quiet, brought, answered, copy_comes}
 use Rattle.wb_progress.proofs.Parts.{before_end, order_of, in_past, joined}
 
-module _ {MayStop : NameValue → Type 0} (places : Places) (terms : Terms) (turns : List Turn) (is : KeepTimeBut MayStop places terms turns) where
+module _ {MayStop : List Turn → Turn → NameValue → Type 0} (places : Places) (terms : Terms) (turns : List Turn) (is : KeepTimeBut MayStop places terms turns) where
   -- what is sent behind one time comes behind each later one
   pub sooner : (a b : ℕ) (n : NameValue) → a ≤ b → AllHoldBehind terms turns a n → AllHoldBehind terms turns b n
   sooner a b n le all newer later i split lt live = all newer later i split (omega (arith, le, lt)) live
@@ -26,7 +26,7 @@ module _ {MayStop : NameValue → Type 0} (places : Places) (terms : Terms) (tur
 
   -- ---- an answer timer
 
-  module _ (j : ℕ) (n : NameValue) (answer : AnswerTimer) (live : Contains terms.live j) (limit : ℕ) (soon : answer.due + terms.late ≤ limit + terms.offset j) (stays : MayStop n → ⊥) where
+  module _ (j : ℕ) (n : NameValue) (answer : AnswerTimer) (live : Contains terms.live j) (limit : ℕ) (soon : answer.due + terms.late ≤ limit + terms.offset j) (spares : Spares MayStop n) where
     -- it stands as it was set, at a part that ends by the limit; or it ended by then
     abbrev Ends : List Turn → Type 0
     Ends part = (((timers_there places part j n).answer ≡ Some answer) × (time_of part ≤ limit)) ⊎ CopyBy n limit
@@ -35,7 +35,7 @@ module _ {MayStop : NameValue → Type 0} (places : Places) (terms : Terms) (tur
     one_turn newer older e split late held stands = by_time (subst (λ o. IfSome o (λ (a : AnswerTimer). e.time + terms.offset j ≤ a.due + terms.late)) stands (is.soon newer older e j n split live).answer) where
       came : e.time ≤ limit → (c : Called places terms turns is older e j) → Brings n c.call ⊎ Fires answer.due c.call → Ends (e ∷ older)
       came le c gives = ⊎_elim
-          (λ (b : Brings n c.call). inr (sooner (e.time + terms.delivery) (limit + terms.delivery) n (omega (arith, le)) (copy_comes places terms turns is n e.time late (brought places terms turns is newer older e j n split live late c b stays))))
+          (λ (b : Brings n c.call). inr (sooner (e.time + terms.delivery) (limit + terms.delivery) n (omega (arith, le)) (copy_comes places terms turns is n e.time late (brought places terms turns is newer older e j n split live late c b (spares older e (ap (λ (k : ℕ). has older k n) c.place ∙ held))))))
           (λ (f : Fires answer.due c.call). inr (sooner (e.time + terms.delivery) (limit + terms.delivery) n (omega (arith, le)) (copy_comes places terms turns is n e.time late (answered places terms turns is newer older e j n answer split live held stands c f))))
           gives
 
@@ -68,7 +68,7 @@ module _ {MayStop : NameValue → Type 0} (places : Places) (terms : Terms) (tur
 
   -- ---- a request that is heard
 
-  module _ (newer older : List Turn) (e : Turn) (asker : ℕ) (n : NameValue) (split : turns ≡ newer ++ e ∷ older) (late : settled_by terms < e.time) (later_yet : settled_by terms + 3 * terms.far ≤ e.time) (sent : Contains e.sent (Request asker n)) (a : IsAnswerable terms turns n) (stays : MayStop n → ⊥) where
+  module _ (newer older : List Turn) (e : Turn) (asker : ℕ) (n : NameValue) (split : turns ≡ newer ++ e ∷ older) (late : settled_by terms < e.time) (later_yet : settled_by terms + 3 * terms.far ≤ e.time) (sent : Contains e.sent (Request asker n)) (a : IsAnswerable terms turns n) (spares : Spares MayStop n) where
     abbrev j : ℕ
     j = a.0
 
@@ -149,11 +149,12 @@ module _ {MayStop : NameValue → Type 0} (places : Places) (terms : Terms) (tur
                 let o = order.0 in
                 omega (arith, le, top, o) in
                 let soon = h.soon in
+                let held_then : has g.older j n ≡ true = held_before places terms turns is ((h.later ++ x ∷ []) ++ g.newer) g.older g.e n at recent a in
                 let reach : g.e.time + terms.delivery ≤ end = omega (arith, past, soon) in
                 ⊎_elim
-                (λ (b : Brings n g.called.call). sooner (g.e.time + terms.delivery) end n reach (copy_comes places terms turns is n g.e.time recent (brought places terms turns is ((h.later ++ x ∷ []) ++ g.newer) g.older g.e j n at a.1 recent g.called b stays)))
+                (λ (b : Brings n g.called.call). sooner (g.e.time + terms.delivery) end n reach (copy_comes places terms turns is n g.e.time recent (brought places terms turns is ((h.later ++ x ∷ []) ++ g.newer) g.older g.e j n at a.1 recent g.called b (spares g.older g.e (ap (λ (k : ℕ). has g.older k n) g.called.place ∙ held_then)))))
                 (λ (f : Answers (places.me j) (places.constants j) (desk_at g.older j).calls n g.called.call). sooner (g.e.time + terms.delivery) end n reach (copy_comes places terms turns is n g.e.time recent
-                (answered places terms turns is ((h.later ++ x ∷ []) ++ g.newer) g.older g.e j n f.0 at a.1 (held_before places terms turns is ((h.later ++ x ∷ []) ++ g.newer) g.older g.e n at recent a) f.1 g.called f.2)))
+                (answered places terms turns is ((h.later ++ x ∷ []) ++ g.newer) g.older g.e j n f.0 at a.1 held_then f.1 g.called f.2)))
                 g.gives
 
       -- an answer timer stands behind it
@@ -173,7 +174,7 @@ module _ {MayStop : NameValue → Type 0} (places : Places) (terms : Terms) (tur
           ⊎_elim
           (λ (s : ((timers_there places (p.0 ++ (x ∷ before)) j n).answer ≡ Some answer) × (time_of (p.0 ++ (x ∷ before)) ≤ limit)). let le = s.1 in absurd (omega (arith, lt, le, top_is)))
           (λ (c : CopyBy n limit). c newest later i is_part (omega (arith, lt)) live)
-          (ends j n answer a.1 limit (omega (arith, due, wait, m, soon)) stays newest p.0 (x ∷ before) split_at (omega (arith, late, not_sooner)) has_it stands' (omega (arith, soon)))
+          (ends j n answer a.1 limit (omega (arith, due, wait, m, soon)) spares newest p.0 (x ∷ before) split_at (omega (arith, late, not_sooner)) has_it stands' (omega (arith, soon)))
 
       pub all_hold : AllHoldBehind terms turns end n
       all_hold = ⊎_elim
@@ -187,12 +188,12 @@ module _ {MayStop : NameValue → Type 0} (places : Places) (terms : Terms) (tur
         let same : time_of turns ≡ time_of (newest ++ later) = ap time_of is_part in
         all_hold (is.delivered.requests newer older e asker n j split quiet_time sent a.1 differ (omega (arith, lt, end, same))) newest later i is_part lt live
 
-pub request_is_answered_but : (MayStop : NameValue → Type 0) (places : Places) (terms : Terms) (turns newer older : List Turn) (e : Turn) (asker : ℕ) (n : NameValue) → KeepTimeBut MayStop places terms turns → (MayStop n → ⊥) → turns ≡ newer ++ e ∷ older
+pub request_is_answered_but : (MayStop : List Turn → Turn → NameValue → Type 0) (places : Places) (terms : Terms) (turns newer older : List Turn) (e : Turn) (asker : ℕ) (n : NameValue) → KeepTimeBut MayStop places terms turns → Spares MayStop n → turns ≡ newer ++ e ∷ older
     → settled_by terms < e.time → settled_by terms + 3 * terms.far ≤ e.time → Contains e.sent (Request asker n) → IsAnswerable terms turns n → AllHoldBehind terms turns (e.time + answering_by terms) n
-request_is_answered_but MayStop places terms turns newer older e asker n is stays split late later_yet sent a = answered_to_all places terms turns is newer older e asker n split late later_yet sent a stays
+request_is_answered_but MayStop places terms turns newer older e asker n is spares split late later_yet sent a = answered_to_all places terms turns is newer older e asker n split late later_yet sent a spares
 
 pub request_is_answered : RequestIsAnswered
-request_is_answered places terms turns newer older e asker n is split late later_yet sent a = request_is_answered_but (λ n. ⊥) places terms turns newer older e asker n is (λ none. none) split late later_yet sent a
+request_is_answered places terms turns newer older e asker n is split late later_yet sent a = request_is_answered_but (λ older e n. ⊥) places terms turns newer older e asker n is (λ older e held none. none) split late later_yet sent a
 
 pub request_is_answered_other : RequestIsAnsweredBut
-request_is_answered_other places terms turns newer older e asker n is split late later_yet sent a = request_is_answered_but (λ m. m ≢ n) places terms turns newer older e asker n is (λ other. other refl) split late later_yet sent a
+request_is_answered_other places terms turns newer older e asker n is split late later_yet sent a = request_is_answered_but (IsOtherOrLacked n) places terms turns newer older e asker n is (spares_held n) split late later_yet sent a

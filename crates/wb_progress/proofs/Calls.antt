@@ -1,6 +1,6 @@
 -- What one call of a keeper makes of the timers of a name.
 use Rattle.std.proofs.Common.{◌≡◌, ℕ, ◌+◌, ◌*◌, ◌≤◌, ◌<◌, Bool, true, false, cond, List, [], ◌∷◌, Option, Some, None, refl, ap, ◌∙◌, sym, subst, arith, ◌⊎◌, inl, inr, ⊎_elim, eqb-true, eq-eqb, true≢false}
-use Rattle.std.specs.Prelude.{Contains, IfSome, nat_eq, nat_le, is_none, ◌&&◌}
+use Rattle.std.specs.Prelude.{Contains, IfSome, min, nat_eq, nat_le, is_none, ◌&&◌}
 use Rattle.std.proofs.Math.Nat.{mul-le-mul_left, mul-le-mul_right}
 use Rattle.std.proofs.lemmas.Bool.Decides.{nat_tests}
 use Rattle.wb_names.specs.Values.{NameValue}
@@ -43,6 +43,7 @@ record IsMissed (far : ℕ) (bound : Tuning) (now : ℕ) (s next : Timers) : Typ
   quiet : next.quiet ≡ s.quiet
   stays : (ask : AskTimer) → s.ask ≡ Some ask → next.ask ≡ Some ask
   new : s.ask ≡ None → IfSome next.ask (λ (ask : AskTimer). ask.due ≤ now + (bound.c1 + bound.c2) * far)
+  lowest : s.ask ≡ None → IfSome next.ask (λ (ask : AskTimer). ask.level ≡ 0)
 
 -- a tick of which it is no name that was stopped
 record IsTicked (call : KeeperCall) (s next : Timers) : Type 0 where
@@ -68,7 +69,7 @@ new_within bound t far now delay word under le =
 
 module _ (far : ℕ) (bound : Tuning) (now : ℕ) where
   untouched : (s : Timers) → s.ask ≡ s.ask → IsMissed far bound now s s
-  untouched s e = record { answer = refl; quiet = refl; stays = λ ask h. h; new = λ none. subst (λ (o : Option AskTimer). IfSome o (λ (ask : AskTimer). ask.due ≤ now + (bound.c1 + bound.c2) * far)) (sym none) tt }
+  untouched s e = record { answer = refl; quiet = refl; stays = λ ask h. h; new = λ none. subst (λ (o : Option AskTimer). IfSome o (λ (ask : AskTimer). ask.due ≤ now + (bound.c1 + bound.c2) * far)) (sym none) tt; lowest = λ none. subst (λ (o : Option AskTimer). IfSome o (λ (ask : AskTimer). ask.level ≡ 0)) (sym none) tt }
 
   one_missed : (t : Tuning) (delay word : ℕ) (s : Timers) → IsUnder bound t → delay ≤ far → IsMissed far bound now s (noticed t now delay word s)
   one_missed t delay word s under le = from s.ask refl where
@@ -79,6 +80,7 @@ module _ (far : ℕ) (bound : Tuning) (now : ℕ) where
       quiet = refl;
       stays = λ ask h. absurd (none_some ask (sym e ∙ h));
       new = λ none. new_within bound t far now delay word under le;
+      lowest = λ none. refl;
     }) where
       none_some : (ask : AskTimer) → ◌≡◌ {A = Option AskTimer} None (Some ask) → ⊥
       none_some ask h = cc
@@ -88,14 +90,12 @@ module _ (far : ℕ) (bound : Tuning) (now : ℕ) where
     answer = b.answer ∙ a.answer;
     quiet = b.quiet ∙ a.quiet;
     stays = λ ask h. b.stays ask (a.stays ask h);
-    new = λ none. from mid.ask refl (a.new none);
+    new = λ none. from (λ (ask : AskTimer). ask.due ≤ now + (bound.c1 + bound.c2) * far) b.new mid.ask refl (a.new none);
+    lowest = λ none. from (λ (ask : AskTimer). ask.level ≡ 0) b.lowest mid.ask refl (a.lowest none);
   } where
-    Near : Option AskTimer → Type 0
-    Near o = IfSome o (λ (ask : AskTimer). ask.due ≤ now + (bound.c1 + bound.c2) * far)
-
-    from : (o : Option AskTimer) → mid.ask ≡ o → Near mid.ask → Near next.ask
-    from None e near = b.new e
-    from (Some ask) e near = subst Near (sym (b.stays ask e)) (subst Near e near)
+    from : (Q : AskTimer → Type 0) → (mid.ask ≡ None → IfSome next.ask Q) → (o : Option AskTimer) → mid.ask ≡ o → IfSome mid.ask Q → IfSome next.ask Q
+    from Q new None e near = new e
+    from Q new (Some ask) e near = subst (λ (o : Option AskTimer). IfSome o Q) (sym (b.stays ask e)) (subst (λ (o : Option AskTimer). IfSome o Q) e near)
 
   module _ (t : Tuning) (delays : ℕ → ℕ) (short : (source : ℕ) → delays source ≤ far) (n : NameValue) where
     all_missed : (names : List NameValue) (words : List ℕ) (events : List Event) → IsUnder bound (constants_after t events) → (timers_of t (notices now events (missed_of delays names words)) n ≡ timers_of t events n) ⊎ (Contains names n × IsMissed far bound now (timers_of t events n) (timers_of t (notices now events (missed_of delays names words)) n))
@@ -180,7 +180,7 @@ module _ (far me : ℕ) (bound t : Tuning) (calls : List KeeperCall) (n : NameVa
   gives_up now name false = inl refl
   gives_up now name true = ⊎_elim
       (λ (e : timers_of t (receipts now events (received_of (λ source. 0) (name ∷ []))) n ≡ s). inl e)
-      (λ (c : Contains (name ∷ []) n × ((timers_of t (receipts now events (received_of (λ source. 0) (name ∷ []))) n).ask ≡ None)). inr (inl (one name n c.0, c.1)))
+      (λ (c : Contains (name ∷ []) n × ((timers_of t (receipts now events (received_of (λ source. 0) (name ∷ []))) n).ask ≡ None)). inr (inl ((one name n c.0, refl), c.1)))
       (came now (λ source. 0) (name ∷ [])) where
         one : (a b : NameValue) → Contains (a ∷ []) b → a ≡ b
         one a b c = ⊎_elim (λ (e : a ≡ b). e) (λ (none : Contains [] b). absurd (Contains-none b none)) (Contains-cases a b [] c)
@@ -294,10 +294,10 @@ module _ (far me : ℕ) (bound t : Tuning) (call : KeeperCall) (calls : List Kee
       (λ (le : answer.due ≤ k.now). inr (inr (fires answer.due k.is le)))
       (answer_fires k.now answer))
 
-  pub ask_goes_on : (ask : AskTimer) → s_0.ask ≡ Some ask → (s_1.ask ≡ Some ask) ⊎ (Brings n call ⊎ (Fires ask.due call ⊎ Requests me n call))
+  pub ask_goes_on : (ask : AskTimer) → s_0.ask ≡ Some ask → (s_1.ask ≡ Some ask) ⊎ (Brought ⊎ (Fires ask.due call ⊎ Requests me n call))
   ask_goes_on ask is = by_case
       (λ e. inl (ap (λ (k : Timers). k.ask) e ∙ is))
-      (λ b. inr (inl b.0))
+      (λ b. inr (inl b))
       (λ h. inr (inr (inr h.by)))
       (λ m. inl (m.1.stays ask is))
       (λ k. ⊎_elim
@@ -321,12 +321,12 @@ module _ (far me : ℕ) (bound t : Tuning) (call : KeeperCall) (calls : List Kee
   none_some : (o : Option AskTimer) (ask : AskTimer) → o ≡ None → o ≡ Some ask → ⊥
   none_some o ask e f = cc
 
-  pub ask_begins : (ask : AskTimer) → s_0.ask ≡ None → s_1.ask ≡ Some ask → Misses n call × (ask.due ≤ moment_at (call ∷ calls) + (bound.c1 + bound.c2) * far)
+  pub ask_begins : (ask : AskTimer) → s_0.ask ≡ None → s_1.ask ≡ Some ask → Misses n call × (ask.due ≤ moment_at (call ∷ calls) + (bound.c1 + bound.c2) * far) × (ask.level ≡ 0)
   ask_begins ask none is = by_case
       (λ e. absurd (none_some s_1.ask ask (ap (λ (k : Timers). k.ask) e ∙ none) is))
       (λ b. absurd (none_some s_1.ask ask b.1 is))
       (λ h. absurd (none_some s_1.ask ask (ap (λ (k : Timers). k.ask) h.becomes ∙ asked_no_ask h.constants h.by.held h.by.now h.delay h.by.word s_0 none) is))
-      (λ m. (m.0, at_miss m.0 (subst (λ (o : Option AskTimer). IfSome o (λ (a : AskTimer). a.due ≤ moment_at (call ∷ []) + (bound.c1 + bound.c2) * far)) is (m.1.new none))))
+      (λ m. (m.0, at_miss m.0 (subst (λ (o : Option AskTimer). IfSome o (λ (a : AskTimer). a.due ≤ moment_at (call ∷ []) + (bound.c1 + bound.c2) * far)) is (m.1.new none)), subst (λ (o : Option AskTimer). IfSome o (λ (a : AskTimer). a.level ≡ 0)) is (m.1.lowest none)))
       (λ k. absurd (none_some s_1.ask ask (ap (λ (r : Timers). r.ask) k.becomes ∙ ap (fired_ask k.constants k.now k.word) none) is)) where
         at_miss : Misses n call → ask.due ≤ moment_at (call ∷ []) + (bound.c1 + bound.c2) * far → ask.due ≤ moment_at (call ∷ calls) + (bound.c1 + bound.c2) * far
         at_miss m le = subst (λ (k : ℕ). ask.due ≤ k + (bound.c1 + bound.c2) * far) (ap (λ (c : KeeperCall). moment_at (c ∷ [])) m.is ∙ sym (ap (λ (c : KeeperCall). moment_at (c ∷ calls)) m.is)) le
@@ -356,3 +356,60 @@ requests_are_heard far me bound t calls now asker word n other within = subst Fo
 
   heard : events_of me (Hear now (Request asker n) word true ∷ calls) ≡ Asked n true now delay word ∷ events
   heard = ap (λ (b : Bool). cond b events (Asked n true now delay word ∷ events)) (is_false (nat_eq asker me) (λ e. other (eqb-true asker me e)))
+
+-- ---- a request timer that was not backed off
+
+some_ask : (a b : AskTimer) → Some a ≡ Some b → a ≡ b
+some_ask a b e = cc
+
+backed_level : (level : ℕ) → min (level + 1) 16 ≡ 0 → ⊥
+backed_level level e = omega (arith, e)
+
+no_ask : (ask : AskTimer) → ◌≡◌ {A = Option AskTimer} None (Some ask) → ⊥
+no_ask ask e = cc
+
+-- what backs off or not, and was not backed off, is as it was
+as_it_was : (b : Bool) (t : Tuning) (now delay word : ℕ) (a ask : AskTimer) → Some (cond b (backed_off t a now delay word) a) ≡ Some ask → ask.level ≡ 0 → Some a ≡ Some ask
+as_it_was true t now delay word a ask e level = absurd (backed_level a.level (ap (λ (x : AskTimer). x.level) (some_ask (backed_off t a now delay word) ask e) ∙ level))
+as_it_was false t now delay word a ask e level = e
+
+heard_fresh : (t : Tuning) (now delay word : ℕ) (o : Option AskTimer) (ask : AskTimer) → heard_ask t now delay word o ≡ Some ask → ask.level ≡ 0 → o ≡ Some ask
+heard_fresh t now delay word None ask e level = absurd (no_ask ask e)
+heard_fresh t now delay word (Some a) ask e level = as_it_was (nat_le a.deaf now) t now delay word a ask e level
+
+fired_fresh : (t : Tuning) (now word : ℕ) (o : Option AskTimer) (ask : AskTimer) → fired_ask t now word o ≡ Some ask → ask.level ≡ 0 → o ≡ Some ask
+fired_fresh t now word None ask e level = absurd (no_ask ask e)
+fired_fresh t now word (Some a) ask e level = as_it_was (nat_le a.due now) t now a.delay word a ask e level
+
+asked_fresh : (t : Tuning) (held : Bool) (now delay word : ℕ) (s : Timers) (ask : AskTimer) → (asked t held now delay word s).ask ≡ Some ask → ask.level ≡ 0 → s.ask ≡ Some ask
+asked_fresh t false now delay word s ask e level = heard_fresh t now delay word s.ask ask e level
+asked_fresh t true now delay word s ask e level = from (is_none s.answer && nat_le s.quiet now) e where
+  from : (b : Bool) → (cond b (record s { answer = Some (new_answer t now delay word) }) s).ask ≡ Some ask → s.ask ≡ Some ask
+  from true e = e
+  from false e = e
+
+missed_fresh : (far : ℕ) (bound : Tuning) (now : ℕ) (s next : Timers) (ask : AskTimer) → IsMissed far bound now s next → next.ask ≡ Some ask → (s.ask ≡ Some ask) ⊎ (ask.due ≤ now + (bound.c1 + bound.c2) * far)
+missed_fresh far bound now s next ask m e = from s.ask refl where
+  from : (o : Option AskTimer) → s.ask ≡ o → (s.ask ≡ Some ask) ⊎ (ask.due ≤ now + (bound.c1 + bound.c2) * far)
+  from (Some a) is = inl (is ∙ sym (m.stays a is) ∙ e)
+  from None is = inr (subst (λ (o : Option AskTimer). IfSome o (λ (a : AskTimer). a.due ≤ now + (bound.c1 + bound.c2) * far)) e (m.new is))
+
+-- Where no delay and no constants are above the bound, it stood so before, or its name is missed by the call.
+pub fresh_ask : (far me : ℕ) (bound t : Tuning) (call : KeeperCall) (calls : List KeeperCall) (n : NameValue) → ((source : ℕ) → delay_to me calls source ≤ far) → IsUnder bound (constants_at me t calls)
+    → (ask : AskTimer) → (timers_at me t (call ∷ calls) n).ask ≡ Some ask → ask.level ≡ 0 → ((timers_at me t calls n).ask ≡ Some ask) ⊎ (Misses n call × (ask.due ≤ moment_at (call ∷ []) + (bound.c1 + bound.c2) * far))
+fresh_ask far me bound t call calls n short under ask is level = by (does far me bound t calls n short under call) where
+  old : Timers
+  old = timers_at me t calls n
+
+  next : Timers
+  next = timers_at me t (call ∷ calls) n
+
+  by : Does far me bound n call old next → (old.ask ≡ Some ask) ⊎ (Misses n call × (ask.due ≤ moment_at (call ∷ []) + (bound.c1 + bound.c2) * far))
+  by (inl same) = inl (sym (ap (λ (s : Timers). s.ask) same) ∙ is)
+  by (inr (inl brought)) = absurd (no_ask ask (sym brought.1 ∙ is))
+  by (inr (inr (inl heard))) = inl (asked_fresh heard.constants heard.by.held heard.by.now heard.delay heard.by.word old ask (sym (ap (λ (s : Timers). s.ask) heard.becomes) ∙ is) level)
+  by (inr (inr (inr (inl missed)))) = ⊎_elim
+      (λ (stood : old.ask ≡ Some ask). inl stood)
+      (λ (due : ask.due ≤ moment_at (call ∷ []) + (bound.c1 + bound.c2) * far). inr (missed.0, due))
+      (missed_fresh far bound (moment_at (call ∷ [])) old next ask missed.1 is)
+  by (inr (inr (inr (inr ticks)))) = inl (fired_fresh ticks.constants ticks.now ticks.word old.ask ask (sym (ap (λ (s : Timers). s.ask) ticks.becomes) ∙ is) level)

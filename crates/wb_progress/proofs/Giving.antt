@@ -15,7 +15,7 @@ use Rattle.wb_host.specs.Keeper.{KeeperCall, SetDelay, SetConstants, Hear, Arriv
 use Rattle.wb_progress.specs.Calls.{Brings, Fires, Answers}
 use Rattle.wb_progress.specs.Keepers.{AreWithin}
 use Rattle.wb_progress.specs.Repairs.{timers_at}
-use Rattle.wb_progress.specs.Turns.{longest, Terms, settled_by, Turn, Places, desk_at, has, timers_there, time_of, AreInOrder, until, IsAnswerable, AllHoldBehind, Accepts, WasSent, KeepTimeBut}
+use Rattle.wb_progress.specs.Turns.{longest, Terms, settled_by, Turn, Places, desk_at, has, timers_there, time_of, AreInOrder, until, IsAnswerable, AllHoldBehind, Accepts, WasSent, IsOtherOrLacked, KeepTimeBut}
 use Rattle.wb_progress.proofs.Calls.{quiet_begins}
 use Rattle.wb_progress.proofs.OneCall.{le_true, ticks_answer}
 use Rattle.wb_progress.proofs.Parts.{before_end, order_of, goes_on, joined}
@@ -31,7 +31,14 @@ held_as (x ∷ h) n e = from (held_as h n) (same_name x.name n) refl e where
 pub desk_here : (older : List Turn) (e : Turn) (i : ℕ) → e.place ≡ i → desk_at (e ∷ older) i ≡ e.desk
 desk_here older e i here = ap (λ (b : Bool). cond b e.desk (desk_at older i)) (eq-eqb e.place i here)
 
-module _ {MayStop : NameValue → Type 0} (places : Places) (terms : Terms) (turns : List Turn) (is : KeepTimeBut MayStop places terms turns) where
+-- a name is given up nowhere where it is held
+abbrev pub Spares : (List Turn → Turn → NameValue → Type 0) → NameValue → Type 0
+Spares MayStop n = (older : List Turn) (e : Turn) → has older e.place n ≡ true → MayStop older e n → ⊥
+
+pub spares_held : (n : NameValue) → Spares (IsOtherOrLacked n) n
+spares_held n older e held lacked = true≢false (sym held ∙ lacked refl)
+
+module _ {MayStop : List Turn → Turn → NameValue → Type 0} (places : Places) (terms : Terms) (turns : List Turn) (is : KeepTimeBut MayStop places terms turns) where
   abbrev Live : ℕ → Type 0
   Live i = Contains terms.live i
 
@@ -174,14 +181,15 @@ module _ {MayStop : NameValue → Type 0} (places : Places) (terms : Terms) (tur
     other : Some a ≡ None → ⊥
     other e = cc
 
-  -- it came
-  pub brought : (newer older : List Turn) (e : Turn) (i : ℕ) (n : NameValue) → turns ≡ newer ++ e ∷ older → Live i → settled_by terms < e.time → (c : Called older e i) → Brings n c.call → (MayStop n → ⊥) → Copy n e.time
-  brought newer older e i n split live late c brings stays = by c.call c.accepts brings where
-    quiet : terms.quiet < e.time
-    quiet = omega (arith, late)
+  -- the call gives up the name, for which a request timer stood
+  abbrev pub IsGiven : NameValue → KeeperCall → Type 0
+  IsGiven n call = (now : ℕ) × (call ≡ GiveUp now n true)
 
-    by : (call : KeeperCall) → Accepts older e call → Brings n call → Copy n e.time
-    by (Arrive now names) accepts named = from_fresh newer older e n split (is.fresh.drawops newer older e now names n split late accepts named)
+  -- it came, or was given up
+  pub came_or_given : (newer older : List Turn) (e : Turn) (i : ℕ) (n : NameValue) → turns ≡ newer ++ e ∷ older → Live i → settled_by terms < e.time → (c : Called older e i) → Brings n c.call → Copy n e.time ⊎ IsGiven n c.call
+  came_or_given newer older e i n split live late c brings = by c.call c.accepts brings where
+    by : (call : KeeperCall) → Accepts older e call → Brings n call → Copy n e.time ⊎ IsGiven n call
+    by (Arrive now names) accepts named = inl (from_fresh newer older e n split (is.fresh.drawops newer older e now names n split late accepts named))
     by (GoOn now words stopped) accepts named =
         let here = c.place in
         let live' = subst (Contains terms.live) (sym here) live in
@@ -191,12 +199,19 @@ module _ {MayStop : NameValue → Type 0} (places : Places) (terms : Terms) (tur
         let both = Contains-from_filter (holds (desk_at older e.place).held) (asking (names_of (events_of me calls)) (timers_of (places.constants e.place) (events_of me calls))) n (subst (λ (names : List NameValue). Contains names n) stops named) in
         let asks = Contains-from_filter (λ m. is_some (timers_of (places.constants e.place) (events_of me calls) m).ask) (names_of (events_of me calls)) n both.0 in
         absurd (none_some (timers_there places older e.place n).ask (is.are.lacking (newer ++ e ∷ []) older e.place n (split ∙ sym (append_assoc newer (e ∷ []) older)) live' both.1) asks.1)
-    by (GiveUp now name asked) accepts named = absurd (stays (subst MayStop named ((is.quiet newer older e split quiet).goes_on now name asked accepts)))
+    by (GiveUp now name asked) accepts named = inr (now, ap (λ (m : NameValue). GiveUp now m asked) named.0 ∙ ap (GiveUp now n) named.1)
     by (SetDelay source micros) accepts named = absurd named
     by (SetConstants constants) accepts named = absurd named
     by (Hear now v word held) accepts named = absurd named
     by (Miss now names words) accepts named = absurd named
     by (Report now) accepts named = absurd named
+
+  -- it came, where it is not given up
+  pub brought : (newer older : List Turn) (e : Turn) (i : ℕ) (n : NameValue) → turns ≡ newer ++ e ∷ older → Live i → settled_by terms < e.time → (c : Called older e i) → Brings n c.call → (MayStop older e n → ⊥) → Copy n e.time
+  brought newer older e i n split live late c brings stays = ⊎_elim
+      (λ (k : Copy n e.time). k)
+      (λ (g : IsGiven n c.call). absurd (stays ((is.quiet newer older e split (omega (arith, late))).goes_on g.0 n (c.accepts ∙ ap (λ (k : KeeperCall). k ∷ (desk_at older e.place).calls) g.1))))
+      (came_or_given newer older e i n split live late c brings)
 
   -- it was answered
   pub answered : (newer older : List Turn) (e : Turn) (i : ℕ) (n : NameValue) (answer : AnswerTimer) → turns ≡ newer ++ e ∷ older → Live i → has older i n ≡ true → (timers_there places older i n).answer ≡ Some answer → (c : Called older e i) → Fires answer.due c.call → Copy n e.time

@@ -11,3 +11,4 @@ pub mod Leading
 pub mod NamesApart
 pub mod Setting
 pub mod Rounds
+pub mod Young

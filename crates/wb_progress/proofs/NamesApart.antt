@@ -23,14 +23,14 @@ apart_of (n ∷ names) s = ((λ c. itself (below_all name_total n n names s c)),
   itself : name_cmp n n ≡ Less → ⊥
   itself e = less_greater (sym e ∙ name_total.antisymm n n ∙ ap ordering_reverse e)
 
-pub from_take : (k : ℕ) (names : List NameValue) (n : NameValue) → Contains (take k names) n → Contains names n
-from_take zero [] n c = c
-from_take zero (m ∷ names) n c = absurd (Contains-none n c)
-from_take (suc k) [] n c = c
-from_take (suc k) (m ∷ names) n c = ⊎_elim
-    (λ (e : m ≡ n). subst (λ (x : NameValue). Contains (m ∷ names) x) e (Contains-here m names))
-    (λ (d : Contains (take k names) n). Contains-there m n names (from_take k names n d))
-    (Contains-cases m n (take k names) c)
+pub from_take : {X : Type 0} (k : ℕ) (xs : List X) (x : X) → Contains (take k xs) x → Contains xs x
+from_take zero [] x c = c
+from_take zero (y ∷ xs) x c = absurd (Contains-none x c)
+from_take (suc k) [] x c = c
+from_take {X} (suc k) (y ∷ xs) x c = ⊎_elim
+    (λ (e : y ≡ x). subst (λ (z : X). Contains (y ∷ xs) z) e (Contains-here y xs))
+    (λ (d : Contains (take k xs) x). Contains-there y x xs (from_take k xs x d))
+    (Contains-cases y x (take k xs) c)
 
 pub apart_take : (k : ℕ) (names : List NameValue) → AreApart names → AreApart (take k names)
 apart_take zero [] a = tt

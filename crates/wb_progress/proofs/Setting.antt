@@ -139,7 +139,7 @@ module _ (places : Places) (terms : Terms) (turns : List Turn) (is : KeepTime pl
       let due = waits i n ask live a stands in
       let limit : ℕ = s + wait + terms.late in
       sooner places terms turns is (limit + answering_by terms) (s + wait + repairing terms) n (omega arith)
-      (leads_from places terms turns is i live n a (λ none. none) ask limit (omega (arith, due)) r.newer (until s turns) r.split (at_least s r.newer r.behind) stands (omega (arith, by)))
+      (leads_from places terms turns is i live n a (λ older e held none. none) (until s turns) ask limit (omega (arith, due)) (λ older e none. none) r.newer r.split (at_least s r.newer r.behind) stands (omega (arith, by)))
 
   pub round_comes : (newer part : List Turn) (wait : ℕ) (ask : AskTimer) → WaitsAtMost places terms turns wait → IsAnswerable terms turns n → turns ≡ newer ++ part → known_from terms + wait < time_of part → (timers_there places part i n).ask ≡ Some ask
       → AllHoldBehind terms turns (time_of part + terms.asking * terms.far + repairing terms) n
@@ -151,7 +151,7 @@ module _ (places : Places) (terms : Terms) (turns : List Turn) (is : KeepTime pl
       let due = h.due in
       let limit : ℕ = h.e.time + terms.asking * terms.far + terms.late in
       sooner places terms turns is (limit + answering_by terms) (time_of part + terms.asking * terms.far + repairing terms) n (omega (arith, soon))
-      (leads_from places terms turns is i live n a (λ none. none) h.ask limit (omega (arith, due)) h.newer (h.e ∷ h.older) h.split h.late h.stands (omega arith)))
+      (leads_from places terms turns is i live n a (λ older e held none. none) (h.e ∷ h.older) h.ask limit (omega (arith, due)) (λ older e none. none) h.newer h.split h.late h.stands (omega arith)))
       (asked_since newer part ask split (omega (arith, lt)) stands)
 
 pub rounds_end : RoundsEnd

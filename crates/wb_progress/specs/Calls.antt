@@ -9,7 +9,7 @@ use Rattle.wb_host.specs.Keeper.{KeeperCall, SetDelay, SetConstants, Hear, Arriv
 use Rattle.wb_progress.specs.Keepers.{AreWithin}
 use Rattle.wb_progress.specs.Repairs.{timers_at}
 
--- the name comes by the call: it arrives, a tick finds it held, or it is given up
+-- the name comes by the call: it arrives, a tick finds it held, or it is given up where a request timer stood for it
 abbrev pub Brings : NameValue → KeeperCall → Type 0
 Brings n (SetDelay source micros) = ⊥
 Brings n (SetConstants constants) = ⊥
@@ -18,7 +18,7 @@ Brings n (Arrive now held) = Contains held n
 Brings n (Miss now names words) = ⊥
 Brings n (GoOn now words stopped) = Contains stopped n
 Brings n (Report now) = ⊥
-Brings n (GiveUp now name asked) = name ≡ n
+Brings n (GiveUp now name asked) = (name ≡ n) × (asked ≡ true)
 
 -- a tick to a moment at which a timer is due
 pub record Fires (due : ℕ) (call : KeeperCall) : Type 0 where
@@ -50,10 +50,10 @@ abbrev pub AnswersGoOn : Type 0
 AnswersGoOn = (far me : ℕ) (bound t : Tuning) (call : KeeperCall) (calls : List KeeperCall) (n : NameValue) (answer : AnswerTimer) → AreWithin far bound me t (call ∷ calls) → (timers_at me t calls n).answer ≡ Some answer
     → ((timers_at me t (call ∷ calls) n).answer ≡ Some answer) ⊎ (Brings n call ⊎ Fires answer.due call)
 
--- A request timer stands as it was set, until its name comes, or it fires, or another member asks for the name.
+-- A request timer stands as it was set, until its name comes, and then none does; or it fires, or another member asks for the name.
 abbrev pub RequestsGoOn : Type 0
 RequestsGoOn = (far me : ℕ) (bound t : Tuning) (call : KeeperCall) (calls : List KeeperCall) (n : NameValue) (ask : AskTimer) → AreWithin far bound me t (call ∷ calls) → (timers_at me t calls n).ask ≡ Some ask
-    → ((timers_at me t (call ∷ calls) n).ask ≡ Some ask) ⊎ (Brings n call ⊎ (Fires ask.due call ⊎ Requests me n call))
+    → ((timers_at me t (call ∷ calls) n).ask ≡ Some ask) ⊎ ((Brings n call × ((timers_at me t (call ∷ calls) n).ask ≡ None)) ⊎ (Fires ask.due call ⊎ Requests me n call))
 
 -- an answer timer of the name fires
 abbrev pub Answers : ℕ → Tuning → List KeeperCall → NameValue → KeeperCall → Type 0
@@ -64,10 +64,10 @@ abbrev pub QuietBegins : Type 0
 QuietBegins = (far me : ℕ) (bound t : Tuning) (call : KeeperCall) (calls : List KeeperCall) (n : NameValue) → AreWithin far bound me t (call ∷ calls)
     → ((timers_at me t (call ∷ calls) n).quiet ≡ (timers_at me t calls n).quiet) ⊎ ((Brings n call ⊎ Answers me t calls n call) × ((timers_at me t (call ∷ calls) n).quiet ≤ moment_at (call ∷ calls) + 3 * far))
 
--- A request timer begins to stand as the name is missed, for one wait of the lowest level at most.
+-- A request timer begins to stand as the name is missed, of the lowest level, for one wait of that level at most.
 abbrev pub RequestsBegin : Type 0
 RequestsBegin = (far me : ℕ) (bound t : Tuning) (call : KeeperCall) (calls : List KeeperCall) (n : NameValue) (ask : AskTimer) → AreWithin far bound me t (call ∷ calls) → (timers_at me t calls n).ask ≡ None → (timers_at me t (call ∷ calls) n).ask ≡ Some ask
-    → Misses n call × (ask.due ≤ moment_at (call ∷ calls) + (bound.c1 + bound.c2) * far)
+    → Misses n call × (ask.due ≤ moment_at (call ∷ calls) + (bound.c1 + bound.c2) * far) × (ask.level ≡ 0)
 
 -- A request for a held name finds it quiet, or an answer timer stands behind it, due within the waits of an answer.
 abbrev pub RequestsAreHeard : Type 0

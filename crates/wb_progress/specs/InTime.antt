@@ -1,9 +1,10 @@
 -- By when what is lost comes, where keepers keep to stated times.
-use Rattle.std.specs.Prelude.{◌≡◌, ◌≢◌, ℕ, ◌+◌, ◌-◌, ◌*◌, ◌/◌, ◌<◌, ◌≤◌, false, max, List, [], ◌∷◌, ◌++◌, length, Contains, Some}
+use Rattle.std.specs.Prelude.{◌≡◌, ◌≢◌, ◌⊎◌, ℕ, ◌+◌, ◌-◌, ◌*◌, ◌/◌, ◌<◌, ◌≤◌, true, false, max, List, [], ◌∷◌, ◌++◌, length, Contains, Some}
 use Rattle.wb_names.specs.Values.{NameValue}
 use Rattle.wb_codec.specs.declared.datagram.Datagram.TheVariants.{Request}
 use Rattle.wb_recovery.specs.declared.timers.AskTimer.{AskTimer}
-use Rattle.wb_progress.specs.Turns.{Terms, settled_by, Turn, Places, has, timers_there, time_of, until, IsAnswerable, AllHoldBehind, KeepTime, KeepTimeBut, KeepLooking}
+use Rattle.wb_host.specs.Keeper.{GiveUp}
+use Rattle.wb_progress.specs.Turns.{Terms, settled_by, Turn, Places, has, timers_there, time_of, until, Accepts, IsAnswerable, AllHoldBehind, IsOtherOrLacked, KeepTime, KeepTimeBut, KeepLooking}
 
 -- ---- spans, in microseconds
 
@@ -31,14 +32,33 @@ abbrev pub TimerLeads : Type 0
 TimerLeads = (places : Places) (terms : Terms) (turns newer older : List Turn) (i : ℕ) (n : NameValue) (ask : AskTimer) (due : ℕ) → KeepTime places terms turns → turns ≡ newer ++ older → Contains terms.live i → known_from terms ≤ time_of older
     → (timers_there places older i n).ask ≡ Some ask → ask.due ≤ due + terms.offset i → IsAnswerable terms turns n → AllHoldBehind terms turns (max (time_of older) due + repairing terms) n
 
--- The same of a name that is not given up, where others may be.
+-- So it is of any name, wherever it and others are given up, if it is not where it is held.
 abbrev pub RequestIsAnsweredBut : Type 0
-RequestIsAnsweredBut = (places : Places) (terms : Terms) (turns newer older : List Turn) (e : Turn) (asker : ℕ) (n : NameValue) → KeepTimeBut (λ m. m ≢ n) places terms turns → turns ≡ newer ++ e ∷ older
+RequestIsAnsweredBut = (places : Places) (terms : Terms) (turns newer older : List Turn) (e : Turn) (asker : ℕ) (n : NameValue) → KeepTimeBut (IsOtherOrLacked n) places terms turns → turns ≡ newer ++ e ∷ older
     → settled_by terms < e.time → settled_by terms + 3 * terms.far ≤ e.time → Contains e.sent (Request asker n) → IsAnswerable terms turns n → AllHoldBehind terms turns (e.time + answering_by terms) n
 
+-- A request timer of a name that is not given up, where others may be.
 abbrev pub TimerLeadsBut : Type 0
-TimerLeadsBut = (places : Places) (terms : Terms) (turns newer older : List Turn) (i : ℕ) (n : NameValue) (ask : AskTimer) (due : ℕ) → KeepTimeBut (λ m. m ≢ n) places terms turns → turns ≡ newer ++ older → Contains terms.live i → known_from terms ≤ time_of older
+TimerLeadsBut = (places : Places) (terms : Terms) (turns newer older : List Turn) (i : ℕ) (n : NameValue) (ask : AskTimer) (due : ℕ) → KeepTimeBut (λ older e m. m ≢ n) places terms turns → turns ≡ newer ++ older → Contains terms.live i → known_from terms ≤ time_of older
     → (timers_there places older i n).ask ≡ Some ask → ask.due ≤ due + terms.offset i → IsAnswerable terms turns n → AllHoldBehind terms turns (max (time_of older) due + repairing terms) n
+
+-- a name is given up at a place behind a part, while its timer stands as it was
+pub record IsGivenUp (places : Places) (turns base : List Turn) (i : ℕ) (n : NameValue) (ask : AskTimer) (by : ℕ) : Type 0 where
+  pub front : List Turn
+  pub e : Turn
+  pub between : List Turn
+  pub split : turns ≡ front ++ e ∷ (between ++ base)
+  pub place : e.place ≡ i
+  pub now : ℕ
+  pub given : Accepts (between ++ base) e (GiveUp now n true)
+  pub stands : (timers_there places (between ++ base) i n).ask ≡ Some ask
+  pub soon : e.time ≤ by
+
+-- A request timer leads to such a request, or is given up itself before.
+abbrev pub TimerLeadsOrIsGivenUp : Type 0
+TimerLeadsOrIsGivenUp = (places : Places) (terms : Terms) (turns newer older : List Turn) (i : ℕ) (n : NameValue) (ask : AskTimer) (due : ℕ) → KeepTimeBut (IsOtherOrLacked n) places terms turns → turns ≡ newer ++ older → Contains terms.live i → known_from terms ≤ time_of older
+    → (timers_there places older i n).ask ≡ Some ask → ask.due ≤ due + terms.offset i → IsAnswerable terms turns n
+    → AllHoldBehind terms turns (max (time_of older) due + repairing terms) n ⊎ IsGivenUp places turns older i n ask (max (time_of older) due + terms.late)
 
 -- ---- one round
 

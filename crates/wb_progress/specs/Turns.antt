@@ -116,15 +116,19 @@ pub record IsTurn (places : Places) (terms : Terms) (older : List Turn) (e : Tur
   pub sends : (now : ℕ) (words : List ℕ) (stopped : List NameValue) → Accepts older e (GoOn now words stopped)
       → (v : Datagram) → Contains (sent_by_tick (places.me e.place) (places.constants e.place) (desk_at older e.place).calls (desk_at older e.place).held now) v → Contains e.sent v
 
--- From `quiet` on only some names are given up; what is sent is held, and what is asked for is not.
-pub record IsQuietBut (MayStop : NameValue → Type 0) (places : Places) (older : List Turn) (e : Turn) : Type 0 where
-  pub goes_on : (now : ℕ) (n : NameValue) (asked : Bool) → Accepts older e (GiveUp now n asked) → MayStop n
+-- From `quiet` on a name with a request timer is given up only where it may be; what is sent is held, and what is asked for is not.
+pub record IsQuietBut (MayStop : List Turn → Turn → NameValue → Type 0) (places : Places) (older : List Turn) (e : Turn) : Type 0 where
+  pub goes_on : (now : ℕ) (n : NameValue) → Accepts older e (GiveUp now n true) → MayStop older e n
   pub held : (d : DrawopValue) → Contains e.sent (Draw d) → has older e.place d.name ≡ true
   pub asked : (asker : ℕ) (n : NameValue) → Contains e.sent (Request asker n) → (asker ≡ places.me e.place) × (has older e.place n ≡ false)
 
 -- where it is none
 abbrev pub IsQuietTurn : Places → List Turn → Turn → Type 0
-IsQuietTurn places older e = IsQuietBut (λ n. ⊥) places older e
+IsQuietTurn places older e = IsQuietBut (λ older e n. ⊥) places older e
+
+-- any other name, and this one where it is not held
+abbrev pub IsOtherOrLacked : NameValue → List Turn → Turn → NameValue → Type 0
+IsOtherOrLacked n older e m = m ≡ n → has older e.place n ≡ false
 
 -- ---- the network
 
@@ -196,8 +200,8 @@ pub record AreTurns (places : Places) (terms : Terms) (turns : List Turn) : Type
   pub history : (newer older : List Turn) (i : ℕ) → turns ≡ newer ++ older → Contains terms.live i → IsHistory (desk_at older i).held
   pub lacking : (newer older : List Turn) (i : ℕ) (n : NameValue) → turns ≡ newer ++ older → Contains terms.live i → has older i n ≡ true → (timers_there places older i n).ask ≡ None
 
--- They keep to the terms, and give up only some names.
-pub record KeepTimeBut (MayStop : NameValue → Type 0) (places : Places) (terms : Terms) (turns : List Turn) : Type 0 where
+-- They keep to the terms, and give up names only where they may.
+pub record KeepTimeBut (MayStop : List Turn → Turn → NameValue → Type 0) (places : Places) (terms : Terms) (turns : List Turn) : Type 0 where
   pub order : AreInOrder turns
   pub reported : 1 ≤ terms.reporting
   pub are : AreTurns places terms turns
@@ -210,7 +214,7 @@ pub record KeepTimeBut (MayStop : NameValue → Type 0) (places : Places) (terms
 
 -- They give up none.
 abbrev pub KeepTime : Places → Terms → List Turn → Type 0
-KeepTime places terms turns = KeepTimeBut (λ n. ⊥) places terms turns
+KeepTime places terms turns = KeepTimeBut (λ older e n. ⊥) places terms turns
 
 -- They look at the page as often as the terms say, at no other, and know what they lack.
 pub record KeepLooking (places : Places) (terms : Terms) (turns : List Turn) : Type 0 where

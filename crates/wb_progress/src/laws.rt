@@ -2,7 +2,7 @@
 
 ghost use Rattle.wb_progress.specs.Bounds.{TimersAreBounded};
 ghost use Rattle.wb_progress.specs.Calls.{AnswersGoOn, QuietBegins, RequestsAreHeard, RequestsBegin, RequestsGoOn};
-ghost use Rattle.wb_progress.specs.InTime.{AllComes, RequestIsAnswered, RequestIsAnsweredBut, RoundsEnd, TimerLeads, TimerLeadsBut};
+ghost use Rattle.wb_progress.specs.InTime.{AllComes, RequestIsAnswered, RequestIsAnsweredBut, RoundsEnd, TimerLeads, TimerLeadsBut, TimerLeadsOrIsGivenUp};
 ghost use Rattle.wb_progress.specs.Standing.{AnswersAreKept, QuietHasCause, RequestsAreKept, RequestsAreTaken, RequestsLeadOn};
 ghost use Rattle.wb_progress.specs.Keepers.{DelaysFit, KeepersAreBounded};
 ghost use Rattle.wb_progress.specs.Repairs.{AnswersAreSoon, AskedAnewIsSoon, AskerAsks, GivenUpIsIdle, HolderAnswers, MissesStand, RequestsSet, TicksAnswer, TicksAsk, TicksClear, TicksEnd, TicksLeave};
@@ -69,8 +69,11 @@ pub fn all_comes_in_time()
     ensures all { AllComes }
 {}
 
-/// Of a name that is not given up the first two hold whatever other names are.
+/// The first two hold whatever other names are given up: a request for a name is answered to all if no place
+/// gives the name up that holds it, and a request timer leads to one if the name is not given up. If it is,
+/// the timer leads to one, or its own place gives it up first.
 pub fn what_is_not_given_up_comes()
     ensures answered { RequestIsAnsweredBut }
     ensures leads { TimerLeadsBut }
+    ensures or_given_up { TimerLeadsOrIsGivenUp }
 {}

@@ -102,7 +102,7 @@ module _ (constants : ℕ → Tuning) (terms : Terms) (trace : List TimedLine) (
 
     pub quiet : IsQuietTurn (places constants terms trace timely) (turns_of constants back) (turn_of constants back e)
     quiet = record {
-      goes_on = λ now n asked accepts. let m = made constants back e (GiveUp now n asked) accepts in (timely.drawn front back e split after_quiet).stopped n (m.0.says ∙ ap (λ (l : DriverLine). Ok l) m.1.0);
+      goes_on = λ now n accepts. let m = made constants back e (GiveUp now n true) accepts in (timely.drawn front back e split after_quiet).stopped n (m.0.says ∙ ap (λ (l : DriverLine). Ok l) m.1.0);
       held = draws;
       asked = asks;
     }

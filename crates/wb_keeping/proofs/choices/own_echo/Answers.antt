@@ -1,11 +1,8 @@
-use Rattle.std.proofs.Common.{◌≡◌, ◌∙◌, ◌≤◌, ◌&&◌, ap, filter, nat_eq, nat_lt, subst, sym}
-use Rattle.std.specs.Prelude.{count_by}
-use Rattle.wb_names.specs.Ascending.{AreEchoes, AreMarks}
-use Rattle.wb_names.specs.Values.{MarkValue}
+use Rattle.std.proofs.Common.{◌∙◌, ap, nat_eq, subst, sym}
+use Rattle.wb_names.specs.Ascending.{AreEchoes}
 use Rattle.wb_names.specs.declared.echo.Echo.{Echo}
-use Rattle.wb_keeping.specs.Kept.{heard_later, last_heard, own_echo, own_marks}
-use Rattle.wb_keeping.specs.Reports.{is_untold, slice_after}
-use Rattle.wb_keeping.proofs.Parts.{filtered, taken}
+use Rattle.wb_keeping.specs.Kept.{own_echo}
+use Rattle.wb_keeping.proofs.Parts.{filtered}
 use Rattle.wb_keeping.proofs.choices.own_echo.Goals as goal
 
 pub from_ascending-requires : goal.from_ascending-requires

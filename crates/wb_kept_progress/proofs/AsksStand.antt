@@ -1,0 +1,189 @@
+-- Behind a line by which a host asks for a name its timer stands.
+use Rattle.std.proofs.Common.{◌≡◌, ℕ, Bool, true, false, cond, List, [], ◌∷◌, ◌++◌, ◌∙◌, Option, Some, None, ap, append_assoc, map, refl, subst, sym, ⊎_elim}
+use Rattle.std.specs.Prelude.{Contains, length, nat_eq, nat_le, not, take}
+use Rattle.std.proofs.lemmas.Bool.{and_parts}
+use Rattle.std.proofs.lemmas.List.Elements.{Contains-append_cases}
+use Rattle.wb_names.specs.Values.{NameValue}
+use Rattle.wb_names.specs.declared.name.PageId.{PageId}
+use Rattle.wb_names.proofs.Listings.{Contains-cases, Contains-none}
+use Rattle.wb_gaps.specs.Answers.{pages_of}
+use Rattle.wb_member.specs.Opened.{Opened, asks_for}
+use Rattle.wb_keeping.specs.Fairness.{AnswersWhatIsHeld}
+use Rattle.wb_keeping.specs.Kept.{Arrives, Asks, Doing, Hears, Line, Says, SetsDistance, Stops, Ticks, Tunes, room_lines, state_of, still, stops_oldest, usual_lines, want}
+use Rattle.wb_keeping.specs.Laws.{KeptLine, doing_of, fault_of}
+use Rattle.wb_keeping.specs.Performing.{Keeping, after_doing, after_lines, sees, view_of}
+use Rattle.wb_keeping.specs.Policy.{View, after_wanting, holds, is_asked, is_full, level}
+use Rattle.wb_keeping.specs.Wanting.{goes_on, is_wanted, oldest}
+use Rattle.wb_keeping.specs.declared.wanting.AskedName.{AskedName}
+use Rattle.wb_keeping.proofs.EachStep.{HoldsOfSteps, line_holds}
+use Rattle.wb_keeping.proofs.Performed.{after_both}
+use Rattle.wb_keeping.proofs.StandingTimers.{stands_asked}
+use Rattle.wb_keeping.proofs.Wanted.{is_asked_for, lines_wanted}
+use Rattle.wb_keeping.proofs.WantedNames.{lines_answer_held, wanted_is_asked}
+use Rattle.wb_kept_progress.proofs.WantedIn.{IsAskedInCall}
+
+-- ---- lines that ask for nothing
+
+abbrev IsNoAsk : Line → Type 0
+IsNoAsk (Asks name) = ⊥
+IsNoAsk line = Unit {0}
+
+abbrev AreNoAsks : List Line → Type 0
+AreNoAsks [] = Unit {0}
+AreNoAsks (line ∷ lines) = IsNoAsk line × AreNoAsks lines
+
+none_asks : (n : NameValue) (lines : List Line) → AreNoAsks lines → Contains lines (Asks n) → ⊥
+none_asks n [] none c = Contains-none (Asks n) c
+none_asks n (line ∷ lines) none c = ⊎_elim
+    (λ (e : line ≡ Asks n). subst IsNoAsk e none.0)
+    (λ (rest : Contains lines (Asks n)). none_asks n lines none.1 rest)
+    (Contains-cases line (Asks n) lines c)
+
+oldest_none : (o : Option AskedName) → AreNoAsks (stops_oldest o)
+oldest_none None = tt
+oldest_none (Some a) = (tt, tt)
+
+room_none : (name : NameValue) (v : View) → AreNoAsks (room_lines name v)
+room_none name v = by (is_asked v name) (nat_le 64 (length v.asked)) where
+  by : (a b : Bool) → AreNoAsks (cond a (Stops name ∷ []) (cond b (stops_oldest (oldest v.asked)) []))
+  by true b = (tt, tt)
+  by false true = oldest_none (oldest v.asked)
+  by false false = tt
+
+usual_none : (source distance : ℕ) (usual : Option ℕ) → AreNoAsks (usual_lines source distance usual)
+usual_none source distance None = tt
+usual_none source distance (Some u) = by (nat_eq distance 100000) where
+  by : (b : Bool) → AreNoAsks (cond b (SetsDistance source u ∷ []) [])
+  by true = (tt, tt)
+  by false = tt
+
+says_none : (v : View) (pages : List PageId) → AreNoAsks (map (λ page. Says (state_of v page)) pages)
+says_none v [] = tt
+says_none v (page ∷ pages) = (tt, says_none v pages)
+
+-- ---- each step of a policy
+
+-- the timer stands behind the line
+record Stands (lines : List Line) (host : Opened) (n : NameValue) : Type 0 where
+  before : List Line
+  later : List Line
+  split : lines ≡ before ++ Asks n ∷ later
+  stands : asks_for n (after_lines (before ++ Asks n ∷ []) host) ≡ true
+
+record AsksStand (k : Keeping) (lines : List Line) (m : Keeping) : Type 0 where
+  at : m.host ≡ after_lines lines k.host
+  stand : AnswersWhatIsHeld k.host → (n : NameValue) → Contains lines (Asks n) → Stands lines k.host n
+
+asks_nothing : (k : Keeping) (lines : List Line) (m : Keeping) → m.host ≡ after_lines lines k.host → AreNoAsks lines → AsksStand k lines m
+asks_nothing k lines m at none = record { at = at; stand = λ answers_held n c. absurd (none_asks n lines none c) }
+
+both_stand : (k m l : Keeping) (one other : List Line) → AsksStand k one m → AsksStand m other l → AsksStand k (one ++ other) l
+both_stand k m l one other a b = record { at = b.at ∙ ap (after_lines other) a.at ∙ sym (after_both one other k.host); stand = stand } where
+  stand : AnswersWhatIsHeld k.host → (n : NameValue) → Contains (one ++ other) (Asks n) → Stands (one ++ other) k.host n
+  stand answers_held n c = ⊎_elim
+      (λ (here : Contains one (Asks n)).
+      let s = a.stand answers_held n here in
+      record { before = s.before; later = s.later ++ other; split = ap (λ (ls : List Line). ls ++ other) s.split ∙ append_assoc s.before (Asks n ∷ s.later) other; stands = s.stands })
+      (λ (there : Contains other (Asks n)).
+      let then : AnswersWhatIsHeld m.host = subst AnswersWhatIsHeld (sym a.at) (λ name. lines_answer_held name one k.host (answers_held name)) in
+      let s = b.stand then n there in
+      record {
+        before = one ++ s.before;
+        later = s.later;
+        split = ap (λ (ls : List Line). one ++ ls) s.split ∙ sym (append_assoc one s.before (Asks n ∷ s.later));
+        stands =
+            ap (λ (ls : List Line). asks_for n (after_lines ls k.host)) (append_assoc one s.before (Asks n ∷ []))
+            ∙ ap (asks_for n) (after_both one (s.before ++ Asks n ∷ []) k.host)
+            ∙ ap (λ (h : Opened). asks_for n (after_lines (s.before ++ Asks n ∷ []) h)) (sym a.at)
+            ∙ s.stands;
+      })
+      (Contains-append_cases one other (Asks n) c)
+
+wants_stand : (name : NameValue) (anew : Bool) (k : Keeping) → AsksStand k (want name anew (sees k.host) k.policy).lines (after_doing (want name anew) k)
+wants_stand name anew k = record { at = refl; stand = λ answers_held n c. by answers_held n (is_wanted (holds v name) (is_full v) anew (level v name) k.policy.owed v.now) refl c } where
+  v : View
+  v = view_of k.host
+
+  first : List Line
+  first = room_lines name v
+
+  usual : List Line
+  usual = usual_lines name.source (v.distance name.source) k.policy.usual
+
+  wanted : Doing
+  wanted = record { policy = after_wanting v.now k.policy; lines = lines_wanted name anew (sees k.host) k.policy }
+
+  so : Bool → Doing
+  so b = cond b wanted (still (sees k.host) k.policy)
+
+  same_name : (n : NameValue) → Asks name ≡ Asks n → name ≡ n
+  same_name n e = cc
+
+  only : (n : NameValue) → Contains (first ++ (usual ++ Asks name ∷ [])) (Asks n) → name ≡ n
+  only n c = ⊎_elim
+      (λ (in_first : Contains first (Asks n)). absurd (none_asks n first (room_none name v) in_first))
+      (λ (rest : Contains (usual ++ Asks name ∷ []) (Asks n)). ⊎_elim
+      (λ (in_usual : Contains usual (Asks n)). absurd (none_asks n usual (usual_none name.source (v.distance name.source) k.policy.usual) in_usual))
+      (λ (last : Contains (Asks name ∷ []) (Asks n)). ⊎_elim (same_name n) (λ (none : Contains [] (Asks n)). absurd (Contains-none (Asks n) none)) (Contains-cases (Asks name) (Asks n) [] last))
+      (Contains-append_cases usual (Asks name ∷ []) (Asks n) rest))
+      (Contains-append_cases first (usual ++ Asks name ∷ []) (Asks n) c)
+
+  flipped : (b : Bool) → not b ≡ true → b ≡ false
+  flipped true e = sym e
+  flipped false e = refl
+
+  asked : AnswersWhatIsHeld k.host → is_wanted (holds v name) (is_full v) anew (level v name) k.policy.owed v.now ≡ true
+      → asks_for name (after_lines (first ++ (usual ++ Asks name ∷ [])) k.host) ≡ true
+  asked answers_held e =
+      let one = and_parts (not (holds v name)) _ e in
+      let two = and_parts (not (is_full v)) _ one.1 in
+      let three = and_parts (not (goes_on anew (level v name))) _ two.1 in
+      ap (λ (d : Doing). asks_for name (after_lines d.lines k.host)) (sym (is_asked_for name anew (sees k.host) k.policy e))
+      ∙ stands_asked (after_doing (want name anew) k).host name
+      (wanted_is_asked name anew k answers_held (flipped (holds v name) one.0) (flipped (is_full v) two.0) three.1)
+
+  by : AnswersWhatIsHeld k.host → (n : NameValue) (b : Bool) → is_wanted (holds v name) (is_full v) anew (level v name) k.policy.owed v.now ≡ b
+      → Contains (so b).lines (Asks n) → Stands (so b).lines k.host n
+  by answers_held n false e c = absurd (Contains-none (Asks n) c)
+  by answers_held n true e c = subst (Stands (first ++ (usual ++ Asks name ∷ [])) k.host) (only n c) (record {
+    before = first ++ usual;
+    later = [];
+    split = sym (append_assoc first usual (Asks name ∷ []));
+    stands = ap (λ (ls : List Line). asks_for name (after_lines ls k.host)) (append_assoc first usual (Asks name ∷ [])) ∙ asked answers_held e;
+  })
+
+steps_stand : HoldsOfSteps AsksStand
+steps_stand = record {
+  nothing = λ k. asks_nothing k [] k refl tt;
+  both = both_stand;
+  ticks = λ now k later. asks_nothing k (Ticks now ∷ []) _ refl (tt, tt);
+  arrives = λ d k. asks_nothing k (Arrives d ∷ []) _ refl (tt, tt);
+  answered = λ d k lacks asked. asks_nothing k (Arrives d ∷ []) _ refl (tt, tt);
+  hears = λ v k. asks_nothing k (Hears v ∷ []) _ refl (tt, tt);
+  stops = λ name k full. asks_nothing k (Stops name ∷ []) _ refl (tt, tt);
+  sets = λ source micros k. asks_nothing k _ _ refl (tt, tt);
+  tunes = λ constants k within. asks_nothing k (Tunes constants ∷ []) _ refl (tt, tt);
+  wants = wants_stand;
+  draws = λ d k. asks_nothing k _ _ refl (tt, tt);
+  turned = λ t k. asks_nothing k [] _ refl tt;
+  measured = λ micros k. asks_nothing k [] _ refl tt;
+  told = λ k. asks_nothing k [] _ refl tt;
+  takes_up = λ k is. asks_nothing k [] _ refl tt;
+  answers = λ k is. asks_nothing k _ _ refl (says_none (view_of k.host) (take 64 (pages_of k.host.is.held)));
+  asks_pages = λ k is. asks_nothing k _ _ refl (tt, tt);
+  reports = λ page told k is. asks_nothing k _ _ refl (tt, tt);
+}
+
+-- ---- calls
+
+in_call : (n : NameValue) (line : KeptLine) (k : Keeping) → Stands (doing_of line (sees k.host) k.policy).lines k.host n → IsAskedInCall n (doing_of line) k
+in_call n line k s = by s.before s.split s.stands where
+  by : (before : List Line) → (doing_of line (sees k.host) k.policy).lines ≡ before ++ Asks n ∷ s.later
+      → asks_for n (after_lines (before ++ Asks n ∷ []) k.host) ≡ true → IsAskedInCall n (doing_of line) k
+  by [] split stands = record { first = Asks n; before = []; later = s.later; lines = split; stands = stands }
+  by (x ∷ before) split stands = record { first = x; before = before ++ Asks n ∷ []; later = s.later; lines = split ∙ ap (λ (ls : List Line). x ∷ ls) (sym (append_assoc before (Asks n ∷ []) s.later)); stands = stands }
+
+-- what a call asks for has its timer behind that
+pub asks_stand : (line : KeptLine) (k : Keeping) (n : NameValue) → fault_of line k ≡ None → AnswersWhatIsHeld k.host
+    → Contains (doing_of line (sees k.host) k.policy).lines (Asks n) → IsAskedInCall n (doing_of line) k
+asks_stand line k n none answers_held c = in_call n line k ((line_holds AsksStand steps_stand line k none).stand answers_held n c)

@@ -1,0 +1,385 @@
+-- A session of hosts that keep themselves becomes whole: while something is lacked that some hold, something new comes in each step.
+use Rattle.std.proofs.Common.{◌≡◌, ℕ, ◌+◌, ◌*◌, ◌<◌, ◌≤◌, Bool, true, false, cond, List, [], ◌∷◌, ◌++◌, ◌∙◌, ap, append-nil, append_assoc, arith, inl, inr, refl, subst, suc, sym, zero, ⊎_elim, true≢false, get_or}
+use Rattle.std.specs.Prelude.{◌⊎◌, Contains, length, nat_eq}
+use Rattle.std.proofs.lemmas.List.{append_cancel_left, get_or_append_left}
+use Rattle.std.proofs.lemmas.Bool.Decides.{leb_tells}
+use Rattle.wb_names.specs.Arrivals.{Outcome, Fresh, Known, Clashed, Left, history_with, outcome_of}
+use Rattle.wb_names.specs.History.{IsHistory}
+use Rattle.wb_names.specs.Values.{DrawopValue, NameValue}
+use Rattle.std.proofs.lemmas.List.Elements.{Contains-append_left, Contains-append_right}
+use Rattle.wb_names.proofs.Listings.{Contains-cases, Contains-here, Contains-none, Contains-there}
+use Rattle.wb_codec.specs.declared.datagram.Datagram.TheVariants.{Draw, Session, Request, AskPages, PageState}
+use Rattle.wb_host.proofs.KeptCalls.{holds_from}
+use Rattle.wb_progress.specs.InTime.{known_from, repairing}
+use Rattle.wb_progress.specs.Turns.{Terms, settled_by}
+use Rattle.wb_progress.proofs.Giving.{held_as}
+use Rattle.wb_host.specs.Keeper.{holds as history_holds}
+use Rattle.wb_member.specs.Judged.{holds}
+use Rattle.wb_member.specs.Members.{Misses}
+use Rattle.wb_member.specs.Opened.{Opened, accepted, doing, has_room_for, heard, may_ask, present}
+use Rattle.wb_member.specs.Random.{word_of}
+use Rattle.wb_keeping.specs.Kept.{Line, Arrives, Asks, Hears, Says, SetsDistance, Stops, Ticks, Tunes}
+use Rattle.wb_keeping.specs.Laws.{doing_of}
+use Rattle.wb_keeping.specs.Performing.{Keeping, after_doing, after_line, after_lines, sees}
+use Rattle.wb_kept_progress.specs.Sessions.{Opening, kept_at}
+use Rattle.wb_kept_progress.specs.Timed.{AllKeptHoldBehind, Performed, TimedLine, called_at, host_after, lines_of, performed, start_of, time_of, until}
+use Rattle.wb_kept_progress.specs.Whole.{AreApart, AreCalledInOrder, IsHeldBySome, IsLackedAt, Lack, SessionsBecomeWhole, Sizes, report_span, request_span, step, there, whole_by}
+use Rattle.wb_kept_progress.proofs.CallLines.{lines_have_calls}
+use Rattle.wb_kept_progress.proofs.CallsInTime.{performed_is_timely}
+use Rattle.wb_kept_progress.proofs.Causes.{asks_have_cause}
+use Rattle.wb_kept_progress.proofs.GivenUp.{timer_leads_or_is_given_up}
+use Rattle.wb_kept_progress.proofs.LackWanted.{lack_is_wanted}
+use Rattle.wb_kept_progress.proofs.NoCredit.{no_credit_is_asked}
+use Rattle.wb_kept_progress.proofs.NothingNew.{held_was_held}
+use Rattle.wb_kept_progress.proofs.OwedAndDue.{reports_are_due}
+use Rattle.wb_kept_progress.proofs.Spent.{credit_is_spent}
+use Rattle.wb_kept_progress.proofs.Stillness.{stillness_ends}
+use Rattle.wb_kept_progress.proofs.StopCauses.{stops_have_cause}
+use Rattle.wb_kept_progress.proofs.Young.{timers_are_young}
+use Rattle.wb_kept_progress.proofs.CallParts.{calls_order, due_by_report, lacked_until, lines_end}
+use Rattle.wb_kept_progress.proofs.KeptInTime.{front_of}
+use Rattle.wb_kept_progress.proofs.Repairs.{held_once}
+use Rattle.wb_kept_progress.proofs.WholeParts.{HasNoCredit, HeldWasHeld, Holds, IsAsking, IsStill, LackIsWanted, NoCreditIsAsked, ReportsAreDue, StillnessEnds}
+
+-- ---- what is held is followed by what comes
+
+record Appends (old new : List DrawopValue) : Type 0 where
+  more : List DrawopValue
+  is : new ≡ old ++ more
+
+nothing : (held : List DrawopValue) → Appends held held
+nothing held = record { more = []; is = sym (append-nil held) }
+
+joined : (a b c : List DrawopValue) → Appends a b → Appends b c → Appends a c
+joined a b c one two = record { more = one.more ++ two.more; is = two.is ∙ ap (λ (h : List DrawopValue). h ++ two.more) one.is ∙ append_assoc a one.more two.more }
+
+with_appends : (h : List DrawopValue) (d : DrawopValue) (o : Outcome) → Appends h (history_with h d o)
+with_appends h d (Fresh i) = record { more = d ∷ []; is = refl }
+with_appends h d (Known i) = nothing h
+with_appends h d (Clashed i) = nothing h
+with_appends h d Left = nothing h
+
+accepts : (d : DrawopValue) (host : Opened) → Appends host.is.held (accepted d host).is.held
+accepts d host = with_appends host.is.held d (outcome_of host.is.cells host.is.held d)
+
+line_appends : (line : Line) (host : Opened) → Appends host.is.held (after_line line host).is.held
+line_appends (Ticks now) host = nothing host.is.held
+line_appends (Arrives d) host = accepts d host
+line_appends (Hears v) host = by (has_room_for v host) where
+  by : (b : Bool) → Appends host.is.held (cond b (heard v host) host).is.held
+  by true = nothing host.is.held
+  by false = nothing host.is.held
+line_appends (Asks name) host = by (may_ask name host) where
+  by : (b : Bool) → Appends host.is.held (cond b (doing (Misses (present host) (name ∷ []) (word_of host.random ∷ [])) 1 host) host).is.held
+  by true = nothing host.is.held
+  by false = nothing host.is.held
+line_appends (Stops name) host = nothing host.is.held
+line_appends (SetsDistance source micros) host = nothing host.is.held
+line_appends (Tunes constants) host = nothing host.is.held
+line_appends (Says (Draw d)) host = accepts d host
+line_appends (Says (Session sender sent page marks echoes)) host = nothing host.is.held
+line_appends (Says (Request asker name)) host = nothing host.is.held
+line_appends (Says (AskPages asker)) host = nothing host.is.held
+line_appends (Says (PageState sender page marks)) host = nothing host.is.held
+
+lines_append : (lines : List Line) (host : Opened) → Appends host.is.held (after_lines lines host).is.held
+lines_append [] host = nothing host.is.held
+lines_append (line ∷ lines) host = joined host.is.held (after_line line host).is.held (after_lines lines (after_line line host)).is.held (line_appends line host) (lines_append lines (after_line line host))
+
+-- nothing follows where the end is the beginning
+nothing_more : (a b c : List DrawopValue) (one : Appends a b) (two : Appends b c) → c ≡ a → b ≡ a
+nothing_more a b c one two same = one.is ∙ ap (λ (m : List DrawopValue). a ++ m) (first one.more two.more none) ∙ append-nil a where
+  none : one.more ++ two.more ≡ []
+  none = append_cancel_left a (one.more ++ two.more) [] (sym (append_assoc a one.more two.more) ∙ ap (λ (h : List DrawopValue). h ++ two.more) (sym one.is) ∙ sym two.is ∙ same ∙ sym (append-nil a))
+
+  first : (x y : List DrawopValue) → x ++ y ≡ [] → x ≡ []
+  first [] y e = refl
+  first (d ∷ x) y e = absurd (no e) where
+    no : d ∷ (x ++ y) ≡ [] → ⊥
+    no f = cc
+
+-- what follows in a history has another name than all before
+apart : (h more : List DrawopValue) (d x : DrawopValue) → IsHistory (h ++ d ∷ more) → Contains h x → x.name ≡ d.name → ⊥
+apart h more d x once c same =
+    once c.0 (length h) x c.1 (within h)
+    (ap (λ (y : DrawopValue). y.name) (get_or_append_left h (d ∷ more) x c.0 c.1 ∙ c.2) ∙ same ∙ sym (ap (λ (y : DrawopValue). y.name) (at_end h))) where
+      within : (h : List DrawopValue) → length h < length (h ++ d ∷ more)
+      within [] = omega arith
+      within (y ∷ h) = let rest = within h in omega (arith, rest)
+
+      at_end : (h : List DrawopValue) → get_or (h ++ d ∷ more) (length h) x ≡ d
+      at_end [] = refl
+      at_end (y ∷ h) = at_end h
+
+new_name : (h more : List DrawopValue) (d : DrawopValue) → IsHistory (h ++ d ∷ more) → history_holds h d.name ≡ true → ⊥
+new_name h more d once held = let x = held_as h d.name held in apart h more d x.0 once x.1 x.2
+
+-- ---- what hosts hold after calls
+
+module _ (hosts : ℕ → Opening) where
+  abbrev held_at : List TimedLine → ℕ → List DrawopValue
+  held_at calls i = (there hosts calls i).host.is.held
+
+  call_appends : (e : TimedLine) (older : List TimedLine) (i : ℕ) → Appends (held_at older i) (held_at (e ∷ older) i)
+  call_appends e older i = by (nat_eq e.at.place i) where
+    k : Keeping
+    k = there hosts older i
+
+    by : (b : Bool) → Appends (held_at older i) (cond b (after_doing (doing_of e.at.line) k) k).host.is.held
+    by true = lines_append (doing_of e.at.line (sees k.host) k.policy).lines k.host
+    by false = nothing (held_at older i)
+
+  appends : (front part : List TimedLine) (i : ℕ) → Appends (held_at part i) (held_at (front ++ part) i)
+  appends [] part i = nothing (held_at part i)
+  appends (e ∷ front) part i = joined (held_at part i) (held_at (front ++ part) i) (held_at (e ∷ (front ++ part)) i) (appends front part i) (call_appends e (front ++ part) i)
+
+  -- what is held stays
+  held_on : (front part : List TimedLine) (i : ℕ) (n : NameValue) → holds (there hosts part i).host n ≡ true → holds (there hosts (front ++ part) i).host n ≡ true
+  held_on front part i n h =
+      let a = appends front part i in
+      let d = held_as (held_at part i) n h in
+      holds_from (held_at (front ++ part) i) n d.0 (subst (λ (held : List DrawopValue). Contains held d.0) (sym a.is) (Contains-append_left (held_at part i) a.more d.0 d.1)) d.2
+
+  lacked_before : (front part : List TimedLine) (i : ℕ) (n : NameValue) → holds (there hosts (front ++ part) i).host n ≡ false → holds (there hosts part i).host n ≡ false
+  lacked_before front part i n lacks = by (holds (there hosts part i).host n) refl where
+    by : (b : Bool) → holds (there hosts part i).host n ≡ b → b ≡ false
+    by false e = refl
+    by true e = absurd (true≢false (sym (held_on front part i n e) ∙ lacks))
+
+  -- ---- something new, or nothing
+
+  -- a live host got something new
+  record Gains (live : List ℕ) (window base : List TimedLine) : Type 0 where
+    place : ℕ
+    among : Contains live place
+    name : NameValue
+    held : holds (there hosts (window ++ base) place).host name ≡ true
+    lacked : holds (there hosts base place).host name ≡ false
+
+  abbrev AreSame : List ℕ → List TimedLine → List TimedLine → Type 0
+  AreSame live window base = (i : ℕ) → Contains live i → held_at (window ++ base) i ≡ held_at base i
+
+  one_gains : (window base : List TimedLine) (i : ℕ) → IsHistory (held_at (window ++ base) i)
+      → (held_at (window ++ base) i ≡ held_at base i) ⊎ ((n : NameValue) × (holds (there hosts (window ++ base) i).host n ≡ true) × (holds (there hosts base i).host n ≡ false))
+  one_gains window base i once = by (appends window base i) where
+    by : Appends (held_at base i) (held_at (window ++ base) i)
+        → (held_at (window ++ base) i ≡ held_at base i) ⊎ ((n : NameValue) × (holds (there hosts (window ++ base) i).host n ≡ true) × (holds (there hosts base i).host n ≡ false))
+    by a = from a.more a.is where
+      from : (more : List DrawopValue) → held_at (window ++ base) i ≡ held_at base i ++ more
+          → (held_at (window ++ base) i ≡ held_at base i) ⊎ ((n : NameValue) × (holds (there hosts (window ++ base) i).host n ≡ true) × (holds (there hosts base i).host n ≡ false))
+      from [] is = inl (is ∙ append-nil (held_at base i))
+      from (d ∷ more) is = inr (
+        d.name,
+        holds_from (held_at (window ++ base) i) d.name d (subst (λ (h : List DrawopValue). Contains h d) (sym is) (Contains-append_right (held_at base i) (d ∷ more) d (Contains-here d more))) refl,
+        lacked (history_holds (held_at base i) d.name) refl,
+      ) where
+        lacked : (b : Bool) → history_holds (held_at base i) d.name ≡ b → b ≡ false
+        lacked false e = refl
+        lacked true e = absurd (new_name (held_at base i) more d (subst IsHistory is once) e)
+
+  gains : (live : List ℕ) (window base : List TimedLine) → ((i : ℕ) → IsHistory (held_at (window ++ base) i)) → AreSame live window base ⊎ Gains live window base
+  gains [] window base once = inl (λ i c. absurd (Contains-none i c))
+  gains (i ∷ live) window base once = ⊎_elim
+      (λ (same : held_at (window ++ base) i ≡ held_at base i). ⊎_elim
+      (λ (rest : AreSame live window base). inl (λ j c. ⊎_elim (λ (here : i ≡ j). subst (λ (k : ℕ). held_at (window ++ base) k ≡ held_at base k) here same) (λ (later : Contains live j). rest j later) (Contains-cases i j live c)))
+      (λ (g : Gains live window base). inr (record { place = g.place; among = Contains-there i g.place live g.among; name = g.name; held = g.held; lacked = g.lacked }))
+      (gains live window base once))
+      (λ (g : (n : NameValue) × (holds (there hosts (window ++ base) i).host n ≡ true) × (holds (there hosts base i).host n ≡ false)).
+      inr (record { place = i; among = Contains-here i live; name = g.0; held = g.1; lacked = g.2 }))
+      (one_gains window base i (once i))
+
+-- ---- a session
+
+module _ (hosts : ℕ → Opening) (terms : Terms) (trace : List TimedLine) (sizes : Sizes) (wait most : ℕ) (all : Holds hosts terms trace sizes wait most)
+    (was_held : HeldWasHeld) (due_soon : ReportsAreDue) (wanted : LackIsWanted) (no_credit : NoCreditIsAsked) (ends : StillnessEnds) where
+  abbrev Lacks : List TimedLine → ℕ → NameValue → Type 0
+  Lacks part i n = Contains terms.live i × (holds (there hosts part i).host n ≡ false)
+
+  abbrev start : ℕ
+  start = known_from terms + wait + repairing terms
+
+  -- ---- calls come one after the other soon enough
+
+  gap : (newer older : List TimedLine) (e : TimedLine) (i : ℕ) → trace ≡ newer ++ e ∷ older → Contains terms.live i → e.time ≤ called_at older + report_span terms
+  gap newer older e i split live =
+      let soon = all.session.soon newer older e i split live in
+      let due_by = due_soon hosts terms trace (newer ++ e ∷ []) older i all.session (split ∙ sym (append_assoc newer (e ∷ []) older)) live in
+      let least = due_by_report (there hosts older i) in
+      omega (arith, soon, due_by, least)
+
+  -- the first part behind a time
+  record IsReached (later : List TimedLine) (s : ℕ) : Type 0 where
+    window : List TimedLine
+    base : List TimedLine
+    split : later ≡ window ++ base
+    from : s < called_at base
+    soon : called_at base ≤ s + report_span terms
+
+  reached : (newer later : List TimedLine) (s i : ℕ) → trace ≡ newer ++ later → Contains terms.live i → s < called_at later → IsReached later s
+  reached newer [] s i split live lt = absurd (omega (arith, lt))
+  reached newer (e ∷ older) s i split live lt = ⊎_elim
+      (λ no. let g = gap newer older e i split live in let le = no.1 in record { window = []; base = e ∷ older; split = refl; from = lt; soon = omega (arith, g, le) })
+      (λ yes.
+      let r = reached (newer ++ e ∷ []) older s i (split ∙ sym (append_assoc newer (e ∷ []) older)) live yes.1 in
+      record { window = e ∷ r.window; base = r.base; split = ap (λ (t : List TimedLine). e ∷ t) r.split; from = r.from; soon = r.soon })
+      (leb_tells (called_at older) s)
+
+  -- ---- a still window in which something is lacked
+
+  ordered : (newer part : List TimedLine) → trace ≡ newer ++ part → AreCalledInOrder part
+  ordered newer part split = calls_order newer part (subst AreCalledInOrder split all.session.order)
+
+  -- a still window ends by then
+  abbrev still_by : ℕ → ℕ
+  still_by from = from + 21000000 + request_span terms + (sizes.slices + 2 * sizes.numbers * sizes.holes) * report_span terms + terms.delivery + most * request_span terms + repairing terms
+
+  module _ (newest window base : List TimedLine) (still : IsStill hosts terms trace newest window base) (late : start ≤ called_at base) (i : ℕ) (live : Contains terms.live i) (n : NameValue) (held : IsHeldBySome hosts terms trace n)
+      (lacks : holds (there hosts base i).host n ≡ false) where
+    abbrev from : ℕ
+    from = called_at base + 21000000 + request_span terms
+
+    abbrev by : ℕ
+    by = from + (sizes.slices + 2 * sizes.numbers * sizes.holes) * report_span terms + terms.delivery
+
+    -- it asks for what some hold
+    asking : (back : List Performed) → IsAsking hosts terms trace (window ++ base) i back → called_at base + request_span terms < time_of back → time_of back ≤ by → called_at (window ++ base) ≤ still_by (called_at base)
+    asking back a behind soon = let e = ends hosts terms trace newest window base sizes wait most i back all still late live a behind in omega (arith, e, soon)
+
+    -- what is still in a window is so in a part of it
+    still_part : (front part : List TimedLine) → window ≡ front ++ part → IsStill hosts terms trace (newest ++ front) part base
+    still_part front part is = record {
+      split = still.split ∙ ap (λ (t : List TimedLine). newest ++ (t ++ base)) is ∙ ap (λ (t : List TimedLine). newest ++ t) (append_assoc front part base) ∙ sym (append_assoc newest front (part ++ base));
+      same = λ before rest j split live_j. still.same (front ++ before) rest j (is ∙ ap (λ (t : List TimedLine). front ++ t) split ∙ sym (append_assoc front before rest)) live_j;
+    }
+
+    without : (front part : List TimedLine) → window ≡ front ++ part → from < called_at (part ++ base) → called_at (part ++ base) ≤ by
+        → HasNoCredit hosts terms (part ++ base) i → called_at (window ++ base) ≤ still_by (called_at base)
+    without front part is behind soon none =
+        let s = still_part front part is in
+        let found = no_credit hosts terms trace (newest ++ front) part base [] part sizes wait most i all s late live refl (omega (arith, behind)) none in
+        let back = found.0 in
+        let a = found.1 in
+        let since = found.2 in
+        let last : time_of back ≤ called_at (part ++ base) = lines_end hosts (part ++ base) a.front back (ordered (newest ++ front) (part ++ base) s.split) a.split in
+        asking back (widened front part is back a) (omega (arith, since, behind)) (omega (arith, last, soon)) where
+          widened : (front part : List TimedLine) → window ≡ front ++ part → (back : List Performed) → IsAsking hosts terms trace (part ++ base) i back → IsAsking hosts terms trace (window ++ base) i back
+          widened front part is back a =
+              let f = front_of hosts front (part ++ base) in record {
+                front = f.0 ++ a.front;
+                split = ap (λ (t : List TimedLine). performed hosts (t ++ base)) is ∙ ap (performed hosts) (append_assoc front part base) ∙ f.1 ∙ ap (λ (t : List Performed). f.0 ++ t) a.split ∙ sym (append_assoc f.0 a.front back);
+                name = a.name;
+                ask = a.ask;
+                stands = a.stands;
+                held = a.held;
+              }
+
+    pub ends_soon : called_at (window ++ base) ≤ still_by (called_at base)
+    ends_soon = ⊎_elim
+        (λ no. let le = no.1 in omega (arith, le))
+        (λ yes.
+        let w = wanted hosts terms trace newest window base sizes wait most i from n all still late live held lacks (omega arith) yes.1 in
+        let behind = w.behind in
+        ⊎_elim
+        (λ (a : (back : List Performed) × IsAsking hosts terms trace (window ++ base) i back × (time_of back ≡ called_at (w.part ++ base))).
+        let at = a.2 in
+        let soon = w.soon in
+        asking a.0 a.1 (omega (arith, at, behind)) (omega (arith, at, soon)))
+        (λ (none : HasNoCredit hosts terms (w.part ++ base) i). without w.front w.part w.split behind w.soon none)
+        w.wants)
+        (leb_tells (called_at (window ++ base)) by)
+
+  -- ---- step by step
+
+  abbrev at_step : ℕ → ℕ
+  at_step k = start + k * step terms sizes most
+
+  -- So many are lacked at first that are held behind so many steps, but for the last of them.
+  record AreFilled (part : List TimedLine) (i : ℕ) (n : NameValue) (k : ℕ) : Type 0 where
+    lacks : List Lack
+    apart : AreApart lacks
+    count : length lacks ≡ k + 1
+    first : (x : Lack) → Contains lacks x → IsLackedAt hosts terms trace (until (settled_by terms) (performed hosts trace)) x
+    then : (x : Lack) → Contains lacks x → (x ≡ record { place = i; name = n }) ⊎ (holds (there hosts part x.place).host x.name ≡ true)
+
+  -- what is lacked behind a time is lacked before
+  lacked_first : (newer part : List TimedLine) (i : ℕ) (n : NameValue) → trace ≡ newer ++ part → start < called_at part → Contains terms.live i → IsHeldBySome hosts terms trace n → holds (there hosts part i).host n ≡ false
+      → IsLackedAt hosts terms trace (until (settled_by terms) (performed hosts trace)) (record { place = i; name = n })
+  lacked_first newer part i n split late live held lacks = (
+    live,
+    held,
+    subst (λ (t : List TimedLine). holds (host_after (λ j. start_of (hosts j)) (until (settled_by terms) (performed hosts t)) i) n ≡ false) (sym split)
+        (lacked_until hosts all.session.opened newer part (settled_by terms) i n (subst AreCalledInOrder split all.session.order) (omega (arith, late)) lacks),
+  )
+
+  filled : (k : ℕ) (newer part : List TimedLine) (i : ℕ) (n : NameValue) → trace ≡ newer ++ part → at_step k < called_at part → Contains terms.live i → IsHeldBySome hosts terms trace n → holds (there hosts part i).host n ≡ false → AreFilled part i n k
+  filled zero newer part i n split late live held lacks = record {
+    lacks = record { place = i; name = n } ∷ [];
+    apart = (λ c. absurd (Contains-none _ c), tt);
+    count = refl;
+    first = λ x c. ⊎_elim
+        (λ (same : record { place = i; name = n } ≡ x). subst (IsLackedAt hosts terms trace (until (settled_by terms) (performed hosts trace))) same (lacked_first newer part i n split (omega (arith, late)) live held lacks))
+        (λ (none : Contains [] x). absurd (Contains-none x none))
+        (Contains-cases (record { place = i; name = n }) x [] c);
+    then = λ x c. ⊎_elim (λ (same : record { place = i; name = n } ≡ x). inl (sym same)) (λ (none : Contains [] x). absurd (Contains-none x none)) (Contains-cases (record { place = i; name = n }) x [] c);
+  }
+  filled (suc k) newer part i n split late live held lacks =
+      let r = reached newer part (at_step k) i split live (omega (arith, late)) in
+      by_window r.window r.base r.split r.from r.soon (filled k (newer ++ r.window) r.base) where
+        by_window : (window base : List TimedLine) → part ≡ window ++ base → at_step k < called_at base → called_at base ≤ at_step k + report_span terms
+            → ((j : ℕ) (m : NameValue) → trace ≡ (newer ++ window) ++ base → at_step k < called_at base → Contains terms.live j → IsHeldBySome hosts terms trace m → holds (there hosts base j).host m ≡ false → AreFilled base j m k) → AreFilled part i n (suc k)
+        by_window window base is from soon before = ⊎_elim
+            (λ (same : AreSame hosts terms.live window base).
+            let still : IsStill hosts terms trace newer window base = record {
+              split = whole;
+              same = λ front mid j f live_j. nothing_more (held_at hosts base j) (held_at hosts (mid ++ base) j) (held_at hosts (window ++ base) j) (appends hosts mid base j)
+                  (subst (λ (t : List TimedLine). Appends (held_at hosts (mid ++ base) j) (held_at hosts t j)) (sym (ap (λ (t : List TimedLine). t ++ base) f ∙ append_assoc front mid base)) (appends hosts front (mid ++ base) j)) (same j live_j);
+            } in
+            let e = ends_soon newer window base still (omega (arith, from)) i live n held lacked in
+            let top : called_at part ≡ called_at (window ++ base) = ap called_at is in
+            absurd (omega (arith, e, soon, late, top)))
+            (λ (g : Gains hosts terms.live window base). more g (before g.place g.name (whole ∙ sym (append_assoc newer window base)) from g.among
+            (was_held hosts terms trace newer (window ++ base) g.place g.name all.session whole g.among g.held) g.lacked))
+            (gains hosts terms.live window base (λ j. held_once hosts (lines_of (window ++ base)) j)) where
+              whole : trace ≡ newer ++ (window ++ base)
+              whole = split ∙ ap (λ (t : List TimedLine). newer ++ t) is
+
+              lacked : holds (there hosts base i).host n ≡ false
+              lacked = lacked_before hosts window base i n (subst (λ (t : List TimedLine). holds (there hosts t i).host n ≡ false) is lacks)
+
+              x : Lack
+              x = record { place = i; name = n }
+
+              more : (g : Gains hosts terms.live window base) → AreFilled base g.place g.name k → AreFilled part i n (suc k)
+              more g f = record {
+                lacks = x ∷ f.lacks;
+                apart = (λ c. true≢false (sym (here x c) ∙ lacks), f.apart);
+                count = let c = f.count in omega (arith, c);
+                first = λ y c. ⊎_elim
+                    (λ (same : x ≡ y). subst (IsLackedAt hosts terms trace (until (settled_by terms) (performed hosts trace))) same (lacked_first newer part i n split (omega (arith, late)) live held lacks))
+                    (λ (later : Contains f.lacks y). f.first y later)
+                    (Contains-cases x y f.lacks c);
+                then = λ y c. ⊎_elim (λ (same : x ≡ y). inl (sym same)) (λ (later : Contains f.lacks y). inr (here y later)) (Contains-cases x y f.lacks c);
+              } where
+                -- those that were found before are held now
+                here : (y : Lack) → Contains f.lacks y → holds (there hosts part y.place).host y.name ≡ true
+                here y c = subst (λ (t : List TimedLine). holds (there hosts t y.place).host y.name ≡ true) (sym is) (⊎_elim
+                    (λ (same : y ≡ record { place = g.place; name = g.name }). subst (λ (z : Lack). holds (there hosts (window ++ base) z.place).host z.name ≡ true) (sym same) g.held)
+                    (λ (h : holds (there hosts base y.place).host y.name ≡ true). held_on hosts window base y.place y.name h)
+                    (f.then y c))
+
+  all_hold : (n : NameValue) → IsHeldBySome hosts terms trace n → AllKeptHoldBehind hosts terms trace (whole_by terms sizes wait most) n
+  all_hold n held newer later i split lt live = by (holds (kept_at hosts (lines_of later) i).host n) refl where
+    by : (b : Bool) → holds (kept_at hosts (lines_of later) i).host n ≡ b → b ≡ true
+    by true e = refl
+    by false e =
+        let f = filled most newer later i n split (omega (arith, lt)) live held e in
+        let le = all.lacks f.lacks f.apart f.first in
+        let c = f.count in
+        absurd (omega (arith, le, c))
+
+pub sessions_become_whole : SessionsBecomeWhole
+sessions_become_whole hosts terms trace sizes wait most n session within waits lacks short held =
+    all_hold hosts terms trace sizes wait most (record { session = session; within = within; waits = waits; lacks = lacks; short = short })
+    held_was_held reports_are_due (lack_is_wanted held_was_held) (no_credit_is_asked (credit_is_spent held_was_held))
+    (stillness_ends timers_are_young timer_leads_or_is_given_up performed_is_timely lines_have_calls (asks_have_cause held_was_held) (stops_have_cause lines_have_calls))
+    n held

@@ -1,0 +1,236 @@
+-- Of a session that keeps to times, the lines that are performed do.
+use Rattle.std.proofs.Common.{◌≡◌, ◌⊎◌, ℕ, ◌+◌, ◌<◌, ◌≤◌, Bool, true, false, cond, List, [], ◌∷◌, ◌++◌, ◌∙◌, ap, append_assoc, eqb-true, inr, length, refl, subst, sym, ⊎_elim}
+use Rattle.std.specs.Prelude.{◌≢◌, Contains, nat_eq, nat_le}
+use Rattle.std.proofs.lemmas.List.{append_cancel_right}
+use Rattle.wb_names.specs.Values.{DrawopValue, NameValue}
+use Rattle.wb_codec.specs.declared.datagram.Datagram.{Datagram}
+use Rattle.wb_codec.specs.declared.datagram.Datagram.TheVariants.{Draw, Request}
+use Rattle.wb_recovery.specs.Events.{timers_of}
+use Rattle.wb_recovery.specs.declared.tuning.Tuning.{Tuning}
+use Rattle.wb_progress.specs.Bounds.{IsUnder}
+use Rattle.wb_progress.specs.Turns.{Terms, longest, settled_by}
+use Rattle.wb_member.specs.Judged.{holds, is_full}
+use Rattle.wb_member.specs.Opened.{Opened, events}
+use Rattle.wb_keeping.specs.Kept.{Line, Arrives, Hears, Says, Ticks, Tunes}
+use Rattle.wb_keeping.specs.Laws.{KeptLine, doing_of}
+use Rattle.wb_keeping.specs.Performing.{Keeping, after_line, after_lines, sees, sent_by_line}
+use Rattle.wb_kept_progress.specs.Sessions.{Opening}
+use Rattle.wb_kept_progress.specs.Timed.{AreNotOverdue, ComesTo, IsQuietLine, IsTold, Performed, Start, TellTimes, TimedLine, WasSent, host_after, performed, performed_then, sends, start_of, time_of, timers_after}
+use Rattle.wb_kept_progress.specs.Whole.{IsHandedIn, IsTimelySession, WasSentBy, sends_then, there}
+use Rattle.wb_kept_progress.proofs.CallLines.{Ends, call_ends, ends_both, host_amid, host_apart, host_before, line_stands, lines_have_calls, sent_in}
+use Rattle.wb_kept_progress.proofs.CallParts.{host_is, lines_order}
+use Rattle.wb_kept_progress.proofs.FirstLines.{AreLinesOf, IsLineOf, drawop_begins, lines_of_call, one_of_lines, request_begins}
+use Rattle.wb_kept_progress.proofs.KeptInTime.{at_place, front_of, sent_by_one, then_front, time_is}
+use Rattle.wb_kept_progress.proofs.Lines.{is_false, lines_of}
+use Rattle.wb_kept_progress.proofs.Performed.{kept_keeps_moments}
+use Rattle.wb_kept_progress.proofs.PerLine.{asks}
+use Rattle.wb_kept_progress.proofs.Timely.{none_held, of_start}
+use Rattle.wb_kept_progress.proofs.TimersAhead.{AreAhead, ahead_amid, ahead_in_time, due_in_time}
+use Rattle.wb_kept_progress.proofs.Tunings.{constants_of, line_tuned}
+use Rattle.wb_kept_progress.proofs.WholeParts.{IsOfCall, PerformedIsTimely, does}
+
+-- a call tells the moment of its time
+tells_at : (terms : Terms) (newer older : List TimedLine) (e : TimedLine) → TellTimes terms (newer ++ e ∷ older) → IsTold (e.time + terms.offset e.at.place) e.at.line
+tells_at terms [] older e tells = tells.0
+tells_at terms (x ∷ newer) older e tells = tells_at terms newer older e tells.1
+
+module _ (hosts : ℕ → Opening) (terms : Terms) (trace : List TimedLine) (s : IsTimelySession hosts terms trace) where
+  abbrev starts : ℕ → Start
+  starts j = start_of (hosts j)
+
+  abbrev all : List Performed
+  all = performed hosts trace
+
+  one_more : (newer older : List TimedLine) (e : TimedLine) → trace ≡ newer ++ e ∷ older → trace ≡ (newer ++ e ∷ []) ++ older
+  one_more newer older e split = split ∙ sym (append_assoc newer (e ∷ []) older)
+
+  number_is : (calls : List TimedLine) (i : ℕ) → (there hosts calls i).host.is.number ≡ (hosts i).number
+  number_is calls i = ap (λ (h : Opened). h.is.number) (sym (host_is hosts s.opened calls i)) ∙ (of_start starts (performed hosts calls) i).number
+
+  -- ---- a line and its call
+
+  module _ (x : Performed) (back : List Performed) (c : IsOfCall hosts trace x back) where
+    abbrev k : Keeping
+    k = there hosts c.older c.e.at.place
+
+    abbrev before : Opened
+    before = host_after starts back x.place
+
+    of_call : IsLineOf c.e.at.line k.host before x.line
+    of_call = subst (λ (h : Opened). IsLineOf c.e.at.line k.host h x.line) (sym (host_before hosts s.opened trace x back c))
+        (one_of_lines c.e.at.line k.host k.host c.before c.later x.line (subst (AreLinesOf c.e.at.line k.host k.host) c.lines (lines_of_call c.e.at.line k)))
+
+    of_line : (line : Line) → x.line ≡ line → IsLineOf c.e.at.line k.host before line
+    of_line line is = subst (IsLineOf c.e.at.line k.host before) is of_call
+
+    late_call : (t : ℕ) → t < x.time → t < c.e.time
+    late_call t lt = subst (λ (n : ℕ). t < n) c.time lt
+
+    alone : terms.quiet < x.time → Contains terms.live x.place
+    alone late = subst (Contains terms.live) (sym c.place) (s.alone c.newer c.older c.e c.split (late_call terms.quiet late))
+
+    quiet : terms.quiet < x.time → IsQuietLine x.line
+    quiet late = record {
+      drawn = λ d is.
+          let a = of_line (Says (Draw d)) is in
+          s.drawn c.newer c.older c.e a.0 a.1 a.2 a.3 c.split (late_call terms.quiet late) a.4;
+      said = λ asker m is. of_line (Says (Request asker m)) is;
+    }
+
+    room : (d : DrawopValue) → terms.quiet < x.time → x.line ≡ Arrives d → (holds before d.name ≡ true) ⊎ (is_full before ≡ false)
+    room d late is =
+        let a = of_line (Arrives d) is in
+        let live = s.alone c.newer c.older c.e c.split (late_call terms.quiet late) in
+        let free = s.room (c.newer ++ c.e ∷ []) c.older c.e.at.place (one_more c.newer c.older c.e c.split) live in
+        let cells : before.is.cells ≡ k.host.is.cells = ap (λ (h : Opened). h.is.cells) (host_before hosts s.opened trace x back c) ∙ (lines_of c.before k.host).cells in
+        inr (ap (λ (n : ℕ). nat_le n (length before.is.held)) cells ∙ ap (λ (held : List DrawopValue). nat_le k.host.is.cells (length held)) a.1 ∙ free)
+
+    -- what it sends, its call does
+    sends_it : (v : Datagram) → Contains (sends starts back x) v → Contains (sends_then hosts c.older c.e) v
+    sends_it v sent = sent_in (does hosts c.e c.older) c.before c.later x.line k.host v c.lines (subst (λ (h : Opened). Contains (sent_by_line x.line h) v) (host_before hosts s.opened trace x back c) sent)
+
+    -- what is handed in by a later call comes by one of its lines
+    comes : (newer : List Performed) → all ≡ newer ++ x ∷ back → (j : ℕ) (v : Datagram) (line : Line) (h : IsHandedIn c.newer j (c.e.time + terms.delivery) v)
+        → ((rest : List Line) × (does hosts h.call (h.between ++ c.e ∷ c.older) ≡ (Ticks h.now ∷ []) ++ line ∷ rest)) → ComesTo newer j (x.time + terms.delivery) line
+    comes newer split j v line h begins =
+        let calls : List TimedLine = h.between ++ c.e ∷ c.older in
+        let handed : trace ≡ h.later ++ h.call ∷ calls = c.split ∙ ap (λ (t : List TimedLine). t ++ c.e ∷ c.older) h.split ∙ append_assoc h.later (h.call ∷ h.between) (c.e ∷ c.older) in
+        let base : List Performed = performed_then h.call.time h.call.at.place (Ticks h.now ∷ []) (performed hosts calls) in
+        let arrival : Performed = at_place h.call.time h.call.at.place line in
+        let a : Ends all (arrival ∷ base) = line_stands hosts trace h.later calls h.call (Ticks h.now ∷ []) begins.0 line handed begins.1 in
+        let b : Ends base (x ∷ back) = ends_both base (performed hosts calls) (x ∷ back) (then_front h.call.time h.call.at.place (Ticks h.now ∷ []) (performed hosts calls))
+        (ends_both (performed hosts calls) (performed hosts (c.e ∷ c.older)) (x ∷ back) (front_of hosts h.between (c.e ∷ c.older)) (call_ends hosts trace x back c)) in
+        let whole : all ≡ (a.0 ++ arrival ∷ b.0) ++ x ∷ back = a.1 ∙ ap (λ (t : List Performed). a.0 ++ arrival ∷ t) b.1 ∙ sym (append_assoc a.0 (arrival ∷ b.0) (x ∷ back)) in
+        record {
+          later = a.0;
+          arrival = arrival;
+          between = b.0;
+          split = append_cancel_right newer (a.0 ++ arrival ∷ b.0) (x ∷ back) (sym split ∙ whole);
+          place = h.place;
+          soon = subst (λ (t : ℕ). h.call.time ≤ t + terms.delivery) (sym c.time) h.soon;
+          is = refl;
+        }
+
+    module _ (newer : List Performed) (split : all ≡ newer ++ x ∷ back) (j : ℕ) (live : Contains terms.live j) (other : x.place ≢ j) (late : terms.quiet < x.time) (soon : x.time + terms.delivery < time_of all) where
+      handed_in : (v : Datagram) → Contains (sends starts back x) v → IsHandedIn c.newer j (c.e.time + terms.delivery) v
+      handed_in v sent =
+          s.delivered c.newer c.older c.e j v c.split live (λ same. other (c.place ∙ same)) (late_call terms.quiet late) (sends_it v sent)
+          (subst (λ (t : ℕ). c.e.time + terms.delivery < t) (time_is hosts trace) (subst (λ (t : ℕ). t + terms.delivery < time_of all) c.time soon))
+
+      drawops : (d : DrawopValue) → Contains (sends starts back x) (Draw d) → ComesTo newer j (x.time + terms.delivery) (Arrives d)
+      drawops d sent =
+          let h = handed_in (Draw d) sent in
+          let there_j = there hosts (h.between ++ c.e ∷ c.older) h.call.at.place in
+          let begins = drawop_begins h.now d there_j in
+          comes newer split j (Draw d) (Arrives d) h (begins.0, ap (λ (line : KeptLine). (doing_of line (sees there_j.host) there_j.policy).lines) h.is ∙ begins.1)
+
+      requests : (asker : ℕ) (m : NameValue) → Contains (sends starts back x) (Request asker m) → ComesTo newer j (x.time + terms.delivery) (Hears (Request asker m))
+      requests asker m sent =
+          let h = handed_in (Request asker m) sent in
+          let there_j = there hosts (h.between ++ c.e ∷ c.older) h.call.at.place in
+          let begins = request_begins h.now asker m there_j (apart (h.between ++ c.e ∷ c.older) h.call.at.place h.place) in
+          comes newer split j (Request asker m) (Hears (Request asker m)) h (begins.0, ap (λ (line : KeptLine). (doing_of line (sees there_j.host) there_j.policy).lines) h.is ∙ begins.1) where
+            own : asker ≡ (hosts x.place).number
+            own = ⊎_elim
+                (λ (g : (asker ≡ before.is.number) × (holds before m ≡ false)). g.0 ∙ (of_start starts back x.place).number)
+                (λ (t : (a : ℕ) × (n : NameValue) × (x.line ≡ Says (Request a n))). absurd ((quiet late).said t.0 t.1 t.2))
+                (asks before (none_held starts back x.place) asker m x.line sent)
+
+            apart : (calls : List TimedLine) (place : ℕ) → place ≡ j → nat_eq asker (there hosts calls place).host.is.number ≡ false
+            apart calls place here = is_false (nat_eq asker (there hosts calls place).host.is.number) (λ same.
+                other (s.distinct x.place j (sym own ∙ eqb-true asker (there hosts calls place).host.is.number same ∙ number_is calls place ∙ ap (λ (i : ℕ). (hosts i).number) here)))
+
+    -- ---- what comes was sent
+
+    was_sent : (v : Datagram) → WasSentBy hosts c.older c.e.time terms.delivery v → WasSent starts back x.time terms.delivery v
+    was_sent v w =
+        let sender = there hosts w.before w.e.at.place in
+        let l = sent_by_one (does hosts w.e w.before) sender.host v w.sent in
+        let y = at_place w.e.time w.e.at.place l.line in
+        let base : List Performed = performed_then w.e.time w.e.at.place l.before (performed hosts w.before) in
+        let a : Ends (performed hosts c.older) (y ∷ base) = line_stands hosts c.older w.newer w.before w.e l.before l.later l.line w.split l.split in
+        let f : Ends (performed_then c.e.time c.e.at.place c.before (performed hosts c.older)) (y ∷ base) = ends_both (performed_then c.e.time c.e.at.place c.before (performed hosts c.older)) (performed hosts c.older) (y ∷ base) (then_front c.e.time c.e.at.place c.before (performed hosts c.older)) a in
+        record {
+          newer = f.0;
+          e = y;
+          before = base;
+          split = c.back_is ∙ f.1;
+          soon = subst (λ (t : ℕ). t ≤ w.e.time + terms.delivery) (sym c.time) w.soon;
+          sent = subst (λ (h : Opened). Contains (sent_by_line l.line h) v) (sym (host_amid hosts s.opened w.e.time w.e.at.place l.before w.before)) l.sent;
+        }
+
+    fresh_drawops : (d : DrawopValue) → settled_by terms < x.time → x.line ≡ Arrives d → WasSent starts back x.time terms.delivery (Draw d)
+    fresh_drawops d late is =
+        let a = of_line (Arrives d) is in
+        was_sent (Draw d) (s.fresh c.newer c.older c.e a.0.0 (Draw d) c.split (late_call (settled_by terms) late) a.0.1)
+
+    fresh_requests : (asker : ℕ) (m : NameValue) → settled_by terms < x.time → x.line ≡ Hears (Request asker m) → WasSent starts back x.time terms.delivery (Request asker m)
+    fresh_requests asker m late is =
+        let a = of_line (Hears (Request asker m)) is in
+        was_sent (Request asker m) (s.fresh c.newer c.older c.e a.0 (Request asker m) c.split (late_call (settled_by terms) late) a.1)
+
+    -- ---- what is due
+
+    soon : (i : ℕ) (m : NameValue) → Contains terms.live i → AreNotOverdue (timers_after starts back i m) (x.time + terms.offset i) terms.late
+    soon i m live = subst (λ (t : List Performed). AreNotOverdue (timers_after starts t i m) (x.time + terms.offset i) terms.late) (sym c.back_is)
+        (subst (λ (t : ℕ). AreNotOverdue (timers_after starts base i m) (t + terms.offset i) terms.late) (sym c.time) (by (nat_eq c.e.at.place i) refl)) where
+          base : List Performed
+          base = performed_then c.e.time c.e.at.place c.before (performed hosts c.older)
+
+          -- as it was before the call
+          at_first : (host : Opened) → host ≡ (there hosts c.older i).host → AreNotOverdue (timers_of host.is.constants (events host) m) (c.e.time + terms.offset i) terms.late
+          at_first host same = subst (λ (h : Opened). AreNotOverdue (timers_of h.is.constants (events h) m) (c.e.time + terms.offset i) terms.late) (sym same)
+              (due_in_time (there hosts c.older i) m (c.e.time + terms.offset i) terms.late (s.soon c.newer c.older c.e i c.split live))
+
+          amid : Contains terms.live c.e.at.place → (lines : List Line) → does hosts c.e c.older ≡ lines ++ x.line ∷ c.later
+              → (let host = after_lines lines k.host in AreNotOverdue (timers_of host.is.constants (events host) m) (c.e.time + terms.offset c.e.at.place) terms.late)
+          amid here [] split = due_in_time k m (c.e.time + terms.offset c.e.at.place) terms.late (s.soon c.newer c.older c.e c.e.at.place c.split here)
+          amid here (first ∷ lines) split =
+              let h = ahead_amid c.e.at.line k (c.e.time + terms.offset c.e.at.place) first lines c.later x.line (tells_at terms c.newer c.older c.e (subst (TellTimes terms) c.split s.times)) split in
+              let host = after_lines (first ∷ lines) k.host in
+              let timers = timers_of host.is.constants (events host) m in
+              ahead_in_time timers (c.e.time + terms.offset c.e.at.place) terms.late (subst (λ (t : ℕ). AreAhead t timers) h.now (h.ahead m))
+
+          by : (b : Bool) → nat_eq c.e.at.place i ≡ b → AreNotOverdue (timers_after starts base i m) (c.e.time + terms.offset i) terms.late
+          by false apart = at_first (host_after starts base i) (host_apart hosts s.opened c.e.time c.e.at.place c.before c.older i apart)
+          by true here =
+              let same = eqb-true c.e.at.place i here in
+              subst (λ (j : ℕ). AreNotOverdue (timers_after starts base j m) (c.e.time + terms.offset j) terms.late) same
+              (subst (λ (h : Opened). AreNotOverdue (timers_of h.is.constants (events h) m) (c.e.time + terms.offset c.e.at.place) terms.late) (sym (host_amid hosts s.opened c.e.time c.e.at.place c.before c.older))
+              (amid (subst (Contains terms.live) (sym same) live) c.before c.lines))
+
+  -- ---- constants
+
+  tuned : (newer older : List Performed) (i : ℕ) → all ≡ newer ++ older → IsUnder (longest terms) (constants_of (host_after starts older i))
+  tuned newer [] i split = s.waits i
+  tuned newer (x ∷ older) i split = by (nat_eq x.place i) (tuned (newer ++ x ∷ []) older i (split ∙ sym (append_assoc newer (x ∷ []) older))) where
+    tunes : (constants : Tuning) → x.line ≡ Tunes constants → IsUnder (longest terms) constants
+    tunes constants is =
+        let c = lines_have_calls hosts trace newer x older split in
+        s.tuned c.newer c.older c.e constants c.split (of_line x older c (Tunes constants) is)
+
+    by : (b : Bool) → IsUnder (longest terms) (constants_of (host_after starts older i)) → IsUnder (longest terms) (constants_of (cond b (after_line x.line (host_after starts older i)) (host_after starts older i)))
+    by true rest = line_tuned (IsUnder (longest terms)) x.line (host_after starts older i) tunes rest
+    by false rest = rest
+
+pub performed_is_timely : PerformedIsTimely
+performed_is_timely hosts terms trace s = record {
+  distinct = s.distinct;
+  waits = s.waits;
+  tuned = λ newer older i split live. tuned hosts terms trace s newer older i split;
+  order = lines_order hosts trace s.order;
+  reported = s.reported;
+  times = (kept_keeps_moments hosts terms trace s.times).times;
+  behind = (kept_keeps_moments hosts terms trace s.times).behind;
+  soon = λ newer older e i m split live. soon hosts terms trace s e older (of newer older e split) i m live;
+  delays = s.delays;
+  alone = λ newer older e split late. alone hosts terms trace s e older (of newer older e split) late;
+  quiet = λ newer older e split late. quiet hosts terms trace s e older (of newer older e split) late;
+  room = λ newer older e d split late is. room hosts terms trace s e older (of newer older e split) d late is;
+  drawops = λ newer older e j d split live other late sent soon. drawops hosts terms trace s e older (of newer older e split) newer split j live other late soon d sent;
+  requests = λ newer older e j asker m split live other late sent soon. requests hosts terms trace s e older (of newer older e split) newer split j live other late soon asker m sent;
+  fresh_drawops = λ newer older e d split late is. fresh_drawops hosts terms trace s e older (of newer older e split) d late is;
+  fresh_requests = λ newer older e asker m split late is. fresh_requests hosts terms trace s e older (of newer older e split) asker m late is;
+} where
+  of : (newer older : List Performed) (e : Performed) → performed hosts trace ≡ newer ++ e ∷ older → IsOfCall hosts trace e older
+  of newer older e split = lines_have_calls hosts trace newer e older split

@@ -1,0 +1,247 @@
+-- What each line of a call is like: its first lines take in what was handed in, and little stands behind them.
+use Rattle.std.proofs.Common.{◌≡◌, ℕ, Bool, true, false, cond, List, [], ◌∷◌, ◌++◌, ◌∙◌, ap, append_assoc, length, refl, subst, sym}
+use Rattle.std.specs.Prelude.{◌||◌, nat_eq, nat_lt}
+use Rattle.wb_names.specs.Values.{DrawopValue, MarkValue, NameValue}
+use Rattle.wb_names.specs.declared.echo.Echo.{Echo}
+use Rattle.wb_names.specs.declared.name.PageId.{PageId}
+use Rattle.wb_names.specs.declared.parts.Op.{Op}
+use Rattle.wb_codec.specs.declared.datagram.Datagram.{Datagram}
+use Rattle.wb_codec.specs.declared.datagram.Datagram.TheVariants.{Draw, Session, Request, AskPages, PageState}
+use Rattle.wb_member.specs.Opened.{Opened}
+use Rattle.wb_keeping.specs.Kept.{Arrives, Asks, Doing, Hears, Line, Says, SetsDistance, Tunes, Stops, Ticks, Transition, and_then, came, distance_in, drawing, end, ends_full, hears, hears_some, learned, measures, own_echo, own_marks, performs, still, takes_question, timed, told_names, want_told}
+use Rattle.wb_keeping.specs.Laws.{KeptLine, Came, Ticked, Added, Tuned, doing_of}
+use Rattle.wb_keeping.specs.Performing.{Keeping, after_line, after_lines, sees, view_of}
+use Rattle.wb_keeping.specs.Policy.{Policy, View, after_state, after_taking_up, holds, is_asked, is_full}
+use Rattle.wb_keeping.specs.Questions.{is_to_answer}
+use Rattle.wb_kept_progress.proofs.Going.{SaysLittle, learned_small, measures_small, small_then, stops_small, timed_small, want_told_small}
+use Rattle.wb_kept_progress.proofs.Lines.{AreSmall, small_both}
+
+-- ---- a line of a call
+
+-- a request is heard only where it is handed in
+abbrev pub IsHeardBy : KeptLine → Datagram → Type 0
+IsHeardBy call (Draw d) = Unit {0}
+IsHeardBy call (Session sender sent page marks echoes) = Unit {0}
+IsHeardBy call (Request asker name) = (now : ℕ) × (call ≡ Came now (Request asker name))
+IsHeardBy call (AskPages asker) = Unit {0}
+IsHeardBy call (PageState sender page marks) = Unit {0}
+
+-- a drawop is said only where the user draws, and no request is
+abbrev pub IsSaidBy : KeptLine → Datagram → Type 0
+IsSaidBy call (Draw d) = (now : ℕ) × (page : PageId) × (time : ℕ) × (op : Op) × (call ≡ Added now page time op)
+IsSaidBy call (Session sender sent page marks echoes) = Unit {0}
+IsSaidBy call (Request asker name) = ⊥
+IsSaidBy call (AskPages asker) = Unit {0}
+IsSaidBy call (PageState sender page marks) = Unit {0}
+
+-- A line that a host performs in a call: `start` is the host before the call, and `host` that before the line. A drawop arrives only
+-- where it is handed in, and nothing came before it.
+abbrev pub IsLineOf : KeptLine → Opened → Opened → Line → Type 0
+IsLineOf call start host (Ticks now) = Unit {0}
+IsLineOf call start host (Arrives d) = ((now : ℕ) × (call ≡ Came now (Draw d))) × (host.is.held ≡ start.is.held)
+IsLineOf call start host (Hears v) = IsHeardBy call v
+IsLineOf call start host (Asks name) = Unit {0}
+IsLineOf call start host (Stops name) = Unit {0}
+IsLineOf call start host (SetsDistance source micros) = Unit {0}
+IsLineOf call start host (Tunes constants) = call ≡ Tuned constants
+IsLineOf call start host (Says v) = IsSaidBy call v
+
+abbrev pub AreLinesOf : KeptLine → Opened → Opened → List Line → Type 0
+AreLinesOf call start host [] = Unit {0}
+AreLinesOf call start host (line ∷ lines) = IsLineOf call start host line × AreLinesOf call start (after_line line host) lines
+
+pub one_of_lines : (call : KeptLine) (start host : Opened) (before later : List Line) (line : Line) → AreLinesOf call start host (before ++ line ∷ later) → IsLineOf call start (after_lines before host) line
+one_of_lines call start host [] later line all = all.0
+one_of_lines call start host (first ∷ before) later line all = one_of_lines call start (after_line first host) before later line all.1
+
+join : (call : KeptLine) (start host : Opened) (one other : List Line) → AreLinesOf call start host one → AreLinesOf call start (after_lines one host) other → AreLinesOf call start host (one ++ other)
+join call start host [] other a b = b
+join call start host (line ∷ one) other a b = (a.0, join call start (after_line line host) one other a.1 b)
+
+from_small : (call : KeptLine) (start host : Opened) (lines : List Line) → AreSmall lines → AreLinesOf call start host lines
+from_small call start host [] small = tt
+from_small call start host (Ticks now ∷ lines) small = absurd small.0
+from_small call start host (Arrives d ∷ lines) small = absurd small.0
+from_small call start host (Hears v ∷ lines) small = absurd small.0
+from_small call start host (Asks name ∷ lines) small = (tt, from_small call start (after_line (Asks name) host) lines small.1)
+from_small call start host (Stops name ∷ lines) small = (tt, from_small call start (after_line (Stops name) host) lines small.1)
+from_small call start host (SetsDistance source micros ∷ lines) small = (tt, from_small call start (after_line (SetsDistance source micros) host) lines small.1)
+from_small call start host (Tunes constants ∷ lines) small = absurd small.0
+from_small call start host (Says (Draw d) ∷ lines) small = absurd small.0
+from_small call start host (Says (Session sender sent page marks echoes) ∷ lines) small = (tt, from_small call start host lines small.1)
+from_small call start host (Says (Request asker name) ∷ lines) small = absurd small.0
+from_small call start host (Says (AskPages asker) ∷ lines) small = (tt, from_small call start host lines small.1)
+from_small call start host (Says (PageState sender page marks) ∷ lines) small = (tt, from_small call start host lines small.1)
+
+-- ---- first lines, and small ones behind them
+
+record HasFirst (call : KeptLine) (start host : Opened) (lines : List Line) : Type 0 where
+  first : List Line
+  rest : List Line
+  split : lines ≡ first ++ rest
+  fine : AreLinesOf call start host first
+  small : AreSmall rest
+
+-- so it is with more of these
+with_more : (call : KeptLine) (start host : Opened) (lines more : List Line) → AreSmall more → HasFirst call start host lines → AreLinesOf call start host (lines ++ more)
+with_more call start host lines more little f =
+    let h = after_lines f.first host in
+    let all = join call start host f.first (f.rest ++ more) f.fine (from_small call start h (f.rest ++ more) (small_both f.rest more f.small little)) in
+    subst (AreLinesOf call start host) (sym (append_assoc f.first f.rest more) ∙ ap (λ (ls : List Line). ls ++ more) (sym f.split)) all
+
+none_first : (call : KeptLine) (start host : Opened) (lines : List Line) → AreSmall lines → HasFirst call start host lines
+none_first call start host lines small = record { first = []; rest = lines; split = refl; fine = tt; small = small }
+
+one_first : (call : KeptLine) (start host : Opened) (line : Line) (rest : List Line) → IsLineOf call start host line → AreSmall rest → HasFirst call start host (line ∷ rest)
+one_first call start host line rest is small = record { first = line ∷ []; rest = rest; split = refl; fine = (is, tt); small = small }
+
+choose : (call : KeptLine) (start host : Opened) (b : Bool) (x y : Doing) → HasFirst call start host x.lines → HasFirst call start host y.lines → HasFirst call start host (cond b x y).lines
+choose call start host true x y p q = p
+choose call start host false x y p q = q
+
+-- ---- what comes in
+
+module _ (now : ℕ) (start : Opened) where
+  abbrev host : Opened
+  host = after_line (Ticks now) start
+
+  drawop_first : (d : DrawopValue) (p : Policy) → HasFirst (Came now (Draw d)) start host (hears (Draw d) (sees host) p).lines
+  drawop_first d p = by (holds (view_of host) d.name) (is_full (view_of host)) where
+    call : KeptLine
+    call = Came now (Draw d)
+
+    with_it : Opened
+    with_it = after_line (Arrives d) host
+
+    new : Doing
+    new = and_then (performs (Arrives d)) (learned d.name (is_asked (view_of host) d.name)) (sees host) p
+
+    known : HasFirst call start host (performs (Arrives d) (sees host) p).lines
+    known = one_first call start host (Arrives d) [] ((now, refl), refl) tt
+
+    learns : HasFirst call start host new.lines
+    learns = one_first call start host (Arrives d) (learned d.name (is_asked (view_of host) d.name) (sees with_it) p).lines ((now, refl), refl) (learned_small d.name (is_asked (view_of host) d.name) (sees with_it) p)
+
+    by : (a b : Bool) → HasFirst call start host (cond (a || b) (performs (Arrives d) (sees host) p) new).lines
+    by true b = known
+    by false true = known
+    by false false = learns
+
+  session_first : (sender sent : ℕ) (page : PageId) (marks : List MarkValue) (echoes : List Echo) (p : Policy) → HasFirst (Came now (Session sender sent page marks echoes)) start host (hears (Session sender sent page marks echoes) (sees host) p).lines
+  session_first sender sent page marks echoes p = choose call start host (nat_eq sender host.is.number) (still (sees host) p) (and_then (performs (Hears own)) more (sees host) p) (none_first call start host [] tt) other where
+    call : KeptLine
+    call = Came now (Session sender sent page marks echoes)
+
+    v : View
+    v = view_of host
+
+    own : Datagram
+    own = Session sender sent page (own_marks v.me (nat_lt v.now p.ready) marks) (own_echo v.me echoes)
+
+    heard : Opened
+    heard = after_line (Hears own) host
+
+    measuring : Transition
+    measuring = measures sender (distance_in v.now (own_echo v.me echoes))
+
+    wanting : Transition
+    wanting = want_told (told_names v.me page marks)
+
+    more : Transition
+    more = and_then measuring wanting
+
+    other : HasFirst call start host (and_then (performs (Hears own)) more (sees host) p).lines
+    other = one_first call start host (Hears own) (more (sees heard) p).lines tt
+        (small_then measuring wanting (measures_small sender (distance_in v.now (own_echo v.me echoes))) (want_told_small (told_names v.me page marks)) (sees heard) p)
+
+  state_first : (sender : ℕ) (page : PageId) (marks : List MarkValue) (p : Policy) → HasFirst (Came now (PageState sender page marks)) start host (hears (PageState sender page marks) (sees host) p).lines
+  state_first sender page marks p = choose call start host (nat_eq sender host.is.number) (still (sees host) p) (and_then (hears_some sender page own) (want_told names) (sees host) q) (none_first call start host [] tt) (from own) where
+    call : KeptLine
+    call = Came now (PageState sender page marks)
+
+    v : View
+    v = view_of host
+
+    q : Policy
+    q = after_state v.now p
+
+    own : List MarkValue
+    own = own_marks v.me (nat_lt v.now p.ready) marks
+
+    names : List NameValue
+    names = told_names v.me page marks
+
+    from : (own : List MarkValue) → HasFirst call start host (and_then (hears_some sender page own) (want_told names) (sees host) q).lines
+    from [] = none_first call start host (want_told names (sees host) q).lines (want_told_small names (sees host) q)
+    from (m ∷ own) =
+        let heard = after_line (Hears (PageState sender page (m ∷ own))) host in
+        one_first call start host (Hears (PageState sender page (m ∷ own))) (want_told names (sees heard) q).lines tt (want_told_small names (sees heard) q)
+
+  hears_first : (v : Datagram) (p : Policy) → HasFirst (Came now v) start host (hears v (sees host) p).lines
+  hears_first (Draw d) p = drawop_first d p
+  hears_first (Session sender sent page marks echoes) p = session_first sender sent page marks echoes p
+  hears_first (PageState sender page marks) p = state_first sender page marks p
+  hears_first (Request asker name) p =
+      let call : KeptLine = Came now (Request asker name) in
+      choose call start host (nat_eq asker host.is.number) (still (sees host) p) (performs (Hears (Request asker name)) (sees host) p)
+      (none_first call start host [] tt) (one_first call start host (Hears (Request asker name)) [] (now, refl) tt)
+  hears_first (AskPages asker) p =
+      let call : KeptLine = Came now (AskPages asker) in
+      let q = after_taking_up (view_of host).now p in
+      let none = none_first call start host [] tt in
+      choose call start host (nat_eq asker host.is.number) (still (sees host) p) (takes_question (sees host) p) none
+      (choose call start host (is_to_answer (view_of host).now (nat_lt 0 (length (view_of host).held)) p.questions) (still (sees host) q) (still (sees host) p) none none)
+
+ends_small : SaysLittle ends_full
+ends_small see p = by (is_full (see [])) where
+  by : (b : Bool) → AreSmall (cond b (end see p) (still see p)).lines
+  by true = stops_small (see []).asked
+  by false = tt
+
+-- ---- the lines of a call
+
+pub lines_of_call : (call : KeptLine) (k : Keeping) → AreLinesOf call k.host k.host (doing_of call (sees k.host) k.policy).lines
+lines_of_call (Came now v) k =
+    let host = after_line (Ticks now) k.host in
+    let d = hears v (sees host) k.policy in
+    let see = λ (lines : List Line). sees host (d.lines ++ lines) in
+    (tt, with_more (Came now v) k.host host d.lines (timed see d.policy).lines (timed_small see d.policy) (hears_first now k.host v k.policy))
+lines_of_call (Ticked now) k =
+    let host = after_line (Ticks now) k.host in
+    (tt, from_small (Ticked now) k.host host (timed (sees host) k.policy).lines (timed_small (sees host) k.policy))
+lines_of_call (Added now page time op) k =
+    let host = after_line (Ticks now) k.host in
+    let d = drawing (view_of host) page time op in
+    let drawn = after_line (Says (Draw d)) host in
+    (tt, ((now, page, time, op, refl), from_small (Added now page time op) k.host drawn (and_then ends_full timed (sees drawn) k.policy).lines (small_then ends_full timed ends_small timed_small (sees drawn) k.policy)))
+lines_of_call (Tuned constants) k = (refl, tt)
+
+-- ---- the line by which a datagram comes in
+
+pub drawop_begins : (now : ℕ) (d : DrawopValue) (k : Keeping) → (rest : List Line) × ((came now (Draw d) (sees k.host) k.policy).lines ≡ (Ticks now ∷ []) ++ Arrives d ∷ rest)
+drawop_begins now d k = by (holds (view_of host) d.name) (is_full (view_of host)) where
+  host : Opened
+  host = after_line (Ticks now) k.host
+
+  new : Doing
+  new = and_then (performs (Arrives d)) (learned d.name (is_asked (view_of host) d.name)) (sees host) k.policy
+
+  takes_it : Bool → Bool → Doing
+  takes_it a b = cond (a || b) (performs (Arrives d) (sees host) k.policy) new
+
+  by : (a b : Bool) → (rest : List Line) × (Ticks now ∷ ((takes_it a b).lines ++ (timed (λ (lines : List Line). sees host ((takes_it a b).lines ++ lines)) (takes_it a b).policy).lines) ≡ (Ticks now ∷ []) ++ Arrives d ∷ rest)
+  by true b = (_, refl)
+  by false true = (_, refl)
+  by false false = (_, refl)
+
+pub request_begins : (now asker : ℕ) (name : NameValue) (k : Keeping) → nat_eq asker k.host.is.number ≡ false → (rest : List Line) × ((came now (Request asker name) (sees k.host) k.policy).lines ≡ (Ticks now ∷ []) ++ Hears (Request asker name) ∷ rest)
+request_begins now asker name k other = by (nat_eq asker k.host.is.number) other where
+  host : Opened
+  host = after_line (Ticks now) k.host
+
+  heard : Bool → Doing
+  heard b = cond b (still (sees host) k.policy) (performs (Hears (Request asker name)) (sees host) k.policy)
+
+  by : (b : Bool) → b ≡ false → (rest : List Line) × (Ticks now ∷ ((heard b).lines ++ (timed (λ (lines : List Line). sees host ((heard b).lines ++ lines)) (heard b).policy).lines) ≡ (Ticks now ∷ []) ++ Hears (Request asker name) ∷ rest)
+  by true e = absurd cc
+  by false e = (_, refl)

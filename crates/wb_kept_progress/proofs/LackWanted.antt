@@ -1,0 +1,463 @@
+-- What a live host lacks is wanted in time: the greatest number of its source is told to it, or its hole has its turn.
+use Rattle.std.proofs.Common.{◌≡◌, ℕ, suc, ◌+◌, ◌-◌, ◌*◌, ◌^◌, ◌<◌, ◌≤◌, Bool, true, false, List, [], ◌∷◌, ◌++◌, ◌∙◌, Some, ap, append_assoc, arith, eqb-true, length, mul-le-mul, refl, subst, sym, true≢false}
+use Rattle.std.specs.Prelude.{◌⊎◌, ◌&&◌, Contains, filter, nat_eq, nat_le, not}
+use Rattle.std.proofs.lemmas.Bool.{leb-true}
+use Rattle.wb_names.specs.History.{IsHeld, highest, name_of}
+use Rattle.wb_names.specs.Values.{DrawopValue, MarkValue, NameValue}
+use Rattle.wb_names.specs.declared.name.PageId.{PageId}
+use Rattle.wb_names.proofs.Listings.{Contains-filter}
+use Rattle.wb_codec.specs.declared.datagram.Datagram.{Datagram}
+use Rattle.wb_codec.specs.declared.datagram.Datagram.TheVariants.{Session}
+use Rattle.wb_gaps.specs.Answers.{top_mark}
+use Rattle.wb_gaps.specs.Gaps.{IsMissing}
+use Rattle.wb_gaps.specs.Holes.{hole_on, holes_of}
+use Rattle.wb_gaps.proofs.HeldNames.{held-by, held-from}
+use Rattle.wb_host.specs.Keeper.{holds}
+use Rattle.wb_progress.specs.InTime.{known_from, repairing}
+use Rattle.wb_progress.specs.Turns.{Terms, settled_by}
+use Rattle.wb_member.specs.Opened.{present}
+use Rattle.wb_keeping.specs.Fairness.{Told, after_tellings, after_turns, marks_in_turn, name_in_turn, page_in_turn, slices_of, slices_on}
+use Rattle.wb_keeping.specs.Kept.{came, told_names}
+use Rattle.wb_keeping.specs.Laws.{KeptLine, doing_of}
+use Rattle.wb_keeping.specs.Performing.{Keeping, after_doing, sent_by_doing}
+use Rattle.wb_keeping.specs.Policy.{Policy}
+use Rattle.wb_keeping.proofs.FairTurns.{each_number_has_its_turn}
+use Rattle.wb_keeping.proofs.ToldMarks.{each_mark_is_told}
+use Rattle.wb_kept_progress.specs.Sessions.{Opening}
+use Rattle.wb_kept_progress.specs.Timed.{IsTold, TimedLine, called_at, host_after, lines_of, performed, start_of, until}
+use Rattle.wb_kept_progress.specs.Whole.{AreCalledInOrder, AreWithin, IsHandedIn, IsHeldBySome, IsTimelySession, Sizes, report_span, there}
+use Rattle.wb_kept_progress.proofs.CallParts.{calls_end, lacked_until}
+use Rattle.wb_kept_progress.proofs.Coming.{below_top, missing_below, page_there, top_held, top_told}
+use Rattle.wb_kept_progress.proofs.Lines.{is_false}
+use Rattle.wb_kept_progress.proofs.NextReports.{IsBehind, IsCut, Reports, before_is, first, held_there, is_behind, ordered, report_behind, room_there, split_there, start, still_older, still_there, tells_there, told_there, turns_there, window_there}
+use Rattle.wb_kept_progress.proofs.Repairs.{is_itself, of_opening}
+use Rattle.wb_kept_progress.proofs.StillCalls.{came_now}
+use Rattle.wb_kept_progress.proofs.Told.{told_wants}
+use Rattle.wb_kept_progress.proofs.Turning.{answers_at, in_hole, in_map, told_of}
+use Rattle.wb_kept_progress.proofs.WantedIn.{IsAskedInCall, LacksCredit}
+use Rattle.wb_kept_progress.proofs.WantingCalls.{wanting_in_call}
+use Rattle.wb_kept_progress.proofs.WholeParts.{HeldWasHeld, IsStill, IsWanting, LackIsWanted}
+
+-- ---- spans
+
+more_spans : (a b span : ℕ) → a ≤ b → a * span ≤ b * span
+more_spans a b span le = mul-le-mul le (same span) where
+  same : (n : ℕ) → n ≤ n
+  same n = omega arith
+
+more_turns : (numbers most holes all : ℕ) → numbers ≤ most → holes ≤ all → 2 * numbers * holes ≤ 2 * most * all
+more_turns numbers most holes all a b =
+    let twice : 2 * numbers ≤ 2 * most = omega (arith, a) in
+    mul-le-mul twice b
+
+-- ---- a call within a window
+
+-- a call that comes before the end of a window comes in it
+within : (newest front later between rest : List TimedLine) (call : TimedLine) → AreCalledInOrder (newest ++ (front ++ rest))
+    → newest ++ front ≡ later ++ call ∷ between → call.time < called_at (front ++ rest) → (c : List TimedLine) × (front ≡ c ++ call ∷ between)
+within [] front later between rest call order split lt = (later, split)
+within (x ∷ newest) front [] between rest call order split lt =
+    let same : x ≡ call = cc in
+    let end = calls_end (x ∷ newest) (front ++ rest) order in
+    let time : x.time ≡ call.time = ap (λ (y : TimedLine). y.time) same in
+    absurd (omega (arith, end, lt, time))
+within (x ∷ newest) front (y ∷ later) between rest call order split lt =
+    within newest front later between rest call order.1 (tail x y (newest ++ front) (later ++ call ∷ between) split) lt where
+      tail : (x y : TimedLine) (a b : List TimedLine) → x ∷ a ≡ y ∷ b → a ≡ b
+      tail x y a b e = cc
+
+module _ (was_held : HeldWasHeld) (hosts : ℕ → Opening) (terms : Terms) (trace newest window base : List TimedLine) (sizes : Sizes)
+    (s : IsTimelySession hosts terms trace) (small : AreWithin hosts terms trace sizes) (still : IsStill hosts terms trace newest window base)
+    (settled : settled_by terms < called_at base) (from : ℕ) (since : called_at base ≤ from) where
+  abbrev span : ℕ
+  span = report_span terms
+
+  abbrev turns_most : ℕ
+  turns_most = sizes.slices + 2 * sizes.numbers * sizes.holes
+
+  abbrev by : ℕ
+  by = from + turns_most * span + terms.delivery
+
+  quiet : terms.quiet < called_at base
+  quiet = omega (arith, settled)
+
+  abbrev held_by : ℕ → List DrawopValue
+  held_by j = (there hosts base j).host.is.held
+
+  -- the calls of the window behind its first moment, and the policy of a host there
+  abbrev cut_at : (k : ℕ) → Contains terms.live k → IsCut window base from
+  cut_at k live = start hosts terms trace newest window base s still quiet k live from since
+
+  abbrev policy_at : (k : ℕ) → Contains terms.live k → Policy
+  policy_at k live = first hosts terms trace newest window base s still quiet k live from since
+
+  -- a part behind so many of its reports, and the next report
+  abbrev BehindAt : (k : ℕ) → Contains terms.live k → ℕ → Type 0
+  BehindAt k live count = IsBehind hosts terms trace newest window base s still quiet k live from since count
+
+  behind_at : (k : ℕ) (live : Contains terms.live k) (count : ℕ) → from + count * span < called_at (window ++ base) → BehindAt k live count
+  behind_at k live count lt = is_behind hosts terms trace newest window base s still quiet k live from since count lt
+
+  report_at : (k : ℕ) (live : Contains terms.live k) (count : ℕ) (b : BehindAt k live count) → from + suc count * span < called_at (window ++ base)
+      → (r : Reports hosts terms trace s k live b.front b.part) × (r.e.time ≤ from + suc count * span)
+  report_at k live count b lt = report_behind hosts terms trace newest window base s still quiet k live from since count b lt
+
+  -- what stands at such a report
+  module _ (k : ℕ) (live : Contains terms.live k) (count : ℕ) (b : BehindAt k live count) (r : Reports hosts terms trace s k live b.front b.part) where
+    still_report : IsStill hosts terms trace newest (r.later ++ r.e ∷ r.between) b.part
+    still_report = still_there hosts terms trace newest window base s still quiet k live from since count b r
+
+    split_report : trace ≡ (newest ++ r.later) ++ r.e ∷ (r.between ++ b.part)
+    split_report = split_there hosts terms trace newest window base s still quiet k live from since count b r
+
+    held_report : (there hosts (r.between ++ b.part) k).host.is.held ≡ held_by k
+    held_report = held_there hosts terms trace newest window base s still quiet k live from since count b r
+
+    turns_report : (there hosts (r.between ++ b.part) k).policy.turns ≡ after_turns (held_by k) count (policy_at k live).turns
+    turns_report = turns_there hosts terms trace newest window base s still quiet k live from since count b r
+
+    tells_report : told_of (there hosts (r.between ++ b.part) k).policy ≡ after_tellings (held_by k) count (told_of (policy_at k live))
+    tells_report = tells_there hosts terms trace newest window base s still quiet k live from since count b r
+
+    window_report : window ≡ r.later ++ r.e ∷ (r.between ++ b.grown)
+    window_report = window_there hosts terms trace newest window base s still quiet k live from since count b r
+
+    before_report : r.between ++ b.part ≡ (r.between ++ b.grown) ++ base
+    before_report = before_is hosts terms trace newest window base s still quiet k live from since count b r
+
+    -- what it tells
+    abbrev told_in : Datagram
+    told_in =
+        let h = there hosts (r.between ++ b.part) k in
+        Session h.host.is.number r.reporting.moment (page_in_turn h.host.is.held (told_of h.policy))
+        (marks_in_turn h.host.is.held (told_of h.policy)) r.reporting.echoes
+
+  abbrev WantedBy : ℕ → Type 0
+  WantedBy i = IsWanting hosts terms trace window base i from by
+
+  split_base : trace ≡ (newest ++ window) ++ base
+  split_base = still.split ∙ sym (append_assoc newest window base)
+
+  cut_split : (c : IsCut window base from) → trace ≡ (newest ++ c.front) ++ (c.grown ++ base)
+  cut_split c =
+      still.split ∙ ap (λ (t : List TimedLine). newest ++ (t ++ base)) c.split
+      ∙ ap (λ (t : List TimedLine). newest ++ t) (append_assoc c.front c.grown base) ∙ sym (append_assoc newest c.front (c.grown ++ base))
+
+  module _ (before_end : by < called_at (window ++ base)) (i : ℕ) (live : Contains terms.live i) where
+    -- so many reports come before the end
+    in_time : (count : ℕ) → suc count ≤ turns_most → from + suc count * span < called_at (window ++ base)
+    in_time count le = let m = more_spans (suc count) turns_most span le in omega (arith, m, before_end)
+
+    in_time_at_least : (count : ℕ) → suc count ≤ turns_most → from + count * span < called_at (window ++ base)
+    in_time_at_least count le = let m = more_spans (suc count) turns_most span le in let n = more_spans count (suc count) span (omega arith) in omega (arith, m, n, before_end)
+
+    -- ---- the turn of a number that is missing
+
+    by_turn : (n : NameValue) → IsHeldBySome hosts terms trace n → holds (held_by i) n ≡ false → IsMissing (held_by i) n.page [] n.source n.seq
+        → WantedBy i
+    by_turn n held lacks missing =
+        let p = policy_at i live in
+        let st = cut_at i live in
+        let h = in_hole (held_by i) n missing in
+        let hole = hole_on n.page h.gap in
+        let first_number = h.first in
+        let last_number = h.last in
+        let numbers = small.numbers (newest ++ window) base i hole split_base live h.there in
+        let holes = small.holes (newest ++ window) base i split_base live in
+        let rounds = small.rounds (newest ++ st.front) (st.grown ++ base) i (cut_split st) live in
+        let few = few_rounds p.turns.round (h.gap.last + 1 - h.gap.first) sizes.numbers numbers rounds in
+        let turn = each_number_has_its_turn (held_by i) p.turns hole n.seq h.there first_number last_number few in
+        let count = turn.0 in
+        let less = turn.1 in
+        let most = more_turns (h.gap.last + 1 - h.gap.first) sizes.numbers (length (holes_of (held_by i))) sizes.holes numbers holes in
+        let fits : suc count ≤ turns_most =
+        under count (2 * (h.gap.last + 1 - h.gap.first) * length (holes_of (held_by i))) (2 * sizes.numbers * sizes.holes) sizes.slices less most in
+        let b = behind_at i live count (in_time_at_least count fits) in
+        let n_is = turn.2 ∙ ap (λ (source : ℕ). Some (name_of n.page source n.seq)) h.source in
+        at_report n held lacks count fits b n_is where
+          few_rounds : (round numbers most : ℕ) → numbers ≤ most → round + 2 * most < 2 ^ 32 → round + 2 * numbers < 2 ^ 32
+          few_rounds round numbers most le lt = omega (arith, le, lt)
+
+          under : (count a b slices : ℕ) → count < a → a ≤ b → suc count ≤ slices + b
+          under count a b slices lt le = omega (arith, lt, le)
+
+          at_report : (n : NameValue) → IsHeldBySome hosts terms trace n → holds (held_by i) n ≡ false → (count : ℕ) → suc count ≤ turns_most
+              → (b : BehindAt i live count)
+              → name_in_turn (held_by i) (after_turns (held_by i) count (policy_at i live).turns) ≡ Some n → WantedBy i
+          at_report n held lacks count fits b n_is =
+              let found = report_at i live count b (in_time count fits) in
+              wanted_at n held lacks count fits b n_is found.0 found.1 where
+                wanted_at : (n : NameValue) → IsHeldBySome hosts terms trace n → holds (held_by i) n ≡ false → (count : ℕ) → suc count ≤ turns_most → (b : BehindAt i live count)
+                    → name_in_turn (held_by i) (after_turns (held_by i) count (policy_at i live).turns) ≡ Some n
+                    → (r : Reports hosts terms trace s i live b.front b.part) → r.e.time ≤ from + suc count * span → WantedBy i
+                wanted_at n held lacks count fits b n_is r soon =
+                    let older = r.between ++ b.part in
+                    let k = there hosts older i in
+                    let k_held = held_report i live count b r in
+                    let wants = r.reporting.wants n (ap (λ (h : List DrawopValue). holds h n) k_held ∙ lacks)
+                    (room_there hosts terms trace s (newest ++ r.later) older r.e i (split_report i live count b r) live)
+                    (ap (λ (h : List DrawopValue). name_in_turn h k.policy.turns) k_held ∙ ap (name_in_turn (held_by i)) (turns_report i live count b r) ∙ n_is) in
+                    let m = more_spans (suc count) turns_most span fits in
+                    wanting_in_call hosts terms trace s.opened i n held window base r.later (r.between ++ b.grown) older r.e from by
+                    (window_report i live count b r) (before_report i live count b r) r.place r.reporting.now_is wants (b.behind r.later r.between r.e r.split)
+                    (omega (arith, soon, m))
+
+    -- ---- the greatest number of a source is told
+
+    module _ (j : ℕ) (live_j : Contains terms.live j) (differ : j ≡ i → ⊥) (d : DrawopValue) (there_d : Contains (held_by j) d) (counted : 1 ≤ d.name.seq)
+        (top_small : highest d.name.page d.name.source (held_by j) < 2147483648) where
+      abbrev page : PageId
+      page = d.name.page
+
+      abbrev top : ℕ
+      top = highest page d.name.source (held_by j)
+
+      abbrev top_name : NameValue
+      top_name = name_of page d.name.source top
+
+      abbrev mark : MarkValue
+      mark = top_mark (held_by j) page d.name.source
+
+      abbrev u : Told
+      u = told_of (policy_at j live_j)
+
+      -- among names that are told
+      in_names : (me : ℕ) (told : PageId) (marks : List MarkValue) → told ≡ page → Contains marks mark → Contains (told_names me told marks) top_name
+      in_names me told marks same among = subst (λ (p : PageId). Contains (told_names me p marks) top_name) (sym same) there_is where
+        p : MarkValue → Bool
+        p m = not (nat_eq m.source me && nat_le 2147483648 m.high)
+
+        never : (b : Bool) → not (b && false) ≡ true
+        never true = refl
+        never false = refl
+
+        low : nat_le 2147483648 mark.high ≡ false
+        low = is_false (nat_le 2147483648 mark.high) (λ e. let le = leb-true 2147483648 mark.high e in omega (arith, le, top_small))
+
+        passes : p mark ≡ true
+        passes = ap (λ (b : Bool). not (nat_eq d.name.source me && b)) low ∙ never (nat_eq d.name.source me)
+
+        there_is : Contains (told_names me page marks) top_name
+        there_is = in_map (λ (m : MarkValue). name_of page m.source m.high) (filter p marks) mark (Contains-filter p marks mark among passes)
+
+      -- so many reports come before it is told
+      record IsToldAt (count : ℕ) : Type 0 where
+        fits : suc count ≤ turns_most
+        page_is : page_in_turn (held_by j) (after_tellings (held_by j) count u) ≡ page
+        among : Contains (marks_in_turn (held_by j) (after_tellings (held_by j) count u)) mark
+
+      told_at : (count : ℕ) × IsToldAt count
+      told_at =
+          let st = cut_at j live_j in
+          let same = still.same st.front st.grown j st.split live_j in
+          let slices : slices_of (held_by j) + slices_on (held_by j) u.page ≤ sizes.slices =
+          subst (λ (h : List DrawopValue). slices_of h + slices_on h u.page ≤ sizes.slices) same
+          (small.slices (newest ++ st.front) (st.grown ++ base) j (cut_split st) live_j) in
+          let t = each_mark_is_told (held_by j) u page mark (page_there (held_by j) d there_d counted) (top_told (held_by j) d there_d counted) in
+          let less = t.1 in
+          (t.0, record { fits = under t.0 (slices_of (held_by j) + slices_on (held_by j) u.page) sizes.slices (2 * sizes.numbers * sizes.holes) less slices; page_is = t.2; among = t.3 }) where
+            under : (count a slices b : ℕ) → count < a → a ≤ slices → suc count ≤ slices + b
+            under count a slices b lt le = omega (arith, lt, le)
+
+      module _ (lacks : holds (held_by i) top_name ≡ false) (held : IsHeldBySome hosts terms trace top_name) where
+        -- the report of it is handed in, and then it is wanted
+        handed_in : (count : ℕ) → IsToldAt count
+            → (b : BehindAt j live_j count) (r : Reports hosts terms trace s j live_j b.front b.part)
+            → r.e.time ≤ from + suc count * span
+            → IsHandedIn (newest ++ r.later) i (r.e.time + terms.delivery) (told_in j live_j count b r) → WantedBy i
+        handed_in count t b r soon h =
+            wanting_in_call hosts terms trace s.opened i top_name held window base c.0
+            (h.between ++ r.e ∷ (r.between ++ b.grown)) older h.call from by split_w is_w
+            (same_place h.call.at.place i h.place) now_is wants behind in_by where
+              more : List TimedLine
+              more = r.e ∷ r.between
+
+              part : List TimedLine
+              part = more ++ b.part
+
+              older : List TimedLine
+              older = h.between ++ part
+
+              k : Keeping
+              k = there hosts older i
+
+              kj : Keeping
+              kj = there hosts (r.between ++ b.part) j
+
+              st_all : IsStill hosts terms trace newest (r.later ++ more) b.part
+              st_all = still_report j live_j count b r
+
+              st_later : IsStill hosts terms trace newest r.later part
+              st_later = still_older hosts terms trace newest r.later more b.part st_all
+
+              last : called_at (window ++ base) ≡ called_at (r.later ++ part)
+              last = ap called_at (ap (λ (t : List TimedLine). t ++ base) (window_report j live_j count b r) ∙ append_assoc r.later (more ++ b.grown) base
+                  ∙ ap (λ (t : List TimedLine). r.later ++ r.e ∷ t) (sym (before_report j live_j count b r)))
+
+              in_by : h.call.time ≤ by
+              in_by = let at = h.soon in let m = more_spans (suc count) turns_most span t.fits in omega (arith, at, soon, m)
+
+              order : AreCalledInOrder (newest ++ (r.later ++ part))
+              order = subst AreCalledInOrder st_later.split s.order
+
+              c : (c : List TimedLine) × (r.later ≡ c ++ h.call ∷ h.between)
+              c = within newest r.later h.later h.between part h.call order h.split (let le = in_by in let e = last in omega (arith, le, before_end, e))
+
+              split_w : window ≡ c.0 ++ h.call ∷ (h.between ++ (more ++ b.grown))
+              split_w =
+                  window_report j live_j count b r ∙ ap (λ (t : List TimedLine). t ++ (more ++ b.grown)) c.1
+                  ∙ append_assoc c.0 (h.call ∷ h.between) (more ++ b.grown)
+
+              is_w : older ≡ (h.between ++ (more ++ b.grown)) ++ base
+              is_w = ap (λ (t : List TimedLine). h.between ++ r.e ∷ t) (before_report j live_j count b r) ∙ sym (append_assoc h.between (more ++ b.grown) base)
+
+              whole : trace ≡ (newest ++ c.0) ++ h.call ∷ older
+              whole =
+                  st_later.split ∙ ap (λ (t : List TimedLine). newest ++ (t ++ part)) c.1
+                  ∙ ap (λ (t : List TimedLine). newest ++ t) (append_assoc c.0 (h.call ∷ h.between) part) ∙ sym (append_assoc newest c.0 (h.call ∷ older))
+
+              same_place : (a b : ℕ) → a ≡ b → nat_eq a b ≡ true
+              same_place a b e = subst (λ (x : ℕ). nat_eq a x ≡ true) e (is_itself a)
+
+              k_held : k.host.is.held ≡ held_by i
+              k_held =
+                  st_later.same (c.0 ++ h.call ∷ []) h.between i (c.1 ∙ sym (append_assoc c.0 (h.call ∷ []) h.between)) live
+                  ∙ st_all.same r.later more i refl live ∙ b.kept i live
+
+              kj_held : kj.host.is.held ≡ held_by j
+              kj_held = held_report j live_j count b r
+
+              kj_told : told_of kj.policy ≡ after_tellings (held_by j) count u
+              kj_told = tells_report j live_j count b r
+
+              told_page : PageId
+              told_page = page_in_turn kj.host.is.held (told_of kj.policy)
+
+              marks : List MarkValue
+              marks = marks_in_turn kj.host.is.held (told_of kj.policy)
+
+              page_is : told_page ≡ page
+              page_is = ap (λ (x : List DrawopValue). page_in_turn x (told_of kj.policy)) kj_held ∙ ap (page_in_turn (held_by j)) kj_told ∙ t.page_is
+
+              among : Contains marks mark
+              among = subst (λ (x : List MarkValue). Contains x mark)
+                  (sym (ap (λ (x : List DrawopValue). marks_in_turn x (told_of kj.policy)) kj_held ∙ ap (marks_in_turn (held_by j)) kj_told)) t.among
+
+              other : kj.host.is.number ≡ k.host.is.number → ⊥
+              other e =
+                  differ (s.distinct j i (sym (of_opening hosts (lines_of (r.between ++ b.part)) j).number ∙ e ∙ (of_opening hosts (lines_of older) i).number))
+
+              report : Datagram
+              report = told_in j live_j count b r
+
+              told_so : IsAskedInCall top_name (came h.now report) k ⊎ LacksCredit (after_doing (came h.now report) k)
+              told_so =
+                  told_wants k h.now kj.host.is.number r.reporting.moment told_page marks r.reporting.echoes other top_name
+                  (in_names k.host.is.number told_page marks page_is among) (record {
+                    answers_held = answers_at hosts (lines_of older) i;
+                    lacks = ap (λ (x : List DrawopValue). holds x top_name) k_held ∙ lacks;
+                    room = room_there hosts terms trace s (newest ++ c.0) older h.call i whole live;
+                  })
+
+              wants : IsAskedInCall top_name (doing_of h.call.at.line) k ⊎ LacksCredit (after_doing (doing_of h.call.at.line) k)
+              wants = subst (λ (line : KeptLine). IsAskedInCall top_name (doing_of line) k ⊎ LacksCredit (after_doing (doing_of line) k)) (sym h.is) told_so
+
+              now_is : present (after_doing (doing_of h.call.at.line) k).host ≡ h.call.time + terms.offset i
+              now_is =
+                  ap (λ (line : KeptLine). present (after_doing (doing_of line) k).host) h.is ∙ came_now h.now report k
+                  ∙ subst (IsTold (h.call.time + terms.offset i)) h.is
+                  (told_there hosts terms trace s (newest ++ c.0) older h.call i whole (same_place h.call.at.place i h.place))
+
+              behind : from < h.call.time
+              behind =
+                  let first = b.behind r.later r.between r.e r.split in
+                  let end = calls_end (h.call ∷ h.between) part (ordered hosts terms trace s (newest ++ c.0) (h.call ∷ older) whole) in
+                  omega (arith, first, end)
+
+        by_report : WantedBy i
+        by_report =
+            let t = told_at in
+            let count = t.0 in
+            let b = behind_at j live_j count (in_time_at_least count t.1.fits) in
+            let found = report_at j live_j count b (in_time count t.1.fits) in
+            told_by count t.1 b found.0 found.1 where
+              told_by : (count : ℕ) → IsToldAt count
+                  → (b : BehindAt j live_j count) (r : Reports hosts terms trace s j live_j b.front b.part)
+                  → r.e.time ≤ from + suc count * span → WantedBy i
+              told_by count t b r soon =
+                  let older = r.between ++ b.part in
+                  let at_j : r.e.at.place ≡ j = eqb-true r.e.at.place j r.place in
+                  let sent =
+                  subst (λ (p : ℕ). Contains (sent_by_doing (doing_of r.e.at.line) (there hosts older p)) (told_in j live_j count b r))
+                  (sym at_j) r.reporting.sends in
+                  let first = b.behind r.later r.between r.e r.split in
+                  let m = more_spans (suc count) turns_most span t.fits in
+                  let end = calls_end newest (window ++ base) (subst AreCalledInOrder still.split s.order) in
+                  let last = ap called_at still.split in
+                  let q = quiet in
+                  handed_in count t b r soon
+                  (s.delivered (newest ++ r.later) older r.e i (told_in j live_j count b r) (split_report j live_j count b r) live (λ same. differ (sym at_j ∙ same))
+                  (omega (arith, q, first, since)) sent (omega (arith, soon, m, end, last, before_end)))
+
+      -- which of both
+      top_or_turn : (is_lacked : holds (held_by i) d.name ≡ false) → IsHeldBySome hosts terms trace d.name → WantedBy i
+      top_or_turn is_lacked held = by_top (holds (held_by i) top_name) refl where
+        at_top : IsHeld (held_by j) page d.name.source top
+        at_top = top_held (held_by j) d there_d counted
+
+        by_top : (b : Bool) → holds (held_by i) top_name ≡ b → WantedBy i
+        by_top true has =
+            by_turn d.name held is_lacked
+            (missing_below (held_by i) d.name top counted (below_top (held_by j) d there_d counted) is_lacked (held-by (held_by i) page d.name.source top has))
+        by_top false lacks =
+            by_report lacks (was_held hosts terms trace (newest ++ window) base j top_name s split_base live_j (held-from (held_by j) page d.name.source top at_top))
+
+    -- ---- any name
+
+    lack_is_wanted_here : (n : NameValue) → IsHeldBySome hosts terms trace n → holds (held_by i) n ≡ false → WantedBy i
+    lack_is_wanted_here n held lacks = by_holder held.0 held.1 held.2 where
+      by_holder : (j : ℕ) → Contains terms.live j
+          → holds (host_after (λ k. start_of (hosts k)) (until (settled_by terms) (performed hosts trace)) j).is.held n ≡ true
+          → WantedBy i
+      by_holder j live_j has =
+          top_or_turn j live_j (λ same. true≢false (sym holds_j ∙ ap (λ (k : ℕ). holds (held_by k) n) same ∙ lacks)) d there_d (numbered d there_d).0 top_small
+          (subst (λ (m : NameValue). holds (held_by i) m ≡ false) (sym name_is) lacks) (subst (IsHeldBySome hosts terms trace) (sym name_is) held) where
+            by_now : (b : Bool) → holds (held_by j) n ≡ b → b ≡ true
+            by_now true e = refl
+            by_now false e =
+                let before = lacked_until hosts s.opened (newest ++ window) base (settled_by terms) j n (subst AreCalledInOrder split_base s.order) settled e in
+                absurd (true≢false (sym has ∙ ap (λ (t : List TimedLine). holds (host_after (λ k. start_of (hosts k)) (until (settled_by terms) (performed hosts t)) j).is.held n) split_base ∙ before))
+
+            holds_j : holds (held_by j) n ≡ true
+            holds_j = by_now (holds (held_by j) n) refl
+
+            at_n : IsHeld (held_by j) n.page n.source n.seq
+            at_n = held-by (held_by j) n.page n.source n.seq holds_j
+
+            d : DrawopValue
+            d = at_n.1
+
+            name_is : d.name ≡ n
+            name_is = at_n.4
+
+            there_d : Contains (held_by j) d
+            there_d = (at_n.0, at_n.2, at_n.3)
+
+            numbered : (x : DrawopValue) → Contains (held_by j) x → (1 ≤ x.name.seq) × (x.name.seq < 2147483648)
+            numbered x c = small.named (newest ++ window) base j x split_base live_j c
+
+            at_top : IsHeld (held_by j) d.name.page d.name.source (highest d.name.page d.name.source (held_by j))
+            at_top = top_held (held_by j) d there_d (numbered d there_d).0
+
+            top_small : highest d.name.page d.name.source (held_by j) < 2147483648
+            top_small =
+                let small_top = (numbered at_top.1 (at_top.0, at_top.2, at_top.3)).1 in
+                let e = ap (λ (m : NameValue). m.seq) at_top.4 in
+                omega (arith, small_top, e)
+
+pub lack_is_wanted : HeldWasHeld → LackIsWanted
+lack_is_wanted was_held hosts terms trace newest window base sizes wait most i from n all still late live held lacks since before_end =
+    lack_is_wanted_here was_held hosts terms trace newest window base sizes all.session all.within still
+    (settled terms (called_at base) wait all.session.reported late) from since before_end i live n held lacks where
+      settled : (terms : Terms) (time wait : ℕ) → 1 ≤ terms.reporting → known_from terms + wait + repairing terms ≤ time → settled_by terms < time
+      settled terms time wait some le = omega (arith, some, le)

@@ -1,0 +1,219 @@
+-- Where there is no credit behind a call, what another holds was asked for in the last 21 seconds: what is owed is at most 16 seconds ahead of the present
+-- moment, and turns alone, one a report, cost a quarter of a second a second at most.
+use Rattle.std.proofs.Common.{◌≡◌, ℕ, ◌+◌, ◌-◌, ◌*◌, ◌<◌, ◌≤◌, Bool, true, false, List, [], ◌∷◌, ◌++◌, ◌∙◌, None, ap, append_assoc, arith, eqb-true, inl, inr, max, refl, subst, sym, true≢false, ⊎_elim}
+use Rattle.std.specs.Prelude.{◌≢◌, ◌⊎◌, Contains, min, nat_eq}
+use Rattle.std.proofs.lemmas.Bool.Decides.{leb_tells}
+use Rattle.wb_names.specs.Values.{NameValue}
+use Rattle.wb_progress.specs.InTime.{known_from, repairing}
+use Rattle.wb_progress.specs.Turns.{Terms, settled_by}
+use Rattle.wb_progress.proofs.OneCall.{le_true}
+use Rattle.wb_member.specs.Opened.{present}
+use Rattle.wb_keeping.specs.Credit.{cost, has_credit, spent}
+use Rattle.wb_keeping.specs.Kept.{Asks}
+use Rattle.wb_keeping.specs.Laws.{doing_of, fault_of}
+use Rattle.wb_keeping.specs.Performing.{Keeping, after_doing, sees}
+use Rattle.wb_keeping.specs.Policy.{Policy}
+use Rattle.wb_kept_progress.specs.Sessions.{AreTaken, Opening}
+use Rattle.wb_kept_progress.specs.Timed.{Performed, TimedLine, called_at, lines_of, time_of}
+use Rattle.wb_kept_progress.specs.Whole.{IsHeldBySome, IsTimelySession, there}
+use Rattle.wb_kept_progress.proofs.AsksStand.{asks_stand}
+use Rattle.wb_kept_progress.proofs.CallParts.{calls_end}
+use Rattle.wb_kept_progress.proofs.InTurn.{IsIdle, IsReporting, IsTimedCall, one_or_other}
+use Rattle.wb_kept_progress.proofs.NextReports.{ordered, still_newer, there_here, there_other, window_call}
+use Rattle.wb_kept_progress.proofs.OwedAndDue.{now_there, owed_there, taken_of}
+use Rattle.wb_kept_progress.proofs.StillCalls.{IsTuning}
+use Rattle.wb_kept_progress.proofs.Turning.{answers_at}
+use Rattle.wb_kept_progress.proofs.WantingCalls.{asking_in_call}
+use Rattle.wb_kept_progress.proofs.WholeParts.{CreditIsSpent, IsAsking, IsStill, NoCreditIsAsked, does}
+
+-- ---- what is owed at moments up to one, from 21 seconds before it on
+
+-- at a moment, where a report is due at one: a report costs a quarter of a second, and the next comes a second later at least
+abbrev IsCovered : ℕ → ℕ → ℕ → ℕ → Type 0
+IsCovered owed due now last = 4 * owed ≤ 1000000 + 3 * last + max (min due (now + 1000000)) (last - 21000000)
+
+covered_first : (owed due now moment last : ℕ) → owed ≤ moment + 16000000 → moment + 21000000 ≤ last → IsCovered owed due now last
+covered_first owed due now moment last le before = omega (arith, le, before)
+
+covered_on : (owed owes due later now then last : ℕ) → owes ≤ owed → due ≤ later → now ≤ then → IsCovered owed due now last → IsCovered owes later then last
+covered_on owed owes due later now then last le rises goes covered = omega (arith, le, rises, goes, covered)
+
+covered_report : (owed owes due later now then last : ℕ) → owes ≤ max owed then + 250000 → due ≤ then → then + 1000000 ≤ later → last ≤ then + 21000000
+    → then ≤ last → IsCovered owed due now last → IsCovered owes later then last
+covered_report owed owes due later now then last le due_then next after before covered = omega (arith, le, due_then, next, after, before, covered)
+
+covered_last : (owed due last : ℕ) → 21000000 ≤ last → IsCovered owed due last last → has_credit owed last ≡ true
+covered_last owed due last long covered = le_true (max owed last - last) (63 * cost) (omega (arith, long, covered))
+
+-- ---- in a window in which what is held stays
+
+module _ (is_spent : CreditIsSpent) (hosts : ℕ → Opening) (terms : Terms) (trace newest window base : List TimedLine) (s : IsTimelySession hosts terms trace)
+    (still : IsStill hosts terms trace newest window base) (late : settled_by terms < called_at base)
+    (i : ℕ) (live : Contains terms.live i) (last : ℕ) (long : called_at base + 21000000 ≤ last) where
+  -- something that some hold was asked for lately
+  abbrev IsFound : Type 0
+  IsFound = (back : List Performed) × IsAsking hosts terms trace (window ++ base) i back × (last ≤ time_of back + 21000000)
+
+  abbrev moment : ℕ
+  moment = last + terms.offset i
+
+  abbrev IsPaid : Keeping → Type 0
+  IsPaid k = IsCovered k.policy.owed k.policy.reports.due (present k.host) moment
+
+  split_at : (front part : List TimedLine) → window ≡ front ++ part → trace ≡ (newest ++ front) ++ (part ++ base)
+  split_at front part split =
+      still.split ∙ ap (λ (t : List TimedLine). newest ++ (t ++ base)) split ∙ ap (λ (t : List TimedLine). newest ++ t) (append_assoc front part base)
+      ∙ sym (append_assoc newest front (part ++ base))
+
+  paid_first : (front part : List TimedLine) → window ≡ front ++ part → called_at (part ++ base) + 21000000 ≤ last → IsPaid (there hosts (part ++ base) i)
+  paid_first front part split before =
+      let k = there hosts (part ++ base) i in
+      let owed = owed_there hosts terms trace (newest ++ front) (part ++ base) i s (split_at front part split) in
+      covered_first k.policy.owed k.policy.reports.due (present k.host) (called_at (part ++ base) + terms.offset i) moment owed (omega (arith, before))
+
+  -- a call in the last 21 seconds
+  module _ (front rest : List TimedLine) (e : TimedLine) (split : window ≡ front ++ e ∷ rest) (lately : last < e.time + 21000000) (by_last : e.time ≤ last)
+      (here : nat_eq e.at.place i ≡ true) where
+    abbrev older : List TimedLine
+    older = rest ++ base
+
+    abbrev k : Keeping
+    k = there hosts older i
+
+    abbrev next : Keeping
+    next = there hosts (e ∷ older) i
+
+    abbrev then : ℕ
+    then = e.time + terms.offset i
+
+    at_i : e.at.place ≡ i
+    at_i = eqb-true e.at.place i here
+
+    whole : trace ≡ (newest ++ front) ++ e ∷ older
+    whole = split_at front (e ∷ rest) split
+
+    still_here : IsStill hosts terms trace (newest ++ front) (e ∷ rest) base
+    still_here =
+        still_newer hosts terms trace newest front (e ∷ rest) base (subst (λ (t : List TimedLine). IsStill hosts terms trace newest t base) split still)
+
+    settled : settled_by terms < e.time
+    settled =
+        let order = ordered hosts terms trace s (newest ++ front) (e ∷ older) whole in
+        let end = calls_end (e ∷ rest) base order in
+        omega (arith, late, end)
+
+    goes_on : present k.host ≤ then
+    goes_on =
+        let now = now_there hosts terms trace ((newest ++ front) ++ e ∷ []) older i s (whole ∙ sym (append_assoc (newest ++ front) (e ∷ []) older)) in
+        let order = ordered hosts terms trace s (newest ++ front) (e ∷ older) whole in
+        let first = order.0 in
+        omega (arith, now, first)
+
+    same_held : next.host.is.held ≡ k.host.is.held
+    same_held = still_here.same [] (e ∷ rest) i refl live ∙ sym (still_here.same (e ∷ []) rest i refl live)
+
+    not_refused : fault_of e.at.line k ≡ None
+    not_refused =
+        subst (λ (p : ℕ). fault_of e.at.line (there hosts older p) ≡ None) at_i
+        (taken_of hosts (newest ++ front) (e ∷ older) (subst (λ (t : List TimedLine). AreTaken hosts (lines_of t)) whole s.taken)).0
+
+    found : (n : NameValue) → Contains (does hosts e older) (Asks n) → IsHeldBySome hosts terms trace n → IsFound
+    found n c held =
+        let asked = subst (λ (p : ℕ). let m = there hosts older p in Contains (doing_of e.at.line (sees m.host) m.policy).lines (Asks n)) at_i c in
+        let a =
+        asking_in_call hosts terms trace s.opened i n held window base front rest e split here
+        (asks_stand e.at.line k n not_refused (answers_at hosts (lines_of older) i) asked) in
+        let time = a.2 in
+        (a.0, a.1, omega (arith, time, lately))
+
+    -- what it spends, as said of its place
+    abbrev Spends : ℕ → Type 0
+    Spends p =
+        let k = there hosts older p in
+        let next = there hosts (e ∷ older) p in
+        ((n : NameValue) × Contains (does hosts e older) (Asks n) × IsHeldBySome hosts terms trace n)
+        ⊎ ((next.host.is.held ≢ k.host.is.held)
+        ⊎ ((next.policy.owed ≤ k.policy.owed)
+        ⊎ ((k.policy.reports.due ≤ e.time + terms.offset p) × (next.policy.owed ≤ spent k.policy.owed (e.time + terms.offset p)))))
+
+    spends : Spends i
+    spends = subst Spends at_i (is_spent hosts terms trace (newest ++ front) older e s whole settled)
+
+    -- by what became of the moment and of the next report
+    record IsLater : Type 0 where
+      rises : k.policy.reports.due ≤ next.policy.reports.due
+      passes : present k.host ≤ present next.host
+      reports : k.policy.reports.due ≤ then → (then + 1000000 ≤ next.policy.reports.due) × (present next.host ≡ then)
+
+    idle_later : IsIdle (doing_of e.at.line) k then → IsLater
+    idle_later idle =
+        let is = there_here hosts e older i here in
+        let due = ap (λ (x : Keeping). x.policy.reports.due) is ∙ idle.same.due in
+        let now = ap (λ (x : Keeping). present x.host) is ∙ idle.now_is in
+        let early = idle.early in
+        let on = goes_on in
+        record { rises = omega (arith, due); passes = omega (arith, now, on); reports = λ le. absurd (omega (arith, early, le)) }
+
+    reporting_later : IsReporting (doing_of e.at.line) k then → IsLater
+    reporting_later reports =
+        let is = there_here hosts e older i here in
+        let due = ap (λ (x : Keeping). x.policy.reports.due) is in
+        let now = ap (λ (x : Keeping). present x.host) is ∙ reports.now_is in
+        let least = reports.least in
+        let before = reports.late in
+        let on = goes_on in
+        record { rises = omega (arith, due, least, before); passes = omega (arith, now, on); reports = λ le. (omega (arith, due, least), now) }
+
+    by_later : IsLater → IsPaid k → IsFound ⊎ IsPaid next
+    by_later later paid = ⊎_elim
+        (λ (f : (n : NameValue) × Contains (does hosts e older) (Asks n) × IsHeldBySome hosts terms trace n). inl (found f.0 f.1 f.2))
+        (⊎_elim
+        (λ (differs : next.host.is.held ≢ k.host.is.held). absurd (differs same_held))
+        (⊎_elim
+        (λ (le : next.policy.owed ≤ k.policy.owed). inr (covered_on k.policy.owed next.policy.owed k.policy.reports.due next.policy.reports.due (present k.host) (present next.host) moment le later.rises later.passes paid))
+        (λ (r : (k.policy.reports.due ≤ then) × (next.policy.owed ≤ spent k.policy.owed then)).
+        let n = later.reports r.0 in
+        inr (subst (λ (now : ℕ). IsCovered next.policy.owed next.policy.reports.due now moment) (sym n.1)
+        (covered_report k.policy.owed next.policy.owed k.policy.reports.due next.policy.reports.due (present k.host) then moment r.1 r.0 n.0 (omega (arith, lately)) (omega (arith, by_last)) paid)))))
+        spends
+
+    paid_next : IsPaid k → IsFound ⊎ IsPaid next
+    paid_next paid = ⊎_elim
+        (λ (t : IsTuning (doing_of e.at.line) k).
+        let is = there_here hosts e older i here in
+        inr (subst IsPaid (sym is) (subst (λ (p : Policy). IsCovered p.owed p.reports.due (present (after_doing (doing_of e.at.line) k).host) moment) (sym t.policy)
+        (subst (λ (now : ℕ). IsCovered k.policy.owed k.policy.reports.due now moment) (sym t.now_is) paid))))
+        (λ (c : IsTimedCall (doing_of e.at.line) k then). by_later (⊎_elim idle_later reporting_later (one_or_other (doing_of e.at.line) k then c)) paid)
+        (window_call hosts terms trace s i live (newest ++ front) rest base e still_here (omega (arith, late)) here)
+
+  paid_at : (front part : List TimedLine) → window ≡ front ++ part → called_at (part ++ base) ≤ last → IsFound ⊎ IsPaid (there hosts (part ++ base) i)
+  paid_at front [] split le = inr (paid_first front [] split long)
+  paid_at front (e ∷ rest) split le = ⊎_elim
+      (λ yes. inr (paid_first front (e ∷ rest) split yes.1))
+      (λ no. ⊎_elim
+      (λ (f : IsFound). inl f)
+      (λ (paid : IsPaid (there hosts (rest ++ base) i)). by paid no.1 (nat_eq e.at.place i) refl)
+      (paid_at (front ++ e ∷ []) rest (split ∙ sym (append_assoc front (e ∷ []) rest)) (before le)))
+      (leb_tells (e.time + 21000000) last) where
+        before : e.time ≤ last → called_at (rest ++ base) ≤ last
+        before le = let order = ordered hosts terms trace s (newest ++ front) (e ∷ (rest ++ base)) (split_at front (e ∷ rest) split) in let first = order.0 in omega (arith, first, le)
+
+        by : IsPaid (there hosts (rest ++ base) i) → last < e.time + 21000000 → (b : Bool) → nat_eq e.at.place i ≡ b
+            → IsFound ⊎ IsPaid (there hosts (e ∷ (rest ++ base)) i)
+        by paid lately true here = paid_next front rest e split lately le here paid
+        by paid lately false other = inr (subst IsPaid (sym (there_other hosts e (rest ++ base) i other)) paid)
+
+pub no_credit_is_asked : CreditIsSpent → NoCreditIsAsked
+no_credit_is_asked is_spent hosts terms trace newest window base front part sizes wait most i all still late live split long none =
+    let k = there hosts (part ++ base) i in
+    let last = called_at (part ++ base) in
+    let moment = last + terms.offset i in
+    ⊎_elim
+    (λ (f : (back : List Performed) × IsAsking hosts terms trace (window ++ base) i back × (last ≤ time_of back + 21000000)). f)
+    (λ (paid : IsCovered k.policy.owed k.policy.reports.due (present k.host) moment).
+    let covered = subst (λ (now : ℕ). IsCovered k.policy.owed k.policy.reports.due now moment) none.0 paid in
+    let credit = covered_last k.policy.owed k.policy.reports.due moment (omega (arith, long)) covered in
+    absurd (true≢false (sym credit ∙ ap (λ (now : ℕ). has_credit k.policy.owed now) (sym none.0) ∙ none.1)))
+    (paid_at is_spent hosts terms trace newest window base all.session still (settled terms (called_at base) wait all.session.reported late) i live last (omega (arith, long)) front part split (omega arith)) where
+      settled : (terms : Terms) (time wait : ℕ) → 1 ≤ terms.reporting → known_from terms + wait + repairing terms ≤ time → settled_by terms < time
+      settled terms time wait some le = omega (arith, some, le)

@@ -1,0 +1,155 @@
+-- Nothing new comes to live places: what one of them holds, one of them held once what was on its way had arrived.
+use Rattle.std.proofs.Common.{◌≡◌, ◌⊎◌, ℕ, ◌<◌, ◌≤◌, Bool, true, false, cond, List, [], ◌∷◌, ◌++◌, ◌∙◌, ap, append_assoc, arith, inl, inr, refl, subst, sym, true≢false, ⊎_elim}
+use Rattle.std.specs.Prelude.{Contains, nat_eq, nat_le}
+use Rattle.std.proofs.lemmas.Bool.{cases_lt}
+use Rattle.wb_names.specs.Values.{DrawopValue, NameValue}
+use Rattle.wb_names.proofs.Listings.{Contains-cases, Contains-none}
+use Rattle.wb_codec.specs.declared.datagram.Datagram.TheVariants.{Draw, Session, Request, AskPages, PageState}
+use Rattle.wb_host.proofs.KeptCalls.{holds_from}
+use Rattle.wb_progress.specs.Turns.{Terms, settled_by}
+use Rattle.wb_progress.proofs.Giving.{held_as}
+use Rattle.wb_progress.proofs.OneCall.{le_true}
+use Rattle.wb_member.specs.Judged.{holds}
+use Rattle.wb_member.specs.Members.{Misses, Takes}
+use Rattle.wb_member.specs.Opened.{Opened, accepted, doing, has_room_for, heard, may_ask, present}
+use Rattle.wb_member.specs.Random.{word_of}
+use Rattle.wb_session.proofs.Members.{held_after}
+use Rattle.wb_keeping.specs.Kept.{Arrives, Asks, Hears, Line, Says, SetsDistance, Tunes, Stops, Ticks}
+use Rattle.wb_keeping.specs.Performing.{after_line}
+use Rattle.wb_kept_progress.specs.Timed.{IsAnswerable, IsTimely, Performed, Start, WasSent, host_after, performed, start_of, until}
+use Rattle.wb_kept_progress.proofs.CallLines.{nil_ends}
+use Rattle.wb_kept_progress.proofs.CallParts.{host_is}
+use Rattle.wb_kept_progress.proofs.CallsInTime.{performed_is_timely}
+use Rattle.wb_kept_progress.proofs.KeptInTime.{front_of}
+use Rattle.wb_kept_progress.proofs.PerLine.{draws}
+use Rattle.wb_kept_progress.proofs.Timely.{held_later, tails}
+use Rattle.wb_kept_progress.proofs.WholeParts.{HeldWasHeld}
+
+-- ---- one line
+
+-- it was held before, or comes by the line
+abbrev WasOrComes : Line → Opened → NameValue → Type 0
+WasOrComes line host n = (holds host n ≡ true) ⊎ ((d : DrawopValue) × (d.name ≡ n) × ((line ≡ Arrives d) ⊎ (line ≡ Says (Draw d))))
+
+arrival_new : (d : DrawopValue) (host : Opened) (n : NameValue) → holds (accepted d host) n ≡ true → (holds host n ≡ true) ⊎ (d.name ≡ n)
+arrival_new d host n e =
+    let x = held_as (accepted d host).is.held n e in
+    ⊎_elim
+    (λ (c : Contains host.is.held x.0). inl (holds_from host.is.held n x.0 c x.2))
+    (λ (c : Contains (d ∷ []) x.0). inr (⊎_elim (λ (same : d ≡ x.0). ap (λ (y : DrawopValue). y.name) same ∙ x.2) (λ (none : Contains [] x.0). absurd (Contains-none x.0 none)) (Contains-cases d x.0 [] c)))
+    (held_after (Takes (present host) (d ∷ []) (d ∷ [])) host.is x.0 x.1)
+
+line_new : (line : Line) (host : Opened) (n : NameValue) → holds (after_line line host) n ≡ true → WasOrComes line host n
+line_new (Ticks now) host n e = inl e
+line_new (Arrives d) host n e = ⊎_elim
+    (λ (h : holds host n ≡ true). inl h)
+    (λ (named : d.name ≡ n). inr (d, named, inl refl))
+    (arrival_new d host n e)
+line_new (Hears v) host n e = by (has_room_for v host) e where
+  by : (b : Bool) → holds (cond b (heard v host) host) n ≡ true → WasOrComes (Hears v) host n
+  by true e = inl e
+  by false e = inl e
+line_new (Asks name) host n e = by (may_ask name host) e where
+  by : (b : Bool) → holds (cond b (doing (Misses (present host) (name ∷ []) (word_of host.random ∷ [])) 1 host) host) n ≡ true → WasOrComes (Asks name) host n
+  by true e = inl e
+  by false e = inl e
+line_new (Stops name) host n e = inl e
+line_new (SetsDistance source micros) host n e = inl e
+line_new (Tunes constants) host n e = inl e
+line_new (Says (Draw d)) host n e = ⊎_elim
+    (λ (h : holds host n ≡ true). inl h)
+    (λ (named : d.name ≡ n). inr (d, named, inr refl))
+    (arrival_new d host n e)
+line_new (Says (Session sender sent page marks echoes)) host n e = inl e
+line_new (Says (Request asker name)) host n e = inl e
+line_new (Says (AskPages asker)) host n e = inl e
+line_new (Says (PageState sender page marks)) host n e = inl e
+
+-- ---- parts of a trace
+
+-- a part that ends in time is within the part up to the time
+up_to : (s : ℕ) (newer older : List Performed) (e : Performed) → e.time ≤ s → (more : List Performed) × (until s (newer ++ e ∷ older) ≡ more ++ e ∷ older)
+up_to s [] older e le = ([], ap (λ (b : Bool). cond b (e ∷ older) (until s older)) (le_true e.time s le))
+up_to s (x ∷ newer) older e le = from (up_to s newer older e le) (nat_le x.time s) where
+  from : (more : List Performed) × (until s (newer ++ e ∷ older) ≡ more ++ e ∷ older) → (b : Bool) → (more : List Performed) × (cond b (x ∷ (newer ++ e ∷ older)) (until s (newer ++ e ∷ older)) ≡ more ++ e ∷ older)
+  from rest true = (x ∷ newer, refl)
+  from rest false = rest
+
+-- ---- each part
+
+module _ (hosts : ℕ → Start) (terms : Terms) (trace : List Performed) (timely : IsTimely hosts terms trace) (n : NameValue) where
+  abbrev Goal : Type 0
+  Goal = IsAnswerable hosts terms trace n
+
+  abbrev Has : List Performed → ℕ → Type 0
+  Has part i = holds (host_after hosts part i) n ≡ true
+
+  -- each part of the trace that is no longer than this one
+  abbrev Up : List Performed → Type 0
+  Up longest = (between part newer : List Performed) (i : ℕ) → longest ≡ between ++ part → trace ≡ newer ++ part → Contains terms.live i → Has part i → Goal
+
+  early : (newer older : List Performed) (e : Performed) (i : ℕ) → trace ≡ newer ++ e ∷ older → e.time ≤ settled_by terms → Contains terms.live i → Has (e ∷ older) i → Goal
+  early newer older e i split le live held =
+      let w = up_to (settled_by terms) newer older e le in
+      let same : until (settled_by terms) trace ≡ w.0 ++ e ∷ older = ap (until (settled_by terms)) split ∙ w.1 in
+      (i, live, ap (λ (t : List Performed). holds (host_after hosts t i) n) same ∙ held_later hosts w.0 (e ∷ older) i n held)
+
+  -- who sent it held it
+  from_sender : (newer older : List Performed) (e : Performed) (d : DrawopValue) → trace ≡ newer ++ e ∷ older → settled_by terms < e.time → Up older → d.name ≡ n → WasSent hosts older e.time terms.delivery (Draw d) → Goal
+  from_sender newer older e d split late up named w = ⊎_elim
+      (λ (c : Contains host.is.held d).
+      up (w.newer ++ w.e ∷ []) w.before ((newer ++ e ∷ w.newer) ++ w.e ∷ []) w.e.place
+      (w.split ∙ sym (append_assoc w.newer (w.e ∷ []) w.before))
+      (whole ∙ sym (append_assoc (newer ++ e ∷ w.newer) (w.e ∷ []) w.before))
+      (timely.alone (newer ++ e ∷ w.newer) w.before w.e whole quiet)
+      (holds_from host.is.held n d c named))
+      (λ (t : (x : DrawopValue) × (w.e.line ≡ Says (Draw x))). absurd ((timely.quiet (newer ++ e ∷ w.newer) w.before w.e whole quiet).drawn t.0 t.1))
+      (draws w.e.line host d w.sent) where
+        host : Opened
+        host = host_after hosts w.before w.e.place
+
+        whole : trace ≡ (newer ++ e ∷ w.newer) ++ w.e ∷ w.before
+        whole = split ∙ ap (λ (t : List Performed). newer ++ e ∷ t) w.split ∙ sym (append_assoc newer (e ∷ w.newer) (w.e ∷ w.before))
+
+        quiet : terms.quiet < w.e.time
+        quiet = let soon = w.soon in omega (arith, late, soon)
+
+  late_line : (newer older : List Performed) (e : Performed) (i : ℕ) → trace ≡ newer ++ e ∷ older → settled_by terms < e.time → Up older → Contains terms.live i → Has (e ∷ older) i → Goal
+  late_line newer older e i split late up live held = by (nat_eq e.place i) held where
+    before : Has older i → Goal
+    before had = up [] older (newer ++ e ∷ []) i refl (split ∙ sym (append_assoc newer (e ∷ []) older)) live had
+
+    quiet : terms.quiet < e.time
+    quiet = omega (arith, late)
+
+    by : (b : Bool) → holds (cond b (after_line e.line (host_after hosts older i)) (host_after hosts older i)) n ≡ true → Goal
+    by false had = before had
+    by true had = ⊎_elim
+        (λ (h : holds (host_after hosts older i) n ≡ true). before h)
+        (λ (c : (d : DrawopValue) × (d.name ≡ n) × ((e.line ≡ Arrives d) ⊎ (e.line ≡ Says (Draw d)))). ⊎_elim
+        (λ (is : e.line ≡ Arrives c.0). from_sender newer older e c.0 split late up c.1 (timely.fresh_drawops newer older e c.0 split late is))
+        (λ (is : e.line ≡ Says (Draw c.0)). absurd ((timely.quiet newer older e split quiet).drawn c.0 is))
+        c.2)
+        (line_new e.line (host_after hosts older i) n had)
+
+  one_part : (newer older : List Performed) (e : Performed) (i : ℕ) → Up older → trace ≡ newer ++ e ∷ older → Contains terms.live i → Has (e ∷ older) i → Goal
+  one_part newer older e i up split live held = ⊎_elim
+      (λ (late : settled_by terms < e.time). late_line newer older e i split late up live held)
+      (λ (le : e.time ≤ settled_by terms). early newer older e i split le live held)
+      (cases_lt (settled_by terms) e.time)
+
+  each_part : (longest : List Performed) → Up longest
+  each_part [] [] part newer i is split live held = absurd (true≢false (sym held ∙ ap (λ (t : List Performed). holds (host_after hosts t i) n) (sym is)))
+  each_part [] (b ∷ between) part newer i is split live held = absurd (nil_ends [] b (between ++ part) is)
+  each_part (e ∷ older) [] part newer i is split live held =
+      one_part newer older e i (each_part older) (split ∙ ap (λ (t : List Performed). newer ++ t) (sym is)) live (subst (λ (t : List Performed). Has t i) (sym is) held)
+  each_part (e ∷ older) (b ∷ between) part newer i is split live held = each_part older between part newer i (tails e b older (between ++ part) is) split live held
+
+  pub nothing_new : (front back : List Performed) (i : ℕ) → trace ≡ front ++ back → Contains terms.live i → Has back i → Goal
+  nothing_new front back i split live held = each_part back [] back front i refl split live held
+
+pub held_was_held : HeldWasHeld
+held_was_held hosts terms trace newer older i n s split live held =
+    let f = front_of hosts newer older in
+    nothing_new (λ j. start_of (hosts j)) terms (performed hosts trace) (performed_is_timely hosts terms trace s) n f.0 (performed hosts older) i (ap (performed hosts) split ∙ f.1) live
+    (ap (λ (h : Opened). holds h n) (host_is hosts s.opened older i) ∙ held)

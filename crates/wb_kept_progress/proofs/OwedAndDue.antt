@@ -1,0 +1,169 @@
+-- What is owed is at most 16 seconds ahead of the present moment, and the next report is due within 96 seconds of it.
+use Rattle.std.proofs.Common.{◌≡◌, ℕ, ◌+◌, ◌-◌, ◌*◌, ◌≤◌, Bool, true, false, cond, List, [], ◌∷◌, ◌++◌, ap, arith, eqb-true, map, max, refl, subst, sym, ⊎_elim}
+use Rattle.std.specs.Prelude.{◌%◌, None, nat_eq, not, take}
+use Rattle.std.proofs.lemmas.Bool.{and_parts, leb-true}
+use Rattle.wb_names.specs.Values.{NameValue}
+use Rattle.wb_codec.specs.declared.datagram.Datagram.{Datagram}
+use Rattle.wb_gaps.specs.Answers.{pages_of}
+use Rattle.wb_progress.specs.Turns.{Terms}
+use Rattle.wb_member.specs.Opened.{has_room_for, heard, opened_with, present}
+use Rattle.wb_keeping.specs.Credit.{cost}
+use Rattle.wb_keeping.specs.Kept.{Doing, Hears, Line, Says, Ticks, state_of, still, want}
+use Rattle.wb_keeping.specs.Laws.{doing_of, fault_of}
+use Rattle.wb_keeping.specs.Performing.{Keeping, after_doing, after_lines, sees, view_of}
+use Rattle.wb_keeping.specs.Policy.{View, after_answer, after_wanting, holds, is_full, level}
+use Rattle.wb_keeping.specs.Wanting.{goes_on, is_wanted}
+use Rattle.wb_keeping.specs.Words.{started, word_of}
+use Rattle.wb_keeping.proofs.EachStep.{HoldsOfSteps, doing, having, having_done, line_holds}
+use Rattle.wb_keeping.proofs.Saying.{says_after}
+use Rattle.wb_keeping.proofs.Wanted.{lines_wanted}
+use Rattle.wb_kept_progress.specs.Sessions.{AreTaken, LineAt, Opening, kept_at, opened, opened_host}
+use Rattle.wb_kept_progress.specs.Timed.{IsTold, TellTimes, TimedLine, called_at, lines_of}
+use Rattle.wb_kept_progress.specs.Whole.{AreCalledInOrder, IsTimelySession, there}
+use Rattle.wb_kept_progress.proofs.CallParts.{calls_order}
+use Rattle.wb_kept_progress.proofs.Going.{want_small}
+use Rattle.wb_kept_progress.proofs.Lines.{lines_rest}
+use Rattle.wb_kept_progress.proofs.StillCalls.{IsTuning, call_now}
+use Rattle.wb_kept_progress.proofs.Turning.{next_soon}
+use Rattle.wb_kept_progress.proofs.WholeParts.{ReportsAreDue}
+
+-- ---- each step of a policy
+
+pub record IsNearNow (k : Keeping) : Type 0 where
+  pub owed : k.policy.owed ≤ present k.host + 16000000
+  pub due : k.policy.reports.due ≤ present k.host + 96000000
+
+record StaysNear (k : Keeping) (lines : List Line) (m : Keeping) : Type 0 where
+  near : IsNearNow k → IsNearNow m
+
+near_then : (k m : Keeping) → m.policy.owed ≤ k.policy.owed → m.policy.reports.due ≡ k.policy.reports.due → present k.host ≤ present m.host → IsNearNow k
+    → IsNearNow m
+near_then k m owed due now n = record { owed = let o = n.owed in omega (arith, o, owed, now); due = let d = n.due in omega (arith, d, due, now) }
+
+same_near : (k m : Keeping) → m.policy.owed ≡ k.policy.owed → m.policy.reports.due ≡ k.policy.reports.due → present m.host ≡ present k.host → IsNearNow k
+    → IsNearNow m
+same_near k m owed due now n = near_then k m (omega (arith, owed)) due (omega (arith, now)) n
+
+hears_near : (v : Datagram) (k : Keeping) → IsNearNow k → IsNearNow (having (Hears v) k)
+hears_near v k n = by (has_room_for v k.host) where
+  by : (b : Bool) → IsNearNow (record { host = cond b (heard v k.host) k.host; policy = k.policy })
+  by true = record { owed = n.owed; due = n.due }
+  by false = record { owed = n.owed; due = n.due }
+
+wants_near : (name : NameValue) (anew : Bool) (k : Keeping) → IsNearNow k → IsNearNow (after_doing (want name anew) k)
+wants_near name anew k n = record {
+  owed = let o = by (is_wanted (holds v name) (is_full v) anew (level v name) k.policy.owed v.now) refl in let t = now in omega (arith, o, t);
+  due = let d = due_by (is_wanted (holds v name) (is_full v) anew (level v name) k.policy.owed v.now) in let t = now in let near = n.due in omega (arith, d, t, near);
+} where
+  v : View
+  v = view_of k.host
+
+  wanted : Doing
+  wanted = record { policy = after_wanting v.now k.policy; lines = lines_wanted name anew (sees k.host) k.policy }
+
+  now : present (after_doing (want name anew) k).host ≡ present k.host
+  now = (lines_rest (want name anew (sees k.host) k.policy).lines k.host (want_small name anew (sees k.host) k.policy)).now
+
+  one_more : (owed now : ℕ) → max owed now - now ≤ 63 * cost → max owed now + cost ≤ now + 16000000
+  one_more owed now le = omega (arith, le)
+
+  by : (b : Bool) → is_wanted (holds v name) (is_full v) anew (level v name) k.policy.owed v.now ≡ b
+      → (let d : Doing = cond b wanted (still (sees k.host) k.policy) in d.policy.owed) ≤ present k.host + 16000000
+  by false e = n.owed
+  by true e =
+      let one = and_parts (not (holds v name)) _ e in
+      let two = and_parts (not (is_full v)) _ one.1 in
+      let three = and_parts (not (goes_on anew (level v name))) _ two.1 in
+      one_more k.policy.owed v.now (leb-true _ _ three.1)
+
+  due_by : (b : Bool) → (let d : Doing = cond b wanted (still (sees k.host) k.policy) in d.policy.reports.due) ≡ k.policy.reports.due
+  due_by true = refl
+  due_by false = refl
+
+steps_stay_near : HoldsOfSteps StaysNear
+steps_stay_near = record {
+  nothing = λ k. record { near = λ n. n };
+  both = λ k m l one other a b. record { near = λ n. b.near (a.near n) };
+  ticks = λ now k later. record { near = λ n. near_then k (having (Ticks now) k) (omega arith) refl later n };
+  arrives = λ d k. record { near = λ n. record { owed = n.owed; due = n.due } };
+  answered = λ d k lacks asked. record { near = λ n. record { owed = let o = n.owed in omega (arith, o); due = n.due } };
+  hears = λ v k. record { near = hears_near v k };
+  stops = λ name k full. record { near = λ n. record { owed = n.owed; due = n.due } };
+  sets = λ source micros k. record { near = λ n. record { owed = n.owed; due = n.due } };
+  tunes = λ constants k within. record { near = λ n. record { owed = n.owed; due = n.due } };
+  wants = λ name anew k. record { near = wants_near name anew k };
+  draws = λ d k. record { near = λ n. record { owed = n.owed; due = n.due } };
+  turned = λ t k. record { near = λ n. record { owed = n.owed; due = n.due } };
+  measured = λ micros k. record { near = λ n. record { owed = n.owed; due = n.due } };
+  told = λ k. record { near = λ n. record { owed = n.owed; due = n.due } };
+  takes_up = λ k is. record { near = λ n. record { owed = n.owed; due = n.due } };
+  answers = λ k is. record { near = λ n. same_near k (having_done (doing (after_answer (present k.host) k.policy) (map (λ page. Says (state_of (view_of k.host) page)) (take 64 (pages_of k.host.is.held)))) k) refl refl (ap present (says_after (view_of k.host) (take 64 (pages_of k.host.is.held)) k.host)) n };
+  asks_pages = λ k is. record { near = λ n. record { owed = n.owed; due = n.due } };
+  reports = λ page told k is. record { near = λ n. record { owed = n.owed; due = next_soon (present k.host) _ (word_of k.policy.words) } };
+}
+
+-- ---- hosts after calls
+
+begins_near : (o : Opening) → IsNearNow (opened o)
+begins_near o = record { owed = omega arith; due = soon (present (opened_host o)) (word_of (started o.seed)) } where
+  soon : (now word : ℕ) → now + word % (1000000 + 1) ≤ now + 96000000
+  soon now word = omega arith
+
+pub near_at : (hosts : ℕ → Opening) (lines : List LineAt) (i : ℕ) → AreTaken hosts lines → IsNearNow (kept_at hosts lines i)
+near_at hosts [] i taken = begins_near (hosts i)
+near_at hosts (e ∷ older) i taken = by (near_at hosts older i taken.1) (nat_eq e.place i) refl where
+  by : IsNearNow (kept_at hosts older i) → (b : Bool) → nat_eq e.place i ≡ b
+      → IsNearNow (cond b (after_doing (doing_of e.line) (kept_at hosts older i)) (kept_at hosts older i))
+  by near false other = near
+  by near true same =
+      let none = subst (λ (p : ℕ). fault_of e.line (kept_at hosts older p) ≡ None) (eqb-true e.place i same) taken.0 in
+      (line_holds StaysNear steps_stay_near e.line (kept_at hosts older i) none).near near
+
+pub taken_of : (hosts : ℕ → Opening) (newer older : List TimedLine) → AreTaken hosts (lines_of (newer ++ older)) → AreTaken hosts (lines_of older)
+taken_of hosts [] older taken = taken
+taken_of hosts (e ∷ newer) older taken = taken_of hosts newer older taken.1
+
+pub tells_of : (terms : Terms) (newer older : List TimedLine) → TellTimes terms (newer ++ older) → TellTimes terms older
+tells_of terms [] older tells = tells
+tells_of terms (e ∷ newer) older tells = tells_of terms newer older tells.1
+
+-- the present moment of a host is not behind the newest call
+pub present_by : (hosts : ℕ → Opening) (terms : Terms) (calls : List TimedLine) (i : ℕ) → (hosts i).moments ≡ [] → AreCalledInOrder calls
+    → TellTimes terms calls → present (there hosts calls i).host ≤ called_at calls + terms.offset i
+present_by hosts terms [] i none order tells =
+    subst (λ (moments : List ℕ). present (after_lines (map Ticks moments) (opened_with (hosts i).constants (hosts i).number (hosts i).cells (hosts i).seed)) ≤ 0 + terms.offset i)
+    (sym none) (omega arith)
+present_by hosts terms (e ∷ older) i none order tells = by (present_by hosts terms older i none order.1 tells.1) (nat_eq e.at.place i) refl where
+  k : Keeping
+  k = there hosts older i
+
+  by : present k.host ≤ called_at older + terms.offset i → (b : Bool) → nat_eq e.at.place i ≡ b
+      → present (cond b (after_doing (doing_of e.at.line) k) k).host ≤ e.time + terms.offset i
+  by le false other = let o = order.0 in omega (arith, le, o)
+  by le true same =
+      let told = subst (λ (p : ℕ). IsTold (e.time + terms.offset p) e.at.line) (eqb-true e.at.place i same) tells.0 in
+      let o = order.0 in
+      ⊎_elim
+      (λ (t : IsTuning (doing_of e.at.line) k). let now = t.now_is in omega (arith, now, le, o))
+      (λ (now : present (after_doing (doing_of e.at.line) k).host ≡ e.time + terms.offset i). omega (arith, now))
+      (call_now e.at.line k (e.time + terms.offset i) told)
+
+-- what is owed at a call, and when the next report is due
+module _ (hosts : ℕ → Opening) (terms : Terms) (trace newer older : List TimedLine) (i : ℕ) (s : IsTimelySession hosts terms trace)
+    (split : trace ≡ newer ++ older) where
+  near_there : IsNearNow (there hosts older i)
+  near_there = near_at hosts (lines_of older) i (taken_of hosts newer older (subst (λ (t : List TimedLine). AreTaken hosts (lines_of t)) split s.taken))
+
+  pub now_there : present (there hosts older i).host ≤ called_at older + terms.offset i
+  now_there =
+      present_by hosts terms older i (s.opened i) (calls_order newer older (subst AreCalledInOrder split s.order))
+      (tells_of terms newer older (subst (TellTimes terms) split s.times))
+
+  pub owed_there : (there hosts older i).policy.owed ≤ called_at older + terms.offset i + 16000000
+  owed_there = let n = near_there in let o = n.owed in let now = now_there in omega (arith, o, now)
+
+  pub due_there : (there hosts older i).policy.reports.due ≤ called_at older + terms.offset i + 96000000
+  due_there = let n = near_there in let d = n.due in let now = now_there in omega (arith, d, now)
+
+pub reports_are_due : ReportsAreDue
+reports_are_due hosts terms trace newer older i s split live = due_there hosts terms trace newer older i s split

@@ -1,0 +1,447 @@
+-- While nothing new comes, a host does not ask for long for what another holds: what it asks for comes, or is given up, and then it asks for
+-- something greater that another holds.
+use Rattle.std.proofs.Common.{◌≡◌, ℕ, zero, suc, ◌+◌, ◌-◌, ◌*◌, ◌<◌, ◌≤◌, Bool, true, false, List, [], ◌∷◌, ◌++◌, ◌∙◌, Option, Some, None, ap, append_assoc, arith, inl, inr, length, max, refl, subst, sym, true≢false, ⊎_elim}
+use Rattle.std.specs.Prelude.{◌⊎◌, ◌≢◌, Contains, IfSome, nat_le}
+use Rattle.std.specs.Ordering.{ordering_reverse}
+use Rattle.std.specs.declared.cmp.Ordering.{Ordering}
+use Rattle.std.specs.declared.cmp.Ordering.TheVariants.{Less, Greater}
+use Rattle.std.proofs.lemmas.Bool.{leb-false, leb-true}
+use Rattle.std.proofs.lemmas.List.Elements.{Contains-append_right}
+use Rattle.wb_names.specs.Orders.{name_cmp}
+use Rattle.wb_names.specs.Values.{DrawopValue, NameValue}
+use Rattle.wb_names.proofs.Listings.{Contains-cases, Contains-here, Contains-none}
+use Rattle.wb_names.proofs.Orders.{name_total}
+use Rattle.wb_recovery.specs.declared.timers.AskTimer.{AskTimer}
+use Rattle.wb_recovery.specs.declared.tuning.Tuning.{Tuning}
+use Rattle.wb_progress.specs.InTime.{known_from, repairing}
+use Rattle.wb_progress.specs.Turns.{Terms, settled_by}
+use Rattle.wb_progress.proofs.NamesApart.{most_are}
+use Rattle.wb_member.specs.Judged.{holds, level}
+use Rattle.wb_member.specs.Opened.{Opened}
+use Rattle.wb_host.specs.Keeper.{holds as history_holds}
+use Rattle.wb_keeping.specs.Kept.{Line, Asks, Tunes}
+use Rattle.wb_keeping.specs.Laws.{KeptLine, doing_of}
+use Rattle.wb_keeping.specs.Performing.{sees, view_of}
+use Rattle.wb_keeping.specs.Wanting.{oldest}
+use Rattle.wb_keeping.specs.declared.wanting.AskedName.{AskedName}
+use Rattle.wb_kept_progress.specs.Sessions.{Opening}
+use Rattle.wb_kept_progress.specs.Timed.{AllHoldBehind, AreInOrder, IsGivenUp, IsTimely, Performed, Start, TellTimes, TimedLine, TimerLeadsOrIsGivenUp, called_at, performed, start_of, time_of, until}
+use Rattle.wb_kept_progress.specs.Whole.{AreApart, AreCalledInOrder, IsHeldBySome, IsLackedAt, Lack, Sizes, request_span, there}
+use Rattle.wb_kept_progress.proofs.AskedSince.{WasAsked, was_asked}
+use Rattle.wb_kept_progress.proofs.CallParts.{calls_end, calls_order, host_is, lacked_until, lines_order}
+use Rattle.wb_kept_progress.proofs.KeptInTime.{front_of, time_is}
+use Rattle.wb_kept_progress.proofs.ReportsApart.{IsTuned}
+use Rattle.wb_kept_progress.proofs.Timely.{before_end, held_later, in_past, none_held, order_of}
+use Rattle.wb_kept_progress.proofs.TurnsHad.{AreOrdinary, Had, had}
+use Rattle.wb_kept_progress.proofs.WholeParts.{AsksHaveCause, HasTurn, Holds, IsOfCall, IsStill, LinesHaveCalls, PerformedIsTimely, StillnessEnds, StopsHaveCause, TimersAreYoung, does, host_then, timer_then}
+use Rattle.wb_kept_progress.proofs.WindowParts.{IsInWindow, in_window, line_by, told_in, two_parts}
+use Rattle.wb_kept_progress.proofs.YoungestAsked.{Others, new_level, new_timer, others}
+
+-- what a call asks for that only changes constants
+tunes_only : (constants : Tuning) (n : NameValue) → Contains (Tunes constants ∷ []) (Asks n) → ⊥
+tunes_only constants n c = ⊎_elim (λ (e : Tunes constants ≡ Asks n). other e) (λ (none : Contains [] (Asks n)). Contains-none (Asks n) none) (Contains-cases (Tunes constants) (Asks n) [] c) where
+  other : Tunes constants ≡ Asks n → ⊥
+  other e = cc
+
+some_timer : (a b : AskTimer) → Some a ≡ Some b → a ≡ b
+some_timer a b e = cc
+
+less_greater : ◌≡◌ {A = Ordering} Less Greater → ⊥
+less_greater e = cc
+
+none_below : (n : NameValue) → name_cmp n n ≡ Less → ⊥
+none_below n e = less_greater (sym e ∙ name_total.antisymm n n ∙ ap ordering_reverse e)
+
+few_turns : (from now span turns : ℕ) → from + span ≡ now → span ≤ 60000000 → from + turns * 1000000 ≤ now + 1000000 → turns ≤ 61
+few_turns from now span turns is short few = omega (arith, is, short, few)
+
+-- ---- a window in which nothing new comes
+
+module _ (hosts : ℕ → Opening) (terms : Terms) (trace newest window base : List TimedLine) (sizes : Sizes) (wait most i : ℕ) (timely_so : PerformedIsTimely) (are : Holds hosts terms trace sizes wait most) (still : IsStill hosts terms trace newest window base)
+    (known : known_from terms + wait + repairing terms ≤ called_at base) (live : Contains terms.live i) where
+  abbrev starts : ℕ → Start
+  starts j = start_of (hosts j)
+
+  abbrev all : List Performed
+  all = performed hosts trace
+
+  abbrev whole : List TimedLine
+  whole = window ++ base
+
+  abbrev lines : List Performed
+  lines = performed hosts whole
+
+  timely : IsTimely starts terms all
+  timely = timely_so hosts terms trace are.session
+
+  newest_lines : (front : List Performed) × (all ≡ front ++ lines)
+  newest_lines = let f = front_of hosts newest whole in (f.0, ap (performed hosts) still.split ∙ f.1)
+
+  part_of_all : (front back : List Performed) → lines ≡ front ++ back → all ≡ (newest_lines.0 ++ front) ++ back
+  part_of_all front back split = newest_lines.1 ∙ ap (λ (l : List Performed). newest_lines.0 ++ l) split ∙ sym (append_assoc newest_lines.0 front back)
+
+  order_whole : AreCalledInOrder whole
+  order_whole = calls_order newest whole (subst AreCalledInOrder still.split are.session.order)
+
+  order_lines : AreInOrder lines
+  order_lines = lines_order hosts whole order_whole
+
+  order_back : (front back : List Performed) → lines ≡ front ++ back → AreInOrder back
+  order_back front back split = order_of front back (subst AreInOrder split order_lines)
+
+  settled : settled_by terms < called_at base
+  settled = let r = are.session.reported in past (settled_by terms) terms.delivery terms.reporting (3 * terms.far) wait (repairing terms) (called_at base) r known where
+    past : (s d r f w m b : ℕ) → 1 ≤ r → s + d + max r f + w + m ≤ b → s < b
+    past s d r f w m b some le = omega (arith, some, le)
+
+  -- ---- what is asked for is lacked
+
+  module _ (front back : List Performed) (split : lines ≡ front ++ back) (late : called_at base < time_of back) (n : NameValue) (ask : AskTimer) (stands : timer_then hosts back i n ≡ Some ask) where
+    within : (middle : List Performed) × (back ≡ middle ++ performed hosts base)
+    within =
+        let g = front_of hosts window base in
+        in_past front back g.0 (performed hosts base) (sym split ∙ g.1) (subst AreInOrder split order_lines) (subst (λ (t : ℕ). t < time_of back) (sym (time_is hosts base)) late)
+
+    lacked_base : holds (there hosts base i).host n ≡ false
+    lacked_base = ap (λ (h : Opened). holds h n) (sym (host_is hosts are.session.opened base i)) ∙ by (holds (host_then hosts (performed hosts base) i) n) refl where
+      none_some : (o : Option AskTimer) → o ≡ None → o ≡ Some ask → ⊥
+      none_some o e f = cc
+
+      by : (b : Bool) → holds (host_then hosts (performed hosts base) i) n ≡ b → b ≡ false
+      by false e = refl
+      by true e =
+          let later = held_later starts within.0 (performed hosts base) i n e in
+          let held : holds (host_then hosts back i) n ≡ true = ap (λ (l : List Performed). holds (host_then hosts l i) n) within.1 ∙ later in
+          absurd (none_some (timer_then hosts back i n) (none_held starts back i n held) stands)
+
+    lacked_whole : holds (host_then hosts lines i) n ≡ false
+    lacked_whole =
+        ap (λ (h : Opened). holds h n) (host_is hosts are.session.opened whole i)
+        ∙ ap (λ (held : List DrawopValue). history_holds held n) (still.same [] window i refl live) ∙ lacked_base
+
+    -- so it does not come by a time while the window goes on
+    not_by : (time : ℕ) → AllHoldBehind starts terms all time n → called_at whole ≤ time
+    not_by time comes = by (nat_le (called_at whole) time) refl where
+      by : (b : Bool) → nat_le (called_at whole) time ≡ b → called_at whole ≤ time
+      by true e = leb-true _ _ e
+      by false e =
+          let lt = leb-false _ _ e in
+          absurd (true≢false (sym (comes newest_lines.0 lines i newest_lines.1 (subst (λ (t : ℕ). time < t) (sym (time_is hosts whole)) lt) live) ∙ lacked_whole))
+
+    is_lacked : IsHeldBySome hosts terms trace n → IsLackedAt hosts terms trace (until (settled_by terms) all) (record { place = i; name = n })
+    is_lacked held = (
+      live,
+      held,
+      subst (λ (t : List TimedLine). holds (host_then hosts (until (settled_by terms) (performed hosts t)) i) n ≡ false) (sym split_base)
+          (lacked_until hosts are.session.opened (newest ++ window) base (settled_by terms) i n (subst AreCalledInOrder split_base are.session.order) settled lacked_base),
+    ) where
+      split_base : trace ≡ (newest ++ window) ++ base
+      split_base = still.split ∙ sym (append_assoc newest window base)
+
+  -- ---- the calls of the window
+
+  ordinary : (front part : List TimedLine) → window ≡ front ++ part → AreOrdinary terms part
+  ordinary front [] split = tt
+  ordinary front (e ∷ part) split = ((told_in terms (newest ++ front) (part ++ base) e (subst (TellTimes terms) at are.session.times), (λ now page time op. are.session.drawn (newest ++ front) (part ++ base) e now page time op at late)), ordinary (front ++ e ∷ []) part (split ∙ sym (append_assoc front (e ∷ []) part))) where
+    here : whole ≡ front ++ e ∷ (part ++ base)
+    here = ap (λ (w : List TimedLine). w ++ base) split ∙ append_assoc front (e ∷ part) base
+
+    at : trace ≡ (newest ++ front) ++ e ∷ (part ++ base)
+    at = still.split ∙ ap (λ (w : List TimedLine). newest ++ w) here ∙ sym (append_assoc newest front (e ∷ (part ++ base)))
+
+    late : terms.quiet < e.time
+    late =
+        let order = calls_order front (e ∷ (part ++ base)) (subst AreCalledInOrder here order_whole) in
+        let first = order.0 in
+        let end = calls_end part base order.1 in
+        let s = settled in
+        omega (arith, first, end, s)
+
+  -- ---- where something is given up
+
+  -- behind some lines it asks for something greater that another holds
+  record Next (back : List Performed) (n : NameValue) : Type 0 where
+    front : List Performed
+    later : List Performed
+    split : lines ≡ front ++ later
+    since : time_of back ≤ time_of later
+    soon : time_of later ≤ time_of back + request_span terms
+    name : NameValue
+    greater : name_cmp n name ≡ Less
+    ask : AskTimer
+    stands : timer_then hosts later i name ≡ Some ask
+    held : IsHeldBySome hosts terms trace name
+
+  -- a line of the window, so late that what is asked for behind it and was not backed off was asked for in the window
+  module _ (calls_of : LinesHaveCalls) (causes : AsksHaveCause) (front back : List Performed) (e : Performed) (split : lines ≡ front ++ e ∷ back) (late : called_at base + request_span terms < time_of back) where
+    abbrev from : ℕ
+    from = e.time - request_span terms
+
+    behind_back : time_of back ≤ e.time
+    behind_back = (order_back front (e ∷ back) split).0
+
+    span_is : from + request_span terms ≡ e.time
+    span_is = let le = behind_back in spans e.time (request_span terms) (called_at base) (time_of back) late le where
+      spans : (now span base back : ℕ) → base + span < back → back ≤ now → now - span + span ≡ now
+      spans now span base back lt le = omega (arith, lt, le)
+
+    before_it : lines ≡ (front ++ e ∷ []) ++ back
+    before_it = split ∙ sym (append_assoc front (e ∷ []) back)
+
+    turns : Had hosts terms i base from e.time window (there hosts whole i)
+    turns = had hosts terms i base from e.time (omega arith) window (ordinary [] window refl)
+
+    few : length turns.names ≤ 61
+    few =
+        let is = span_is in
+        few_turns (from + terms.offset i) (e.time + terms.offset i) (request_span terms) (length turns.names) (moved from (request_span terms) (terms.offset i) e.time is) are.short turns.few where
+          moved : (from span offset now : ℕ) → from + span ≡ now → from + offset + span ≡ now + offset
+          moved from span offset now is = omega (arith, is)
+
+    -- the call that asked for a name
+    module _ (m : NameValue) (ask : AskTimer) (stands : timer_then hosts back i m ≡ Some ask) (w : WasAsked starts terms all timely back i m ask) (c : IsOfCall hosts whole w.x w.older) where
+      asked_late : e.time ≤ c.e.time + request_span terms
+      asked_late =
+          let soon : e.time + terms.offset i ≤ ask.due + terms.late = subst (λ (o : Option AskTimer). IfSome o (λ (a : AskTimer). e.time + terms.offset i ≤ a.due + terms.late)) stands (timely.soon (newest_lines.0 ++ front) back e i m (part_of_all front (e ∷ back) split) live).ask in
+          let due = w.due in
+          let same = c.time in
+          omega (arith, soon, due, same)
+
+      in_time : called_at base < c.e.time
+      in_time = let asked = asked_late in let le = behind_back in past (called_at base) (request_span terms) (time_of back) e.time c.e.time late le asked where
+        past : (base span back now then : ℕ) → base + span < back → back ≤ now → now ≤ then + span → base < then
+        past base span back now then lt le soon = omega (arith, lt, le, soon)
+
+      v : IsInWindow window base c.newer c.older c.e
+      v = in_window window base c.newer c.older c.e c.split order_whole in_time
+
+      here : c.e.at.place ≡ i
+      here = sym c.place ∙ w.place
+
+      asks : Contains (does hosts c.e c.older) (Asks m)
+      asks =
+          subst (λ (ls : List Line). Contains ls (Asks m)) (sym c.lines)
+          (subst (λ (line : Line). Contains (c.before ++ line ∷ c.later) (Asks m)) (sym w.line) (Contains-append_right c.before (Asks m ∷ c.later) (Asks m) (Contains-here (Asks m) c.later)))
+
+      untuned : IsTuned c.e.at.line → ⊥
+      untuned t = tunes_only t.0 m (subst (λ (line : KeptLine). Contains (let k = there hosts c.older c.e.at.place in (doing_of line (sees k.host) k.policy).lines) (Asks m)) t.1 asks)
+
+      by_then : c.e.time ≤ e.time
+      by_then =
+          let le = line_by back w.newer w.older w.x (order_back (front ++ e ∷ []) back before_it) w.split in
+          let same = c.time in
+          let end = behind_back in
+          omega (arith, le, same, end)
+
+      since : from ≤ c.e.time
+      since = let asked = asked_late in omega (arith, asked)
+
+      turn_here : HasTurn (there hosts c.older c.e.at.place) (c.e.time + terms.offset c.e.at.place) m → Contains turns.names m
+      turn_here turn = turns.all c.newer v.part c.e m v.window_is here since by_then untuned
+          (subst (λ (l : List TimedLine). HasTurn (there hosts l i) (c.e.time + terms.offset i) m) v.older_is (subst (λ (p : ℕ). HasTurn (there hosts c.older p) (c.e.time + terms.offset p) m) here turn))
+
+      nothing_new : (there hosts (c.e ∷ c.older) c.e.at.place).host.is.held ≡ (there hosts c.older c.e.at.place).host.is.held
+      nothing_new =
+          let one = still.same c.newer (c.e ∷ v.part) i v.window_is live in
+          let two = still.same (c.newer ++ c.e ∷ []) v.part i (v.window_is ∙ sym (append_assoc c.newer (c.e ∷ []) v.part)) live in
+          subst (λ (p : ℕ). (there hosts (c.e ∷ c.older) p).host.is.held ≡ (there hosts c.older p).host.is.held) (sym here)
+          (subst (λ (l : List TimedLine). (there hosts (c.e ∷ l) i).host.is.held ≡ (there hosts l i).host.is.held) (sym v.older_is) (one ∙ sym two))
+
+      in_trace : trace ≡ (newest ++ c.newer) ++ c.e ∷ c.older
+      in_trace = still.split ∙ ap (λ (l : List TimedLine). newest ++ l) c.split ∙ sym (append_assoc newest c.newer (c.e ∷ c.older))
+
+      had_cause : Contains turns.names m ⊎ IsHeldBySome hosts terms trace m
+      had_cause = ⊎_elim
+          (λ (held : IsHeldBySome hosts terms trace m). inr held)
+          (λ (rest : HasTurn (there hosts c.older c.e.at.place) (c.e.time + terms.offset c.e.at.place) m ⊎ ((there hosts (c.e ∷ c.older) c.e.at.place).host.is.held ≢ (there hosts c.older c.e.at.place).host.is.held)). ⊎_elim
+          (λ (turn : HasTurn (there hosts c.older c.e.at.place) (c.e.time + terms.offset c.e.at.place) m). inl (turn_here turn))
+          (λ (changed : (there hosts (c.e ∷ c.older) c.e.at.place).host.is.held ≢ (there hosts c.older c.e.at.place).host.is.held). absurd (changed nothing_new))
+          rest)
+          (causes hosts terms trace (newest ++ c.newer) c.older c.e m are.session in_trace (let s = settled in let t = in_time in omega (arith, s, t)) asks)
+
+    -- a name that is asked for and was not backed off had its turn, or another holds it
+    cause : (m : NameValue) → level (host_then hosts back i) m ≡ Some 0 → Contains turns.names m ⊎ IsHeldBySome hosts terms trace m
+    cause m new =
+        let t = new_timer (timer_then hosts back i m) new in
+        let w = was_asked starts terms all timely (newest_lines.0 ++ (front ++ e ∷ [])) back i m t.0 (part_of_all (front ++ e ∷ []) back before_it) live t.1 t.2 in
+        had_cause m t.0 t.1 w (calls_of hosts whole ((front ++ e ∷ []) ++ w.newer) w.x w.older (before_it ∙ ap (λ (l : List Performed). (front ++ e ∷ []) ++ l) w.split ∙ sym (append_assoc (front ++ e ∷ []) w.newer (w.x ∷ w.older))))
+
+    -- of 64 that are asked for, and of which none was backed off, another than the least is held by some
+    record Another (n : NameValue) : Type 0 where
+      name : NameValue
+      greater : name_cmp n name ≡ Less
+      held : IsHeldBySome hosts terms trace name
+      timer : (ask : AskTimer) × (timer_then hosts back i name ≡ Some ask) × (ask.level ≡ 0)
+
+    another : (n : NameValue) (a : AskedName) → level (host_then hosts back i) n ≡ Some 0 → 64 ≤ length (view_of (host_then hosts back i)).asked → oldest (view_of (host_then hosts back i)).asked ≡ Some a → a.name ≡ n → Another n
+    another n a new many is named =
+        let o = others (host_then hosts back i) n new a is named in
+        let m = most_are (IsHeldBySome hosts terms trace) o.names turns.names o.apart (λ x c. cause x (o.new x c)) in
+        first o m.those m.among m.most where
+          first : (o : Others (host_then hosts back i) n) (those : List NameValue) → ((x : NameValue) → Contains those x → Contains o.names x × IsHeldBySome hosts terms trace x) → length o.names ≤ length those + length turns.names → Another n
+          first o [] among le = let count = o.count in let f = few in absurd (omega (arith, le, count, f, many))
+          first o (x ∷ those) among le =
+              let r = among x (Contains-here x those) in
+              record { name = x; greater = o.greater x r.0; held = r.1; timer = new_timer (timer_then hosts back i x) (o.new x r.0) }
+
+  module _ (calls_of : LinesHaveCalls) (causes : AsksHaveCause) (stops : StopsHaveCause) (front back : List Performed) (split : lines ≡ front ++ back) (late : called_at base + request_span terms < time_of back) (n : NameValue) (ask : AskTimer) (due : ℕ) (g : IsGivenUp starts all back i n ask due) (new : ask.level ≡ 0)
+      (soon : due ≤ time_of back + request_span terms) where
+    abbrev then_back : List Performed
+    then_back = g.between ++ back
+
+    abbrev Goal : Type 0
+    Goal = (called_at whole ≤ time_of back + request_span terms) ⊎ Next back n
+
+    order_then : AreInOrder (g.e ∷ then_back)
+    order_then = order_of g.front (g.e ∷ then_back) (subst AreInOrder g.split timely.order)
+
+    outside : (m : List Performed) → g.e ∷ then_back ≡ m ++ lines → Goal
+    outside m is =
+        let end : time_of lines ≤ time_of (m ++ lines) = before_end m lines (subst AreInOrder is order_then) in
+        let same = ap time_of is in
+        let time = time_is hosts whole in
+        let by = g.soon in
+        inl (omega (arith, end, same, time, by, soon))
+
+    behind_part : time_of back ≤ time_of then_back
+    behind_part = before_end g.between back order_then.1
+
+    next_of : (w : List Performed) (is : lines ≡ w ++ g.e ∷ then_back) (late_then : called_at base + request_span terms < time_of then_back) → Another calls_of causes w then_back g.e is late_then n → Next back n
+    next_of w is late_then other = record {
+      front = w ++ g.e ∷ [];
+      later = then_back;
+      split = is ∙ sym (append_assoc w (g.e ∷ []) then_back);
+      since = behind_part;
+      soon = let o = order_then.0 in let by = g.soon in omega (arith, o, by, soon);
+      name = other.name;
+      greater = other.greater;
+      ask = other.timer.0;
+      stands = other.timer.1;
+      held = other.held;
+    }
+
+    abbrev Stopped : ℕ → Type 0
+    Stopped p = ((a : AskTimer) × (timer_then hosts then_back p n ≡ Some a) × (6 ≤ a.level))
+        ⊎ ((64 ≤ length (view_of (host_then hosts then_back p)).asked) × (a : AskedName) × (oldest (view_of (host_then hosts then_back p)).asked ≡ Some a) × (a.name ≡ n))
+
+    inside : (w : List Performed) → lines ≡ w ++ g.e ∷ then_back → Goal
+    inside w is = ⊎_elim
+        (λ (h : (a : AskTimer) × (timer_then hosts then_back i n ≡ Some a) × (6 ≤ a.level)).
+        let same = some_timer ask h.0 (sym g.stands ∙ h.1) in
+        let zero_level : h.0.level ≡ 0 = sym (ap (λ (a : AskTimer). a.level) same) ∙ new in
+        let six = h.2 in
+        absurd (omega (arith, zero_level, six)))
+        (λ (h : (64 ≤ length (view_of (host_then hosts then_back i)).asked) × (a : AskedName) × (oldest (view_of (host_then hosts then_back i)).asked ≡ Some a) × (a.name ≡ n)).
+        let le = behind_part in
+        let late_then : called_at base + request_span terms < time_of then_back = omega (arith, le, late) in
+        inr (next_of w is late_then (another calls_of causes w then_back g.e is late_then n h.1 (new_level (timer_then hosts then_back i n) ask g.stands new) h.0 h.2 h.3)))
+        (subst Stopped g.place (stops hosts terms trace g.front g.e then_back n are.session (subst (Contains terms.live) (sym g.place) live) g.split g.line))
+
+    given_up : Goal
+    given_up = ⊎_elim
+        (λ (m : (m : List Performed) × (g.e ∷ then_back ≡ m ++ lines)). outside m.0 m.1)
+        (λ (w : (w : List Performed) × (lines ≡ w ++ g.e ∷ then_back)). inside w.0 w.1)
+        (two_parts newest_lines.0 lines g.front (g.e ∷ then_back) (sym newest_lines.1 ∙ g.split))
+
+  -- ---- one name after the other
+
+  -- names that it lacked before it asks for this one, and that are less
+  record IsFollowed (front back : List Performed) (n : NameValue) (ask : AskTimer) (lacks : List Lack) : Type 0 where
+    split : lines ≡ front ++ back
+    late : called_at base + request_span terms < time_of back
+    stands : timer_then hosts back i n ≡ Some ask
+    held : IsHeldBySome hosts terms trace n
+    apart : AreApart lacks
+    each : (x : Lack) → Contains lacks x → IsLackedAt hosts terms trace (until (settled_by terms) all) x × (name_cmp x.name n ≡ Less)
+
+  module _ (calls_of : LinesHaveCalls) (causes : AsksHaveCause) (stops : StopsHaveCause) (young : TimersAreYoung) (leads : TimerLeadsOrIsGivenUp) where
+    module _ (front back : List Performed) (n : NameValue) (ask : AskTimer) (lacks : List Lack) (is : IsFollowed front back n ask lacks) where
+      abbrev one : Lack
+      one = record { place = i; name = n }
+
+      soon : called_at base < time_of back
+      soon = let l = is.late in omega (arith, l)
+
+      one_more : AreApart (one ∷ lacks) × ((x : Lack) → Contains (one ∷ lacks) x → IsLackedAt hosts terms trace (until (settled_by terms) all) x)
+      one_more = (
+        ((λ c. none_below n (is.each one c).1), is.apart),
+        λ x c. ⊎_elim
+            (λ (same : one ≡ x). subst (IsLackedAt hosts terms trace (until (settled_by terms) all)) same (is_lacked front back is.split soon n ask is.stands is.held))
+            (λ (d : Contains lacks x). (is.each x d).0)
+            (Contains-cases one x lacks c),
+      )
+
+      enough : suc (length lacks) ≤ most
+      enough = are.lacks (one ∷ lacks) one_more.0 one_more.1
+
+      abbrev Ends : Type 0
+      Ends = (called_at whole ≤ time_of back + request_span terms + repairing terms) ⊎ Next back n
+
+      in_all : all ≡ (newest_lines.0 ++ front) ++ back
+      in_all = part_of_all front back is.split
+
+      -- where its timer was not backed off
+      new_ends : ask.level ≡ 0 → Ends
+      new_ends new =
+          let w = was_asked starts terms all timely (newest_lines.0 ++ front) back i n ask in_all live is.stands new in
+          let by = line_by back w.newer w.older w.x (order_back front back is.split) w.split in
+          let due = w.due in
+          let k = known in
+          let s = soon in
+          ⊎_elim
+          (λ (comes : AllHoldBehind starts terms all (max (time_of back) (time_of back + terms.asking * terms.far) + repairing terms) n).
+          let le = not_by front back is.split soon n ask is.stands (max (time_of back) (time_of back + terms.asking * terms.far) + repairing terms) comes in
+          inl (omega (arith, le)))
+          (λ (g : IsGivenUp starts all back i n ask (max (time_of back) (time_of back + terms.asking * terms.far) + terms.late)). ⊎_elim
+          (λ (le : called_at whole ≤ time_of back + request_span terms). inl (omega (arith, le)))
+          (λ (next : Next back n). inr next)
+          (given_up calls_of causes stops front back is.split is.late n ask (max (time_of back) (time_of back + terms.asking * terms.far) + terms.late) g new (omega arith)))
+          (leads starts terms all (newest_lines.0 ++ front) back i n ask (time_of back + terms.asking * terms.far) timely in_all live (omega (arith, k, s)) is.stands (omega (arith, due, by)) is.held)
+
+      ends : Ends
+      ends =
+          let k = known in
+          let s = soon in
+          ⊎_elim
+          (λ (new : ask.level ≡ 0). new_ends new)
+          (λ (comes : AllHoldBehind starts terms all (time_of back + repairing terms) n).
+          let le = not_by front back is.split soon n ask is.stands (time_of back + repairing terms) comes in
+          inl (omega (arith, le)))
+          (young hosts terms trace (newest_lines.0 ++ front) back i wait n ask timely are.waits in_all live (omega (arith, k, s)) is.held is.stands)
+
+      followed : (next : Next back n) → IsFollowed next.front next.later next.name next.ask (one ∷ lacks)
+      followed next = record {
+        split = next.split;
+        late = let l = is.late in let s = next.since in omega (arith, l, s);
+        stands = next.stands;
+        held = next.held;
+        apart = one_more.0;
+        each = λ x c. (
+          one_more.1 x c,
+          ⊎_elim
+              (λ (same : one ≡ x). subst (λ (y : Lack). name_cmp y.name next.name ≡ Less) same next.greater)
+              (λ (d : Contains lacks x). name_total.trans x.name n next.name (is.each x d).1 next.greater)
+              (Contains-cases one x lacks c),
+        );
+      }
+
+    follow : (fuel : ℕ) (front back : List Performed) (n : NameValue) (ask : AskTimer) (lacks : List Lack) → IsFollowed front back n ask lacks → most ≤ length lacks + fuel → called_at whole ≤ time_of back + fuel * request_span terms + repairing terms
+    follow zero front back n ask lacks is left = let le = enough front back n ask lacks is in absurd (omega (arith, le, left))
+    follow (suc fuel) front back n ask lacks is left = ⊎_elim
+        (λ (le : called_at whole ≤ time_of back + request_span terms + repairing terms). last (called_at whole) (time_of back) (request_span terms) (repairing terms) fuel le)
+        (λ (next : Next back n).
+        let rest = follow fuel next.front next.later next.name next.ask (record { place = i; name = n } ∷ lacks) (followed front back n ask lacks is next) (omega (arith, left)) in
+        more (called_at whole) (time_of back) (time_of next.later) (request_span terms) (repairing terms) fuel next.soon rest)
+        (ends front back n ask lacks is) where
+          last : (end back span repair fuel : ℕ) → end ≤ back + span + repair → end ≤ back + suc fuel * span + repair
+          last end back span repair fuel le = let product : suc fuel * span ≡ fuel * span + span = omega arith in omega (arith, le, product)
+
+          more : (end back later span repair fuel : ℕ) → later ≤ back + span → end ≤ later + fuel * span + repair → end ≤ back + suc fuel * span + repair
+          more end back later span repair fuel near le = let product : suc fuel * span ≡ fuel * span + span = omega arith in omega (arith, near, le, product)
+
+pub stillness_ends : TimersAreYoung → TimerLeadsOrIsGivenUp → PerformedIsTimely → LinesHaveCalls → AsksHaveCause → StopsHaveCause → StillnessEnds
+stillness_ends young leads timely_so calls_of causes stops hosts terms trace newest window base sizes wait most i back are still known live asking late =
+    follow hosts terms trace newest window base sizes wait most i timely_so are still known live calls_of causes stops young leads most asking.front back asking.name asking.ask []
+    (record { split = asking.split; late = late; stands = asking.stands; held = asking.held; apart = tt; each = λ x c. absurd (Contains-none x c) }) (none_yet most) where
+      none_yet : (n : ℕ) → n ≤ 0 + n
+      none_yet n = omega arith

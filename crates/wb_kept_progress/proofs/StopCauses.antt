@@ -1,0 +1,263 @@
+-- Why a host that keeps itself gives a name up.
+use Rattle.std.proofs.Common.{◌≡◌, ℕ, ◌≤◌, Bool, true, false, cond, List, [], ◌∷◌, ◌++◌, ◌∙◌, Option, Some, None, ap, arith, inl, inr, is_some, length, length-append, map, refl, subst, sym, true≢false}
+use Rattle.std.specs.Prelude.{◌⊎◌, ◌&&◌, Contains, nat_eq, nat_le, not, take}
+use Rattle.std.proofs.lemmas.Bool.{and_parts, leb-false, leb-true}
+use Rattle.wb_names.specs.Arrivals.{Outcome, Fresh, Known, Clashed, Left, history_with, outcome_of}
+use Rattle.wb_names.specs.Values.{DrawopValue, NameValue}
+use Rattle.wb_names.specs.declared.name.PageId.{PageId}
+use Rattle.wb_codec.specs.declared.datagram.Datagram.TheVariants.{Draw, Session, Request, AskPages, PageState}
+use Rattle.wb_gaps.specs.Answers.{pages_of}
+use Rattle.wb_recovery.specs.Events.{timers_of}
+use Rattle.wb_recovery.specs.declared.timers.AskTimer.{AskTimer}
+use Rattle.wb_host.specs.GivingUp.{level as level_in}
+use Rattle.wb_member.specs.Judged.{is_full}
+use Rattle.wb_member.specs.Members.{Misses}
+use Rattle.wb_member.specs.Opened.{Opened, doing as doing_act, events, has_room_for, heard, may_ask, present}
+use Rattle.wb_member.specs.Random.{word_of}
+use Rattle.wb_keeping.specs.Credit.{has_credit}
+use Rattle.wb_keeping.specs.Kept.{Arrives, Asks, Doing, Hears, Line, Says, SetsDistance, Tunes, Stops, Ticks, room_lines, state_of, still, stops_oldest, usual_lines, want}
+use Rattle.wb_keeping.specs.Laws.{fault_of}
+use Rattle.wb_keeping.specs.Performing.{Keeping, after_line, after_lines, sees, view_of}
+use Rattle.wb_keeping.specs.Policy.{Policy, View, after_wanting, holds, level, is_full as shows_full}
+use Rattle.wb_keeping.specs.Wanting.{goes_on, is_wanted, oldest}
+use Rattle.wb_keeping.specs.declared.wanting.AskedName.{AskedName}
+use Rattle.wb_keeping.proofs.AskedTimers.{level_seen}
+use Rattle.wb_keeping.proofs.EachStep.{HoldsOfSteps, doing, line_holds}
+use Rattle.wb_keeping.proofs.Performed.{after_both}
+use Rattle.wb_keeping.proofs.Wanted.{lines_wanted}
+use Rattle.wb_kept_progress.specs.Sessions.{AreTaken, Opening}
+use Rattle.wb_kept_progress.specs.Timed.{TimedLine, lines_of}
+use Rattle.wb_kept_progress.specs.Whole.{there}
+use Rattle.wb_kept_progress.proofs.CallLines.{host_before}
+use Rattle.wb_kept_progress.proofs.Coming.{has_room}
+use Rattle.wb_kept_progress.proofs.Lines.{lines_of as lines_keep}
+use Rattle.wb_kept_progress.proofs.Repairs.{moved}
+use Rattle.wb_kept_progress.proofs.WholeParts.{LinesHaveCalls, StopsHaveCause, does, host_then}
+
+-- ---- a board grows
+
+with_longer : (h : List DrawopValue) (d : DrawopValue) (o : Outcome) → length h ≤ length (history_with h d o)
+with_longer h d (Fresh i) = let e = length-append h (d ∷ []) in omega (arith, e)
+with_longer h d (Known i) = omega arith
+with_longer h d (Clashed i) = omega arith
+with_longer h d Left = omega arith
+
+abbrev IsAsLong : Opened → Opened → Type 0
+IsAsLong host next = length host.is.held ≤ length next.is.held
+
+as_long : (host : Opened) → IsAsLong host host
+as_long host = omega arith
+
+line_longer : (line : Line) (host : Opened) → IsAsLong host (after_line line host)
+line_longer (Ticks now) host = as_long host
+line_longer (Arrives d) host = with_longer host.is.held d (outcome_of host.is.cells host.is.held d)
+line_longer (Hears v) host = by (has_room_for v host) where
+  by : (b : Bool) → IsAsLong host (cond b (heard v host) host)
+  by true = as_long host
+  by false = as_long host
+line_longer (Asks name) host = by (may_ask name host) where
+  by : (b : Bool) → IsAsLong host (cond b (doing_act (Misses (present host) (name ∷ []) (word_of host.random ∷ [])) 1 host) host)
+  by true = as_long host
+  by false = as_long host
+line_longer (Stops name) host = as_long host
+line_longer (SetsDistance source micros) host = as_long host
+line_longer (Tunes constants) host = as_long host
+line_longer (Says (Draw d)) host = with_longer host.is.held d (outcome_of host.is.cells host.is.held d)
+line_longer (Says (Session sender sent page marks echoes)) host = as_long host
+line_longer (Says (Request asker name)) host = as_long host
+line_longer (Says (AskPages asker)) host = as_long host
+line_longer (Says (PageState sender page marks)) host = as_long host
+
+-- more is held behind lines, or as much
+pub lines_longer : (lines : List Line) (host : Opened) → length host.is.held ≤ length (after_lines lines host).is.held
+lines_longer [] host = as_long host
+lines_longer (line ∷ lines) host =
+    let one = line_longer line host in
+    let rest = lines_longer lines (after_line line host) in
+    omega (arith, one, rest)
+
+-- what has room behind lines had room before
+room_before : (lines : List Line) (host next : Opened) → next ≡ after_lines lines host → is_full next ≡ false → is_full host ≡ false
+room_before lines host next is room =
+    let then : is_full (after_lines lines host) ≡ false = subst (λ (h : Opened). is_full h ≡ false) is room in
+    let lt = leb-false (after_lines lines host).is.cells (length (after_lines lines host).is.held) then in
+    let cells = (lines_keep lines host).cells in
+    let le = lines_longer lines host in
+    has_room host (omega (arith, lt, cells, le))
+
+-- ---- why it gives a name up
+
+abbrev HasStopCause : Opened → NameValue → Type 0
+HasStopCause host n = ((ask : AskTimer) × ((timers_of host.is.constants (events host) n).ask ≡ Some ask) × (6 ≤ ask.level))
+    ⊎ ((64 ≤ length (view_of host).asked) × (a : AskedName) × (oldest (view_of host).asked ≡ Some a) × (a.name ≡ n))
+
+abbrev IsCaused : Line → Opened → Type 0
+IsCaused (Stops n) host = HasStopCause host n
+IsCaused line host = Unit {0}
+
+abbrev AreCaused : List Line → Opened → Type 0
+AreCaused [] host = Unit {0}
+AreCaused (line ∷ lines) host = IsCaused line host × AreCaused lines (after_line line host)
+
+caused_both : (one other : List Line) (host : Opened) → AreCaused one host → AreCaused other (after_lines one host) → AreCaused (one ++ other) host
+caused_both [] other host a b = b
+caused_both (line ∷ one) other host a b = (a.0, caused_both one other (after_line line host) a.1 b)
+
+caused_at : (one other : List Line) (line : Line) (host : Opened) → AreCaused (one ++ line ∷ other) host → IsCaused line (after_lines one host)
+caused_at [] other line host caused = caused.0
+caused_at (first ∷ one) other line host caused = caused_at one other line (after_line first host) caused.1
+
+-- lines that give nothing up
+abbrev StopsNothing : Line → Type 0
+StopsNothing (Stops n) = ⊥
+StopsNothing line = Unit {0}
+
+abbrev StopNothing : List Line → Type 0
+StopNothing [] = Unit {0}
+StopNothing (line ∷ lines) = StopsNothing line × StopNothing lines
+
+nothing_caused : (line : Line) (host : Opened) → StopsNothing line → IsCaused line host
+nothing_caused (Stops n) host none = absurd none
+nothing_caused (Ticks now) host none = tt
+nothing_caused (Arrives d) host none = tt
+nothing_caused (Hears v) host none = tt
+nothing_caused (Asks name) host none = tt
+nothing_caused (SetsDistance source micros) host none = tt
+nothing_caused (Tunes constants) host none = tt
+nothing_caused (Says v) host none = tt
+
+unstopped : (lines : List Line) (host : Opened) → StopNothing lines → AreCaused lines host
+unstopped [] host none = tt
+unstopped (line ∷ lines) host none = (nothing_caused line host none.0, unstopped lines (after_line line host) none.1)
+
+-- ---- a name that is wanted
+
+timer_of : (o : Option AskTimer) (l : ℕ) → level_in o ≡ Some l → (ask : AskTimer) × (o ≡ Some ask) × (ask.level ≡ l)
+timer_of None l e = absurd cc
+timer_of (Some a) l e = (a, refl, cc)
+
+backed_off : (host : Opened) (n : NameValue) (l : ℕ) → level (view_of host) n ≡ Some l → 6 ≤ l → HasStopCause host n
+backed_off host n l e le =
+    let t = timer_of (timers_of host.is.constants (events host) n).ask l (sym (level_seen host n) ∙ e) in
+    inl (t.0, t.1, subst (λ (m : ℕ). 6 ≤ m) (sym t.2) le)
+
+room_caused : (name : NameValue) (host : Opened) → ((l : ℕ) → level (view_of host) name ≡ Some l → 6 ≤ l) → AreCaused (room_lines name (view_of host)) host
+room_caused name host old = by (level (view_of host) name) refl (nat_le 64 (length (view_of host).asked)) refl (oldest (view_of host).asked) refl where
+  by : (o : Option ℕ) → level (view_of host) name ≡ o → (b : Bool) → nat_le 64 (length (view_of host).asked) ≡ b → (first : Option AskedName)
+      → oldest (view_of host).asked ≡ first
+      → AreCaused (cond (is_some o) (Stops name ∷ []) (cond b (stops_oldest first) [])) host
+  by (Some l) e b f first g = (backed_off host name l e (old l e), tt)
+  by None e true f None g = tt
+  by None e true f (Some a) g = (inr (leb-true _ _ f, a, g, refl), tt)
+  by None e false f first g = tt
+
+-- one whose timer stands is asked for anew where it was backed off six times
+off_six : (held full anew : Bool) (l owed now : ℕ) → is_wanted held full anew (Some l) owed now ≡ true → 6 ≤ l
+off_six held full anew l owed now e =
+    let may = not (goes_on anew (Some l)) in
+    let a = and_parts (not held) (not full && (may && has_credit owed now)) e in
+    let b = and_parts (not full) (may && has_credit owed now) a.1 in
+    let c = and_parts may (has_credit owed now) b.1 in
+    leb-true _ _ (by anew (nat_le 6 l) c.0) where
+      by : (anew late : Bool) → not (not (anew && late)) ≡ true → late ≡ true
+      by true true e = refl
+      by true false e = absurd (true≢false (sym e))
+      by false late e = absurd (true≢false (sym e))
+
+usual_stops_nothing : (source distance : ℕ) (usual : Option ℕ) → StopNothing (usual_lines source distance usual)
+usual_stops_nothing source distance None = tt
+usual_stops_nothing source distance (Some u) = by (nat_eq distance 100000) where
+  by : (b : Bool) → StopNothing (cond b (SetsDistance source u ∷ []) [])
+  by true = (tt, tt)
+  by false = tt
+
+asks_last : (lines : List Line) (name : NameValue) → StopNothing lines → StopNothing (lines ++ Asks name ∷ [])
+asks_last [] name none = (tt, tt)
+asks_last (line ∷ lines) name none = (none.0, asks_last lines name none.1)
+
+wanted_caused : (name : NameValue) (anew : Bool) (k : Keeping) → AreCaused (want name anew (sees k.host) k.policy).lines k.host
+wanted_caused name anew k = by (is_wanted (holds v name) (shows_full v) anew (level v name) k.policy.owed v.now) refl where
+  v : View
+  v = view_of k.host
+
+  wanted : Doing
+  wanted = doing (after_wanting v.now k.policy) (lines_wanted name anew (sees k.host) k.policy)
+
+  old : is_wanted (holds v name) (shows_full v) anew (level v name) k.policy.owed v.now ≡ true → (l : ℕ) → level v name ≡ Some l → 6 ≤ l
+  old e l is = off_six (holds v name) (shows_full v) anew l k.policy.owed v.now
+      (ap (λ (o : Option ℕ). is_wanted (holds v name) (shows_full v) anew o k.policy.owed v.now) (sym is) ∙ e)
+
+  by : (b : Bool) → is_wanted (holds v name) (shows_full v) anew (level v name) k.policy.owed v.now ≡ b
+      → AreCaused (cond b wanted (still (sees k.host) k.policy)).lines k.host
+  by false e = tt
+  by true e =
+      let usual = usual_lines name.source (v.distance name.source) k.policy.usual in
+      caused_both (room_lines name v) (usual ++ Asks name ∷ []) k.host (room_caused name k.host (old e))
+      (unstopped (usual ++ Asks name ∷ []) (after_lines (room_lines name v) k.host)
+      (asks_last usual name (usual_stops_nothing name.source (v.distance name.source) k.policy.usual)))
+
+-- ---- all that a kept host does
+
+-- It gives names up for such causes, where there is room on the board behind all.
+record GivesUpFor (k : Keeping) (lines : List Line) (m : Keeping) : Type 0 where
+  at : m.host ≡ after_lines lines k.host
+  caused : is_full m.host ≡ false → AreCaused lines k.host
+
+quietly : (k : Keeping) (lines : List Line) (p : Policy) → StopNothing lines → GivesUpFor k lines (record { host = after_lines lines k.host; policy = p })
+quietly k lines p none = record { at = refl; caused = λ room. unstopped lines k.host none }
+
+both_give_up : (k m n : Keeping) (one other : List Line) → GivesUpFor k one m → GivesUpFor m other n → GivesUpFor k (one ++ other) n
+both_give_up k m n one other a b = record {
+  at = b.at ∙ ap (after_lines other) a.at ∙ sym (after_both one other k.host);
+  caused = λ room.
+      let first = a.caused (room_before other m.host n.host b.at room) in
+      caused_both one other k.host first (subst (AreCaused other) a.at (b.caused room));
+}
+
+says_stop_nothing : (v : View) (pages : List PageId) → StopNothing (map (λ (page : PageId). Says (state_of v page)) pages)
+says_stop_nothing v [] = tt
+says_stop_nothing v (page ∷ pages) = (tt, says_stop_nothing v pages)
+
+steps_give_up : HoldsOfSteps GivesUpFor
+steps_give_up = record {
+  nothing = λ k. quietly k [] k.policy tt;
+  both = both_give_up;
+  ticks = λ now k later. quietly k (Ticks now ∷ []) k.policy (tt, tt);
+  arrives = λ d k. quietly k _ k.policy (tt, tt);
+  answered = λ d k lacks asked. quietly k _ _ (tt, tt);
+  hears = λ v k. quietly k _ k.policy (tt, tt);
+  stops = λ name k full. record { at = refl; caused = λ room. absurd (true≢false (sym full ∙ room)) };
+  sets = λ source micros k. quietly k _ k.policy (tt, tt);
+  tunes = λ constants k within. quietly k _ k.policy (tt, tt);
+  wants = λ name anew k. record { at = refl; caused = λ room. wanted_caused name anew k };
+  draws = λ d k. quietly k _ k.policy (tt, tt);
+  turned = λ t k. quietly k [] _ tt;
+  measured = λ micros k. quietly k [] _ tt;
+  told = λ k. quietly k [] _ tt;
+  takes_up = λ k is. quietly k [] _ tt;
+  answers = λ k is. quietly k _ _ (says_stop_nothing (view_of k.host) (take 64 (pages_of k.host.is.held)));
+  asks_pages = λ k is. quietly k _ _ (tt, tt);
+  reports = λ page told k is. quietly k _ _ (tt, tt);
+}
+
+-- ---- a session
+
+-- no call is refused
+pub call_taken : (hosts : ℕ → Opening) (newer older : List TimedLine) (e : TimedLine) → AreTaken hosts (lines_of (newer ++ e ∷ older))
+    → fault_of e.at.line (there hosts older e.at.place) ≡ None
+call_taken hosts [] older e taken = taken.0
+call_taken hosts (x ∷ newer) older e taken = call_taken hosts newer older e taken.1
+
+pub stops_have_cause : LinesHaveCalls → StopsHaveCause
+stops_have_cause calls hosts terms trace front x back n session live split is =
+    let c = calls hosts trace front x back split in
+    let place = c.e.at.place in
+    let k = there hosts c.older place in
+    let lines = does hosts c.e c.older in
+    let none : fault_of c.e.at.line k ≡ None = call_taken hosts c.newer c.older c.e (subst (λ (t : List TimedLine). AreTaken hosts (lines_of t)) c.split session.taken) in
+    let behind : is_full (there hosts (c.e ∷ c.older) place).host ≡ false = session.room c.newer (c.e ∷ c.older) place c.split (subst (Contains terms.live) c.place live) in
+    let room : is_full (after_lines lines k.host) ≡ false = subst (λ (m : Keeping). is_full m.host ≡ false) (moved hosts (lines_of c.older) place c.e.at.line) behind in
+    let caused : AreCaused lines k.host = (line_holds GivesUpFor steps_give_up c.e.at.line k none).caused room in
+    let at : IsCaused x.line (after_lines c.before k.host) = caused_at c.before c.later x.line k.host (subst (λ (ls : List Line). AreCaused ls k.host) c.lines caused) in
+    let same : host_then hosts back x.place ≡ after_lines c.before k.host = host_before hosts session.opened trace x back c in
+    subst (λ (h : Opened). HasStopCause h n) (sym same) (subst (λ (line : Line). IsCaused line (after_lines c.before k.host)) is at)

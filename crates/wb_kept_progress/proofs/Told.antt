@@ -1,0 +1,95 @@
+-- A host that hears a report of a number that it lacks wants it.
+use Rattle.std.proofs.Common.{◌≡◌, ℕ, Bool, true, false, cond, List, ◌∙◌, ap, eqb-true, inl, inr, length, refl, subst, sym, ⊎_elim}
+use Rattle.std.specs.Prelude.{◌⊎◌, Contains, nat_eq, nat_le, nat_lt}
+use Rattle.wb_names.specs.Values.{DrawopValue, MarkValue, NameValue}
+use Rattle.wb_names.specs.declared.echo.Echo.{Echo}
+use Rattle.wb_names.specs.declared.name.PageId.{PageId}
+use Rattle.wb_codec.specs.declared.datagram.Datagram.{Datagram}
+use Rattle.wb_codec.specs.declared.datagram.Datagram.TheVariants.{Session}
+use Rattle.wb_host.specs.Keeper.{holds}
+use Rattle.wb_member.specs.Opened.{has_room_for, heard}
+use Rattle.wb_keeping.specs.Kept.{Doing, Hears, Ticks, Transition, and_then, came, distance_in, hears, hears_session, measures, own_echo, own_marks, performs, still, timed, told_names, want_told}
+use Rattle.wb_keeping.specs.Performing.{Keeping, after_doing, after_lines, sees}
+use Rattle.wb_keeping.proofs.EachStep.{having}
+use Rattle.wb_keeping.proofs.Performed.{then_after}
+use Rattle.wb_kept_progress.proofs.Going.{measures_small}
+use Rattle.wb_kept_progress.proofs.Lines.{is_false, lines_of, lines_rest}
+use Rattle.wb_kept_progress.proofs.Turning.{answers_on}
+use Rattle.wb_kept_progress.proofs.WantedIn.{IsAskedIn, IsAskedInCall, LacksCredit, IsWantedIn, MayBeWanted, asked_behind_tick, timed_costs, told_is_wanted, wanted_behind, wanted_later}
+
+-- what it holds stays, and its cells
+same_may : (n : NameValue) (does : Transition) (k : Keeping) → (after_doing does k).host.is.held ≡ k.host.is.held → MayBeWanted k n
+    → MayBeWanted (after_doing does k) n
+same_may n does k same may =
+    let of = lines_of (does (sees k.host) k.policy).lines k.host in
+    record {
+      answers_held = answers_on does k may.answers_held;
+      lacks = ap (λ (h : List DrawopValue). holds h n) same ∙ may.lacks;
+      room =
+          ap (λ (h : List DrawopValue). nat_le (after_doing does k).host.is.cells (length h)) same ∙ ap (λ (c : ℕ). nat_le c (length k.host.is.held)) of.cells
+          ∙ may.room;
+    }
+
+hearing_holds : (v : Datagram) (k : Keeping) → (after_doing (performs (Hears v)) k).host.is.held ≡ k.host.is.held
+hearing_holds v k = by (has_room_for v k.host) where
+  by : (b : Bool) → (cond b (heard v k.host) k.host).is.held ≡ k.host.is.held
+  by true = refl
+  by false = refl
+
+abbrev done : Keeping → Doing → Keeping
+done k d = record { host = after_lines d.lines k.host; policy = d.policy }
+
+module _ (k : Keeping) (now sender sent : ℕ) (page : PageId) (marks : List MarkValue) (echoes : List Echo) (other : sender ≡ k.host.is.number → ⊥)
+    (n : NameValue) (told : Contains (told_names k.host.is.number page marks) n) (may : MayBeWanted k n) where
+  abbrev v : Datagram
+  v = Session sender sent page marks echoes
+
+  abbrev t : Keeping
+  t = having (Ticks now) k
+
+  abbrev echo : List Echo
+  echo = own_echo k.host.is.number echoes
+
+  abbrev first : Transition
+  first = performs (Hears (Session sender sent page (own_marks k.host.is.number (nat_lt now k.policy.ready) marks) echo))
+
+  abbrev second : Transition
+  second = measures sender (distance_in now echo)
+
+  abbrev third : Transition
+  third = want_told (told_names k.host.is.number page marks)
+
+  abbrev one : Keeping
+  one = after_doing first t
+
+  abbrev two : Keeping
+  two = after_doing second one
+
+  may_two : MayBeWanted two n
+  may_two =
+      same_may n second one
+      (lines_rest (second (sees one.host) one.policy).lines one.host (measures_small sender (distance_in now echo) (sees one.host) one.policy)).held
+      (same_may n first t (hearing_holds (Session sender sent page (own_marks k.host.is.number (nat_lt now k.policy.ready) marks) echo) t) (same_may n (performs (Ticks now)) k refl may))
+
+  all_heard : IsWantedIn n (and_then first (and_then second third)) t
+  all_heard =
+      wanted_later n first (and_then second third) t
+      (wanted_later n second third one (told_is_wanted (told_names k.host.is.number page marks) n two told may_two))
+
+  of_another : nat_eq sender k.host.is.number ≡ false
+  of_another = is_false (nat_eq sender k.host.is.number) (λ same. other (eqb-true sender k.host.is.number same))
+
+  abbrev by_sender : Bool → Doing
+  by_sender b = cond b (still (sees t.host) t.policy) (hears_session sender sent page marks echoes (sees t.host) t.policy)
+
+  heard_so : IsWantedIn n (hears v) t
+  heard_so = ⊎_elim
+      (λ (a : IsAskedIn n (and_then first (and_then second third)) t). inl (record { before = a.before; later = a.later; lines = ap (λ (b : Bool). (by_sender b).lines) of_another ∙ a.lines; stands = a.stands }))
+      (λ (without : LacksCredit (after_doing (and_then first (and_then second third)) t)). inr (subst LacksCredit (sym (ap (λ (b : Bool). done t (by_sender b)) of_another)) without))
+      all_heard
+
+  pub told_wants : IsAskedInCall n (came now v) k ⊎ LacksCredit (after_doing (came now v) k)
+  told_wants = ⊎_elim
+      (λ (a : IsAskedIn n (and_then (hears v) timed) t). inl (asked_behind_tick n now (and_then (hears v) timed) k a))
+      (λ (without : LacksCredit (after_doing (and_then (hears v) timed) t)). inr (subst LacksCredit (sym (then_after (performs (Ticks now)) (and_then (hears v) timed) k)) without))
+      (wanted_behind n (hears v) timed t (timed_costs (after_doing (hears v) t)) heard_so)

@@ -1,0 +1,250 @@
+-- What a host that keeps itself tells of names, it holds.
+use Rattle.std.proofs.Common.{◌≡◌, ℕ, Bool, true, false, cond, List, [], ◌∷◌, ◌++◌, ◌∙◌, Option, Some, None, ap, arith, inl, inr, length, map, refl, subst, sym, ⊎_elim}
+use Rattle.std.specs.Prelude.{◌⊎◌, Contains, filter, nat_eq, nat_le, nat_lt, take}
+use Rattle.std.specs.Option.{option_map}
+use Rattle.std.proofs.lemmas.Bool.{ltb-true}
+use Rattle.std.proofs.lemmas.List.Elements.{Contains-append_cases}
+use Rattle.wb_names.specs.Arrivals.{Outcome, Fresh, Known, Clashed, Left}
+use Rattle.wb_names.specs.History.{IsHeld, highest}
+use Rattle.wb_names.specs.Values.{DrawopValue, MarkValue, NameValue}
+use Rattle.wb_names.specs.declared.name.PageId.{PageId}
+use Rattle.wb_names.proofs.Listings.{Any-from_map, Contains-cases, Contains-from_filter, Contains-none}
+use Rattle.wb_codec.specs.declared.datagram.Datagram.{Datagram}
+use Rattle.wb_codec.specs.declared.datagram.Datagram.TheVariants.{Draw, Session, Request, AskPages, PageState}
+use Rattle.wb_gaps.specs.Answers.{pages_of, report_of, reports_of, sources_of, top_mark}
+use Rattle.wb_gaps.specs.declared.page_reports.PageReport.{PageReport}
+use Rattle.wb_gaps.proofs.Reports.{greatest_held}
+use Rattle.wb_recovery.specs.declared.plan.Action.{Action}
+use Rattle.wb_recovery.specs.declared.plan.Action.TheVariants.{Ask, Answer}
+use Rattle.wb_host.specs.Hearing.{answers_to, asks_for_pages, page_states}
+use Rattle.wb_host.specs.Ticks.{drawop_of, sent_for}
+use Rattle.wb_host.proofs.TickSends.{sent_from}
+use Rattle.wb_progress.proofs.NamesApart.{from_take}
+use Rattle.wb_member.specs.Opened.{Opened, becomes, has_room_for, present, sent_by}
+use Rattle.wb_keeping.specs.Kept.{Arrives, Asks, Hears, Line, Says, SetsDistance, Tunes, Stops, Ticks, last_heard, room_lines, state_of, still, stops_oldest, usual_lines, want}
+use Rattle.wb_keeping.specs.Laws.{KeptLine, doing_of, fault_of}
+use Rattle.wb_keeping.specs.Performing.{Keeping, after_doing, after_line, after_lines, said_where, sees, sent_by_doing, sent_by_line, sent_by_lines, view_of}
+use Rattle.wb_keeping.specs.Policy.{Policy, View, after_wanting, holds, is_asked, is_full, level}
+use Rattle.wb_keeping.specs.Reports.{is_untold, slice_after}
+use Rattle.wb_keeping.specs.Wanting.{is_wanted, oldest}
+use Rattle.wb_keeping.specs.declared.wanting.AskedName.{AskedName}
+use Rattle.wb_keeping.proofs.EachStep.{HoldsOfSteps, doing, line_holds}
+use Rattle.wb_keeping.proofs.Performed.{after_both, sent_by_both}
+use Rattle.wb_keeping.proofs.Wanted.{lines_wanted}
+use Rattle.wb_kept_progress.proofs.Lines.{lines_grow}
+use Rattle.wb_kept_progress.proofs.PerLine.{one_of}
+
+-- each mark of a page is of a number that is held
+abbrev pub AreHeld : List DrawopValue → PageId → List MarkValue → Type 0
+AreHeld held page marks = (m : MarkValue) → Contains marks m → IsHeld held page m.source m.high
+
+-- of a report or a page state, its marks are
+abbrev pub TellsHeld : List DrawopValue → Datagram → Type 0
+TellsHeld held (Draw d) = Unit {0}
+TellsHeld held (Session sender sent page marks echoes) = AreHeld held page marks
+TellsHeld held (Request asker name) = Unit {0}
+TellsHeld held (AskPages asker) = Unit {0}
+TellsHeld held (PageState sender page marks) = AreHeld held page marks
+
+-- what is held stays
+abbrev Grow : List DrawopValue → List DrawopValue → Type 0
+Grow one next = (d : DrawopValue) → Contains one d → Contains next d
+
+still_held : (one next : List DrawopValue) → Grow one next → (page : PageId) (source n : ℕ) → IsHeld one page source n → IsHeld next page source n
+still_held one next kept page source n h = let c = kept h.1 (h.0, h.2, h.3) in (c.0, h.1, c.1, c.2, h.4)
+
+still_tells : (one next : List DrawopValue) → Grow one next → (v : Datagram) → TellsHeld one v → TellsHeld next v
+still_tells one next kept (Draw d) tells = tt
+still_tells one next kept (Session sender sent page marks echoes) tells = λ m c. still_held one next kept page m.source m.high (tells m c)
+still_tells one next kept (Request asker name) tells = tt
+still_tells one next kept (AskPages asker) tells = tt
+still_tells one next kept (PageState sender page marks) tells = λ m c. still_held one next kept page m.source m.high (tells m c)
+
+-- ---- the report of a page
+
+pub report_held : (held : List DrawopValue) (page : PageId) → AreHeld held page (report_of held page)
+unfolding report_of
+report_held held page m c =
+    let f = Contains-from_filter (λ (m : MarkValue). nat_lt 0 m.high) (map (top_mark held page) (sources_of held page)) m c in
+    let r = Any-from_map (top_mark held page) (sources_of held page) m f.0 in
+    subst (λ (m : MarkValue). IsHeld held page m.source m.high) r.4 (top r.1 (subst (λ (m : MarkValue). nat_lt 0 m.high ≡ true) (sym r.4) f.1)) where
+      top : (source : ℕ) → nat_lt 0 (highest page source held) ≡ true → IsHeld held page source (highest page source held)
+      top source some = by (greatest_held held page source).reached where
+        by : (highest page source held ≡ 0) ⊎ IsHeld held page source (highest page source held) → IsHeld held page source (highest page source held)
+        by (inl none) = let lt = ltb-true _ _ some in absurd (omega (arith, none, lt))
+        by (inr h) = h
+
+pub slice_held : (held : List DrawopValue) (page : PageId) (told : Option ℕ) → AreHeld held page (slice_after told (report_of held page))
+slice_held held page told m c =
+    let p : MarkValue → Bool = λ m. is_untold told m.source in
+    report_held held page m (Contains-from_filter p (report_of held page) m (from_take 64 (filter p (report_of held page)) m c)).0
+
+-- ---- what a line sends
+
+-- as time goes on, requests and drawops alone
+action_tells : (me : ℕ) (history held : List DrawopValue) (action : Action) (v : Datagram) → sent_for me history action ≡ Some v → TellsHeld held v
+action_tells me history held (Ask name) v e = subst (TellsHeld held) (some_is (Request me name) v e) tt where
+  some_is : (a b : Datagram) → Some a ≡ Some b → a ≡ b
+  some_is a b e = cc
+action_tells me history held (Answer name) v e = by (drawop_of history name) e where
+  some_is : (a b : Datagram) → Some a ≡ Some b → a ≡ b
+  some_is a b e = cc
+
+  none_is : (b : Datagram) → None ≡ Some b → ⊥
+  none_is b e = cc
+
+  by : (o : Option DrawopValue) → option_map {T = DrawopValue} {U = Datagram} Draw o ≡ Some v → TellsHeld held v
+  by None e = absurd (none_is v e)
+  by (Some d) e = subst (TellsHeld held) (some_is (Draw d) v e) tt
+
+tick_tells : (now : ℕ) (host : Opened) (v : Datagram) → Contains (sent_by now host) v → TellsHeld host.is.held v
+tick_tells now host v c = let r = sent_from (sent_for host.is.number host.is.held) _ v c in action_tells host.is.number host.is.held host.is.held r.0 v r.2
+
+-- a member answers a question by the reports of its pages
+abbrev reported : List DrawopValue → PageId → PageReport
+reported held page = record { page = page; marks = report_of held page }
+
+answer_tells : (me : ℕ) (held : List DrawopValue) (heard v : Datagram) → Contains (answers_to me held heard) v → TellsHeld held v
+answer_tells me held heard v c = by (asks_for_pages me heard) c where
+  by : (b : Bool) → Contains (cond b (page_states me held) []) v → TellsHeld held v
+  by false c = absurd (Contains-none v c)
+  by true c =
+      let r = Any-from_map (λ (r : PageReport). PageState me r.page r.marks) (reports_of held) v c in
+      let p = Any-from_map (reported held) (pages_of held) r.1 (r.0, r.2, r.3) in
+      subst (TellsHeld held) r.4 (subst (λ (s : PageReport). AreHeld held s.page s.marks) p.4 (report_held held p.1))
+
+hear_tells : (heard : Datagram) (host : Opened) (v : Datagram) → Contains (sent_by_line (Hears heard) host) v → TellsHeld host.is.held v
+hear_tells heard host v c = by (has_room_for heard host) c where
+  by : (b : Bool) → Contains (cond b (answers_to host.is.number host.is.held heard) []) v → TellsHeld host.is.held v
+  by true c = answer_tells host.is.number host.is.held heard v c
+  by false c = absurd (Contains-none v c)
+
+draw_tells : (held : List DrawopValue) (d : DrawopValue) (o : Outcome) (v : Datagram) → Contains (said_where d o) v → TellsHeld held v
+draw_tells held d (Fresh i) v c = subst (TellsHeld held) (one_of (Draw d) v c) tt
+draw_tells held d (Known i) v c = subst (TellsHeld held) (one_of (Draw d) v c) tt
+draw_tells held d (Clashed i) v c = absurd (Contains-none v c)
+draw_tells held d Left v c = absurd (Contains-none v c)
+
+-- ---- lines that send nothing
+
+abbrev SendsNothing : Line → Type 0
+SendsNothing (Ticks now) = ⊥
+SendsNothing (Arrives d) = Unit {0}
+SendsNothing (Hears v) = ⊥
+SendsNothing (Asks name) = Unit {0}
+SendsNothing (Stops name) = Unit {0}
+SendsNothing (SetsDistance source micros) = Unit {0}
+SendsNothing (Tunes constants) = Unit {0}
+SendsNothing (Says v) = ⊥
+
+abbrev SendNothing : List Line → Type 0
+SendNothing [] = Unit {0}
+SendNothing (line ∷ lines) = SendsNothing line × SendNothing lines
+
+none_both : (one other : List Line) → SendNothing one → SendNothing other → SendNothing (one ++ other)
+none_both [] other a b = b
+none_both (line ∷ one) other a b = (a.0, none_both one other a.1 b)
+
+none_sent : (lines : List Line) (host : Opened) (v : Datagram) → SendNothing lines → Contains (sent_by_lines lines host) v → ⊥
+none_sent [] host v none c = Contains-none v c
+none_sent (Ticks now ∷ lines) host v none c = none.0
+none_sent (Arrives d ∷ lines) host v none c = none_sent lines (after_line (Arrives d) host) v none.1 c
+none_sent (Hears w ∷ lines) host v none c = none.0
+none_sent (Asks name ∷ lines) host v none c = none_sent lines (after_line (Asks name) host) v none.1 c
+none_sent (Stops name ∷ lines) host v none c = none_sent lines (after_line (Stops name) host) v none.1 c
+none_sent (SetsDistance source micros ∷ lines) host v none c = none_sent lines (after_line (SetsDistance source micros) host) v none.1 c
+none_sent (Tunes constants ∷ lines) host v none c = none_sent lines (after_line (Tunes constants) host) v none.1 c
+none_sent (Says w ∷ lines) host v none c = none.0
+
+room_none : (name : NameValue) (v : View) → SendNothing (room_lines name v)
+room_none name v = by (is_asked v name) (nat_le 64 (length v.asked)) (oldest v.asked) where
+  by : (a b : Bool) (o : Option AskedName) → SendNothing (cond a (Stops name ∷ []) (cond b (stops_oldest o) []))
+  by true b o = (tt, tt)
+  by false true None = tt
+  by false true (Some a) = (tt, tt)
+  by false false o = tt
+
+usual_none : (source distance : ℕ) (usual : Option ℕ) → SendNothing (usual_lines source distance usual)
+usual_none source distance None = tt
+usual_none source distance (Some u) = by (nat_eq distance 100000) where
+  by : (b : Bool) → SendNothing (cond b (SetsDistance source u ∷ []) [])
+  by true = (tt, tt)
+  by false = tt
+
+want_none : (name : NameValue) (anew : Bool) (see : List Line → View) (p : Policy) → SendNothing (want name anew see p).lines
+want_none name anew see p = by (is_wanted (holds v name) (is_full v) anew (level v name) p.owed v.now) where
+  v : View
+  v = see []
+
+  by : (b : Bool) → SendNothing (cond b (doing (after_wanting v.now p) (lines_wanted name anew see p)) (still see p)).lines
+  by true = none_both (room_lines name v) _ (room_none name v)
+      (none_both (usual_lines name.source (v.distance name.source) p.usual) (Asks name ∷ []) (usual_none name.source (v.distance name.source) p.usual) (tt, tt))
+  by false = tt
+
+-- ---- all that a kept host does
+
+record TellsWhatIsHeld (k : Keeping) (lines : List Line) (m : Keeping) : Type 0 where
+  at : m.host ≡ after_lines lines k.host
+  tells : (v : Datagram) → Contains (sent_by_lines lines k.host) v → TellsHeld m.host.is.held v
+
+-- by what was held before
+by_held : (k : Keeping) (lines : List Line) (p : Policy) → ((v : Datagram) → Contains (sent_by_lines lines k.host) v → TellsHeld k.host.is.held v)
+    → TellsWhatIsHeld k lines (record { host = after_lines lines k.host; policy = p })
+by_held k lines p tells = record { at = refl; tells = λ v c. still_tells k.host.is.held (after_lines lines k.host).is.held (lines_grow lines k.host).kept v (tells v c) }
+
+by_one : (k : Keeping) (line : Line) (p : Policy) → ((v : Datagram) → Contains (sent_by_line line k.host) v → TellsHeld k.host.is.held v)
+    → TellsWhatIsHeld k (line ∷ []) (record { host = after_line line k.host; policy = p })
+by_one k line p tells = by_held k (line ∷ []) p
+    (λ v c. ⊎_elim (λ (h : Contains (sent_by_line line k.host) v). tells v h) (λ (h : Contains [] v). absurd (Contains-none v h)) (Contains-append_cases (sent_by_line line k.host) [] v c))
+
+quietly : (k : Keeping) (lines : List Line) (p : Policy) → SendNothing lines → TellsWhatIsHeld k lines (record { host = after_lines lines k.host; policy = p })
+quietly k lines p none = by_held k lines p (λ v c. absurd (none_sent lines k.host v none c))
+
+both_tell : (k m n : Keeping) (one other : List Line) → TellsWhatIsHeld k one m → TellsWhatIsHeld m other n → TellsWhatIsHeld k (one ++ other) n
+both_tell k m n one other a b = record {
+  at = b.at ∙ ap (after_lines other) a.at ∙ sym (after_both one other k.host);
+  tells = λ v c. ⊎_elim
+      (λ (h : Contains (sent_by_lines one k.host) v).
+      let kept : Grow m.host.is.held n.host.is.held = subst (λ (o : Opened). Grow m.host.is.held o.is.held) (sym b.at) (lines_grow other m.host).kept in
+      still_tells m.host.is.held n.host.is.held kept v (a.tells v h))
+      (λ (h : Contains (sent_by_lines other (after_lines one k.host)) v). b.tells v (subst (λ (o : Opened). Contains (sent_by_lines other o) v) (sym a.at) h))
+      (Contains-append_cases (sent_by_lines one k.host) (sent_by_lines other (after_lines one k.host)) v
+      (subst (λ (s : List Datagram). Contains s v) (sent_by_both one other k.host) c));
+}
+
+states_tell : (seen : View) (pages : List PageId) (host : Opened) (v : Datagram)
+    → Contains (sent_by_lines (map (λ (page : PageId). Says (state_of seen page)) pages) host) v → TellsHeld seen.held v
+states_tell seen [] host v c = absurd (Contains-none v c)
+states_tell seen (page ∷ pages) host v c = ⊎_elim
+    (λ (e : state_of seen page ≡ v). subst (TellsHeld seen.held) e (slice_held seen.held page None))
+    (λ (d : Contains (sent_by_lines (map (λ (page : PageId). Says (state_of seen page)) pages) host) v). states_tell seen pages host v d)
+    (Contains-cases (state_of seen page) v (sent_by_lines (map (λ (page : PageId). Says (state_of seen page)) pages) host) c)
+
+steps_tell : HoldsOfSteps TellsWhatIsHeld
+steps_tell = record {
+  nothing = λ k. quietly k [] k.policy tt;
+  both = both_tell;
+  ticks = λ now k later. by_one k (Ticks now) k.policy (tick_tells now k.host);
+  arrives = λ d k. quietly k _ k.policy (tt, tt);
+  answered = λ d k lacks asked. quietly k _ _ (tt, tt);
+  hears = λ v k. by_one k (Hears v) k.policy (hear_tells v k.host);
+  stops = λ name k full. quietly k _ k.policy (tt, tt);
+  sets = λ source micros k. quietly k _ k.policy (tt, tt);
+  tunes = λ constants k within. quietly k _ k.policy (tt, tt);
+  wants = λ name anew k. quietly k _ _ (want_none name anew (sees k.host) k.policy);
+  draws = λ d k. by_one k (Says (Draw d)) k.policy (draw_tells k.host.is.held d (becomes d k.host));
+  turned = λ t k. quietly k [] _ tt;
+  measured = λ micros k. quietly k [] _ tt;
+  told = λ k. quietly k [] _ tt;
+  takes_up = λ k is. quietly k [] _ tt;
+  answers = λ k is. by_held k _ _ (states_tell (view_of k.host) (take 64 (pages_of k.host.is.held)) k.host);
+  asks_pages = λ k is. by_one k (Says (AskPages k.host.is.number)) _ (λ v c. subst (TellsHeld k.host.is.held) (one_of (AskPages k.host.is.number) v c) tt);
+  reports = λ page told k is.
+      let report = Session k.host.is.number (present k.host) page (slice_after told (report_of k.host.is.held page)) (last_heard (view_of k.host).echoes) in
+      by_one k (Says report) _ (λ v c. subst (TellsHeld k.host.is.held) (one_of report v c) (slice_held k.host.is.held page told));
+}
+
+-- What a call tells is held behind it.
+pub call_tells : (line : KeptLine) (k : Keeping) → fault_of line k ≡ None → (v : Datagram) → Contains (sent_by_doing (doing_of line) k) v
+    → TellsHeld (after_doing (doing_of line) k).host.is.held v
+call_tells line k none = (line_holds TellsWhatIsHeld steps_tell line k none).tells

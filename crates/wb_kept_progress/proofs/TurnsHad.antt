@@ -1,0 +1,164 @@
+-- How many names have their turn in a time: no more than reports of a host, which are a second apart or more.
+use Rattle.std.proofs.Common.{◌≡◌, ℕ, ◌+◌, ◌*◌, ◌<◌, ◌≤◌, Bool, true, false, cond, List, [], ◌∷◌, ◌++◌, ◌∙◌, Option, Some, None, ap, arith, eq-eqb, eqb-true, length, refl, subst, sym, true≢false, ⊎_elim}
+use Rattle.std.specs.Prelude.{Contains, max, nat_eq, nat_le, unwrap_or}
+use Rattle.std.proofs.lemmas.Bool.{leb-false, leb-true}
+use Rattle.wb_names.specs.Values.{NameValue}
+use Rattle.wb_names.proofs.Listings.{Contains-here, Contains-there}
+use Rattle.wb_progress.specs.Turns.{Terms}
+use Rattle.wb_keeping.specs.Fairness.{name_in_turn}
+use Rattle.wb_keeping.specs.Laws.{doing_of}
+use Rattle.wb_keeping.specs.Performing.{Keeping, after_doing}
+use Rattle.wb_kept_progress.specs.Sessions.{Opening}
+use Rattle.wb_kept_progress.specs.Timed.{IsTold, TimedLine}
+use Rattle.wb_kept_progress.specs.Whole.{there}
+use Rattle.wb_kept_progress.proofs.ReportsApart.{DrawsNothing, IsDueThen, IsTuned, call_due}
+use Rattle.wb_kept_progress.proofs.WholeParts.{HasTurn}
+
+-- a name that has its turn, and others
+abbrev with_turn : Option NameValue → List NameValue → List NameValue
+with_turn None names = names
+with_turn (Some n) names = n ∷ names
+
+turn_in : (o : Option NameValue) (names : List NameValue) (n : NameValue) → o ≡ Some n → Contains (with_turn o names) n
+turn_in None names n e = absurd cc
+turn_in (Some m) names n e = subst (λ (x : NameValue). Contains (m ∷ names) x) (ap (λ (o : Option NameValue). unwrap_or o n) e) (Contains-here m names)
+
+others_in : (o : Option NameValue) (names : List NameValue) (n : NameValue) → Contains names n → Contains (with_turn o names) n
+others_in None names n c = c
+others_in (Some m) names n c = Contains-there m n names c
+
+one_more : (o : Option NameValue) (names : List NameValue) → length (with_turn o names) ≤ length names + 1
+one_more None names = omega arith
+one_more (Some m) names = omega arith
+
+-- ---- spaces of a second
+
+some_space : (from now due next count : ℕ) → from ≤ now → due ≤ now → now + 1000000 ≤ next → from + count * 1000000 ≤ max from due → from + (count + 1) * 1000000 ≤ max from next
+some_space from now due next count le soon later spaced = omega (arith, le, soon, later, spaced)
+
+some_few : (from now due by count : ℕ) → from ≤ now → due ≤ now → now ≤ by → from + count * 1000000 ≤ max from due → from + (count + 1) * 1000000 ≤ by + 1000000
+some_few from now due by count le soon in_time spaced = omega (arith, le, soon, in_time, spaced)
+
+wider_space : (from due next count : ℕ) → due ≤ next → from + count * 1000000 ≤ max from due → from + count * 1000000 ≤ max from next
+wider_space from due next count le spaced = omega (arith, le, spaced)
+
+fewer : (from some all bound : ℕ) → some ≤ all → from + all * 1000000 ≤ bound → from + some * 1000000 ≤ bound
+fewer from some all bound le is = omega (arith, le, is)
+
+-- ---- the names that have their turn at a host in some calls
+
+heads : (a b : TimedLine) (x y : List TimedLine) → a ∷ x ≡ b ∷ y → a ≡ b
+heads a b x y same = cc
+
+tails : (a b : TimedLine) (x y : List TimedLine) → a ∷ x ≡ b ∷ y → x ≡ y
+tails a b x y same = cc
+
+nil_cons : (e : TimedLine) (x : List TimedLine) → ◌≡◌ {A = List TimedLine} [] (e ∷ x) → ⊥
+nil_cons e x same = cc
+
+no_part : (newer older : List TimedLine) (e : TimedLine) → ◌≡◌ {A = List TimedLine} [] (newer ++ e ∷ older) → ⊥
+no_part [] older e same = nil_cons e older same
+no_part (x ∷ newer) older e same = nil_cons x (newer ++ e ∷ older) same
+
+-- each call tells its moment, and nothing is drawn
+abbrev pub AreOrdinary : Terms → List TimedLine → Type 0
+AreOrdinary terms [] = Unit {0}
+AreOrdinary terms (e ∷ part) = (IsTold (e.time + terms.offset e.at.place) e.at.line × DrawsNothing e.at.line) × AreOrdinary terms part
+
+module _ (hosts : ℕ → Opening) (terms : Terms) (i : ℕ) (base : List TimedLine) (from by : ℕ) where
+  abbrev at_i : List TimedLine → Keeping
+  at_i part = there hosts (part ++ base) i
+
+  abbrev due_at : Keeping → ℕ
+  due_at k = k.policy.reports.due
+
+  -- each name is among these that has its turn there from one time up to another
+  abbrev AreAll : List NameValue → List TimedLine → Type 0
+  AreAll names part = (newer older : List TimedLine) (e : TimedLine) (n : NameValue) → part ≡ newer ++ e ∷ older → e.at.place ≡ i → from ≤ e.time → e.time ≤ by → (IsTuned e.at.line → ⊥) → HasTurn (at_i older) (e.time + terms.offset i) n → Contains names n
+
+  -- and they are spaced
+  pub record Had (part : List TimedLine) (k : Keeping) : Type 0 where
+    pub names : List NameValue
+    pub all : AreAll names part
+    pub spaced : from + terms.offset i + length names * 1000000 ≤ max (from + terms.offset i) (due_at k)
+    pub few : from + terms.offset i + length names * 1000000 ≤ by + terms.offset i + 1000000
+
+  -- one call more
+  module _ (e : TimedLine) (part : List TimedLine) where
+    -- the call itself
+    abbrev IsIn : List NameValue → Type 0
+    IsIn names = (n : NameValue) → e.at.place ≡ i → from ≤ e.time → e.time ≤ by → (IsTuned e.at.line → ⊥) → HasTurn (at_i part) (e.time + terms.offset i) n → Contains names n
+
+    all_more : (names more : List NameValue) → AreAll names part → ((n : NameValue) → Contains names n → Contains more n) → IsIn more → AreAll more (e ∷ part)
+    all_more names more all among here [] older x n split place since soon untuned turn =
+        let h = heads e x part older split in
+        let t = tails e x part older split in
+        here n (ap (λ (y : TimedLine). y.at.place) h ∙ place)
+        (subst (λ (y : TimedLine). from ≤ y.time) (sym h) since)
+        (subst (λ (y : TimedLine). y.time ≤ by) (sym h) soon)
+        (subst (λ (y : TimedLine). IsTuned y.at.line → ⊥) (sym h) untuned)
+        (subst (λ (l : List TimedLine). HasTurn (at_i l) (e.time + terms.offset i) n) (sym t) (subst (λ (y : TimedLine). HasTurn (at_i older) (y.time + terms.offset i) n) (sym h) turn))
+    all_more names more all among here (y ∷ newer) older x n split place since soon untuned turn = among n (all newer older x n (tails e y part (newer ++ x ∷ older) split) place since soon untuned turn)
+
+    same_names : (k next : Keeping) → (h : Had part k) → due_at k ≤ due_at next → IsIn h.names → Had (e ∷ part) next
+    same_names k next h le here = record {
+      names = h.names;
+      all = all_more h.names h.names h.all (λ n c. c) here;
+      spaced = wider_space (from + terms.offset i) (due_at k) (due_at next) (length h.names) le h.spaced;
+      few = h.few;
+    }
+
+    -- where a report is due
+    module _ (next : Keeping) (h : Had part (at_i part)) (due : due_at (at_i part) ≤ e.time + terms.offset i) (later : e.time + terms.offset i + 1000000 ≤ due_at next) where
+      abbrev in_turn : Option NameValue
+      in_turn = name_in_turn (at_i part).host.is.held (at_i part).policy.turns
+
+      one_turn : from ≤ e.time → e.time ≤ by → Had (e ∷ part) next
+      one_turn since soon =
+          let since_then : from + terms.offset i ≤ e.time + terms.offset i = omega (arith, since) in
+          let soon_then : e.time + terms.offset i ≤ by + terms.offset i = omega (arith, soon) in
+          let more = one_more in_turn h.names in
+          record {
+            names = with_turn in_turn h.names;
+            all = all_more h.names (with_turn in_turn h.names) h.all (others_in in_turn h.names) (λ n place since soon untuned turn. turn_in in_turn h.names n turn.named);
+            spaced = fewer (from + terms.offset i) (length (with_turn in_turn h.names)) (length h.names + 1) (max (from + terms.offset i) (due_at next)) more
+                (some_space (from + terms.offset i) (e.time + terms.offset i) (due_at (at_i part)) (due_at next) (length h.names) since_then due later h.spaced);
+            few = fewer (from + terms.offset i) (length (with_turn in_turn h.names)) (length h.names + 1) (by + terms.offset i + 1000000) more
+                (some_few (from + terms.offset i) (e.time + terms.offset i) (due_at (at_i part)) (by + terms.offset i) (length h.names) since_then due soon_then h.spaced);
+          }
+
+      out_of_time : (from ≤ e.time → e.time ≤ by → ⊥) → Had (e ∷ part) next
+      out_of_time out = same_names (at_i part) next h (omega (arith, due, later)) (λ n place since soon untuned turn. absurd (out since soon))
+
+      with_report : Had (e ∷ part) next
+      with_report = in_time (nat_le from e.time) (nat_le e.time by) refl refl where
+        in_time : (a b : Bool) → nat_le from e.time ≡ a → nat_le e.time by ≡ b → Had (e ∷ part) next
+        in_time true true s t = one_turn (leb-true _ _ s) (leb-true _ _ t)
+        in_time true false s t = let lt = leb-false _ _ t in out_of_time (λ since soon. omega (arith, lt, soon))
+        in_time false b s t = let lt = leb-false _ _ s in out_of_time (λ since soon. omega (arith, lt, since))
+
+    one_call : (IsTold (e.time + terms.offset i) e.at.line) → DrawsNothing e.at.line → Had part (at_i part) → Had (e ∷ part) (after_doing (doing_of e.at.line) (at_i part))
+    one_call told draws h = ⊎_elim
+        (λ (then : IsDueThen (e.time + terms.offset i) (due_at k) (due_at next)). ⊎_elim
+        (λ (not_yet : (e.time + terms.offset i < due_at k) × (due_at next ≡ due_at k)). let lt = not_yet.0 in same_names k next h (le_same (due_at k) (due_at next) not_yet.1) (λ n place since soon untuned turn. let due = turn.due in absurd (omega (arith, lt, due))))
+        (λ (report : (due_at k ≤ e.time + terms.offset i) × (e.time + terms.offset i + 1000000 ≤ due_at next)). with_report next h report.0 report.1)
+        then)
+        (λ (tuned : IsTuned e.at.line × (due_at next ≡ due_at k)). same_names k next h (le_same (due_at k) (due_at next) tuned.1) (λ n place since soon untuned turn. absurd (untuned tuned.0)))
+        (call_due e.at.line (e.time + terms.offset i) k told draws) where
+          k : Keeping
+          k = at_i part
+
+          next : Keeping
+          next = after_doing (doing_of e.at.line) (at_i part)
+
+          le_same : (a b : ℕ) → b ≡ a → a ≤ b
+          le_same a b e = omega (arith, e)
+
+  pub had : from ≤ by → (part : List TimedLine) → AreOrdinary terms part → Had part (at_i part)
+  had le [] ordinary = record { names = []; all = λ newer older e n split. absurd (no_part newer older e split); spaced = omega arith; few = omega (arith, le) }
+  had le (e ∷ part) ordinary = by_place (nat_eq e.at.place i) refl (had le part ordinary.1) where
+    by_place : (b : Bool) → nat_eq e.at.place i ≡ b → Had part (at_i part) → Had (e ∷ part) (cond b (after_doing (doing_of e.at.line) (at_i part)) (at_i part))
+    by_place true same h = one_call e part (subst (λ (p : ℕ). IsTold (e.time + terms.offset p) e.at.line) (eqb-true e.at.place i same) ordinary.0.0) ordinary.0.1 h
+    by_place false other h = same_names e part (at_i part) (at_i part) h (itself (due_at (at_i part))) (λ n place. absurd (true≢false (sym (eq-eqb e.at.place i place) ∙ other))) where
+      itself : (m : ℕ) → m ≤ m
+      itself m = omega arith

@@ -1,0 +1,91 @@
+-- A call in which a name is wanted: a timer stands behind some of its lines, or it has no credit.
+use Rattle.std.proofs.Common.{◌≡◌, ℕ, ◌+◌, ◌<◌, ◌≤◌, true, List, [], ◌∷◌, ◌++◌, ◌∙◌, Option, Some, None, ap, append_assoc, eqb-true, inl, inr, refl, subst, sym, true≢false, ⊎_elim}
+use Rattle.std.specs.Prelude.{◌⊎◌, is_some, nat_eq}
+use Rattle.wb_names.specs.Values.{NameValue}
+use Rattle.wb_recovery.specs.declared.timers.AskTimer.{AskTimer}
+use Rattle.wb_progress.specs.Turns.{Terms}
+use Rattle.wb_member.specs.Opened.{asks_for, present}
+use Rattle.wb_keeping.specs.Credit.{has_credit}
+use Rattle.wb_keeping.specs.Kept.{Line}
+use Rattle.wb_keeping.specs.Laws.{doing_of}
+use Rattle.wb_keeping.specs.Performing.{Keeping, after_doing, after_lines, sees}
+use Rattle.wb_kept_progress.specs.Sessions.{Opening}
+use Rattle.wb_kept_progress.specs.Timed.{Performed, TimedLine, host_after, performed, performed_then, start_of, time_of}
+use Rattle.wb_kept_progress.specs.Whole.{IsHeldBySome, there}
+use Rattle.wb_kept_progress.proofs.CallParts.{host_is}
+use Rattle.wb_kept_progress.proofs.KeptInTime.{front_of, then_both, then_front, then_time}
+use Rattle.wb_kept_progress.proofs.NextReports.{there_here}
+use Rattle.wb_kept_progress.proofs.Performed.{after_all}
+use Rattle.wb_kept_progress.proofs.WantedIn.{IsAskedInCall, LacksCredit}
+use Rattle.wb_kept_progress.proofs.WholeParts.{HasNoCredit, IsAsking, IsWanting, does, timer_then}
+
+some_timer : (o : Option AskTimer) → is_some o ≡ true → (a : AskTimer) × (o ≡ Some a)
+some_timer None e = absurd (true≢false (sym e))
+some_timer (Some a) e = (a, refl)
+
+module _ (hosts : ℕ → Opening) (terms : Terms) (trace : List TimedLine) (opened : (i : ℕ) → (hosts i).moments ≡ []) (i : ℕ) (n : NameValue)
+    (held : IsHeldBySome hosts terms trace n) where
+  -- behind lines of a call the timer stands
+  pub asking_in_call : (window base front grown : List TimedLine) (e : TimedLine) → window ≡ front ++ e ∷ grown → nat_eq e.at.place i ≡ true
+      → IsAskedInCall n (doing_of e.at.line) (there hosts (grown ++ base) i)
+      → (back : List Performed) × IsAsking hosts terms trace (window ++ base) i back × (time_of back ≡ e.time)
+  asking_in_call window base front grown e split same a = (back, record { front = f.0 ++ g.0; split = whole; name = n; ask = timer.0; stands = timer.1; held = held }, then_time e.time e.at.place a.before a.first (performed hosts older)) where
+    older : List TimedLine
+    older = grown ++ base
+
+    k : Keeping
+    k = there hosts older i
+
+    at_i : e.at.place ≡ i
+    at_i = eqb-true e.at.place i same
+
+    back : List Performed
+    back = performed_then e.time e.at.place (a.first ∷ a.before) (performed hosts older)
+
+    lines : does hosts e older ≡ (a.first ∷ a.before) ++ a.later
+    lines = ap (λ (p : ℕ). let m = there hosts older p in (doing_of e.at.line (sees m.host) m.policy).lines) at_i ∙ a.lines
+
+    f : (newer : List Performed) × (performed hosts (front ++ e ∷ older) ≡ newer ++ performed hosts (e ∷ older))
+    f = front_of hosts front (e ∷ older)
+
+    g : (newer : List Performed) × (performed_then e.time e.at.place a.later back ≡ newer ++ back)
+    g = then_front e.time e.at.place a.later back
+
+    of_call : performed hosts (e ∷ older) ≡ g.0 ++ back
+    of_call =
+        ap (λ (ls : List Line). performed_then e.time e.at.place ls (performed hosts older)) lines
+        ∙ then_both e.time e.at.place (a.first ∷ a.before) a.later (performed hosts older) ∙ g.1
+
+    whole : performed hosts (window ++ base) ≡ (f.0 ++ g.0) ++ back
+    whole =
+        ap (λ (t : List TimedLine). performed hosts (t ++ base)) split ∙ ap (performed hosts) (append_assoc front (e ∷ grown) base)
+        ∙ f.1 ∙ ap (λ (t : List Performed). f.0 ++ t) of_call ∙ sym (append_assoc f.0 g.0 back)
+
+    there_is : host_after (λ j. start_of (hosts j)) back i ≡ after_lines (a.first ∷ a.before) k.host
+    there_is =
+        after_all (λ j. start_of (hosts j)) e.time e.at.place (a.first ∷ a.before) (performed hosts older) i true same
+        ∙ ap (after_lines (a.first ∷ a.before)) (host_is hosts opened older i)
+
+    timer : (ask : AskTimer) × (timer_then hosts back i n ≡ Some ask)
+    timer = some_timer (timer_then hosts back i n) (ap (asks_for n) there_is ∙ a.stands)
+
+  -- so a name that is wanted in a call is asked for, or there is no credit
+  pub wanting_in_call : (window base front grown older : List TimedLine) (e : TimedLine) (from by : ℕ) → window ≡ front ++ e ∷ grown → older ≡ grown ++ base
+      → nat_eq e.at.place i ≡ true
+      → present (after_doing (doing_of e.at.line) (there hosts older i)).host ≡ e.time + terms.offset i
+      → IsAskedInCall n (doing_of e.at.line) (there hosts older i) ⊎ LacksCredit
+      (after_doing (doing_of e.at.line) (there hosts older i)) → from < e.time → e.time ≤ by → IsWanting hosts terms trace window base i from by
+  wanting_in_call window base front grown older e from by split is same now wants behind soon = record {
+    front = front;
+    part = e ∷ grown;
+    split = split;
+    behind = behind;
+    soon = soon;
+    wants = ⊎_elim
+        (λ (a : IsAskedInCall n (doing_of e.at.line) (there hosts older i)). inl (asking_in_call window base front grown e split same (subst (λ (t : List TimedLine). IsAskedInCall n (doing_of e.at.line) (there hosts t i)) is a)))
+        (λ (without : LacksCredit (after_doing (doing_of e.at.line) (there hosts older i))). inr (subst (λ (t : List TimedLine). HasNoCredit hosts terms (e ∷ t) i) is (
+          ap (λ (x : Keeping). present x.host) (there_here hosts e older i same) ∙ now,
+          ap (λ (x : Keeping). has_credit x.policy.owed (present x.host)) (there_here hosts e older i same) ∙ without,
+        )))
+        wants;
+  }

@@ -1,0 +1,150 @@
+-- What follows one after the other, from what a call asks for and gives up to where a session is whole.
+use Rattle.std.specs.Prelude.{◌≡◌, ◌≢◌, ◌⊎◌, ℕ, ◌+◌, ◌*◌, ◌<◌, ◌≤◌, true, false, List, ◌∷◌, ◌++◌, Contains, Option, Some, length}
+use Rattle.wb_names.specs.Values.{NameValue}
+use Rattle.wb_recovery.specs.declared.timers.AskTimer.{AskTimer}
+use Rattle.wb_progress.specs.InTime.{known_from, repairing}
+use Rattle.wb_progress.specs.Turns.{Terms, settled_by}
+use Rattle.wb_member.specs.Judged.{holds}
+use Rattle.wb_member.specs.Opened.{Opened, present}
+use Rattle.wb_keeping.specs.Credit.{has_credit, spent}
+use Rattle.wb_keeping.specs.Fairness.{name_in_turn}
+use Rattle.wb_keeping.specs.Kept.{Line, Asks, Stops}
+use Rattle.wb_keeping.specs.Laws.{doing_of}
+use Rattle.wb_keeping.specs.Performing.{Keeping, sees, view_of}
+use Rattle.wb_keeping.specs.Wanting.{oldest}
+use Rattle.wb_keeping.specs.declared.wanting.AskedName.{AskedName}
+use Rattle.wb_kept_progress.specs.Sessions.{Opening}
+use Rattle.wb_kept_progress.specs.Timed.{IsTimely, Performed, TimedLine, called_at, host_after, performed, performed_then, start_of, time_of, timers_after}
+use Rattle.wb_kept_progress.specs.Whole.{IsHeldBySome, IsTimelySession, LackAtMost, AreWithin, Sizes, WaitAtMost, report_span, request_span, there}
+
+-- ---- calls and their lines
+
+abbrev pub host_then : (ℕ → Opening) → List Performed → ℕ → Opened
+host_then hosts back i = host_after (λ j. start_of (hosts j)) back i
+
+abbrev pub timer_then : (ℕ → Opening) → List Performed → ℕ → NameValue → Option AskTimer
+timer_then hosts back i n = (timers_after (λ j. start_of (hosts j)) back i n).ask
+
+-- the lines that a call performs
+abbrev pub does : (ℕ → Opening) → TimedLine → List TimedLine → List Line
+does hosts e older = let k = there hosts older e.at.place in (doing_of e.at.line (sees k.host) k.policy).lines
+
+-- the call of a line
+pub record IsOfCall (hosts : ℕ → Opening) (trace : List TimedLine) (x : Performed) (back : List Performed) : Type 0 where
+  pub newer : List TimedLine
+  pub e : TimedLine
+  pub older : List TimedLine
+  pub split : trace ≡ newer ++ e ∷ older
+  pub before : List Line
+  pub later : List Line
+  pub lines : does hosts e older ≡ before ++ x.line ∷ later
+  pub place : x.place ≡ e.at.place
+  pub time : x.time ≡ e.time
+  pub back_is : back ≡ performed_then e.time e.at.place before (performed hosts older)
+
+abbrev pub LinesHaveCalls : Type 0
+LinesHaveCalls = (hosts : ℕ → Opening) (trace : List TimedLine) (front : List Performed) (x : Performed) (back : List Performed) → performed hosts trace ≡ front ++ x ∷ back → IsOfCall hosts trace x back
+
+-- Of a session that keeps to times, the lines that are performed do.
+abbrev pub PerformedIsTimely : Type 0
+PerformedIsTimely = (hosts : ℕ → Opening) (terms : Terms) (trace : List TimedLine) → IsTimelySession hosts terms trace → IsTimely (λ j. start_of (hosts j)) terms (performed hosts trace)
+
+-- Nothing new comes: what a live host holds, one of them held once what was on its way had arrived.
+abbrev pub HeldWasHeld : Type 0
+HeldWasHeld = (hosts : ℕ → Opening) (terms : Terms) (trace newer older : List TimedLine) (i : ℕ) (n : NameValue) → IsTimelySession hosts terms trace → trace ≡ newer ++ older → Contains terms.live i → holds (there hosts older i).host n ≡ true → IsHeldBySome hosts terms trace n
+
+-- ---- why a name is asked for, and why it is given up
+
+-- a report is due, and it is the name whose turn comes behind it
+pub record HasTurn (k : Keeping) (now : ℕ) (n : NameValue) : Type 0 where
+  pub due : k.policy.reports.due ≤ now
+  pub named : name_in_turn k.host.is.held k.policy.turns ≡ Some n
+
+-- Some live host holds it, or it has its turn, or a drawop came that was new.
+abbrev pub AsksHaveCause : Type 0
+AsksHaveCause = (hosts : ℕ → Opening) (terms : Terms) (trace newer older : List TimedLine) (e : TimedLine) (n : NameValue) → IsTimelySession hosts terms trace → trace ≡ newer ++ e ∷ older → settled_by terms < e.time → Contains (does hosts e older) (Asks n)
+    → IsHeldBySome hosts terms trace n ⊎ (HasTurn (there hosts older e.at.place) (e.time + terms.offset e.at.place) n ⊎ ((there hosts (e ∷ older) e.at.place).host.is.held ≢ (there hosts older e.at.place).host.is.held))
+
+-- It was backed off six times or more, or of 64 or more that are asked for it was backed off most and is the first of these.
+abbrev pub StopsHaveCause : Type 0
+StopsHaveCause = (hosts : ℕ → Opening) (terms : Terms) (trace : List TimedLine) (front : List Performed) (x : Performed) (back : List Performed) (n : NameValue) → IsTimelySession hosts terms trace → Contains terms.live x.place
+    → performed hosts trace ≡ front ++ x ∷ back → x.line ≡ Stops n
+    → ((ask : AskTimer) × (timer_then hosts back x.place n ≡ Some ask) × (6 ≤ ask.level))
+    ⊎ ((64 ≤ length (view_of (host_then hosts back x.place)).asked) × (a : AskedName) × (oldest (view_of (host_then hosts back x.place)).asked ≡ Some a) × (a.name ≡ n))
+
+-- What a call spends of the credit: something for what some live host holds, nothing, or one ask behind a report; or a drawop came that was new.
+abbrev pub CreditIsSpent : Type 0
+CreditIsSpent = (hosts : ℕ → Opening) (terms : Terms) (trace newer older : List TimedLine) (e : TimedLine) → IsTimelySession hosts terms trace → trace ≡ newer ++ e ∷ older → settled_by terms < e.time
+    → let k = there hosts older e.at.place in
+    let next = there hosts (e ∷ older) e.at.place in
+    ((n : NameValue) × Contains (does hosts e older) (Asks n) × IsHeldBySome hosts terms trace n)
+    ⊎ ((next.host.is.held ≢ k.host.is.held)
+    ⊎ ((next.policy.owed ≤ k.policy.owed)
+    ⊎ ((k.policy.reports.due ≤ e.time + terms.offset e.at.place) × (next.policy.owed ≤ spent k.policy.owed (e.time + terms.offset e.at.place)))))
+
+-- The next report is due within 96 seconds.
+abbrev pub ReportsAreDue : Type 0
+ReportsAreDue = (hosts : ℕ → Opening) (terms : Terms) (trace newer older : List TimedLine) (i : ℕ) → IsTimelySession hosts terms trace → trace ≡ newer ++ older → Contains terms.live i → (there hosts older i).policy.reports.due ≤ called_at older + terms.offset i + 96000000
+
+-- ---- timers
+
+-- A request timer for what some hold was not backed off since requests are answered, or they are answered soon.
+abbrev pub TimersAreYoung : Type 0
+TimersAreYoung = (hosts : ℕ → Opening) (terms : Terms) (trace : List TimedLine) (front back : List Performed) (i wait : ℕ) (n : NameValue) (ask : AskTimer) → IsTimely (λ j. start_of (hosts j)) terms (performed hosts trace) → WaitAtMost hosts terms trace wait
+    → performed hosts trace ≡ front ++ back → Contains terms.live i → known_from terms + wait + terms.late < time_of back → IsHeldBySome hosts terms trace n → timer_then hosts back i n ≡ Some ask
+    → (ask.level ≡ 0) ⊎ ((newer later : List Performed) (j : ℕ) → performed hosts trace ≡ newer ++ later → time_of back + repairing terms < time_of later → Contains terms.live j → holds (host_then hosts later j) n ≡ true)
+
+-- ---- where nothing new comes for a while
+
+pub record IsStill (hosts : ℕ → Opening) (terms : Terms) (trace newest window base : List TimedLine) : Type 0 where
+  pub split : trace ≡ newest ++ (window ++ base)
+  pub same : (front part : List TimedLine) (i : ℕ) → window ≡ front ++ part → Contains terms.live i → (there hosts (part ++ base) i).host.is.held ≡ (there hosts base i).host.is.held
+
+-- all that is said of a session below
+pub record Holds (hosts : ℕ → Opening) (terms : Terms) (trace : List TimedLine) (sizes : Sizes) (wait most : ℕ) : Type 0 where
+  pub session : IsTimelySession hosts terms trace
+  pub within : AreWithin hosts terms trace sizes
+  pub waits : WaitAtMost hosts terms trace wait
+  pub lacks : LackAtMost hosts terms trace most
+  pub short : request_span terms ≤ 60000000
+
+-- behind some lines a live host asks for what another holds
+pub record IsAsking (hosts : ℕ → Opening) (terms : Terms) (trace part : List TimedLine) (i : ℕ) (back : List Performed) : Type 0 where
+  pub front : List Performed
+  pub split : performed hosts part ≡ front ++ back
+  pub name : NameValue
+  pub ask : AskTimer
+  pub stands : timer_then hosts back i name ≡ Some ask
+  pub held : IsHeldBySome hosts terms trace name
+
+-- It does not go on for long where a live host asks for what another holds.
+abbrev pub StillnessEnds : Type 0
+StillnessEnds = (hosts : ℕ → Opening) (terms : Terms) (trace newest window base : List TimedLine) (sizes : Sizes) (wait most i : ℕ) (back : List Performed) → Holds hosts terms trace sizes wait most → IsStill hosts terms trace newest window base
+    → known_from terms + wait + repairing terms ≤ called_at base → Contains terms.live i → IsAsking hosts terms trace (window ++ base) i back → called_at base + request_span terms < time_of back
+    → called_at (window ++ base) ≤ time_of back + most * request_span terms + repairing terms
+
+-- There is no credit behind the newest call, which is one of this host.
+abbrev pub HasNoCredit : (ℕ → Opening) → Terms → List TimedLine → ℕ → Type 0
+HasNoCredit hosts terms calls i = let k = there hosts calls i in (present k.host ≡ called_at calls + terms.offset i) × (has_credit k.policy.owed (present k.host) ≡ false)
+
+-- Where there is no credit behind a call, what another holds was asked for lately.
+abbrev pub NoCreditIsAsked : Type 0
+NoCreditIsAsked = (hosts : ℕ → Opening) (terms : Terms) (trace newest window base front part : List TimedLine) (sizes : Sizes) (wait most i : ℕ) → Holds hosts terms trace sizes wait most → IsStill hosts terms trace newest window base
+    → known_from terms + wait + repairing terms ≤ called_at base → Contains terms.live i → window ≡ front ++ part → called_at base + 21000000 < called_at (part ++ base)
+    → HasNoCredit hosts terms (part ++ base) i
+    → (back : List Performed) × IsAsking hosts terms trace (window ++ base) i back × (called_at (part ++ base) ≤ time_of back + 21000000)
+
+-- behind a call a live host asks for what another holds, or has no credit
+pub record IsWanting (hosts : ℕ → Opening) (terms : Terms) (trace window base : List TimedLine) (i from by : ℕ) : Type 0 where
+  pub front : List TimedLine
+  pub part : List TimedLine
+  pub split : window ≡ front ++ part
+  pub behind : from < called_at (part ++ base)
+  pub soon : called_at (part ++ base) ≤ by
+  pub wants : ((back : List Performed) × IsAsking hosts terms trace (window ++ base) i back × (time_of back ≡ called_at (part ++ base))) ⊎ HasNoCredit hosts terms (part ++ base) i
+
+-- What a live host lacks is wanted in time.
+abbrev pub LackIsWanted : Type 0
+LackIsWanted = (hosts : ℕ → Opening) (terms : Terms) (trace newest window base : List TimedLine) (sizes : Sizes) (wait most i from : ℕ) (n : NameValue) → Holds hosts terms trace sizes wait most → IsStill hosts terms trace newest window base
+    → known_from terms + wait + repairing terms ≤ called_at base → Contains terms.live i → IsHeldBySome hosts terms trace n → holds (there hosts base i).host n ≡ false → called_at base ≤ from
+    → (let by = from + (sizes.slices + 2 * sizes.numbers * sizes.holes) * report_span terms + terms.delivery in by < called_at (window ++ base) → IsWanting hosts terms trace window base i from by)

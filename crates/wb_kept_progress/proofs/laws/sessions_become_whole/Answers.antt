@@ -1,0 +1,5 @@
+use Rattle.wb_kept_progress.proofs.Becoming.{sessions_become_whole as becomes_whole}
+use Rattle.wb_kept_progress.proofs.laws.sessions_become_whole.Goals as goal
+
+pub returns : goal.returns
+returns c = becomes_whole

@@ -1,0 +1,141 @@
+-- By when all of a session has come to hosts that keep themselves, where from some time on nobody draws and nothing is lost.
+use Rattle.std.specs.Prelude.{◌≡◌, ◌≢◌, ℕ, ◌+◌, ◌*◌, ◌^◌, ◌-◌, ◌<◌, ◌≤◌, false, List, [], ◌∷◌, ◌++◌, Contains, Some, length}
+use Rattle.wb_names.specs.Values.{DrawopValue, NameValue}
+use Rattle.wb_names.specs.declared.name.PageId.{PageId}
+use Rattle.wb_names.specs.declared.parts.Op.{Op}
+use Rattle.wb_codec.specs.declared.datagram.Datagram.{Datagram}
+use Rattle.wb_recovery.specs.declared.timers.AskTimer.{AskTimer}
+use Rattle.wb_recovery.specs.declared.tuning.Tuning.{Tuning}
+use Rattle.wb_gaps.specs.Holes.{holes_of}
+use Rattle.wb_gaps.specs.declared.holes.Hole.{Hole}
+use Rattle.wb_progress.specs.Bounds.{IsUnder}
+use Rattle.wb_progress.specs.InTime.{known_from, repairing}
+use Rattle.wb_progress.specs.Turns.{Terms, longest, settled_by}
+use Rattle.wb_member.specs.Judged.{delay, holds, is_full}
+use Rattle.wb_keeping.specs.Fairness.{slices_of, slices_on}
+use Rattle.wb_keeping.specs.Laws.{Added, Came, Tuned, doing_of}
+use Rattle.wb_keeping.specs.Performing.{Keeping, due, sent_by_doing}
+use Rattle.wb_kept_progress.specs.Sessions.{AreTaken, Opening, kept_at}
+use Rattle.wb_kept_progress.specs.Timed.{AllKeptHoldBehind, IsAnswerable, Performed, TellTimes, TimedLine, called_at, host_after, lines_of, performed, start_of, timers_after, until}
+
+-- the host at a place, with its policy, after some calls, of which the newest is the first
+abbrev pub there : (ℕ → Opening) → List TimedLine → ℕ → Keeping
+there hosts calls i = kept_at hosts (lines_of calls) i
+
+-- what a call sends that comes behind the older ones
+abbrev pub sends_then : (ℕ → Opening) → List TimedLine → TimedLine → List Datagram
+sends_then hosts older e = sent_by_doing (doing_of e.at.line) (there hosts older e.at.place)
+
+-- times do not go back
+abbrev pub AreCalledInOrder : List TimedLine → Type 0
+AreCalledInOrder [] = Unit {0}
+AreCalledInOrder (e ∷ older) = (called_at older ≤ e.time) × AreCalledInOrder older
+
+-- one of the newer calls hands a datagram in, at a place and soon enough
+pub record IsHandedIn (newer : List TimedLine) (j by : ℕ) (v : Datagram) : Type 0 where
+  pub later : List TimedLine
+  pub call : TimedLine
+  pub between : List TimedLine
+  pub split : newer ≡ later ++ call ∷ between
+  pub place : call.at.place ≡ j
+  pub soon : call.time ≤ by
+  pub now : ℕ
+  pub is : call.at.line ≡ Came now v
+
+-- a datagram was sent by one of these calls so shortly before a time
+pub record WasSentBy (hosts : ℕ → Opening) (older : List TimedLine) (time within : ℕ) (v : Datagram) : Type 0 where
+  pub newer : List TimedLine
+  pub e : TimedLine
+  pub before : List TimedLine
+  pub split : older ≡ newer ++ e ∷ before
+  pub soon : time ≤ e.time + within
+  pub sent : Contains (sends_then hosts before e) v
+
+-- Drivers and the network keep to the terms. From `quiet` on only live hosts are called, nobody draws, and each board has a free cell. What a
+-- live host sends is handed in to each other one in time, and what comes was sent shortly before.
+pub record IsTimelySession (hosts : ℕ → Opening) (terms : Terms) (trace : List TimedLine) : Type 0 where
+  pub opened : (i : ℕ) → (hosts i).moments ≡ []
+  pub distinct : (i j : ℕ) → (hosts i).number ≡ (hosts j).number → i ≡ j
+  pub waits : (i : ℕ) → IsUnder (longest terms) (hosts i).constants
+  pub tuned : (newer older : List TimedLine) (e : TimedLine) (constants : Tuning) → trace ≡ newer ++ e ∷ older → e.at.line ≡ Tuned constants → IsUnder (longest terms) constants
+  pub taken : AreTaken hosts (lines_of trace)
+  pub order : AreCalledInOrder trace
+  pub reported : 1 ≤ terms.reporting
+  pub times : TellTimes terms trace
+  -- a call of a live host comes at most so late behind the moment at which it has something to do
+  pub soon : (newer older : List TimedLine) (e : TimedLine) (i : ℕ) → trace ≡ newer ++ e ∷ older → Contains terms.live i → e.time + terms.offset i ≤ due (there hosts older i) + terms.late
+  pub delays : (newer older : List Performed) (i source : ℕ) → performed hosts trace ≡ newer ++ older → Contains terms.live i → delay (host_after (λ j. start_of (hosts j)) older i) source ≤ terms.far
+  pub alone : (newer older : List TimedLine) (e : TimedLine) → trace ≡ newer ++ e ∷ older → terms.quiet < e.time → Contains terms.live e.at.place
+  pub drawn : (newer older : List TimedLine) (e : TimedLine) (now : ℕ) (page : PageId) (time : ℕ) (op : Op) → trace ≡ newer ++ e ∷ older → terms.quiet < e.time → e.at.line ≢ Added now page time op
+  pub room : (newer older : List TimedLine) (i : ℕ) → trace ≡ newer ++ older → Contains terms.live i → is_full (there hosts older i).host ≡ false
+  pub delivered : (newer older : List TimedLine) (e : TimedLine) (j : ℕ) (v : Datagram) → trace ≡ newer ++ e ∷ older → Contains terms.live j → e.at.place ≢ j → terms.quiet < e.time → Contains (sends_then hosts older e) v → e.time + terms.delivery < called_at trace
+      → IsHandedIn newer j (e.time + terms.delivery) v
+  pub fresh : (newer older : List TimedLine) (e : TimedLine) (now : ℕ) (v : Datagram) → trace ≡ newer ++ e ∷ older → settled_by terms < e.time → e.at.line ≡ Came now v → WasSentBy hosts older e.time terms.delivery v
+
+-- How much the boards of live hosts hold, from `quiet` on: so many slices of marks with those of the page that was told last, so many holes, and so many
+-- numbers in one. No number that is held is 0, or 2^31 or more.
+pub record Sizes : Type 0 where
+  pub slices : ℕ
+  pub holes : ℕ
+  pub numbers : ℕ
+
+pub record AreWithin (hosts : ℕ → Opening) (terms : Terms) (trace : List TimedLine) (sizes : Sizes) : Type 0 where
+  pub slices : (newer older : List TimedLine) (i : ℕ) → trace ≡ newer ++ older → Contains terms.live i → let k = there hosts older i in slices_of k.host.is.held + slices_on k.host.is.held k.policy.told_page ≤ sizes.slices
+  pub holes : (newer older : List TimedLine) (i : ℕ) → trace ≡ newer ++ older → Contains terms.live i → length (holes_of (there hosts older i).host.is.held) ≤ sizes.holes
+  pub numbers : (newer older : List TimedLine) (i : ℕ) (hole : Hole) → trace ≡ newer ++ older → Contains terms.live i → Contains (holes_of (there hosts older i).host.is.held) hole → hole.gap.last + 1 - hole.gap.first ≤ sizes.numbers
+  pub rounds : (newer older : List TimedLine) (i : ℕ) → trace ≡ newer ++ older → Contains terms.live i → (there hosts older i).policy.turns.round + 2 * sizes.numbers < 2 ^ 32
+  pub named : (newer older : List TimedLine) (i : ℕ) (d : DrawopValue) → trace ≡ newer ++ older → Contains terms.live i → Contains (there hosts older i).host.is.held d → (1 ≤ d.name.seq) × (d.name.seq < 2147483648)
+
+-- ---- what is lacked
+
+-- a live host held the name once what was on its way had arrived
+abbrev pub IsHeldBySome : (ℕ → Opening) → Terms → List TimedLine → NameValue → Type 0
+IsHeldBySome hosts terms trace n = IsAnswerable (λ j. start_of (hosts j)) terms (performed hosts trace) n
+
+-- a host that lacks a name which another holds
+pub record Lack : Type 0 where
+  pub place : ℕ
+  pub name : NameValue
+
+abbrev pub AreApart : List Lack → Type 0
+AreApart [] = Unit {0}
+AreApart (x ∷ lacks) = (Contains lacks x → ⊥) × AreApart lacks
+
+-- it lacks it after lines that were performed
+abbrev pub IsLackedAt : (ℕ → Opening) → Terms → List TimedLine → List Performed → Lack → Type 0
+IsLackedAt hosts terms trace back x = Contains terms.live x.place × IsHeldBySome hosts terms trace x.name × (holds (host_after (λ j. start_of (hosts j)) back x.place) x.name ≡ false)
+
+-- all live hosts together lack at most so many, once what was on its way has arrived
+abbrev pub LackAtMost : (ℕ → Opening) → Terms → List TimedLine → ℕ → Type 0
+LackAtMost hosts terms trace most = (lacks : List Lack) → AreApart lacks → ((x : Lack) → Contains lacks x → IsLackedAt hosts terms trace (until (settled_by terms) (performed hosts trace)) x) → length lacks ≤ most
+
+-- no request timer for what is held by some, that stands when requests begin to be answered, is due later than so long after
+abbrev pub WaitAtMost : (ℕ → Opening) → Terms → List TimedLine → ℕ → Type 0
+WaitAtMost hosts terms trace wait = (i : ℕ) (n : NameValue) (ask : AskTimer) → Contains terms.live i → IsHeldBySome hosts terms trace n
+    → (timers_after (λ j. start_of (hosts j)) (until (known_from terms) (performed hosts trace)) i n).ask ≡ Some ask → ask.due ≤ known_from terms + wait + terms.offset i
+
+-- ---- spans, in microseconds
+
+-- from one report to the next, and from an ask to its request
+abbrev pub report_span : Terms → ℕ
+report_span terms = 96000000 + terms.late
+
+abbrev pub request_span : Terms → ℕ
+request_span terms = terms.asking * terms.far + terms.late
+
+-- for so long nothing new comes at most, while something is lacked that another holds
+abbrev pub step : Terms → Sizes → ℕ → ℕ
+step terms sizes most =
+    21000000 + request_span terms
+    + (sizes.slices + 2 * sizes.numbers * sizes.holes + 1) * report_span terms + terms.delivery
+    + most * request_span terms + repairing terms
+
+-- the time by which all hold all
+abbrev pub whole_by : Terms → Sizes → ℕ → ℕ → ℕ
+whole_by terms sizes wait most = known_from terms + wait + repairing terms + (most + 1) * step terms sizes most
+
+-- Each live host comes to hold what one of them held, where a request is due within a minute of its ask.
+abbrev pub SessionsBecomeWhole : Type 0
+SessionsBecomeWhole = (hosts : ℕ → Opening) (terms : Terms) (trace : List TimedLine) (sizes : Sizes) (wait most : ℕ) (n : NameValue)
+    → IsTimelySession hosts terms trace → AreWithin hosts terms trace sizes → WaitAtMost hosts terms trace wait → LackAtMost hosts terms trace most → request_span terms ≤ 60000000
+    → IsHeldBySome hosts terms trace n → AllKeptHoldBehind hosts terms trace (whole_by terms sizes wait most) n
