@@ -26,13 +26,13 @@ IsHeardBy call (Request asker name) = (now : ℕ) × (call ≡ Came now (Request
 IsHeardBy call (AskPages asker) = Unit {0}
 IsHeardBy call (PageState sender page marks) = Unit {0}
 
--- a drawop is said only where the user draws, and no request is
-abbrev pub IsSaidBy : KeptLine → Datagram → Type 0
-IsSaidBy call (Draw d) = (now : ℕ) × (page : PageId) × (time : ℕ) × (op : Op) × (call ≡ Added now page time op)
-IsSaidBy call (Session sender sent page marks echoes) = Unit {0}
-IsSaidBy call (Request asker name) = ⊥
-IsSaidBy call (AskPages asker) = Unit {0}
-IsSaidBy call (PageState sender page marks) = Unit {0}
+-- a drawop is said only where the user draws, under the host's own number, and no request is
+abbrev pub IsSaidBy : KeptLine → Opened → Datagram → Type 0
+IsSaidBy call start (Draw d) = (now : ℕ) × (page : PageId) × (time : ℕ) × (op : Op) × (call ≡ Added now page time op) × (d.name.source ≡ start.is.number)
+IsSaidBy call start (Session sender sent page marks echoes) = Unit {0}
+IsSaidBy call start (Request asker name) = ⊥
+IsSaidBy call start (AskPages asker) = Unit {0}
+IsSaidBy call start (PageState sender page marks) = Unit {0}
 
 -- A line that a host performs in a call: `start` is the host before the call, and `host` that before the line. A drawop arrives only
 -- where it is handed in, and nothing came before it.
@@ -44,7 +44,7 @@ IsLineOf call start host (Asks name) = Unit {0}
 IsLineOf call start host (Stops name) = Unit {0}
 IsLineOf call start host (SetsDistance source micros) = Unit {0}
 IsLineOf call start host (Tunes constants) = call ≡ Tuned constants
-IsLineOf call start host (Says v) = IsSaidBy call v
+IsLineOf call start host (Says v) = IsSaidBy call start v
 
 abbrev pub AreLinesOf : KeptLine → Opened → Opened → List Line → Type 0
 AreLinesOf call start host [] = Unit {0}
@@ -213,7 +213,7 @@ lines_of_call (Added now page time op) k =
     let host = after_line (Ticks now) k.host in
     let d = drawing (view_of host) page time op in
     let drawn = after_line (Says (Draw d)) host in
-    (tt, ((now, page, time, op, refl), from_small (Added now page time op) k.host drawn (and_then ends_full timed (sees drawn) k.policy).lines (small_then ends_full timed ends_small timed_small (sees drawn) k.policy)))
+    (tt, ((now, page, time, op, refl, refl), from_small (Added now page time op) k.host drawn (and_then ends_full timed (sees drawn) k.policy).lines (small_then ends_full timed ends_small timed_small (sees drawn) k.policy)))
 lines_of_call (Tuned constants) k = (refl, tt)
 
 -- ---- the line by which a datagram comes in

@@ -43,3 +43,6 @@ pub mod TimersAhead
 pub mod Tunings
 pub mod CallsInTime
 pub mod NothingNew
+pub mod Bringing
+pub mod AtSource
+pub mod Agreeing

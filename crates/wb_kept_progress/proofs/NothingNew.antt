@@ -3,20 +3,17 @@ use Rattle.std.proofs.Common.{◌≡◌, ◌⊎◌, ℕ, ◌<◌, ◌≤◌, Boo
 use Rattle.std.specs.Prelude.{Contains, nat_eq, nat_le}
 use Rattle.std.proofs.lemmas.Bool.{cases_lt}
 use Rattle.wb_names.specs.Values.{DrawopValue, NameValue}
-use Rattle.wb_names.proofs.Listings.{Contains-cases, Contains-none}
-use Rattle.wb_codec.specs.declared.datagram.Datagram.TheVariants.{Draw, Session, Request, AskPages, PageState}
+use Rattle.wb_codec.specs.declared.datagram.Datagram.TheVariants.{Draw}
 use Rattle.wb_host.proofs.KeptCalls.{holds_from}
 use Rattle.wb_progress.specs.Turns.{Terms, settled_by}
 use Rattle.wb_progress.proofs.Giving.{held_as}
 use Rattle.wb_progress.proofs.OneCall.{le_true}
 use Rattle.wb_member.specs.Judged.{holds}
-use Rattle.wb_member.specs.Members.{Misses, Takes}
-use Rattle.wb_member.specs.Opened.{Opened, accepted, doing, has_room_for, heard, may_ask, present}
-use Rattle.wb_member.specs.Random.{word_of}
-use Rattle.wb_session.proofs.Members.{held_after}
-use Rattle.wb_keeping.specs.Kept.{Arrives, Asks, Hears, Line, Says, SetsDistance, Tunes, Stops, Ticks}
+use Rattle.wb_member.specs.Opened.{Opened}
+use Rattle.wb_keeping.specs.Kept.{Arrives, Line, Says}
 use Rattle.wb_keeping.specs.Performing.{after_line}
 use Rattle.wb_kept_progress.specs.Timed.{IsAnswerable, IsTimely, Performed, Start, WasSent, host_after, performed, start_of, until}
+use Rattle.wb_kept_progress.proofs.Bringing.{line_brings}
 use Rattle.wb_kept_progress.proofs.CallLines.{nil_ends}
 use Rattle.wb_kept_progress.proofs.CallParts.{host_is}
 use Rattle.wb_kept_progress.proofs.CallsInTime.{performed_is_timely}
@@ -31,39 +28,13 @@ use Rattle.wb_kept_progress.proofs.WholeParts.{HeldWasHeld}
 abbrev WasOrComes : Line → Opened → NameValue → Type 0
 WasOrComes line host n = (holds host n ≡ true) ⊎ ((d : DrawopValue) × (d.name ≡ n) × ((line ≡ Arrives d) ⊎ (line ≡ Says (Draw d))))
 
-arrival_new : (d : DrawopValue) (host : Opened) (n : NameValue) → holds (accepted d host) n ≡ true → (holds host n ≡ true) ⊎ (d.name ≡ n)
-arrival_new d host n e =
-    let x = held_as (accepted d host).is.held n e in
+line_new : (line : Line) (host : Opened) (n : NameValue) → holds (after_line line host) n ≡ true → WasOrComes line host n
+line_new line host n e =
+    let x = held_as (after_line line host).is.held n e in
     ⊎_elim
     (λ (c : Contains host.is.held x.0). inl (holds_from host.is.held n x.0 c x.2))
-    (λ (c : Contains (d ∷ []) x.0). inr (⊎_elim (λ (same : d ≡ x.0). ap (λ (y : DrawopValue). y.name) same ∙ x.2) (λ (none : Contains [] x.0). absurd (Contains-none x.0 none)) (Contains-cases d x.0 [] c)))
-    (held_after (Takes (present host) (d ∷ []) (d ∷ [])) host.is x.0 x.1)
-
-line_new : (line : Line) (host : Opened) (n : NameValue) → holds (after_line line host) n ≡ true → WasOrComes line host n
-line_new (Ticks now) host n e = inl e
-line_new (Arrives d) host n e = ⊎_elim
-    (λ (h : holds host n ≡ true). inl h)
-    (λ (named : d.name ≡ n). inr (d, named, inl refl))
-    (arrival_new d host n e)
-line_new (Hears v) host n e = by (has_room_for v host) e where
-  by : (b : Bool) → holds (cond b (heard v host) host) n ≡ true → WasOrComes (Hears v) host n
-  by true e = inl e
-  by false e = inl e
-line_new (Asks name) host n e = by (may_ask name host) e where
-  by : (b : Bool) → holds (cond b (doing (Misses (present host) (name ∷ []) (word_of host.random ∷ [])) 1 host) host) n ≡ true → WasOrComes (Asks name) host n
-  by true e = inl e
-  by false e = inl e
-line_new (Stops name) host n e = inl e
-line_new (SetsDistance source micros) host n e = inl e
-line_new (Tunes constants) host n e = inl e
-line_new (Says (Draw d)) host n e = ⊎_elim
-    (λ (h : holds host n ≡ true). inl h)
-    (λ (named : d.name ≡ n). inr (d, named, inr refl))
-    (arrival_new d host n e)
-line_new (Says (Session sender sent page marks echoes)) host n e = inl e
-line_new (Says (Request asker name)) host n e = inl e
-line_new (Says (AskPages asker)) host n e = inl e
-line_new (Says (PageState sender page marks)) host n e = inl e
+    (λ (comes : (line ≡ Arrives x.0) ⊎ (line ≡ Says (Draw x.0))). inr (x.0, x.2, comes))
+    (line_brings line host x.0 x.1)
 
 -- ---- parts of a trace
 

@@ -2,3 +2,4 @@ pub mod Sessions
 pub mod Repairs
 pub mod Timed
 pub mod Whole
+pub mod Agreement

@@ -1,6 +1,7 @@
 //! Laws of progress of hosts that keep themselves. Each function does nothing: its contract is a
 //! law, for proofs to cite.
 
+ghost use Rattle.wb_kept_progress.specs.Agreement.{NamesMeanOne, SessionsAgree};
 ghost use Rattle.wb_kept_progress.specs.Repairs.{AskedCanCome, LostCanCome, MarksComeToBeTold, MissingCanCome, MissingIsAsked, MissingIsAskedSoon};
 ghost use Rattle.wb_kept_progress.specs.Timed.{KeptIsPerformed, KeptKeepsMoments, KeptRequestIsAnswered, KeptTimerLeadsOrIsGivenUp, RequestIsAnswered, TimerLeadsOrIsGivenUp};
 ghost use Rattle.wb_kept_progress.specs.Whole.{SessionsBecomeWhole};
@@ -49,7 +50,11 @@ pub fn kept_hosts_perform_lines()
 
 /// A session of hosts that keep themselves becomes whole. Where from some time on nobody draws,
 /// nothing is lost, and drivers tick in time, each live host comes to hold, by a stated time, what
-/// one of them held.
+/// one of them held. Behind it any two of them report, list and show the same, where no name means
+/// two drawops. None does where each drawop that comes was sent by one of the hosts, and no two of
+/// these have one number.
 pub fn sessions_become_whole()
-    ensures { SessionsBecomeWhole }
+    ensures whole { SessionsBecomeWhole }
+    ensures agree { SessionsAgree }
+    ensures names { NamesMeanOne }
 {}

@@ -1,6 +1,6 @@
 -- Once all of a page has come to the live places of a timely session, they print the same of it.
-use Rattle.std.proofs.Common.{◌≡◌, ℕ, ◌<◌, ◌≤◌, List, ◌++◌, length, Option, Result, Ok, sym, ap, ◌∙◌, subst, refl}
-use Rattle.std.specs.Prelude.{Contains, IfSome}
+use Rattle.std.proofs.Common.{◌≡◌, ℕ, ◌<◌, List, ◌++◌, Option, Result, Ok, sym, ap, ◌∙◌, subst, refl}
+use Rattle.std.specs.Prelude.{Contains}
 use Rattle.wb_names.specs.Values.{DrawopValue}
 use Rattle.wb_names.specs.History.{IsHistory}
 use Rattle.wb_gaps.specs.Answers.{report_of}
@@ -23,13 +23,12 @@ use Rattle.wb_dialog.specs.declared.line.DriverLine.TheVariants.{Script, View}
 use Rattle.wb_session_hosts.specs.Hosts.{host_at, HaveDistinctMembers, IsHonest}
 use Rattle.wb_session_hosts.specs.InTime.{WaitsAtMost, LacksAtMost, AsksOf, AllAgree}
 use Rattle.wb_session_hosts.specs.Timed.{TimedLine, lines_of, time_of, StandsAt, IsTimely}
-use Rattle.wb_session_hosts.proofs.HostRanges.{Fits, few_held, host_fits}
 use Rattle.wb_session_hosts.proofs.InTime.{all_comes}
 use Rattle.wb_session_hosts.proofs.MarksSpread.{distinct_part, honest_part}
 use Rattle.wb_session_hosts.proofs.NothingNew.{nothing_new}
 use Rattle.wb_session_hosts.proofs.Outset.{once}
 use Rattle.wb_session_hosts.proofs.Sent.{held_was_sent, sent_once}
-use Rattle.wb_session_hosts.proofs.Sharing.{ShareAPage, report_alike, view_alike}
+use Rattle.wb_session.proofs.Sharing.{ShareAPage, report_alike, view_alike}
 
 -- two hosts that report and show a page alike
 module _ (host other : Opened) (page : PageId) (report : report_of host.is.held page ≡ report_of other.is.held page) (view : view_of host.is.held page ≡ view_of other.is.held page) where
@@ -58,16 +57,13 @@ module _ (constants : ℕ → Tuning) (terms : Terms) (trace newer later : List 
   history : (i : ℕ) (host : Opened) → StandsAt constants later i host → IsHistory host.is.held
   history i host there = once constants (lines_of later) distinct honest i host there
 
-  few : (i : ℕ) (host : Opened) → StandsAt constants later i host → length host.is.held ≤ 65535
-  few i host there = few_held host (subst (λ (o : Option Opened). IfSome o Fits) there (host_fits constants (lines_of later) i))
-
   pub share : (i j : ℕ) (host other : Opened) → Contains terms.live i → Contains terms.live j → StandsAt constants later i host → StandsAt constants later j other → ShareAPage host.is.held other.is.held terms.page
   share i j host other live_i live_j at_i at_j = record { over = over i j host other live_i live_j at_i at_j; back = over j i other host live_j live_i at_j at_i }
 
 pub all_agree : AllAgree
 all_agree constants terms trace newer later wait most i j host other timely waits lacks split late live_i live_j at_i at_j line said says asks =
     let s = share constants terms trace newer later wait most timely waits lacks split late i j host other live_i live_j at_i at_j in
-    let report = report_alike host.is.held other.is.held terms.page s (few constants terms trace newer later wait most timely waits lacks split late i host at_i) (few constants terms trace newer later wait most timely waits lacks split late j other at_j) in
+    let report = report_alike host.is.held other.is.held terms.page s in
     let view = view_alike host.is.held other.is.held terms.page s (history constants terms trace newer later wait most timely waits lacks split late i host at_i) (history constants terms trace newer later wait most timely waits lacks split late j other at_j) in
     ap (λ (r : Result DriverLine Refusal). text_of (answer (constants i) (host_at constants (lines_of later) i) r)) says
     ∙ ap (λ (o : Option Opened). text_of (answer (constants i) o (Ok said))) at_i

@@ -28,7 +28,7 @@ use Rattle.wb_session_hosts.specs.Laws.{BatchesCountNoClash}
 use Rattle.wb_session_hosts.proofs.Boards.{boards_make_group, fair_here}
 use Rattle.wb_session_hosts.proofs.Bytes.{came_out, honest_more}
 use Rattle.wb_session_hosts.proofs.DriverLines.{met_fits}
-use Rattle.wb_session_hosts.proofs.Outcomes.{Found, found}
+use Rattle.wb_session.proofs.Outcomes.{Found, found}
 use Rattle.wb_session_hosts.proofs.Texts.{digit_0, digit_1, differ}
 use Rattle.wb_session_hosts.proofs.Turns.{IsAt}
 use Rattle.wb_session_hosts.proofs.Members.{Follows, follows}

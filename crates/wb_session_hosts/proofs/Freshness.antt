@@ -20,7 +20,7 @@ use Rattle.wb_dialog.specs.declared.line.DriverLine.TheVariants.{Script, Say}
 use Rattle.wb_session_hosts.specs.Hosts.{saying, host_at, sends_at, sends_by, sends_drawing, HaveDistinctMembers, IsHonest}
 use Rattle.wb_session_hosts.specs.Timed.{TimedLine, lines_of, IsTimely, WasPrinted}
 use Rattle.wb_session_hosts.proofs.MarksSpread.{refused_not, honest_part, distinct_part}
-use Rattle.wb_session_hosts.proofs.Outcomes.{Found, found}
+use Rattle.wb_session.proofs.Outcomes.{Found, found}
 use Rattle.wb_session_hosts.proofs.Outset.{once}
 use Rattle.wb_session_hosts.proofs.TimelyTurns.{Went, made, split_part}
 use Rattle.wb_session_hosts.proofs.TraceTurns.{turn_of, turns_of, turns_over, turns_join}

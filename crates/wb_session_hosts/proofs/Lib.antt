@@ -9,7 +9,6 @@ pub mod MessageRanges
 pub mod HostRanges
 pub mod Bytes
 pub mod Boards
-pub mod Outcomes
 pub mod Several
 pub mod Turns
 pub mod Members
@@ -47,7 +46,6 @@ pub mod Freshness
 pub mod KeepingTime
 pub mod Looking
 pub mod InTime
-pub mod Sharing
 pub mod AllAgree
 pub mod PlainLines
 pub mod PlainTexts

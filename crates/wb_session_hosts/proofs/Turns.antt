@@ -40,7 +40,7 @@ use Rattle.wb_session_hosts.specs.Acts.{listed, acts_by_act, acts_drawing, acts_
 use Rattle.wb_session_hosts.specs.Hosts.{sends_by_act, sends_drawing, sends_said, sends_at, MaySay, IsHonestAt}
 use Rattle.wb_session_hosts.proofs.Boards.{IsFirst}
 use Rattle.wb_session_hosts.proofs.Holding.{wanted_lacking, asked_lacking}
-use Rattle.wb_session_hosts.proofs.Outcomes.{Found, found}
+use Rattle.wb_session.proofs.Outcomes.{Found, found}
 use Rattle.wb_session_hosts.proofs.Several.{after_all, drawn_sent}
 
 -- ---- what one turn keeps

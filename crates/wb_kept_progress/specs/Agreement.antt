@@ -1,0 +1,45 @@
+-- What hosts that keep themselves show alike, once all of a session has come to each of them.
+use Rattle.std.specs.Prelude.{◌≡◌, ℕ, ◌<◌, ◌≤◌, List, [], ◌∷◌, ◌++◌, Contains}
+use Rattle.wb_names.specs.Values.{DrawopValue}
+use Rattle.wb_names.specs.declared.name.PageId.{PageId}
+use Rattle.wb_codec.specs.declared.datagram.Datagram.TheVariants.{Draw}
+use Rattle.wb_gaps.specs.Answers.{pages_of, report_of}
+use Rattle.wb_display.specs.Canvas.{canvas_text}
+use Rattle.wb_progress.specs.Turns.{Terms}
+use Rattle.wb_member.specs.Queries.{view_of}
+use Rattle.wb_keeping.specs.Laws.{Came}
+use Rattle.wb_kept_progress.specs.Repairs.{host_at}
+use Rattle.wb_kept_progress.specs.Sessions.{LineAt, Opening, sent}
+use Rattle.wb_kept_progress.specs.Timed.{TimedLine, called_at, lines_of}
+use Rattle.wb_kept_progress.specs.Whole.{AreWithin, IsTimelySession, LackAtMost, Sizes, WaitAtMost, request_span, there, whole_by}
+
+-- ---- what a name means
+
+-- the hosts at two places hold no two drawops of one name
+abbrev pub NamesMeanOneAt : (ℕ → Opening) → List LineAt → ℕ → ℕ → Type 0
+NamesMeanOneAt hosts lines i j = (d e : DrawopValue) → Contains (host_at hosts lines i).is.held d → Contains (host_at hosts lines j).is.held e → d.name ≡ e.name → d ≡ e
+
+-- Each drawop that comes was sent before by one of them. Any other datagram may be forged.
+abbrev pub DrawopsWereSent : (ℕ → Opening) → List LineAt → Type 0
+DrawopsWereSent hosts [] = Unit {0}
+DrawopsWereSent hosts (e ∷ older) = ((now : ℕ) (d : DrawopValue) → e.line ≡ Came now (Draw d) → Contains (sent hosts older) (Draw d)) × DrawopsWereSent hosts older
+
+-- Where no two hosts have one number, a name then means one drawop, whoever holds it.
+abbrev pub NamesMeanOne : Type 0
+NamesMeanOne = (hosts : ℕ → Opening) (lines : List LineAt) (i j : ℕ) → ((k l : ℕ) → (hosts k).number ≡ (hosts l).number → k ≡ l) → DrawopsWereSent hosts lines → NamesMeanOneAt hosts lines i j
+
+-- ---- what is shown
+
+-- Of two boards the pages are the same, and of each page the report, the view, and its characters at each size.
+pub record LookAlike (one other : List DrawopValue) : Type 0 where
+  pub pages : pages_of one ≡ pages_of other
+  pub reports : (page : PageId) → report_of one page ≡ report_of other page
+  pub views : (page : PageId) → view_of one page ≡ view_of other page
+  pub canvases : (page : PageId) (width height : ℕ) → canvas_text (view_of one page) width height ≡ canvas_text (view_of other page) width height
+
+-- Behind the time by which a session is whole, the boards of any two live hosts look alike, where no name means two drawops to them.
+abbrev pub SessionsAgree : Type 0
+SessionsAgree = (hosts : ℕ → Opening) (terms : Terms) (trace newer later : List TimedLine) (sizes : Sizes) (wait most i j : ℕ)
+    → IsTimelySession hosts terms trace → AreWithin hosts terms trace sizes → WaitAtMost hosts terms trace wait → LackAtMost hosts terms trace most → request_span terms ≤ 60000000
+    → trace ≡ newer ++ later → whole_by terms sizes wait most < called_at later → Contains terms.live i → Contains terms.live j → NamesMeanOneAt hosts (lines_of later) i j
+    → LookAlike (there hosts later i).host.is.held (there hosts later j).host.is.held
