@@ -32,12 +32,6 @@ use Rattle.wb_kept_progress.proofs.Lines.{AreSmall, IsSmall, small_both}
 
 -- ---- small lines
 
-none_small : AreSmall []
-none_small = tt
-
-one_small : (line : Line) → IsSmall line → AreSmall (line ∷ [])
-one_small line small = (small, tt)
-
 oldest_small : (o : Option AskedName) → AreSmall (stops_oldest o)
 oldest_small None = tt
 oldest_small (Some a) = (tt, tt)

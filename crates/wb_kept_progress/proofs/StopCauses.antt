@@ -26,12 +26,12 @@ use Rattle.wb_keeping.proofs.EachStep.{HoldsOfSteps, doing, line_holds}
 use Rattle.wb_keeping.proofs.Performed.{after_both}
 use Rattle.wb_keeping.proofs.Wanted.{lines_wanted}
 use Rattle.wb_kept_progress.specs.Sessions.{AreTaken, Opening}
-use Rattle.wb_kept_progress.specs.Timed.{Performed, TimedLine, lines_of, performed, performed_then, start_of}
+use Rattle.wb_kept_progress.specs.Timed.{TimedLine, lines_of}
 use Rattle.wb_kept_progress.specs.Whole.{there}
+use Rattle.wb_kept_progress.proofs.CallLines.{host_before}
 use Rattle.wb_kept_progress.proofs.Coming.{has_room}
 use Rattle.wb_kept_progress.proofs.Lines.{lines_of as lines_keep}
-use Rattle.wb_kept_progress.proofs.Performed.{after_all, kept_is_performed}
-use Rattle.wb_kept_progress.proofs.Repairs.{is_itself, moved}
+use Rattle.wb_kept_progress.proofs.Repairs.{moved}
 use Rattle.wb_kept_progress.proofs.WholeParts.{LinesHaveCalls, StopsHaveCause, does, host_then}
 
 -- ---- a board grows
@@ -248,13 +248,6 @@ pub call_taken : (hosts : ℕ → Opening) (newer older : List TimedLine) (e : T
 call_taken hosts [] older e taken = taken.0
 call_taken hosts (x ∷ newer) older e taken = call_taken hosts newer older e taken.1
 
--- the host in the course of a call
-pub in_course : (hosts : ℕ → Opening) (older : List TimedLine) (time place : ℕ) (before : List Line) → ((i : ℕ) → (hosts i).moments ≡ [])
-    → host_then hosts (performed_then time place before (performed hosts older)) place ≡ after_lines before (there hosts older place).host
-in_course hosts older time place before opened =
-    after_all (λ j. start_of (hosts j)) time place before (performed hosts older) place true (is_itself place)
-    ∙ ap (after_lines before) ((kept_is_performed hosts older opened).same place)
-
 pub stops_have_cause : LinesHaveCalls → StopsHaveCause
 stops_have_cause calls hosts terms trace front x back n session live split is =
     let c = calls hosts trace front x back split in
@@ -266,7 +259,5 @@ stops_have_cause calls hosts terms trace front x back n session live split is =
     let room : is_full (after_lines lines k.host) ≡ false = subst (λ (m : Keeping). is_full m.host ≡ false) (moved hosts (lines_of c.older) place c.e.at.line) behind in
     let caused : AreCaused lines k.host = (line_holds GivesUpFor steps_give_up c.e.at.line k none).caused room in
     let at : IsCaused x.line (after_lines c.before k.host) = caused_at c.before c.later x.line k.host (subst (λ (ls : List Line). AreCaused ls k.host) c.lines caused) in
-    let same : host_then hosts back x.place ≡ after_lines c.before k.host =
-    ap (λ (b : List Performed). host_then hosts b x.place) c.back_is ∙ ap (λ (i : ℕ). host_then hosts (performed_then c.e.time place c.before (performed hosts c.older)) i) c.place
-    ∙ in_course hosts c.older c.e.time place c.before session.opened in
+    let same : host_then hosts back x.place ≡ after_lines c.before k.host = host_before hosts session.opened trace x back c in
     subst (λ (h : Opened). HasStopCause h n) (sym same) (subst (λ (line : Line). IsCaused line (after_lines c.before k.host)) is at)
