@@ -84,27 +84,30 @@ class TimelyKept:
         self.hosts = {member: Dialog() for member in range(1, members + 1)}
         self.now = 0
         self.offset: dict[int, int] = {}
+        self.due: dict[int, int] = {}
         self.called_by: dict[int, int] = {}
+        self.latest = 0
         self.events: list[tuple[int, int, int, str, str]] = []
         self.order = itertools.count()
         self.requests: list[str] = []
         self.held: dict[int, set[str]] = {member: set() for member in self.hosts}
-        self.newest = 0
         self.sizes = sizes_of(set())
         self.refused: list[str] = []
         for member, dialog in self.hosts.items():
             dialog.ask(f"board {member} {cells} 1 {seed * 100 + member}")
-            self.offset[member] = int(dialog.ask("keep 4000 0").split()[1])
+            self.offset[member] = self.due[member] = int(dialog.ask("keep 4000 0").split()[1])
             self.called_by[member] = self.random.randrange(LATE + 1)
 
     def tell(self, member: int, word: str, rest: str = "") -> list[str]:
-        """The block of a line that tells the moment, without the line that closes it; what it sends goes to the others."""
+        """The block of a line that tells the moment, without the line that closes it; what it sends goes to the others. Whenever one is handed in, no
+        host is to be behind its DUE by more than `LATE`."""
+        self.latest = max(self.latest, *(self.now + self.offset[other] - due for other, due in self.due.items()))
         *block, closing = self.hosts[member].ask(f"{word} {self.now + self.offset[member]}{rest}").splitlines()
         if not closing.startswith("ok "):
             self.refused.append(closing)
             return []
-        due = int(closing.removeprefix("ok ")) - self.offset[member]
-        self.called_by[member] = max(self.now, due + self.random.randrange(LATE + 1))
+        self.due[member] = int(closing.removeprefix("ok "))
+        self.called_by[member] = max(self.now, self.due[member] - self.offset[member] + self.random.randrange(LATE + 1))
         for told in block:
             if told.startswith("send "):
                 self.send(member, told.removeprefix("send "))
@@ -127,7 +130,6 @@ class TimelyKept:
     def holds(self, member: int, told: str) -> None:
         if told not in self.held[member]:
             self.held[member].add(told)
-            self.newest = self.now
             self.sizes = Sizes(*map(max, self.sizes, sizes_of(self.held[member])))
 
     def draw(self, time: int, member: int, page: str, number: int) -> None:
