@@ -22,7 +22,7 @@ use Rattle.wb_kept_progress.specs.Timed.{AllKeptHoldBehind, IsAnswerable, Perfor
 abbrev pub there : (ℕ → Opening) → List TimedLine → ℕ → Keeping
 there hosts calls i = kept_at hosts (lines_of calls) i
 
--- what a call sends that comes behind the older ones
+-- what a call sends, behind the older ones
 abbrev pub sends_then : (ℕ → Opening) → List TimedLine → TimedLine → List Datagram
 sends_then hosts older e = sent_by_doing (doing_of e.at.line) (there hosts older e.at.place)
 
@@ -31,7 +31,7 @@ abbrev pub AreCalledInOrder : List TimedLine → Type 0
 AreCalledInOrder [] = Unit {0}
 AreCalledInOrder (e ∷ older) = (called_at older ≤ e.time) × AreCalledInOrder older
 
--- one of the newer calls hands a datagram in, at a place and soon enough
+-- one of the newer calls hands a datagram in, at a place, and by a time
 pub record IsHandedIn (newer : List TimedLine) (j by : ℕ) (v : Datagram) : Type 0 where
   pub later : List TimedLine
   pub call : TimedLine
@@ -42,7 +42,7 @@ pub record IsHandedIn (newer : List TimedLine) (j by : ℕ) (v : Datagram) : Typ
   pub now : ℕ
   pub is : call.at.line ≡ Came now v
 
--- a datagram was sent by one of these calls so shortly before a time
+-- one of these calls sent a datagram, so shortly before a time
 pub record WasSentBy (hosts : ℕ → Opening) (older : List TimedLine) (time within : ℕ) (v : Datagram) : Type 0 where
   pub newer : List TimedLine
   pub e : TimedLine
@@ -51,8 +51,9 @@ pub record WasSentBy (hosts : ℕ → Opening) (older : List TimedLine) (time wi
   pub soon : time ≤ e.time + within
   pub sent : Contains (sends_then hosts before e) v
 
--- Drivers and the network keep to the terms. From `quiet` on only live hosts are called, nobody draws, and each board has a free cell. What a
--- live host sends is handed in to each other one in time, and what comes was sent shortly before.
+-- Drivers and the network keep to the terms. At any time live hosts are called in time, no delay of them is too great, and each of their boards has a
+-- free cell. From `quiet` on only live hosts are called, and nobody draws; what one sends is handed in to each other one in time. What comes
+-- once all that was on its way has arrived was sent shortly before.
 pub record IsTimelySession (hosts : ℕ → Opening) (terms : Terms) (trace : List TimedLine) : Type 0 where
   pub opened : (i : ℕ) → (hosts i).moments ≡ []
   pub distinct : (i j : ℕ) → (hosts i).number ≡ (hosts j).number → i ≡ j
@@ -72,8 +73,8 @@ pub record IsTimelySession (hosts : ℕ → Opening) (terms : Terms) (trace : Li
       → IsHandedIn newer j (e.time + terms.delivery) v
   pub fresh : (newer older : List TimedLine) (e : TimedLine) (now : ℕ) (v : Datagram) → trace ≡ newer ++ e ∷ older → settled_by terms < e.time → e.at.line ≡ Came now v → WasSentBy hosts older e.time terms.delivery v
 
--- How much the boards of live hosts hold, from `quiet` on: so many slices of marks with those of the page that was told last, so many holes, and so many
--- numbers in one. No number that is held is 0, or 2^31 or more.
+-- How much the board of a live host has at any time, at most: so many slices of marks, counted with those of the page that was told last, so many
+-- holes, and so many numbers in a hole. Rounds stay below 2^32. No number that is held is 0, or 2^31 or more.
 pub record Sizes : Type 0 where
   pub slices : ℕ
   pub holes : ℕ
@@ -92,7 +93,7 @@ pub record AreWithin (hosts : ℕ → Opening) (terms : Terms) (trace : List Tim
 abbrev pub IsHeldBySome : (ℕ → Opening) → Terms → List TimedLine → NameValue → Type 0
 IsHeldBySome hosts terms trace n = IsAnswerable (λ j. start_of (hosts j)) terms (performed hosts trace) n
 
--- a host that lacks a name which another holds
+-- a host, by its place, and a name that it lacks
 pub record Lack : Type 0 where
   pub place : ℕ
   pub name : NameValue
@@ -101,40 +102,40 @@ abbrev pub AreApart : List Lack → Type 0
 AreApart [] = Unit {0}
 AreApart (x ∷ lacks) = (Contains lacks x → ⊥) × AreApart lacks
 
--- it lacks it after lines that were performed
+-- Behind lines that were performed a live host lacks the name, and one of them held it.
 abbrev pub IsLackedAt : (ℕ → Opening) → Terms → List TimedLine → List Performed → Lack → Type 0
 IsLackedAt hosts terms trace back x = Contains terms.live x.place × IsHeldBySome hosts terms trace x.name × (holds (host_after (λ j. start_of (hosts j)) back x.place) x.name ≡ false)
 
--- all live hosts together lack at most so many, once what was on its way has arrived
+-- Once what was on its way has arrived, all live hosts together lack at most so many: a name counts once for each that lacks it.
 abbrev pub LackAtMost : (ℕ → Opening) → Terms → List TimedLine → ℕ → Type 0
 LackAtMost hosts terms trace most = (lacks : List Lack) → AreApart lacks → ((x : Lack) → Contains lacks x → IsLackedAt hosts terms trace (until (settled_by terms) (performed hosts trace)) x) → length lacks ≤ most
 
--- no request timer for what is held by some, that stands when requests begin to be answered, is due later than so long after
+-- When requests begin to be answered, no request timer for what some live host held is due later than so long after.
 abbrev pub WaitAtMost : (ℕ → Opening) → Terms → List TimedLine → ℕ → Type 0
 WaitAtMost hosts terms trace wait = (i : ℕ) (n : NameValue) (ask : AskTimer) → Contains terms.live i → IsHeldBySome hosts terms trace n
     → (timers_after (λ j. start_of (hosts j)) (until (known_from terms) (performed hosts trace)) i n).ask ≡ Some ask → ask.due ≤ known_from terms + wait + terms.offset i
 
 -- ---- spans, in microseconds
 
--- from one report to the next, and from an ask to its request
+-- the longest from one report to the next, and from where a name is asked for to its first request
 abbrev pub report_span : Terms → ℕ
 report_span terms = 96000000 + terms.late
 
 abbrev pub request_span : Terms → ℕ
 request_span terms = terms.asking * terms.far + terms.late
 
--- for so long nothing new comes at most, while something is lacked that another holds
+-- While a live host lacks what another holds, something new comes to one of them within this time.
 abbrev pub step : Terms → Sizes → ℕ → ℕ
 step terms sizes most =
     21000000 + request_span terms
     + (sizes.slices + 2 * sizes.numbers * sizes.holes + 1) * report_span terms + terms.delivery
     + most * request_span terms + repairing terms
 
--- the time by which all hold all
+-- the time by which each holds what one of them held
 abbrev pub whole_by : Terms → Sizes → ℕ → ℕ → ℕ
 whole_by terms sizes wait most = known_from terms + wait + repairing terms + (most + 1) * step terms sizes most
 
--- Each live host comes to hold what one of them held, where a request is due within a minute of its ask.
+-- Behind that time each live host holds what one of them held, where a first request follows within a minute.
 abbrev pub SessionsBecomeWhole : Type 0
 SessionsBecomeWhole = (hosts : ℕ → Opening) (terms : Terms) (trace : List TimedLine) (sizes : Sizes) (wait most : ℕ) (n : NameValue)
     → IsTimelySession hosts terms trace → AreWithin hosts terms trace sizes → WaitAtMost hosts terms trace wait → LackAtMost hosts terms trace most → request_span terms ≤ 60000000
