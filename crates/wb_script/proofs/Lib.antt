@@ -26,5 +26,3 @@ pub mod AlikeActs
 pub mod AlikeBatches
 pub mod AlikeLines
 pub mod AlikeOutcomes
-pub mod LoneArrivals
-pub mod RunTexts

@@ -55,3 +55,5 @@ pub mod OneLines
 pub mod KeptLines
 pub mod KeptBoards
 pub mod BlockEnds
+pub mod LoneArrivals
+pub mod RunTexts
