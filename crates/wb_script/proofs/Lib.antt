@@ -3,6 +3,7 @@ pub mod Batches
 pub mod Reading
 pub mod FreeArrivals
 pub mod SomeSteps
+pub mod Counted
 pub mod Steps
 pub mod Ending
 pub mod WholeBatches
