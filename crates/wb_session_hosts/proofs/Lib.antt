@@ -25,6 +25,7 @@ pub mod Orderly
 pub mod Holding
 pub mod OneLine
 pub mod Outset
+pub mod Answered
 pub mod Repairs
 pub mod Sayable
 pub mod Coming
