@@ -1,3 +1,4 @@
+pub mod Counts
 pub mod FirstWords
 pub mod Arrivals
 pub mod Acts

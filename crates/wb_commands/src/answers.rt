@@ -35,10 +35,10 @@ pub fn arrival_line(alloc: Global, became: Option<Reply>) -> Result<String, Allo
         string_bytes text ≡ batch_line (counts_of (outcome_in became ∷ []))) }
 {
     match became {
-        Some(Reply::New(_)) => batch_line(alloc, 1, 0, 0, 0),
-        Some(Reply::Again(_)) => batch_line(alloc, 0, 1, 0, 0),
-        Some(Reply::Clash(_)) => batch_line(alloc, 0, 0, 1, 0),
-        None => batch_line(alloc, 0, 0, 0, 1),
+        Some(Reply::New(_)) => "batch 1 0 0 0\n".to_owned(alloc),
+        Some(Reply::Again(_)) => "batch 0 1 0 0\n".to_owned(alloc),
+        Some(Reply::Clash(_)) => "batch 0 0 1 0\n".to_owned(alloc),
+        None => "batch 0 0 0 1\n".to_owned(alloc),
     }
 }
 

@@ -17,7 +17,7 @@ use Rattle.wb_gaps.specs.declared.holes.Hole.{Hole}
 use Rattle.wb_member.specs.Members.{Misses}
 use Rattle.wb_member.specs.Opened.{Opened, answered, becomes, doing, has_room_for, heard, may_ask, present, sent_by}
 use Rattle.wb_member.specs.Random.{word_of}
-use Rattle.wb_keeping.specs.Kept.{Doing, Line, Ticks, Arrives, Hears, Asks, Stops, SetsDistance, Tunes, Says, Transition, and_then, answers, asks_pages, distance_in, draws_it, end, ends_full, hears, hears_session, hears_some, hears_state, is_begun, is_unasked, learned, measures, near_names, of_other, own_echo, own_marks, paid_for, performs, reports, reports_due, reports_page, reports_rest, room_lines, state_of, still, stops_oldest, takes, takes_question, timed, told_names, turn, turn_to, usual_lines, want, want_near, want_told}
+use Rattle.wb_keeping.specs.Kept.{Doing, Line, Ticks, Arrives, Hears, Asks, Stops, SetsDistance, Tunes, Says, Transition, and_then, answers, asks_pages, distance_in, draws_it, end, ends_full, hears, hears_session, hears_some, hears_state, is_begun, is_unasked, learned, measures, near_names, of_other, own_echo, own_marks, paid_for, performs, reports, reports_due, reports_rest, room_lines, state_of, still, stops_oldest, takes, takes_question, timed, told_names, turn, turn_to, usual_lines, want, want_near, want_told}
 use Rattle.wb_keeping.specs.Distances.{bounded}
 use Rattle.wb_keeping.specs.Performing.{Keeping, after_line, after_lines, after_saying, said, said_where, sees, sent_by_line}
 use Rattle.wb_keeping.specs.Policy.{Policy, View, after_answer, after_question, after_state, after_taking_up, after_turn, after_wanting, holds, in_next_round, is_asked, is_full, level}
@@ -157,9 +157,6 @@ module _ (n : ℕ) where
       let v = see [] in
       let asked : Doing = record { policy = after_question v.now p; lines = Says (datagrams.AskPages v.me) ∷ [] } in
       own_if n (is_due v.now p.questions.ask) asked (still see p) (same [], tt) tt
-
-  own_page : (page : PageId) (marks : List MarkValue) → Owns n (reports_page page marks)
-  own_page page marks see p same = (same [], tt)
 
   own_rest : (marks : List MarkValue) → Owns n (reports_rest marks)
   own_rest [] see p same = (same [], tt)

@@ -65,6 +65,7 @@ fn script(
         DoesAt member.old member.new written result (script_answer command.now)) }
 {
     match command {
+        Command::Skip => Ok(()),
         Command::Arrive(drawop) => arrive(alloc, member, drawop, output),
         Command::Board { .. } => Err(Unanswered::Refused(Refusal::Line(LineFault::SecondBoard))),
         _ => act(alloc, member, command, output),

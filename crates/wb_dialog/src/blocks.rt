@@ -1,7 +1,7 @@
 //! The texts of a block.
-ghost use Rattle.std.specs.Prelude.{◌≡◌, IfOk};
+ghost use Rattle.std.specs.Prelude.{◌≡◌, None, Some, IfOk};
 ghost use Rattle.std.specs.String.{string_bytes};
-ghost use Rattle.wb_dialog.specs.Dialog.{view_text, known_text, words_line, next_line, ask_line, stop_line, due_word, ok_line, refused_line};
+ghost use Rattle.wb_dialog.specs.Dialog.{view_text, known_text, words_line, next_line, ask_line, stop_line, ok_line, refused_line};
 
 use crate::fault::Refusal;
 use std::alloc::{AllocError, Global};
@@ -66,20 +66,16 @@ pub(crate) fn refused_line(alloc: Global, refusal: Refusal) -> Result<String, Al
     format!(in alloc; "refused {refusal}\n")
 }
 
-fn due_word(alloc: Global, due: Option<u64>) -> Result<String, AllocError>
-    ensures { IfOk result (λ text. string_bytes text ≡ due_word due) }
+/// The line that closes the block of a line that was taken, where a timer is due at this moment.
+pub(crate) fn due_line(alloc: Global, moment: u64) -> Result<String, AllocError>
+    ensures { IfOk result (λ text. string_bytes text ≡ ok_line (Some moment)) }
 {
-    match due {
-        Some(moment) => format!(in alloc; "{moment}"),
-        None => format!(in alloc; "never"),
-    }
+    format!(in alloc; "ok {moment}\n")
 }
 
-/// The line that closes the block of a line that was taken, with the next moment at which a timer
-/// is due.
-pub(crate) fn ok_line(alloc: Global, due: Option<u64>) -> Result<String, AllocError>
-    ensures { IfOk result (λ text. string_bytes text ≡ ok_line due) }
+/// The same, where no timer is due.
+pub(crate) fn never_line() -> &'static [u8]
+    ensures { result.now ≡ ok_line None }
 {
-    let word = due_word(alloc, due)?;
-    format!(in alloc; "ok {word}\n")
+    b"ok never\n"
 }

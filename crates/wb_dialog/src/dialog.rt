@@ -6,7 +6,7 @@ ghost use Rattle.wb_dialog.specs.Dialog.{ok_line};
 ghost use Rattle.wb_dialog.specs.Hosting.{Host as HostState, due_at, keep_reply, reply, reply_to, taken_reply};
 ghost use Rattle.wb_dialog.specs.Doing.{DoesReply, MayBeAt, Prints, Adds, DoesHost, BlocksAt};
 
-use crate::blocks::{ok_line, refused_line};
+use crate::blocks::{due_line, never_line, refused_line};
 use crate::fault::{Refusal, Unanswered};
 use crate::line::DriverLine;
 use crate::opened::Host;
@@ -153,8 +153,10 @@ impl Dialog {
             (s : Option HostState) → MayBeAt self.now.host s →
             Prints written result (ok_line (due_at s))) }
     {
-        let text = ok_line(alloc, self.next_due())?;
-        output.add(text.as_bytes())
+        match self.next_due() {
+            Some(moment) => output.add(due_line(alloc, moment)?.as_bytes()),
+            None => output.add(never_line()),
+        }
     }
 
     /// Prints the block of a line, which stands without its end: what it prints, and `ok DUE`; or,

@@ -1,6 +1,7 @@
 //! What a line of a driver says.
 ghost use Rattle.std.specs.Prelude.{◌≡◌, ◌<◌, ◌^◌, IfOk};
 ghost use Rattle.std.specs.Option.{option_map};
+ghost use Rattle.std.specs.Str.{bytes_eq};
 ghost use Rattle.wb_names.specs.Moments.{IsMoment};
 ghost use Rattle.wb_words.specs.Words.{split_once};
 ghost use Rattle.wb_words.specs.Adding.{adding_reading};
@@ -23,12 +24,26 @@ use wb_words::{WordsFault, read_adding, read_words, split_once};
 /// The most bytes a second that reports may take.
 const MAX_RATE: u32 = 1_000_000;
 
+/// Whether a word is this one. Most words are told apart by their lengths.
+#[inline(always)]
+fn is_word(word: &[u8], other: &[u8]) -> bool
+    ensures { result ≡ bytes_eq word.now other.now }
+{
+    word.len() == other.len() && word == other
+}
+
 /// What stands behind a word and a space, with which a line begins.
 fn behind<'a>(line: &'a [u8], opener: &[u8]) -> Option<&'a [u8]>
     ensures { option_map (λ x. x.now) result ≡ part_behind opener.now (split_once 32 line.now) }
 {
     match split_once(line, b' ') {
-        Some((word, rest)) => { if word == opener { Some(rest) } else { None } }
+        Some((word, rest)) => {
+            if is_word(word, opener) {
+                Some(rest)
+            } else {
+                None
+            }
+        }
         None => None,
     }
 }
@@ -103,24 +118,24 @@ fn command(alloc: Global, line: &[u8], word: &[u8], rest: &[u8]) -> Result<Drive
     ensures line { Parses result (command line.now word.now (words rest.now)) }
     ensures within { IfOk result IsWithin }
 {
-    if word == b"say".as_slice() {
+    if is_word(word, b"say") {
         Err(Unanswered::Refused(Refusal::Line(LineFault::Words)))
-    } else if word == b"next".as_slice() {
+    } else if is_word(word, b"next") {
         Ok(DriverLine::Next(page(rest)?))
-    } else if word == b"view".as_slice() {
+    } else if is_word(word, b"view") {
         Ok(DriverLine::View(page(rest)?))
-    } else if word == b"known".as_slice() {
+    } else if is_word(word, b"known") {
         no_words(rest).ok_or(LineFault::Words)?;
         Ok(DriverLine::Known)
-    } else if word == b"ask".as_slice() {
+    } else if is_word(word, b"ask") {
         Ok(DriverLine::Ask(name(rest)?))
-    } else if word == b"stop".as_slice() {
+    } else if is_word(word, b"stop") {
         Ok(DriverLine::Stop(name(rest)?))
-    } else if word == b"keep".as_slice() {
+    } else if is_word(word, b"keep") {
         Ok(keep_line(rest)?)
-    } else if word == b"came".as_slice() {
+    } else if is_word(word, b"came") {
         came_line(alloc, rest)
-    } else if word == b"add".as_slice() {
+    } else if is_word(word, b"add") {
         Err(Unanswered::Refused(Refusal::Line(LineFault::Words)))
     } else {
         script_line(alloc, line)

@@ -1,19 +1,20 @@
 -- From all lines of a driver to its outcome.
 use Rattle.std.proofs.Common.{subst, ◌≡◌, ℕ, Bool, true, false, List, [], ◌++◌, Result, Ok, Err, inl, inr, refl, sym, ap, ◌∙◌, append_assoc, Option, Some, None, append-nil}
-use Rattle.std.specs.Io.KnownBytes.{Consumes, IsAtEnd}
+use Rattle.std.specs.Io.KnownBytes.{Appends, Consumes, IsAtEnd}
 use Rattle.std.proofs.lemmas.Bool.{false≢true}
 use Rattle.wb_lines.specs.declared.fault.DriveFault.{DriveFault}
 use Rattle.wb_lines.specs.declared.fault.DriveFault.TheVariants as faults
 use Rattle.wb_lines.specs.declared.lines.Seen.{Seen}
 use Rattle.wb_lines.specs.declared.lines.Seen.TheVariants as seens
 use Rattle.wb_lines.specs.Ahead.{Ahead, Pulls}
-use Rattle.wb_lines.specs.Input.{InputLine, input_lines, MayRemain}
+use Rattle.wb_lines.specs.Input.{input_lines, MayRemain}
 use Rattle.wb_lines.specs.Items.{Items, Grouping, items_from}
 use Rattle.wb_lines.specs.Groups.{Steps, IsOutcomeOf, IsOutcome, group_rules}
-use Rattle.wb_lines.specs.Driving.{Outcome, writes, before, stop, Gave, IsStop, IsStopped, Meets}
-use Rattle.wb_lines.specs.Moments.{LinesValue, MayCome, Rest, Moment, Moves, IsTrue}
+use Rattle.wb_lines.specs.Driving.{Outcome, writes, before, stop, Gave, IsStop, Meets}
+use Rattle.wb_lines.specs.Moments.{MayCome, Rest, Moment, moment, Moves, IsTrue, at_start}
+use Rattle.wb_lines.specs.Output.{Sends}
 use Rattle.wb_lines.specs.Steps.{Begins, OutcomeAt, Answers, DrivesAll, Settles, Closes, IsLeftAt, MeetsOne}
-use Rattle.wb_lines.proofs.KnownBytes.{Consumes-none}
+use Rattle.wb_lines.proofs.KnownBytes.{Appends-none, Consumes-none, Sends-then}
 use Rattle.wb_lines.proofs.Outcomes.{Total, some_outcome}
 
 -- nothing was read yet
@@ -39,7 +40,7 @@ sent_of (writes t end) text sent left result e (inr m) = inr (m.0, (left ++ m.1.
 -- ---- the input
 
 -- The bytes that were given are an input, with those that may still come where the source has not failed.
-pub record Input (ended failed : Bool) (left left' : Option (List ℕ)) (given : List ℕ) : Type 0 where
+record Input (ended failed : Bool) (left left' : Option (List ℕ)) (given : List ℕ) : Type 0 where
   pub more : List ℕ
   pub gave : Gave left left' failed (given ++ more)
   pub remains : MayRemain ended failed more
@@ -57,11 +58,11 @@ input_of ended failed (Some all) None given c at_end = absurd c
 input_of ended true (Some all) (Some rest) given c at_end = given_alone ended true given (Some all) (Some rest) c
 input_of ended false (Some all) (Some rest) given c at_end = record { more = rest; gave = c; remains = record { none_after_end = at_end; none_after_failure = λ h. absurd (false≢true h) } }
 
-pub input_from : (r : Ahead) (left left' : Option (List ℕ)) (failed failed' : Bool) (given : List ℕ) → Pulls fresh r left left' failed failed' given → Input r.ended failed' left left' given
+input_from : (r : Ahead) (left left' : Option (List ℕ)) (failed failed' : Bool) (given : List ℕ) → Pulls fresh r left left' failed failed' given → Input r.ended failed' left left' given
 input_from r left left' failed failed' given pulls = input_of r.ended failed' left left' given pulls.consumes (pulls.at_end (λ e. absurd (false≢true e)))
 
 -- where nothing was read or written
-pub input_none : (left : Option (List ℕ)) (failed : Bool) → Input false failed left left []
+input_none : (left : Option (List ℕ)) (failed : Bool) → Input false failed left left []
 input_none left failed = input_of false failed left left [] (Consumes-none left) (λ e. absurd (false≢true e))
 
 -- ---- what may still come
@@ -107,7 +108,7 @@ meets_of : {S F : Type 0} (A B : Outcome F → S → Type 0) (is_at : S → Type
 meets_of A B is_at sent result h m = (m.0, m.1, h m.0 m.1 m.2, m.3, m.4)
 
 -- From the first moment, at which nothing was read, to the last.
-pub all_met : {S F T : Type 0} {a b : Moment T} (by : Grouping) (Does : Steps S F) (most : ℕ) (is_at : S → Type 0) (s : S) (x y sent left : List ℕ) (ending result : Result ℕ (DriveFault F)) (m : Moves a b x)
+all_met : {S F T : Type 0} {a b : Moment T} (by : Grouping) (Does : Steps S F) (most : ℕ) (is_at : S → Type 0) (s : S) (x y sent left : List ℕ) (ending result : Result ℕ (DriveFault F)) (m : Moves a b x)
     → a.lines.seen ≡ seens.Nothing → a.lines.reader ≡ fresh → a.lines.done ≡ 0 → a.lines.most ≡ most → IsTrue b → x ++ y ≡ sent ++ left → DrivesAll is_at (OutcomeAt by Does a.lines None s) m.given x b.lines ending → Closes ending y left result
     → (input : Input b.lines.reader.ended b.failed a.left b.left m.given) → MeetsOne (IsOutcome (group_rules by Does most) b.failed s (m.given ++ input.more)) is_at sent result
 all_met {S = S} {F = F} {a = a} {b = b} by Does most is_at s x y sent left ending result m unseen unread none most_is is_true split d c input = at ending d c where
@@ -126,10 +127,36 @@ all_met {S = S} {F = F} {a = a} {b = b} by Does most is_at s x y sent left endin
   at (Ok n) d c = meets_of A (IsOutcome (group_rules by Does most) b.failed s (m.given ++ input.more)) is_at sent result here (met A is_at x y sent left (Ok n) result d.0 split (d.2 input.more b.failed may) c (λ k e. d.1))
   at (Err e) d c = let r = d input.more b.failed may in meets_of A (IsOutcome (group_rules by Does most) b.failed s (m.given ++ input.more)) is_at sent result here (met A is_at x y sent left (Err e) result r.0 split r.1 c (λ k h. absurd cc))
 
+-- nothing was said of a source or a sink at the start, so what is found later is true
+pub true_later : {T : Type 0} {b : Moment T} (most : ℕ) (left taken : Option (List ℕ)) (failed stuck : Bool) (x : List ℕ) → Moves (moment (at_start most) [] left failed taken stuck) b x → IsTrue b
+true_later most left taken failed stuck x m = m.true_still (record { failed = λ e. absurd cc; stuck = λ e. absurd cc })
+
+-- What a driver read and wrote in all, from its start to where it closed.
+abbrev pub MeetsAll : {S F : Type 0} → Grouping → Steps S F → ℕ → (S → Type 0) → (S → Type 0) → Option (List ℕ) → Option (List ℕ) → Bool → Option (List ℕ) → Option (List ℕ) → Result ℕ (DriveFault F) → Type 0
+MeetsAll by Does most was_at is_at left left' failed taken taken' result = (input : List ℕ) × (written : List ℕ) × Gave left left' failed input × Appends taken taken' written
+    × ((s : _) → was_at s → MeetsOne (IsOutcome (group_rules by Does most) failed s input) is_at written result)
+
+pub meets_all : {S F T : Type 0} {b : Moment T} (by : Grouping) (Does : Steps S F) (most : ℕ) (was_at is_at : S → Type 0) (left taken taken' : Option (List ℕ)) (failed stuck : Bool) (waiting : List ℕ) (ending result : Result ℕ (DriveFault F))
+    → ((x : List ℕ) × (m : Moves (moment (at_start most) [] left failed taken stuck) b x) × ((s : S) → was_at s → DrivesAll is_at (OutcomeAt by Does (at_start {S = T} most) None s) m.given x b.lines ending))
+    → ((y : List ℕ) × Sends b.taken b.output taken' waiting y × Closes ending y waiting result) → MeetsAll by Does most was_at is_at left b.left b.failed taken taken' result
+meets_all {b = b} by Does most was_at is_at left taken taken' failed stuck waiting ending result text end =
+    let sends = Sends-then taken b.taken taken' [] b.output waiting text.0 end.0 text.1.sends end.1 in
+    let input = input_from b.lines.reader left b.left failed b.failed text.1.given text.1.pulls in (
+      text.1.given ++ input.more,
+      sends.0,
+      input.gave,
+      sends.1,
+      λ s at. all_met by Does most is_at s text.0 end.0 sends.0 waiting ending result text.1 refl refl refl refl (true_later most left taken failed stuck text.0 text.1) sends.2 (text.2 s at) end.2 input,
+    )
+
 -- memory ran out before anything was read
-pub memory_met : {S F : Type 0} (by : Grouping) (Does : Steps S F) (most : ℕ) (is_at : S → Type 0) (cut : Bool) (s : S) (input : List ℕ) (result : Result ℕ (DriveFault F)) → Total Does → result ≡ Err faults.Memory → MeetsOne (IsOutcome (group_rules by Does most) cut s input) is_at [] result
+memory_met : {S F : Type 0} (by : Grouping) (Does : Steps S F) (most : ℕ) (is_at : S → Type 0) (cut : Bool) (s : S) (input : List ℕ) (result : Result ℕ (DriveFault F)) → Total Does → result ≡ Err faults.Memory → MeetsOne (IsOutcome (group_rules by Does most) cut s input) is_at [] result
 memory_met {F = F} by Does most is_at cut s input result total e =
     let one = some_outcome Does total (items_from by most cut 0 None (input_lines input)) s in
     (one.o, one.u, one.is_one, rw e tt, rw e (empty_met one.o)) where
       empty_met : (o : Outcome F) → Meets o [] (Err faults.Memory)
       empty_met (writes text end) = inr (tt, (text, refl))
+
+pub none_met : {S F : Type 0} (by : Grouping) (Does : Steps S F) (most : ℕ) (was_at : S → Type 0) (left taken : Option (List ℕ)) (failed : Bool) (result : Result ℕ (DriveFault F)) → Total Does → result ≡ Err faults.Memory → MeetsAll by Does most was_at was_at left left failed taken taken result
+none_met by Does most was_at left taken failed result total e =
+    let none = input_none left failed in (none.more, [], none.gave, Appends-none taken, λ s at. memory_met by Does most was_at failed s none.more result total e)

@@ -1,6 +1,5 @@
 -- Lines that are taken as the first of a group, join one, or stand behind it.
-use Rattle.std.proofs.Common.{◌≡◌, ◌≢◌, ℕ, ◌+◌, ◌<◌, ◌≤◌, Bool, true, false, inl, inr, ◌⊎◌, List, [], ◌∷◌, ◌++◌, length, Option, Some, None, refl, sym, ap, subst, ◌∙◌, append_assoc, append-nil, arith, nat_eq, nat_lt, nat_le, ◌&&◌, ◌||◌, not, if◌then◌else◌}
-use Rattle.std.proofs.lemmas.Bool.{false≢true}
+use Rattle.std.proofs.Common.{◌≡◌, ℕ, ◌+◌, ◌<◌, ◌≤◌, Bool, true, false, inl, inr, ◌⊎◌, List, [], ◌∷◌, ◌++◌, length, Option, Some, None, refl, sym, ap, subst, ◌∙◌, append_assoc, append-nil, arith, nat_lt, nat_le, ◌&&◌, ◌||◌, not, if◌then◌else◌}
 use Rattle.std.proofs.lemmas.Bool.Decides.{nat_tests}
 use Rattle.wb_lines.specs.declared.lines.Seen.{Seen}
 use Rattle.wb_lines.specs.declared.lines.Seen.TheVariants as seens
@@ -8,8 +7,8 @@ use Rattle.wb_lines.specs.Ahead.{Ahead}
 use Rattle.wb_lines.specs.Input.{InputLine, input_lines, standing, MayFollow, most_bytes}
 use Rattle.wb_lines.specs.Handling.{whole, too_long}
 use Rattle.wb_lines.specs.Taking.{is_short, is_passed}
-use Rattle.wb_lines.specs.Items.{InputEnd, finished, unreadable, endless, Items, over, group, Grouping, Begun, begin, grown, closed, and_line, Entry, short, long, none, entry, by_entry, items_from}
-use Rattle.wb_lines.specs.Moments.{LinesValue, IsRead, StartsLong, IsSound, MayCome, Rest, unread, is_broken, with_one, IsBehind, IsGroupEnd, Moment, Reads, grown_by, Gathers, IsJoining, IsLineSeen, TakesLine, TakesJoined}
+use Rattle.wb_lines.specs.Items.{finished, unreadable, endless, Items, over, group, Grouping, Begun, begin, grown, and_line, Entry, short, long, none, entry, items_from}
+use Rattle.wb_lines.specs.Moments.{LinesValue, IsRead, StartsLong, IsSound, MayCome, Rest, unread, with_one, IsGroupEnd, Moment, Reads, grown_by, Gathers, IsJoining, IsLineSeen, TakesLine, TakesJoined}
 use Rattle.wb_lines.proofs.Moments.{Reads-then}
 use Rattle.wb_lines.proofs.KnownBytes.{Sends-none}
 use Rattle.wb_lines.proofs.LineBytes.{Pulls-none}
@@ -210,16 +209,6 @@ line_seen by line seen h = absurd cc
 
 pub is_joining : {S : Type 0} (by : Grouping) (line : InputLine) (seen : Seen S) (said : S) → seen ≡ seens.Line said → IsJoining by line seen true → by.joins line ≡ true
 is_joining by line seen said e h = sym (rw e at h)
-
-pub is_behind : {S : Type 0} (by : Grouping) (line : InputLine) (seen : Seen S) → seen ≢ seens.Nothing → IsJoining by line seen false → IsBehind by line seen
-is_behind by line (seens.Line said) ne h = sym h
-is_behind by line seens.Nothing ne h = absurd (ne refl)
-is_behind by line seens.TooLong ne h = tt
-is_behind by line seens.End ne h = tt
-is_behind by line seens.Failed ne h = tt
-is_behind by line seens.TooMany ne h = tt
-is_behind by line seens.Unwritten ne h = tt
-is_behind by line seens.Memory ne h = tt
 
 -- The next line was looked at, and was taken.
 pub takes_joined : {S : Type 0} {a b d : Moment S} (says : InputLine → S → Type 0) (by : Grouping) (result : Option S) → Reads by a b [] [] → IsJoining by b.lines.line b.lines.seen true → TakesLine says b.lines d.lines result → b.lines.done ≡ a.lines.done

@@ -1,5 +1,5 @@
 -- The lines of an input, from the bytes of the first of them.
-use Rattle.std.proofs.Common.{◌≡◌, ◌≢◌, ℕ, ◌<◌, ◌≤◌, Bool, true, false, cond, List, [], ◌∷◌, ◌++◌, length, refl, sym, ap, ◌∙◌, append_assoc, arith, nat_eq, nat_le, nat_lt, ◌&&◌}
+use Rattle.std.proofs.Common.{◌≡◌, ◌≢◌, ℕ, ◌<◌, ◌≤◌, Bool, true, false, cond, List, [], ◌∷◌, ◌++◌, length, refl, arith, nat_eq, nat_le, nat_lt, ◌&&◌}
 use Rattle.std.proofs.lemmas.Bool.Decides.{nat_tests}
 use Rattle.wb_lines.specs.Ahead.{NoLineFeed}
 use Rattle.wb_lines.specs.Input.{InputLine, onto_first, input_lines, most_bytes}
@@ -46,15 +46,8 @@ whole_line line = record { bytes = line; ended = true }
 abbrev pub last_line : List ℕ → InputLine
 last_line line = record { bytes = line; ended = false }
 
-pub regrouped : (bytes given more line rest : List ℕ) → bytes ++ given ≡ line ++ rest → bytes ++ (given ++ more) ≡ line ++ (rest ++ more)
-regrouped bytes given more line rest e = sym (append_assoc bytes given more) ∙ ap (λ (t : List ℕ). t ++ more) e ∙ append_assoc line rest more
-
 pub fits : (most n : ℕ) (line : List ℕ) → n < most → length line ≤ most_bytes → nat_lt n most && nat_le (length line) most_bytes ≡ true
 fits most n line few short = grind (arith, nat_tests)
-
-pub past_length : (b : Bool) (n : ℕ) → most_bytes < n → b && nat_le n most_bytes ≡ false
-past_length true n lt = grind (arith, nat_tests)
-past_length false n lt = refl
 
 pub record HasLine (lines : List InputLine) : Type 0 where
   pub first : InputLine
@@ -65,6 +58,3 @@ pub has_line : (b : Bool) (x : InputLine) (c : ℕ) (xs lines : List InputLine) 
 has_line true x c xs lines = record { first = x; others = xs; is = refl }
 has_line false x c xs [] = record { first = record { bytes = c ∷ []; ended = false }; others = []; is = refl }
 has_line false x c xs (l ∷ lines) = record { first = record { bytes = c ∷ l.bytes; ended = l.ended }; others = lines; is = refl }
-
-pub past_count : (most n : ℕ) (b : Bool) → most ≤ n → nat_lt n most && b ≡ false
-past_count most n b many = let no_more : nat_lt n most ≡ false = grind (arith, nat_tests) in rw no_more refl

@@ -1,13 +1,13 @@
 -- Lines that are taken one by one have one outcome.
-use Rattle.std.proofs.Common.{◌≡◌, ℕ, ◌+◌, ◌<◌, ◌≤◌, Bool, true, false, cond, List, [], ◌∷◌, ◌++◌, length, Option, Some, None, Result, Ok, Err, refl, sym, ap, subst, ◌∙◌, arith, nat_le, nat_lt, ◌||◌, not, if◌then◌else◌}
+use Rattle.std.proofs.Common.{◌≡◌, ℕ, ◌+◌, Bool, true, false, List, [], ◌∷◌, None, Result, Ok, Err, refl, ap, subst, ◌∙◌, arith, nat_lt, ◌||◌, not}
 use Rattle.std.proofs.lemmas.Bool.Decides.{nat_tests}
 use Rattle.wb_lines.specs.declared.fault.DriveFault.{DriveFault}
 use Rattle.wb_lines.specs.declared.fault.DriveFault.TheVariants as faults
-use Rattle.wb_lines.specs.Input.{InputLine, input_lines, most_bytes}
+use Rattle.wb_lines.specs.Input.{InputLine, input_lines}
 use Rattle.wb_lines.specs.Handling.{Met, whole, too_long, Step, goes, stops, ends, Does}
-use Rattle.wb_lines.specs.Taking.{is_short, is_passed, is_taken, met}
+use Rattle.wb_lines.specs.Taking.{is_short, is_passed}
 use Rattle.wb_lines.specs.Driving.{Outcome, before, stop, proceed, rules_of, outcome_from, outcome, Meets}
-use Rattle.wb_lines.specs.Items.{finished, unreadable, endless, Items, over, group, alone, begin, Entry, short, long, none, entry, items_from}
+use Rattle.wb_lines.specs.Items.{endless, Items, over, group, alone, begin, items_from}
 use Rattle.wb_lines.specs.Groups.{Steps, Proceeds, IsOutcomeOf, IsOutcome, group_rules}
 use Rattle.std.proofs.lemmas.Bool.{false≢true}
 use Rattle.wb_lines.specs.declared.handler.Stop.{Stop}

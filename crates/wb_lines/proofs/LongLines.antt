@@ -1,22 +1,21 @@
 -- Lines that are too long are passed over.
-use Rattle.std.proofs.Common.{◌≡◌, ◌≢◌, ℕ, ◌+◌, ◌-◌, ◌^◌, ◌<◌, ◌≤◌, Bool, true, false, inl, inr, List, [], ◌∷◌, ◌++◌, length, Option, Some, None, refl, sym, ap, subst, ◌∙◌, append_assoc, arith, nat_le, nat_lt, if◌then◌else◌, append-nil, length-append}
+use Rattle.std.proofs.Common.{◌≡◌, ℕ, ◌+◌, ◌-◌, ◌^◌, ◌<◌, ◌≤◌, Bool, true, false, List, [], ◌∷◌, ◌++◌, length, None, refl, sym, ap, ◌∙◌, append_assoc, arith, nat_lt, if◌then◌else◌, append-nil, length-append}
 use Rattle.std.proofs.lemmas.Bool.{false≢true}
 use Rattle.std.proofs.lemmas.Bool.Decides.{nat_tests}
-use Rattle.wb_lines.specs.declared.lines.Seen.{Seen}
 use Rattle.wb_lines.specs.declared.lines.Seen.TheVariants as seens
 use Rattle.wb_lines.specs.declared.line_reader.Found.{Found}
 use Rattle.wb_lines.specs.declared.line_reader.Found.TheVariants as founds
-use Rattle.wb_lines.specs.Ahead.{Ahead, Pulls, NoLineFeed, PassesOver}
+use Rattle.wb_lines.specs.Ahead.{Pulls, NoLineFeed, PassesOver}
 use Rattle.wb_lines.specs.Output.{Sends}
-use Rattle.wb_lines.specs.Input.{InputLine, input_lines, most_bytes, MayFollow}
+use Rattle.wb_lines.specs.Input.{input_lines, most_bytes, MayFollow}
 use Rattle.wb_lines.specs.Handling.{too_long}
-use Rattle.wb_lines.specs.Taking.{most_passed, is_passed}
+use Rattle.wb_lines.specs.Taking.{most_passed}
 use Rattle.wb_lines.specs.Items.{finished, unreadable, endless, Items, over, group, Grouping, items_from}
-use Rattle.wb_lines.specs.Moments.{LinesValue, StartsLong, MayCome, Rest, Moment, Moves, IsTrue, PassesLine, found_over}
+use Rattle.wb_lines.specs.Moments.{StartsLong, MayCome, Moment, Moves, PassesLine, found_over}
 use Rattle.wb_lines.proofs.InputLines.{StartsLine, starts_line, input_lines-whole, input_lines-last, whole_line, last_line}
 use Rattle.wb_lines.proofs.LineBytes.{NoLineFeed-append}
 use Rattle.wb_lines.proofs.Looking.{ended_follows}
-use Rattle.wb_lines.proofs.GroupedLines.{beyond, long_taken}
+use Rattle.wb_lines.proofs.GroupedLines.{long_taken}
 
 -- the line was read to its end
 read_whole : (front rest bytes given more after : List ℕ) → bytes ++ given ≡ rest ++ 10 ∷ after → front ++ (bytes ++ (given ++ more)) ≡ (front ++ rest) ++ 10 ∷ (after ++ more)

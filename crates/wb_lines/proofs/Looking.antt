@@ -1,15 +1,15 @@
 -- What stands behind the lines that were taken is looked at: the items that follow stay the same.
-use Rattle.std.proofs.Common.{◌≡◌, ◌≢◌, ℕ, ◌+◌, ◌<◌, ◌≤◌, Bool, true, false, inl, inr, ◌⊎◌, List, [], ◌∷◌, ◌++◌, length, Option, Some, None, refl, sym, ap, subst, ◌∙◌, append_assoc, append-nil, arith, nat_eq, nat_lt, nat_le, if◌then◌else◌}
+use Rattle.std.proofs.Common.{◌≡◌, ℕ, ◌<◌, Bool, true, false, inl, inr, ◌⊎◌, List, [], ◌∷◌, ◌++◌, length, Option, refl, sym, ap, subst, ◌∙◌, append_assoc, append-nil, arith, nat_eq, nat_lt, nat_le, if◌then◌else◌}
 use Rattle.std.proofs.lemmas.Bool.{false≢true}
 use Rattle.std.proofs.lemmas.Bool.Decides.{nat_tests}
 use Rattle.wb_lines.specs.declared.lines.Seen.{Seen}
 use Rattle.wb_lines.specs.declared.lines.Seen.TheVariants as seens
-use Rattle.wb_lines.specs.Ahead.{Ahead, Pulls, IsLine, NoLineFeed}
+use Rattle.wb_lines.specs.Ahead.{Ahead, Pulls, IsLine}
 use Rattle.wb_lines.specs.Output.{Sends}
 use Rattle.wb_lines.specs.Input.{InputLine, input_lines, standing, MayFollow, most_bytes}
-use Rattle.wb_lines.specs.Items.{InputEnd, finished, unreadable, endless, Items, over, group, Grouping, Begun, closed, items_from}
-use Rattle.wb_lines.specs.Moments.{LinesValue, IsRead, Moment, MayCome, Rest, unread, IsTrue, Moves, Reads, IsLineOrMemory}
-use Rattle.wb_lines.proofs.InputLines.{input_lines-whole, input_lines-last, whole_line, last_line, has_line}
+use Rattle.wb_lines.specs.Items.{finished, unreadable, endless, Items, over, Grouping, Begun, closed, items_from}
+use Rattle.wb_lines.specs.Moments.{LinesValue, Moment, MayCome, Rest, unread, IsTrue, Reads, IsLineOrMemory}
+use Rattle.wb_lines.proofs.InputLines.{input_lines-last, last_line, has_line}
 use Rattle.wb_lines.proofs.Moments.{grown-none}
 
 -- What follows a look is what followed before it.

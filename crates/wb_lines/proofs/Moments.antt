@@ -1,15 +1,8 @@
 -- From one moment of a driver to another: what was read and printed, step after step.
-use Rattle.std.proofs.Common.{◌≡◌, ◌≢◌, ℕ, ◌+◌, ◌<◌, ◌≤◌, Bool, true, false, cond, List, [], ◌∷◌, ◌++◌, length, Option, Some, None, refl, sym, ap, subst, ◌∙◌, append_assoc, append-nil, arith, nat_eq, nat_lt, nat_le, ◌||◌, not}
-use Rattle.std.proofs.lemmas.Bool.{false≢true}
-use Rattle.std.proofs.lemmas.Bool.Decides.{nat_tests}
-use Rattle.wb_lines.specs.declared.lines.Seen.{Seen}
-use Rattle.wb_lines.specs.declared.lines.Seen.TheVariants as seens
-use Rattle.wb_lines.specs.Ahead.{Ahead, Pulls, IsLine, NoLineFeed}
-use Rattle.wb_lines.specs.Output.{Sends}
-use Rattle.wb_lines.specs.Input.{InputLine, input_lines, standing, MayFollow, most_bytes}
-use Rattle.wb_lines.specs.Items.{InputEnd, finished, unreadable, endless, Items, over, group, Grouping, Begun, begin, grown, closed, items_from, entry, by_entry, short, none}
-use Rattle.wb_lines.specs.Moments.{LinesValue, IsRead, Moment, MayCome, Rest, unread, IsTrue, Moves, Reads, grown_by, Gathers, with_one}
-use Rattle.wb_lines.proofs.InputLines.{input_lines-whole, input_lines-last, whole_line, last_line, has_line}
+use Rattle.std.proofs.Common.{◌≡◌, ℕ, List, [], ◌∷◌, ◌++◌, Option, Some, None, refl, sym, ap, subst, ◌∙◌, append_assoc, append-nil, arith}
+use Rattle.wb_lines.specs.Input.{InputLine}
+use Rattle.wb_lines.specs.Items.{Grouping, Begun}
+use Rattle.wb_lines.specs.Moments.{Moment, MayCome, Rest, Moves, Reads, grown_by, Gathers}
 use Rattle.wb_lines.proofs.KnownBytes.{Sends-none, Sends-more, Sends-then}
 use Rattle.wb_lines.proofs.LineBytes.{Pulls-none, Pulls-then}
 

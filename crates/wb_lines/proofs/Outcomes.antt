@@ -1,5 +1,5 @@
 -- What a driver does, one group after the other.
-use Rattle.std.proofs.Common.{◌≡◌, ◌≢◌, ℕ, ◌+◌, ◌<◌, ◌≤◌, Bool, true, false, List, [], ◌∷◌, ◌++◌, length, Option, Some, None, Result, Ok, Err, refl, sym, ap, subst, ◌∙◌, append_assoc, arith, nat_eq, nat_le, nat_lt, ◌||◌, append-nil}
+use Rattle.std.proofs.Common.{◌≡◌, ℕ, ◌+◌, ◌<◌, ◌≤◌, Bool, true, false, List, [], ◌∷◌, ◌++◌, length, Some, None, Result, Ok, Err, refl, sym, ap, subst, ◌∙◌, append_assoc, arith, nat_le, nat_lt, ◌||◌, append-nil}
 use Rattle.std.proofs.lemmas.Bool.{false≢true}
 use Rattle.std.proofs.lemmas.Bool.Decides.{nat_tests}
 use Rattle.wb_lines.specs.declared.handler.Stop.{Stop}
@@ -12,9 +12,9 @@ use Rattle.wb_lines.specs.Input.{InputLine, input_lines, standing, most_bytes, B
 use Rattle.wb_lines.specs.Handling.{Met, whole, too_long, Step, goes, stops, ends, text_of}
 use Rattle.wb_lines.specs.Taking.{most_passed}
 use Rattle.wb_lines.specs.Driving.{Rules, Outcome, writes, before, stop, proceed, outcome_from}
-use Rattle.wb_lines.specs.Items.{InputEnd, finished, unreadable, endless, Items, over, group, Grouping, Begun, begin, items_from}
-use Rattle.wb_lines.specs.Groups.{Steps, answer_of, Proceeds, IsOutcomeOf}
-use Rattle.wb_lines.specs.Moments.{LinesValue, IsRead, StartsLong, IsSound, MayCome, Rest, unread, is_broken, HasJoined, IsGroupEnd, Moment, Moves, Reads, PassesLine, EndsBy, IsLineSeen, with_one}
+use Rattle.wb_lines.specs.Items.{finished, unreadable, endless, Items, over, group, Grouping, begin, items_from}
+use Rattle.wb_lines.specs.Groups.{Steps, answer_of, IsOutcomeOf}
+use Rattle.wb_lines.specs.Moments.{LinesValue, IsRead, StartsLong, IsSound, MayCome, Rest, is_broken, Moment, Moves, Reads, PassesLine, EndsBy, IsLineSeen, with_one}
 use Rattle.wb_lines.specs.Steps.{fault_of, DoesOne, TakesAll, DoesGroup, Begins, OutcomeAt, Answers, Drives, DrivesAll}
 use Rattle.wb_lines.specs.Output.{Sends}
 use Rattle.wb_lines.proofs.KnownBytes.{Sends-more, Sends-then}
@@ -194,6 +194,46 @@ pub did_one : {S F : Type 0} (is_at : S → Type 0) (printed : List ℕ) (May : 
 did_one is_at printed May (Ok u) h d = d
 did_one is_at printed May (Err e) h d = absurd (h e refl)
 
+-- ---- a handler took a group, and a driver goes on or ends
+
+pub broken_end : {F T : Type 0} (seen : Seen T) (result : Result Bool (DriveFault F)) → is_broken seen ≡ true → EndsBy seen result → (e : DriveFault F) × IsBrokenEnd e × (result ≡ Err e)
+broken_end seens.Unwritten result b is = (faults.Write, tt, is)
+broken_end seens.Memory result b is = (faults.Memory, tt, is)
+broken_end seen result b is = absurd (false≢true b)
+
+abbrev pub Took : {S F T : Type 0} → Grouping → Steps S F → (S → Type 0) → (S → Type 0) → Moment T → Moment T → Result (Unit {0}) (Stop F) → Type 0
+Took by Does was_at is_at a b result = (printed : List ℕ) × (joined : List InputLine) × Reads by a b printed joined
+    × ((s : _) → was_at s → DoesGroup by is_at printed (Does s a.lines.done (whole a.lines.line)) a.lines.line joined b.lines result)
+
+abbrev pub Handed : {S F T : Type 0} → Grouping → Steps S F → (S → Type 0) → (S → Type 0) → Moment T → Moment T → Result Bool (DriveFault F) → Type 0
+Handed by Does was_at is_at a b result = (printed : List ℕ) × (moves : Moves a b printed)
+    × ((s : _) → was_at s → Drives by Does is_at (OutcomeAt by Does a.lines (Some (begin a.lines.done a.lines.line)) s) moves.given printed b.lines result)
+
+pub handed_stopped : {S F T : Type 0} {a b : Moment T} (by : Grouping) (Does : Steps S F) (was_at is_at : S → Type 0) (e : Stop F) → Total Does → a.lines.seen ≡ seens.Nothing
+    → Took by Does was_at is_at a b (Err e) → Handed by Does was_at is_at a b (Err (fault_of a.lines.done e))
+handed_stopped {a = a} {b = b} by Does was_at is_at e total unseen t = (t.0, t.2.moves, λ s at. stopped by Does is_at a.lines b.lines s t.2.moves.given t.0 e total unseen (t.3 s at))
+
+pub handed_broken : {S F T : Type 0} {a b : Moment T} (by : Grouping) (Does : Steps S F) (was_at is_at : S → Type 0) (result : Result (Unit {0}) (Stop F)) (end : Result Bool (DriveFault F)) → Total Does → a.lines.seen ≡ seens.Nothing
+    → ((e : Stop F) → result ≡ Err e → ⊥) → is_broken b.lines.seen ≡ true → EndsBy b.lines.seen end → Took by Does was_at is_at a b result → Handed by Does was_at is_at a b end
+handed_broken {a = a} {b = b} by Does was_at is_at result end total unseen taken broken by_end t =
+    let e = broken_end b.lines.seen end broken by_end in (
+      t.0,
+      t.2.moves,
+      λ s at.
+          let all = took by is_at t.0 (Does s a.lines.done (whole a.lines.line)) a.lines.line t.1 b.lines result taken (t.3 s at) in
+          rw e.2 (broken_off by Does is_at a.lines b.lines s t.2.moves.given t.0 e.0 total unseen (rw broken at all) e.1),
+    )
+
+pub handed_on : {S F T : Type 0} {a b : Moment T} (by : Grouping) (says : InputLine → T → Type 0) (Does : Steps S F) (was_at is_at : S → Type 0) (result : Result (Unit {0}) (Stop F))
+    → ((e : Stop F) → result ≡ Err e → ⊥) → is_broken b.lines.seen ≡ false → IsSound says b.lines → Took by Does was_at is_at a b result → Handed by Does was_at is_at a b (Ok true)
+handed_on {a = a} {b = b} by says Does was_at is_at result taken going sound t = (
+  t.0,
+  t.2.moves,
+  λ s at.
+      let all = took by is_at t.0 (Does s a.lines.done (whole a.lines.line)) a.lines.line t.1 b.lines result taken (t.3 s at) in
+      went by says Does is_at s t.0 t.1 t.2 sound (rw going at all),
+)
+
 -- ---- what comes of a later moment comes of an earlier one
 
 pub Drives-of : {S F T : Type 0} (by : Grouping) (Does : Steps S F) (is_at : S → Type 0) (A B : List ℕ → Bool → Outcome F → S → Type 0) (given given' printed : List ℕ) (w : LinesValue T) (result : Result Bool (DriveFault F))
@@ -255,11 +295,6 @@ look_broken by Does is_at v w s given e total whole_still is_end = λ more cut m
     (s, any_answer (OutcomeAt by Does v None s (given ++ more) cut) [] s e is_end (one.o, one.u, (r.0, r.1, one.is_one), Begins-nil one.o))
 
 -- so it ends
-pub broken_end : {F T : Type 0} (seen : Seen T) (result : Result Bool (DriveFault F)) → is_broken seen ≡ true → EndsBy seen result → (e : DriveFault F) × IsBrokenEnd e × (result ≡ Err e)
-broken_end seens.Unwritten result b is = (faults.Write, tt, is)
-broken_end seens.Memory result b is = (faults.Memory, tt, is)
-broken_end seen result b is = absurd (false≢true b)
-
 -- ---- of a driver, and what its handler was at before
 
 -- behind a look

@@ -1,5 +1,5 @@
 -- The bytes of lines, and the lines that are read from them again.
-use Rattle.std.proofs.Common.{◌≡◌, ◌≢◌, ℕ, ◌+◌, ◌-◌, Bool, true, false, cond, List, [], ◌∷◌, ◌++◌, length, take, get_or, inl, inr, ◌⊎◌, refl, sym, ap, ◌∙◌, append_assoc, arith, nat_eq, ◌==◌, slice_index, if◌then◌else◌, eqb-true, true≢false}
+use Rattle.std.proofs.Common.{◌≡◌, ◌≢◌, ℕ, ◌+◌, ◌-◌, Bool, true, false, cond, List, [], ◌∷◌, ◌++◌, length, take, get_or, inl, inr, ◌⊎◌, refl, sym, ap, ◌∙◌, append_assoc, arith, nat_eq, ◌==◌, slice_index, eqb-true, true≢false}
 use Rattle.std.specs.Str.Lines.{strip_carriage_return}
 use Rattle.std.proofs.lemmas.Bool.Decides.{nat_tests}
 use Rattle.std.proofs.lemmas.List.{append-nil, take_more, take_all}

@@ -1,27 +1,19 @@
 -- From the outcome of a driver to the answer of a check.
-use Rattle.std.proofs.Common.{◌≡◌, ◌≢◌, ℕ, ◌+◌, ◌≤◌, Bool, true, false, cond, List, [], ◌∷◌, Result, Ok, Err, inl, inr, refl, sym, ap, ◌∙◌, subst, arith, nat_lt}
-use Rattle.std.proofs.lemmas.Bool.Decides.{nat_tests}
+use Rattle.std.proofs.Common.{◌≡◌, ◌≢◌, ℕ, ◌+◌, ◌≤◌, Bool, true, false, cond, List, [], ◌∷◌, Result, Ok, Err, inl, inr, refl, sym, ap, ◌∙◌, nat_lt}
 use Rattle.wb_lines.specs.declared.fault.DriveFault.{DriveFault}
 use Rattle.wb_lines.specs.declared.fault.DriveFault.TheVariants as faults
 use Rattle.wb_lines.specs.Input.{InputLine, input_lines}
 use Rattle.wb_lines.specs.Handling.{Step, goes, stops, ends}
 use Rattle.wb_lines.specs.Taking.{met, is_taken, is_passed}
-use Rattle.wb_lines.specs.Driving.{Outcome, writes, rules_of, before, stop, proceed, outcome_from, outcome, IsStopped, Meets}
+use Rattle.wb_lines.specs.Driving.{Outcome, writes, rules_of, stop, proceed, outcome_from, outcome, IsStopped, Meets}
 use Rattle.wb_commands.specs.declared.fault.LineFault.{LineFault}
 use Rattle.wb_script.specs.declared.fault.RunFault.{RunFault}
 use Rattle.wb_script.specs.declared.fault.RunFault.TheVariants as run_faults
 use Rattle.wb_script.specs.Script.{most_lines}
 use Rattle.wb_script.specs.Checking.{check_step, fault_of, answer_of, answer_at_end, Checks, IsCounted}
+use Rattle.wb_script.proofs.Counted.{EndsCounted, counted_before, few_after, meets_counted}
 
 -- ---- the number of a line that stops a check
-
-abbrev EndsCounted : Outcome LineFault → Type 0
-EndsCounted (writes text (Ok n)) = Unit {0}
-EndsCounted (writes text (Err e)) = IsCounted most_lines e
-
-counted_before : (text : List ℕ) (o : Outcome LineFault) → EndsCounted o → EndsCounted (before text o)
-counted_before text (writes rest (Ok n)) h = h
-counted_before text (writes rest (Err e)) h = h
 
 counted_step : (number : ℕ) (step : Step (Unit {0}) LineFault) (rest : Unit {0} → Outcome LineFault) → number ≤ most_lines → ((next : Unit {0}) → EndsCounted (rest next)) → EndsCounted (proceed number step rest)
 counted_step number (goes text next) rest few counted = counted_before text (rest next) (counted next)
@@ -36,9 +28,6 @@ counted_end : (cut : Bool) (n : ℕ) → EndsCounted (stop (cond cut (Err faults
 counted_end true n = tt
 counted_end false n = tt
 
-few_after : (n : ℕ) → nat_lt n most_lines ≡ true → n + 1 ≤ most_lines
-few_after n e = grind (arith, nat_tests)
-
 ends_counted : (cut : Bool) (n : ℕ) (lines : List InputLine) → EndsCounted (outcome_from (rules_of check_step most_lines) cut n tt lines)
 ends_counted cut n [] = counted_end cut n
 ends_counted cut n (line ∷ lines) =
@@ -47,18 +36,6 @@ ends_counted cut n (line ∷ lines) =
     (λ few. counted_where (is_taken cut line) (proceed (n + 1) (check_step tt (n + 1) (met line)) rest) (stop (Err faults.Read))
     (λ taken. counted_step (n + 1) (check_step tt (n + 1) (met line)) rest (few_after n few)
     (λ next. counted_where (is_passed line) (outcome_from (rules_of check_step most_lines) cut (n + 1) next lines) (stop (Err faults.Endless)) (λ passed. ends_counted cut (n + 1) lines) tt)) tt) tt
-
-stopped_counted : (e : DriveFault LineFault) → IsStopped (Err e) → IsCounted most_lines e
-stopped_counted (faults.Line number f) h = absurd h
-stopped_counted e h = tt
-
-counted_as : (e : DriveFault LineFault) (text : List ℕ) (end : Result ℕ (DriveFault LineFault)) → Err e ≡ end → EndsCounted (writes text end) → IsCounted most_lines e
-counted_as e text (Ok n) is h = absurd cc
-counted_as e text (Err f) is h = let same : f ≡ e = cc in subst (IsCounted most_lines) same h
-
-meets_counted : (o : Outcome LineFault) (written : List ℕ) (e : DriveFault LineFault) → EndsCounted o → Meets o written (Err e) → IsCounted most_lines e
-meets_counted (writes text end) written e h (inl m) = counted_as e text end m.1 h
-meets_counted (writes text end) written e h (inr m) = stopped_counted e m.0
 
 pub is_counted : (cut : Bool) (input written : List ℕ) (e : DriveFault LineFault) → Meets (outcome (rules_of check_step most_lines) cut tt input) written (Err e) → IsCounted most_lines e
 is_counted cut input written e m = meets_counted (outcome (rules_of check_step most_lines) cut tt input) written e (ends_counted cut 0 (input_lines input)) m

@@ -1,13 +1,12 @@
 -- From the outcome of the driver to that of a run.
-use Rattle.std.proofs.Common.{◌≡◌, ℕ, ◌+◌, ◌≤◌, Bool, true, false, List, [], ◌∷◌, Result, Ok, Err, inl, inr, refl, sym, ap, subst, ◌∙◌, append-nil, arith, nat_lt, if◌then◌else◌, ◌||◌, not, Option, Some, None, ◌&&◌}
-use Rattle.std.proofs.lemmas.Bool.Decides.{nat_tests}
+use Rattle.std.proofs.Common.{◌≡◌, ℕ, ◌+◌, ◌≤◌, Bool, true, false, List, [], ◌∷◌, Result, Ok, Err, inl, inr, refl, sym, ap, subst, ◌∙◌, append-nil, nat_lt, if◌then◌else◌, ◌||◌, not, Option, Some, None, ◌&&◌}
 use Rattle.wb_lines.specs.declared.fault.DriveFault.{DriveFault}
 use Rattle.wb_lines.specs.declared.fault.DriveFault.TheVariants as faults
 use Rattle.wb_lines.specs.Input.{InputLine, input_lines, BeginsWith}
 use Rattle.wb_lines.specs.Handling.{too_long, Step as LineStep, goes as goes_on, stops as stops_at, ends}
 use Rattle.wb_lines.specs.Taking.{is_short, is_passed}
 use Rattle.wb_lines.specs.Items.{finished, unreadable, endless, Items, over, group, Begun, begin, grown, closed, short, long, none as ends_as, by_entry, items_from}
-use Rattle.wb_lines.specs.Driving.{Outcome as LinesOutcome, writes, before as text_before, Meets as LinesMeets, IsStopped as IsStoppedDrive}
+use Rattle.wb_lines.specs.Driving.{Outcome as LinesOutcome, writes, Meets as LinesMeets}
 use Rattle.wb_lines.specs.Groups.{group_rules, Proceeds as StepProceeds, IsOutcomeOf, IsOutcome as IsLinesOutcome}
 use Rattle.wb_lines.specs.Steps.{MeetsOne}
 use Rattle.wb_commands.specs.declared.fault.LineFault.{LineFault}
@@ -21,6 +20,7 @@ use Rattle.wb_script.specs.Inside.Parts.{by_batches}
 use Rattle.wb_script.specs.Inside.Steps.{HostValue, IsAt, may_take}
 use Rattle.wb_script.specs.Inside.Ending.{ended_by, shown}
 use Rattle.wb_script.proofs.Batches.{batches_are_outcomes}
+use Rattle.wb_script.proofs.Counted.{EndsCounted, counted_before, few_after, meets_counted}
 use Rattle.wb_script.proofs.OneWorker.{one_worker_is_one_thread}
 use Rattle.wb_script.proofs.ReorderedScripts.{workers_are_one_thread}
 
@@ -38,9 +38,6 @@ FewBegun (Some g) = g.number ≤ most_lines
 few_closed : (g : Option Begun) (is : Items) → FewBegun g → Few is → Few (closed g is)
 few_closed None is f h = h
 few_closed (Some g) is f h = (f, h)
-
-few_after : (n : ℕ) → nat_lt n most_lines ≡ true → n + 1 ≤ most_lines
-few_after n e = grind (arith, nat_tests)
 
 few_items : (cut : Bool) (n : ℕ) (g : Option Begun) (lines : List InputLine) → FewBegun g → Few (items_from by_batches most_lines cut n g lines)
 few_items cut n g [] f = few_closed g (over (if cut then unreadable else finished n)) f tt
@@ -63,14 +60,6 @@ few_items cut n g (line ∷ lines) f = go (λ next h. few_items cut (n + 1) next
   go on true false c p e = few_closed g (group (n + 1) too_long [] (if p then items_from by_batches most_lines cut (n + 1) None lines else over endless)) f (few_after n e, passed on p)
   go on false b c p e = few_closed g (over endless) f tt
 
-abbrev EndsCounted : LinesOutcome LineFault → Type 0
-EndsCounted (writes text (Ok n)) = Unit {0}
-EndsCounted (writes text (Err e)) = IsCounted most_lines e
-
-counted_before : (text : List ℕ) (o : LinesOutcome LineFault) → EndsCounted o → EndsCounted (text_before text o)
-counted_before text (writes rest (Ok n)) h = h
-counted_before text (writes rest (Err e)) h = h
-
 ends_counted : (is : Items) (s : State) (o : LinesOutcome LineFault) (t : State) → Few is → IsOutcomeOf may_take is s o t → EndsCounted o
 ends_counted (over (finished n)) s o t f h = subst EndsCounted (sym h.0) tt
 ends_counted (over unreadable) s o t f h = subst EndsCounted (sym h.0) tt
@@ -80,18 +69,6 @@ ends_counted (group number met joined rest) s o t f h = go h.0 h.2 (λ u p v q. 
   go (goes_on text next) q on = subst EndsCounted (sym q.2) (counted_before text q.0 (on next q.0 t q.1))
   go (stops_at text e) q on = subst EndsCounted (sym q) f.0
   go (ends text) q on = subst EndsCounted (sym q) tt
-
-stopped_counted : (e : DriveFault LineFault) → IsStoppedDrive (Err e) → IsCounted most_lines e
-stopped_counted (faults.Line number f) h = absurd h
-stopped_counted e h = tt
-
-counted_as : (e : DriveFault LineFault) (text : List ℕ) (end : Result ℕ (DriveFault LineFault)) → Err e ≡ end → EndsCounted (writes text end) → IsCounted most_lines e
-counted_as e text (Ok n) is h = absurd cc
-counted_as e text (Err f) is h = let same : f ≡ e = cc in subst (IsCounted most_lines) same h
-
-meets_counted : (o : LinesOutcome LineFault) (written : List ℕ) (e : DriveFault LineFault) → EndsCounted o → LinesMeets o written (Err e) → IsCounted most_lines e
-meets_counted (writes text end) written e h (inl m) = counted_as e text end m.1 h
-meets_counted (writes text end) written e h (inr m) = stopped_counted e m.0
 
 -- what a run's driver met
 abbrev pub Met_of : HostValue → State → Bool → List ℕ → List ℕ → Result ℕ (DriveFault LineFault) → Type 0

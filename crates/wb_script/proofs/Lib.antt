@@ -3,6 +3,7 @@ pub mod Batches
 pub mod Reading
 pub mod FreeArrivals
 pub mod SomeSteps
+pub mod Counted
 pub mod Steps
 pub mod Ending
 pub mod WholeBatches
@@ -26,5 +27,3 @@ pub mod AlikeActs
 pub mod AlikeBatches
 pub mod AlikeLines
 pub mod AlikeOutcomes
-pub mod LoneArrivals
-pub mod RunTexts

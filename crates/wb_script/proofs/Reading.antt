@@ -110,10 +110,6 @@ ended_on old new arrives = λ start arrived p. record {
   ended = λ over. (arrives.1, arrives.2);
 }
 
--- it was over before
-pub stays_on : (v : BatchReading) → Gives v [] v
-stays_on v = λ start arrived p. subst (λ (l : List DrawopValue). ReadsOn start l v) (sym (append-nil arrived)) p
-
 -- ---- all of a batch
 
 -- the lines that joined it, and what arrived where no more come

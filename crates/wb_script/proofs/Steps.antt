@@ -1,5 +1,5 @@
 -- What a line does, from what its parts do.
-use Rattle.std.proofs.Common.{◌≡◌, ℕ, Bool, true, false, List, [], ◌∷◌, ◌++◌, Result, Ok, Err, refl, sym, ap, subst, ◌∙◌, append_assoc, arith, ◌≤◌, Option, Some, None, IsPermutation, unwrap_or, append-nil, is_some}
+use Rattle.std.proofs.Common.{◌≡◌, ℕ, Bool, true, false, List, [], ◌∷◌, ◌++◌, Result, Ok, Err, refl, sym, ap, subst, ◌∙◌, append_assoc, arith, ◌≤◌, Option, Some, None, IsPermutation, unwrap_or, append-nil}
 use Rattle.std.proofs.lemmas.Bool.{false≢true, true≢false}
 use Rattle.std.proofs.lemmas.List.Sorted.{length_permutation}
 use Rattle.wb_names.specs.Values.{DrawopValue}
@@ -100,16 +100,6 @@ opens old new s order v member cells workers seed ends closed open_now known is 
     },
   )
   go (Some host) o = absurd o
-
--- one is open
-pub opens_again : (old new : HostValue) (s : State) (order : List DrawopValue) (member cells workers seed : ℕ) → EndsEmpty old s order → is_some old.member ≡ true
-    → Does {U = Unit {0}} (IsAt new) [] (Err (stops.Fault faults.SecondBoard)) (as_step (closing_step (after_batch s order) (closing_text s order) (Opens member cells workers seed)))
-opens_again old new s order member cells workers seed ends there = go (after_batch s order).host old.member there ends.leads.member where
-  go : (host : Option Opened) (v : Option MemberValue) → is_some v ≡ true → MayBeOpenAt v host
-      → Does {U = Unit {0}} (IsAt new) [] (Err (stops.Fault faults.SecondBoard)) (as_step (by_host host (goes (record { host = Some (opened member cells seed); workers = Some (unwrap_or s.workers workers); waiting = [] }) (closing_text s order)) (λ host. refused (after_batch s order) (closing_text s order) faults.SecondBoard)))
-  go host None there o = absurd (false≢true there)
-  go None (Some v) there o = absurd o
-  go (Some host) (Some v) there o = (ends.text, refl)
 
 -- of a batch without arrivals
 empty_member : (v : Option MemberValue) (host : Option Opened) → MayBeOpenAt v host → MayBeOpenAt v (by_host host None (λ host. Some (order_taken [] host)))

@@ -6,7 +6,6 @@ pub mod ScriptLaws
 pub mod Shows
 pub mod Reordering
 pub mod Runs
-pub mod RunLaws
 pub mod FreeWorkers
 pub mod Checking
 pub mod Inside

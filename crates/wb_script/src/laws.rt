@@ -8,7 +8,6 @@ ghost use Rattle.wb_script.specs.Reordering.{WorkersAreOneThread, EachReordering
 ghost use Rattle.wb_script.specs.Shows.{ShowsArrivals, ShowsAreFree};
 ghost use Rattle.wb_script.specs.ScriptLaws.{RefusedStays, PrintedStays, SkippedPrintsNothing, CountsAddUp, HeldStays, OneThreadIsOutcome, OneWorkerIsOneThread, OneThreadIsFree};
 ghost use Rattle.wb_script.specs.FreeWorkers.{OrdersAreFree, WorkersAreFree};
-ghost use Rattle.wb_script.specs.RunLaws.{AloneIsOneOrder, RunIsWithoutOks, RefusedIsWithoutOks};
 
 /// What is printed is the view of a page, its missing ranges, its report, and the list of pages.
 pub fn queries_are_answered()
@@ -97,15 +96,4 @@ pub fn workers_are_one_thread()
 pub fn workers_are_free()
     ensures orders { OrdersAreFree }
     ensures workers { WorkersAreFree }
-{}
-
-/// A script in which each arrival is a batch of its own prints, by `run` with any number of
-/// workers, what `host` prints for it, without the lines `ok DUE`. This is so where the run comes
-/// to the end of the script, or to where reading fails. Where a line is refused, which ends the
-/// run, it prints what `host` prints for the lines before it. The timers of the host have the
-/// constants of a script.
-pub fn runs_are_transcripts()
-    ensures order { AloneIsOneOrder }
-    ensures whole { RunIsWithoutOks }
-    ensures refused { RefusedIsWithoutOks }
 {}

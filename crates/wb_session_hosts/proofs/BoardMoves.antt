@@ -145,9 +145,6 @@ module _ (host : Opened) where
   script_tells line (does next text) d c = act_tells line d c
   script_tells line (fails e) d c = absurd (Contains-none (datagrams.Draw d) c)
 
-  drawop_is : (d e : DrawopValue) → datagrams.Draw d ≡ datagrams.Draw e → d ≡ e
-  drawop_is d e same = cc
-
   said_tells : (v : Datagram) (d : DrawopValue) → Contains (sends_said v host) (datagrams.Draw d) → v ≡ datagrams.Draw d
   said_tells (datagrams.Draw x) d c = from (becomes x host) c where
     one : Contains (datagrams.Draw x ∷ []) (datagrams.Draw d) → datagrams.Draw x ≡ datagrams.Draw d

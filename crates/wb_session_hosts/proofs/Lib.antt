@@ -24,6 +24,7 @@ pub mod Orderly
 pub mod Holding
 pub mod OneLine
 pub mod Outset
+pub mod Answered
 pub mod Repairs
 pub mod Sayable
 pub mod Coming
@@ -53,3 +54,5 @@ pub mod OneLines
 pub mod KeptLines
 pub mod KeptBoards
 pub mod BlockEnds
+pub mod LoneArrivals
+pub mod RunTexts

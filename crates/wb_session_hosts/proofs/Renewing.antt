@@ -1,5 +1,5 @@
 -- Lines by which a host gives a name up, asks for it anew, and is answered soon.
-use Rattle.std.proofs.Common.{◌≡◌, ℕ, ◌+◌, ◌^◌, ◌≤◌, Bool, true, false, cond, List, [], ◌∷◌, Option, Some, None, Ok, refl, sym, ap, ◌∙◌, subst, arith, true≢false}
+use Rattle.std.proofs.Common.{◌≡◌, ℕ, ◌+◌, ◌^◌, ◌≤◌, Bool, true, false, cond, List, [], ◌∷◌, Option, Some, None, Ok, refl, sym, ap, ◌∙◌, subst, arith}
 use Rattle.std.specs.Prelude.{Contains, IfSome, nat_eq, is_some, not, ◌||◌}
 use Rattle.std.proofs.lemmas.List.Elements.{All-contains}
 use Rattle.wb_names.specs.Values.{NameValue, DrawopValue, MarkValue}
@@ -13,13 +13,12 @@ use Rattle.wb_recovery.specs.declared.timers.AnswerTimer.{AnswerTimer}
 use Rattle.wb_host.specs.Hearing.{marks_heard}
 use Rattle.wb_host.specs.Keeper.{Hear, Miss, holds}
 use Rattle.wb_host.specs.Ticks.{sent_by_tick}
-use Rattle.wb_host.proofs.KeptCalls.{holds_from}
 use Rattle.wb_progress.specs.Keepers.{AreOrderly}
 use Rattle.wb_progress.specs.Repairs.{timers_at, gave_up, IsIdle, first_wait, answering_wait, quiet_wait}
 use Rattle.wb_progress.proofs.OneCall.{given_up_is_idle}
-use Rattle.wb_progress.proofs.Repairs.{asked_anew_is_soon, holder_answers}
-use Rattle.wb_member.specs.Opened.{may_ask, with_stopped, Opened, due_count, present, ticked, heard}
-use Rattle.wb_member.specs.Random.{word_of, words_of}
+use Rattle.wb_progress.proofs.Repairs.{asked_anew_is_soon}
+use Rattle.wb_member.specs.Opened.{may_ask, with_stopped, Opened, present, ticked}
+use Rattle.wb_member.specs.Random.{word_of}
 use Rattle.wb_session_hosts.proofs.Calling.{calling}
 use Rattle.wb_commands.specs.declared.command.Command.TheVariants as lines
 use Rattle.wb_dialog.specs.Dialog.{answer_at, after}
@@ -28,11 +27,11 @@ use Rattle.wb_dialog.specs.declared.line.DriverLine.TheVariants.{Script, Ask, St
 use Rattle.wb_session_hosts.specs.Hosts.{LineAt, saying, host_at, board_in, sent, HaveDistinctMembers, CameOut, IsHonest}
 use Rattle.wb_session_hosts.proofs.Coming.{line, request_short}
 use Rattle.wb_session_hosts.proofs.Growing.{Grows, grows_more, grows_less, stays_so, rests, GoesOn, none_yet, go_on, go_as, then_there, one_line}
-use Rattle.wb_session_hosts.proofs.Holding.{hosts_answer_held}
+use Rattle.wb_session_hosts.proofs.Answered.{first, other_1, second, other_2, other_3, third, other_4, none_stands, answers}
 use Rattle.wb_session_hosts.proofs.HostRanges.{Fits, host_fits}
 use Rattle.wb_session_hosts.proofs.OneLine.{CameBefore, idle, did_send, still_sent, came, tick_after, tick_sends, hear_after}
 use Rattle.wb_session_hosts.proofs.Orderly.{hosts_are_orderly}
-use Rattle.wb_session_hosts.proofs.Outset.{once, apart, differ}
+use Rattle.wb_session_hosts.proofs.Outset.{apart}
 use Rattle.wb_session_hosts.proofs.Sayable.{tick_text, ask_text, stop_text, datagram_text, tick_says, ask_says, stop_says, datagram_says}
 
 -- no more time than this goes on at any host while one drawop is brought
@@ -107,15 +106,8 @@ module _ (constants : ℕ → Tuning) (drawops ahead : List DrawopValue) (old : 
   steady : AreOrderly host.is.calls × (host.is.constants ≡ constants i)
   steady = hosts_are_orderly constants old i host at_i
 
-  no_answer : (o : Option AnswerTimer) → (is_some o ≡ true → ⊥) → o ≡ None
-  no_answer None f = refl
-  no_answer (Some a) f = absurd (f refl)
-
-  none : (timers_at host.is.number host.is.constants host.is.calls n).answer ≡ None
-  none = no_answer _ (λ stands. true≢false (sym (hosts_answer_held constants old i host n at_i stands) ∙ lost))
-
   idle_1 : IsIdle (timers_at host.is.number host.is.constants (gave_up host.is.number host.is.constants host.is.calls (present host) n) n)
-  idle_1 = given_up_is_idle host.is.number host.is.constants host.is.calls (present host) n none
+  idle_1 = given_up_is_idle host.is.number host.is.constants host.is.calls (present host) n (none_stands constants old i host n at_i lost)
 
   may : may_ask n host_1 ≡ true
   may = ap (λ (b : Bool). not (b || is_standing (timers_at host.is.number host.is.constants (gave_up host.is.number host.is.constants host.is.calls (present host) n) n))) lost
@@ -126,39 +118,9 @@ module _ (constants : ℕ → Tuning) (drawops ahead : List DrawopValue) (old : 
   asked_after = ap (λ (b : Bool). let o : Option Opened = Some (cond b host_2 host_1) in o) may
 
   requests : Contains (sent_by_tick host_2.is.number host_2.is.constants host_2.is.calls host_2.is.held asking) (Request host.is.number n)
-  requests = asked_anew_is_soon host.is.number host.is.constants host.is.calls host.is.held n (word_of host_1.random) (ap are_constants steady.1 ∙ range_i) steady.0 lost none
+  requests = asked_anew_is_soon host.is.number host.is.constants host.is.calls host.is.held n (word_of host_1.random) (ap are_constants steady.1 ∙ range_i) steady.0 lost (none_stands constants old i host n at_i lost)
 
   -- what the host that holds it becomes
-
-  abbrev first : ℕ
-  first = present other + answering_wait
-
-  abbrev other_1 : Opened
-  other_1 = ticked first other
-
-  abbrev second : ℕ
-  second = first + quiet_wait
-
-  abbrev other_2 : Opened
-  other_2 = ticked second other_1
-
-  abbrev other_3 : Opened
-  other_3 = heard (Request host.is.number n) other_2
-
-  abbrev third : ℕ
-  third = second + answering_wait
-
-  abbrev other_4 : Opened
-  other_4 = ticked third other_3
-
-  steady_there : AreOrderly other.is.calls × (other.is.constants ≡ constants j)
-  steady_there = hosts_are_orderly constants old j other at_j
-
-  answers : Contains (sent_by_tick other_3.is.number other_3.is.constants other_3.is.calls other_3.is.held third) (Draw d)
-  answers = subst (λ (b : Bool). Contains (sent_by_tick other.is.number other.is.constants (Hear second (Request host.is.number n) (word_of other_2.random) b ∷ other_2.is.calls) other.is.held third) (Draw d)) (sym (holds_from other.is.held n d held refl))
-      (holder_answers other.is.number other.is.constants other.is.calls other.is.held d host.is.number (words_of other.random (due_count first other)) (words_of other_1.random (due_count second other_1)) (word_of other_2.random)
-      (ap are_constants steady_there.1 ∙ range_j) steady_there.0 (once constants old distinct fair j other at_j) held
-      (differ constants old distinct fair i j host other d at_i at_j held lost))
 
   -- the lines
 
@@ -172,16 +134,16 @@ module _ (constants : ℕ → Tuning) (drawops ahead : List DrawopValue) (old : 
   l3 = line i (tick_text asking) ∷ l2
 
   abbrev l4 : List LineAt
-  l4 = line j (tick_text first) ∷ l3
+  l4 = line j (tick_text (first other)) ∷ l3
 
   abbrev l5 : List LineAt
-  l5 = line j (tick_text second) ∷ l4
+  l5 = line j (tick_text (second other)) ∷ l4
 
   abbrev l6 : List LineAt
   l6 = line j (datagram_text (Request host.is.number n)) ∷ l5
 
   abbrev l7 : List LineAt
-  l7 = line j (tick_text third) ∷ l6
+  l7 = line j (tick_text (third other)) ∷ l6
 
   abbrev Stage : ℕ → List LineAt → Opened → Opened → Type 0
   Stage t new a b = Two constants drawops ahead old i j different t new a b
@@ -207,26 +169,26 @@ module _ (constants : ℕ → Tuning) (drawops ahead : List DrawopValue) (old : 
   itself : (m : ℕ) → m ≤ m
   itself m = omega arith
 
-  stage4 : Stage (first_wait + answering_wait) l4 host_3 other_1
-  stage4 = second_line constants drawops ahead old i j different first_wait answering_wait l3 host_3 other stage3 (line j (tick_text first)) (Script (lines.Tick first)) (tick_says first (omega (arith, time_j))) refl other_1 refl tt (tick_after other first (up (present other) answering_wait))
-      (rests drawops ahead answering_wait other other_1 refl refl (λ page. refl) (itself first))
+  stage4 : Stage (first_wait + answering_wait) l4 host_3 (other_1 other)
+  stage4 = second_line constants drawops ahead old i j different first_wait answering_wait l3 host_3 other stage3 (line j (tick_text (first other))) (Script (lines.Tick (first other))) (tick_says (first other) (omega (arith, time_j))) refl (other_1 other) refl tt (tick_after other (first other) (up (present other) answering_wait))
+      (rests drawops ahead answering_wait other (other_1 other) refl refl (λ page. refl) (itself (first other)))
 
-  stage5 : Stage (first_wait + answering_wait + quiet_wait) l5 host_3 other_2
-  stage5 = second_line constants drawops ahead old i j different (first_wait + answering_wait) quiet_wait l4 host_3 other_1 stage4 (line j (tick_text second)) (Script (lines.Tick second)) (tick_says second (omega (arith, time_j))) refl other_2 refl tt (tick_after other_1 second (up first quiet_wait))
-      (rests drawops ahead quiet_wait other_1 other_2 refl refl (λ page. refl) (itself second))
+  stage5 : Stage (first_wait + answering_wait + quiet_wait) l5 host_3 (other_2 other)
+  stage5 = second_line constants drawops ahead old i j different (first_wait + answering_wait) quiet_wait l4 host_3 (other_1 other) stage4 (line j (tick_text (second other))) (Script (lines.Tick (second other))) (tick_says (second other) (omega (arith, time_j))) refl (other_2 other) refl tt (tick_after (other_1 other) (second other) (up (first other) quiet_wait))
+      (rests drawops ahead quiet_wait (other_1 other) (other_2 other) refl refl (λ page. refl) (itself (second other)))
 
-  stage6 : Stage (first_wait + answering_wait + quiet_wait) l6 host_3 other_3
-  stage6 = second_line constants drawops ahead old i j different (first_wait + answering_wait + quiet_wait) 0 l5 host_3 other_2 stage5 (line j (datagram_text (Request host.is.number n))) (Script (lines.Hear (Request host.is.number n))) (datagram_says (Request host.is.number n) (fits_i.me, drawop.name) (request_short host.is.number n)) refl other_3 refl
-      (came constants l5 (Request host.is.number n) (still_sent constants (line j (tick_text second)) l4 (Request host.is.number n) (still_sent constants (line j (tick_text first)) l3 (Request host.is.number n) sent3)))
-      (hear_after other_2 host.is.number n)
-      (rests drawops ahead 0 other_2 other_3 refl refl (λ page. request_marks (nat_eq host.is.number other_2.is.number) (marks_heard other_2.is.number other_2.is.calls page)) (up second 0))
+  stage6 : Stage (first_wait + answering_wait + quiet_wait) l6 host_3 (other_3 other host.is.number n)
+  stage6 = second_line constants drawops ahead old i j different (first_wait + answering_wait + quiet_wait) 0 l5 host_3 (other_2 other) stage5 (line j (datagram_text (Request host.is.number n))) (Script (lines.Hear (Request host.is.number n))) (datagram_says (Request host.is.number n) (fits_i.me, drawop.name) (request_short host.is.number n)) refl (other_3 other host.is.number n) refl
+      (came constants l5 (Request host.is.number n) (still_sent constants (line j (tick_text (second other))) l4 (Request host.is.number n) (still_sent constants (line j (tick_text (first other))) l3 (Request host.is.number n) sent3)))
+      (hear_after (other_2 other) host.is.number n)
+      (rests drawops ahead 0 (other_2 other) (other_3 other host.is.number n) refl refl (λ page. request_marks (nat_eq host.is.number (other_2 other).is.number) (marks_heard (other_2 other).is.number (other_2 other).is.calls page)) (up (second other) 0))
 
-  stage7 : Stage (first_wait + answering_wait + quiet_wait + answering_wait) l7 host_3 other_4
-  stage7 = second_line constants drawops ahead old i j different (first_wait + answering_wait + quiet_wait) answering_wait l6 host_3 other_3 stage6 (line j (tick_text third)) (Script (lines.Tick third)) (tick_says third (omega (arith, time_j))) refl other_4 refl tt (tick_after other_3 third (up second answering_wait))
-      (rests drawops ahead answering_wait other_3 other_4 refl refl (λ page. refl) (itself third))
+  stage7 : Stage (first_wait + answering_wait + quiet_wait + answering_wait) l7 host_3 (other_4 other host.is.number n)
+  stage7 = second_line constants drawops ahead old i j different (first_wait + answering_wait + quiet_wait) answering_wait l6 host_3 (other_3 other host.is.number n) stage6 (line j (tick_text (third other))) (Script (lines.Tick (third other))) (tick_says (third other) (omega (arith, time_j))) refl (other_4 other host.is.number n) refl tt (tick_after (other_3 other host.is.number n) (third other) (up (second other) answering_wait))
+      (rests drawops ahead answering_wait (other_3 other host.is.number n) (other_4 other host.is.number n) refl refl (λ page. refl) (itself (third other)))
 
   sent7 : Contains (sent constants l7) (Draw d)
-  sent7 = did_send constants l6 (line j (tick_text third)) j (Script (lines.Tick third)) other_3 refl (tick_says third (omega (arith, time_j))) stage6.two (Draw d) (tick_sends other_3 third (up second answering_wait) (Draw d) answers)
+  sent7 = did_send constants l6 (line j (tick_text (third other))) j (Script (lines.Tick (third other))) (other_3 other host.is.number n) refl (tick_says (third other) (omega (arith, time_j))) stage6.two (Draw d) (tick_sends (other_3 other host.is.number n) (third other) (up (second other) answering_wait) (Draw d) (answers constants old distinct fair i j host other d at_i at_j held lost range_j))
 
   pub asked_anew : (new : List LineAt) × GoesOn constants (Grows serving drawops ahead) old new × Contains (sent constants new) (Draw d)
   asked_anew = (

@@ -1,30 +1,27 @@
 -- The lines of a repair, one after another.
-use Rattle.std.proofs.Common.{◌≡◌, ℕ, ◌+◌, ◌<◌, ◌≤◌, Bool, true, false, List, [], ◌∷◌, length, Option, Some, None, Ok, refl, sym, ap, ◌∙◌, subst, arith, true≢false}
-use Rattle.std.specs.Prelude.{Contains, is_some}
+use Rattle.std.proofs.Common.{◌≡◌, ℕ, ◌+◌, ◌<◌, ◌≤◌, true, false, List, [], ◌∷◌, length, Some, Ok, refl, sym, ap, ◌∙◌, subst, arith}
+use Rattle.std.specs.Prelude.{Contains}
 use Rattle.wb_names.specs.Values.{NameValue, DrawopValue}
 use Rattle.wb_codec.specs.declared.datagram.Datagram.TheVariants.{Draw, Request}
 use Rattle.wb_recovery.specs.Timing.{are_constants}
 use Rattle.wb_recovery.specs.declared.tuning.Tuning.{Tuning}
-use Rattle.wb_recovery.specs.declared.timers.AnswerTimer.{AnswerTimer}
 use Rattle.wb_host.specs.Keeper.{Hear, holds}
 use Rattle.wb_host.specs.Ticks.{sent_by_tick}
-use Rattle.wb_host.proofs.KeptCalls.{holds_from}
 use Rattle.wb_progress.specs.Keepers.{AreOrderly}
-use Rattle.wb_progress.specs.Repairs.{timers_at, asking_wait, answering_wait, quiet_wait}
-use Rattle.wb_progress.proofs.Repairs.{asker_asks, holder_answers}
+use Rattle.wb_progress.specs.Repairs.{asking_wait, answering_wait, quiet_wait}
+use Rattle.wb_progress.proofs.Repairs.{asker_asks}
 use Rattle.wb_member.specs.Board.{Held}
-use Rattle.wb_member.specs.Opened.{accepted, with_asked, Opened, due_count, present, ticked, heard}
-use Rattle.wb_member.specs.Random.{word_of, words_of}
+use Rattle.wb_member.specs.Opened.{accepted, with_asked, Opened, present, ticked}
 use Rattle.wb_commands.specs.declared.command.Command.TheVariants as lines
 use Rattle.wb_dialog.specs.Dialog.{answer_at, after}
 use Rattle.wb_dialog.specs.declared.line.DriverLine.{DriverLine}
 use Rattle.wb_dialog.specs.declared.line.DriverLine.TheVariants.{Script, Ask}
 use Rattle.wb_session_hosts.specs.Hosts.{LineAt, saying, host_at, sent, HaveDistinctMembers, CameOut, IsHonest, NothingIsForged}
 use Rattle.wb_session_hosts.specs.Repairs.{Say, repair, IsLost, IsBrought, RepairIsPossible}
-use Rattle.wb_session_hosts.proofs.Holding.{hosts_answer_held}
+use Rattle.wb_session_hosts.proofs.Answered.{first, other_1, second, other_2, other_3, third, other_4, none_stands, answers}
 use Rattle.wb_session_hosts.proofs.OneLine.{CameBefore, did, idle, did_send, is_fair, is_unforged, still_sent, came, tick_after, tick_sends, Asked, asked, taken, hear_after}
 use Rattle.wb_session_hosts.proofs.Orderly.{hosts_are_orderly}
-use Rattle.wb_session_hosts.proofs.Outset.{once, apart, differ}
+use Rattle.wb_session_hosts.proofs.Outset.{apart}
 
 -- ---- two hosts, and the lines so far
 
@@ -72,27 +69,6 @@ module _ (constants : ℕ → Tuning) (older : List LineAt) (i j : ℕ) (host ot
   abbrev host_2 : Opened
   host_2 = ticked asking host_1
 
-  abbrev first : ℕ
-  first = present other + answering_wait
-
-  abbrev other_1 : Opened
-  other_1 = ticked first other
-
-  abbrev second : ℕ
-  second = first + quiet_wait
-
-  abbrev other_2 : Opened
-  other_2 = ticked second other_1
-
-  abbrev other_3 : Opened
-  other_3 = heard (Request host.is.number n) other_2
-
-  abbrev third : ℕ
-  third = second + answering_wait
-
-  abbrev other_4 : Opened
-  other_4 = ticked third other_3
-
   start : Stage constants older older i j host other
   start = record { honest = fair; unforged = λ none. none; one = lost.lacking; two = lost.holding }
 
@@ -101,16 +77,8 @@ module _ (constants : ℕ → Tuning) (older : List LineAt) (i j : ℕ) (host ot
   steady : AreOrderly host.is.calls × (host.is.constants ≡ constants i)
   steady = hosts_are_orderly constants older i host lost.lacking
 
-  -- an answer timer stands only for what is held
-  no_answer : (o : Option AnswerTimer) → (is_some o ≡ true → ⊥) → o ≡ None
-  no_answer None f = refl
-  no_answer (Some a) f = absurd (f refl)
-
-  none : (timers_at host.is.number host.is.constants host.is.calls n).answer ≡ None
-  none = no_answer _ (λ stands. true≢false (sym (hosts_answer_held constants older i host n lost.lacking stands) ∙ lost.lost))
-
   asks : Asked n host host_1
-  asks = asked n host lost.lost none
+  asks = asked n host lost.lost (none_stands constants older i host n lost.lacking lost.lost)
 
   constants_1 : are_constants host_1.is.constants ≡ true
   constants_1 = ap are_constants (asks.constants ∙ steady.1) ∙ lost.constants_i
@@ -130,15 +98,6 @@ module _ (constants : ℕ → Tuning) (older : List LineAt) (i j : ℕ) (host ot
   later = let m = moment_1 in omega (arith, m)
 
   -- what the host that holds it becomes
-
-  steady_there : AreOrderly other.is.calls × (other.is.constants ≡ constants j)
-  steady_there = hosts_are_orderly constants older j other lost.holding
-
-  answers : Contains (sent_by_tick other_3.is.number other_3.is.constants other_3.is.calls other_3.is.held third) (Draw d)
-  answers = subst (λ (b : Bool). Contains (sent_by_tick other.is.number other.is.constants (Hear second (Request host.is.number n) (word_of other_2.random) b ∷ other_2.is.calls) other.is.held third) (Draw d)) (sym (holds_from other.is.held n d lost.held refl))
-      (holder_answers other.is.number other.is.constants other.is.calls other.is.held d host.is.number (words_of other.random (due_count first other)) (words_of other_1.random (due_count second other_1)) (word_of other_2.random)
-      (ap are_constants steady_there.1 ∙ lost.constants_j) steady_there.0 (once constants older distinct fair j other lost.holding) lost.held
-      (differ constants older distinct fair i j host other d lost.lacking lost.holding lost.held lost.lost))
 
   module _ (e1 e2 e3 e4 e5 e6 e7 : LineAt) (said : Say (e7 ∷ e6 ∷ e5 ∷ e4 ∷ e3 ∷ e2 ∷ e1 ∷ []) (repair i j host other d)) where
     abbrev l1 : List LineAt
@@ -165,16 +124,16 @@ module _ (constants : ℕ → Tuning) (older : List LineAt) (i j : ℕ) (host ot
     says7 : (e7.place ≡ i) × (saying e7 ≡ Ok (Script (lines.Arrive d)))
     says7 = (said.0, said.1)
 
-    says6 : (e6.place ≡ j) × (saying e6 ≡ Ok (Script (lines.Tick third)))
+    says6 : (e6.place ≡ j) × (saying e6 ≡ Ok (Script (lines.Tick (third other))))
     says6 = (said.2.0, said.2.1)
 
     says5 : (e5.place ≡ j) × (saying e5 ≡ Ok (Script (lines.Hear (Request host.is.number n))))
     says5 = (said.2.2.0, said.2.2.1)
 
-    says4 : (e4.place ≡ j) × (saying e4 ≡ Ok (Script (lines.Tick second)))
+    says4 : (e4.place ≡ j) × (saying e4 ≡ Ok (Script (lines.Tick (second other))))
     says4 = (said.2.2.2.0, said.2.2.2.1)
 
-    says3 : (e3.place ≡ j) × (saying e3 ≡ Ok (Script (lines.Tick first)))
+    says3 : (e3.place ≡ j) × (saying e3 ≡ Ok (Script (lines.Tick (first other))))
     says3 = (said.2.2.2.2.0, said.2.2.2.2.1)
 
     says2 : (e2.place ≡ i) × (saying e2 ≡ Ok (Script (lines.Tick asking)))
@@ -193,25 +152,25 @@ module _ (constants : ℕ → Tuning) (older : List LineAt) (i j : ℕ) (host ot
     sent2 = did_send constants l1 e2 i (Script (lines.Tick asking)) host_1 says2.0 says2.1 stage1.one (Request host.is.number n)
         (tick_sends host_1 asking later (Request host.is.number n) (requests (hosts_are_orderly constants l1 i host_1 stage1.one).0))
 
-    stage3 : Stage constants older l3 i j host_2 other_1
-    stage3 = second_next constants older i j different l2 host_2 other stage2 e3 (Script (lines.Tick first)) says3.1 says3.0 tt other_1 (tick_after other first (up (present other) answering_wait))
+    stage3 : Stage constants older l3 i j host_2 (other_1 other)
+    stage3 = second_next constants older i j different l2 host_2 other stage2 e3 (Script (lines.Tick (first other))) says3.1 says3.0 tt (other_1 other) (tick_after other (first other) (up (present other) answering_wait))
 
-    stage4 : Stage constants older l4 i j host_2 other_2
-    stage4 = second_next constants older i j different l3 host_2 other_1 stage3 e4 (Script (lines.Tick second)) says4.1 says4.0 tt other_2 (tick_after other_1 second (up first quiet_wait))
+    stage4 : Stage constants older l4 i j host_2 (other_2 other)
+    stage4 = second_next constants older i j different l3 host_2 (other_1 other) stage3 e4 (Script (lines.Tick (second other))) says4.1 says4.0 tt (other_2 other) (tick_after (other_1 other) (second other) (up (first other) quiet_wait))
 
-    stage5 : Stage constants older l5 i j host_2 other_3
-    stage5 = second_next constants older i j different l4 host_2 other_2 stage4 e5 (Script (lines.Hear (Request host.is.number n))) says5.1 says5.0
+    stage5 : Stage constants older l5 i j host_2 (other_3 other host.is.number n)
+    stage5 = second_next constants older i j different l4 host_2 (other_2 other) stage4 e5 (Script (lines.Hear (Request host.is.number n))) says5.1 says5.0
         (came constants l4 (Request host.is.number n) (still_sent constants e4 l3 (Request host.is.number n) (still_sent constants e3 l2 (Request host.is.number n) sent2)))
-        other_3 (hear_after other_2 host.is.number n)
+        (other_3 other host.is.number n) (hear_after (other_2 other) host.is.number n)
 
-    stage6 : Stage constants older l6 i j host_2 other_4
-    stage6 = second_next constants older i j different l5 host_2 other_3 stage5 e6 (Script (lines.Tick third)) says6.1 says6.0 tt other_4 (tick_after other_3 third (up second answering_wait))
+    stage6 : Stage constants older l6 i j host_2 (other_4 other host.is.number n)
+    stage6 = second_next constants older i j different l5 host_2 (other_3 other host.is.number n) stage5 e6 (Script (lines.Tick (third other))) says6.1 says6.0 tt (other_4 other host.is.number n) (tick_after (other_3 other host.is.number n) (third other) (up (second other) answering_wait))
 
     sent6 : Contains (sent constants l6) (Draw d)
-    sent6 = did_send constants l5 e6 j (Script (lines.Tick third)) other_3 says6.0 says6.1 stage5.two (Draw d) (tick_sends other_3 third (up second answering_wait) (Draw d) answers)
+    sent6 = did_send constants l5 e6 j (Script (lines.Tick (third other))) (other_3 other host.is.number n) says6.0 says6.1 stage5.two (Draw d) (tick_sends (other_3 other host.is.number n) (third other) (up (second other) answering_wait) (Draw d) (answers constants older distinct fair i j host other d lost.lacking lost.holding lost.held lost.lost lost.constants_j))
 
-    stage7 : Stage constants older l7 i j (accepted d host_2) other_4
-    stage7 = first_next constants older i j different l6 host_2 other_4 stage6 e7 (Script (lines.Arrive d)) says7.1 says7.0 (came constants l6 (Draw d) sent6) (accepted d host_2) refl
+    stage7 : Stage constants older l7 i j (accepted d host_2) (other_4 other host.is.number n)
+    stage7 = first_next constants older i j different l6 host_2 (other_4 other host.is.number n) stage6 e7 (Script (lines.Arrive d)) says7.1 says7.0 (came constants l6 (Draw d) sent6) (accepted d host_2) refl
 
     brought : IsBrought constants (e7 ∷ e6 ∷ e5 ∷ e4 ∷ e3 ∷ e2 ∷ e1 ∷ []) older i d
     brought = record {

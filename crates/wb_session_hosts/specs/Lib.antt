@@ -9,3 +9,4 @@ pub mod Agreement
 pub mod Timed
 pub mod InTime
 pub mod Closings
+pub mod RunLaws

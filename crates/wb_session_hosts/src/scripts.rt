@@ -1,6 +1,7 @@
 //! Laws of hosts of scripts as members of a session. Each function does nothing: its contract is a
 //! law, for proofs to cite.
 
+ghost use Rattle.wb_session_hosts.specs.RunLaws.{AloneIsOneOrder, RunIsWithoutOks, RefusedIsWithoutOks};
 ghost use Rattle.wb_session_hosts.specs.Scripts.{AskingIsAnAct, BatchesAreActs, GivingUpIsAnAct, LinesAreActs, OpenedIsNewcomer, ShowsAgree};
 
 /// A host is a member of a session: just opened, one that did nothing; after a batch, one that took
@@ -23,4 +24,14 @@ pub fn drivers_act_as_members()
 /// each `show` of it, character for character.
 pub fn shows_agree()
     ensures { ShowsAgree }
+{}
+
+/// A script in which each arrival is a batch of its own prints, by `run` with any number of workers, what `host`
+/// prints for it, without the lines `ok DUE`. This is so where the run comes to the end of the script, or to
+/// where reading fails. Where a line is refused, which ends the run, it prints what `host` prints for the lines
+/// before it. The timers of the host have the constants of a script.
+pub fn runs_are_transcripts()
+    ensures order { AloneIsOneOrder }
+    ensures whole { RunIsWithoutOks }
+    ensures refused { RefusedIsWithoutOks }
 {}

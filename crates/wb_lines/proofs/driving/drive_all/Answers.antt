@@ -1,4 +1,4 @@
-use Rattle.std.proofs.Common.{◌≡◌, true, false, Ok, Err, refl, sym, ap, ◌∙◌, []}
+use Rattle.std.proofs.Common.{true, Ok, Err, refl}
 use Rattle.std.proofs.lemmas.Result.{err_from_is_err_and}
 use Rattle.wb_lines.proofs.Outcomes.{at_first, chained, ends_all}
 use Rattle.wb_lines.proofs.driving.drive_all.Goals as goal

@@ -1,4 +1,4 @@
-use Rattle.std.proofs.Common.{rules, ◌≡◌, true, false, Ok, Err, refl, sym, ap, ◌∙◌, []}
+use Rattle.std.proofs.Common.{rules, ◌≡◌, refl, []}
 use Rattle.wb_lines.specs.declared.lines.Seen.TheVariants as seens
 use Rattle.wb_lines.specs.Moments.{moment}
 use Rattle.wb_lines.proofs.Outcomes.{after_look, after_line, ended}

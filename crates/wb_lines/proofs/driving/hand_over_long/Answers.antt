@@ -1,4 +1,4 @@
-use Rattle.std.proofs.Common.{◌≡◌, ℕ, ◌+◌, true, false, Ok, Err, refl, sym, ap, ◌∙◌, []}
+use Rattle.std.proofs.Common.{◌≡◌, ℕ, ◌+◌, true, Ok, Err, refl, sym, ap, ◌∙◌, []}
 use Rattle.wb_lines.specs.Handling.{too_long}
 use Rattle.wb_lines.specs.Moments.{LinesValue, is_broken}
 use Rattle.wb_lines.specs.Steps.{fault_of}

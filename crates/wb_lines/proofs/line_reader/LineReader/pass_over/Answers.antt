@@ -1,4 +1,4 @@
-use Rattle.std.proofs.Common.{ℕ, [], ◌∷◌, ◌++◌, refl, sym, ap, ◌∙◌, append_assoc, arith, append-nil, length-append}
+use Rattle.std.proofs.Common.{ℕ, [], ◌∷◌, ◌++◌, refl, ap, ◌∙◌, arith, append-nil, length-append}
 use Rattle.wb_lines.proofs.KnownBytes.{Sends-none, Sends-then}
 use Rattle.wb_lines.proofs.LineBytes.{Pulls-none, Pulls-on, Pulls-then, pulled-then, NoLineFeed-push, NoLineFeed-append, passes_on}
 use Rattle.wb_lines.proofs.line_reader.LineReader.pass_over.Goals as goal

@@ -1,5 +1,4 @@
-use Rattle.std.proofs.Common.{◌≡◌, ap, sym, ◌∙◌, refl, inl, [], ◌∷◌, append_assoc, append-nil}
-use Rattle.wb_lines.specs.Moments.{LinesValue}
+use Rattle.std.proofs.Common.{sym, ◌∙◌, refl, inl, [], ◌∷◌, append_assoc, append-nil}
 use Rattle.wb_lines.proofs.Looking.{found_line, found_long, found_end, found_failure}
 use Rattle.wb_lines.proofs.lines.Lines.find_line.Goals as goal
 

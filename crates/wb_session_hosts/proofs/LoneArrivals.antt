@@ -13,7 +13,7 @@ use Rattle.wb_commands.specs.Acts.{Act, does, fails, act}
 use Rattle.wb_script.specs.Reordering.{part_unless, part_at, batches_with, batches_of}
 use Rattle.wb_script.specs.Script.{State, start, closing_text, after_batch, Closing, Opens, Acts, Faulty, Part, Arrival, Nothing, End, part_in, Step, goes, refused, step_by, closing_step, part_step, finish}
 use Rattle.wb_script.proofs.Simulations.{EndsAlike, StepsAlike, Simulates, simulated}
-use Rattle.wb_script.specs.RunLaws.{AloneIsOneOrder}
+use Rattle.wb_session_hosts.specs.RunLaws.{AloneIsOneOrder}
 
 -- ---- one arrival has one order
 

@@ -21,10 +21,10 @@ use Rattle.wb_script.specs.Reordering.{part_unless, batches_with, batches_of}
 use Rattle.wb_script.specs.Script.{State as Board, start, closing_text, after_batch, Part, Arrival, part_of, Step, goes, refused, step_by, part_step, said_step, Outcome, prints, before, finish, proceed, continue, most_lines, outcome_from, IsOutcome}
 use Rattle.wb_dialog.specs.declared.line.DriverLine.TheVariants.{Script}
 use Rattle.wb_dialog.specs.Dialog.{State, Answer, gives, answered, batch_of, arrives, answer_to, answer_of, block, state_after, blocks_from, answered_lines, answer, due}
-use Rattle.wb_script.specs.RunLaws.{ArriveAlone, IsWithoutOks, blocks_of, IsRunOut, RunIsWithoutOks, RefusedIsWithoutOks}
+use Rattle.wb_session_hosts.specs.RunLaws.{ArriveAlone, IsWithoutOks, blocks_of, IsRunOut, RunIsWithoutOks, RefusedIsWithoutOks}
 use Rattle.wb_dialog.proofs.DrivenHosts.{AreGiven, blocks_given}
 use Rattle.wb_script.proofs.Telling.{taken_alone}
-use Rattle.wb_script.proofs.LoneArrivals.{Waits, step_waits, Batches, HasOne, has_batch, Fits, fits_all, fits_after, none_before, alone_is_one_order}
+use Rattle.wb_session_hosts.proofs.LoneArrivals.{Waits, step_waits, Batches, HasOne, has_batch, Fits, fits_all, fits_after, none_before, alone_is_one_order}
 use Rattle.wb_dialog.proofs.ScriptLines.{script_lines_are_read}
 
 -- what the end of the present batch prints
