@@ -200,9 +200,9 @@ module _ (hosts : ℕ → Opening) (terms : Terms) (trace : List TimedLine) (siz
 
   -- ---- calls come one after the other soon enough
 
-  gap : (newer older : List TimedLine) (e : TimedLine) (i : ℕ) → trace ≡ newer ++ e ∷ older → Contains terms.live i → e.time ≤ called_at older + report_span terms
-  gap newer older e i split live =
-      let soon = all.session.soon newer older e i split live in
+  gap : (newer older : List TimedLine) (e : TimedLine) (i : ℕ) → trace ≡ newer ++ e ∷ older → Contains terms.live i → terms.quiet < e.time → e.time ≤ called_at older + report_span terms
+  gap newer older e i split live after =
+      let soon = all.session.soon newer older e i split live after in
       let due_by = due_soon hosts terms trace (newer ++ e ∷ []) older i all.session (split ∙ sym (append_assoc newer (e ∷ []) older)) live in
       let least = due_by_report (there hosts older i) in
       omega (arith, soon, due_by, least)
@@ -215,12 +215,12 @@ module _ (hosts : ℕ → Opening) (terms : Terms) (trace : List TimedLine) (siz
     from : s < called_at base
     soon : called_at base ≤ s + report_span terms
 
-  reached : (newer later : List TimedLine) (s i : ℕ) → trace ≡ newer ++ later → Contains terms.live i → s < called_at later → IsReached later s
-  reached newer [] s i split live lt = absurd (omega (arith, lt))
-  reached newer (e ∷ older) s i split live lt = ⊎_elim
-      (λ no. let g = gap newer older e i split live in let le = no.1 in record { window = []; base = e ∷ older; split = refl; from = lt; soon = omega (arith, g, le) })
+  reached : (newer later : List TimedLine) (s i : ℕ) → trace ≡ newer ++ later → Contains terms.live i → terms.quiet ≤ s → s < called_at later → IsReached later s
+  reached newer [] s i split live after lt = absurd (omega (arith, lt))
+  reached newer (e ∷ older) s i split live after lt = ⊎_elim
+      (λ no. let g = gap newer older e i split live (omega (arith, after, lt)) in let le = no.1 in record { window = []; base = e ∷ older; split = refl; from = lt; soon = omega (arith, g, le) })
       (λ yes.
-      let r = reached (newer ++ e ∷ []) older s i (split ∙ sym (append_assoc newer (e ∷ []) older)) live yes.1 in
+      let r = reached (newer ++ e ∷ []) older s i (split ∙ sym (append_assoc newer (e ∷ []) older)) live after yes.1 in
       record { window = e ∷ r.window; base = r.base; split = ap (λ (t : List TimedLine). e ∷ t) r.split; from = r.from; soon = r.soon })
       (leb_tells (called_at older) s)
 
@@ -323,7 +323,7 @@ module _ (hosts : ℕ → Opening) (terms : Terms) (trace : List TimedLine) (siz
     then = λ x c. ⊎_elim (λ (same : record { place = i; name = n } ≡ x). inl (sym same)) (λ (none : Contains [] x). absurd (Contains-none x none)) (Contains-cases (record { place = i; name = n }) x [] c);
   }
   filled (suc k) newer part i n split late live held lacks =
-      let r = reached newer part (at_step k) i split live (omega (arith, late)) in
+      let r = reached newer part (at_step k) i split live (omega arith) (omega (arith, late)) in
       by_window r.window r.base r.split r.from r.soon (filled k (newer ++ r.window) r.base) where
         by_window : (window base : List TimedLine) → part ≡ window ++ base → at_step k < called_at base → called_at base ≤ at_step k + report_span terms
             → ((j : ℕ) (m : NameValue) → trace ≡ (newer ++ window) ++ base → at_step k < called_at base → Contains terms.live j → IsHeldBySome hosts terms trace m → holds (there hosts base j).host m ≡ false → AreFilled base j m k) → AreFilled part i n (suc k)

@@ -15,7 +15,7 @@ use Rattle.wb_keeping.specs.Kept.{Line, Arrives, Hears, Says, Ticks, Tunes}
 use Rattle.wb_keeping.specs.Laws.{KeptLine, doing_of}
 use Rattle.wb_keeping.specs.Performing.{Keeping, after_line, after_lines, sees, sent_by_line}
 use Rattle.wb_kept_progress.specs.Sessions.{Opening}
-use Rattle.wb_kept_progress.specs.Timed.{AreNotOverdue, ComesTo, IsQuietLine, IsTold, Performed, Start, TellTimes, TimedLine, WasSent, host_after, performed, performed_then, sends, start_of, time_of, timers_after}
+use Rattle.wb_kept_progress.specs.Timed.{AreNotOverdue, ComesTo, IsQuietLine, IsTold, Performed, Start, TellTimes, TimedLine, WasSent, host_after, performed, performed_then, lines_of as lines_of_calls, sends, start_of, time_of, timers_after}
 use Rattle.wb_kept_progress.specs.Whole.{IsHandedIn, IsTimelySession, WasSentBy, sends_then, there}
 use Rattle.wb_kept_progress.proofs.CallLines.{Ends, call_ends, ends_both, host_amid, host_apart, host_before, line_stands, lines_have_calls, sent_in}
 use Rattle.wb_kept_progress.proofs.CallParts.{host_is, lines_order}
@@ -24,6 +24,8 @@ use Rattle.wb_kept_progress.proofs.KeptInTime.{at_place, front_of, sent_by_one, 
 use Rattle.wb_kept_progress.proofs.Lines.{is_false, lines_of}
 use Rattle.wb_kept_progress.proofs.Performed.{kept_keeps_moments}
 use Rattle.wb_kept_progress.proofs.PerLine.{asks}
+use Rattle.wb_kept_progress.proofs.Repairs.{moved}
+use Rattle.wb_kept_progress.proofs.StopCauses.{room_before}
 use Rattle.wb_kept_progress.proofs.Timely.{none_held, of_start}
 use Rattle.wb_kept_progress.proofs.TimersAhead.{AreAhead, ahead_amid, ahead_in_time, due_in_time}
 use Rattle.wb_kept_progress.proofs.Tunings.{constants_of, line_tuned}
@@ -81,7 +83,8 @@ module _ (hosts : ℕ → Opening) (terms : Terms) (trace : List TimedLine) (s :
     room d late is =
         let a = of_line (Arrives d) is in
         let live = s.alone c.newer c.older c.e c.split (late_call terms.quiet late) in
-        let free = s.room (c.newer ++ c.e ∷ []) c.older c.e.at.place (one_more c.newer c.older c.e c.split) live in
+        let behind = s.room c.newer (c.e ∷ c.older) c.e.at.place c.split live (late_call terms.quiet late) in
+        let free = room_before (does hosts c.e c.older) k.host (there hosts (c.e ∷ c.older) c.e.at.place).host (ap (λ (m : Keeping). m.host) (moved hosts (lines_of_calls c.older) c.e.at.place c.e.at.line)) behind in
         let cells : before.is.cells ≡ k.host.is.cells = ap (λ (h : Opened). h.is.cells) (host_before hosts s.opened trace x back c) ∙ (lines_of c.before k.host).cells in
         inr (ap (λ (n : ℕ). nat_le n (length before.is.held)) cells ∙ ap (λ (held : List DrawopValue). nat_le k.host.is.cells (length held)) a.1 ∙ free)
 
@@ -171,8 +174,8 @@ module _ (hosts : ℕ → Opening) (terms : Terms) (trace : List TimedLine) (s :
 
     -- ---- what is due
 
-    soon : (i : ℕ) (m : NameValue) → Contains terms.live i → AreNotOverdue (timers_after starts back i m) (x.time + terms.offset i) terms.late
-    soon i m live = subst (λ (t : List Performed). AreNotOverdue (timers_after starts t i m) (x.time + terms.offset i) terms.late) (sym c.back_is)
+    soon : (i : ℕ) (m : NameValue) → Contains terms.live i → terms.quiet < x.time → AreNotOverdue (timers_after starts back i m) (x.time + terms.offset i) terms.late
+    soon i m live late = subst (λ (t : List Performed). AreNotOverdue (timers_after starts t i m) (x.time + terms.offset i) terms.late) (sym c.back_is)
         (subst (λ (t : ℕ). AreNotOverdue (timers_after starts base i m) (t + terms.offset i) terms.late) (sym c.time) (by (nat_eq c.e.at.place i) refl)) where
           base : List Performed
           base = performed_then c.e.time c.e.at.place c.before (performed hosts c.older)
@@ -180,11 +183,11 @@ module _ (hosts : ℕ → Opening) (terms : Terms) (trace : List TimedLine) (s :
           -- as it was before the call
           at_first : (host : Opened) → host ≡ (there hosts c.older i).host → AreNotOverdue (timers_of host.is.constants (events host) m) (c.e.time + terms.offset i) terms.late
           at_first host same = subst (λ (h : Opened). AreNotOverdue (timers_of h.is.constants (events h) m) (c.e.time + terms.offset i) terms.late) (sym same)
-              (due_in_time (there hosts c.older i) m (c.e.time + terms.offset i) terms.late (s.soon c.newer c.older c.e i c.split live))
+              (due_in_time (there hosts c.older i) m (c.e.time + terms.offset i) terms.late (s.soon c.newer c.older c.e i c.split live (late_call terms.quiet late)))
 
           amid : Contains terms.live c.e.at.place → (lines : List Line) → does hosts c.e c.older ≡ lines ++ x.line ∷ c.later
               → (let host = after_lines lines k.host in AreNotOverdue (timers_of host.is.constants (events host) m) (c.e.time + terms.offset c.e.at.place) terms.late)
-          amid here [] split = due_in_time k m (c.e.time + terms.offset c.e.at.place) terms.late (s.soon c.newer c.older c.e c.e.at.place c.split here)
+          amid here [] split = due_in_time k m (c.e.time + terms.offset c.e.at.place) terms.late (s.soon c.newer c.older c.e c.e.at.place c.split here (late_call terms.quiet late))
           amid here (first ∷ lines) split =
               let h = ahead_amid c.e.at.line k (c.e.time + terms.offset c.e.at.place) first lines c.later x.line (tells_at terms c.newer c.older c.e (subst (TellTimes terms) c.split s.times)) split in
               let host = after_lines (first ∷ lines) k.host in
@@ -222,7 +225,7 @@ performed_is_timely hosts terms trace s = record {
   reported = s.reported;
   times = (kept_keeps_moments hosts terms trace s.times).times;
   behind = (kept_keeps_moments hosts terms trace s.times).behind;
-  soon = λ newer older e i m split live. soon hosts terms trace s e older (of newer older e split) i m live;
+  soon = λ newer older e i m split live late. soon hosts terms trace s e older (of newer older e split) i m live late;
   delays = s.delays;
   alone = λ newer older e split late. alone hosts terms trace s e older (of newer older e split) late;
   quiet = λ newer older e split late. quiet hosts terms trace s e older (of newer older e split) late;

@@ -29,7 +29,7 @@ use Rattle.wb_kept_progress.specs.Whole.{AreCalledInOrder, AreWithin, IsHandedIn
 use Rattle.wb_kept_progress.proofs.CallParts.{calls_end, lacked_until}
 use Rattle.wb_kept_progress.proofs.Coming.{below_top, missing_below, page_there, top_held, top_told}
 use Rattle.wb_kept_progress.proofs.Lines.{is_false}
-use Rattle.wb_kept_progress.proofs.NextReports.{IsBehind, IsCut, Reports, before_is, first, held_there, is_behind, ordered, report_behind, room_there, split_there, start, still_older, still_there, tells_there, told_there, turns_there, window_there}
+use Rattle.wb_kept_progress.proofs.NextReports.{IsBehind, IsCut, Reports, before_is, first, held_there, is_behind, ordered, quiet_before, quiet_behind, report_behind, room_there, split_there, start, still_older, still_there, tells_there, told_there, turns_there, window_there}
 use Rattle.wb_kept_progress.proofs.Repairs.{is_itself, of_opening}
 use Rattle.wb_kept_progress.proofs.StillCalls.{came_now}
 use Rattle.wb_kept_progress.proofs.Told.{told_wants}
@@ -143,6 +143,9 @@ module _ (was_held : HeldWasHeld) (hosts : ℕ → Opening) (terms : Terms) (tra
       still.split ∙ ap (λ (t : List TimedLine). newest ++ (t ++ base)) c.split
       ∙ ap (λ (t : List TimedLine). newest ++ t) (append_assoc c.front c.grown base) ∙ sym (append_assoc newest c.front (c.grown ++ base))
 
+  cut_quiet : (c : IsCut window base from) → terms.quiet < called_at (c.grown ++ base)
+  cut_quiet c = quiet_behind hosts terms trace s (newest ++ c.front) c.grown base (cut_split c) quiet
+
   module _ (before_end : by < called_at (window ++ base)) (i : ℕ) (live : Contains terms.live i) where
     -- so many reports come before the end
     in_time : (count : ℕ) → suc count ≤ turns_most → from + suc count * span < called_at (window ++ base)
@@ -162,9 +165,9 @@ module _ (was_held : HeldWasHeld) (hosts : ℕ → Opening) (terms : Terms) (tra
         let hole = hole_on n.page h.gap in
         let first_number = h.first in
         let last_number = h.last in
-        let numbers = small.numbers (newest ++ window) base i hole split_base live h.there in
-        let holes = small.holes (newest ++ window) base i split_base live in
-        let rounds = small.rounds (newest ++ st.front) (st.grown ++ base) i (cut_split st) live in
+        let numbers = small.numbers (newest ++ window) base i hole split_base live quiet h.there in
+        let holes = small.holes (newest ++ window) base i split_base live quiet in
+        let rounds = small.rounds (newest ++ st.front) (st.grown ++ base) i (cut_split st) live (cut_quiet st) in
         let few = few_rounds p.turns.round (h.gap.last + 1 - h.gap.first) sizes.numbers numbers rounds in
         let turn = each_number_has_its_turn (held_by i) p.turns hole n.seq h.there first_number last_number few in
         let count = turn.0 in
@@ -195,7 +198,7 @@ module _ (was_held : HeldWasHeld) (hosts : ℕ → Opening) (terms : Terms) (tra
                     let k = there hosts older i in
                     let k_held = held_report i live count b r in
                     let wants = r.reporting.wants n (ap (λ (h : List DrawopValue). holds h n) k_held ∙ lacks)
-                    (room_there hosts terms trace s (newest ++ r.later) older r.e i (split_report i live count b r) live)
+                    (room_there hosts terms trace s (newest ++ r.later) older r.e i (split_report i live count b r) live (quiet_before hosts terms trace s (newest ++ r.later) r.between b.part r.e (split_report i live count b r) b.quiet))
                     (ap (λ (h : List DrawopValue). name_in_turn h k.policy.turns) k_held ∙ ap (name_in_turn (held_by i)) (turns_report i live count b r) ∙ n_is) in
                     let m = more_spans (suc count) turns_most span fits in
                     wanting_in_call hosts terms trace s.opened i n held window base r.later (r.between ++ b.grown) older r.e from by
@@ -252,7 +255,7 @@ module _ (was_held : HeldWasHeld) (hosts : ℕ → Opening) (terms : Terms) (tra
           let same = still.same st.front st.grown j st.split live_j in
           let slices : slices_of (held_by j) + slices_on (held_by j) u.page ≤ sizes.slices =
           subst (λ (h : List DrawopValue). slices_of h + slices_on h u.page ≤ sizes.slices) same
-          (small.slices (newest ++ st.front) (st.grown ++ base) j (cut_split st) live_j) in
+          (small.slices (newest ++ st.front) (st.grown ++ base) j (cut_split st) live_j (cut_quiet st)) in
           let t = each_mark_is_told (held_by j) u page mark (page_there (held_by j) d there_d counted) (top_told (held_by j) d there_d counted) in
           let less = t.1 in
           (t.0, record { fits = under t.0 (slices_of (held_by j) + slices_on (held_by j) u.page) sizes.slices (2 * sizes.numbers * sizes.holes) less slices; page_is = t.2; among = t.3 }) where
@@ -316,6 +319,11 @@ module _ (was_held : HeldWasHeld) (hosts : ℕ → Opening) (terms : Terms) (tra
                   st_later.split ∙ ap (λ (t : List TimedLine). newest ++ (t ++ part)) c.1
                   ∙ ap (λ (t : List TimedLine). newest ++ t) (append_assoc c.0 (h.call ∷ h.between) part) ∙ sym (append_assoc newest c.0 (h.call ∷ older))
 
+              quiet_older : terms.quiet < called_at older
+              quiet_older =
+                  quiet_before hosts terms trace s (newest ++ c.0) h.between part h.call whole
+                  (quiet_behind hosts terms trace s (newest ++ r.later) more b.part (split_report j live_j count b r) b.quiet)
+
               same_place : (a b : ℕ) → a ≡ b → nat_eq a b ≡ true
               same_place a b e = subst (λ (x : ℕ). nat_eq a x ≡ true) e (is_itself a)
 
@@ -356,7 +364,7 @@ module _ (was_held : HeldWasHeld) (hosts : ℕ → Opening) (terms : Terms) (tra
                   (in_names k.host.is.number told_page marks page_is among) (record {
                     answers_held = answers_at hosts (lines_of older) i;
                     lacks = ap (λ (x : List DrawopValue). holds x top_name) k_held ∙ lacks;
-                    room = room_there hosts terms trace s (newest ++ c.0) older h.call i whole live;
+                    room = room_there hosts terms trace s (newest ++ c.0) older h.call i whole live quiet_older;
                   })
 
               wants : IsAskedInCall top_name (doing_of h.call.at.line) k ⊎ LacksCredit (after_doing (doing_of h.call.at.line) k)
@@ -444,7 +452,7 @@ module _ (was_held : HeldWasHeld) (hosts : ℕ → Opening) (terms : Terms) (tra
             there_d = (at_n.0, at_n.2, at_n.3)
 
             numbered : (x : DrawopValue) → Contains (held_by j) x → (1 ≤ x.name.seq) × (x.name.seq < 2147483648)
-            numbered x c = small.named (newest ++ window) base j x split_base live_j c
+            numbered x c = small.named (newest ++ window) base j x split_base live_j quiet c
 
             at_top : IsHeld (held_by j) d.name.page d.name.source (highest d.name.page d.name.source (held_by j))
             at_top = top_held (held_by j) d there_d (numbered d there_d).0

@@ -59,15 +59,22 @@ module _ (hosts : ℕ → Opening) (terms : Terms) (trace : List TimedLine) (s :
       subst (λ (p : ℕ). IsTold (e.time + terms.offset p) e.at.line) (eqb-true e.at.place i same)
       (tells_of terms newer (e ∷ older) (subst (TellTimes terms) split s.times)).0
 
-  pub room_there : (newer older : List TimedLine) (e : TimedLine) (i : ℕ) → trace ≡ newer ++ e ∷ older → Contains terms.live i
+  -- what stands on a call that came late enough did so too
+  pub quiet_behind : (newer more base : List TimedLine) → trace ≡ newer ++ (more ++ base) → terms.quiet < called_at base → terms.quiet < called_at (more ++ base)
+  quiet_behind newer more base split late = let end = calls_end more base (ordered newer (more ++ base) split) in omega (arith, end, late)
+
+  pub quiet_before : (newer more base : List TimedLine) (e : TimedLine) → trace ≡ newer ++ e ∷ (more ++ base) → terms.quiet < called_at base → terms.quiet < called_at (more ++ base)
+  quiet_before newer more base e split late = let end = calls_end more base (ordered newer (e ∷ (more ++ base)) split).1 in omega (arith, end, late)
+
+  pub room_there : (newer older : List TimedLine) (e : TimedLine) (i : ℕ) → trace ≡ newer ++ e ∷ older → Contains terms.live i → terms.quiet < called_at older
       → is_full (there hosts older i).host ≡ false
-  room_there newer older e i split live = s.room (newer ++ e ∷ []) older i (split ∙ sym (append_assoc newer (e ∷ []) older)) live
+  room_there newer older e i split live late = s.room (newer ++ e ∷ []) older i (split ∙ sym (append_assoc newer (e ∷ []) older)) live late
 
   -- a call comes at most so late behind a report that is due
-  pub soon_there : (newer older : List TimedLine) (e : TimedLine) (i by : ℕ) → trace ≡ newer ++ e ∷ older → Contains terms.live i
+  pub soon_there : (newer older : List TimedLine) (e : TimedLine) (i by : ℕ) → trace ≡ newer ++ e ∷ older → Contains terms.live i → terms.quiet < e.time
       → (there hosts older i).policy.reports.due ≤ by → e.time + terms.offset i ≤ by + terms.late
-  soon_there newer older e i by split live le =
-      let soon = s.soon newer older e i split live in
+  soon_there newer older e i by split live late le =
+      let soon = s.soon newer older e i split live late in
       let first = due_by_report (there hosts older i) in
       omega (arith, soon, first, le)
 
@@ -89,7 +96,7 @@ module _ (hosts : ℕ → Opening) (terms : Terms) (trace : List TimedLine) (s :
         ∙ sym (still.same (e ∷ []) part i refl live) in
         still_call e.at.line k (e.time + terms.offset i) (told_there newest older e i split same)
         (λ now page time op is. s.drawn newest older e now page time op split (omega (arith, first, last, late)) is)
-        (answers_at hosts (lines_of older) i) (room_there newest older e i split live) held
+        (answers_at hosts (lines_of older) i) (room_there newest older e i split live (omega (arith, last, late))) held
 
     -- one of the calls reports, the first behind a part
     pub record Reports (front base : List TimedLine) : Type 0 where
@@ -142,13 +149,13 @@ module _ (hosts : ℕ → Opening) (terms : Terms) (trace : List TimedLine) (s :
         still.split ∙ ap (λ (t : List TimedLine). newest ++ e ∷ (t ++ base)) r.split
         ∙ ap (λ (t : List TimedLine). newest ++ e ∷ t) (append_assoc r.later (r.e ∷ r.between) base)
         ∙ sym (append_assoc newest (e ∷ r.later) (r.e ∷ (r.between ++ base))) in
-        let soon = soon_there (newest ++ e ∷ r.later) (r.between ++ base) r.e i (x + terms.offset i + 96000000) split live (omega (arith, d, due_by)) in (
+        let soon = soon_there (newest ++ e ∷ r.later) (r.between ++ base) r.e i (x + terms.offset i + 96000000) split live (quiet_behind (newest ++ e ∷ r.later) (r.e ∷ r.between) base split late) (omega (arith, d, due_by)) in (
           record { later = e ∷ r.later; e = r.e; between = r.between; split = ap (λ (t : List TimedLine). e ∷ t) r.split; place = r.place; same = r.same; reporting = r.reporting },
           omega (arith, soon),
         ))
         (λ (same : SamePolicy (there hosts base i).policy (there hosts (front ++ base) i).policy).
         let d = same.due in
-        let soon = soon_there newest (front ++ base) e i (x + terms.offset i + 96000000) still.split live (omega (arith, d, due_by)) in
+        let soon = soon_there newest (front ++ base) e i (x + terms.offset i + 96000000) still.split live (quiet_behind newest (e ∷ front) base still.split late) (omega (arith, d, due_by)) in
         absurd (omega (arith, soon, lt)))
         (first_report front (newest ++ e ∷ []) base (still_newer hosts terms trace newest (e ∷ []) front base still) late)
 

@@ -180,6 +180,9 @@ module _ (hosts : ℕ → Opening) (terms : Terms) (trace newest window base : L
     behind_back : time_of back ≤ e.time
     behind_back = (order_back front (e ∷ back) split).0
 
+    after_quiet : terms.quiet < e.time
+    after_quiet = let s = settled in let le = behind_back in omega (arith, s, late, le)
+
     span_is : from + request_span terms ≡ e.time
     span_is = let le = behind_back in spans e.time (request_span terms) (called_at base) (time_of back) late le where
       spans : (now span base back : ℕ) → base + span < back → back ≤ now → now - span + span ≡ now
@@ -202,7 +205,7 @@ module _ (hosts : ℕ → Opening) (terms : Terms) (trace newest window base : L
     module _ (m : NameValue) (ask : AskTimer) (stands : timer_then hosts back i m ≡ Some ask) (w : WasAsked starts terms all timely back i m ask) (c : IsOfCall hosts whole w.x w.older) where
       asked_late : e.time ≤ c.e.time + request_span terms
       asked_late =
-          let soon : e.time + terms.offset i ≤ ask.due + terms.late = subst (λ (o : Option AskTimer). IfSome o (λ (a : AskTimer). e.time + terms.offset i ≤ a.due + terms.late)) stands (timely.soon (newest_lines.0 ++ front) back e i m (part_of_all front (e ∷ back) split) live).ask in
+          let soon : e.time + terms.offset i ≤ ask.due + terms.late = subst (λ (o : Option AskTimer). IfSome o (λ (a : AskTimer). e.time + terms.offset i ≤ a.due + terms.late)) stands (timely.soon (newest_lines.0 ++ front) back e i m (part_of_all front (e ∷ back) split) live after_quiet).ask in
           let due = w.due in
           let same = c.time in
           omega (arith, soon, due, same)
@@ -335,7 +338,9 @@ module _ (hosts : ℕ → Opening) (terms : Terms) (trace newest window base : L
         let le = behind_part in
         let late_then : called_at base + request_span terms < time_of then_back = omega (arith, le, late) in
         inr (next_of w is late_then (another calls_of causes w then_back g.e is late_then n h.1 (new_level (timer_then hosts then_back i n) ask g.stands new) h.0 h.2 h.3)))
-        (subst Stopped g.place (stops hosts terms trace g.front g.e then_back n are.session (subst (Contains terms.live) (sym g.place) live) g.split g.line))
+        (subst Stopped g.place (stops hosts terms trace g.front g.e then_back n are.session (subst (Contains terms.live) (sym g.place) live) after_quiet g.split g.line)) where
+          after_quiet : terms.quiet < g.e.time
+          after_quiet = let s = settled in let le = behind_part in let o = order_then.0 in omega (arith, s, late, le, o)
 
     given_up : Goal
     given_up = ⊎_elim

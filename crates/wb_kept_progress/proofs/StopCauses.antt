@@ -1,5 +1,5 @@
 -- Why a host that keeps itself gives a name up.
-use Rattle.std.proofs.Common.{◌≡◌, ℕ, ◌≤◌, Bool, true, false, cond, List, [], ◌∷◌, ◌++◌, ◌∙◌, Option, Some, None, ap, arith, inl, inr, is_some, length, length-append, map, refl, subst, sym, true≢false}
+use Rattle.std.proofs.Common.{◌≡◌, ℕ, ◌<◌, ◌≤◌, Bool, true, false, cond, List, [], ◌∷◌, ◌++◌, ◌∙◌, Option, Some, None, ap, arith, inl, inr, is_some, length, length-append, map, refl, subst, sym, true≢false}
 use Rattle.std.specs.Prelude.{◌⊎◌, ◌&&◌, Contains, nat_eq, nat_le, not, take}
 use Rattle.std.proofs.lemmas.Bool.{and_parts, leb-false, leb-true}
 use Rattle.wb_names.specs.Arrivals.{Outcome, Fresh, Known, Clashed, Left, history_with, outcome_of}
@@ -77,7 +77,7 @@ lines_longer (line ∷ lines) host =
     omega (arith, one, rest)
 
 -- what has room behind lines had room before
-room_before : (lines : List Line) (host next : Opened) → next ≡ after_lines lines host → is_full next ≡ false → is_full host ≡ false
+pub room_before : (lines : List Line) (host next : Opened) → next ≡ after_lines lines host → is_full next ≡ false → is_full host ≡ false
 room_before lines host next is room =
     let then : is_full (after_lines lines host) ≡ false = subst (λ (h : Opened). is_full h ≡ false) is room in
     let lt = leb-false (after_lines lines host).is.cells (length (after_lines lines host).is.held) then in
@@ -249,13 +249,13 @@ call_taken hosts [] older e taken = taken.0
 call_taken hosts (x ∷ newer) older e taken = call_taken hosts newer older e taken.1
 
 pub stops_have_cause : LinesHaveCalls → StopsHaveCause
-stops_have_cause calls hosts terms trace front x back n session live split is =
+stops_have_cause calls hosts terms trace front x back n session live late split is =
     let c = calls hosts trace front x back split in
     let place = c.e.at.place in
     let k = there hosts c.older place in
     let lines = does hosts c.e c.older in
     let none : fault_of c.e.at.line k ≡ None = call_taken hosts c.newer c.older c.e (subst (λ (t : List TimedLine). AreTaken hosts (lines_of t)) c.split session.taken) in
-    let behind : is_full (there hosts (c.e ∷ c.older) place).host ≡ false = session.room c.newer (c.e ∷ c.older) place c.split (subst (Contains terms.live) c.place live) in
+    let behind : is_full (there hosts (c.e ∷ c.older) place).host ≡ false = session.room c.newer (c.e ∷ c.older) place c.split (subst (Contains terms.live) c.place live) (subst (λ (t : ℕ). terms.quiet < t) c.time late) in
     let room : is_full (after_lines lines k.host) ≡ false = subst (λ (m : Keeping). is_full m.host ≡ false) (moved hosts (lines_of c.older) place c.e.at.line) behind in
     let caused : AreCaused lines k.host = (line_holds GivesUpFor steps_give_up c.e.at.line k none).caused room in
     let at : IsCaused x.line (after_lines c.before k.host) = caused_at c.before c.later x.line k.host (subst (λ (ls : List Line). AreCaused ls k.host) c.lines caused) in

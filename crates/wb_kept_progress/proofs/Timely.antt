@@ -404,8 +404,8 @@ module _ (hosts : ℕ → Start) (terms : Terms) (trace : List Performed) (timel
           by_line hosts trace (λ newer x older. settled_by terms < x.time → Accepts older x (Hear now (Request asker m) word held) → turning.WasSent (x ∷ older) x.time terms.delivery (Request asker m))
           (λ front back e split late accepts. request_sent front back e split late now asker word held m accepts) newer older x same late accepts;
     };
-    soon = λ newer older x i m same live. by_line hosts trace (λ newer x older. turning.AreNotOverdue (turning.timers_there at older i m) (x.time + terms.offset i) terms.late)
-        (λ front back e split. let soon = timely.soon front back e i m split live in subst (λ (s : Timers). turning.AreNotOverdue s (e.time + terms.offset i) terms.late) (sym (timers_here hosts back i m)) (record { ask = soon.ask; answer = soon.answer })) newer older x same;
+    soon = λ newer older x i m same live. by_line hosts trace (λ newer x older. terms.quiet < x.time → turning.AreNotOverdue (turning.timers_there at older i m) (x.time + terms.offset i) terms.late)
+        (λ front back e split late. let soon = timely.soon front back e i m split live late in subst (λ (s : Timers). turning.AreNotOverdue s (e.time + terms.offset i) terms.late) (sym (timers_here hosts back i m)) (record { ask = soon.ask; answer = soon.answer })) newer older x same;
   }
 
   -- ---- what follows

@@ -67,7 +67,7 @@ AsksHaveCause = (hosts : ℕ → Opening) (terms : Terms) (trace newer older : L
 
 -- It was backed off six times or more, or of 64 or more that are asked for it was backed off most and is the first of these.
 abbrev pub StopsHaveCause : Type 0
-StopsHaveCause = (hosts : ℕ → Opening) (terms : Terms) (trace : List TimedLine) (front : List Performed) (x : Performed) (back : List Performed) (n : NameValue) → IsTimelySession hosts terms trace → Contains terms.live x.place
+StopsHaveCause = (hosts : ℕ → Opening) (terms : Terms) (trace : List TimedLine) (front : List Performed) (x : Performed) (back : List Performed) (n : NameValue) → IsTimelySession hosts terms trace → Contains terms.live x.place → terms.quiet < x.time
     → performed hosts trace ≡ front ++ x ∷ back → x.line ≡ Stops n
     → ((ask : AskTimer) × (timer_then hosts back x.place n ≡ Some ask) × (6 ≤ ask.level))
     ⊎ ((64 ≤ length (view_of (host_then hosts back x.place)).asked) × (a : AskedName) × (oldest (view_of (host_then hosts back x.place)).asked ≡ Some a) × (a.name ≡ n))

@@ -99,8 +99,8 @@ pub record IsTimely (hosts : ℕ → Start) (terms : Terms) (trace : List Perfor
   -- a tick makes the moment the time and the offset of its place, and a datagram is heard behind such a tick
   pub times : (newer older : List Performed) (e : Performed) (now : ℕ) → trace ≡ newer ++ e ∷ older → e.line ≡ Ticks now → now ≡ e.time + terms.offset e.place
   pub behind : (newer older : List Performed) (e : Performed) (v : Datagram) → trace ≡ newer ++ e ∷ older → e.line ≡ Hears v → present (host_after hosts older e.place) ≡ e.time + terms.offset e.place
-  -- a tick comes once a timer is due: until a line comes, no timer that stands at a live place is overdue
-  pub soon : (newer older : List Performed) (e : Performed) (i : ℕ) (m : NameValue) → trace ≡ newer ++ e ∷ older → Contains terms.live i → AreNotOverdue (timers_after hosts older i m) (e.time + terms.offset i) terms.late
+  -- from `quiet` on a tick comes once a timer is due: until a line comes, no timer that stands at a live place is overdue
+  pub soon : (newer older : List Performed) (e : Performed) (i : ℕ) (m : NameValue) → trace ≡ newer ++ e ∷ older → Contains terms.live i → terms.quiet < e.time → AreNotOverdue (timers_after hosts older i m) (e.time + terms.offset i) terms.late
   pub delays : (newer older : List Performed) (i source : ℕ) → trace ≡ newer ++ older → Contains terms.live i → delay (host_after hosts older i) source ≤ terms.far
   -- from `quiet` on
   pub alone : (newer older : List Performed) (e : Performed) → trace ≡ newer ++ e ∷ older → terms.quiet < e.time → Contains terms.live e.place

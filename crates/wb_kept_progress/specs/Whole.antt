@@ -51,9 +51,9 @@ pub record WasSentBy (hosts : ℕ → Opening) (older : List TimedLine) (time wi
   pub soon : time ≤ e.time + within
   pub sent : Contains (sends_then hosts before e) v
 
--- Drivers and the network keep to the terms. At any time live hosts are called in time, no delay of them is too great, and each of their boards has a
--- free cell. From `quiet` on only live hosts are called, and nobody draws; what one sends is handed in to each other one in time. What comes
--- once all that was on its way has arrived was sent shortly before.
+-- Drivers and the network keep to the terms. At any time no delay of live hosts is too great. From `quiet` on they alone are called, and in time, each of
+-- their boards has a free cell, and nobody draws; what one sends is handed in to each other one in time. What comes once all that was on its way has
+-- arrived was sent shortly before. A live host may be handed its first line at any time up to `quiet`.
 pub record IsTimelySession (hosts : ℕ → Opening) (terms : Terms) (trace : List TimedLine) : Type 0 where
   pub opened : (i : ℕ) → (hosts i).moments ≡ []
   pub distinct : (i j : ℕ) → (hosts i).number ≡ (hosts j).number → i ≡ j
@@ -63,17 +63,17 @@ pub record IsTimelySession (hosts : ℕ → Opening) (terms : Terms) (trace : Li
   pub order : AreCalledInOrder trace
   pub reported : 1 ≤ terms.reporting
   pub times : TellTimes terms trace
-  -- a call of a live host comes at most so late behind the moment at which it has something to do
-  pub soon : (newer older : List TimedLine) (e : TimedLine) (i : ℕ) → trace ≡ newer ++ e ∷ older → Contains terms.live i → e.time + terms.offset i ≤ due (there hosts older i) + terms.late
+  -- from `quiet` on a call of a live host comes at most so late behind the moment at which it has something to do
+  pub soon : (newer older : List TimedLine) (e : TimedLine) (i : ℕ) → trace ≡ newer ++ e ∷ older → Contains terms.live i → terms.quiet < e.time → e.time + terms.offset i ≤ due (there hosts older i) + terms.late
   pub delays : (newer older : List Performed) (i source : ℕ) → performed hosts trace ≡ newer ++ older → Contains terms.live i → delay (host_after (λ j. start_of (hosts j)) older i) source ≤ terms.far
   pub alone : (newer older : List TimedLine) (e : TimedLine) → trace ≡ newer ++ e ∷ older → terms.quiet < e.time → Contains terms.live e.at.place
   pub drawn : (newer older : List TimedLine) (e : TimedLine) (now : ℕ) (page : PageId) (time : ℕ) (op : Op) → trace ≡ newer ++ e ∷ older → terms.quiet < e.time → e.at.line ≢ Added now page time op
-  pub room : (newer older : List TimedLine) (i : ℕ) → trace ≡ newer ++ older → Contains terms.live i → is_full (there hosts older i).host ≡ false
+  pub room : (newer older : List TimedLine) (i : ℕ) → trace ≡ newer ++ older → Contains terms.live i → terms.quiet < called_at older → is_full (there hosts older i).host ≡ false
   pub delivered : (newer older : List TimedLine) (e : TimedLine) (j : ℕ) (v : Datagram) → trace ≡ newer ++ e ∷ older → Contains terms.live j → e.at.place ≢ j → terms.quiet < e.time → Contains (sends_then hosts older e) v → e.time + terms.delivery < called_at trace
       → IsHandedIn newer j (e.time + terms.delivery) v
   pub fresh : (newer older : List TimedLine) (e : TimedLine) (now : ℕ) (v : Datagram) → trace ≡ newer ++ e ∷ older → settled_by terms < e.time → e.at.line ≡ Came now v → WasSentBy hosts older e.time terms.delivery v
 
--- How much the board of a live host has at any time, at most: so many slices of marks, counted with those of the page that was told last, so many
+-- How much the board of a live host has from `quiet` on, at most: so many slices of marks, counted with those of the page that was told last, so many
 -- holes, and so many numbers in a hole. Rounds stay below 2^32. No number that is held is 0, or 2^31 or more.
 pub record Sizes : Type 0 where
   pub slices : ℕ
@@ -81,11 +81,11 @@ pub record Sizes : Type 0 where
   pub numbers : ℕ
 
 pub record AreWithin (hosts : ℕ → Opening) (terms : Terms) (trace : List TimedLine) (sizes : Sizes) : Type 0 where
-  pub slices : (newer older : List TimedLine) (i : ℕ) → trace ≡ newer ++ older → Contains terms.live i → let k = there hosts older i in slices_of k.host.is.held + slices_on k.host.is.held k.policy.told_page ≤ sizes.slices
-  pub holes : (newer older : List TimedLine) (i : ℕ) → trace ≡ newer ++ older → Contains terms.live i → length (holes_of (there hosts older i).host.is.held) ≤ sizes.holes
-  pub numbers : (newer older : List TimedLine) (i : ℕ) (hole : Hole) → trace ≡ newer ++ older → Contains terms.live i → Contains (holes_of (there hosts older i).host.is.held) hole → hole.gap.last + 1 - hole.gap.first ≤ sizes.numbers
-  pub rounds : (newer older : List TimedLine) (i : ℕ) → trace ≡ newer ++ older → Contains terms.live i → (there hosts older i).policy.turns.round + 2 * sizes.numbers < 2 ^ 32
-  pub named : (newer older : List TimedLine) (i : ℕ) (d : DrawopValue) → trace ≡ newer ++ older → Contains terms.live i → Contains (there hosts older i).host.is.held d → (1 ≤ d.name.seq) × (d.name.seq < 2147483648)
+  pub slices : (newer older : List TimedLine) (i : ℕ) → trace ≡ newer ++ older → Contains terms.live i → terms.quiet < called_at older → let k = there hosts older i in slices_of k.host.is.held + slices_on k.host.is.held k.policy.told_page ≤ sizes.slices
+  pub holes : (newer older : List TimedLine) (i : ℕ) → trace ≡ newer ++ older → Contains terms.live i → terms.quiet < called_at older → length (holes_of (there hosts older i).host.is.held) ≤ sizes.holes
+  pub numbers : (newer older : List TimedLine) (i : ℕ) (hole : Hole) → trace ≡ newer ++ older → Contains terms.live i → terms.quiet < called_at older → Contains (holes_of (there hosts older i).host.is.held) hole → hole.gap.last + 1 - hole.gap.first ≤ sizes.numbers
+  pub rounds : (newer older : List TimedLine) (i : ℕ) → trace ≡ newer ++ older → Contains terms.live i → terms.quiet < called_at older → (there hosts older i).policy.turns.round + 2 * sizes.numbers < 2 ^ 32
+  pub named : (newer older : List TimedLine) (i : ℕ) (d : DrawopValue) → trace ≡ newer ++ older → Contains terms.live i → terms.quiet < called_at older → Contains (there hosts older i).host.is.held d → (1 ≤ d.name.seq) × (d.name.seq < 2147483648)
 
 -- ---- what is lacked
 

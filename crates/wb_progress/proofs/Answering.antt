@@ -32,7 +32,7 @@ module _ {MayStop : List Turn → Turn → NameValue → Type 0} (places : Place
     Ends part = (((timers_there places part j n).answer ≡ Some answer) × (time_of part ≤ limit)) ⊎ CopyBy n limit
 
     one_turn : (newer older : List Turn) (e : Turn) → turns ≡ newer ++ e ∷ older → settled_by terms < e.time → has older j n ≡ true → (timers_there places older j n).answer ≡ Some answer → Ends (e ∷ older)
-    one_turn newer older e split late held stands = by_time (subst (λ o. IfSome o (λ (a : AnswerTimer). e.time + terms.offset j ≤ a.due + terms.late)) stands (is.soon newer older e j n split live).answer) where
+    one_turn newer older e split late held stands = by_time (subst (λ o. IfSome o (λ (a : AnswerTimer). e.time + terms.offset j ≤ a.due + terms.late)) stands (is.soon newer older e j n split live (omega (arith, late))).answer) where
       came : e.time ≤ limit → (c : Called places terms turns is older e j) → Brings n c.call ⊎ Fires answer.due c.call → Ends (e ∷ older)
       came le c gives = ⊎_elim
           (λ (b : Brings n c.call). inr (sooner (e.time + terms.delivery) (limit + terms.delivery) n (omega (arith, le)) (copy_comes places terms turns is n e.time late (brought places terms turns is newer older e j n split live late c b (spares older e (ap (λ (k : ℕ). has older k n) c.place ∙ held))))))

@@ -108,9 +108,9 @@ module _ {MayStop : List Turn → Turn → NameValue → Type 0} (places : Place
             at_calls : List KeeperCall → Option AskTimer
             at_calls calls = (timers_at (places.me i) (places.constants i) calls n).ask
 
-  -- no timer is overdue before a turn
-  pub not_over : (newer older : List Turn) (e : Turn) (ask : AskTimer) → turns ≡ newer ++ e ∷ older → asks older ≡ Some ask → e.time + terms.offset i ≤ ask.due + terms.late
-  not_over newer older e ask split stands = subst (λ o. IfSome o (λ (k : AskTimer). e.time + terms.offset i ≤ k.due + terms.late)) stands (is.soon newer older e i n split live).ask
+  -- no timer is overdue before a turn that comes so late
+  pub not_over : (newer older : List Turn) (e : Turn) (ask : AskTimer) → turns ≡ newer ++ e ∷ older → known_from terms ≤ e.time → asks older ≡ Some ask → e.time + terms.offset i ≤ ask.due + terms.late
+  not_over newer older e ask split late stands = subst (λ o. IfSome o (λ (k : AskTimer). e.time + terms.offset i ≤ k.due + terms.late)) stands (is.soon newer older e i n split live (let some = is.reported in let one : terms.reporting ≤ max terms.reporting (3 * terms.far) = omega arith in omega (arith, late, some, one))).ask
 
   -- ---- the turns behind a part
 
@@ -129,7 +129,7 @@ module _ {MayStop : List Turn → Turn → NameValue → Type 0} (places : Place
         (ends (front ++ e ∷ []) middle part late.1 stands le) where
           goes_on : asks (middle ++ base) ≡ Some ask → Ends (e ∷ (middle ++ base))
           goes_on stands =
-              let over = not_over front (middle ++ base) e ask split stands in
+              let over = not_over front (middle ++ base) e ask split late.0 stands in
               let by : e.time ≤ limit = omega (arith, over, soon) in
               ⊎_elim
               (λ (s : asks (e ∷ (middle ++ base)) ≡ Some ask). inl (s, by))

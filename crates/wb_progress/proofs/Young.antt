@@ -63,7 +63,7 @@ module _ {MayStop : List Turn → Turn → NameValue → Type 0} (places : Place
 
     by : IsYoung older → IsYoung (e ∷ older)
     by (Absent none) = begins newer older e split none
-    by (Stood ask stands soon le) = goes_on ask stands (λ same. Stood ask same soon (let over = not_over places terms turns is i live n a spares newer older e ask split stands in omega (arith, over, soon)))
+    by (Stood ask stands soon le) = goes_on ask stands (λ same. Stood ask same soon (let over = not_over places terms turns is i live n a spares newer older e ask split late stands in omega (arith, over, soon)))
     by (Lowest ask stands level) = goes_on ask stands (λ same. Lowest ask same level)
     by (Answered h) = Answered (sooner places terms turns is (time_of older + answering_by terms) (e.time + answering_by terms) n (let o = order in omega (arith, o)) h)
 

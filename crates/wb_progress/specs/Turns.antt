@@ -209,8 +209,8 @@ pub record KeepTimeBut (MayStop : List Turn → Turn → NameValue → Type 0) (
   pub quiet : (newer older : List Turn) (e : Turn) → turns ≡ newer ++ e ∷ older → terms.quiet < e.time → IsQuietBut MayStop places older e
   pub delivered : IsDelivered terms turns
   pub fresh : IsFresh terms turns
-  -- a tick comes once a timer is due: until a turn comes, no timer that stands is overdue
-  pub soon : (newer older : List Turn) (e : Turn) (i : ℕ) (n : NameValue) → turns ≡ newer ++ e ∷ older → Contains terms.live i → AreNotOverdue (timers_there places older i n) (e.time + terms.offset i) terms.late
+  -- from `quiet` on a tick comes once a timer is due: until a turn comes, no timer that stands is overdue
+  pub soon : (newer older : List Turn) (e : Turn) (i : ℕ) (n : NameValue) → turns ≡ newer ++ e ∷ older → Contains terms.live i → terms.quiet < e.time → AreNotOverdue (timers_there places older i n) (e.time + terms.offset i) terms.late
 
 -- They give up none.
 abbrev pub KeepTime : Places → Terms → List Turn → Type 0

@@ -87,12 +87,12 @@ module _ (constants : ℕ → Tuning) (terms : Terms) (trace : List TimedLine) (
   abbrev IsSoon : Timers → ℕ → Type 0
   IsSoon s now = turning.AreNotOverdue s now terms.late
 
-  ticks : (front back : List TimedLine) (e : TimedLine) (i : ℕ) (n : NameValue) → trace ≡ front ++ e ∷ back → Contains terms.live i → IsSoon (turning.timers_there at (turns_of constants back) i n) (e.time + terms.offset i)
-  ticks front back e i n split live = from (host_at constants (lines_of back) i) refl where
+  ticks : (front back : List TimedLine) (e : TimedLine) (i : ℕ) (n : NameValue) → trace ≡ front ++ e ∷ back → Contains terms.live i → terms.quiet < e.time → IsSoon (turning.timers_there at (turns_of constants back) i n) (e.time + terms.offset i)
+  ticks front back e i n split live late = from (host_at constants (lines_of back) i) refl where
     from : (o : Option Opened) → host_at constants (lines_of back) i ≡ o → IsSoon (turning.timers_there at (turns_of constants back) i n) (e.time + terms.offset i)
     from None there = subst (λ (d : Desk). IsSoon (timers_at (at.me i) (constants i) d.calls n) (e.time + terms.offset i)) (sym (desk_is constants back i ∙ ap desk_of there)) (record { ask = tt; answer = tt })
     from (Some host) there =
-        let soon = timely.soon front back e i host n split live there in
+        let soon = timely.soon front back e i host n split live there late in
         subst (λ (s : Timers). IsSoon s (e.time + terms.offset i)) (sym (timers_here constants terms trace timely (front ++ e ∷ []) back i host n (split_part constants terms trace timely front back e split) there)) (record { ask = soon.ask; answer = soon.answer })
 
   pub keep_time : KeepTime at terms all
@@ -111,5 +111,5 @@ module _ (constants : ℕ → Tuning) (terms : Terms) (trace : List TimedLine) (
           by_line constants trace (λ newer x older. settled_by terms < x.time → Accepts older x (Hear now (Request asker n) word held) → WasSent (x ∷ older) x.time terms.delivery (Request asker n))
           (λ front back e split late accepts. request_sent constants terms trace timely front back e split late now asker word held n accepts) newer older x same late accepts;
     };
-    soon = λ newer older x i n same live. by_line constants trace (λ newer x older. IsSoon (turning.timers_there at older i n) (x.time + terms.offset i)) (λ front back e split. ticks front back e i n split live) newer older x same;
+    soon = λ newer older x i n same live. by_line constants trace (λ newer x older. terms.quiet < x.time → IsSoon (turning.timers_there at older i n) (x.time + terms.offset i)) (λ front back e split. ticks front back e i n split live) newer older x same;
   }

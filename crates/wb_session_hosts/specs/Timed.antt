@@ -103,9 +103,9 @@ pub record AreNotOverdue (host : Opened) (n : NameValue) (now late : ℕ) : Type
   pub ask : IfSome (timers_of host.is.constants (events host) n).ask (λ (ask : AskTimer). now ≤ ask.due + late)
   pub answer : IfSome (timers_of host.is.constants (events host) n).answer (λ (answer : AnswerTimer). now ≤ answer.due + late)
 
--- A tick comes once a timer is due: until a line comes, no timer that stands at a live place is overdue by more than `late`.
+-- From `quiet` on a tick comes once a timer is due: until a line comes, no timer that stands at a live place is overdue by more than `late`.
 abbrev pub TicksAreSoon : (ℕ → Tuning) → Terms → List TimedLine → Type 0
-TicksAreSoon constants terms trace = (newer older : List TimedLine) (e : TimedLine) (i : ℕ) (host : Opened) (n : NameValue) → trace ≡ newer ++ e ∷ older → Contains terms.live i → StandsAt constants older i host → AreNotOverdue host n (e.time + terms.offset i) terms.late
+TicksAreSoon constants terms trace = (newer older : List TimedLine) (e : TimedLine) (i : ℕ) (host : Opened) (n : NameValue) → trace ≡ newer ++ e ∷ older → Contains terms.live i → StandsAt constants older i host → terms.quiet < e.time → AreNotOverdue host n (e.time + terms.offset i) terms.late
 
 -- From `quiet` on no drawing is said that is new, and no name is given up.
 pub record DrawsNothingNew (constants : ℕ → Tuning) (older : List TimedLine) (e : TimedLine) : Type 0 where
