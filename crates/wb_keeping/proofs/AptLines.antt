@@ -14,9 +14,7 @@ use Rattle.wb_recovery.specs.Timing.{are_constants, is_constant}
 use Rattle.wb_recovery.specs.declared.tuning.Tuning.{Tuning}
 use Rattle.wb_host.specs.Keeper.{delay_given, distance_by, newest}
 use Rattle.wb_member.specs.Judged.{delay}
-use Rattle.wb_member.specs.Members.{Misses}
-use Rattle.wb_member.specs.Opened.{Opened, doing as does, has_room_for, heard, may_ask, opened_with, present}
-use Rattle.wb_member.specs.Random.{word_of}
+use Rattle.wb_member.specs.Opened.{Opened, has_room_for, heard, may_ask, opened_with, present}
 use Rattle.wb_keeping.specs.Bounds.{new_keeping}
 use Rattle.wb_keeping.specs.Distances.{bounded, usual_with}
 use Rattle.wb_keeping.specs.Kept.{Arrives, Asks, Doing, Hears, Line, Says, SetsDistance, Stops, Ticks, Tunes, distance_in, measures, own_echo, room_lines, state_of, still, stops_oldest, usual_lines, want}
@@ -27,7 +25,7 @@ use Rattle.wb_keeping.specs.Wanting.{is_wanted, oldest}
 use Rattle.wb_keeping.specs.declared.wanting.AskedName.{AskedName}
 use Rattle.wb_keeping.proofs.EachStep.{HoldsOfParts, all_parts_hold, doing, having, having_done}
 use Rattle.wb_keeping.proofs.Performed.{after_both}
-use Rattle.wb_keeping.proofs.SpacedLines.{AreApt, IsSpacedHost, either_host, tick_spaced}
+use Rattle.wb_keeping.proofs.SpacedLines.{AreApt, IsSpacedHost, either_host, missing, tick_spaced}
 use Rattle.wb_keeping.proofs.Wanted.{lines_wanted}
 
 -- ---- lines after lines
@@ -55,6 +53,10 @@ safe_both one other host a b far =
     let second = b first.1 in
     (apt_both one other host first.0 second.0, subst IsFar (sym (after_both one other host)) second.1)
 
+-- the one that was last told or set
+abbrev told_last : ℕ → Opened → Option ℕ
+told_last source host = newest (delay_given host.is.number source) host.is.calls
+
 -- a call that tells none
 none_told : (b : Bool) (o : Option ℕ) → 10000 ≤ unwrap_or o 100000 → 10000 ≤ unwrap_or (option_or (cond b None None) o) 100000
 none_told true o far = far
@@ -64,11 +66,11 @@ heard_far : (v : Datagram) (host : Opened) → IsFar (heard v host) → IsFar ho
 heard_far v host then far = either_host IsFar (has_room_for v host) (heard v host) host then far
 
 asks_far : (name : NameValue) (host : Opened) → IsFar host → IsFar (after_line (Asks name) host)
-asks_far name host far = either_host IsFar (may_ask name host) (does (Misses (present host) (name ∷ []) (word_of host.random ∷ [])) 1 host) host (λ source. far source) far
+asks_far name host far = either_host IsFar (may_ask name host) (missing name host) host (λ source. far source) far
 
 sets_far : (source micros : ℕ) (host : Opened) → 10000 ≤ micros → IsFar host → IsFar (after_line (SetsDistance source micros) host)
 sets_far source micros host long far other = by (nat_eq source other) where
-  by : (b : Bool) → 10000 ≤ unwrap_or (option_or (cond b (Some micros) None) (newest (delay_given host.is.number other) host.is.calls)) 100000
+  by : (b : Bool) → 10000 ≤ unwrap_or (option_or (cond b (Some micros) None) (told_last other host)) 100000
   by true = long
   by false = far other
 
@@ -109,7 +111,9 @@ record KeepsApt (k : Keeping) (lines : List Line) (m : Keeping) : Type 0 where
   at : m.host ≡ after_lines lines k.host
   apt : IsReady k → AreApt lines k.host × IsReady m
 
-safely : (k : Keeping) (lines : List Line) (p : Policy) → IsSafe lines k.host → (IfSome k.policy.usual (λ usual. 10000 ≤ usual) → IfSome p.usual (λ usual. 10000 ≤ usual)) → KeepsApt k lines (record { host = after_lines lines k.host; policy = p })
+safely : (k : Keeping) (lines : List Line) (p : Policy) → IsSafe lines k.host
+    → (IfSome k.policy.usual (λ usual. 10000 ≤ usual) → IfSome p.usual (λ usual. 10000 ≤ usual))
+    → KeepsApt k lines (record { host = after_lines lines k.host; policy = p })
 safely k lines p safe usual = record { at = refl; apt = λ ready. let is = safe ready.far in (is.0, record { far = is.1; usual = usual ready.usual }) }
 
 both_apt : (k m n : Keeping) (one other : List Line) → KeepsApt k one m → KeepsApt m other n → KeepsApt k (one ++ other) n
@@ -123,12 +127,6 @@ both_apt k m n one other a b = record {
 
 wants_apt : (name : NameValue) (anew : Bool) (k : Keeping) → KeepsApt k (want name anew (sees k.host) k.policy).lines (after_doing (want name anew) k)
 wants_apt name anew k = by (is_wanted (holds (view_of k.host) name) (is_full (view_of k.host)) anew (level (view_of k.host) name) k.policy.owed (present k.host)) where
-  v : View
-  v = view_of k.host
-
-  usual : List Line
-  usual = usual_lines name.source ((view_of k.host).distance name.source) k.policy.usual
-
   wanted : Doing
   wanted = doing (after_wanting (present k.host) k.policy) (lines_wanted name anew (sees k.host) k.policy)
 
@@ -137,10 +135,13 @@ wants_apt name anew k = by (is_wanted (holds (view_of k.host) name) (is_full (vi
   by true = record {
     at = refl;
     apt = λ ready.
-        let one = after_lines (room_lines name (view_of k.host)) k.host in
-        let safe = safe_both (room_lines name (view_of k.host)) (usual_lines name.source ((view_of k.host).distance name.source) k.policy.usual ++ Asks name ∷ []) k.host (room_safe name (view_of k.host) k.host)
-        (safe_both (usual_lines name.source ((view_of k.host).distance name.source) k.policy.usual) (Asks name ∷ []) one (usual_safe name.source ((view_of k.host).distance name.source) k.policy.usual one ready.usual)
-        (asks_safe name (after_lines (usual_lines name.source ((view_of k.host).distance name.source) k.policy.usual) one))) in
+        let v = view_of k.host in
+        let room = room_lines name v in
+        let usual = usual_lines name.source (v.distance name.source) k.policy.usual in
+        let one = after_lines room k.host in
+        let two = after_lines usual one in
+        let asking = safe_both usual (Asks name ∷ []) one (usual_safe name.source (v.distance name.source) k.policy.usual one ready.usual) (asks_safe name two) in
+        let safe = safe_both room (usual ++ Asks name ∷ []) k.host (room_safe name v k.host) asking in
         let is = safe ready.far in
         (is.0, record { far = is.1; usual = ready.usual });
   }
@@ -155,9 +156,6 @@ says_safe v (page ∷ pages) host far = let rest = says_safe v pages host far in
 own_told : (me now : ℕ) (echoes : List Echo) → distance_by now (find (λ e. nat_eq e.source me) (own_echo me echoes)) ≡ distance_in now (own_echo me echoes)
 own_told me now [] = refl
 own_told me now (e ∷ echoes) = by (nat_eq e.source me) refl (own_told me now echoes) where
-  rest : List Echo
-  rest = own_echo me echoes
-
   by : (b : Bool) → nat_eq e.source me ≡ b → distance_by now (find (λ e. nat_eq e.source me) (own_echo me echoes)) ≡ distance_in now (own_echo me echoes)
       → distance_by now (find (λ e. nat_eq e.source me) (cond b (e ∷ own_echo me echoes) (own_echo me echoes))) ≡ distance_in now (cond b (e ∷ own_echo me echoes) (own_echo me echoes))
   by true same later = ap (λ (b : Bool). distance_by now (cond b (Some e) (find (λ e. nat_eq e.source me) (own_echo me echoes)))) same
@@ -196,9 +194,10 @@ module _ (sender sent : ℕ) (page : PageId) (marks : List MarkValue) (echoes : 
       (subst (Is false b) (sym (own_told me (present k.host) echoes)) (by (cond b told None) long))))
       (ready.far source) where
         Is : Bool → Bool → Option ℕ → Type 0
-        Is own same told = 10000 ≤ unwrap_or (option_or (cond own None (cond same told None)) (newest (delay_given k.host.is.number source) k.host.is.calls)) 100000
+        Is own same told = 10000 ≤ unwrap_or (option_or (cond own None (cond same told None)) (told_last source k.host)) 100000
 
-        by : (o : Option ℕ) → IfSome o (λ micros. 10000 ≤ micros) → 10000 ≤ unwrap_or (option_or o (newest (delay_given k.host.is.number source) k.host.is.calls)) 100000
+        by : (o : Option ℕ) → IfSome o (λ micros. 10000 ≤ micros)
+            → 10000 ≤ unwrap_or (option_or o (told_last source k.host)) 100000
         by None long = ready.far source
         by (Some micros) long = long
 
@@ -211,7 +210,8 @@ module _ (sender sent : ℕ) (page : PageId) (marks : List MarkValue) (echoes : 
 
   set_far : (micros : ℕ) → 10000 ≤ micros → IsFar (after_line (SetsDistance sender micros) next)
   set_far micros long source = by (nat_eq sender source) refl where
-    by : (b : Bool) → nat_eq sender source ≡ b → 10000 ≤ unwrap_or (option_or (cond b (Some micros) None) (newest (delay_given next.is.number source) next.is.calls)) 100000
+    by : (b : Bool) → nat_eq sender source ≡ b
+        → 10000 ≤ unwrap_or (option_or (cond b (Some micros) None) (told_last source next)) 100000
     by true same = long
     by false apart = heard_delay source false apart tt
 
@@ -221,7 +221,8 @@ module _ (sender sent : ℕ) (page : PageId) (marks : List MarkValue) (echoes : 
     p : Policy
     p = with_distance micros k.policy
 
-    by : (b : Bool) → nat_eq (bounded micros) micros ≡ b → let d = doing (with_distance micros k.policy) (cond b [] (SetsDistance sender (bounded micros) ∷ [])) in AreApt d.lines next × IsReady (having_done d (having (Hears v) k))
+    by : (b : Bool) → nat_eq (bounded micros) micros ≡ b
+        → let d = doing (with_distance micros k.policy) (cond b [] (SetsDistance sender (bounded micros) ∷ [])) in AreApt d.lines next × IsReady (having_done d (having (Hears v) k))
     by true same =
         let long : 10000 ≤ micros = subst (λ (m : ℕ). 10000 ≤ m) (eqb-true (bounded micros) micros same) (bounded_long micros) in
         (tt, record { far = told_far (subst (λ (o : Option ℕ). IfSome o (λ micros. 10000 ≤ micros)) (sym e) long); usual = usual_long k.policy.usual micros ready.usual })
@@ -248,9 +249,9 @@ parts_keep_apt = record {
   arrives = λ d k. safely k (Arrives d ∷ []) k.policy (λ far. ((tt, tt), λ source. far source)) (λ u. u);
   answered = λ d k lacks asked. safely k (Arrives d ∷ []) _ (λ far. ((tt, tt), λ source. far source)) (λ u. u);
   hears_request = λ asker name k. safely k (Hears (Request asker name) ∷ []) k.policy
-      (λ far. ((far name.source, tt), heard_far (Request asker name) k.host (λ source. none_told (nat_eq asker k.host.is.number) (newest (delay_given k.host.is.number source) k.host.is.calls) (far source)) far)) (λ u. u);
+      (λ far. ((far name.source, tt), heard_far (Request asker name) k.host (λ source. none_told (nat_eq asker k.host.is.number) (told_last source k.host) (far source)) far)) (λ u. u);
   hears_marks = λ sender page marks k. safely k (Hears (PageState sender page marks) ∷ []) k.policy
-      (λ far. ((tt, tt), heard_far (PageState sender page marks) k.host (λ source. none_told (nat_eq sender k.host.is.number) (newest (delay_given k.host.is.number source) k.host.is.calls) (far source)) far)) (λ u. u);
+      (λ far. ((tt, tt), heard_far (PageState sender page marks) k.host (λ source. none_told (nat_eq sender k.host.is.number) (told_last source k.host) (far source)) far)) (λ u. u);
   hears_distance = λ sender sent page marks echoes k other. record { at = refl; apt = λ ready. distance_apt sender sent page marks echoes k other ready };
   stops = λ name k full. safely k (Stops name ∷ []) k.policy (stops_safe name k.host) (λ u. u);
   tunes = λ constants k within. safely k (Tunes constants ∷ []) k.policy (λ far. ((first_constant constants within, tt), λ source. far source)) (λ u. u);

@@ -139,16 +139,20 @@ spaced_long t (Notice name now delay word ∷ events) n one spaced =
 spaced_long t (Asked name true now delay word ∷ events) n one spaced =
     let s = timers_of t events n in
     let is = spaced_long t events n one spaced.1 in
-    either_long (same_name name n) s (asked (constants_after t events) true now delay word s) is (subst IsLong (sym (asked_held (constants_after t events) now delay word s)) is)
+    let t_now = constants_after t events in
+    either_long (same_name name n) s (asked t_now true now delay word s) is (subst IsLong (sym (asked_held t_now now delay word s)) is)
 spaced_long t (Asked name false now delay word ∷ events) n one spaced =
     let s = timers_of t events n in
     let is = spaced_long t events n one spaced.1 in
-    either_long (same_name name n) s (asked (constants_after t events) false now delay word s) is (heard_long (constants_after t events) now delay word (spaced_constants t events one spaced.1) spaced.0 s.ask is)
+    let t_now = constants_after t events in
+    either_long (same_name name n) s (asked t_now false now delay word s) is (heard_long t_now now delay word (spaced_constants t events one spaced.1) spaced.0 s.ask is)
 spaced_long t (Got name now delay ∷ events) n one spaced =
     let s = timers_of t events n in
     let is = spaced_long t events n one spaced.1 in
     either_long (same_name name n) s (got now delay s) is (got_long now delay s is)
-spaced_long t (Tick now words ∷ events) n one spaced = fired_long (constants_after t events) now (word_for words (due_asks (names_of events) (λ m. timers_of t events m) now) n) (timers_of t events n).ask (spaced_long t events n one spaced.1)
+spaced_long t (Tick now words ∷ events) n one spaced =
+    let word = word_for words (due_asks (names_of events) (λ m. timers_of t events m) now) n in
+    fired_long (constants_after t events) now word (timers_of t events n).ask (spaced_long t events n one spaced.1)
 spaced_long t (Tune constants ∷ events) n one spaced = spaced_long t events n one spaced.1
 
 -- ---- names that have come
@@ -163,7 +167,8 @@ no_ask s h = by s.ask s.answer h where
   by None b e = refl
   by (Some a) b e = absurd (true≢false e)
 
-pub receipts_rest : (t : Tuning) (now : ℕ) (events : List Event) (received : List Received) (n : NameValue) → Rests (timers_of t events n).ask (timers_of t (receipts now events received) n).ask
+pub receipts_rest : (t : Tuning) (now : ℕ) (events : List Event) (received : List Received) (n : NameValue)
+    → Rests (timers_of t events n).ask (timers_of t (receipts now events received) n).ask
 receipts_rest t now events received n = by (is_received received n) refl where
   s : Timers
   s = timers_of t events n

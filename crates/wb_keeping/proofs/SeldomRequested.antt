@@ -18,7 +18,9 @@ use Rattle.wb_keeping.proofs.SpacedLines.{AreApt, IsSpacedHost, Moves, ask_at, l
 
 -- requests in what is sent, and then sent
 count_both : (n : NameValue) (one other : List Datagram) → request_count n (one ++ other) ≡ request_count n one + request_count n other
-count_both n one other = ap (λ (sent : List Datagram). length sent) (filter-append (requests n) one other) ∙ length-append (filter (requests n) one) (filter (requests n) other)
+count_both n one other =
+    ap (λ (sent : List Datagram). length sent) (filter-append (requests n) one other)
+    ∙ length-append (filter (requests n) one) (filter (requests n) other)
 
 module _ (n : NameValue) (begin end : ℕ) (short : end ≤ begin + 600000000) where
   -- it was requested so often: its level is no lower, and after 16 times it is due behind the end
@@ -50,7 +52,8 @@ module _ (n : NameValue) (begin end : ℕ) (short : end ≤ begin + 600000000) w
       let high : times ≤ b.y.level = omega (arith, level, le) in
       subst (IsAfter times) (sym b.is) (high, λ (e : times ≡ 16). waits_long b.y.level b.y.due now behind b.due (omega (arith, level, le, e)))
 
-  moved : (times now count : ℕ) (line : Line) (old new : Option AskTimer) → times ≤ 16 → begin ≤ now → now ≤ end → IsAfter times old → (line ≡ Asks n → ⊥) → Moves n line now count old new → Requested times count new
+  moved : (times now count : ℕ) (line : Line) (old new : Option AskTimer) → times ≤ 16 → begin ≤ now → now ≤ end → IsAfter times old → (line ≡ Asks n → ⊥)
+      → Moves n line now count old new → Requested times count new
   moved times now count line old new most behind within is other moves = ⊎_elim
       (λ (r : Rests old new × (count ≡ 0)). let none = r.1 in record { then = times; most = most; more = omega (arith, none); after = rests_after times old new is r.0 })
       (λ (rest : ((b : Backs now old new) × (count ≤ 1) × ((count ≡ 0) ⊎ (b.x.due ≤ now))) ⊎ (line ≡ Asks n)). ⊎_elim
@@ -60,13 +63,19 @@ module _ (n : NameValue) (begin end : ℕ) (short : end ≤ begin + 600000000) w
       (λ (asks : line ≡ Asks n). absurd (other asks))
       rest)
       moves where
-        backs : (b : Backs now old new) → count ≤ 1 → (count ≡ 0) ⊎ (b.x.due ≤ now) → (times ≤ b.x.level) × (times ≡ 16 → end < b.x.due) → (under : Bool) → nat_lt times 16 ≡ under → Requested times count new
+        backs : (b : Backs now old new) → count ≤ 1 → (count ≡ 0) ⊎ (b.x.due ≤ now) → (times ≤ b.x.level) × (times ≡ 16 → end < b.x.due) → (under : Bool)
+            → nat_lt times 16 ≡ under → Requested times count new
         backs b few fired was true e =
             let lt = ltb-true times 16 e in
             let le = was.0 in
             ⊎_elim
             (λ (none : count ≡ 0). record { then = times; most = most; more = omega (arith, none); after = backed_after times now old new b behind (omega (arith, le, lt)) })
-            (λ (due : b.x.due ≤ now). record { then = times + 1; most = omega (arith, lt); more = omega (arith, few); after = backed_after (times + 1) now old new b behind (omega (arith, le, lt)) })
+            (λ (due : b.x.due ≤ now). record {
+              then = times + 1;
+              most = omega (arith, lt);
+              more = omega (arith, few);
+              after = backed_after (times + 1) now old new b behind (omega (arith, le, lt));
+            })
             fired
         backs b few fired was false e =
             let ge = ltb-false times 16 e in
@@ -85,7 +94,8 @@ module _ (n : NameValue) (begin end : ℕ) (short : end ≤ begin + 600000000) w
   behind_next [] host apt behind = tt
   behind_next (line ∷ lines) host apt behind = let later = line_later line host apt.0 in omega (arith, later, behind)
 
-  seldom : (lines : List Line) (host : Opened) (times : ℕ) → AreApt lines host → IsSpacedHost host → (Contains lines (Asks n) → ⊥) → IsBehind lines host → present (after_lines lines host) ≤ end
+  seldom : (lines : List Line) (host : Opened) (times : ℕ) → AreApt lines host → IsSpacedHost host → (Contains lines (Asks n) → ⊥) → IsBehind lines host
+      → present (after_lines lines host) ≤ end
       → times ≤ 16 → IsAfter times (ask_at n host) → request_count n (sent_by_lines lines host) + times ≤ 16
   seldom [] host times apt spaced none behind within most is = omega (arith, most)
   seldom (line ∷ lines) host times apt spaced none behind within most is =
@@ -93,8 +103,11 @@ module _ (n : NameValue) (begin end : ℕ) (short : end ≤ begin + 600000000) w
       let later = lines_later lines next apt.1 in
       let count = request_count n (sent_by_line line host) in
       let moves = line_moves n line host apt.0 spaced in
-      let one = moved times (present next) count line (ask_at n host) (ask_at n next) most behind (omega (arith, later, within)) is (λ e. none (subst (λ (l : Line). Contains (line ∷ lines) l) e (Contains-here line lines))) moves in
-      let rest = seldom lines next one.then apt.1 (line_spaced line host apt.0 spaced) (λ c. none (Contains-there line (Asks n) lines c)) (behind_next lines next apt.1 behind) within one.most one.after in
+      let other = λ (e : line ≡ Asks n). none (subst (λ (l : Line). Contains (line ∷ lines) l) e (Contains-here line lines)) in
+      let one = moved times (present next) count line (ask_at n host) (ask_at n next) most behind (omega (arith, later, within)) is other moves in
+      let none_later = λ (c : Contains lines (Asks n)). none (Contains-there line (Asks n) lines c) in
+      let after = line_spaced line host apt.0 spaced in
+      let rest = seldom lines next one.then apt.1 after none_later (behind_next lines next apt.1 behind) within one.most one.after in
       let more = one.more in
       let both = count_both n (sent_by_line line host) (sent_by_lines lines next) in
       omega (arith, rest, more, both)

@@ -1,40 +1,38 @@
 -- What one line makes of the request timer of a name, and how many requests for the name it sends.
 use Rattle.std.proofs.Common.{◌≡◌, ℕ, suc, ◌≤◌, Bool, true, false, cond, List, [], ◌∷◌, ◌++◌, ◌∙◌, Option, Some, None, ap, arith, filter, inl, inr, length, map, refl, subst, sym, true≢false, ⊎_elim}
 use Rattle.std.specs.Prelude.{◌⊎◌, Contains, nat_eq}
-use Rattle.std.specs.List.{cons_option, filter_map}
+use Rattle.std.specs.List.{filter_map}
 use Rattle.std.specs.List.Sorted.{IsStrictlySortedBy}
-use Rattle.std.specs.Option.{option_map}
 use Rattle.std.specs.Ordering.{is_eq}
 use Rattle.std.proofs.lemmas.List.Elements.{filter_map-append}
 use Rattle.std.proofs.lemmas.Map.Keys.{sorted_tail}
-use Rattle.wb_names.specs.Arrivals.{Outcome, Fresh, Known, Clashed, Left}
 use Rattle.wb_names.specs.Orders.{name_cmp, same_name}
 use Rattle.wb_names.specs.Values.{DrawopValue, NameValue}
 use Rattle.wb_names.proofs.Listings.{Contains-here, Contains-there, below_all}
 use Rattle.wb_names.proofs.Orders.{name_total, same_name-is}
 use Rattle.wb_codec.specs.declared.datagram.Datagram.{Datagram}
 use Rattle.wb_codec.specs.declared.datagram.Datagram.TheVariants.{Draw, Session, Request, AskPages, PageState}
-use Rattle.wb_gaps.specs.Answers.{reports_of}
-use Rattle.wb_gaps.specs.declared.page_reports.PageReport.{PageReport}
 use Rattle.wb_recovery.specs.Events.{Asked, Event, constants_after, due_answers, due_asks, names_of, timers_of, word_for}
 use Rattle.wb_recovery.specs.Stopping.{receipts}
 use Rattle.wb_recovery.specs.Timing.{asked, fired_ask, is_ask_due, noticed}
+use Rattle.wb_recovery.specs.declared.missed.Received.{Received}
 use Rattle.wb_recovery.specs.declared.plan.Action.TheVariants.{Ask, Answer}
 use Rattle.wb_recovery.specs.declared.timers.AskTimer.{AskTimer}
 use Rattle.wb_recovery.specs.declared.timers.Timers.{Timers}
 use Rattle.wb_recovery.specs.declared.tuning.Tuning.{Tuning}
 use Rattle.wb_recovery.proofs.NameLists.{listed_of}
 use Rattle.wb_recovery.proofs.NameOrder.{name_decides}
-use Rattle.wb_host.specs.Hearing.{asks_for_held, asks_for_pages, page_states}
+use Rattle.wb_host.specs.Hearing.{asks_for_held}
 use Rattle.wb_host.specs.Keeper.{asked_by, delay_to, given_up, holds, received_of}
-use Rattle.wb_host.specs.Ticks.{drawop_of, sent_for, stopped_after}
+use Rattle.wb_host.specs.Ticks.{sent_for, stopped_after}
 use Rattle.wb_member.specs.Judged.{delay}
 use Rattle.wb_member.specs.Members.{Misses}
 use Rattle.wb_member.specs.Opened.{Opened, accepted, asks_for, becomes, doing, due_count, events, has_room_for, heard, may_ask, present, word_at}
 use Rattle.wb_member.specs.Random.{word_of, words_of}
-use Rattle.wb_keeping.specs.Bounds.{request_count, requests}
+use Rattle.wb_keeping.specs.Bounds.{is_request, request_count, requests}
 use Rattle.wb_keeping.specs.Kept.{Arrives, Asks, Hears, Line, Says, SetsDistance, Stops, Ticks, Tunes}
 use Rattle.wb_keeping.specs.Performing.{after_line, after_lines, said_where, sent_by_line}
+use Rattle.wb_keeping.proofs.StandingTimers.{answers_in, drawn_requests, heard_requests}
 use Rattle.wb_keeping.proofs.BackedOff.{AreSpaced, Backs, IsLong, Rests, asked_backs, fired_backs, receipts_rest, spaced_constants, spaced_long, spaced_receipts}
 
 -- ---- lines by which no delay below 10 milliseconds comes to a timer
@@ -66,7 +64,18 @@ AreApt (line ∷ lines) host = IsApt line host × AreApt lines (after_line line 
 abbrev pub IsSpacedHost : Opened → Type 0
 IsSpacedHost host = (1 ≤ host.is.constants.c1) × AreSpaced (events host)
 
-asked_spaced : (me now : ℕ) (delays : ℕ → ℕ) (asker : ℕ) (name : NameValue) (word : ℕ) (held : Bool) (calls : List Event) → 10000 ≤ delays name.source → AreSpaced calls → AreSpaced (asked_by me delays now (Request asker name) word held calls)
+-- a host that begins to miss a name; what comes by a tick, and by a drawop
+abbrev pub missing : NameValue → Opened → Opened
+missing name host = doing (Misses (present host) (name ∷ []) (word_of host.random ∷ [])) 1 host
+
+abbrev come_by_tick : Opened → List Received
+come_by_tick host = received_of (delay_to host.is.number host.is.calls) (stopped_after host.is.number host.is.constants host.is.calls host.is.held)
+
+abbrev come_by : DrawopValue → Opened → List Received
+come_by d host = received_of (delay_to host.is.number host.is.calls) (filter (holds (accepted d host).is.held) (d.name ∷ []))
+
+asked_spaced : (me now : ℕ) (delays : ℕ → ℕ) (asker : ℕ) (name : NameValue) (word : ℕ) (held : Bool) (calls : List Event) → 10000 ≤ delays name.source
+    → AreSpaced calls → AreSpaced (asked_by me delays now (Request asker name) word held calls)
 asked_spaced me now delays asker name word held calls long spaced = by (nat_eq asker me) held where
   by : (own held : Bool) → AreSpaced (cond own calls (Asked name held now (delays (cond held asker name.source)) word ∷ calls))
   by true held = spaced
@@ -74,14 +83,14 @@ asked_spaced me now delays asker name word held calls long spaced = by (nat_eq a
   by false false = (long, spaced)
 
 arrival_spaced : (d : DrawopValue) (host : Opened) → IsSpacedHost host → IsSpacedHost (accepted d host)
-arrival_spaced d host is = (is.0, spaced_receipts (present host) (events host) (received_of (delay_to host.is.number host.is.calls) (filter (holds (accepted d host).is.held) (d.name ∷ []))) is.1)
+arrival_spaced d host is = (is.0, spaced_receipts (present host) (events host) (come_by d host) is.1)
 
 pub either_host : (P : Opened → Type 0) (b : Bool) (one other : Opened) → P one → P other → P (cond b one other)
 either_host P true one other p q = p
 either_host P false one other p q = q
 
 pub tick_spaced : (now : ℕ) (host : Opened) → IsSpacedHost host → IsSpacedHost (after_line (Ticks now) host)
-tick_spaced now host is = (is.0, (tt, spaced_receipts now (events host) (received_of (delay_to host.is.number host.is.calls) (stopped_after host.is.number host.is.constants host.is.calls host.is.held)) is.1))
+tick_spaced now host is = (is.0, (tt, spaced_receipts now (events host) (come_by_tick host) is.1))
 
 pub line_spaced : (line : Line) (host : Opened) → IsApt line host → IsSpacedHost host → IsSpacedHost (after_line line host)
 line_spaced (Ticks now) host apt is = tick_spaced now host is
@@ -93,12 +102,12 @@ line_spaced (Hears (Session sender sent page marks echoes)) host apt is =
 line_spaced (Hears (Request asker name)) host apt is =
     let v = Request asker name in
     either_host IsSpacedHost (has_room_for v host) (heard v host) host
-    (is.0, asked_spaced host.is.number (present host) (delay_to host.is.number host.is.calls) asker name (word_at v host.random) (asks_for_held host.is.held v) (events host) apt is.1) is
+    (is.0, asked_spaced host.is.number (present host) (delay host) asker name (word_at v host.random) (asks_for_held host.is.held v) (events host) apt is.1) is
 line_spaced (Hears (AskPages asker)) host apt is = either_host IsSpacedHost (has_room_for (AskPages asker) host) (heard (AskPages asker) host) host is is
 line_spaced (Hears (PageState sender page marks)) host apt is =
     let v = PageState sender page marks in
     either_host IsSpacedHost (has_room_for v host) (heard v host) host is is
-line_spaced (Asks name) host apt is = either_host IsSpacedHost (may_ask name host) (doing (Misses (present host) (name ∷ []) (word_of host.random ∷ [])) 1 host) host (is.0, (apt, is.1)) is
+line_spaced (Asks name) host apt is = either_host IsSpacedHost (may_ask name host) (missing name host) host (is.0, (apt, is.1)) is
 line_spaced (Stops name) host apt is = (is.0, by (asks_for name host)) where
   by : (b : Bool) → AreSpaced (given_up (present host) name b (events host))
   by true = spaced_receipts (present host) (events host) (received_of (λ source. 0) (name ∷ [])) is.1
@@ -117,14 +126,17 @@ lines_spaced (line ∷ lines) host apt is = lines_spaced lines (after_line line 
 
 -- ---- time does not go back
 
-same_moment : (host : Opened) → present host ≤ present host
+abbrev IsNotBefore : Opened → Opened → Type 0
+IsNotBefore host next = present host ≤ present next
+
+same_moment : (host : Opened) → IsNotBefore host host
 same_moment host = omega arith
 
 pub line_later : (line : Line) (host : Opened) → IsApt line host → present host ≤ present (after_line line host)
 line_later (Ticks now) host apt = apt
 line_later (Arrives d) host apt = same_moment host
-line_later (Hears v) host apt = either_host (λ (h : Opened). present host ≤ present h) (has_room_for v host) (heard v host) host (same_moment host) (same_moment host)
-line_later (Asks name) host apt = either_host (λ (h : Opened). present host ≤ present h) (may_ask name host) (doing (Misses (present host) (name ∷ []) (word_of host.random ∷ [])) 1 host) host (same_moment host) (same_moment host)
+line_later (Hears v) host apt = either_host (IsNotBefore host) (has_room_for v host) (heard v host) host (same_moment host) (same_moment host)
+line_later (Asks name) host apt = either_host (IsNotBefore host) (may_ask name host) (missing name host) host (same_moment host) (same_moment host)
 line_later (Stops name) host apt = same_moment host
 line_later (SetsDistance source micros) host apt = same_moment host
 line_later (Tunes constants) host apt = same_moment host
@@ -144,26 +156,39 @@ lines_later (line ∷ lines) host apt =
 -- ---- requests for a name
 
 module _ (n : NameValue) where
-  asks_in : (me : ℕ) (history : List DrawopValue) (names : List NameValue) (sent : List Datagram) → request_count n sent ≡ 0 → request_count n (filter_map (sent_for me history) (map Ask names) ++ sent) ≡ length (filter (λ m. same_name m n) names)
+  fewer : (sent : List Datagram) → request_count n sent ≤ length (filter is_request sent)
+  fewer [] = omega arith
+  fewer (Draw d ∷ sent) = fewer sent
+  fewer (Session sender sent_at page marks echoes ∷ sent) = fewer sent
+  fewer (Request asker name ∷ sent) = by (same_name name n) (fewer sent) where
+    by : (b : Bool) → request_count n sent ≤ length (filter is_request sent)
+        → length (cond b (Request asker name ∷ filter (requests n) sent) (filter (requests n) sent)) ≤ suc (length (filter is_request sent))
+    by true le = omega (arith, le)
+    by false le = omega (arith, le)
+  fewer (AskPages asker ∷ sent) = fewer sent
+  fewer (PageState sender page marks ∷ sent) = fewer sent
+
+  -- where nothing is requested, the name is not
+  none_for : (sent : List Datagram) → length (filter is_request sent) ≡ 0 → request_count n sent ≡ 0
+  none_for sent none = let le = fewer sent in omega (arith, le, none)
+
+  asks_in : (me : ℕ) (history : List DrawopValue) (names : List NameValue) (sent : List Datagram) → request_count n sent ≡ 0
+      → request_count n (filter_map (sent_for me history) (map Ask names) ++ sent) ≡ length (filter (λ m. same_name m n) names)
   asks_in me history [] sent none = none
   asks_in me history (m ∷ names) sent none = by (same_name m n) (asks_in me history names sent none) where
     rest : List Datagram
     rest = filter_map (sent_for me history) (map Ask names) ++ sent
 
-    by : (b : Bool) → request_count n rest ≡ length (filter (λ m. same_name m n) names) → length (cond b (Request me m ∷ filter (requests n) rest) (filter (requests n) rest)) ≡ length (cond b (m ∷ filter (λ m. same_name m n) names) (filter (λ m. same_name m n) names))
+    by : (b : Bool) → request_count n rest ≡ length (filter (λ m. same_name m n) names)
+        → length (cond b (Request me m ∷ filter (requests n) rest) (filter (requests n) rest)) ≡ length (cond b (m ∷ filter (λ m. same_name m n) names) (filter (λ m. same_name m n) names))
     by true e = ap suc e
     by false e = e
 
-  answers_in : (me : ℕ) (history : List DrawopValue) (names : List NameValue) → request_count n (filter_map (sent_for me history) (map Answer names)) ≡ 0
-  answers_in me history [] = refl
-  answers_in me history (m ∷ names) = by (drawop_of history m) (answers_in me history names) where
-    by : (o : Option DrawopValue) → request_count n (filter_map (sent_for me history) (map Answer names)) ≡ 0 → request_count n (cons_option (option_map Draw o) (filter_map (sent_for me history) (map Answer names))) ≡ 0
-    by None rest = rest
-    by (Some d) rest = rest
-
   none_in : (names : List NameValue) → ((m : NameValue) → Contains names m → same_name m n ≡ false) → length (filter (λ m. same_name m n) names) ≡ 0
   none_in [] other = refl
-  none_in (m ∷ names) other = ap (λ (b : Bool). length (cond b (m ∷ filter (λ m. same_name m n) names) (filter (λ m. same_name m n) names))) (other m (Contains-here m names)) ∙ none_in names (λ z c. other z (Contains-there m z names c))
+  none_in (m ∷ names) other =
+      let rest = filter (λ m. same_name m n) names in
+      ap (λ (b : Bool). length (cond b (m ∷ rest) rest)) (other m (Contains-here m names)) ∙ none_in names (λ z c. other z (Contains-there m z names c))
 
   once_in : (names : List NameValue) → IsStrictlySortedBy name_cmp names → length (filter (λ m. same_name m n) names) ≤ 1
   once_in [] rises = omega arith
@@ -175,14 +200,15 @@ module _ (n : NameValue) where
         let same : m ≡ z = first ∙ sym (same_name-is z n e) in
         absurd (true≢false (sym ((name_decides m z).1 same) ∙ ap is_eq less))
 
-    by : (b : Bool) → same_name m n ≡ b → length (filter (λ m. same_name m n) names) ≤ 1 → length (cond b (m ∷ filter (λ m. same_name m n) names) (filter (λ m. same_name m n) names)) ≤ 1
+    by : (b : Bool) → same_name m n ≡ b → length (filter (λ m. same_name m n) names) ≤ 1
+        → length (cond b (m ∷ filter (λ m. same_name m n) names) (filter (λ m. same_name m n) names)) ≤ 1
     by true e rest = let none = none_in names (λ z c. apart (same_name-is m n e) z c (same_name z n) refl) in omega (arith, none)
     by false e rest = rest
 
   -- a tick requests it once at most, and only if its timer is due
   module _ (now : ℕ) (host : Opened) where
     abbrev then_calls : List Event
-    then_calls = receipts now (events host) (received_of (delay_to host.is.number host.is.calls) (stopped_after host.is.number host.is.constants host.is.calls host.is.held))
+    then_calls = receipts now (events host) (come_by_tick host)
 
     abbrev due : List NameValue
     due = due_asks (names_of then_calls) (timers_of host.is.constants then_calls) now
@@ -192,8 +218,9 @@ module _ (n : NameValue) where
         let me = host.is.number in
         let history = host.is.held in
         let answering = due_answers (names_of then_calls) (timers_of host.is.constants then_calls) now in
-        let sent : sent_by_line (Ticks now) host ≡ filter_map (sent_for me history) (map Ask due) ++ filter_map (sent_for me history) (map Answer answering) = filter_map-append (sent_for me history) (map Ask due) (map Answer answering) in
-        ap (request_count n) sent ∙ asks_in me history due (filter_map (sent_for me history) (map Answer answering)) (answers_in me history answering)
+        let answers = filter_map (sent_for me history) (map Answer answering) in
+        let sent : sent_by_line (Ticks now) host ≡ filter_map (sent_for me history) (map Ask due) ++ answers = filter_map-append (sent_for me history) (map Ask due) (map Answer answering) in
+        ap (request_count n) sent ∙ asks_in me history due answers (none_for answers (answers_in me history answering))
 
     tick_once : request_count n (sent_by_line (Ticks now) host) ≤ 1
     tick_once =
@@ -209,23 +236,6 @@ module _ (n : NameValue) where
           let rising = listed_of (λ (s : Timers). is_ask_due now s.ask) refl host.is.constants then_calls in
           let is_due = (rising.members z).0 c in
           absurd (true≢false (sym (subst (λ (m : NameValue). is_ask_due now (timers_of host.is.constants then_calls m).ask ≡ true) (same_name-is z n e) is_due) ∙ later))
-
-  states_in : (f : PageReport → Datagram) → ((r : PageReport) → requests n (f r) ≡ false) → (reports : List PageReport) → request_count n (map f reports) ≡ 0
-  states_in f none [] = refl
-  states_in f none (r ∷ reports) = ap (λ (b : Bool). length (cond b (f r ∷ filter (requests n) (map f reports)) (filter (requests n) (map f reports)))) (none r) ∙ states_in f none reports
-
-  heard_none : (v : Datagram) (host : Opened) → request_count n (sent_by_line (Hears v) host) ≡ 0
-  heard_none v host = by (has_room_for v host) (asks_for_pages host.is.number v) where
-    by : (room pages : Bool) → request_count n (cond room (cond pages (page_states host.is.number host.is.held) []) []) ≡ 0
-    by true true = states_in (λ r. PageState host.is.number r.page r.marks) (λ r. refl) (reports_of host.is.held)
-    by true false = refl
-    by false pages = refl
-
-  drawn_none : (d : DrawopValue) (o : Outcome) → request_count n (said_where d o) ≡ 0
-  drawn_none d (Fresh i) = refl
-  drawn_none d (Known i) = refl
-  drawn_none d (Clashed i) = refl
-  drawn_none d Left = refl
 
   -- ---- its request timer
 
@@ -243,7 +253,8 @@ module _ (n : NameValue) where
       moved
 
   -- what came stops it, or not; then it fires, or not
-  fired_moves : (t : Tuning) (now word count : ℕ) (old mid : Option AskTimer) → Rests old mid → 1 ≤ t.c1 → IsLong mid → count ≤ 1 → (is_ask_due now mid ≡ false → count ≡ 0)
+  fired_moves : (t : Tuning) (now word count : ℕ) (old mid : Option AskTimer) → Rests old mid → 1 ≤ t.c1 → IsLong mid → count ≤ 1
+      → (is_ask_due now mid ≡ false → count ≡ 0)
       → Moves (Ticks now) now count old (fired_ask t now word mid)
   fired_moves t now word count old mid rests one long few none = ⊎_elim
       (λ (r : Rests mid (fired_ask t now word mid) × (is_ask_due now mid ≡ false)). inl (
@@ -261,9 +272,10 @@ module _ (n : NameValue) where
         none_some : (x : AskTimer) → ◌≡◌ {A = Option AskTimer} None (Some x) → ⊥
         none_some x e = cc
 
-  tick_moves : (now : ℕ) (host : Opened) → IsSpacedHost host → Moves (Ticks now) now (request_count n (sent_by_line (Ticks now) host)) (ask_at host) (ask_at (after_line (Ticks now) host))
+  tick_moves : (now : ℕ) (host : Opened) → IsSpacedHost host
+      → Moves (Ticks now) now (request_count n (sent_by_line (Ticks now) host)) (ask_at host) (ask_at (after_line (Ticks now) host))
   tick_moves now host is =
-      let stopped = received_of (delay_to host.is.number host.is.calls) (stopped_after host.is.number host.is.constants host.is.calls host.is.held) in
+      let stopped = come_by_tick host in
       let calls = receipts now (events host) stopped in
       let spaced = spaced_receipts now (events host) stopped is.1 in
       fired_moves (constants_after host.is.constants calls) now
@@ -281,7 +293,8 @@ module _ (n : NameValue) where
   as_before : (host : Opened) → Turns host host
   as_before host = inl (inl refl)
 
-  heard_turns : (asker : ℕ) (name : NameValue) (host : Opened) → 10000 ≤ delay host name.source → IsSpacedHost host → Turns host (heard (Request asker name) host)
+  heard_turns : (asker : ℕ) (name : NameValue) (host : Opened) → 10000 ≤ delay host name.source → IsSpacedHost host
+      → Turns host (heard (Request asker name) host)
   heard_turns asker name host long is = by (nat_eq asker host.is.number) (asks_for_held host.is.held (Request asker name)) where
     s : Timers
     s = timers_of host.is.constants (events host) n
@@ -327,16 +340,16 @@ module _ (n : NameValue) where
       either_host (Turns host) (has_room_for v host) (heard v host) host (inl (inl refl)) (as_before host)
 
   -- by a line that asks
-  asks_moves : (name : NameValue) (host : Opened) → Moves (Asks name) (present (after_line (Asks name) host)) 0 (ask_at host) (ask_at (after_line (Asks name) host))
+  asks_moves : (name : NameValue) (host : Opened)
+      → Moves (Asks name) (present (after_line (Asks name) host)) 0 (ask_at host) (ask_at (after_line (Asks name) host))
   asks_moves name host = by (same_name name n) refl where
-    asking_host : Opened
-    asking_host = doing (Misses (present host) (name ∷ []) (word_of host.random ∷ [])) 1 host
-
     s : Timers
     s = timers_of host.is.constants (events host) n
 
-    other : same_name name n ≡ false → (b : Bool) → ask_at (cond b asking_host host) ≡ ask_at host
-    other e true = ap (λ (b : Bool). (cond b (noticed (constants_after host.is.constants (events host)) (present host) (delay_to host.is.number host.is.calls name.source) (word_of host.random) s) s).ask) e
+    other : same_name name n ≡ false → (b : Bool) → ask_at (cond b (missing name host) host) ≡ ask_at host
+    other e true =
+        let t = constants_after host.is.constants (events host) in
+        ap (λ (b : Bool). (cond b (noticed t (present host) (delay host name.source) (word_of host.random) s) s).ask) e
     other e false = refl
 
     by : (b : Bool) → same_name name n ≡ b → Moves (Asks name) (present (after_line (Asks name) host)) 0 (ask_at host) (ask_at (after_line (Asks name) host))
@@ -350,18 +363,21 @@ module _ (n : NameValue) where
     by false = inl refl
 
   arrival_rests : (d : DrawopValue) (host : Opened) → Rests (ask_at host) (ask_at (accepted d host))
-  arrival_rests d host = receipts_rest host.is.constants (present host) (events host) (received_of (delay_to host.is.number host.is.calls) (filter (holds (accepted d host).is.held) (d.name ∷ []))) n
+  arrival_rests d host = receipts_rest host.is.constants (present host) (events host) (come_by d host) n
 
   pub line_moves : (line : Line) (host : Opened) → IsApt line host → IsSpacedHost host
       → Moves line (present (after_line line host)) (request_count n (sent_by_line line host)) (ask_at host) (ask_at (after_line line host))
   line_moves (Ticks now) host apt is = tick_moves now host is
   line_moves (Arrives d) host apt is = inl (arrival_rests d host, refl)
-  line_moves (Hears v) host apt is = quietly (Hears v) (present (after_line (Hears v) host)) (request_count n (sent_by_line (Hears v) host)) (ask_at host) (ask_at (after_line (Hears v) host)) (heard_none v host) (hears_turns v host apt is)
+  line_moves (Hears v) host apt is =
+      let next = after_line (Hears v) host in
+      let sent = sent_by_line (Hears v) host in
+      quietly (Hears v) (present next) (request_count n sent) (ask_at host) (ask_at next) (none_for sent (heard_requests v host (has_room_for v host))) (hears_turns v host apt is)
   line_moves (Asks name) host apt is = asks_moves name host
   line_moves (Stops name) host apt is = inl (stops_rest name host, refl)
   line_moves (SetsDistance source micros) host apt is = inl (inl refl, refl)
   line_moves (Tunes constants) host apt is = inl (inl refl, refl)
-  line_moves (Says (Draw d)) host apt is = inl (arrival_rests d host, drawn_none d (becomes d host))
+  line_moves (Says (Draw d)) host apt is = inl (arrival_rests d host, none_for (said_where d (becomes d host)) (drawn_requests d (becomes d host)))
   line_moves (Says (Session sender sent page marks echoes)) host apt is = inl (inl refl, refl)
   line_moves (Says (Request asker name)) host apt is = absurd apt
   line_moves (Says (AskPages asker)) host apt is = inl (inl refl, refl)
