@@ -54,8 +54,8 @@ requests n v = false
 abbrev pub request_count : NameValue → List Datagram → ℕ
 request_count n sent = length (filter (requests n) sent)
 
--- Whatever comes in, in ten minutes in which it is not asked for anew a name is requested at most 16 times. They are counted from the
--- moment of the first of some lines to that of the last. The constants are 1 to 16, and the usual distance at first is not below 10 milliseconds.
+-- Whatever comes in, a name is requested at most 15 times in ten minutes in which it is not asked for anew. They are counted from the moment
+-- of the first of some lines to that of the last. The constants are 1 to 16, and the usual distance is not below 10 milliseconds at first.
 abbrev pub NamesAreSeldomRequested : Type 0
 NamesAreSeldomRequested = (constants : Tuning) (number cells seed : ℕ) (moments : List ℕ) (policy : Policy) (lines : List KeptLine) (before : List Line) (first : Line) (part later : List Line) (n : NameValue)
     → let start = new_keeping constants number cells seed moments policy in
@@ -63,7 +63,7 @@ NamesAreSeldomRequested = (constants : Tuning) (number cells seed : ℕ) (moment
     are_constants constants ≡ true → IfSome policy.usual (λ usual. 10000 ≤ usual) → AreTaken lines start
     → expand lines start ≡ before ++ ((first ∷ part) ++ later) → ¬ Contains (first ∷ part) (Asks n)
     → present (after_lines (first ∷ part) host) ≤ present (after_line first host) + 600000000
-    → request_count n (sent_by_lines (first ∷ part) host) ≤ 16
+    → request_count n (sent_by_lines (first ∷ part) host) ≤ 15
 
 -- ---- names that are asked for
 

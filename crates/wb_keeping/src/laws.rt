@@ -45,8 +45,8 @@ pub fn few_timers_stand()
     ensures requests { FewRequestsAtOnce }
 {}
 
-/// Whatever comes in, a host that keeps itself from its opening on requests a name at most 16 times in ten minutes in which it is not
-/// asked for anew: each request backs its timer off by a level, and the wait of the sixteenth is longer than that.
+/// Whatever comes in, a host that keeps itself from its opening on requests a name at most 15 times in ten minutes in which it is not
+/// asked for anew: each request doubles the wait for the next, and those behind the first 15 take longer than that.
 pub fn names_are_seldom_requested()
     ensures { NamesAreSeldomRequested }
 {}
