@@ -10,7 +10,7 @@ from .datagrams import Echo, Mark, Page, Words, drawn, drawop, session
 from .judge import Judge
 from .model import Drawop, Model, Name
 from .policy import AskPages, Datagram, Kept, Message, Refused, Request, State, digits_of
-from .program import host
+from .program import Dialog, host
 from .sessions import ME, MEMBERS, PAGES, Session
 
 PAGE = (7, 1)
@@ -18,6 +18,7 @@ FORGED = 2**31
 SEED = 41
 SEEDS = range(1, 17)
 LINES = 400
+TEN_MINUTES = 600_000_000
 timers = Words(SEED)
 TIMERS = [timers.next() for _ in range(80)]
 policy = Words(SEED, 55)
@@ -513,6 +514,25 @@ class KeptSession(Session):
         return given, printed
 
 
+def judge_seldom(judge: Judge) -> None:
+    """A name of a far hole is not asked for anew in ten minutes, and is requested 15 times: the bound that is proved is reached."""
+    dialog = Dialog()
+    pages = [(7, number) for number in range(1, 61)]
+    for line in (f"board {ME} 100 1 {SEED}", "keep 1 0", "tuning 1 1 1 1", f"came 1000 {session(9, 50, PAGE, [], [(ME, 500, 500)])}"):
+        block = dialog.ask(line)
+    for page in pages:
+        block = dialog.ask(f"came 1000 {dot(9, page, 2)}")
+    wanted = f"send {datagrams.request(ME, 9, pages[-1], 1)}"
+    moments: list[int] = []
+    moment = 1000
+    while not moments or moment <= moments[0] + TEN_MINUTES:
+        moment = int(block.splitlines()[-1].removeprefix("ok "))
+        block = dialog.ask(f"tick {moment}")
+        moments += [moment] * block.splitlines().count(wanted)
+    dialog.end()
+    judge.equal("requests for one name in ten minutes", sum(at <= moments[0] + TEN_MINUTES for at in moments), 15)
+
+
 def judge_random(judge: Judge) -> None:
     for seed in SEEDS:
         given, printed = KeptSession(seed).conversation()
@@ -538,4 +558,5 @@ def judge_all(judge: Judge) -> None:
             judge.equal(f"kept: {name}", host(given), printed)
     judge_refused(judge)
     judge_kept_or_not(judge)
+    judge_seldom(judge)
     judge_random(judge)

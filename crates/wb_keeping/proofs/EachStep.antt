@@ -69,11 +69,77 @@ pub record HoldsOfSteps (R : Keeping → List Line → Keeping → Type 0) : Typ
   pub reports : (page : PageId) (told : Option ℕ) (k : Keeping) → nat_le k.policy.reports.due (present k.host) ≡ true
       → R k (reports_page page (slice_after told (report_of k.host.is.held page)) (sees k.host) k.policy).lines (after_doing (reports_page page (slice_after told (report_of k.host.is.held page))) k)
 
+-- The same, where a session message of another is one step with the distance that it tells.
+pub record HoldsOfParts (R : Keeping → List Line → Keeping → Type 0) : Type 0 where
+  pub nothing : (k : Keeping) → R k [] k
+  pub both : (k m n : Keeping) (one other : List Line) → R k one m → R m other n → R k (one ++ other) n
+  pub ticks : (now : ℕ) (k : Keeping) → present k.host ≤ now → R k (Ticks now ∷ []) (having (Ticks now) k)
+  pub arrives : (d : DrawopValue) (k : Keeping) → R k (Arrives d ∷ []) (having (Arrives d) k)
+  pub answered : (d : DrawopValue) (k : Keeping) → holds (view_of k.host) d.name ≡ false → is_asked (view_of k.host) d.name ≡ true → R k (Arrives d ∷ []) (with_policy (after_came k.policy) (having (Arrives d) k))
+  pub hears_request : (asker : ℕ) (name : NameValue) (k : Keeping) → R k (Hears (Request asker name) ∷ []) (having (Hears (Request asker name)) k)
+  pub hears_marks : (sender : ℕ) (page : PageId) (marks : List MarkValue) (k : Keeping) → R k (Hears (PageState sender page marks) ∷ []) (having (Hears (PageState sender page marks)) k)
+  pub hears_distance : (sender sent : ℕ) (page : PageId) (marks : List MarkValue) (echoes : List Echo) (k : Keeping) → nat_eq sender k.host.is.number ≡ false
+      → let echo = own_echo k.host.is.number echoes in
+      let m = having (Hears (Session sender sent page marks echo)) k in
+      let d = measures sender (distance_in (present k.host) echo) (sees m.host) k.policy in
+      R k (Hears (Session sender sent page marks echo) ∷ d.lines) (having_done d m)
+  pub stops : (name : NameValue) (k : Keeping) → is_full (view_of k.host) ≡ true → R k (Stops name ∷ []) (having (Stops name) k)
+  pub tunes : (constants : Tuning) (k : Keeping) → are_constants constants ≡ true → R k (Tunes constants ∷ []) (having (Tunes constants) k)
+  pub wants : (name : NameValue) (anew : Bool) (k : Keeping) → R k (want name anew (sees k.host) k.policy).lines (after_doing (want name anew) k)
+  pub draws : (d : DrawopValue) (k : Keeping) → R k (Says (Draw d) ∷ []) (having (Says (Draw d)) k)
+  pub turned : (t : Turns) (k : Keeping) → R k [] (with_policy (record k.policy { turns = t }) k)
+  pub told : (k : Keeping) → R k [] (with_policy (after_state (present k.host) k.policy) k)
+  pub takes_up : (k : Keeping) → is_to_answer (present k.host) (nat_lt 0 (length k.host.is.held)) k.policy.questions ≡ true → R k [] (with_policy (after_taking_up (present k.host) k.policy) k)
+  pub answers : (k : Keeping) → is_due (present k.host) k.policy.questions.answer ≡ true
+      → R k (map (λ page. Says (state_of (view_of k.host) page)) (take 64 (pages_of k.host.is.held))) (having_done (doing (after_answer (present k.host) k.policy) (map (λ page. Says (state_of (view_of k.host) page)) (take 64 (pages_of k.host.is.held)))) k)
+  pub asks_pages : (k : Keeping) → is_due (present k.host) k.policy.questions.ask ≡ true → R k (Says (AskPages k.host.is.number) ∷ []) (with_policy (after_question (present k.host) k.policy) k)
+  pub reports : (page : PageId) (told : Option ℕ) (k : Keeping) → nat_le k.policy.reports.due (present k.host) ≡ true
+      → R k (reports_page page (slice_after told (report_of k.host.is.held page)) (sees k.host) k.policy).lines (after_doing (reports_page page (slice_after told (report_of k.host.is.held page))) k)
+
+-- what is so of each step is so of these
+module _ (R : Keeping → List Line → Keeping → Type 0) (is : HoldsOfSteps R) where
+  measured_holds : (sender : ℕ) (distance : Option ℕ) (k : Keeping) → let d = measures sender distance (sees k.host) k.policy in R k d.lines (having_done d k)
+  measured_holds sender None k = is.nothing k
+  measured_holds sender (Some micros) k = by (nat_eq (bounded micros) micros) where
+    p : Policy
+    p = with_distance micros k.policy
+
+    by : (b : Bool) → let d = doing p (cond b [] (SetsDistance sender (bounded micros) ∷ [])) in R k d.lines (having_done d k)
+    by true = is.measured micros k
+    by false = is.both k (with_policy p k) (having_done (doing p (SetsDistance sender (bounded micros) ∷ [])) k) [] (SetsDistance sender (bounded micros) ∷ []) (is.measured micros k) (is.sets sender micros (with_policy p k))
+
+  parts_hold : HoldsOfParts R
+  parts_hold = record {
+    nothing = is.nothing;
+    both = is.both;
+    ticks = is.ticks;
+    arrives = is.arrives;
+    answered = is.answered;
+    hears_request = λ asker name k. is.hears (Request asker name) k;
+    hears_marks = λ sender page marks k. is.hears (PageState sender page marks) k;
+    hears_distance = λ sender sent page marks echoes k other.
+        let echo = own_echo k.host.is.number echoes in
+        let v = Session sender sent page marks echo in
+        let m = having (Hears v) k in
+        let d = measures sender (distance_in (present k.host) echo) (sees m.host) k.policy in
+        is.both k m (having_done d m) (Hears v ∷ []) d.lines (is.hears v k) (measured_holds sender (distance_in (present k.host) echo) m);
+    stops = is.stops;
+    tunes = is.tunes;
+    wants = is.wants;
+    draws = is.draws;
+    turned = is.turned;
+    told = is.told;
+    takes_up = is.takes_up;
+    answers = is.answers;
+    asks_pages = is.asks_pages;
+    reports = is.reports;
+  }
+
 pub either : (P : Doing → Type 0) (b : Bool) (one other : Doing) → (b ≡ true → P one) → (b ≡ false → P other) → P (cond b one other)
 either P true one other first second = first refl
 either P false one other first second = second refl
 
-module _ (R : Keeping → List Line → Keeping → Type 0) (is : HoldsOfSteps R) where
+module _ (R : Keeping → List Line → Keeping → Type 0) (is : HoldsOfParts R) where
   -- it holds of what a policy says that its host does, from a host on
   abbrev pub HoldsOf : Keeping → Doing → Type 0
   HoldsOf k d = R k d.lines (having_done d k)
@@ -213,30 +279,24 @@ module _ (R : Keeping → List Line → Keeping → Type 0) (is : HoldsOfSteps R
     by true e = is.arrives d k
     by false e = either (HoldsOf k) (is_full (view_of k.host)) (performs (Arrives d) (sees k.host) k.policy) new (λ full. is.arrives d k) (λ room. came_in d k (is_asked (view_of k.host) d.name) refl e)
 
-  measures_hold : (sender : ℕ) (distance : Option ℕ) → Holds (measures sender distance)
-  measures_hold sender None k = is.nothing k
-  measures_hold sender (Some micros) k = by (nat_eq (bounded micros) micros) where
-    p : Policy
-    p = with_distance micros k.policy
-
-    by : (b : Bool) → HoldsOf k (doing p (cond b [] (SetsDistance sender (bounded micros) ∷ [])))
-    by true = is.measured micros k
-    by false = from_policy p k (doing p (SetsDistance sender (bounded micros) ∷ [])) (is.measured micros k) (is.sets sender micros (with_policy p k))
-
-  session_holds : (sender sent : ℕ) (page : PageId) (marks : List MarkValue) (echoes : List Echo) → Holds (hears_session sender sent page marks echoes)
-  session_holds sender sent page marks echoes k =
+  session_holds : (sender sent : ℕ) (page : PageId) (marks : List MarkValue) (echoes : List Echo) (k : Keeping) → nat_eq sender k.host.is.number ≡ false → HoldsAt (hears_session sender sent page marks echoes) k
+  session_holds sender sent page marks echoes k other =
       let v = view_of k.host in
       let own = own_marks v.me (nat_lt v.now k.policy.ready) marks in
       let echo = own_echo v.me echoes in
-      let first = performs (Hears (Session sender sent page own echo)) in
-      let second = measures sender (distance_in v.now echo) in
-      let third = want_told (told_names v.me page marks) in
-      then_at first (and_then second third) k (is.hears (Session sender sent page own echo) k)
-      (then_holds second third (measures_hold sender (distance_in v.now echo)) (told_holds (told_names v.me page marks)) (after_doing first k))
+      let line = Hears (Session sender sent page own echo) in
+      let names = told_names v.me page marks in
+      let m = having line k in
+      let two = measures sender (distance_in v.now echo) (sees m.host) k.policy in
+      let behind = having_done two m in
+      let three = want_told names (sees behind.host) two.policy in
+      let joined : R k (line ∷ (two.lines ++ three.lines)) (having_done three behind) = is.both k behind (having_done three behind) (line ∷ two.lines) three.lines (is.hears_distance sender sent page own echoes k other) (told_holds names behind) in
+      let there = subst (λ (h : Opened). R k (line ∷ (two.lines ++ three.lines)) (record { host = h; policy = three.policy })) (sym (after_both two.lines three.lines m.host)) joined in
+      subst (λ (see : List Line → View). let e = want_told names see two.policy in HoldsOf k (doing e.policy (line ∷ (two.lines ++ e.lines)))) (sym (seen_then two.lines m.host)) there
 
   some_hold : (sender : ℕ) (page : PageId) (marks : List MarkValue) → Holds (hears_some sender page marks)
   some_hold sender page [] k = is.nothing k
-  some_hold sender page (m ∷ marks) k = is.hears (PageState sender page (m ∷ marks)) k
+  some_hold sender page (m ∷ marks) k = is.hears_marks sender page (m ∷ marks) k
 
   state_holds : (sender : ℕ) (page : PageId) (marks : List MarkValue) → Holds (hears_state sender page marks)
   state_holds sender page marks k =
@@ -252,15 +312,15 @@ module _ (R : Keeping → List Line → Keeping → Type 0) (is : HoldsOfSteps R
       either (HoldsOf k) (is_to_answer (present k.host) (nat_lt 0 (length k.host.is.held)) k.policy.questions) (still (sees k.host) p) (still (sees k.host) k.policy)
       (λ takes. is.takes_up k takes) (λ not_taken. is.nothing k)
 
-  of_other_holds : (sender : ℕ) (does : Transition) (k : Keeping) → HoldsAt does k → HoldsOf k (cond (nat_eq sender k.host.is.number) (still (sees k.host) k.policy) (does (sees k.host) k.policy))
-  of_other_holds sender does k it = either (HoldsOf k) (nat_eq sender k.host.is.number) (still (sees k.host) k.policy) (does (sees k.host) k.policy) (λ own. is.nothing k) (λ other. it)
+  of_other_holds : (sender : ℕ) (does : Transition) (k : Keeping) → (nat_eq sender k.host.is.number ≡ false → HoldsAt does k) → HoldsOf k (cond (nat_eq sender k.host.is.number) (still (sees k.host) k.policy) (does (sees k.host) k.policy))
+  of_other_holds sender does k it = either (HoldsOf k) (nat_eq sender k.host.is.number) (still (sees k.host) k.policy) (does (sees k.host) k.policy) (λ own. is.nothing k) it
 
   hears_holds : (v : Datagram) → Holds (hears v)
   hears_holds (Draw d) k = takes_holds d k
   hears_holds (Session sender sent page marks echoes) k = of_other_holds sender (hears_session sender sent page marks echoes) k (session_holds sender sent page marks echoes k)
-  hears_holds (PageState sender page marks) k = of_other_holds sender (hears_state sender page marks) k (state_holds sender page marks k)
-  hears_holds (Request asker name) k = of_other_holds asker (performs (Hears (Request asker name))) k (is.hears (Request asker name) k)
-  hears_holds (AskPages asker) k = of_other_holds asker takes_question k (question_holds k)
+  hears_holds (PageState sender page marks) k = of_other_holds sender (hears_state sender page marks) k (λ other. state_holds sender page marks k)
+  hears_holds (Request asker name) k = of_other_holds asker (performs (Hears (Request asker name))) k (λ other. is.hears_request asker name k)
+  hears_holds (AskPages asker) k = of_other_holds asker takes_question k (λ other. question_holds k)
 
   -- ---- lines
 
@@ -276,25 +336,32 @@ module _ (R : Keeping → List Line → Keeping → Type 0) (is : HoldsOfSteps R
   in_range true e = refl
   in_range false e = absurd cc
 
-  pub line_holds : (line : KeptLine) (k : Keeping) → fault_of line k ≡ None → HoldsAt (doing_of line) k
-  line_holds (Came now v) k none =
+  pub line_of_parts : (line : KeptLine) (k : Keeping) → fault_of line k ≡ None → HoldsAt (doing_of line) k
+  line_of_parts (Came now v) k none =
       let first = performs (Ticks now) in
       let later = leb-true _ _ (on_time (nat_le (present k.host) now) _ none) in
       then_at first (and_then (hears v) timed) k (is.ticks now k later) (then_holds (hears v) timed (hears_holds v) timed_holds (after_doing first k))
-  line_holds (Ticked now) k none =
+  line_of_parts (Ticked now) k none =
       let later = leb-true _ _ (on_time (nat_le (present k.host) now) _ none) in
       then_at (performs (Ticks now)) timed k (is.ticks now k later) (timed_holds (after_doing (performs (Ticks now)) k))
-  line_holds (Added now page time op) k none =
+  line_of_parts (Added now page time op) k none =
       let first = performs (Ticks now) in
       let second = draws_it page time op in
       let later = leb-true _ _ (on_time (nat_le (present k.host) now) _ (first_none _ _ none)) in
       then_at first (and_then second (and_then ends_full timed)) k (is.ticks now k later)
       (then_holds second (and_then ends_full timed) (λ k. is.draws (drawing (view_of k.host) page time op) k) (then_holds ends_full timed ends_hold timed_holds) (after_doing first k))
-  line_holds (Tuned constants) k none = is.tunes constants k (in_range (are_constants constants) none)
+  line_of_parts (Tuned constants) k none = is.tunes constants k (in_range (are_constants constants) none)
 
   -- all that a kept host does
-  pub all_hold : (lines : List KeptLine) (k : Keeping) → AreTaken lines k → R k (expand lines k) (after_kept lines k)
-  all_hold [] k taken = is.nothing k
-  all_hold (line ∷ lines) k taken =
+  pub all_parts_hold : (lines : List KeptLine) (k : Keeping) → AreTaken lines k → R k (expand lines k) (after_kept lines k)
+  all_parts_hold [] k taken = is.nothing k
+  all_parts_hold (line ∷ lines) k taken =
       let next = after_doing (doing_of line) k in
-      is.both k next (after_kept lines next) (doing_of line (sees k.host) k.policy).lines (expand lines next) (line_holds line k taken.0) (all_hold lines next taken.1)
+      is.both k next (after_kept lines next) (doing_of line (sees k.host) k.policy).lines (expand lines next) (line_of_parts line k taken.0) (all_parts_hold lines next taken.1)
+
+pub line_holds : (R : Keeping → List Line → Keeping → Type 0) → HoldsOfSteps R → (line : KeptLine) (k : Keeping) → fault_of line k ≡ None
+    → let d = doing_of line (sees k.host) k.policy in R k d.lines (having_done d k)
+line_holds R is line k none = line_of_parts R (parts_hold R is) line k none
+
+pub all_hold : (R : Keeping → List Line → Keeping → Type 0) → HoldsOfSteps R → (lines : List KeptLine) (k : Keeping) → AreTaken lines k → R k (expand lines k) (after_kept lines k)
+all_hold R is lines k taken = all_parts_hold R (parts_hold R is) lines k taken

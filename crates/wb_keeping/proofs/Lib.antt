@@ -22,3 +22,7 @@ pub mod HolesRise
 pub mod FairTurns
 pub mod ToldMarks
 pub mod WantedNames
+pub mod BackedOff
+pub mod SpacedLines
+pub mod AptLines
+pub mod SeldomRequested

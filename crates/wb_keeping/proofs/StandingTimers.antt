@@ -212,7 +212,7 @@ asks_in : (me : ℕ) (history : List DrawopValue) (names : List NameValue) (sent
 asks_in me history [] sent none = none
 asks_in me history (n ∷ names) sent none = ap suc (asks_in me history names sent none)
 
-answers_in : (me : ℕ) (history : List DrawopValue) (names : List NameValue) → length (filter is_request (filter_map (sent_for me history) (map Answer names))) ≡ 0
+pub answers_in : (me : ℕ) (history : List DrawopValue) (names : List NameValue) → length (filter is_request (filter_map (sent_for me history) (map Answer names))) ≡ 0
 answers_in me history [] = refl
 answers_in me history (n ∷ names) = by (drawop_of history n) (answers_in me history names) where
   by : (o : Option DrawopValue) → length (filter is_request (filter_map (sent_for me history) (map Answer names))) ≡ 0 → length (filter is_request (cons_option (option_map Draw o) (filter_map (sent_for me history) (map Answer names)))) ≡ 0
@@ -242,14 +242,14 @@ tick_requests now host =
       due_stands now None e = absurd (true≢false (sym e))
       due_stands now (Some a) e = refl
 
-heard_requests : (v : Datagram) (host : Opened) (room : Bool) → length (filter is_request (cond room (answers_to host.is.number host.is.held v) [])) ≡ 0
+pub heard_requests : (v : Datagram) (host : Opened) (room : Bool) → length (filter is_request (cond room (answers_to host.is.number host.is.held v) [])) ≡ 0
 heard_requests v host false = refl
 heard_requests v host true = by (asks_for_pages host.is.number v) where
   by : (b : Bool) → length (filter is_request (cond b (page_states host.is.number host.is.held) [])) ≡ 0
   by true = states_in (λ r. PageState host.is.number r.page r.marks) (λ r. refl) (reports_of host.is.held)
   by false = refl
 
-drawn_requests : (d : DrawopValue) (o : Outcome) → length (filter is_request (said_where d o)) ≡ 0
+pub drawn_requests : (d : DrawopValue) (o : Outcome) → length (filter is_request (said_where d o)) ≡ 0
 drawn_requests d (Fresh i) = refl
 drawn_requests d (Known i) = refl
 drawn_requests d (Clashed i) = refl

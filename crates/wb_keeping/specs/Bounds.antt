@@ -1,14 +1,17 @@
 -- Bounds on what a host that keeps itself asks for and says, whatever comes in.
-use Rattle.std.specs.Prelude.{◌≡◌, ℕ, ◌+◌, ◌-◌, ◌*◌, ◌≤◌, Bool, true, false, not, ◌&&◌, List, [], ◌∷◌, ◌++◌, filter, length, map, take, if◌then◌else◌}
+use Rattle.std.specs.Prelude.{◌≡◌, ℕ, ◌+◌, ◌-◌, ◌*◌, ◌≤◌, Bool, true, false, not, ◌&&◌, List, [], ◌∷◌, ◌++◌, Contains, IfSome, filter, length, map, take, if◌then◌else◌}
+use Rattle.wb_names.specs.Orders.{same_name}
+use Rattle.wb_names.specs.Values.{NameValue}
 use Rattle.wb_codec.specs.declared.datagram.Datagram.{Datagram}
 use Rattle.wb_codec.specs.declared.datagram.Datagram.TheVariants.{Session, Request, AskPages, PageState}
+use Rattle.wb_recovery.specs.Timing.{are_constants}
 use Rattle.wb_recovery.specs.declared.tuning.Tuning.{Tuning}
 use Rattle.wb_member.specs.Judged.{asked_names}
 use Rattle.wb_member.specs.Opened.{Opened, opened_with, present}
 use Rattle.wb_keeping.specs.Credit.{cost}
 use Rattle.wb_keeping.specs.Kept.{Line, Ticks, Arrives, Asks, Says}
 use Rattle.wb_keeping.specs.Laws.{AreTaken, KeptLine, after_kept, expand}
-use Rattle.wb_keeping.specs.Performing.{Keeping, after_line, after_lines, sent_by_line, view_of}
+use Rattle.wb_keeping.specs.Performing.{Keeping, after_line, after_lines, sent_by_line, sent_by_lines, view_of}
 use Rattle.wb_keeping.specs.Policy.{Policy, holds, is_asked}
 
 -- ---- timers
@@ -41,6 +44,26 @@ abbrev pub FewRequestsAtOnce : Type 0
 FewRequestsAtOnce = (constants : Tuning) (number cells seed : ℕ) (moments : List ℕ) (policy : Policy) (lines : List KeptLine) (before later : List Line) (line : Line)
     → let start = new_keeping constants number cells seed moments policy in
     AreTaken lines start → expand lines start ≡ before ++ line ∷ later → length (filter is_request (sent_by_line line (after_lines before start.host))) ≤ 64
+
+-- ---- requests for one name
+
+abbrev pub requests : NameValue → Datagram → Bool
+requests n (Request asker name) = same_name name n
+requests n v = false
+
+abbrev pub request_count : NameValue → List Datagram → ℕ
+request_count n sent = length (filter (requests n) sent)
+
+-- Whatever comes in, a name is requested at most 15 times in ten minutes in which it is not asked for anew. They are counted from the moment
+-- of the first of some lines to that of the last. The constants are 1 to 16, and the usual distance is not below 10 milliseconds at first.
+abbrev pub NamesAreSeldomRequested : Type 0
+NamesAreSeldomRequested = (constants : Tuning) (number cells seed : ℕ) (moments : List ℕ) (policy : Policy) (lines : List KeptLine) (before : List Line) (first : Line) (part later : List Line) (n : NameValue)
+    → let start = new_keeping constants number cells seed moments policy in
+    let host = after_lines before start.host in
+    are_constants constants ≡ true → IfSome policy.usual (λ usual. 10000 ≤ usual) → AreTaken lines start
+    → expand lines start ≡ before ++ ((first ∷ part) ++ later) → ¬ Contains (first ∷ part) (Asks n)
+    → present (after_lines (first ∷ part) host) ≤ present (after_line first host) + 600000000
+    → request_count n (sent_by_lines (first ∷ part) host) ≤ 15
 
 -- ---- names that are asked for
 

@@ -1,7 +1,7 @@
 //! What follows of a policy, proved for all runs of it. The functions do nothing: each stands here
 //! for its clause.
 
-ghost use Rattle.wb_keeping.specs.Bounds.{FewNamesAreAsked, FewRequestsAtOnce, FewTimersStand, LittleIsSaid};
+ghost use Rattle.wb_keeping.specs.Bounds.{FewNamesAreAsked, FewRequestsAtOnce, FewTimersStand, LittleIsSaid, NamesAreSeldomRequested};
 ghost use Rattle.wb_keeping.specs.Fairness.{EachHoleHasItsTurn, EachMarkIsTold, EachNumberHasItsTurn, OnlyHeldIsAnswered, ReportsTell, TurnsAreTaken, WantedIsAsked};
 ghost use Rattle.wb_keeping.specs.Laws.{ANumberIsLeft, DrawingIsNotLocked, FewAreAsked, KeptHostsAreHosts, NothingIsDue, ReportsAreSmall, SlicesAreShort, TimeComesFirst, WantedIsPaid};
 
@@ -47,6 +47,13 @@ pub fn drawing_is_never_locked()
 pub fn few_timers_stand()
     ensures timers { FewTimersStand }
     ensures requests { FewRequestsAtOnce }
+{}
+
+/// Whatever comes in, a host that keeps itself from its opening on requests a name at most 15 times
+/// in ten minutes in which it is not asked for anew: each request doubles the wait for the next,
+/// and those behind the first 15 take longer than that.
+pub fn names_are_seldom_requested()
+    ensures { NamesAreSeldomRequested }
 {}
 
 /// Whatever comes in, a host that keeps itself asks from one moment to another for at most 64
