@@ -6,7 +6,7 @@ ghost use Rattle.wb_names.specs.Shapes.{op_of};
 ghost use Rattle.wb_member.specs.Holding.{IsOpenAt, outcome_in};
 ghost use Rattle.wb_member.specs.Opened.{Opened, present};
 ghost use Rattle.wb_keeping.specs.Kept.{Tunes, adds, came, drawing, performs, ticks};
-ghost use Rattle.wb_keeping.specs.Performing.{IsKeptAt, Keeping, after_doing, due, sent_by_doing, view_of};
+ghost use Rattle.wb_keeping.specs.Performing.{IsKeptAt, Keeping, LeavesSome, after_doing, due, sent_by_doing, view_of};
 ghost use Rattle.wb_keeping.specs.Policy.{begun};
 ghost use Rattle.wb_keeping.specs.Refusing.{IsRefusedBy, add_fault, came_as, came_fault, drawing_fault, drawn_as, is_unknown, is_unknown_of_ours, tick_fault};
 
@@ -89,6 +89,7 @@ impl KeptMember {
         ensures fault { (k : Keeping) → IsKeptAt self.old k → IsRefusedBy (came_fault now datagram.now k) result }
         ensures refused { (k : Keeping) → IsKeptAt self.old k → IsTrue (is_some (came_fault now datagram.now k)) → self.new ≡ self.old }
         ensures sent { IfOk result (λ done. (k : Keeping) → IsKeptAt self.old k → (done.sent.items ≡ sent_by_doing (came now datagram.now) k) × IsKeptAt self.new (after_doing (came now datagram.now) k)) }
+        ensures left { OnErr result (LeavesSome (came now datagram.now) self.old self.new) }
         ensures became { IfOk result (λ done. (k : Keeping) → IsKeptAt self.old k → outcome_in done.became ≡ came_as datagram.now k.host) }
     {
         if !self.is_time(now) {
@@ -109,6 +110,7 @@ impl KeptMember {
         ensures fault { (k : Keeping) → IsKeptAt self.old k → IsRefusedBy (tick_fault now k) result }
         ensures refused { (k : Keeping) → IsKeptAt self.old k → IsTrue (is_some (tick_fault now k)) → self.new ≡ self.old }
         ensures sent { IfOk result (λ sent. (k : Keeping) → IsKeptAt self.old k → (sent.items ≡ sent_by_doing (ticks now) k) × IsKeptAt self.new (after_doing (ticks now) k)) }
+        ensures left { OnErr result (LeavesSome (ticks now) self.old self.new) }
     {
         if !self.is_time(now) {
             return Err(KeptFault::Host(KeepFault::BackInTime));
@@ -133,6 +135,7 @@ impl KeptMember {
         ensures fault { (k : Keeping) → IsKeptAt self.old k → IsRefusedBy (add_fault now page time (op_of shape.entry) k) result }
         ensures refused { (k : Keeping) → IsKeptAt self.old k → IsTrue (is_some (add_fault now page time (op_of shape.entry) k)) → self.new ≡ self.old }
         ensures sent { IfOk result (λ done. (k : Keeping) → IsKeptAt self.old k → (done.sent.items ≡ sent_by_doing (adds now page time (op_of shape.entry)) k) × IsKeptAt self.new (after_doing (adds now page time (op_of shape.entry)) k)) }
+        ensures left { OnErr result (LeavesSome (adds now page time (op_of shape.entry)) self.old self.new) }
         ensures became { IfOk result (λ done. (k : Keeping) → IsKeptAt self.old k → outcome_in done.became ≡ drawn_as page time (op_of shape.entry) k.host) }
     {
         if !self.is_time(now) {

@@ -7,11 +7,12 @@ use Rattle.wb_member.specs.Holding.{IsOpenAt, MemberValue}
 use Rattle.wb_member.specs.Opened.{Opened}
 use Rattle.wb_gaps.specs.declared.holes.Hole.{Hole}
 use Rattle.wb_keeping.specs.Kept.{Line, Ticks, Arrives, Hears, Asks, Stops, SetsDistance, Says, Doing, Transition, still, performs, and_then, want, want_told, want_near, learned, turn, end, ends_full, answers, asks_pages, reports, reports_due, reports_page, reports_rest, timed, takes, measures, hears, hears_session, hears_some, hears_state, takes_question, of_other, came, ticks, adds, draws_it, drawing, is_begun, is_unasked, near_names, paid_for, own_marks, own_echo, told_names, distance_in, state_of, last_heard, last_source, stops_oldest}
-use Rattle.wb_keeping.specs.Performing.{Does, DoesQuietly, IsKeptAt, Keeping, KeptValue, after_doing, after_line, after_lines, sees, sent_by_doing, sent_by_line, sent_by_lines, view_of}
+use Rattle.wb_keeping.specs.Performing.{Does, DoesQuietly, IsKeptAt, Keeping, KeptValue, LeavesSome, after_doing, after_line, after_lines, sees, sent_by_doing, sent_by_line, sent_by_lines, view_of}
 use Rattle.wb_keeping.specs.Policy.{Policy, View, after_answer, after_came, after_question, after_report, after_state, after_taking_up, after_turn, after_wanting, holds, in_next_round, is_asked, is_full, level, with_distance}
 use Rattle.wb_keeping.specs.Steps.{performs_all, makes_room, set_lines, want_in}
 use Rattle.wb_keeping.proofs.Performed.{then_at, at_inside, does_as, does_by, does_change, does_line, does_of, does_same, does_seen, does_still, does_then, quiet_as, quiet_by, quiet_change, quiet_line, quiet_more, quiet_of, quiet_still, quiet_then}
 use Rattle.wb_keeping.proofs.OneByOne as rows
+use Rattle.wb_keeping.proofs.LeftSome.{LeftAt, on_err, left_first_at, left_second_at, left_as, left_by, left_first, left_later, left_none, left_of, left_second, left_still, near_begun_later, near_failed, near_passed_later, told_failed, told_later}
 use Rattle.wb_keeping.proofs.Wanted as wanted
 use Rattle.wb_keeping.proofs.AskedTimers as asked
 use Rattle.wb_keeping.proofs.FilledHoles.{hole_filled}
@@ -42,4 +43,18 @@ returns-clause-does c =
     let asks : is_asked v d.name ≡ was = ap (is_asked v) (sym c.name-name.ensures) ∙ sym (c.is_asked-was_asked.ensures k at) in
     ap (λ (b : Bool). cond b (line (sees k.host) k.policy) (and_then line (learned d.name (is_asked v d.name)) (sees k.host) k.policy)) new
     ∙ ap (λ (b : Bool). and_then line (learned d.name b) (sees k.host) k.policy) asks
-    ∙ ap (λ (m : NameValue). and_then line (learned m was) (sees k.host) k.policy) (sym c.name-name.ensures)) (quiet_then line (learned n was) c.in_ok-became.ensures.does c.in_ok-learned.ensures)
+    ∙ ap (λ (m : NameValue). and_then line (learned m was) (sees k.host) k.policy) (sym c.name-name.ensures)) (quiet_then line (learned n was) c.in_ok-became.ensures.does c.in_ok-learned.ensures.does)
+
+pub returns-in_err-learned-clause-left : goal.returns-in_err-learned-clause-left
+returns-in_err-learned-clause-left c = on_err _ (
+    let d = c.args.drawop.now in
+    let line = performs (Arrives d) in
+    let n = c.name-name.result in
+    let was = c.is_asked-was_asked.result in
+    left_as (takes d) (and_then line (learned n was)) (λ k at.
+    let v = view_of k.host in
+    let new : (holds v d.name || is_full v) ≡ false = ap (λ (n : NameValue). holds v n || is_full v) (sym c.name-name.ensures) ∙ sym (c.is_no_news-is_no_news.ensures k at) ∙ c.if-is_no_news.false in
+    let asks : is_asked v d.name ≡ was = ap (is_asked v) (sym c.name-name.ensures) ∙ sym (c.is_asked-was_asked.ensures k at) in
+    ap (λ (b : Bool). cond b (line (sees k.host) k.policy) (and_then line (learned d.name (is_asked v d.name)) (sees k.host) k.policy)) new
+    ∙ ap (λ (b : Bool). and_then line (learned d.name b) (sees k.host) k.policy) asks
+    ∙ ap (λ (m : NameValue). and_then line (learned m was) (sees k.host) k.policy) (sym c.name-name.ensures)) (left_later line (learned n was) c.in_ok-became.ensures.does c.in_err-learned.ensures.left))
