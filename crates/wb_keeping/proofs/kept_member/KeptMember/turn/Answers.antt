@@ -12,7 +12,7 @@ use Rattle.wb_keeping.specs.Policy.{Policy, View, after_answer, after_came, afte
 use Rattle.wb_keeping.specs.Steps.{performs_all, makes_room, set_lines, want_in}
 use Rattle.wb_keeping.proofs.Performed.{then_at, at_inside, does_as, does_by, does_change, does_line, does_of, does_same, does_seen, does_still, does_then, quiet_as, quiet_by, quiet_change, quiet_line, quiet_more, quiet_of, quiet_still, quiet_then}
 use Rattle.wb_keeping.proofs.OneByOne as rows
-use Rattle.wb_keeping.proofs.LeftSome.{LeftAt, on_err, left_first_at, left_second_at, left_as, left_by, left_first, left_later, left_none, left_of, left_second, left_still, near_begun_later, near_failed, near_passed_later, told_failed, told_later}
+use Rattle.wb_keeping.proofs.LeftSome.{on_err, left_by}
 use Rattle.wb_keeping.proofs.Wanted as wanted
 use Rattle.wb_keeping.proofs.AskedTimers as asked
 use Rattle.wb_keeping.proofs.FilledHoles.{hole_filled}
