@@ -8,6 +8,7 @@ pub mod AskedTimers
 pub mod FilledHoles
 pub mod Wanted
 pub mod OneByOne
+pub mod LeftSome
 pub mod KeptHosts
 pub mod Unlocked
 pub mod Refused

@@ -1,14 +1,16 @@
 -- Names and pages that are gone over one by one.
-use Rattle.std.proofs.Common.{◌≡◌, ℕ, ◌+◌, ◌<◌, ◌≤◌, Bool, true, false, cond, List, [], ◌∷◌, ◌∙◌, add-one, ap, drop, drop-cons, get_or, length, map, refl, subst, sym}
+use Rattle.std.proofs.Common.{◌≡◌, ℕ, suc, ◌+◌, ◌-◌, ◌<◌, ◌≤◌, Bool, true, false, cond, List, [], ◌∷◌, ◌++◌, ◌∙◌, add-one, ap, append_assoc, append-nil, arith, drop, drop-cons, filter, get_or, length, map, refl, subst, sym}
+use Rattle.std.specs.Prelude.{nat_lt}
 use Rattle.std.proofs.lemmas.List.{drop_all}
 use Rattle.wb_names.specs.Values.{NameValue}
 use Rattle.wb_names.specs.declared.name.PageId.{PageId}
 use Rattle.wb_codec.specs.declared.datagram.Datagram.{Datagram}
 use Rattle.wb_member.specs.Opened.{Opened}
-use Rattle.wb_keeping.specs.Kept.{Line, Says, Stops, and_then, is_begun, is_unasked, still, want, want_near, want_told}
-use Rattle.wb_keeping.specs.Performing.{DoesQuietly, IsKeptAt, Keeping, KeptValue, after_lines, sees, sent_by_lines, view_of}
+use Rattle.wb_keeping.specs.Kept.{Doing, Line, Says, Stops, Transition, and_then, downwards, is_begun, is_unasked, still, want, want_near, want_told}
+use Rattle.wb_keeping.specs.Performing.{Does, DoesQuietly, IsKeptAt, Keeping, KeptValue, after_lines, sees, sent_by_lines, view_of}
+use Rattle.wb_keeping.specs.Policy.{Policy, View}
 use Rattle.wb_keeping.specs.Steps.{performs_all}
-use Rattle.wb_keeping.proofs.Performed.{quiet_as, quiet_more, quiet_then}
+use Rattle.wb_keeping.proofs.Performed.{does_as, quiet_as, quiet_more, quiet_still, quiet_then}
 use Rattle.wb_keeping.proofs.Wanted.{not_begun}
 
 -- ---- the next of a list
@@ -31,12 +33,29 @@ stop_next names i d {a} {b} {c} lt one rest = at_next (λ (ns : List NameValue).
 pub told_next : (names : List NameValue) (i : ℕ) (d : NameValue) {a b c : KeptValue} → i < length names → DoesQuietly (want (get_or names i d) true) a b → DoesQuietly (want_told (drop (i + 1) names)) b c → DoesQuietly (want_told (drop i names)) a c
 told_next names i d {a} {b} {c} lt one rest = at_next (λ (ns : List NameValue). DoesQuietly (want_told ns) a c) names i d lt (quiet_then (want (get_or names i d) true) (want_told (drop (i + 1) names)) one rest)
 
+-- what is done for the next one, and for the rest
+module _ (n : NameValue) (names : List NameValue) (see : List Line → View) (p : Policy) where
+  abbrev by_begun : Bool → Doing
+  by_begun b = cond b (and_then (want n false) (want_near names) see p) (still see p)
+
+  abbrev by_unasked : Bool → Doing
+  by_unasked b = cond b (by_begun (is_begun (want n false see p))) (want_near names see p)
+
+  pub passed_by : is_unasked (see []) n ≡ false → want_near (n ∷ names) see p ≡ want_near names see p
+  passed_by known = ap by_unasked known
+
+  pub begun_first : is_unasked (see []) n ≡ true → is_begun (want n false see p) ≡ true → want_near (n ∷ names) see p ≡ and_then (want n false) (want_near names) see p
+  begun_first unknown begun = ap by_unasked unknown ∙ ap by_begun begun
+
+  pub ended_by : is_unasked (see []) n ≡ true → is_begun (want n false see p) ≡ false → want_near (n ∷ names) see p ≡ want n false see p
+  ended_by unknown begun = ap by_unasked unknown ∙ ap by_begun begun ∙ sym (not_begun n false see p begun)
+
 -- the next one has a timer, or is held
 pub near_passed : (names : List NameValue) (i : ℕ) (d : NameValue) {a c : KeptValue} → i < length names → ((k : Keeping) → IsKeptAt a k → is_unasked (view_of k.host) (get_or names i d) ≡ false) → DoesQuietly (want_near (drop (i + 1) names)) a c → DoesQuietly (want_near (drop i names)) a c
 near_passed names i d {a} {c} lt known rest = at_next (λ (ns : List NameValue). DoesQuietly (want_near ns) a c) names i d lt (
     let n = get_or names i d in
     let ns = drop (i + 1) names in
-    quiet_as (want_near (n ∷ ns)) (want_near ns) (λ k at. ap (λ (b : Bool). cond b (cond (is_begun (want n false (sees k.host) k.policy)) (and_then (want n false) (want_near ns) (sees k.host) k.policy) (still (sees k.host) k.policy)) (want_near ns (sees k.host) k.policy)) (known k at)) rest)
+    quiet_as (want_near (n ∷ ns)) (want_near ns) (λ k at. passed_by n ns (sees k.host) k.policy (known k at)) rest)
 
 -- it is asked for
 pub near_begun : (names : List NameValue) (i : ℕ) (d : NameValue) {a b c : KeptValue} → i < length names → ((k : Keeping) → IsKeptAt a k → is_unasked (view_of k.host) (get_or names i d) ≡ true)
@@ -45,9 +64,7 @@ pub near_begun : (names : List NameValue) (i : ℕ) (d : NameValue) {a b c : Kep
 near_begun names i d {a} {b} {c} lt unknown begun one rest = at_next (λ (ns : List NameValue). DoesQuietly (want_near ns) a c) names i d lt (
     let n = get_or names i d in
     let ns = drop (i + 1) names in
-    quiet_as (want_near (n ∷ ns)) (and_then (want n false) (want_near ns)) (λ k at.
-    ap (λ (b : Bool). cond b (cond (is_begun (want n false (sees k.host) k.policy)) (and_then (want n false) (want_near ns) (sees k.host) k.policy) (still (sees k.host) k.policy)) (want_near ns (sees k.host) k.policy)) (unknown k at)
-    ∙ ap (λ (b : Bool). cond b (and_then (want n false) (want_near ns) (sees k.host) k.policy) (still (sees k.host) k.policy)) (begun k at)) (quiet_then (want n false) (want_near ns) one rest))
+    quiet_as (want_near (n ∷ ns)) (and_then (want n false) (want_near ns)) (λ k at. begun_first n ns (sees k.host) k.policy (unknown k at) (begun k at)) (quiet_then (want n false) (want_near ns) one rest))
 
 -- it is not asked for, which ends it
 pub near_ended : (names : List NameValue) (i : ℕ) (d : NameValue) {a b : KeptValue} → i < length names → ((k : Keeping) → IsKeptAt a k → is_unasked (view_of k.host) (get_or names i d) ≡ true)
@@ -56,10 +73,7 @@ pub near_ended : (names : List NameValue) (i : ℕ) (d : NameValue) {a b : KeptV
 near_ended names i d {a} {b} lt unknown begun one = at_next (λ (ns : List NameValue). DoesQuietly (want_near ns) a b) names i d lt (
     let n = get_or names i d in
     let ns = drop (i + 1) names in
-    quiet_as (want_near (n ∷ ns)) (want n false) (λ k at.
-    ap (λ (b : Bool). cond b (cond (is_begun (want n false (sees k.host) k.policy)) (and_then (want n false) (want_near ns) (sees k.host) k.policy) (still (sees k.host) k.policy)) (want_near ns (sees k.host) k.policy)) (unknown k at)
-    ∙ ap (λ (b : Bool). cond b (and_then (want n false) (want_near ns) (sees k.host) k.policy) (still (sees k.host) k.policy)) (begun k at)
-    ∙ sym (not_begun n false (sees k.host) k.policy (begun k at))) one)
+    quiet_as (want_near (n ∷ ns)) (want n false) (λ k at. ended_by n ns (sees k.host) k.policy (unknown k at) (begun k at)) one)
 
 -- ---- lines that tell what is so, and change nothing
 

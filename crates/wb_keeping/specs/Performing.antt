@@ -1,5 +1,5 @@
 -- What becomes of a host that performs lines, and what it sends by them: a host that keeps itself is a member and a policy.
-use Rattle.std.specs.Prelude.{◌≡◌, ℕ, List, [], ◌∷◌, ◌++◌, Option, Some, None, min, if◌then◌else◌}
+use Rattle.std.specs.Prelude.{◌≡◌, ℕ, List, [], ◌∷◌, ◌++◌, Option, Some, None, min, take, if◌then◌else◌}
 use Rattle.std.specs.List.{filter_map}
 use Rattle.std.specs.Option.{option_map}
 use Rattle.wb_names.specs.Arrivals.{Outcome, Fresh, Known, Clashed, Left}
@@ -140,3 +140,8 @@ pub record Does (does : Transition) (old new : KeptValue) (before after : List D
 -- one that sends nothing
 pub record DoesQuietly (does : Transition) (old new : KeptValue) : Type 0 where
   pub sends : (sent : List Datagram) → Does does old new sent sent
+
+-- Memory was refused on the way: whichever host the code was at, it is one that performed the first of the lines, so many of them
+-- or none, and nothing else.
+pub record LeavesSome (does : Transition) (old new : KeptValue) : Type 0 where
+  pub at : (k : Keeping) → IsKeptAt old k → (some : ℕ) × IsOpenAt new.member (after_lines (take some (does (sees k.host) k.policy).lines) k.host)

@@ -7,7 +7,7 @@ ghost use Rattle.wb_names.specs.Shapes.{op_of};
 ghost use Rattle.wb_member.specs.Holding.{IsOpenAt, outcome_in};
 ghost use Rattle.wb_member.specs.Opened.{Opened, present};
 ghost use Rattle.wb_keeping.specs.Kept.{Tunes, adds, came, drawing, performs, ticks};
-ghost use Rattle.wb_keeping.specs.Performing.{IsKeptAt, Keeping, after_doing, due, sent_by_doing, view_of};
+ghost use Rattle.wb_keeping.specs.Performing.{IsKeptAt, Keeping, LeavesSome, after_doing, due, sent_by_doing, view_of};
 ghost use Rattle.wb_keeping.specs.Policy.{begun};
 ghost use Rattle.wb_keeping.specs.Refusing.{IsRefusedBy, add_fault, came_as, came_fault, drawing_fault, drawn_as, is_unknown, is_unknown_of_ours, tick_fault};
 
@@ -102,6 +102,7 @@ impl KeptMember {
             IsKeptAt self.new (after_doing (came now datagram.now) k)) }
         ensures became { IfOk result (λ done. (k : Keeping) → IsKeptAt self.old k →
             outcome_in done.became ≡ came_as datagram.now k.host) }
+        ensures left { OnErr result (LeavesSome (came now datagram.now) self.old self.new) }
     {
         if !self.is_time(now) {
             return Err(KeptFault::Host(KeepFault::BackInTime));
@@ -126,6 +127,7 @@ impl KeptMember {
         ensures sent { IfOk result (λ sent. (k : Keeping) → IsKeptAt self.old k →
             (sent.items ≡ sent_by_doing (ticks now) k) ×
             IsKeptAt self.new (after_doing (ticks now) k)) }
+        ensures left { OnErr result (LeavesSome (ticks now) self.old self.new) }
     {
         if !self.is_time(now) {
             return Err(KeptFault::Host(KeepFault::BackInTime));
@@ -157,6 +159,8 @@ impl KeptMember {
             IsKeptAt self.new (after_doing (adds now page time (op_of shape.entry)) k)) }
         ensures became { IfOk result (λ done. (k : Keeping) → IsKeptAt self.old k →
             outcome_in done.became ≡ drawn_as page time (op_of shape.entry) k.host) }
+        ensures left { OnErr result
+            (LeavesSome (adds now page time (op_of shape.entry)) self.old self.new) }
     {
         if !self.is_time(now) {
             return Err(KeptFault::Host(KeepFault::BackInTime));

@@ -1,10 +1,10 @@
 //! What a member that keeps itself asks for.
-ghost use Rattle.std.specs.Prelude.{◌≡◌, ◌≤◌, ◌<◌, ◌^◌, ◌∷◌, [], IfOk, OnOk, IfSome, filter, length, nat_lt};
+ghost use Rattle.std.specs.Prelude.{◌≡◌, ◌≤◌, ◌<◌, ◌^◌, ◌∷◌, [], IfOk, OnErr, OnOk, IfSome, filter, length, nat_lt};
 ghost use Rattle.wb_recovery.specs.Delays.{IsDelay};
 ghost use Rattle.wb_keeping.specs.Kept.{Asks, and_then, end, ends_full, is_begun, is_unasked, learned, near_names, paid_for, performs, stops_oldest, turn, usual_lines, want, want_near, want_told};
 ghost use Rattle.wb_recovery.specs.Events.{timers_of};
 ghost use Rattle.wb_member.specs.Opened.{events};
-ghost use Rattle.wb_keeping.specs.Performing.{DoesQuietly, IsKeptAt, Keeping, asked_with, sees, view_of};
+ghost use Rattle.wb_keeping.specs.Performing.{DoesQuietly, IsKeptAt, Keeping, LeavesSome, asked_with, sees, view_of};
 ghost use Rattle.wb_keeping.specs.Policy.{holds, is_asked, is_full, level};
 ghost use Rattle.wb_keeping.specs.Wanting.{oldest};
 ghost use Rattle.wb_keeping.specs.Steps.{makes_room, performs_all, set_lines, turn_again, want_in};
@@ -36,6 +36,7 @@ impl KeptMember {
         ensures begun { IfOk result (λ begun. (k : Keeping) → IsKeptAt self.old k →
             begun ≡ is_begun (want name.now may_start_anew (sees k.host) k.policy)) }
         ensures does { OnOk result (DoesQuietly (want name.now may_start_anew) self.old self.new) }
+        ensures left { OnErr result (LeavesSome (want name.now may_start_anew) self.old self.new) }
     {
         let now = self.member.moment();
         let candidate = self.candidate(name);
@@ -51,8 +52,13 @@ impl KeptMember {
     /// there is room for its timer.
     fn begin(&mut self, alloc: Global, name: &Name, usual: Option<u64>) -> Result<(), AllocError>
         requires { IfSome usual IsDelay }
-        ensures { OnOk result (DoesQuietly (and_then (makes_room name.now) (and_then (performs_all
+        ensures does { OnOk result
+            (DoesQuietly (and_then (makes_room name.now) (and_then (performs_all
             (set_lines name.now.source usual)) (performs (Asks name.now)))) self.old self.new) }
+        ensures left { OnErr result
+            (LeavesSome (and_then (makes_room name.now)
+            (and_then (performs_all (set_lines name.now.source usual)) (performs (Asks name.now))))
+            self.old self.new) }
     {
         self.make_room(alloc, name)?;
         self.set_usual(name, usual)?;
@@ -105,7 +111,8 @@ impl KeptMember {
 
     /// Stops the timer of a name that is asked for, and else the oldest timer, where 64 stand.
     fn make_room(&mut self, alloc: Global, name: &Name) -> Result<(), AllocError>
-        ensures { OnOk result (DoesQuietly (makes_room name.now) self.old self.new) }
+        ensures does { OnOk result (DoesQuietly (makes_room name.now) self.old self.new) }
+        ensures err { OnErr result (self.new ≡ self.old) }
     {
         if self.is_asked(name) {
             self.stop(name);
@@ -155,7 +162,8 @@ impl KeptMember {
 
     /// Names that others say that they hold are wanted.
     pub(super) fn want_told(&mut self, alloc: Global, names: &[Name]) -> Result<(), AllocError>
-        ensures { OnOk result (DoesQuietly (want_told names.now) self.old self.new) }
+        ensures does { OnOk result (DoesQuietly (want_told names.now) self.old self.new) }
+        ensures left { OnErr result (LeavesSome (want_told names.now) self.old self.new) }
     {
         for name in names {
             self.want(alloc, name, true)?;
@@ -171,7 +179,8 @@ impl KeptMember {
         name: &Name,
         was_asked: bool,
     ) -> Result<(), AllocError>
-        ensures { OnOk result (DoesQuietly (learned name.now was_asked) self.old self.new) }
+        ensures does { OnOk result (DoesQuietly (learned name.now was_asked) self.old self.new) }
+        ensures left { OnErr result (LeavesSome (learned name.now was_asked) self.old self.new) }
     {
         if self.member.is_full() {
             self.end(alloc)?;
@@ -234,7 +243,8 @@ impl KeptMember {
 
     /// These names are wanted that have no timer, up to the first that is not asked for.
     fn want_near(&mut self, alloc: Global, names: &[Name]) -> Result<(), AllocError>
-        ensures { OnOk result (DoesQuietly (want_near names.now) self.old self.new) }
+        ensures does { OnOk result (DoesQuietly (want_near names.now) self.old self.new) }
+        ensures left { OnErr result (LeavesSome (want_near names.now) self.old self.new) }
     {
         for name in names {
             if !self.is_unasked(name) {
@@ -250,7 +260,8 @@ impl KeptMember {
 
     /// The next hole has its turn, or the first one in another round.
     pub(super) fn turn(&mut self, alloc: Global) -> Result<(), AllocError>
-        ensures { OnOk result (DoesQuietly turn self.old self.new) }
+        ensures does { OnOk result (DoesQuietly turn self.old self.new) }
+        ensures left { OnErr result (LeavesSome turn self.old self.new) }
     {
         let turns = self.policy.turns();
         let next = self
@@ -270,7 +281,8 @@ impl KeptMember {
 
     /// Another round begins, and the first hole has its turn, where there is one.
     fn turn_again(&mut self, alloc: Global) -> Result<(), AllocError>
-        ensures { OnOk result (DoesQuietly turn_again self.old self.new) }
+        ensures does { OnOk result (DoesQuietly turn_again self.old self.new) }
+        ensures left { OnErr result (LeavesSome turn_again self.old self.new) }
     {
         self.policy.begin_round();
         let first = self.member.hole_after(alloc, Turns::START.page, 0, 0)?;
@@ -285,8 +297,11 @@ impl KeptMember {
 
     /// A hole has its turn: one of its names is wanted. No hole is without a number.
     fn want_in(&mut self, alloc: Global, hole: Hole) -> Result<(), AllocError>
-        ensures { OnOk result (1 ≤ hole.gap.first → hole.gap.first ≤ hole.gap.last →
+        ensures does { OnOk result (1 ≤ hole.gap.first → hole.gap.first ≤ hole.gap.last →
             DoesQuietly (want_in hole) self.old self.new) }
+        ensures left { OnErr result
+            (1 ≤ hole.gap.first → hole.gap.first ≤ hole.gap.last → LeavesSome (want_in hole)
+            self.old self.new) }
     {
         if hole.gap.first == 0 || hole.gap.last < hole.gap.first {
             return Ok(());
@@ -298,7 +313,8 @@ impl KeptMember {
 
     /// It gives up asking where its board is full.
     pub(super) fn end_where_full(&mut self, alloc: Global) -> Result<(), AllocError>
-        ensures { OnOk result (DoesQuietly ends_full self.old self.new) }
+        ensures does { OnOk result (DoesQuietly ends_full self.old self.new) }
+        ensures err { OnErr result (self.new ≡ self.old) }
     {
         if self.member.is_full() {
             self.end(alloc)?;
@@ -308,7 +324,8 @@ impl KeptMember {
 
     /// It gives up asking.
     fn end(&mut self, alloc: Global) -> Result<(), AllocError>
-        ensures { OnOk result (DoesQuietly end self.old self.new) }
+        ensures does { OnOk result (DoesQuietly end self.old self.new) }
+        ensures err { OnErr result (self.new ≡ self.old) }
     {
         let names = self.member.asked_names(alloc)?;
         self.stop_all(&names);

@@ -1,11 +1,11 @@
 //! What a member that keeps itself does with a datagram that came in.
-ghost use Rattle.std.specs.Prelude.{◌≡◌, ◌≤◌, ◌<◌, ◌∷◌, ◌||◌, [], ℕ, false, IfOk, OnOk};
+ghost use Rattle.std.specs.Prelude.{◌≡◌, ◌≤◌, ◌<◌, ◌∷◌, ◌||◌, [], ℕ, false, IfOk, OnErr, OnOk};
 ghost use Rattle.wb_codec.specs.declared.datagram.Datagram.TheVariants.{PageState, Session};
 ghost use Rattle.wb_host.specs.Hearing.{asks_for_pages};
 ghost use Rattle.wb_member.specs.Holding.{outcome_in};
 ghost use Rattle.wb_member.specs.Opened.{becomes};
 ghost use Rattle.wb_keeping.specs.Kept.{Hears, hears, hears_session, hears_some, hears_state, measures, of_other, performs, takes, takes_question};
-ghost use Rattle.wb_keeping.specs.Performing.{DoesQuietly, IsKeptAt, Keeping, view_of};
+ghost use Rattle.wb_keeping.specs.Performing.{DoesQuietly, IsKeptAt, Keeping, LeavesSome, view_of};
 ghost use Rattle.wb_keeping.specs.Policy.{holds, is_full};
 ghost use Rattle.wb_keeping.specs.Refusing.{came_as};
 
@@ -27,6 +27,7 @@ impl KeptMember {
         ensures became { IfOk result (λ reply. (k : Keeping) → IsKeptAt self.old k →
             outcome_in reply ≡ came_as datagram.now k.host) }
         ensures does { OnOk result (DoesQuietly (hears datagram.now) self.old self.new) }
+        ensures left { OnErr result (LeavesSome (hears datagram.now) self.old self.new) }
     {
         match datagram {
             Datagram::Draw(drawop) => {
@@ -56,6 +57,7 @@ impl KeptMember {
         ensures became { IfOk result (λ reply. (k : Keeping) → IsKeptAt self.old k →
             outcome_in reply ≡ becomes drawop.now k.host) }
         ensures does { OnOk result (DoesQuietly (takes drawop.now) self.old self.new) }
+        ensures left { OnErr result (LeavesSome (takes drawop.now) self.old self.new) }
     {
         let name = drawop.name();
         let is_no_news = self.is_no_news(&name);
@@ -87,8 +89,11 @@ impl KeptMember {
         marks: &Marks,
         echoes: &Echoes,
     ) -> Result<(), AllocError>
-        ensures { OnOk result (DoesQuietly (of_other sender
+        ensures does { OnOk result (DoesQuietly (of_other sender
             (hears_session sender sent page marks.now echoes.now)) self.old self.new) }
+        ensures left { OnErr result
+            (LeavesSome (of_other sender (hears_session sender sent page marks.now echoes.now))
+            self.old self.new) }
     {
         let (me, now) = (self.member.me(), self.member.moment());
         if sender == me {
@@ -113,7 +118,8 @@ impl KeptMember {
 
     /// An echo told a distance, where it did.
     fn measures(&mut self, sender: u32, distance: Option<u64>) -> Result<(), AllocError>
-        ensures { OnOk result (DoesQuietly (measures sender distance) self.old self.new) }
+        ensures does { OnOk result (DoesQuietly (measures sender distance) self.old self.new) }
+        ensures left { OnErr result (LeavesSome (measures sender distance) self.old self.new) }
     {
         let Some(micros) = distance else {
             return Ok(());
@@ -135,8 +141,10 @@ impl KeptMember {
         page: PageId,
         marks: &Marks,
     ) -> Result<(), AllocError>
-        ensures { OnOk result
+        ensures does { OnOk result
             (DoesQuietly (of_other sender (hears_state sender page marks.now)) self.old self.new) }
+        ensures left { OnErr result
+            (LeavesSome (of_other sender (hears_state sender page marks.now)) self.old self.new) }
     {
         let (me, now) = (self.member.me(), self.member.moment());
         if sender == me {
@@ -158,7 +166,8 @@ impl KeptMember {
         page: PageId,
         marks: Marks,
     ) -> Result<(), AllocError>
-        ensures { OnOk result (DoesQuietly (hears_some sender page marks) self.old self.new) }
+        ensures does { OnOk result (DoesQuietly (hears_some sender page marks) self.old self.new) }
+        ensures err { OnErr result (self.new ≡ self.old) }
     {
         if marks.as_slice().is_empty() {
             return Ok(());
@@ -180,8 +189,9 @@ impl KeptMember {
         request: &Datagram,
     ) -> Result<(), AllocError>
         requires { (me : ℕ) → asks_for_pages me request.now ≡ false }
-        ensures { OnOk result
+        ensures does { OnOk result
             (DoesQuietly (of_other asker (performs (Hears request.now))) self.old self.new) }
+        ensures err { OnErr result (self.new ≡ self.old) }
     {
         if asker == self.member.me() {
             return Ok(());

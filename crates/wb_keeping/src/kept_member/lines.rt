@@ -1,5 +1,5 @@
 //! The lines that a policy has its host perform, one by one.
-ghost use Rattle.std.specs.Prelude.{◌≡◌, ◌≤◌, ◌<◌, ◌^◌, ◌++◌, ◌∷◌, [], ℕ, false, IfOk, OnOk, IfSome, map};
+ghost use Rattle.std.specs.Prelude.{◌≡◌, ◌≤◌, ◌<◌, ◌^◌, ◌++◌, ◌∷◌, [], ℕ, false, IfOk, OnErr, OnOk, IfSome, map};
 ghost use Rattle.wb_names.specs.Moments.{IsMoment};
 ghost use Rattle.wb_recovery.specs.Delays.{IsDelay};
 ghost use Rattle.wb_codec.specs.declared.datagram.Datagram.TheVariants.{Draw};
@@ -7,7 +7,7 @@ ghost use Rattle.wb_host.specs.Hearing.{asks_for_pages};
 ghost use Rattle.wb_member.specs.Holding.{outcome_in};
 ghost use Rattle.wb_member.specs.Opened.{becomes};
 ghost use Rattle.wb_keeping.specs.Kept.{Arrives, Asks, Hears, Says, SetsDistance, Stops, Ticks, performs};
-ghost use Rattle.wb_keeping.specs.Performing.{Does, DoesQuietly, IsKeptAt, Keeping};
+ghost use Rattle.wb_keeping.specs.Performing.{Does, DoesQuietly, IsKeptAt, Keeping, LeavesSome};
 ghost use Rattle.wb_keeping.specs.Steps.{performs_all, set_lines};
 
 use crate::kept_member::KeptMember;
@@ -21,8 +21,9 @@ impl KeptMember {
     /// memory refuses it. Answers what is to be sent.
     pub(super) fn go_on(&mut self, alloc: Global, now: u64) -> Result<Vec<Datagram>, AllocError>
         requires { IsMoment now }
-        ensures { IfOk result
+        ensures does { IfOk result
             (λ sent. Does (performs (Ticks now)) self.old self.new [] sent.items) }
+        ensures err { OnErr result (self.new ≡ self.old) }
     {
         match self.member.tick(alloc, now) {
             Ok(sent) => Ok(sent),
@@ -35,6 +36,7 @@ impl KeptMember {
         ensures became { IfOk result (λ reply. (k : Keeping) → IsKeptAt self.old k →
             outcome_in reply ≡ becomes drawop.now k.host) }
         ensures does { OnOk result (DoesQuietly (performs (Arrives drawop.now)) self.old self.new) }
+        ensures err { OnErr result (self.new ≡ self.old) }
     {
         let reply = self.member.accept(drawop)?;
         Ok(reply)
@@ -45,7 +47,8 @@ impl KeptMember {
     /// nothing else but want of memory refuses it.
     pub(super) fn hear(&mut self, alloc: Global, datagram: &Datagram) -> Result<(), AllocError>
         requires { (me : ℕ) → asks_for_pages me datagram.now ≡ false }
-        ensures { OnOk result (DoesQuietly (performs (Hears datagram.now)) self.old self.new) }
+        ensures does { OnOk result (DoesQuietly (performs (Hears datagram.now)) self.old self.new) }
+        ensures err { OnErr result (self.new ≡ self.old) }
     {
         match self.member.hear(alloc, datagram) {
             Ok(_nothing) => Ok(()),
@@ -56,7 +59,8 @@ impl KeptMember {
 
     /// It begins to ask for a name.
     pub(super) fn ask(&mut self, alloc: Global, name: &Name) -> Result<(), AllocError>
-        ensures { OnOk result (DoesQuietly (performs (Asks name.now)) self.old self.new) }
+        ensures does { OnOk result (DoesQuietly (performs (Asks name.now)) self.old self.new) }
+        ensures err { OnErr result (self.new ≡ self.old) }
     {
         self.member.ask(alloc, name)?;
         Ok(())
@@ -81,8 +85,9 @@ impl KeptMember {
     /// The distance to a source is set, below 2^24 microseconds.
     pub(super) fn set_distance(&mut self, source: u32, micros: u64) -> Result<(), AllocError>
         requires { IsDelay micros }
-        ensures { OnOk result
+        ensures does { OnOk result
             (DoesQuietly (performs (SetsDistance source micros)) self.old self.new) }
+        ensures err { OnErr result (self.new ≡ self.old) }
     {
         match self.member.set_delay(source, micros) {
             Ok(()) => Ok(()),
@@ -93,8 +98,9 @@ impl KeptMember {
     /// The distance to the source of a name is set to this one, where there is one.
     pub(super) fn set_usual(&mut self, name: &Name, usual: Option<u64>) -> Result<(), AllocError>
         requires { IfSome usual IsDelay }
-        ensures { OnOk result
+        ensures does { OnOk result
             (DoesQuietly (performs_all (set_lines name.now.source usual)) self.old self.new) }
+        ensures err { OnErr result (self.new ≡ self.old) }
     {
         match usual {
             Some(micros) => {
@@ -116,6 +122,8 @@ impl KeptMember {
             outcome_in reply ≡ becomes drawop.now k.host) }
         ensures does { OnOk result (Does
             (performs (Says (Draw drawop.now))) self.old self.new sent.old.items sent.new.items) }
+        ensures left { OnErr result
+            (LeavesSome (performs (Says (Draw drawop.now))) self.old self.new) }
     {
         let reply = self.member.accept(drawop)?;
         match reply {

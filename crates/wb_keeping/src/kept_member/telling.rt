@@ -1,8 +1,8 @@
 //! What a member that keeps itself tells others as time goes on.
-ghost use Rattle.std.specs.Prelude.{◌≡◌, ◌≤◌, ◌<◌, ◌+◌, ◌*◌, ◌++◌, ◌∷◌, [], IfOk, OnOk, length, map, take};
+ghost use Rattle.std.specs.Prelude.{◌≡◌, ◌≤◌, ◌<◌, ◌+◌, ◌*◌, ◌++◌, ◌∷◌, [], IfOk, OnErr, OnOk, length, map, take};
 ghost use Rattle.wb_gaps.specs.Answers.{pages_of, report_of};
 ghost use Rattle.wb_keeping.specs.Kept.{answers, asks_pages, reports, reports_due, reports_page, state_of, still, timed};
-ghost use Rattle.wb_keeping.specs.Performing.{Does, DoesQuietly, IsKeptAt, Keeping, view_of};
+ghost use Rattle.wb_keeping.specs.Performing.{Does, DoesQuietly, IsKeptAt, Keeping, LeavesSome, view_of};
 ghost use Rattle.wb_keeping.specs.Reports.{slice_after};
 
 use crate::choices::{last_heard, last_source, slice_of};
@@ -24,7 +24,8 @@ impl KeptMember {
         alloc: Global,
         sent: &mut Vec<Datagram>,
     ) -> Result<(), AllocError>
-        ensures { OnOk result (Does timed self.old self.new sent.old.items sent.new.items) }
+        ensures does { OnOk result (Does timed self.old self.new sent.old.items sent.new.items) }
+        ensures left { OnErr result (LeavesSome timed self.old self.new) }
     {
         self.answers(alloc, sent)?;
         self.asks_pages(sent)?;
@@ -34,7 +35,8 @@ impl KeptMember {
 
     /// A question for pages is answered, where that is due.
     fn answers(&mut self, alloc: Global, sent: &mut Vec<Datagram>) -> Result<(), AllocError>
-        ensures { OnOk result (Does answers self.old self.new sent.old.items sent.new.items) }
+        ensures does { OnOk result (Does answers self.old self.new sent.old.items sent.new.items) }
+        ensures left { OnErr result (LeavesSome answers self.old self.new) }
     {
         if !self.policy.answers(self.member.moment()) {
             return Ok(());
@@ -80,7 +82,9 @@ impl KeptMember {
 
     /// It asks for pages, where that is due.
     fn asks_pages(&mut self, sent: &mut Vec<Datagram>) -> Result<(), AllocError>
-        ensures { OnOk result (Does asks_pages self.old self.new sent.old.items sent.new.items) }
+        ensures does { OnOk result
+            (Does asks_pages self.old self.new sent.old.items sent.new.items) }
+        ensures left { OnErr result (LeavesSome asks_pages self.old self.new) }
     {
         if !self.policy.asks_pages(self.member.moment()) {
             return Ok(());
@@ -92,7 +96,9 @@ impl KeptMember {
 
     /// It reports, where that is due, and then a hole has its turn.
     fn reports_due(&mut self, alloc: Global, sent: &mut Vec<Datagram>) -> Result<(), AllocError>
-        ensures { OnOk result (Does reports_due self.old self.new sent.old.items sent.new.items) }
+        ensures does { OnOk result
+            (Does reports_due self.old self.new sent.old.items sent.new.items) }
+        ensures left { OnErr result (LeavesSome reports_due self.old self.new) }
     {
         if !self.policy.reports(self.member.moment()) {
             return Ok(());
@@ -104,7 +110,8 @@ impl KeptMember {
 
     /// It reports the rest of the page that was told last, or the next page.
     fn reports(&mut self, alloc: Global, sent: &mut Vec<Datagram>) -> Result<(), AllocError>
-        ensures { OnOk result (Does reports self.old self.new sent.old.items sent.new.items) }
+        ensures does { OnOk result (Does reports self.old self.new sent.old.items sent.new.items) }
+        ensures left { OnErr result (LeavesSome reports self.old self.new) }
     {
         let (told_page, told) = self.policy.told();
         let rest = self.slice(alloc, told_page, told)?;
@@ -127,8 +134,9 @@ impl KeptMember {
         page: PageId,
         marks: Marks,
     ) -> Result<(), AllocError>
-        ensures { OnOk result
+        ensures does { OnOk result
             (Does (reports_page page marks) self.old self.new sent.old.items sent.new.items) }
+        ensures left { OnErr result (LeavesSome (reports_page page marks) self.old self.new) }
     {
         let all = self.heard(alloc)?;
         let echoes = last_heard(alloc, &all)?;

@@ -3,5 +3,5 @@ use Rattle.wb_keeping.specs.Kept.{Asks}
 use Rattle.wb_keeping.proofs.Performed.{quiet_line, quiet_of}
 use Rattle.wb_keeping.proofs.kept_member.KeptMember.ask.Goals as goal
 
-pub returns : goal.returns
-returns c = quiet_of c.self.view_is (quiet_line (Asks c.args.name.now) refl (λ host at. (refl, (c.in_ok-ask.ensures.asked host at).1)))
+pub returns-clause-does : goal.returns-clause-does
+returns-clause-does c = quiet_of c.self.view_is (quiet_line (Asks c.args.name.now) refl (λ host at. (refl, (c.in_ok-ask.ensures.asked host at).1)))

@@ -7,8 +7,8 @@ use Rattle.wb_keeping.proofs.Performed.{at_inside, quiet_as}
 use Rattle.wb_keeping.proofs.AskedTimers as asked
 use Rattle.wb_keeping.proofs.kept_member.KeptMember.end.Goals as goal
 
-pub returns : goal.returns
-returns c =
+pub returns-clause-does : goal.returns-clause-does
+returns-clause-does c =
     let lines = map Stops c.deref.result.now in
     let did : DoesQuietly (performs_all lines) c.args.self.now c.stop_all.new.self = c.stop_all.ensures in
     quiet_as end (performs_all lines) (λ k at.

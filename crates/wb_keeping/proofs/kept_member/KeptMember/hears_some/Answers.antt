@@ -13,8 +13,8 @@ some_marks : (sender : ℕ) (page : PageId) (marks : List MarkValue) (see : List
 some_marks sender page [] see p e = absurd cc
 some_marks sender page (m ∷ marks) see p e = refl
 
-pub returns : goal.returns
-returns c =
+pub returns-clause-does : goal.returns-clause-does
+returns-clause-does c =
     let marks = c.args.marks in
     let some : nat_eq (length marks) 0 ≡ false = ap (λ (ms : List MarkValue). nat_eq (length ms) 0) (sym c.as_slice.ensures.entries) ∙ sym c.is_empty.ensures ∙ c.if-is_empty.false in
-    quiet_as (hears_some c.args.sender c.args.page marks) (performs (Hears (PageState c.args.sender c.args.page marks))) (λ k at. some_marks c.args.sender c.args.page marks (sees k.host) k.policy some) c.in_ok-hear.ensures
+    quiet_as (hears_some c.args.sender c.args.page marks) (performs (Hears (PageState c.args.sender c.args.page marks))) (λ k at. some_marks c.args.sender c.args.page marks (sees k.host) k.policy some) c.in_ok-hear.ensures.does

@@ -1,16 +1,29 @@
-use Rattle.std.proofs.Common.{ℕ, Bool, cond, List, ◌∙◌, ap, sym}
-use Rattle.std.specs.Prelude.{nat_lt}
-use Rattle.wb_names.specs.Values.{MarkValue, NameValue}
-use Rattle.wb_keeping.specs.Kept.{still, and_then, want_told, hears_some, hears_state, of_other, own_marks, told_names}
-use Rattle.wb_keeping.specs.Performing.{IsKeptAt, Keeping, KeptValue, sees}
-use Rattle.wb_keeping.specs.Policy.{Policy, after_state}
-use Rattle.wb_keeping.proofs.Performed.{at_inside, quiet_by, quiet_then}
+use Rattle.std.proofs.Common.{◌≡◌, ◌<◌, ◌≤◌, ℕ, ◌+◌, suc, Bool, true, false, cond, List, [], ◌∷◌, ◌++◌, ◌∙◌, ap, append-nil, append_assoc, arith, drop, get_or, length, map, refl, subst, sym, filter, true≢false}
+use Rattle.std.specs.Prelude.{Option, Some, None, nat_eq, nat_le, nat_lt, not, ◌&&◌, ◌||◌, Result, Ok, Err, take}
+use Rattle.wb_names.specs.Values.{DrawopValue, MarkValue, NameValue}
+use Rattle.wb_names.specs.declared.name.PageId.{PageId}
+use Rattle.wb_codec.specs.declared.datagram.Datagram.{Datagram}
+use Rattle.wb_member.specs.Holding.{IsOpenAt, MemberValue}
+use Rattle.wb_member.specs.Opened.{Opened}
+use Rattle.wb_gaps.specs.declared.holes.Hole.{Hole}
+use Rattle.wb_keeping.specs.Kept.{Line, Ticks, Arrives, Hears, Asks, Stops, SetsDistance, Says, Doing, Transition, still, performs, and_then, want, want_told, want_near, learned, turn, end, ends_full, answers, asks_pages, reports, reports_due, reports_page, reports_rest, timed, takes, measures, hears, hears_session, hears_some, hears_state, takes_question, of_other, came, ticks, adds, draws_it, drawing, is_begun, is_unasked, near_names, paid_for, own_marks, own_echo, told_names, distance_in, state_of, last_heard, last_source, stops_oldest}
+use Rattle.wb_keeping.specs.Performing.{Does, DoesQuietly, IsKeptAt, Keeping, KeptValue, after_doing, after_line, after_lines, sees, sent_by_doing, sent_by_line, sent_by_lines, view_of}
+use Rattle.wb_keeping.specs.Policy.{Policy, View, after_answer, after_came, after_question, after_report, after_state, after_taking_up, after_turn, after_wanting, holds, in_next_round, is_asked, is_full, level, with_distance}
+use Rattle.wb_keeping.specs.Steps.{performs_all, makes_room, set_lines, want_in}
+use Rattle.wb_keeping.proofs.Performed.{then_at, at_inside, does_as, does_by, does_change, does_line, does_of, does_same, does_seen, does_still, does_then, quiet_as, quiet_by, quiet_change, quiet_line, quiet_more, quiet_of, quiet_still, quiet_then}
+use Rattle.wb_keeping.proofs.OneByOne as rows
+use Rattle.wb_keeping.proofs.LeftSome.{on_err, left_by, left_later, left_none}
 use Rattle.wb_keeping.proofs.Wanted as wanted
-use Rattle.wb_member.specs.Opened.{present}
+use Rattle.wb_keeping.proofs.AskedTimers as asked
+use Rattle.wb_keeping.proofs.FilledHoles.{hole_filled}
+use Rattle.wb_member.specs.Opened.{present, events}
+use Rattle.wb_member.specs.Judged.{asked_names}
+use Rattle.std.proofs.lemmas.Bool.Decides.{nat_tests}
+use Rattle.std.proofs.lemmas.List.{drop_all}
 use Rattle.wb_keeping.proofs.kept_member.KeptMember.hears_state.Goals as goal
 
-pub returns : goal.returns
-returns c =
+pub returns-clause-does : goal.returns-clause-does
+returns-clause-does c =
     let marks = c.args.marks.now in
     let member = λ (k : Keeping) (at : IsKeptAt c.args.self.now k). (at_inside k c.self.view_is at).member in
     let me = λ (k : Keeping) (at : IsKeptAt c.args.self.now k). c.me-me.ensures k.host (member k at) in
@@ -27,4 +40,44 @@ returns c =
       ap (λ (b : Bool). cond b (still (sees k.host) k.policy) (hears_state c.args.sender c.args.page marks (sees k.host) k.policy)) (other k at)
           ∙ ap (λ (ms : List MarkValue). and_then (hears_some c.args.sender c.args.page ms) (want_told (told_names k.host.is.number c.args.page marks)) (sees k.host) (after_state (present k.host) k.policy)) (own k at)
           ∙ ap (λ (ns : List NameValue). and_then first (want_told ns) (sees k.host) (after_state (present k.host) k.policy)) (told k at),
-    )) (ap (λ (v : KeptValue). v.member) c.self.view_is) (quiet_then first second c.in_ok-hears_some.ensures c.in_ok-want_told.ensures)
+    )) (ap (λ (v : KeptValue). v.member) c.self.view_is) (quiet_then first second c.in_ok-hears_some.ensures.does c.in_ok-want_told.ensures.does)
+
+pub returns-in_err-told-clause-left : goal.returns-in_err-told-clause-left
+returns-in_err-told-clause-left c = on_err _ (
+    let marks = c.args.marks.now in
+    let member = λ (k : Keeping) (at : IsKeptAt c.args.self.now k). (at_inside k c.self.view_is at).member in
+    let me = λ (k : Keeping) (at : IsKeptAt c.args.self.now k). c.me-me.ensures k.host (member k at) in
+    let now = λ (k : Keeping) (at : IsKeptAt c.args.self.now k). c.moment-now.ensures.moment k.host (member k at) in
+    let other = λ (k : Keeping) (at : IsKeptAt c.args.self.now k). wanted.not_same c.args.sender k.host.is.number (λ e. c.if-sender-me.false (e ∙ sym (me k at))) in
+    let listens = λ (k : Keeping) (at : IsKeptAt c.args.self.now k). c.is_listening.ensures ∙ ap (λ (n : ℕ). nat_lt n c.self.inside.policy.ready) (now k at) ∙ ap (λ (p : Policy). nat_lt (present k.host) p.ready) (at_inside k c.self.view_is at).policy in
+    let own = λ (k : Keeping) (at : IsKeptAt c.args.self.now k). sym (c.in_ok-own.ensures ∙ ap (λ (m : ℕ). own_marks m c.is_listening.result marks) (me k at) ∙ ap (λ (b : Bool). own_marks k.host.is.number b marks) (listens k at)) in
+    let told = λ (k : Keeping) (at : IsKeptAt c.args.self.now k). sym (ap (λ (m : ℕ). told_names m c.args.page marks) (me k at)) in
+    let first = hears_some c.args.sender c.args.page c.in_ok-own.own in
+    let second = want_told (told_names c.me-me.result c.args.page marks) in
+    left_by (of_other c.args.sender (hears_state c.args.sender c.args.page marks)) (and_then first second) (λ k at. (
+      after_state (present k.host) k.policy,
+      c.hear_state.ensures ∙ ap (λ (n : ℕ). after_state n c.self.inside.policy) (now k at) ∙ ap (after_state (present k.host)) (at_inside k c.self.view_is at).policy,
+      ap (λ (b : Bool). cond b (still (sees k.host) k.policy) (hears_state c.args.sender c.args.page marks (sees k.host) k.policy)) (other k at)
+          ∙ ap (λ (ms : List MarkValue). and_then (hears_some c.args.sender c.args.page ms) (want_told (told_names k.host.is.number c.args.page marks)) (sees k.host) (after_state (present k.host) k.policy)) (own k at)
+          ∙ ap (λ (ns : List NameValue). and_then first (want_told ns) (sees k.host) (after_state (present k.host) k.policy)) (told k at),
+    )) (ap (λ (v : KeptValue). v.member) c.self.view_is) (left_later first second c.in_ok-hears_some.ensures.does (left_none second refl)))
+
+pub returns-in_err-want_told-clause-left : goal.returns-in_err-want_told-clause-left
+returns-in_err-want_told-clause-left c = on_err _ (
+    let marks = c.args.marks.now in
+    let member = λ (k : Keeping) (at : IsKeptAt c.args.self.now k). (at_inside k c.self.view_is at).member in
+    let me = λ (k : Keeping) (at : IsKeptAt c.args.self.now k). c.me-me.ensures k.host (member k at) in
+    let now = λ (k : Keeping) (at : IsKeptAt c.args.self.now k). c.moment-now.ensures.moment k.host (member k at) in
+    let other = λ (k : Keeping) (at : IsKeptAt c.args.self.now k). wanted.not_same c.args.sender k.host.is.number (λ e. c.if-sender-me.false (e ∙ sym (me k at))) in
+    let listens = λ (k : Keeping) (at : IsKeptAt c.args.self.now k). c.is_listening.ensures ∙ ap (λ (n : ℕ). nat_lt n c.self.inside.policy.ready) (now k at) ∙ ap (λ (p : Policy). nat_lt (present k.host) p.ready) (at_inside k c.self.view_is at).policy in
+    let own = λ (k : Keeping) (at : IsKeptAt c.args.self.now k). sym (c.in_ok-own.ensures ∙ ap (λ (m : ℕ). own_marks m c.is_listening.result marks) (me k at) ∙ ap (λ (b : Bool). own_marks k.host.is.number b marks) (listens k at)) in
+    let told = λ (k : Keeping) (at : IsKeptAt c.args.self.now k). sym (c.deref.ensures.value ∙ c.in_ok-told.ensures ∙ ap (λ (m : ℕ). told_names m c.args.page marks) (me k at)) in
+    let first = hears_some c.args.sender c.args.page c.in_ok-own.own in
+    let second = want_told c.deref.result.now in
+    left_by (of_other c.args.sender (hears_state c.args.sender c.args.page marks)) (and_then first second) (λ k at. (
+      after_state (present k.host) k.policy,
+      c.hear_state.ensures ∙ ap (λ (n : ℕ). after_state n c.self.inside.policy) (now k at) ∙ ap (after_state (present k.host)) (at_inside k c.self.view_is at).policy,
+      ap (λ (b : Bool). cond b (still (sees k.host) k.policy) (hears_state c.args.sender c.args.page marks (sees k.host) k.policy)) (other k at)
+          ∙ ap (λ (ms : List MarkValue). and_then (hears_some c.args.sender c.args.page ms) (want_told (told_names k.host.is.number c.args.page marks)) (sees k.host) (after_state (present k.host) k.policy)) (own k at)
+          ∙ ap (λ (ns : List NameValue). and_then first (want_told ns) (sees k.host) (after_state (present k.host) k.policy)) (told k at),
+    )) (ap (λ (v : KeptValue). v.member) c.self.view_is) (left_later first second c.in_ok-hears_some.ensures.does c.in_err-want_told.ensures.left))

@@ -1,18 +1,32 @@
-use Rattle.std.proofs.Common.{◌≡◌, Bool, cond, List, ◌∙◌, ap, length, subst, sym, filter}
-use Rattle.std.specs.Prelude.{nat_lt}
-use Rattle.wb_names.specs.Values.{NameValue}
+use Rattle.std.proofs.Common.{◌≡◌, ◌<◌, ◌≤◌, ℕ, ◌+◌, suc, Bool, true, false, cond, List, [], ◌∷◌, ◌++◌, ◌∙◌, ap, append-nil, append_assoc, arith, drop, get_or, length, map, refl, subst, sym, filter, true≢false}
+use Rattle.std.specs.Prelude.{Option, Some, None, nat_eq, nat_le, nat_lt, not, ◌&&◌, ◌||◌, Result, Ok, Err, take}
+use Rattle.wb_names.specs.Values.{DrawopValue, MarkValue, NameValue}
+use Rattle.wb_names.specs.declared.name.PageId.{PageId}
+use Rattle.wb_codec.specs.declared.datagram.Datagram.{Datagram}
 use Rattle.wb_member.specs.Holding.{IsOpenAt, MemberValue}
-use Rattle.wb_keeping.specs.Kept.{still, want_near, learned, turn, end, is_unasked, paid_for}
-use Rattle.wb_keeping.specs.Performing.{IsKeptAt, Keeping, KeptValue, sees, view_of}
-use Rattle.wb_keeping.proofs.Performed.{at_inside, quiet_as, quiet_by, quiet_still}
+use Rattle.wb_member.specs.Opened.{Opened}
+use Rattle.wb_gaps.specs.declared.holes.Hole.{Hole}
+use Rattle.wb_keeping.specs.Kept.{Line, Ticks, Arrives, Hears, Asks, Stops, SetsDistance, Says, Doing, Transition, still, performs, and_then, want, want_told, want_near, learned, turn, end, ends_full, answers, asks_pages, reports, reports_due, reports_page, reports_rest, timed, takes, measures, hears, hears_session, hears_some, hears_state, takes_question, of_other, came, ticks, adds, draws_it, drawing, is_begun, is_unasked, near_names, paid_for, own_marks, own_echo, told_names, distance_in, state_of, last_heard, last_source, stops_oldest}
+use Rattle.wb_keeping.specs.Performing.{Does, DoesQuietly, IsKeptAt, Keeping, KeptValue, after_doing, after_line, after_lines, sees, sent_by_doing, sent_by_line, sent_by_lines, view_of}
+use Rattle.wb_keeping.specs.Policy.{Policy, View, after_answer, after_came, after_question, after_report, after_state, after_taking_up, after_turn, after_wanting, holds, in_next_round, is_asked, is_full, level, with_distance}
+use Rattle.wb_keeping.specs.Steps.{performs_all, makes_room, set_lines, want_in}
+use Rattle.wb_keeping.proofs.Performed.{then_at, at_inside, does_as, does_by, does_change, does_line, does_of, does_same, does_seen, does_still, does_then, quiet_as, quiet_by, quiet_change, quiet_line, quiet_more, quiet_of, quiet_still, quiet_then}
+use Rattle.wb_keeping.proofs.OneByOne as rows
+use Rattle.wb_keeping.proofs.LeftSome.{on_err, left_by}
 use Rattle.wb_keeping.proofs.Wanted as wanted
+use Rattle.wb_keeping.proofs.AskedTimers as asked
+use Rattle.wb_keeping.proofs.FilledHoles.{hole_filled}
+use Rattle.wb_member.specs.Opened.{present, events}
+use Rattle.wb_member.specs.Judged.{asked_names}
+use Rattle.std.proofs.lemmas.Bool.Decides.{nat_tests}
+use Rattle.std.proofs.lemmas.List.{drop_all}
 use Rattle.wb_keeping.proofs.kept_member.KeptMember.learned.Goals as goal
 
-pub returns-then-is_full : goal.returns-then-is_full
-returns-then-is_full c = quiet_as (learned c.args.name.now c.args.was_asked) end (λ k at. wanted.learned_full c.args.name.now c.args.was_asked (sees k.host) k.policy (sym (c.is_full.ensures k.host (at_inside k c.self.view_is at).member) ∙ c.if-is_full.true)) c.in_ok-end.ensures
+pub returns-then-is_full-clause-does : goal.returns-then-is_full-clause-does
+returns-then-is_full-clause-does c = quiet_as (learned c.args.name.now c.args.was_asked) end (λ k at. wanted.learned_full c.args.name.now c.args.was_asked (sees k.host) k.policy (sym (c.is_full.ensures k.host (at_inside k c.self.view_is at).member) ∙ c.if-is_full.true)) c.in_ok-end.ensures.does
 
-pub returns-then-lacks_some : goal.returns-then-lacks_some
-returns-then-lacks_some c =
+pub returns-then-lacks_some-clause-does : goal.returns-then-lacks_some-clause-does
+returns-then-lacks_some-clause-does c =
     let n = c.args.name.now in
     let was = c.args.was_asked in
     let same = c.near.ensures.same in
@@ -30,10 +44,10 @@ returns-then-lacks_some c =
       policy k at,
       wanted.learned_near n was (sees k.host) k.policy (full k at) (lacks k at)
           ∙ ap (λ (ns : List NameValue). want_near ns (sees k.host) (paid_for was k.policy)) (sym (c.deref-then-lacks_some.ensures.value ∙ c.in_ok-near.ensures.near k at)),
-    )) member c.in_ok-want_near.ensures
+    )) member c.in_ok-want_near.ensures.does
 
-pub returns-then-was_asked : goal.returns-then-was_asked
-returns-then-was_asked c =
+pub returns-then-was_asked-clause-does : goal.returns-then-was_asked-clause-does
+returns-then-was_asked-clause-does c =
     let n = c.args.name.now in
     let was = c.args.was_asked in
     let same = c.near.ensures.same in
@@ -49,10 +63,10 @@ returns-then-was_asked c =
       paid_for was k.policy,
       policy k at,
       wanted.learned_none n was (sees k.host) k.policy (full k at) (lacks k at) ∙ ap (λ (b : Bool). cond b (turn (sees k.host) (paid_for was k.policy)) (still (sees k.host) k.policy)) c.if-was_asked.true,
-    )) member c.in_ok-turn.ensures
+    )) member c.in_ok-turn.ensures.does
 
-pub returns : goal.returns
-returns c =
+pub returns-clause-does : goal.returns-clause-does
+returns-clause-does c =
     let n = c.args.name.now in
     let was = c.args.was_asked in
     let same = c.near.ensures.same in
@@ -71,3 +85,43 @@ returns c =
           ∙ ap (λ (b : Bool). cond b (turn (sees k.host) (paid_for was k.policy)) (still (sees k.host) k.policy)) c.if-was_asked.false
           ∙ ap (still (sees k.host)) (sym (ap (λ (b : Bool). paid_for b k.policy) c.if-was_asked.false)),
     )) member (quiet_still c.pay.new.self)
+
+pub returns-in_err-want_near-clause-left : goal.returns-in_err-want_near-clause-left
+returns-in_err-want_near-clause-left c = on_err _ (
+    let n = c.args.name.now in
+    let was = c.args.was_asked in
+    let same = c.near.ensures.same in
+    let member : c.pay.new.self.member ≡ c.args.self.now.member = c.pay.ensures.member ∙ ap (λ (v : KeptValue). v.member) same in
+    let policy = λ (k : Keeping) (at : IsKeptAt c.args.self.now k). c.pay.ensures.policy ∙ ap (λ (v : KeptValue). paid_for was v.policy) same ∙ ap (paid_for was) at.policy in
+    let full = λ (k : Keeping) (at : IsKeptAt c.args.self.now k). sym (c.is_full.ensures k.host (at_inside k c.self.view_is at).member) ∙ c.if-is_full.false in
+    let near = λ (k : Keeping) (at : IsKeptAt c.args.self.now k). c.deref.ensures.value ∙ c.in_ok-near.ensures.near k at in
+    let lacks = λ (k : Keeping) (at : IsKeptAt c.args.self.now k).
+    let there : Keeping = record { host = k.host; policy = paid_for was k.policy } in
+    let paid : IsKeptAt c.pay.new.self there = record { member = subst (λ (m : MemberValue). IsOpenAt m k.host) (sym member) at.member; policy = policy k at } in
+    ap (λ (ns : List NameValue). nat_lt 0 (length (filter (is_unasked (view_of k.host)) ns))) (sym (near k at)) ∙ sym (c.lacks_some.ensures there paid) ∙ c.if-lacks_some.true in
+    let ns = c.deref-then-lacks_some.result.now in
+    left_by (learned n was) (want_near ns) (λ k at. (
+      paid_for was k.policy,
+      policy k at,
+      wanted.learned_near n was (sees k.host) k.policy (full k at) (lacks k at)
+          ∙ ap (λ (ns : List NameValue). want_near ns (sees k.host) (paid_for was k.policy)) (sym (c.deref-then-lacks_some.ensures.value ∙ c.in_ok-near.ensures.near k at)),
+    )) member c.in_err-want_near.ensures.left)
+
+pub returns-in_err-turn-clause-left : goal.returns-in_err-turn-clause-left
+returns-in_err-turn-clause-left c = on_err _ (
+    let n = c.args.name.now in
+    let was = c.args.was_asked in
+    let same = c.near.ensures.same in
+    let member : c.pay.new.self.member ≡ c.args.self.now.member = c.pay.ensures.member ∙ ap (λ (v : KeptValue). v.member) same in
+    let policy = λ (k : Keeping) (at : IsKeptAt c.args.self.now k). c.pay.ensures.policy ∙ ap (λ (v : KeptValue). paid_for was v.policy) same ∙ ap (paid_for was) at.policy in
+    let full = λ (k : Keeping) (at : IsKeptAt c.args.self.now k). sym (c.is_full.ensures k.host (at_inside k c.self.view_is at).member) ∙ c.if-is_full.false in
+    let near = λ (k : Keeping) (at : IsKeptAt c.args.self.now k). c.deref.ensures.value ∙ c.in_ok-near.ensures.near k at in
+    let lacks = λ (k : Keeping) (at : IsKeptAt c.args.self.now k).
+    let there : Keeping = record { host = k.host; policy = paid_for was k.policy } in
+    let paid : IsKeptAt c.pay.new.self there = record { member = subst (λ (m : MemberValue). IsOpenAt m k.host) (sym member) at.member; policy = policy k at } in
+    ap (λ (ns : List NameValue). nat_lt 0 (length (filter (is_unasked (view_of k.host)) ns))) (sym (near k at)) ∙ sym (c.lacks_some.ensures there paid) ∙ c.if-lacks_some.false in
+    left_by (learned n was) turn (λ k at. (
+      paid_for was k.policy,
+      policy k at,
+      wanted.learned_none n was (sees k.host) k.policy (full k at) (lacks k at) ∙ ap (λ (b : Bool). cond b (turn (sees k.host) (paid_for was k.policy)) (still (sees k.host) k.policy)) c.if-was_asked.true,
+    )) member c.in_err-turn.ensures.left)

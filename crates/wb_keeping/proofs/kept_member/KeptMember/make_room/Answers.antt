@@ -11,13 +11,13 @@ use Rattle.wb_keeping.specs.Wanting.{oldest}
 use Rattle.wb_keeping.specs.declared.wanting.AskedName.{AskedName}
 use Rattle.wb_keeping.proofs.kept_member.KeptMember.make_room.Goals as goal
 
-pub returns-then-is_asked : goal.returns-then-is_asked
-returns-then-is_asked c =
+pub returns-then-is_asked-clause-does : goal.returns-then-is_asked-clause-does
+returns-then-is_asked-clause-does c =
     let n = c.args.name.now in
     quiet_as (makes_room n) (performs (Stops n)) (λ k at. wanted.room_asked n (sees k.host) k.policy (sym (c.is_asked.ensures k at) ∙ c.if-is_asked.true)) c.stop.ensures
 
-pub returns-then-asks-lt-TIMERS : goal.returns-then-asks-lt-TIMERS
-returns-then-asks-lt-TIMERS c =
+pub returns-then-asks-lt-TIMERS-clause-does : goal.returns-then-asks-lt-TIMERS-clause-does
+returns-then-asks-lt-TIMERS-clause-does c =
     let n = c.args.name.now in
     quiet_as (makes_room n) still (λ k at.
     let count = asked.count_seen k.host in
@@ -26,8 +26,8 @@ returns-then-asks-lt-TIMERS c =
     let room : nat_le 64 (length (view_of k.host).asked) ≡ false = grind (arith, nat_tests, count, asks, few) in
     wanted.room_there n (sees k.host) k.policy (sym (c.is_asked.ensures k at) ∙ c.if-is_asked.false) room) (quiet_still c.args.self.now)
 
-pub returns : goal.returns
-returns c =
+pub returns-clause-does : goal.returns-clause-does
+returns-clause-does c =
     let n = c.args.name.now in
     let these = c.deref.result.now in
     quiet_as (makes_room n) (performs_all (stops_oldest (oldest these))) (λ k at.

@@ -7,8 +7,8 @@ use Rattle.wb_keeping.proofs.Performed.{at_inside, quiet_by}
 use Rattle.wb_keeping.proofs.Wanted as wanted
 use Rattle.wb_keeping.proofs.kept_member.KeptMember.measures.Goals as goal
 
-pub returns : goal.returns
-returns c =
+pub returns-clause-does : goal.returns-clause-does
+returns-clause-does c =
     let told : Some c.in-Some.micros ≡ c.args.distance = cc in
     let line = performs (SetsDistance c.args.sender c.measure-near.result) in
     quiet_by (measures c.args.sender c.args.distance) line
@@ -17,4 +17,4 @@ returns c =
       c.measure-near.ensures.usual ∙ ap (with_distance c.in-Some.micros) (at_inside k c.self.view_is at).policy,
       wanted.measured c.args.sender c.args.distance c.in-Some.micros c.measure-near.result (sees k.host) k.policy told c.measure-near.ensures.bounded c.if-near-micros.false,
     ))
-    (ap (λ (v : KeptValue). v.member) c.self.view_is) c.in_ok-set_distance.ensures
+    (ap (λ (v : KeptValue). v.member) c.self.view_is) c.in_ok-set_distance.ensures.does

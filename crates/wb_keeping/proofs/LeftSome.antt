@@ -1,0 +1,134 @@
+-- What is left of transitions in the middle of which memory was refused.
+use Rattle.std.proofs.Common.{◌≡◌, ℕ, zero, suc, ◌+◌, ◌<◌, Bool, true, false, List, [], ◌∷◌, ◌++◌, ap, drop, get_or, length, refl, subst, sym}
+use Rattle.std.specs.Prelude.{Result, Ok, Err, OnErr, take}
+use Rattle.wb_names.specs.Values.{NameValue}
+use Rattle.wb_codec.specs.declared.datagram.Datagram.{Datagram}
+use Rattle.wb_member.specs.Holding.{IsOpenAt, MemberValue}
+use Rattle.wb_member.specs.Opened.{Opened}
+use Rattle.wb_keeping.specs.Kept.{Doing, Line, Transition, and_then, is_begun, is_unasked, still, want, want_near, want_told}
+use Rattle.wb_keeping.specs.Performing.{Does, DoesQuietly, IsKeptAt, Keeping, KeptValue, LeavesSome, after_doing, after_lines, sees, view_of}
+use Rattle.wb_keeping.specs.Policy.{Policy, View}
+use Rattle.wb_keeping.proofs.Performed.{after_both, seen_then}
+use Rattle.wb_keeping.proofs.OneByOne.{at_next, begun_first, ended_by, passed_by}
+
+-- ---- the first of lines after lines
+
+-- the first of the first lines are the first of all
+first_lines : (n : ℕ) (one other : List Line) → (m : ℕ) × (take m (one ++ other) ≡ take n one)
+first_lines zero one other = (0, refl)
+first_lines (suc n) [] other = (0, refl)
+first_lines (suc n) (line ∷ one) other = let rest = first_lines n one other in (suc rest.0, ap (λ (ls : List Line). line ∷ ls) rest.1)
+
+-- and so are the first lines with the first of the others
+later_lines : (n : ℕ) (one other : List Line) → (m : ℕ) × (take m (one ++ other) ≡ one ++ take n other)
+later_lines n [] other = (n, refl)
+later_lines n (line ∷ one) other = let rest = later_lines n one other in (suc rest.0, ap (λ (ls : List Line). line ∷ ls) rest.1)
+
+-- ---- transitions
+
+-- what a refused call leaves
+pub on_err : {T E P : Type 0} (r : Result T E) → P → OnErr r P
+on_err (Ok x) p = tt
+on_err (Err e) p = p
+
+-- nothing was performed
+pub left_none : (does : Transition) {a b : KeptValue} → b.member ≡ a.member → LeavesSome does a b
+left_none does stays = record { at = λ k at. (0, subst (λ (m : MemberValue). IsOpenAt m k.host) (sym stays) at.member) }
+
+-- At one host: as many of the lines were performed.
+abbrev pub LeftAt : Transition → Keeping → KeptValue → Type 0
+LeftAt does k new = (some : ℕ) × IsOpenAt new.member (after_lines (take some (does (sees k.host) k.policy).lines) k.host)
+
+-- It ended in the first of two.
+pub left_first_at : (first second : Transition) (k : Keeping) (b : KeptValue) → LeftAt first k b → LeftAt (and_then first second) k b
+left_first_at first second k b l =
+    let one : Doing = first (sees k.host) k.policy in
+    let two : Doing = second (λ lines. sees k.host (one.lines ++ lines)) one.policy in
+    let some = first_lines l.0 one.lines two.lines in
+    (some.0, subst (λ (ls : List Line). IsOpenAt b.member (after_lines ls k.host)) (sym some.1) l.1)
+
+pub left_first : (first second : Transition) {a b : KeptValue} → LeavesSome first a b → LeavesSome (and_then first second) a b
+left_first first second {a} {b} left = record { at = λ k at. left_first_at first second k b (left.at k at) }
+
+-- It ended in the second, and the first was performed.
+pub left_second_at : (first second : Transition) (k : Keeping) (c : KeptValue) → LeftAt second (after_doing first k) c → LeftAt (and_then first second) k c
+left_second_at first second k c l =
+    let one : Doing = first (sees k.host) k.policy in
+    let two : Doing = second (λ lines. sees k.host (one.lines ++ lines)) one.policy in
+    let middle : Keeping = after_doing first k in
+    let same : second (sees middle.host) middle.policy ≡ two = sym (ap (λ (see : List Line → View). second see one.policy) (seen_then one.lines k.host)) in
+    let some = later_lines l.0 one.lines two.lines in
+    let these : List Line = take l.0 two.lines in
+    let here : IsOpenAt c.member (after_lines these middle.host) = subst (λ (d : Doing). IsOpenAt c.member (after_lines (take l.0 d.lines) middle.host)) same l.1 in
+    let both : IsOpenAt c.member (after_lines (one.lines ++ these) k.host) = subst (λ (h : Opened). IsOpenAt c.member h) (sym (after_both one.lines these k.host)) here in
+    (some.0, subst (λ (ls : List Line). IsOpenAt c.member (after_lines ls k.host)) (sym some.1) both)
+
+pub left_second : (first second : Transition) {a b c : KeptValue} {before after : List Datagram} → Does first a b before after → LeavesSome second b c → LeavesSome (and_then first second) a c
+left_second first second {a} {b} {c} did left = record { at = λ k at. left_second_at first second k c (left.at (after_doing first k) (did.at k at).1) }
+
+pub left_later : (first second : Transition) {a b c : KeptValue} → DoesQuietly first a b → LeavesSome second b c → LeavesSome (and_then first second) a c
+left_later first second did left = left_second first second (did.sends []) left
+
+-- The same lines, from another policy on.
+pub left_by : (does other : Transition) {a b c : KeptValue}
+    → ((k : Keeping) → IsKeptAt a k → (p : Policy) × (b.policy ≡ p) × (does (sees k.host) k.policy ≡ other (sees k.host) p)) → b.member ≡ a.member → LeavesSome other b c → LeavesSome does a c
+left_by does other {a} {b} {c} same stays left = record {
+  at = λ k at.
+      let s = same k at in
+      let there : Keeping = record { host = k.host; policy = s.0 } in
+      let l = left.at there (record { member = subst (λ (m : MemberValue). IsOpenAt m k.host) (sym stays) at.member; policy = s.1 }) in
+      (l.0, subst (λ (d : Doing). IsOpenAt c.member (after_lines (take l.0 d.lines) k.host)) (sym s.2) l.1);
+}
+
+-- the same, from the same policy on
+left_as_at : (does other : Transition) (k : Keeping) (b : KeptValue) → does (sees k.host) k.policy ≡ other (sees k.host) k.policy → LeftAt other k b → LeftAt does k b
+left_as_at does other k b same l = (l.0, subst (λ (d : Doing). IsOpenAt b.member (after_lines (take l.0 d.lines) k.host)) (sym same) l.1)
+
+pub left_as : (does other : Transition) {a b : KeptValue}
+    → ((k : Keeping) → IsKeptAt a k → does (sees k.host) k.policy ≡ other (sees k.host) k.policy) → LeavesSome other a b → LeavesSome does a b
+left_as does other {a} {b} same left = record { at = λ k at. left_as_at does other k b (same k at) (left.at k at) }
+
+-- nothing was performed of it, behind what changes nothing
+pub left_still : (does : Transition) {a b c : KeptValue} → DoesQuietly still a b → c.member ≡ b.member → LeavesSome does a c
+left_still does {a} {b} {c} did stays = record { at = λ k at. (0, subst (λ (m : MemberValue). IsOpenAt m k.host) (sym stays) ((did.sends []).at k at).1.member) }
+
+-- What is left of what stands inside is left of the whole.
+pub left_of : {does : Transition} {v old new : KeptValue} → v ≡ old → LeavesSome does v new → LeavesSome does old new
+left_of {does} {v} {old} {new} e left = subst (λ (v : KeptValue). LeavesSome does v new) e left
+
+-- ---- names that are wanted one by one
+
+-- the next one was not wanted to its end
+pub told_failed : (names : List NameValue) (i : ℕ) (d : NameValue) {a b : KeptValue} → i < length names → LeavesSome (want (get_or names i d) true) a b → LeavesSome (want_told (drop i names)) a b
+told_failed names i d {a} {b} lt left = at_next (λ (ns : List NameValue). LeavesSome (want_told ns) a b) names i d lt (left_first (want (get_or names i d) true) (want_told (drop (i + 1) names)) left)
+
+-- or a later one
+pub told_later : (names : List NameValue) (i : ℕ) (d : NameValue) {a b c : KeptValue} → i < length names → DoesQuietly (want (get_or names i d) true) a b → LeavesSome (want_told (drop (i + 1) names)) b c → LeavesSome (want_told (drop i names)) a c
+told_later names i d {a} {b} {c} lt one left = at_next (λ (ns : List NameValue). LeavesSome (want_told ns) a c) names i d lt (left_later (want (get_or names i d) true) (want_told (drop (i + 1) names)) one left)
+
+-- A name that is not asked for has no lines of which some could be left.
+near_failed_at : (n : NameValue) (ns : List NameValue) (k : Keeping) (b : KeptValue) → is_unasked (view_of k.host) n ≡ true → LeftAt (want n false) k b → LeftAt (want_near (n ∷ ns)) k b
+near_failed_at n ns k b unknown left = by (is_begun (want n false (sees k.host) k.policy)) refl where
+  by : (begun : Bool) → is_begun (want n false (sees k.host) k.policy) ≡ begun → LeftAt (want_near (n ∷ ns)) k b
+  by true begun = left_as_at (want_near (n ∷ ns)) (and_then (want n false) (want_near ns)) k b (begun_first n ns (sees k.host) k.policy unknown begun) (left_first_at (want n false) (want_near ns) k b left)
+  by false begun = left_as_at (want_near (n ∷ ns)) (want n false) k b (ended_by n ns (sees k.host) k.policy unknown begun) left
+
+pub near_failed : (names : List NameValue) (i : ℕ) (d : NameValue) {a b : KeptValue} → i < length names → ((k : Keeping) → IsKeptAt a k → is_unasked (view_of k.host) (get_or names i d) ≡ true)
+    → LeavesSome (want (get_or names i d) false) a b → LeavesSome (want_near (drop i names)) a b
+near_failed names i d {a} {b} lt unknown left = at_next (λ (ns : List NameValue). LeavesSome (want_near ns) a b) names i d lt (
+    record { at = λ k at. near_failed_at (get_or names i d) (drop (i + 1) names) k b (unknown k at) (left.at k at) })
+
+pub near_passed_later : (names : List NameValue) (i : ℕ) (d : NameValue) {a c : KeptValue} → i < length names → ((k : Keeping) → IsKeptAt a k → is_unasked (view_of k.host) (get_or names i d) ≡ false)
+    → LeavesSome (want_near (drop (i + 1) names)) a c → LeavesSome (want_near (drop i names)) a c
+near_passed_later names i d {a} {c} lt known left = at_next (λ (ns : List NameValue). LeavesSome (want_near ns) a c) names i d lt (
+    let n = get_or names i d in
+    let ns = drop (i + 1) names in
+    left_as (want_near (n ∷ ns)) (want_near ns) (λ k at. passed_by n ns (sees k.host) k.policy (known k at)) left)
+
+pub near_begun_later : (names : List NameValue) (i : ℕ) (d : NameValue) {a b c : KeptValue} → i < length names → ((k : Keeping) → IsKeptAt a k → is_unasked (view_of k.host) (get_or names i d) ≡ true)
+    → ((k : Keeping) → IsKeptAt a k → is_begun (want (get_or names i d) false (sees k.host) k.policy) ≡ true)
+    → DoesQuietly (want (get_or names i d) false) a b → LeavesSome (want_near (drop (i + 1) names)) b c → LeavesSome (want_near (drop i names)) a c
+near_begun_later names i d {a} {b} {c} lt unknown begun one left = at_next (λ (ns : List NameValue). LeavesSome (want_near ns) a c) names i d lt (
+    let n = get_or names i d in
+    let ns = drop (i + 1) names in
+    left_as (want_near (n ∷ ns)) (and_then (want n false) (want_near ns)) (λ k at. begun_first n ns (sees k.host) k.policy (unknown k at) (begun k at)) (left_later (want n false) (want_near ns) one left))
