@@ -159,7 +159,7 @@ class Board:
         finally:
             self.record.take_back()
         own = [each for each in block.sent() if each.startswith(DRAWOPS) and each[OWNER] == "%08x%08x%08x" % (self.me, *page)]
-        if block.fault or block.lines[-1:] == FULL or not own:
+        if block.lines[-1:] == FULL or not own:
             return block, None
         digits = max(own, key=lambda each: each[NUMBER])
         words = self.words.of(digits).words or self.words.all([digits])[0].words
