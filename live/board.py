@@ -29,8 +29,8 @@ LEAST_LISTENING = 1
 # a line for which a record has room has room for any drawing of ours, with its moment
 ROOM = "#" + 255 * "-"
 
-# how a drawop begins, in either version, and where it has its name
-DRAWOPS, NAME = ("57420101", "57420201"), slice(16, 48)
+# how a drawop begins, in either version, and where it has its source and page, and its number
+DRAWOPS, OWNER, NUMBER = ("57420101", "57420201"), slice(16, 40), slice(40, 48)
 
 # a host that is started so often within a minute is not started again
 MOST_STARTS = 4
@@ -149,18 +149,19 @@ class Board:
             self.listener(drawop)
         return blocks
 
-    def draw(self, page: Page, seq: int, time_of_day: int, operation: str) -> Tuple[Block, Optional[Drawop]]:
-        """Has the host draw, which gives a drawing its number and its time. The record has room for it before. NoRoom where it has none."""
+    def draw(self, page: Page, time_of_day: int, operation: str) -> Tuple[Block, Optional[Drawop]]:
+        """Has the host draw, which gives a drawing its number and its time. The record has room for it before. NoRoom where it has none.
+        What it repairs besides, of ours on that page, has lesser numbers."""
         self.keep([])
         self.reserve()
         try:
             block = self.tell("add %d %d %d/%d %s" % (self.now(), time_of_day, *page, operation))
         finally:
             self.record.take_back()
-        name = "%08x%08x%08x%08x" % (self.me, *page, seq)
-        digits = next((each for each in block.sent() if each.startswith(DRAWOPS) and each[NAME] == name), None)
-        if digits is None:
+        own = [each for each in block.sent() if each.startswith(DRAWOPS) and each[OWNER] == "%08x%08x%08x" % (self.me, *page)]
+        if block.lines[-1:] == FULL or not own:
             return block, None
+        digits = max(own, key=lambda each: each[NUMBER])
         words = self.words.of(digits).words or self.words.all([digits])[0].words
         if words is None:
             raise HostEnded("wb words ended")
@@ -175,12 +176,11 @@ class Board:
             raise NoRoom("the record can't be written")
         self.write([ROOM])
 
-    def tick_line(self) -> List[str]:
-        return ["tick %d" % self.moment] if self.moment > self.kept_moment else []
-
     def keep(self, lines: List[str]) -> None:
         """Puts lines into the record, and those before them for which there was no room."""
-        self.unkept += self.tick_line() + lines if lines else []
+        if lines and self.moment > self.kept_moment:
+            self.unkept.append("tick %d" % self.moment)
+        self.unkept += lines
         if self.unkept:
             self.kept_moment = self.moment
             try:
@@ -217,7 +217,8 @@ class Board:
         record = write_record(path, lines)
         if path != self.record.path:
             self.record.remove()
-        self.record.close()
+        else:
+            self.record.close()
         self.record, self.unkept = record, []
         self.host.end()
         self.start()
@@ -234,8 +235,3 @@ class Board:
         while rows and not rows[-1]:
             rows.pop()
         return rows
-
-    def next_number(self, page: Page) -> Optional[int]:
-        """The number for the next drawop of ours on a page, where one is left."""
-        block = self.tell("next %d %d" % page)
-        return None if block.fault else int(block.lines[0].split()[1])

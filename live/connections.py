@@ -59,7 +59,5 @@ class Connections:
     def end(self, connection: socket.socket, has_asked: bool) -> None:
         """A connection's thread is at its end."""
         with self.lock:
-            if has_asked:
-                self.count -= 1
-            elif self.idle.pop(connection, None) is not None:
+            if has_asked or self.idle.pop(connection, None) is not None:
                 self.count -= 1

@@ -60,10 +60,6 @@ class Sheet:
         """Where a drawing stands, or would stand, among those that are shown."""
         return bisect_left(self.keys, drawop.key)
 
-    def agrees(self, lines: List[str]) -> bool:
-        """Whether the host's view has these drawops and no others, in this order."""
-        return [drawop.words for drawop in self.shown] == lines
-
     def replace(self, lines: List[str]) -> None:
         """Shows what the host's view has."""
         held = {drawop.words: drawop for drawop in self.drawops.values()}

@@ -9,8 +9,7 @@ from .clock import SECOND
 from .drawn import Drawn
 from .views import Name, Page
 
-# microseconds from one report of a member to the next, in the mean, as hosts have it that keep themselves
-LEAST_INTERVAL = 2 * SECOND
+# microseconds from one report of a member to the next, in the mean and at most, as hosts have it that keep themselves
 MOST_INTERVAL = 64 * SECOND
 
 # a member that was not heard for so long is gone, and for so many intervals, since many members speak more seldom than that
@@ -79,7 +78,7 @@ class Heard:
 
     def spoke(self, size: int, rate: int, now: int) -> None:
         """This member has sent a report of so many bytes: the others speak as seldom, and who was not heard for long is forgotten."""
-        interval = min(MOST_INTERVAL, max(LEAST_INTERVAL, (len(self.others) + 1) * size * SECOND // rate))
+        interval = min(MOST_INTERVAL, (len(self.others) + 1) * size * SECOND // rate)
         self.patience = max(GONE_AFTER, GONE_AFTER_INTERVALS * interval)
         self.others = self.present(now)
 

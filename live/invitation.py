@@ -5,11 +5,12 @@ from __future__ import annotations
 import re
 import shutil
 import subprocess
+from argparse import ArgumentTypeError
 from typing import TYPE_CHECKING, Dict, Optional, Tuple
 from urllib.parse import parse_qsl, quote, unquote, urlencode, urlsplit
 
 from .carriers.mqtt import PORTS, Broker, Login
-from .keys import KeyFault, key_bytes
+from .keys import key_bytes
 
 if TYPE_CHECKING:
     from .options import Options
@@ -28,7 +29,7 @@ START = "wb:"
 CARRIERS = ("broker", "lan", "ports")
 
 
-class InvitationFault(Exception):
+class InvitationFault(ArgumentTypeError):
     """It is no invitation, or no broker's address."""
 
 
@@ -75,10 +76,7 @@ def read_invitation(text: str) -> Dict[str, str]:
     if sum(name in words for name in CARRIERS) != 1:
         raise InvitationFault("the invitation names no broker, group or ports: it is one for the tabs of a browser")
     if words.get("key"):
-        try:
-            key_bytes(words["key"])
-        except KeyFault as fault:
-            raise InvitationFault(str(fault)) from fault
+        key_bytes(words["key"])
     return words
 
 

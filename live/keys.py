@@ -7,12 +7,13 @@ import os
 import re
 import secrets
 import stat
+from argparse import ArgumentTypeError
 
 BYTES = 32
 MOST_FILE = 4_096
 
 
-class KeyFault(Exception):
+class KeyFault(ArgumentTypeError):
     """It is no key, or its file is open to others."""
 
 
@@ -24,7 +25,7 @@ def key_bytes(text: str) -> bytes:
 
 
 def new_key() -> str:
-    return base64.urlsafe_b64encode(secrets.token_bytes(BYTES)).decode().rstrip("=")
+    return secrets.token_urlsafe(BYTES)
 
 
 def secret_text(path: str) -> str:

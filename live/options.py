@@ -47,8 +47,7 @@ class Options(argparse.Namespace):
     new_key: Optional[str]
     invite: bool
     page: Optional[str]
-    web: Optional[Address]  # None: serves no page
-    is_for_each = False  # the page is served at an address of the words
+    web: Optional[Tuple[str, int, bool]]  # an address, and whether the words name one; None: serves no page
     guests: int  # so many browsers may have a member of their own; 0: all browsers are one member
     origin: List[str]
     terminal: bool
@@ -84,32 +83,10 @@ def address(text: str) -> Address:
     return host, int(port)
 
 
-def web_address(text: str) -> Address:
-    """PORT of this machine alone, or ADDRESS:PORT."""
-    return address(text if ":" in text else "127.0.0.1:" + text)
-
-
-class WebAction(argparse.Action):
-    """Where the page is served. Where the words name an address, each browser has a member of its own."""
-
-    def __call__(self, made: argparse.ArgumentParser, options: Any, text: Any, option: Optional[str] = None) -> None:
-        try:
-            options.web = web_address(text)
-        except argparse.ArgumentTypeError as fault:
-            raise argparse.ArgumentError(self, str(fault)) from fault
-        options.is_for_each = ":" in text
-
-
-def checked(read: Callable[[str], Any]) -> Callable[[str], Any]:
-    """Reads a word, whose fault is told as one of the words."""
-
-    def made(text: str) -> Any:
-        try:
-            return read(text)
-        except (InvitationFault, KeyFault) as fault:
-            raise argparse.ArgumentTypeError(str(fault)) from fault
-
-    return made
+def web_address(text: str) -> Tuple[str, int, bool]:
+    """PORT of this machine alone, or ADDRESS:PORT, at which each browser has a member of its own."""
+    host, port = address(text if ":" in text else "127.0.0.1:" + text)
+    return host, port, ":" in text
 
 
 def login_of(path: str) -> Login:
@@ -161,7 +138,7 @@ def parser() -> argparse.ArgumentParser:
     net = made.add_argument_group("whom to draw with").add_argument
     net("--lan", nargs="?", const=address(GROUP), type=address, metavar="ADDRESS:PORT", help="a multicast group, %s where none is given" % GROUP)
     net("--broker", metavar="URL", help="a session at a broker of MQTT 5: mqtts://HOST[:PORT]/SESSION, or wss://HOST[:PORT]/PATH with --session")
-    net("--password-file", dest="login", type=checked(login_of), metavar="FILE", help="has NAME:PASSWORD for the broker in its first line")
+    net("--password-file", dest="login", type=login_of, metavar="FILE", help="has NAME:PASSWORD for the broker in its first line")
     net("--ca", metavar="FILE", help="the certificate authority of the broker, where the system does not trust it already")
     net("--interface", default="0.0.0.0", metavar="A", help="the address of the interface on which the group is joined")
     net("--listen", type=address, metavar="HOST:PORT", help="listens here, and sends to each --peer")
@@ -170,14 +147,14 @@ def parser() -> argparse.ArgumentParser:
     net("--me", type=within(0, 2**32 - 1, int), metavar="N", help="the number of this member, which no other may have; else that of its record, or a random one")
     net("--rate", type=within(1, 10**6, int), default=RATE, metavar="BYTES", help="what the reports of all members may take together, in bytes a second, else %d; 400 for slow links" % RATE)
     shut = made.add_argument_group("who may read").add_argument
-    shut("invitation", nargs="?", type=checked(read_invitation), metavar="INVITATION", help="a line that --invite printed: joins that session")
-    shut("--session", type=checked(session_in), default=FIRST_NAME, metavar="NAME", help="the name of the session, else %s" % FIRST_NAME)
-    shut("--key", type=checked(read_key), metavar="FILE", help="seals each datagram by the key in this file")
+    shut("invitation", nargs="?", type=read_invitation, metavar="INVITATION", help="a line that --invite printed: joins that session")
+    shut("--session", type=session_in, default=FIRST_NAME, metavar="NAME", help="the name of the session, else %s" % FIRST_NAME)
+    shut("--key", type=read_key, metavar="FILE", help="seals each datagram by the key in this file")
     shut("--new-key", metavar="FILE", help="makes a file with a new key, which only its owner can read, and ends")
     shut("--invite", action="store_true", help="prints a line by which others join this session, with its key, and ends")
     shut("--page", type=page_address, metavar="URL", help="the line of --invite begins with the address of this page, which wb --page built")
     seen = made.add_argument_group("where it is seen").add_argument
-    seen("--web", action=WebAction, default=("127.0.0.1", -1), metavar="PORT", help="serves the page on this port of 127.0.0.1; with ADDRESS:PORT it is served there, and each browser is a member of its own")
+    seen("--web", type=web_address, default=("127.0.0.1", -1, False), metavar="PORT", help="serves the page on this port of 127.0.0.1; with ADDRESS:PORT it is served there, and each browser is a member of its own")
     seen("--guests", type=within(1, GUESTS, int), metavar="N", help="so many browsers have a member of their own at most, else %d" % GUESTS)
     seen("--origin", type=origin, action="append", default=[], metavar="URL", help="another address of the page, as https://board.example.org, behind a proxy; may be repeated")
     seen("--no-web", dest="web", action="store_const", const=None, help="serves no page, and paints it in the terminal")
@@ -244,7 +221,7 @@ def read_options(words: List[str]) -> Options:
         made.error("--broker, --lan and --listen exclude each other")
     if (options.login or options.ca) and not options.broker:
         made.error("--password-file and --ca go with --broker")
-    options.guests = (options.guests or GUESTS) if options.is_for_each and options.web and not options.replay else 0
+    options.guests = (options.guests or GUESTS) if options.web and options.web[2] and not options.replay else 0
     if (options.listen is None) != (not options.peer):
         made.error("--listen and --peer go together")
     if options.lan and options.listen:

@@ -89,16 +89,13 @@ class People:
             raise Refused(fault)
         if member.judging.room.is_full() and kind not in ("delete", "restore"):
             raise Refused("full")
-        seq = member.board.next_number(page)
-        if seq is None:
-            raise Refused("too many")
-        block, drawop = member.board.draw(page, seq, member.judging.now(), operation)
+        block, drawop = member.board.draw(page, member.judging.now(), operation)
         member.send_all(block.sent())
         if block.fault is not None:
             raise Refused(re.sub("(?<=^word )[0-9]+", lambda place: str(int(place[0]) - WORDS_BEFORE), block.fault))
         if drawop is None:
             raise Refused("full")
-        return {"source": member.me, "seq": seq, "page": page_text(page), "words": drawop.words}
+        return {"source": member.me, "seq": drawop.name[2], "page": page_text(page), "words": drawop.words}
 
     def turn_to(self, page: Page) -> Dict[str, Any]:
         """Makes this the page in view."""

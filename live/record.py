@@ -4,6 +4,7 @@ It has the line of the board, each drawop that was new, with the moment at which
 that were heard at its start. Questions, what was refused, and what others asked for change nothing that is held: they are not there."""
 from __future__ import annotations
 
+import errno
 import fcntl
 import os
 import re
@@ -136,14 +137,12 @@ class Record:
         """Puts lines into the file, all or none: a crash of this process does not lose them from now on."""
         text = "".join(line + "\n" for line in lines).encode("latin-1")
         try:
-            written = os.pwrite(self.file, text, self.size)
+            if os.pwrite(self.file, text, self.size) < len(text):
+                raise OSError(errno.ENOSPC, "no room")
         except OSError as fault:
             self.cut()
             raise NoRoom(fault.strerror) from fault
-        if written < len(text):
-            self.cut()
-            raise NoRoom("no room")
-        self.before, self.size = self.size, self.size + written
+        self.before, self.size = self.size, self.size + len(text)
         self.is_synced = False
 
     def cut(self) -> None:
@@ -165,8 +164,10 @@ class Record:
             self.is_synced = True
 
     def remove(self) -> None:
+        """Closes it, and it is no more."""
         if self.path is not None:
             os.unlink(self.path)
+        self.close()
 
     def end(self) -> None:
         """Closes it, and says that nothing was lost."""
@@ -201,6 +202,5 @@ def write_record(path: Optional[str], lines: List[str]) -> Record:
             record.path = path
     except (NoRoom, OSError):
         record.remove()
-        record.close()
         raise
     return record

@@ -8,7 +8,7 @@ from .board import NEW
 from .carriers.carrier import Origin
 from .clock import SECOND
 from .drawn import Drawn
-from .film import SPEEDS, Film, scenes_of
+from .film import Film, scenes_of
 from .heard import Heard
 from .inbox import Arrival
 from .times import wall
@@ -111,13 +111,3 @@ class Playing:
 
     def end(self) -> None:
         """There is nothing to end."""
-
-
-def change_in(body: Dict[str, Any]) -> Optional[Dict[str, Any]]:
-    """A change of the film as a page asks for it, or None where it is none."""
-    ranges = {"at": (0, 2**53), "speed": SPEEDS}
-    for name, value in body.items():
-        is_amount = name in ranges and type(value) in (int, float) and ranges[name][0] <= value <= ranges[name][1]
-        if not is_amount and not (name == "stopped" and isinstance(value, bool)):
-            return None
-    return body

@@ -5,7 +5,7 @@ from __future__ import annotations
 import os
 import secrets
 from pathlib import Path
-from typing import Iterator, List, Tuple
+from typing import Iterator, Tuple
 
 from .invitation import FIRST_NAME
 from .keys import digest_of
@@ -46,14 +46,9 @@ def folder_of(options: Options) -> Path:
     return folder
 
 
-def kept(folder: Path) -> List[Path]:
-    """The records of a session, the one used last first."""
-    return sorted(folder.glob("*.wb"), key=lambda path: path.stat().st_mtime, reverse=True)
-
-
 def free(folder: Path) -> Iterator[Record]:
-    """The records that no other member has, each open."""
-    for path in kept(folder):
+    """The records of a session that no other member has, each open, the one used last first."""
+    for path in sorted(folder.glob("*.wb"), key=lambda path: path.stat().st_mtime, reverse=True):
         try:
             yield Record(str(path))
         except RecordFault:
@@ -66,7 +61,6 @@ def named(options: Options) -> Record:
     record = Record(path)
     if options.forget:
         record.remove()
-        record.close()
         record = Record(path)
     return record
 
@@ -79,7 +73,6 @@ def first_free(options: Options) -> Tuple[Record, int]:
             os.utime(record.path or "")
             return record, 0
         record.remove()
-        record.close()
         break
     number = random_number()
     return Record(str(folder / ("%d.wb" % number))), number

@@ -145,7 +145,7 @@ class Telling:
         began = time.monotonic()
         self.is_checked = True
         sheet, lines = self.member.drawn.sheet(self.member.page), self.member.board.view(self.member.page)
-        if not sheet.agrees(lines):
+        if [drawop.words for drawop in sheet.shown] != lines:
             self.differences += 1
             sheet.replace(lines)
             self.page, self.is_changed = None, True

@@ -3,7 +3,7 @@ from __future__ import annotations
 
 import json
 import re
-from typing import Any, Dict, List, Optional, Tuple
+from typing import Any, Dict, Optional, Tuple
 
 # of a page: its creator and its number
 Page = Tuple[int, int]
@@ -63,7 +63,8 @@ class Drawop:
         told: Dict[str, Any] = {"source": self.name[0], "seq": self.name[2], "time": str(self.time), "op": self.kind}
         if self.kind == "text":
             x, y, quoted = rest.split(" ", 2)
-            told.update(x=int(x), y=int(y), text=unquoted(quoted))
+            # a backslash stands before each quote and each backslash in it
+            told.update(x=int(x), y=int(y), text=re.sub(r"\\(.)", r"\1", quoted[1:-1]))
         else:
             *numbers, glyph = rest.split(" ")
             told.update(zip(("x0", "y0", "x1", "y1"), map(int, numbers)), glyph=glyph)
@@ -75,12 +76,6 @@ class Drawop:
         if self.json is None:
             self.json = json.dumps(self.fields(), separators=(",", ":"))
         return self.json
-
-
-def unquoted(quoted: str) -> str:
-    """The text that stands in quotes, with a backslash before each quote and each backslash in it."""
-    characters = iter(quoted[1:-1])
-    return "".join(next(characters, "") if c == "\\" else c for c in characters)
 
 
 def kind_of(words: str) -> str:

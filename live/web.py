@@ -16,12 +16,12 @@ from urllib.parse import parse_qs, urlsplit
 
 from .connections import Connections
 from .events import Events, Watcher, compact
+from .film import SPEEDS
 from .guests import Guest, Guests
 from .member import Member
 from .options import Address, Options
 from .people import Refused
 from .presence import point_in
-from .replay import change_in
 from .sockets import PING, TEXT, acceptance, frame, has_ended, is_key
 from .views import Page, page_of
 
@@ -29,9 +29,6 @@ PAGE = Path(__file__).resolve().parent / "page"
 
 # what is served of that directory beside its index, by the end of the name
 KINDS = {".js": "text/javascript; charset=utf-8", ".css": "text/css; charset=utf-8"}
-
-# what is served where there is no such file
-BARE_PAGE = '<!doctype html><title>wb</title><meta name="wb-token" content="__TOKEN__">The page is not there.'
 
 # bytes of a body, and streams of events
 MOST_BODY = 1_024
@@ -47,6 +44,11 @@ QUIET = 5.0
 
 # ports that the page tries first, so that its address stays
 PORTS = range(8040, 8072)
+
+# what a page may change of a film and of a worse network: amounts in their ranges, and switches, which have none
+Ranges = Dict[str, Optional[Tuple[float, float]]]
+FILM: Ranges = {"at": (0, 2**53), "speed": SPEEDS, "stopped": None}
+WORSE: Ranges = {"lose": (0, 1), "twice": (0, 1), "delay": (0, 5000), "mix": None}
 
 # by which a browser is known again that has a member of its own
 COOKIE = "wb"
@@ -77,8 +79,7 @@ class Fault(Exception):
 
 def page_files() -> Dict[str, Tuple[str, bytes]]:
     """The scripts and styles of the page by their paths: of what kind each is, and its bytes."""
-    files = sorted(PAGE.glob("*")) if PAGE.is_dir() else []
-    return {"/page/" + file.name: (KINDS[file.suffix], file.read_bytes()) for file in files if file.suffix in KINDS}
+    return {"/page/" + file.name: (KINDS[file.suffix], file.read_bytes()) for file in PAGE.iterdir() if file.suffix in KINDS}
 
 
 class Web(ThreadingHTTPServer):
@@ -103,8 +104,7 @@ class Web(ThreadingHTTPServer):
         self.events = events
         self.guests = guests
         self.streams = threading.Semaphore(MOST_STREAMS)
-        index = PAGE / "index.html"
-        self.page = (index.read_text() if index.exists() else BARE_PAGE).replace("__TOKEN__", self.token).encode()
+        self.page = (PAGE / "index.html").read_text().replace("__TOKEN__", self.token).encode()
         self.files = page_files()
 
     def process_request(self, request: Any, client_address: Any) -> None:
@@ -221,8 +221,12 @@ class Handler(BaseHTTPRequestHandler):
         """A script or a style of the page."""
         self.send_bytes(*self.server.files[self.file])
 
-    def send_bytes(self, kind: str, body: bytes, more: Optional[Dict[str, str]] = None) -> None:
-        self.send_head(200, kind, len(body), more)
+    def send_bytes(self, kind: str, body: bytes, more: Optional[Dict[str, str]] = None, status: int = 200) -> None:
+        self.send_response(status)
+        told = {"Content-Type": kind, **HEADERS, **(more or {}), "Content-Length": str(len(body))}
+        for name, value in told.items():
+            self.send_header(name, value)
+        self.end_headers()
         self.wfile.write(body)
 
     def send_board(self) -> None:
@@ -290,18 +294,7 @@ class Handler(BaseHTTPRequestHandler):
             time.sleep(PAUSE)
 
     def send_json(self, status: int, value: Dict[str, Any]) -> None:
-        body = json.dumps(value).encode()
-        self.send_head(status, "application/json", len(body))
-        self.wfile.write(body)
-
-    def send_head(self, status: int, kind: str, length: Optional[int], more: Optional[Dict[str, str]] = None) -> None:
-        self.send_response(status)
-        self.send_header("Content-Type", kind)
-        for name, value in {**HEADERS, **(more or {})}.items():
-            self.send_header(name, value)
-        if length is not None:
-            self.send_header("Content-Length", str(length))
-        self.end_headers()
+        self.send_bytes("application/json", json.dumps(value).encode(), status=status)
 
     # ---- what is drawn
 
@@ -356,11 +349,8 @@ class Handler(BaseHTTPRequestHandler):
         self.give(member.people.call(member.point, point))
 
     def film(self) -> None:
-        body, member = self.body(), self.member
-        change = change_in(body)
-        if change is None:
-            raise Fault(400, "fields")
-        self.give(member.people.call(lambda: member.judging.change(**change)))
+        member, changes = self.member, self.changes(FILM)
+        self.give(member.people.call(lambda: member.judging.change(**changes)))
 
     def renumber(self) -> None:
         body, people = self.body(), self.member.people
@@ -370,7 +360,14 @@ class Handler(BaseHTTPRequestHandler):
 
     def worsen(self) -> None:
         people = self.member.people
-        self.give(people.call(people.worsen, worse_of(self.body())))
+        self.give(people.call(people.worsen, self.changes(WORSE)))
+
+    def changes(self, ranges: Ranges) -> Dict[str, Any]:
+        """The object of a request that changes some of these."""
+        body = self.body()
+        if not all(is_within(ranges, name, value) for name, value in body.items()):
+            raise Fault(400, "fields")
+        return body
 
     def page_in(self, body: Dict[str, Any], names: List[str]) -> Page:
         """The page of a body that has fields of these names and no others, all of them texts."""
@@ -387,23 +384,21 @@ def cookie_in(header: str) -> str:
     return dict(part.strip().partition("=")[::2] for part in header.split(";")).get(COOKIE, "")
 
 
-def worse_of(body: Dict[str, Any]) -> Dict[str, Any]:
-    """How the network is to be made worse, in range."""
-    most = {"lose": 1, "twice": 1, "delay": 5000}
-    for name, value in body.items():
-        is_amount = name in most and type(value) in (int, float) and 0 <= value <= most[name]
-        if not is_amount and not (name == "mix" and isinstance(value, bool)):
-            raise Fault(400, "fields")
-    return body
+def is_within(ranges: Ranges, name: str, value: Any) -> bool:
+    """Whether it can be changed so: an amount in its range, or a switch."""
+    limits = ranges.get(name)
+    if limits is None:
+        return name in ranges and isinstance(value, bool)
+    return type(value) in (int, float) and limits[0] <= value <= limits[1]
 
 
 def open_web(options: Options, member: Member, events: Events, guests: Optional[Guests] = None) -> Web:
     """Serves at the address of the words; where its port is -1, at the first that is free."""
-    address = options.web or ("127.0.0.1", 0)
-    ports = list(PORTS) + [0] if address[1] < 0 else [address[1]]
+    host, own, _ = options.web or ("127.0.0.1", 0, False)
+    ports = list(PORTS) + [0] if own < 0 else [own]
     for port in ports[:-1]:
         try:
-            return Web((address[0], port), options, member, events, guests)
+            return Web((host, port), options, member, events, guests)
         except OSError:
             continue
-    return Web((address[0], ports[-1]), options, member, events, guests)
+    return Web((host, ports[-1]), options, member, events, guests)

@@ -53,6 +53,36 @@ class Carrier(Protocol):
         """Nothing arrives any more, and nothing is sent."""
 
 
+class Over:
+    """A carrier over another, and before an inbox. What comes in is each one's own matter; all else goes through."""
+
+    def __init__(self, under: Carrier) -> None:
+        self.under = under
+
+    @property
+    def where(self) -> str:
+        return self.under.where
+
+    def begin(self, inbox: Taker) -> None:
+        self.inbox = inbox
+        self.under.begin(self)
+
+    def arrive(self, data: bytes, origin: Origin) -> None:
+        """A datagram came in."""
+
+    def miss(self) -> None:
+        self.inbox.miss()
+
+    def tell(self, trouble: str) -> None:
+        self.inbox.tell(trouble)
+
+    def send(self, data: bytes) -> bool:
+        return self.under.send(data)
+
+    def end(self) -> None:
+        self.under.end()
+
+
 class Nobody:
     """A carrier without anyone, for a replay."""
 

@@ -1,7 +1,7 @@
 """The carrier that the words ask for, and what else a member needs of its network."""
 from __future__ import annotations
 
-from typing import TYPE_CHECKING, NamedTuple, Optional
+from typing import TYPE_CHECKING, Optional, Tuple
 
 from .carrier import Carrier
 from .mqtt import GONE, MqttCarrier, Room
@@ -10,14 +10,6 @@ from .udp import Group, Peers, Ports, UdpCarrier
 
 if TYPE_CHECKING:
     from ..options import Options
-
-
-class Opened(NamedTuple):
-    """A carrier; the one by UDP beside which streams can be had; and the key that seals both."""
-
-    carrier: Carrier
-    udp: Optional[UdpCarrier]
-    seal: Optional[Seal]
 
 
 def open_udp(options: Options) -> UdpCarrier:
@@ -36,9 +28,9 @@ def open_broker(options: Options, me: int, seal: Optional[Seal]) -> MqttCarrier:
     return MqttCarrier(Room(options.broker, options.session, name, options.login, options.ca), seal.close(will) if seal else will)
 
 
-def open_network(options: Options, me: int) -> Opened:
-    """The network of the words, for the member of this number."""
+def open_network(options: Options, me: int) -> Tuple[Carrier, Optional[UdpCarrier], Optional[Seal]]:
+    """The network of the words, for the member of this number; the carrier by UDP beside which streams can be had; and the key that seals both."""
     seal = Seal(options.key, options.session) if options.key else None
     udp = None if options.broker else open_udp(options)
     carrier: Carrier = udp or open_broker(options, me, seal)
-    return Opened(Sealed(carrier, seal) if seal else carrier, udp, seal)
+    return Sealed(carrier, seal) if seal else carrier, udp, seal

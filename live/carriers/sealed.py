@@ -8,7 +8,7 @@ from typing import Optional
 
 from ..keys import key_bytes
 from ..packages import module_of
-from .carrier import Carrier, Origin, Taker
+from .carrier import Carrier, Origin, Over
 
 NONCE = 12
 TAG = 16
@@ -35,20 +35,16 @@ class Seal:
             return None
 
 
-class Sealed:
+class Sealed(Over):
     """A carrier whose datagrams are sealed. What does not open is dropped, and counted by the inbox."""
 
     def __init__(self, under: Carrier, seal: Seal) -> None:
-        self.under = under
+        super().__init__(under)
         self.seal = seal
 
     @property
     def where(self) -> str:
         return self.under.where + ", sealed by a key"
-
-    def begin(self, inbox: Taker) -> None:
-        self.inbox = inbox
-        self.under.begin(self)
 
     def arrive(self, data: bytes, origin: Origin) -> None:
         opened = self.seal.open(data)
@@ -57,14 +53,5 @@ class Sealed:
         else:
             self.inbox.arrive(opened, origin)
 
-    def miss(self) -> None:
-        self.inbox.miss()
-
-    def tell(self, trouble: str) -> None:
-        self.inbox.tell(trouble)
-
     def send(self, data: bytes) -> bool:
         return self.under.send(self.seal.close(data))
-
-    def end(self) -> None:
-        self.under.end()

@@ -5,7 +5,7 @@ import random
 from typing import TYPE_CHECKING
 
 from ..inbox import Arrival, Inbox
-from .carrier import Carrier, Origin
+from .carrier import Carrier, Origin, Over
 
 if TYPE_CHECKING:
     from ..options import Options
@@ -14,20 +14,14 @@ if TYPE_CHECKING:
 LEAST_MIX = 20.0
 
 
-class Worse:
+class Worse(Over):
     """The words say how much worse, and may come to say otherwise at any time."""
 
+    inbox: Inbox
+
     def __init__(self, under: Carrier, words: Options) -> None:
-        self.under = under
+        super().__init__(under)
         self.words = words
-
-    @property
-    def where(self) -> str:
-        return self.under.where
-
-    def begin(self, inbox: Inbox) -> None:
-        self.inbox = inbox
-        self.under.begin(self)
 
     def arrive(self, data: bytes, origin: Origin) -> None:
         if random.random() < self.words.lose:
@@ -41,15 +35,3 @@ class Worse:
         words = self.words
         spread = random.uniform(0.0, max(words.delay, LEAST_MIX)) if words.mix else 0.0
         return (words.delay + spread) / 1000 / words.speed
-
-    def miss(self) -> None:
-        self.inbox.miss()
-
-    def tell(self, trouble: str) -> None:
-        self.inbox.tell(trouble)
-
-    def send(self, data: bytes) -> bool:
-        return self.under.send(data)
-
-    def end(self) -> None:
-        self.under.end()

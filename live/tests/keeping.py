@@ -3,6 +3,7 @@ from __future__ import annotations
 
 import os
 import tempfile
+import time
 from pathlib import Path
 from typing import List, Tuple
 
@@ -37,6 +38,10 @@ say ask-pages 7
 """ % drawn(8, 1, 999, 2, b"o").hex()
 
 
+# member 9 asks for our first drawing
+ASKED = "57420103000000140000000900000001000000010000000100000001"
+
+
 def board_of(record: Record, held: List[Drawop], words: Tuple[str, ...] = ()) -> Board:
     """A host of a record, and what it tells."""
     program = os.environ["WB_PROGRAM"]
@@ -60,9 +65,9 @@ def test_old(judge, folder: Path) -> None:
     held: List[Drawop] = []
     board = board_of(Record(str(path)), held)
     judge("each drawop is held", sorted(drawop.name for drawop in held), [(7, (1, 1), 1), (7, (1, 1), 6), (8, (1, 1), 1)])
-    judge("the number is one above what was drawn", (board.me, board.next_number((1, 1))), (7, 7))
+    judge("the number is one above what was drawn", (board.me, board.tell("next 1 1").lines), (7, ["next 7"]))
     judge("the host keeps itself", board.tell("look 1 1").fault, "kept")
-    board.draw((1, 1), 7, 2000, "line 0 3 4 3 o")
+    board.draw((1, 1), 2000, "line 0 3 4 3 o")
     end(board)
     judge("the record keeps its lines, and has the drawing", (path.read_text().startswith(OLD), "say draw 7 1/1 7 2000 line 0 3 4 3 o\n" in path.read_text()), (True, True))
     judge("any host shows it", answers(str(path), ["show 1 1 5 4"]), "ooooo\n" * 4 + answers(str(path), ["#"]))
@@ -92,7 +97,7 @@ def test_mark(judge, folder: Path) -> None:
     path = folder / "mark.wb"
     path.write_text("board 7 100 1 42\ntick 5\npage-state 9 1/1 7=5\n")
     board = board_of(Record(str(path)), [])
-    judge("the next number is above it", board.next_number((1, 1)), 6)
+    judge("the next number is above it", board.tell("next 1 1").lines, ["next 6"])
     end(board)
 
 
@@ -101,17 +106,31 @@ def test_draw(judge) -> None:
     held: List[Drawop] = []
     record = Record(None)
     board = board_of(record, held)
-    block, drawop = board.draw((1, 1), 1, 50, "line 0 0 4 0 +")
+    block, drawop = board.draw((1, 1), 50, "line 0 0 4 0 +")
     judge("its words", drawop.words if drawop else None, "draw 1 1/1 1 50 line 0 0 4 0 +")
     judge("it is sent and told", (drawop.digits in block.sent() if drawop else False, len(held)), (True, 1))
-    block, drawop = board.draw((1, 1), 2, 50, 'text 0 0 "a b"')
+    block, drawop = board.draw((1, 1), 50, 'text 0 0 "a b"')
     judge("one of the same time lies above it", drawop.words if drawop else None, 'draw 1 1/1 2 51 text 0 0 "a b"')
-    block, drawop = board.draw((1, 1), 3, 50, "delete 1 3")
+    block, drawop = board.draw((1, 1), 50, "delete 1 3")
     judge("one that aims at itself is none", (block.fault, drawop), ("word 6: target is the drawop itself", None))
-    drawn_too = [board.draw((1, 1), 3 + n, 50, words)[1] for n, words in enumerate(("delete 1 1", "restore 1 1", "frame 0 0 2 2 #"))]
+    drawn_too = [board.draw((1, 1), 50, words)[1] for words in ("delete 1 1", "restore 1 1", "frame 0 0 2 2 #")]
     judge("of each kind", [each.kind for each in drawn_too if each], ["delete", "restore", "frame"])
     lines = [line for line in record.acts() if not line.startswith("tick ")]
     judge("the record", [line.split(" ", 1)[0] for line in lines], ["board"] + 5 * ["say"])
+    end(board)
+
+
+def test_repair(judge) -> None:
+    """A repair of ours that is due with a drawing is not taken for it."""
+    board = board_of(Record(None), [], ("--speed", "1000"))
+    board.draw((1, 1), 50, "line 0 0 4 0 +")
+    board.came([ASKED])
+    until = board.moment + 300_000  # at a distance of 100 ms a repair waits for 100 to 200
+    while board.now() < until:
+        time.sleep(0.001)
+    block, drawop = board.draw((1, 1), 50, "line 0 1 4 1 +")
+    judge("both are sent", sum(digits.startswith("57420101") for digits in block.sent()), 2)
+    judge("the drawing is the new one", drawop.name if drawop else None, (1, (1, 1), 2))
     end(board)
 
 
@@ -144,3 +163,4 @@ def test(judge) -> None:
         for part in (test_old, test_others, test_mark, test_listening):
             part(judge, Path(folder))
     test_draw(judge)
+    test_repair(judge)

@@ -207,7 +207,7 @@ def test_options(judge) -> None:
             except SystemExit as end:
                 return int(end.code or 0)
 
-    judge("no words", read_options([]).web, ("127.0.0.1", -1))
+    judge("no words", read_options([]).web, ("127.0.0.1", -1, False))
     judge("help", status(["--help"]), 0)
     for words in ("--lose 2", "--me x", "--web a:b", "--listen 127.0.0.1:1", "--peer 127.0.0.1:1", "--lan 1", "--ports 0", "--rate 0", "draw", "--replay a --record b", "--replay a --forget", "--origin example.org", "--origin https://a/b"):
         judge("words that are wrong: " + words, status(words.split()), 2)
