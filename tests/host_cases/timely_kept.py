@@ -1,6 +1,6 @@
 """A session of hosts that keep themselves, in time that a list of events stands for, whose drivers and network keep to stated times.
 
-The terms are those of docs/PROGRESS.md, in microseconds. Until `QUIET` members draw, what they send may be lost, and some datagrams are
+The terms are those of docs/PROGRESS.md, in microseconds. Until `QUIET` members draw and may join, what they send may be lost, and some datagrams are
 forged. From then on what one sends comes to each other within `DELIVERY`, now and then twice. Each host is called at the latest
 `LATE` behind its DUE, and is told the time and an offset of its own.
 """
@@ -76,12 +76,13 @@ def sizes_of(held: set[str]) -> Sizes:
 
 
 class TimelyKept:
-    """Members 1, 2, .. at their hosts, and the lines that are on their way."""
+    """Members 1, 2, .. at their hosts, and the lines that are on their way. Others may join."""
 
     def __init__(self, members: int, cells: int, seed: int, loses: Loses) -> None:
         self.random = random.Random(seed)
         self.loses = loses
-        self.hosts = {member: Dialog() for member in range(1, members + 1)}
+        self.cells, self.seed = cells, seed
+        self.hosts: dict[int, Dialog] = {}
         self.now = 0
         self.offset: dict[int, int] = {}
         self.due: dict[int, int] = {}
@@ -90,18 +91,32 @@ class TimelyKept:
         self.events: list[tuple[int, int, int, str, str]] = []
         self.order = itertools.count()
         self.requests: list[str] = []
-        self.held: dict[int, set[str]] = {member: set() for member in self.hosts}
+        self.held: dict[int, set[str]] = {member: set() for member in range(1, members + 1)}
         self.sizes = sizes_of(set())
         self.refused: list[str] = []
-        for member, dialog in self.hosts.items():
-            dialog.ask(f"board {member} {cells} 1 {seed * 100 + member}")
-            self.offset[member] = self.due[member] = int(dialog.ask("keep 4000 0").split()[1])
-            self.called_by[member] = self.random.randrange(LATE + 1)
+        for member in self.held:
+            self.open(member)
+            self.offset[member] = self.due[member]
+
+    def open(self, member: int) -> None:
+        """Opens the host of a member, whose clock is ahead of the time of the session, and calls it at once."""
+        dialog = self.hosts[member] = Dialog()
+        dialog.ask(f"board {member} {self.cells} 1 {self.seed * 100 + member}")
+        self.due[member] = int(dialog.ask("keep 4000 0").split()[1])
+        self.called_by[member] = self.now + self.random.randrange(LATE + 1)
+
+    def join(self, time: int) -> None:
+        """The host of one more member is opened at this time."""
+        member = len(self.held) + 1
+        self.held[member] = set()
+        self.offset[member] = self.random.randrange(2**40)
+        self.put(time, member, "join", "")
 
     def tell(self, member: int, word: str, rest: str = "") -> list[str]:
-        """The block of a line that tells the moment, without the line that closes it; what it sends goes to the others. Whenever one is handed in, no
-        host is to be behind its DUE by more than `LATE`."""
-        self.latest = max(self.latest, *(self.now + self.offset[other] - due for other, due in self.due.items()))
+        """The block of a line that tells the moment, without the line that closes it; what it sends goes to the others. Whenever one is handed in behind
+        the quiet time, no host is to be behind its DUE by more than `LATE`."""
+        if self.now > QUIET:
+            self.latest = max(self.latest, *(self.now + self.offset[other] - due for other, due in self.due.items()))
         *block, closing = self.hosts[member].ask(f"{word} {self.now + self.offset[member]}{rest}").splitlines()
         if not closing.startswith("ok "):
             self.refused.append(closing)
@@ -136,13 +151,16 @@ class TimelyKept:
         self.put(time, member, "add", f" {time} {page} line 0 {number % 8} 4 {number % 5} *")
 
     def step(self) -> None:
-        """The next line that comes to a host, or the tick of one that has something to do."""
+        """The next line that comes to a host, or the tick of one that has something to do, or a host that is opened."""
         time, member = min((time, member) for member, time in self.called_by.items())
         if not self.events or time <= self.events[0][0]:
             self.now = time
             self.tell(member, "tick")
             return
         self.now, _, member, word, rest = heapq.heappop(self.events)
+        if word == "join":
+            self.open(member)
+            return
         if IS_NEW in self.tell(member, word, rest) and word == "came":
             self.holds(member, name(rest.strip()))
 

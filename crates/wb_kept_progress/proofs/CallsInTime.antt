@@ -43,9 +43,6 @@ module _ (hosts : ℕ → Opening) (terms : Terms) (trace : List TimedLine) (s :
   abbrev all : List Performed
   all = performed hosts trace
 
-  one_more : (newer older : List TimedLine) (e : TimedLine) → trace ≡ newer ++ e ∷ older → trace ≡ (newer ++ e ∷ []) ++ older
-  one_more newer older e split = split ∙ sym (append_assoc newer (e ∷ []) older)
-
   number_is : (calls : List TimedLine) (i : ℕ) → (there hosts calls i).host.is.number ≡ (hosts i).number
   number_is calls i = ap (λ (h : Opened). h.is.number) (sym (host_is hosts s.opened calls i)) ∙ (of_start starts (performed hosts calls) i).number
 
