@@ -59,11 +59,14 @@ left_second_at first second k c l =
     let same : second (sees middle.host) middle.policy ≡ two = sym (ap (λ (see : List Line → View). second see one.policy) (seen_then one.lines k.host)) in
     let some = later_lines l.0 one.lines two.lines in
     let these : List Line = take l.0 two.lines in
-    let here : IsOpenAt c.member (after_lines these middle.host) = subst (λ (d : Doing). IsOpenAt c.member (after_lines (take l.0 d.lines) middle.host)) same l.1 in
-    let both : IsOpenAt c.member (after_lines (one.lines ++ these) k.host) = subst (λ (h : Opened). IsOpenAt c.member h) (sym (after_both one.lines these k.host)) here in
+    let here : IsOpenAt c.member (after_lines these middle.host) =
+    subst (λ (d : Doing). IsOpenAt c.member (after_lines (take l.0 d.lines) middle.host)) same l.1 in
+    let both : IsOpenAt c.member (after_lines (one.lines ++ these) k.host) =
+    subst (λ (h : Opened). IsOpenAt c.member h) (sym (after_both one.lines these k.host)) here in
     (some.0, subst (λ (ls : List Line). IsOpenAt c.member (after_lines ls k.host)) (sym some.1) both)
 
-pub left_second : (first second : Transition) {a b c : KeptValue} {before after : List Datagram} → Does first a b before after → LeavesSome second b c → LeavesSome (and_then first second) a c
+pub left_second : (first second : Transition) {a b c : KeptValue} {before after : List Datagram} → Does first a b before after
+    → LeavesSome second b c → LeavesSome (and_then first second) a c
 left_second first second {a} {b} {c} did left = record { at = λ k at. left_second_at first second k c (left.at (after_doing first k) (did.at k at).1) }
 
 pub left_later : (first second : Transition) {a b c : KeptValue} → DoesQuietly first a b → LeavesSome second b c → LeavesSome (and_then first second) a c
@@ -71,7 +74,8 @@ left_later first second did left = left_second first second (did.sends []) left
 
 -- The same lines, from another policy on.
 pub left_by : (does other : Transition) {a b c : KeptValue}
-    → ((k : Keeping) → IsKeptAt a k → (p : Policy) × (b.policy ≡ p) × (does (sees k.host) k.policy ≡ other (sees k.host) p)) → b.member ≡ a.member → LeavesSome other b c → LeavesSome does a c
+    → ((k : Keeping) → IsKeptAt a k → (p : Policy) × (b.policy ≡ p) × (does (sees k.host) k.policy ≡ other (sees k.host) p))
+    → b.member ≡ a.member → LeavesSome other b c → LeavesSome does a c
 left_by does other {a} {b} {c} same stays left = record {
   at = λ k at.
       let s = same k at in
@@ -81,7 +85,8 @@ left_by does other {a} {b} {c} same stays left = record {
 }
 
 -- the same, from the same policy on
-left_as_at : (does other : Transition) (k : Keeping) (b : KeptValue) → does (sees k.host) k.policy ≡ other (sees k.host) k.policy → LeftAt other k b → LeftAt does k b
+left_as_at : (does other : Transition) (k : Keeping) (b : KeptValue) → does (sees k.host) k.policy ≡ other (sees k.host) k.policy
+    → LeftAt other k b → LeftAt does k b
 left_as_at does other k b same l = (l.0, subst (λ (d : Doing). IsOpenAt b.member (after_lines (take l.0 d.lines) k.host)) (sym same) l.1)
 
 pub left_as : (does other : Transition) {a b : KeptValue}
@@ -99,36 +104,49 @@ left_of {does} {v} {old} {new} e left = subst (λ (v : KeptValue). LeavesSome do
 -- ---- names that are wanted one by one
 
 -- the next one was not wanted to its end
-pub told_failed : (names : List NameValue) (i : ℕ) (d : NameValue) {a b : KeptValue} → i < length names → LeavesSome (want (get_or names i d) true) a b → LeavesSome (want_told (drop i names)) a b
-told_failed names i d {a} {b} lt left = at_next (λ (ns : List NameValue). LeavesSome (want_told ns) a b) names i d lt (left_first (want (get_or names i d) true) (want_told (drop (i + 1) names)) left)
+pub told_failed : (names : List NameValue) (i : ℕ) (d : NameValue) {a b : KeptValue} → i < length names
+    → LeavesSome (want (get_or names i d) true) a b → LeavesSome (want_told (drop i names)) a b
+told_failed names i d {a} {b} lt left = at_next (λ (ns : List NameValue). LeavesSome (want_told ns) a b) names i d lt (
+    left_first (want (get_or names i d) true) (want_told (drop (i + 1) names)) left)
 
 -- or a later one
-pub told_later : (names : List NameValue) (i : ℕ) (d : NameValue) {a b c : KeptValue} → i < length names → DoesQuietly (want (get_or names i d) true) a b → LeavesSome (want_told (drop (i + 1) names)) b c → LeavesSome (want_told (drop i names)) a c
-told_later names i d {a} {b} {c} lt one left = at_next (λ (ns : List NameValue). LeavesSome (want_told ns) a c) names i d lt (left_later (want (get_or names i d) true) (want_told (drop (i + 1) names)) one left)
+pub told_later : (names : List NameValue) (i : ℕ) (d : NameValue) {a b c : KeptValue} → i < length names
+    → DoesQuietly (want (get_or names i d) true) a b → LeavesSome (want_told (drop (i + 1) names)) b c
+    → LeavesSome (want_told (drop i names)) a c
+told_later names i d {a} {b} {c} lt one left = at_next (λ (ns : List NameValue). LeavesSome (want_told ns) a c) names i d lt (
+    left_later (want (get_or names i d) true) (want_told (drop (i + 1) names)) one left)
 
 -- A name that is not asked for has no lines of which some could be left.
-near_failed_at : (n : NameValue) (ns : List NameValue) (k : Keeping) (b : KeptValue) → is_unasked (view_of k.host) n ≡ true → LeftAt (want n false) k b → LeftAt (want_near (n ∷ ns)) k b
+near_failed_at : (n : NameValue) (ns : List NameValue) (k : Keeping) (b : KeptValue) → is_unasked (view_of k.host) n ≡ true
+    → LeftAt (want n false) k b → LeftAt (want_near (n ∷ ns)) k b
 near_failed_at n ns k b unknown left = by (is_begun (want n false (sees k.host) k.policy)) refl where
   by : (begun : Bool) → is_begun (want n false (sees k.host) k.policy) ≡ begun → LeftAt (want_near (n ∷ ns)) k b
-  by true begun = left_as_at (want_near (n ∷ ns)) (and_then (want n false) (want_near ns)) k b (begun_first n ns (sees k.host) k.policy unknown begun) (left_first_at (want n false) (want_near ns) k b left)
+  by true begun = left_as_at (want_near (n ∷ ns)) (and_then (want n false) (want_near ns)) k b
+      (begun_first n ns (sees k.host) k.policy unknown begun)
+      (left_first_at (want n false) (want_near ns) k b left)
   by false begun = left_as_at (want_near (n ∷ ns)) (want n false) k b (ended_by n ns (sees k.host) k.policy unknown begun) left
 
-pub near_failed : (names : List NameValue) (i : ℕ) (d : NameValue) {a b : KeptValue} → i < length names → ((k : Keeping) → IsKeptAt a k → is_unasked (view_of k.host) (get_or names i d) ≡ true)
+pub near_failed : (names : List NameValue) (i : ℕ) (d : NameValue) {a b : KeptValue} → i < length names
+    → ((k : Keeping) → IsKeptAt a k → is_unasked (view_of k.host) (get_or names i d) ≡ true)
     → LeavesSome (want (get_or names i d) false) a b → LeavesSome (want_near (drop i names)) a b
 near_failed names i d {a} {b} lt unknown left = at_next (λ (ns : List NameValue). LeavesSome (want_near ns) a b) names i d lt (
     record { at = λ k at. near_failed_at (get_or names i d) (drop (i + 1) names) k b (unknown k at) (left.at k at) })
 
-pub near_passed_later : (names : List NameValue) (i : ℕ) (d : NameValue) {a c : KeptValue} → i < length names → ((k : Keeping) → IsKeptAt a k → is_unasked (view_of k.host) (get_or names i d) ≡ false)
+pub near_passed_later : (names : List NameValue) (i : ℕ) (d : NameValue) {a c : KeptValue} → i < length names
+    → ((k : Keeping) → IsKeptAt a k → is_unasked (view_of k.host) (get_or names i d) ≡ false)
     → LeavesSome (want_near (drop (i + 1) names)) a c → LeavesSome (want_near (drop i names)) a c
 near_passed_later names i d {a} {c} lt known left = at_next (λ (ns : List NameValue). LeavesSome (want_near ns) a c) names i d lt (
     let n = get_or names i d in
     let ns = drop (i + 1) names in
     left_as (want_near (n ∷ ns)) (want_near ns) (λ k at. passed_by n ns (sees k.host) k.policy (known k at)) left)
 
-pub near_begun_later : (names : List NameValue) (i : ℕ) (d : NameValue) {a b c : KeptValue} → i < length names → ((k : Keeping) → IsKeptAt a k → is_unasked (view_of k.host) (get_or names i d) ≡ true)
+pub near_begun_later : (names : List NameValue) (i : ℕ) (d : NameValue) {a b c : KeptValue} → i < length names
+    → ((k : Keeping) → IsKeptAt a k → is_unasked (view_of k.host) (get_or names i d) ≡ true)
     → ((k : Keeping) → IsKeptAt a k → is_begun (want (get_or names i d) false (sees k.host) k.policy) ≡ true)
     → DoesQuietly (want (get_or names i d) false) a b → LeavesSome (want_near (drop (i + 1) names)) b c → LeavesSome (want_near (drop i names)) a c
 near_begun_later names i d {a} {b} {c} lt unknown begun one left = at_next (λ (ns : List NameValue). LeavesSome (want_near ns) a c) names i d lt (
     let n = get_or names i d in
     let ns = drop (i + 1) names in
-    left_as (want_near (n ∷ ns)) (and_then (want n false) (want_near ns)) (λ k at. begun_first n ns (sees k.host) k.policy (unknown k at) (begun k at)) (left_later (want n false) (want_near ns) one left))
+    left_as (want_near (n ∷ ns)) (and_then (want n false) (want_near ns))
+    (λ k at. begun_first n ns (sees k.host) k.policy (unknown k at) (begun k at))
+    (left_later (want n false) (want_near ns) one left))
