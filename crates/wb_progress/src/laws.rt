@@ -69,9 +69,9 @@ pub fn all_comes_in_time()
     ensures all { AllComes }
 {}
 
-/// The first two hold whatever other names are given up: a request for a name is answered to all if no place
-/// gives the name up that holds it, and a request timer leads to one if the name is not given up. If it is,
-/// the timer leads to one, or its own place gives it up first.
+/// The first two hold whatever other names are given up: a request for a name is answered to all if
+/// no place gives the name up that holds it, and a request timer leads to one if the name is not
+/// given up. If it is, the timer leads to one, or its own place gives it up first.
 pub fn what_is_not_given_up_comes()
     ensures answered { RequestIsAnsweredBut }
     ensures leads { TimerLeadsBut }
