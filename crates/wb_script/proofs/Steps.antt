@@ -36,10 +36,10 @@ use Rattle.wb_script.proofs.Outcomes.{as_it_came}
 -- ---- what follows the end of a batch
 
 -- no board is open
-acts_nowhere : (k : Option ℕ) (t : State) (text : List ℕ) (line : Command) → IsAt (record { member = None; workers = k }) t
-    → Does {U = Unit {0}} (IsAt (record { member = None; workers = k })) text (Err (stops.Fault faults.NoBoard)) (as_step (closing_step t text (Acts line)))
-acts_nowhere k t text line is = at t.host is.member where
-  at : (host : Option Opened) → MayBeOpenAt None host → Does {U = Unit {0}} (IsAt (record { member = None; workers = k })) text (Err (stops.Fault faults.NoBoard)) (as_step (by_host host (refused t text faults.NoBoard) (λ host. step_by t.workers text (act line host) host)))
+acts_nowhere : (k : Option ℕ) (refusal : Bool) (t : State) (text : List ℕ) (line : Command) → IsAt (record { member = None; workers = k; refused = refusal }) t
+    → Does {U = Unit {0}} (IsAt (record { member = None; workers = k; refused = refusal })) text (Err (stops.Fault faults.NoBoard)) (as_step (closing_step t text (Acts line)))
+acts_nowhere k refusal t text line is = at t.host is.member where
+  at : (host : Option Opened) → MayBeOpenAt None host → Does {U = Unit {0}} (IsAt (record { member = None; workers = k; refused = refusal })) text (Err (stops.Fault faults.NoBoard)) (as_step (by_host host (refused t text faults.NoBoard) (λ host. step_by t.workers text (act line host) host)))
   at None o = (refl, refl)
   at (Some host) o = absurd o
 
@@ -48,20 +48,20 @@ begun_behind : (text more b : List ℕ) → BeginsWith more b → BeginsWith (te
 begun_behind text more b d = (d.0, ap (λ (x : List ℕ). text ++ x) d.1 ∙ sym (append_assoc text b d.0))
 
 -- the line was done
-act_done : (k j : Option ℕ) (host : Opened) (w : MemberValue) (text b : List ℕ) (r : Result (Unit {0}) Untaken) (a : Act) → k ≡ j → DoesAct host w b r a → Does (IsAt (record { member = Some w; workers = k })) (text ++ b) (faulted r) (as_step (step_by j text a host))
-act_done k j host w text b (Ok u) (does next printed) same d = (ap (λ (x : List ℕ). text ++ x) d.1, record { member = d.0; workers = same; waiting = refl })
-act_done k j host w text b (Ok u) (fails e) same d = absurd d
-act_done k j host w text b (Err (untaken.Line f)) (does next printed) same d = absurd d
-act_done k j host w text b (Err (untaken.Line f)) (fails e) same d = (ap (λ (x : List ℕ). text ++ x) d.2 ∙ append-nil text, d.0)
-act_done k j host w text b (Err untaken.Memory) (does next printed) same d = begun_behind text printed b d
-act_done k j host w text b (Err untaken.Memory) (fails e) same d = subst (λ (t : List ℕ). BeginsWith t (text ++ b)) (append-nil text) (begun_behind text [] b d)
+act_done : (k j : Option ℕ) (refusal : Bool) (host : Opened) (w : MemberValue) (text b : List ℕ) (r : Result (Unit {0}) Untaken) (a : Act) → k ≡ j → DoesAct host w b r a → Does (IsAt (record { member = Some w; workers = k; refused = refusal })) (text ++ b) (faulted r) (as_step (step_by j text a host))
+act_done k j refusal host w text b (Ok u) (does next printed) same d = (ap (λ (x : List ℕ). text ++ x) d.1, record { member = d.0; workers = same; waiting = refl })
+act_done k j refusal host w text b (Ok u) (fails e) same d = absurd d
+act_done k j refusal host w text b (Err (untaken.Line f)) (does next printed) same d = absurd d
+act_done k j refusal host w text b (Err (untaken.Line f)) (fails e) same d = (ap (λ (x : List ℕ). text ++ x) d.2 ∙ append-nil text, d.0)
+act_done k j refusal host w text b (Err untaken.Memory) (does next printed) same d = begun_behind text printed b d
+act_done k j refusal host w text b (Err untaken.Memory) (fails e) same d = subst (λ (t : List ℕ). BeginsWith t (text ++ b)) (append-nil text) (begun_behind text [] b d)
 
-acts_done : (t : State) (k : Option ℕ) (v w : MemberValue) (text b : List ℕ) (line : Command) (r : Result (Unit {0}) Untaken) → IsAt (record { member = Some v; workers = k }) t
-    → ((host : Opened) → IsOpenAt v host → DoesAct host w b r (act line host)) → Does (IsAt (record { member = Some w; workers = k })) (text ++ b) (faulted r) (as_step (closing_step t text (Acts line)))
-acts_done t k v w text b line r is d = at t.host is.member where
-  at : (host : Option Opened) → MayBeOpenAt (Some v) host → Does (IsAt (record { member = Some w; workers = k })) (text ++ b) (faulted r) (as_step (by_host host (refused t text faults.NoBoard) (λ host. step_by t.workers text (act line host) host)))
+acts_done : (t : State) (k : Option ℕ) (refusal : Bool) (v w : MemberValue) (text b : List ℕ) (line : Command) (r : Result (Unit {0}) Untaken) → IsAt (record { member = Some v; workers = k; refused = refusal }) t
+    → ((host : Opened) → IsOpenAt v host → DoesAct host w b r (act line host)) → Does (IsAt (record { member = Some w; workers = k; refused = refusal })) (text ++ b) (faulted r) (as_step (closing_step t text (Acts line)))
+acts_done t k refusal v w text b line r is d = at t.host is.member where
+  at : (host : Option Opened) → MayBeOpenAt (Some v) host → Does (IsAt (record { member = Some w; workers = k; refused = refusal })) (text ++ b) (faulted r) (as_step (by_host host (refused t text faults.NoBoard) (λ host. step_by t.workers text (act line host) host)))
   at None o = absurd o
-  at (Some host) o = act_done k t.workers host w text b r (act line host) is.workers (d host o)
+  at (Some host) o = act_done k t.workers refusal host w text b r (act line host) is.workers (d host o)
 
 -- ---- the same, at the end of a batch that has no arrivals
 
@@ -70,20 +70,20 @@ pub record EndsEmpty (h : HostValue) (s : State) (order : List DrawopValue) : Ty
   pub leads : IsAt h (after_batch s order)
   pub text : [] ≡ closing_text s order
 
-pub ends_nowhere : (s : State) (order : List DrawopValue) (mid : HostValue) (v : Option MemberValue) (k : Option ℕ) (line : Command) → record { member = v; workers = k } ≡ mid → v ≡ None → EndsEmpty mid s order
-    → Does {U = Unit {0}} (IsAt (record { member = v; workers = k })) [] (Err (stops.Fault faults.NoBoard)) (as_step (closing_step (after_batch s order) (closing_text s order) (Acts line)))
-ends_nowhere s order mid (Some v) k line view none ends = absurd cc
-ends_nowhere s order mid None k line view none ends =
-    subst (λ (x : List ℕ). Does {U = Unit {0}} (IsAt (record { member = None; workers = k })) x (Err (stops.Fault faults.NoBoard)) (as_step (closing_step (after_batch s order) (closing_text s order) (Acts line)))) (sym ends.text)
-    (acts_nowhere k (after_batch s order) (closing_text s order) line (subst (λ (h : HostValue). IsAt h (after_batch s order)) (sym view) ends.leads))
+pub ends_nowhere : (s : State) (order : List DrawopValue) (mid : HostValue) (v : Option MemberValue) (k : Option ℕ) (refusal : Bool) (line : Command) → record { member = v; workers = k; refused = refusal } ≡ mid → v ≡ None → EndsEmpty mid s order
+    → Does {U = Unit {0}} (IsAt (record { member = v; workers = k; refused = refusal })) [] (Err (stops.Fault faults.NoBoard)) (as_step (closing_step (after_batch s order) (closing_text s order) (Acts line)))
+ends_nowhere s order mid (Some v) k refusal line view none ends = absurd cc
+ends_nowhere s order mid None k refusal line view none ends =
+    subst (λ (x : List ℕ). Does {U = Unit {0}} (IsAt (record { member = None; workers = k; refused = refusal })) x (Err (stops.Fault faults.NoBoard)) (as_step (closing_step (after_batch s order) (closing_text s order) (Acts line)))) (sym ends.text)
+    (acts_nowhere k refusal (after_batch s order) (closing_text s order) line (subst (λ (h : HostValue). IsAt h (after_batch s order)) (sym view) ends.leads))
 
-pub ends_then : (s : State) (order : List DrawopValue) (mid : HostValue) (o : Option MemberValue) (v w : MemberValue) (k : Option ℕ) (b : List ℕ) (line : Command) (r : Result (Unit {0}) Untaken) → record { member = o; workers = k } ≡ mid → o ≡ Some v → EndsEmpty mid s order
-    → ((host : Opened) → IsOpenAt v host → DoesAct host w b r (act line host)) → Does (IsAt (record { member = Some w; workers = k })) b (faulted r) (as_step (closing_step (after_batch s order) (closing_text s order) (Acts line)))
-ends_then s order mid o v w k b line r view some ends d =
-    let there : IsAt (record { member = o; workers = k }) (after_batch s order) = subst (λ (h : HostValue). IsAt h (after_batch s order)) (sym view) ends.leads in
-    let known : IsAt (record { member = Some v; workers = k }) (after_batch s order) = subst (λ (p : Option MemberValue). IsAt (record { member = p; workers = k }) (after_batch s order)) some there in
-    subst (λ (x : List ℕ). Does (IsAt (record { member = Some w; workers = k })) (x ++ b) (faulted r) (as_step (closing_step (after_batch s order) (closing_text s order) (Acts line)))) (sym ends.text)
-    (acts_done (after_batch s order) k v w (closing_text s order) b line r known d)
+pub ends_then : (s : State) (order : List DrawopValue) (mid : HostValue) (o : Option MemberValue) (v w : MemberValue) (k : Option ℕ) (refusal : Bool) (b : List ℕ) (line : Command) (r : Result (Unit {0}) Untaken) → record { member = o; workers = k; refused = refusal } ≡ mid → o ≡ Some v → EndsEmpty mid s order
+    → ((host : Opened) → IsOpenAt v host → DoesAct host w b r (act line host)) → Does (IsAt (record { member = Some w; workers = k; refused = refusal })) b (faulted r) (as_step (closing_step (after_batch s order) (closing_text s order) (Acts line)))
+ends_then s order mid o v w k refusal b line r view some ends d =
+    let there : IsAt (record { member = o; workers = k; refused = refusal }) (after_batch s order) = subst (λ (h : HostValue). IsAt h (after_batch s order)) (sym view) ends.leads in
+    let known : IsAt (record { member = Some v; workers = k; refused = refusal }) (after_batch s order) = subst (λ (p : Option MemberValue). IsAt (record { member = p; workers = k; refused = refusal }) (after_batch s order)) some there in
+    subst (λ (x : List ℕ). Does (IsAt (record { member = Some w; workers = k; refused = refusal })) (x ++ b) (faulted r) (as_step (closing_step (after_batch s order) (closing_text s order) (Acts line)))) (sym ends.text)
+    (acts_done (after_batch s order) k refusal v w (closing_text s order) b line r known d)
 
 -- a board is opened
 pub opens : (old new : HostValue) (s : State) (order : List DrawopValue) (v : MemberValue) (member cells workers seed : ℕ) → EndsEmpty old s order → old.member ≡ None → new.member ≡ Some v → new.workers ≡ Some (unwrap_or old.workers workers) → IsOpenAt v (opened member cells seed)
@@ -223,12 +223,12 @@ has_joined : (first : InputLine) (joined : List InputLine) → is_arrival (part_
 has_joined first [] e = tt
 has_joined first (j ∷ js) e = e
 
-pub arrives_open : (s : State) (number : ℕ) (old : HostValue) (v after : MemberValue) (k : Option ℕ) (workers : ℕ) (d : DrawopValue) (first : InputLine) (joined : List InputLine) (lines : LinesValue Said) (counted : Counts) (printed : List ℕ)
+pub arrives_open : (s : State) (number : ℕ) (old : HostValue) (v after : MemberValue) (k : Option ℕ) (refusal : Bool) (workers : ℕ) (d : DrawopValue) (first : InputLine) (joined : List InputLine) (lines : LinesValue Said) (counted : Counts) (printed : List ℕ)
     → IsAt old s → old.member ≡ Some v → k ≡ old.workers → (IsAlone k → workers ≤ 1) → part_in first ≡ Arrival d → TakesLines v workers d joined lines counted after → Prints (is_broken lines.seen) printed counted
-    → DoesGroup {U = Unit {0}} by_batches (IsAt (record { member = Some after; workers = k })) printed (may_take s number (whole first)) first joined lines (Ok tt)
-arrives_open s number old v after k workers d first joined lines counted printed at there same few is takes prints = go (is_broken lines.seen) prints where
+    → DoesGroup {U = Unit {0}} by_batches (IsAt (record { member = Some after; workers = k; refused = refusal })) printed (may_take s number (whole first)) first joined lines (Ok tt)
+arrives_open s number old v after k refusal workers d first joined lines counted printed at there same few is takes prints = go (is_broken lines.seen) prints where
   new : HostValue
-  new = record { member = Some after; workers = k }
+  new = record { member = Some after; workers = k; refused = refusal }
 
   batch : List DrawopValue
   batch = d ∷ arrivals_of joined

@@ -1,5 +1,5 @@
 //! Whether each line of a script parses, and nothing is run.
-ghost use Rattle.std.specs.Prelude.{◌≡◌, ◌≢◌, ◌≤◌, List, ℕ, true, IfOk, Err};
+ghost use Rattle.std.specs.Prelude.{◌≡◌, ◌≢◌, ◌≤◌, List, ℕ, true, length, IfOk, Err, Some};
 ghost use Rattle.wb_lines.specs.Driving.{Gave};
 ghost use Rattle.wb_script.specs.Checking.{Checks, CountsLines, IsCounted, fault_of};
 
@@ -21,7 +21,9 @@ impl Sink for Nowhere {
 
     ghost has_failed = { λ _. false };
 
-    fn push(&mut self, bytes: &[u8]) -> Option<usize> {
+    fn push(&mut self, bytes: &[u8]) -> Option<usize>
+        ensures { result ≡ Some (length bytes.now) }
+    {
         Some(bytes.len())
     }
 }

@@ -1,5 +1,6 @@
 //! The host of a script, and what its lines do to it.
-ghost use Rattle.std.specs.Prelude.{◌≡◌, ◌<◌, List, [], ℕ, ◌≤◌, ◌++◌, Ok, None, false};
+ghost use Rattle.std.specs.Prelude.{◌≡◌, ◌≢◌, ◌<◌, List, [], ℕ, ◌≤◌, ◌++◌, Ok, Err, None, false};
+ghost use Rattle.wb_lines.specs.declared.handler.Stop.TheVariants as stops;
 ghost use Rattle.wb_lines.specs.declared.lines.Seen.TheVariants as seens;
 ghost use Rattle.wb_lines.specs.Input.{InputLine};
 ghost use Rattle.wb_lines.specs.Handling.{whole};
@@ -45,7 +46,7 @@ impl<'a, T, G> Model for Host<'a, T, G> {
 
     ghost Value = { HostValue };
 
-    ghost view = { λ h. record { member = h.member; workers = h.workers } };
+    ghost view = { λ h. record { member = h.member; workers = h.workers; refused = h.refused } };
 }
 
 /// What became of a line, for who hands it in.
@@ -62,7 +63,7 @@ fn faulted(taken: Result<(), Untaken>) -> Result<(), Stop<LineFault>>
 impl<'a, T, G> Host<'a, T, G> {
     /// No board is open. The number of workers, where there is one, goes before that of the board.
     pub fn new(place: Place<'a, T, G>, workers: Option<u32>) -> Self
-        ensures { result ≡ record { member = None; workers = workers } }
+        ensures { result ≡ record { member = None; workers = workers; refused = false } }
     {
         Host {
             place,
@@ -83,7 +84,9 @@ impl<'a, T, G> Host<'a, T, G> {
     }
 
     /// Whether a thread was refused.
-    pub fn is_refused(&self) -> bool {
+    pub fn is_refused(&self) -> bool
+        ensures { result ≡ self.now.refused }
+    {
         self.refused
     }
 
@@ -96,7 +99,8 @@ impl<'a, T, G> Host<'a, T, G> {
         seed: u64,
     ) -> Result<(), Stop<LineFault>>
         requires { IsCellCount cells }
-        ensures { (s : State) → IsAt self.old s → MayDoStep s self.new [] result
+        ensures refused { self.new.refused ≡ self.old.refused }
+        ensures text { (s : State) → IsAt self.old s → MayDoStep s self.new [] result
             (λ order. said_step s order (Ok (Command.Board member cells workers seed))) }
     {
         if self.member.is_some() {
@@ -115,7 +119,8 @@ impl<'a, T, G> Host<'a, T, G> {
         output: &mut Output,
     ) -> Result<(), Stop<LineFault>>
         requires { IsWithin command.now }
-        ensures { (written : List ℕ) × (output.new ≡ output.old ++ written) ×
+        ensures refused { self.new.refused ≡ self.old.refused }
+        ensures text { (written : List ℕ) × (output.new ≡ output.old ++ written) ×
             ((s : State) → IsAt self.old s → MayDoStep s self.new written result
             (λ order. part_step s order (End (Acts command.now)))) }
     {
@@ -134,7 +139,8 @@ impl<'a, T, G> Host<'a, T, G> {
     ) -> Result<(), Stop<LineFault>>
         requires command { IsWithin command.now }
         requires other { EndsBatchAt (part_of (Ok command.now)) }
-        ensures { (written : List ℕ) × (output.new ≡ output.old ++ written) ×
+        ensures refused { self.new.refused ≡ self.old.refused }
+        ensures text { (written : List ℕ) × (output.new ≡ output.old ++ written) ×
             ((s : State) → IsAt self.old s →
             MayDoStep s self.new written result (λ order. said_step s order (Ok command.now))) }
     {
@@ -162,7 +168,8 @@ impl<T: Threads + Wait + Sync, G: Gate + Sync> Host<'_, T, G> {
     ) -> Result<(), Stop<LineFault>>
         requires said { Says progress.old.lines.line said }
         requires taken { progress.old.lines.seen ≡ seens.Nothing }
-        ensures { (printed : List ℕ) × (joined : List InputLine) ×
+        ensures refused { result ≢ Err stops.Memory → self.new.refused ≡ self.old.refused }
+        ensures text { (printed : List ℕ) × (joined : List InputLine) ×
             Reads by_batches (moment progress.old.lines progress.old.output (R.left source.old)
             (R.has_failed source.old) (W.taken sink.old) (W.has_failed sink.old))
             (moment progress.new.lines progress.new.output (R.left source.new)
@@ -191,7 +198,8 @@ impl<T: Threads + Wait + Sync, G: Gate + Sync> Host<'_, T, G> {
         sink: &mut W,
     ) -> Result<(), Stop<LineFault>>
         requires part { part_in progress.old.lines.line ≡ Arrival drawop }
-        ensures { (printed : List ℕ) × (joined : List InputLine) ×
+        ensures refused { result ≢ Err stops.Memory → self.new.refused ≡ self.old.refused }
+        ensures text { (printed : List ℕ) × (joined : List InputLine) ×
             Reads by_batches (moment progress.old.lines progress.old.output (R.left source.old)
             (R.has_failed source.old) (W.taken sink.old) (W.has_failed sink.old))
             (moment progress.new.lines progress.new.output (R.left source.new)

@@ -1,5 +1,5 @@
 -- At which state of a script a host is inside a run, and what it may do there with a line, or with a batch.
-use Rattle.std.specs.Prelude.{◌≡◌, ◌++◌, [], ◌∷◌, ℕ, List, Option, Some, Result, Ok, Err}
+use Rattle.std.specs.Prelude.{Bool, ◌≡◌, ◌++◌, [], ◌∷◌, ℕ, List, Option, Some, Result, Ok, Err}
 use Rattle.wb_names.specs.Values.{DrawopValue}
 use Rattle.wb_lines.specs.declared.handler.Stop.{Stop}
 use Rattle.wb_lines.specs.declared.handler.Stop.TheVariants as stops
@@ -13,9 +13,11 @@ use Rattle.wb_member.specs.Holding.{MemberValue, MayBeOpenAt}
 use Rattle.wb_script.specs.Shows.{arrivals_of}
 use Rattle.wb_script.specs.Script.{State, InSomeOrder, Part, Arrival, part_in, Step, goes, refused, part_step, closing_text, after_batch}
 
+-- the host of a script: a member, once a board is open; how many workers take a batch, once that is known; and whether a thread was refused
 pub record HostValue : Type 0 where
   pub member : Option MemberValue
   pub workers : Option ℕ
+  pub refused : Bool
 
 -- A host is at a state at which no arrivals wait: a batch is taken whole.
 pub record IsAt (h : HostValue) (s : State) : Type 0 where

@@ -9,8 +9,8 @@ use Rattle.wb_script.proofs.Outcomes.{as_it_came}
 use Rattle.wb_script.proofs.Steps.{ends_empty, opens, stopped}
 use Rattle.wb_script.proofs.host.Host.open_board.Goals as goal
 
-pub returns : goal.returns
-returns g c =
+pub returns-clause-text : goal.returns-clause-text
+returns-clause-text g c =
     let none : c.self.inside.member ≡ None = search rules in
     let closed : c.args.self.now.member ≡ None = ap (λ (h : HostValue). h.member) (sym c.self.view_is) ∙ none in
     let value : c.unwrap_or.result ≡ unwrap_or c.self.inside.workers c.args.workers = search rules in
@@ -18,9 +18,9 @@ returns g c =
     let open_now : IsOpenAt c.in_ok-open.field-0 (opened c.args.member c.args.cells c.args.seed) = search rules in
     λ s at.
     let e = ends_empty c.args.self.now s at in
-    (e.0, e.1, opens c.args.self.now (record { member = Some c.in_ok-open.field-0; workers = Some c.unwrap_or.result }) s e.0 c.in_ok-open.field-0 c.args.member c.args.cells c.args.workers c.args.seed e.2 closed refl known open_now)
+    (e.0, e.1, opens c.args.self.now (record { member = Some c.in_ok-open.field-0; workers = Some c.unwrap_or.result; refused = c.self.inside.refused }) s e.0 c.in_ok-open.field-0 c.args.member c.args.cells c.args.workers c.args.seed e.2 closed refl known open_now)
 
-pub returns-in_err-open : goal.returns-in_err-open
-returns-in_err-open g c =
+pub returns-in_err-open-clause-text : goal.returns-in_err-open-clause-text
+returns-in_err-open-clause-text g c =
     let p = err_from_is_err_and c.from_residual.result c.from_residual.ensures.1 in
     λ s at. rw (p.1, p.2) (s.waiting, as_it_came s.workers s.waiting, stopped c.args.self.now s (said_step s s.waiting (Ok (Board c.args.member c.args.cells c.args.workers c.args.seed))))

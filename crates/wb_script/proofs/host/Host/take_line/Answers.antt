@@ -14,12 +14,12 @@ acts_then (Arrive d) ends other = absurd ends
 acts_then (Board member cells workers seed) ends other = absurd (other member cells workers seed refl)
 acts_then line ends other = refl
 
-pub returns-in-Board : goal.returns-in-Board
-returns-in-Board g c = ([], sym (append-nil c.args.output.now), λ s at. rw c.in-Board.is (c.open_board.ensures s at))
+pub returns-in-Board-clause-text : goal.returns-in-Board-clause-text
+returns-in-Board-clause-text g c = ([], sym (append-nil c.args.output.now), λ s at. rw c.in-Board.is (c.open_board.ensures.text s at))
 
-pub returns-in_default : goal.returns-in_default
-returns-in_default g c =
-    let t = c.act.ensures in (
+pub returns-in_default-clause-text : goal.returns-in_default-clause-text
+returns-in_default-clause-text g c =
+    let t = c.act.ensures.text in (
       t.0,
       t.1,
       λ s at.
