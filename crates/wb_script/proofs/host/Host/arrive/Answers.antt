@@ -26,6 +26,6 @@ returns-in-Ok-clause-text g c =
 
 pub returns-after-matches-clause-text : goal.returns-after-matches-clause-text
 returns-after-matches-clause-text g c =
-    let new : HostValue = record { member = c.take.new.self; workers = c.self.inside.workers; refused = c.matches.result } in
+    let new : HostValue = record { member = c.take.new.self; workers = c.self.inside.workers; refused = c.self.inside.refused } in
     let t = c.in-Err.ensures in
     (t.0, t.1, t.2, λ s at. arrives_refused s c.args.progress.now.lines.done new c.args.progress.now.lines.line t.1 c.take_batch.new.progress.lines t.0 t.3)
