@@ -1,6 +1,6 @@
 -- At most 32 senders were heard last.
-use Rattle.std.proofs.Common.{◌≡◌, ℕ, suc, ◌+◌, ◌*◌, ◌<◌, ◌≤◌, Bool, true, false, cond, List, [], ◌∷◌, ◌∙◌, ap, arith, filter, get_or, length, refl, sym, subst, true≢false, inl, inr, ⊎_elim}
-use Rattle.std.specs.Prelude.{◌⊎◌, ◌&&◌, ◌||◌, AllPairs, nat_eq, nat_lt, Option}
+use Rattle.std.proofs.Common.{◌≡◌, ℕ, suc, ◌+◌, ◌<◌, ◌≤◌, Bool, true, false, cond, List, [], ◌∷◌, ◌∙◌, ap, arith, filter, get_or, length, refl, sym, true≢false, inl, inr}
+use Rattle.std.specs.Prelude.{◌⊎◌, ◌&&◌, ◌||◌, AllPairs, nat_eq, nat_lt}
 use Rattle.std.specs.List.{count_by}
 use Rattle.std.specs.Ordering.{is_lt, nat_cmp, ordering_then}
 use Rattle.std.proofs.lemmas.Bool.{ltb-true}
@@ -8,20 +8,15 @@ use Rattle.std.proofs.lemmas.Bool.Decides.{nat_tests}
 use Rattle.std.proofs.lemmas.Grind.{common_steps}
 use Rattle.std.proofs.lemmas.List.Recursion.{is_count_by}
 use Rattle.wb_names.specs.Ascending.{AreEchoes}
-use Rattle.wb_names.specs.Values.{MarkValue}
 use Rattle.wb_names.specs.declared.echo.Echo.{Echo}
 use Rattle.wb_keeping.specs.Kept.{heard_later, last_heard}
 use Rattle.wb_keeping.specs.Laws.{ReportsAreSmall}
-use Rattle.wb_keeping.specs.Reports.{slice_after}
 use Rattle.wb_keeping.proofs.KeptLines.{slices_are_short}
 
 -- ---- who was heard later
 
 later : (a b c d : ℕ) → is_lt (ordering_then (nat_cmp a b) (nat_cmp c d)) ≡ (nat_lt a b || (nat_eq a b && nat_lt c d))
 later a b c d = grind (arith, common_steps, nat_tests)
-
-by_numbers : Echo → Echo → Bool
-by_numbers e f = nat_lt e.held f.held || (nat_eq e.held f.held && nat_lt e.source f.source)
 
 is_later : (e f : Echo) → heard_later e f ≡ (nat_lt e.held f.held || (nat_eq e.held f.held && nat_lt e.source f.source))
 is_later e f = later e.held f.held e.source f.source

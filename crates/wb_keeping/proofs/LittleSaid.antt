@@ -1,5 +1,5 @@
 -- How many names a kept host asks for, and how often it speaks of itself.
-use Rattle.std.proofs.Common.{◌≡◌, ℕ, zero, suc, ◌+◌, ◌-◌, ◌*◌, ◌≤◌, ◌<◌, Bool, true, false, cond, List, [], ◌∷◌, ◌++◌, ◌∙◌, Option, Some, None, ap, arith, filter, length, length-append, map, max, min, refl, subst, sym, true≢false}
+use Rattle.std.proofs.Common.{◌≡◌, ℕ, zero, suc, ◌+◌, ◌-◌, ◌*◌, ◌≤◌, Bool, true, false, cond, List, [], ◌∷◌, ◌++◌, ◌∙◌, Option, Some, None, ap, arith, filter, length, length-append, map, max, min, refl, subst, sym, true≢false}
 use Rattle.std.specs.Prelude.{IfSome, IsTrue, ◌&&◌, ◌/◌, is_none, nat_eq, nat_le, nat_lt, not, take}
 use Rattle.std.proofs.lemmas.Bool.{leb-true}
 use Rattle.std.proofs.lemmas.Bool.Decides.{nat_tests}
@@ -8,19 +8,19 @@ use Rattle.std.proofs.lemmas.List.Elements.{filter-append}
 use Rattle.wb_names.specs.Values.{DrawopValue, NameValue}
 use Rattle.wb_names.specs.declared.name.PageId.{PageId}
 use Rattle.wb_codec.specs.declared.datagram.Datagram.{Datagram}
-use Rattle.wb_codec.specs.declared.datagram.Datagram.TheVariants.{Draw, Session, Request, AskPages, PageState}
+use Rattle.wb_codec.specs.declared.datagram.Datagram.TheVariants.{Draw, AskPages}
 use Rattle.wb_gaps.specs.Answers.{pages_of, report_of}
 use Rattle.wb_member.specs.Members.{Misses}
 use Rattle.wb_member.specs.Opened.{Opened, doing as doing_act, has_room_for, heard, may_ask, present}
 use Rattle.wb_member.specs.Random.{word_of}
-use Rattle.wb_keeping.specs.Bounds.{FewNamesAreAsked, IsRarelySaid, LittleIsSaid, answer_count, ask_count, is_answer, is_ask, is_question, is_report, is_state}
+use Rattle.wb_keeping.specs.Bounds.{FewNamesAreAsked, LittleIsSaid, answer_count, ask_count, is_ask, is_question, is_report, is_state}
 use Rattle.wb_keeping.specs.Credit.{has_credit}
 use Rattle.wb_keeping.specs.Distances.{bounded}
-use Rattle.wb_keeping.specs.Kept.{Arrives, Asks, Doing, Hears, Line, Says, SetsDistance, Tunes, Stops, Ticks, Transition, last_heard, performs, reports_page, room_lines, state_of, still, stops_oldest, usual_lines, want}
+use Rattle.wb_keeping.specs.Kept.{Arrives, Asks, Doing, Hears, Line, Says, SetsDistance, Tunes, Stops, Ticks, last_heard, reports_page, room_lines, state_of, still, stops_oldest, usual_lines, want}
 use Rattle.wb_keeping.specs.Laws.{AreTaken, KeptLine, after_kept, expand}
 use Rattle.wb_keeping.specs.Performing.{Keeping, after_doing, after_line, after_lines, sees, view_of}
 use Rattle.wb_keeping.specs.Policy.{Policy, View, after_answer, after_came, after_question, after_state, after_taking_up, after_wanting, draws, holds, is_asked, is_full, level}
-use Rattle.wb_keeping.specs.Questions.{answered_at, asked_at, heard_at, is_due, is_to_answer, to_answer}
+use Rattle.wb_keeping.specs.Questions.{answered_at, heard_at, is_due, is_to_answer, to_answer}
 use Rattle.wb_keeping.specs.Reports.{mean_time, members_in, slice_after}
 use Rattle.wb_keeping.specs.Wanting.{goes_on, is_wanted, oldest}
 use Rattle.wb_keeping.specs.declared.questions.Questions.{Questions}
@@ -29,7 +29,6 @@ use Rattle.wb_keeping.proofs.EachStep.{HoldsOfSteps, all_hold, doing, having, ha
 use Rattle.wb_keeping.proofs.KeptLines.{all_hold as all_four}
 use Rattle.wb_keeping.proofs.Performed.{after_both}
 use Rattle.wb_keeping.proofs.Spending.{IsPaid, one_asked, one_came}
-use Rattle.wb_keeping.proofs.Wanted.{lines_wanted}
 
 -- ---- what is spaced
 
@@ -152,9 +151,6 @@ abbrev ArePlain : List Line → Type 0
 ArePlain [] = Unit {0}
 ArePlain (line ∷ lines) = IsPlain line × ArePlain lines
 
-present_arrives : (d : DrawopValue) (host : Opened) → present (after_line (Arrives d) host) ≡ present host
-present_arrives d host = refl
-
 present_heard : (v : Datagram) (host : Opened) (b : Bool) → present (cond b (heard v host) host) ≡ present host
 present_heard v host true = refl
 present_heard v host false = refl
@@ -175,10 +171,6 @@ present_plain (Ticks now ∷ lines) host plain = absurd plain.0
 present_plain (Arrives d ∷ lines) host plain = absurd plain.0
 present_plain (Asks name ∷ lines) host plain = absurd plain.0
 present_plain (Says v ∷ lines) host plain = absurd plain.0
-
-plain_both : (one other : List Line) → ArePlain one → ArePlain other → ArePlain (one ++ other)
-plain_both [] other a b = b
-plain_both (line ∷ one) other a b = (a.0, plain_both one other a.1 b)
 
 record CountsNothing (lines : List Line) (host : Opened) : Type 0 where
   asks : ask_count lines ≡ 0

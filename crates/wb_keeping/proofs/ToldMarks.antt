@@ -6,15 +6,14 @@ use Rattle.std.specs.Cmp.{nat_cmp_total}
 use Rattle.std.specs.List.Sorted.{IsStrictlySortedBy}
 use Rattle.std.specs.Option.{option_or}
 use Rattle.std.specs.Ordering.{is_lt, nat_cmp, ordering_reverse}
-use Rattle.std.specs.declared.cmp.Ordering.{Ordering}
-use Rattle.std.specs.declared.cmp.Ordering.TheVariants.{Less, Equal, Greater}
+use Rattle.std.specs.declared.cmp.Ordering.TheVariants.{Less}
 use Rattle.std.proofs.Math.ListN.{drop_of_length-le}
 use Rattle.std.proofs.lemmas.Bool.{leb-false, leb-true, ltb-true}
 use Rattle.std.proofs.lemmas.Bool.Decides.{nat_tests}
 use Rattle.std.proofs.lemmas.Grind.{common_steps}
 use Rattle.std.proofs.lemmas.List.{get_or-drop, get_or-take, length-drop, length-take, take_all}
 use Rattle.std.proofs.lemmas.List.Elements.{Contains-get_or}
-use Rattle.std.proofs.lemmas.List.Sums.{count_by-le-length, length-filter, sum_by-take-le, sum_by_more, sum_by_more_le}
+use Rattle.std.proofs.lemmas.List.Sums.{count_by-le-length, length-filter, sum_by_more, sum_by_more_le}
 use Rattle.std.proofs.lemmas.Map.Keys.{sorted_head, sorted_tail}
 use Rattle.wb_names.specs.Orders.{page_cmp, same_page}
 use Rattle.wb_names.specs.Values.{DrawopValue, MarkValue}
@@ -24,9 +23,9 @@ use Rattle.wb_gaps.specs.Answers.{pages_of, report_of, sources_of, top_mark}
 use Rattle.wb_gaps.proofs.PageAnswers.{pages_of_history}
 use Rattle.wb_gaps.proofs.Sorting.{sorted_rises}
 use Rattle.wb_gaps.proofs.Starts.{page_itself}
-use Rattle.wb_keeping.specs.Fairness.{EachMarkIsTold, ReportsTell, Told, after_telling, after_tellings, marks_in_turn, page_in_turn, slices_of, slices_on, where_left}
+use Rattle.wb_keeping.specs.Fairness.{EachMarkIsTold, ReportsTell, Told, after_tellings, marks_in_turn, page_in_turn, slices_of, slices_on, where_left}
 use Rattle.wb_codec.specs.declared.datagram.Datagram.TheVariants.{Session}
-use Rattle.wb_keeping.specs.Kept.{Line, Says, last_heard, last_source, reports, reports_rest}
+use Rattle.wb_keeping.specs.Kept.{Line, Says, last_heard, last_source, reports_rest}
 use Rattle.wb_keeping.specs.Policy.{Policy, View}
 use Rattle.wb_keeping.specs.Reports.{first_of_pages, is_after, is_untold, page_after, slice_after}
 use Rattle.wb_keeping.specs.Turns.{nowhere}
@@ -190,9 +189,6 @@ module _ (held : List DrawopValue) (t : Told) where
       ∙ ap (λ (ms : List MarkValue). filter (λ m. is_untold (last_source None ms) m.source) (report_of held page)) s.marks_are
       ∙ behind_slice s.told (report_of held page) rest (report_ascends held page) s.left s.whole
 
-  next_of : PageId → PageId
-  next_of page = page_after page (pages_of held)
-
   -- something is left
   goes_on : (count : ℕ) (rest : List MarkValue) (m : MarkValue) → filter (λ m. is_untold (at count).last m.source) (report_of held (at count).page) ≡ m ∷ rest → Tells count (at count).page (m ∷ rest)
   goes_on count rest m e = record {
@@ -239,9 +235,6 @@ module _ (held : List DrawopValue) (t : Told) where
       let left = length-drop 64 rest in
       subst (λ (n : ℕ). Tells n (page_after page (pages_of held)) (report_of held (page_after page (pages_of held)))) (omega arith)
       (ended k (suc count) page (drop 64 rest) (inl (omega (arith, long, left))) (omega (arith, few, left)) (onward count page rest s (omega (arith, long))))
-
-  slices : List MarkValue → ℕ
-  slices marks = max 1 ((length marks + 63) / 64)
 
   page_ends : (count : ℕ) (page : PageId) (rest : List MarkValue) → Tells count page rest → Tells (max 1 ((length rest + 63) / 64) + count) (page_after page (pages_of held)) (report_of held (page_after page (pages_of held)))
   page_ends count page rest s = by (nat_le 1 (length rest)) refl where
@@ -293,9 +286,6 @@ module _ (held : List DrawopValue) (t : Told) where
     record Begins (count i : ℕ) : Type 0 where
       within : i < length pages
       tells : Tells count (page_at i) (report_of held (page_at i))
-
-    begins_at : (count other i : ℕ) → count ≡ other → Begins count i → Begins other i
-    begins_at count other i e b = subst (λ (n : ℕ). Begins n i) e b
 
     -- the slices of the pages before it
     abbrev before : ℕ → ℕ
