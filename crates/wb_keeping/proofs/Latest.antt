@@ -18,9 +18,6 @@ use Rattle.wb_keeping.proofs.KeptLines.{slices_are_short}
 later : (a b c d : ℕ) → is_lt (ordering_then (nat_cmp a b) (nat_cmp c d)) ≡ (nat_lt a b || (nat_eq a b && nat_lt c d))
 later a b c d = grind (arith, common_steps, nat_tests)
 
-by_numbers : Echo → Echo → Bool
-by_numbers e f = nat_lt e.held f.held || (nat_eq e.held f.held && nat_lt e.source f.source)
-
 is_later : (e f : Echo) → heard_later e f ≡ (nat_lt e.held f.held || (nat_eq e.held f.held && nat_lt e.source f.source))
 is_later e f = later e.held f.held e.source f.source
 

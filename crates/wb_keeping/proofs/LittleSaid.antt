@@ -151,9 +151,6 @@ abbrev ArePlain : List Line → Type 0
 ArePlain [] = Unit {0}
 ArePlain (line ∷ lines) = IsPlain line × ArePlain lines
 
-present_arrives : (d : DrawopValue) (host : Opened) → present (after_line (Arrives d) host) ≡ present host
-present_arrives d host = refl
-
 present_heard : (v : Datagram) (host : Opened) (b : Bool) → present (cond b (heard v host) host) ≡ present host
 present_heard v host true = refl
 present_heard v host false = refl
@@ -174,10 +171,6 @@ present_plain (Ticks now ∷ lines) host plain = absurd plain.0
 present_plain (Arrives d ∷ lines) host plain = absurd plain.0
 present_plain (Asks name ∷ lines) host plain = absurd plain.0
 present_plain (Says v ∷ lines) host plain = absurd plain.0
-
-plain_both : (one other : List Line) → ArePlain one → ArePlain other → ArePlain (one ++ other)
-plain_both [] other a b = b
-plain_both (line ∷ one) other a b = (a.0, plain_both one other a.1 b)
 
 record CountsNothing (lines : List Line) (host : Opened) : Type 0 where
   asks : ask_count lines ≡ 0

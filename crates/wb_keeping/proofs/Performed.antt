@@ -98,15 +98,6 @@ pub quiet_as : (does other : Transition) {a b : KeptValue}
     → ((k : Keeping) → IsKeptAt a k → does (sees k.host) k.policy ≡ other (sees k.host) k.policy) → DoesQuietly other a b → DoesQuietly does a b
 quiet_as does other same it = record { sends = λ sent. does_as does other same (it.sends sent) }
 
--- lines
-pub does_lines : (lines : List Line) {a b : KeptValue} {before after : List Datagram} → b.policy ≡ a.policy
-    → ((host : Opened) → IsOpenAt a.member host → (after ≡ before ++ sent_by_lines lines host) × IsOpenAt b.member (after_lines lines host)) → Does (performs_all lines) a b before after
-does_lines lines stays it = record {
-  at = λ k at.
-      let r = it k.host at.member in
-      (r.0, record { member = r.1; policy = stays ∙ at.policy });
-}
-
 -- a line
 pub does_line : (line : Line) {a b : KeptValue} {before after : List Datagram} → b.policy ≡ a.policy
     → ((host : Opened) → IsOpenAt a.member host → (after ≡ before ++ sent_by_line line host) × IsOpenAt b.member (after_line line host)) → Does (performs line) a b before after
@@ -124,19 +115,6 @@ quiet_line line {a} {b} stays it = record { sends = λ sent. does_line line stay
 pub quiet_more : (one other : List Line) {a b c : KeptValue} → DoesQuietly (performs_all one) a b → DoesQuietly (performs_all other) b c → DoesQuietly (performs_all (one ++ other)) a c
 quiet_more one other f g = quiet_then (performs_all one) (performs_all other) f g
 
--- a change of the policy alone
-pub does_change : (does : Transition) {a b : KeptValue} (sent : List Datagram)
-    → ((k : Keeping) → IsKeptAt a k → does (sees k.host) k.policy ≡ still (sees k.host) b.policy) → b.member ≡ a.member → Does does a b sent sent
-does_change does {a} {b} sent same stays = does_by does still (λ k at. (b.policy, refl, same k at)) stays (does_still b sent)
-
-pub quiet_change : (does : Transition) {a b : KeptValue}
-    → ((k : Keeping) → IsKeptAt a k → does (sees k.host) k.policy ≡ still (sees k.host) b.policy) → b.member ≡ a.member → DoesQuietly does a b
-quiet_change does same stays = record { sends = λ sent. does_change does sent same stays }
-
--- the code changed, and stands for the same
-pub does_same : {a b : KeptValue} (sent : List Datagram) → b.policy ≡ a.policy → ((host : Opened) → IsOpenAt a.member host → IsOpenAt b.member host) → Does still a b sent sent
-does_same sent stays it = record { at = λ k at. (sym (append-nil sent), record { member = it k.host at.member; policy = stays ∙ at.policy }) }
-
 -- What is done at each host, by whatever lines.
 pub does_seen : (does : Transition) {a b : KeptValue} {before after : List Datagram}
     → ((k : Keeping) → IsKeptAt a k → (d : Doing) × (does (sees k.host) k.policy ≡ d) × (after ≡ before ++ sent_by_lines d.lines k.host) × IsKeptAt b (record { host = after_lines d.lines k.host; policy = d.policy })) → Does does a b before after
@@ -149,10 +127,6 @@ does_seen does {a} {b} {before} it = record {
 }
 
 -- ---- what code holds
-
--- What was performed from what stands inside was performed from the whole.
-pub does_of : {does : Transition} {v old new : KeptValue} {before after : List Datagram} → v ≡ old → Does does v new before after → Does does old new before after
-does_of {does} {v} {old} {new} {before} {after} e it = subst (λ (v : KeptValue). Does does v new before after) e it
 
 pub quiet_of : {does : Transition} {v old new : KeptValue} → v ≡ old → DoesQuietly does v new → DoesQuietly does old new
 quiet_of {does} {v} {old} {new} e it = subst (λ (v : KeptValue). DoesQuietly does v new) e it

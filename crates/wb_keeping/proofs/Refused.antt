@@ -4,13 +4,10 @@ use Rattle.std.specs.Prelude.{Option, None, Some, Result, Ok, Err, nat_le, nat_l
 use Rattle.std.proofs.lemmas.Bool.{leb-false}
 use Rattle.wb_names.specs.Drawing.{seq_fault}
 use Rattle.wb_names.specs.Faults.{fault_unless, first_of, value_unless}
-use Rattle.wb_names.specs.declared.fault.FieldFault.{FieldFault}
-use Rattle.wb_names.specs.declared.fault.FieldFault.TheVariants.{SeqZero}
 use Rattle.wb_codec.specs.declared.datagram.Datagram.{Datagram}
 use Rattle.wb_codec.specs.declared.datagram.Datagram.TheVariants.{Draw, Session, Request, AskPages, PageState}
-use Rattle.wb_names.specs.declared.name.PageId.{PageId}
 use Rattle.wb_host.specs.declared.keep_fault.KeepFault.TheVariants.{BackInTime, Memory}
-use Rattle.wb_member.specs.Opened.{Opened, last_number, next_number, ticked}
+use Rattle.wb_member.specs.Opened.{Opened, ticked}
 use Rattle.wb_keeping.specs.Refusing.{IsRefusedBy, came_as}
 use Rattle.wb_keeping.specs.declared.kept_fault.KeptFault.{KeptFault}
 use Rattle.wb_keeping.specs.declared.kept_fault.KeptFault.TheVariants.{Host, Listening}
@@ -48,16 +45,3 @@ then_fault true false None a b = refl
 then_fault true false (Some f) a b = refl
 then_fault true true f a b = absurd cc
 then_fault false waits f a b = absurd cc
-
--- a number that is next is not 0
-pub next_counts : (page : PageId) (host : Opened) (n : ℕ) → Some n ≡ next_number page host → 1 ≤ n
-next_counts page host n e = by (nat_lt (last_number page host) 4294967295) e where
-  by : (b : Bool) → Some n ≡ cond b (Some (last_number page host + 1)) None → 1 ≤ n
-  by true e = let same : n ≡ last_number page host + 1 = cc in omega (arith, same)
-  by false e = absurd cc
-
-pub no_name : {A : Type 0} (n : ℕ) (x : A) (e : FieldFault) → 1 ≤ n → Err e ≡ value_unless (seq_fault n) x → ⊥
-no_name {A} n x e le is = by (nat_le 1 n) refl is where
-  by : (b : Bool) → nat_le 1 n ≡ b → Err e ≡ value_unless (fault_unless b SeqZero) x → ⊥
-  by true f is = cc
-  by false f is = omega (arith, le, leb-false 1 n f)

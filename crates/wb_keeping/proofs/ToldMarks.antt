@@ -189,9 +189,6 @@ module _ (held : List DrawopValue) (t : Told) where
       ∙ ap (λ (ms : List MarkValue). filter (λ m. is_untold (last_source None ms) m.source) (report_of held page)) s.marks_are
       ∙ behind_slice s.told (report_of held page) rest (report_ascends held page) s.left s.whole
 
-  next_of : PageId → PageId
-  next_of page = page_after page (pages_of held)
-
   -- something is left
   goes_on : (count : ℕ) (rest : List MarkValue) (m : MarkValue) → filter (λ m. is_untold (at count).last m.source) (report_of held (at count).page) ≡ m ∷ rest → Tells count (at count).page (m ∷ rest)
   goes_on count rest m e = record {
@@ -238,9 +235,6 @@ module _ (held : List DrawopValue) (t : Told) where
       let left = length-drop 64 rest in
       subst (λ (n : ℕ). Tells n (page_after page (pages_of held)) (report_of held (page_after page (pages_of held)))) (omega arith)
       (ended k (suc count) page (drop 64 rest) (inl (omega (arith, long, left))) (omega (arith, few, left)) (onward count page rest s (omega (arith, long))))
-
-  slices : List MarkValue → ℕ
-  slices marks = max 1 ((length marks + 63) / 64)
 
   page_ends : (count : ℕ) (page : PageId) (rest : List MarkValue) → Tells count page rest → Tells (max 1 ((length rest + 63) / 64) + count) (page_after page (pages_of held)) (report_of held (page_after page (pages_of held)))
   page_ends count page rest s = by (nat_le 1 (length rest)) refl where
@@ -292,9 +286,6 @@ module _ (held : List DrawopValue) (t : Told) where
     record Begins (count i : ℕ) : Type 0 where
       within : i < length pages
       tells : Tells count (page_at i) (report_of held (page_at i))
-
-    begins_at : (count other i : ℕ) → count ≡ other → Begins count i → Begins other i
-    begins_at count other i e b = subst (λ (n : ℕ). Begins n i) e b
 
     -- the slices of the pages before it
     abbrev before : ℕ → ℕ

@@ -12,10 +12,8 @@ use Rattle.wb_keeping.specs.Kept.{Asks, Doing, Line, SetsDistance, Stops, downwa
 use Rattle.wb_recovery.specs.declared.timers.AskTimer.{AskTimer}
 use Rattle.wb_host.specs.GivingUp.{level as level_in}
 use Rattle.wb_keeping.specs.Distances.{bounded}
-use Rattle.wb_keeping.specs.Performing.{asked_name}
-use Rattle.wb_keeping.specs.declared.wanting.AskedName.{AskedName}
-use Rattle.wb_keeping.specs.Policy.{Policy, View, after_wanting, holds, in_next_round, is_asked, is_full, level, with_distance}
-use Rattle.wb_keeping.specs.Steps.{makes_room, performs_all, set_lines, want_in}
+use Rattle.wb_keeping.specs.Policy.{Policy, View, after_wanting, holds, is_asked, is_full, level, with_distance}
+use Rattle.wb_keeping.specs.Steps.{makes_room, performs_all, want_in}
 use Rattle.wb_keeping.specs.Turns.{nowhere}
 use Rattle.wb_keeping.specs.Wanting.{is_wanted, oldest}
 
@@ -41,23 +39,11 @@ module _ (name : NameValue) (anew : Bool) (see : List Line → View) (p : Policy
   pub begun : is_wanted_here ≡ true → is_begun (want name anew see p) ≡ true
   begun e = ap is_begun (is_asked_for e) ∙ some_lines _ _ _
 
-  pub unbegun : is_wanted_here ≡ false → is_begun (want name anew see p) ≡ false
-  unbegun e = ap is_begun (is_not_asked_for e)
-
   pub not_begun : is_begun (want name anew see p) ≡ false → want name anew see p ≡ still see p
   not_begun e = by is_wanted_here refl where
     by : (b : Bool) → is_wanted_here ≡ b → want name anew see p ≡ still see p
     by true t = absurd (true≢false (sym (begun t) ∙ e))
     by false f = is_not_asked_for f
-
--- the distance that is set, by whether one was told
-pub usual_set : (source : ℕ) (distance : ℕ) (usual : Option ℕ) → nat_eq distance 100000 ≡ true → set_lines source usual ≡ usual_lines source distance usual
-usual_set source distance None first = refl
-usual_set source distance (Some u) first = sym (ap (λ (b : Bool). cond b (SetsDistance source u ∷ []) []) first)
-
-pub usual_kept : (source : ℕ) (distance : ℕ) (usual : Option ℕ) → nat_eq distance 100000 ≡ false → [] ≡ usual_lines source distance usual
-usual_kept source distance None told = refl
-usual_kept source distance (Some u) told = sym (ap (λ (b : Bool). cond b (SetsDistance source u ∷ []) []) told)
 
 -- ---- room
 
@@ -111,12 +97,6 @@ module _ (see : List Line → View) (p : Policy) where
   pub turn_next : (h : Hole) → Some h ≡ next_hole → turn see p ≡ want_in h see p
   turn_next h e = ap (λ (o : Option Hole). turn_to o first_hole see p) (sym e)
 
-  pub turn_first : (h : Hole) → None ≡ next_hole → Some h ≡ first_hole → turn see p ≡ want_in h see (in_next_round p)
-  turn_first h e f = ap (λ (o : Option Hole). turn_to o first_hole see p) (sym e) ∙ ap (λ (o : Option Hole). turn_to None o see p) (sym f)
-
-  pub turn_none : None ≡ next_hole → None ≡ first_hole → turn see p ≡ still see (in_next_round p)
-  turn_none e f = ap (λ (o : Option Hole). turn_to o first_hole see p) (sym e) ∙ ap (λ (o : Option Hole). turn_to None o see p) (sym f)
-
 -- ---- what an echo tells
 
 pub not_same : (a b : ℕ) → (a ≡ b → ⊥) → nat_eq a b ≡ false
@@ -141,17 +121,4 @@ down_next f names high count below lt =
     ∙ ap (λ (h : ℕ). names ++ f (high - below) ∷ map f (downwards h (count - (below + 1)))) (sym next)
     ∙ ap (λ (n : ℕ). names ++ map f (downwards (high - below) n)) (sym left)
 
-pub down_end : (f : ℕ → NameValue) (names : List NameValue) (high count below : ℕ) → count ≤ below → names ++ map f (downwards (high - below) (count - below)) ≡ names
-down_end f names high count below le =
-    let none : count - below ≡ 0 = omega arith in
-    ap (λ (n : ℕ). names ++ map f (downwards (high - below) n)) none ∙ append-nil names
-
 -- ---- who is asked for
-
-pub asked_some : (name : NameValue) (timer : Option AskTimer) (n : ℕ) (rest : List AskedName) → Some n ≡ level_in timer → cons_option (asked_name name timer) rest ≡ record { name = name; level = n } ∷ rest
-asked_some name None n rest e = absurd cc
-asked_some name (Some a) n rest e = let same : n ≡ a.level = cc in ap (λ (l : ℕ). let one : AskedName = record { name = name; level = l } in one ∷ rest) (sym same)
-
-pub asked_none : (name : NameValue) (timer : Option AskTimer) (rest : List AskedName) → None ≡ level_in timer → cons_option (asked_name name timer) rest ≡ rest
-asked_none name None rest e = refl
-asked_none name (Some a) rest e = absurd cc

@@ -1,6 +1,5 @@
 -- What a member does and then is, from what its keeper did.
-use Rattle.std.proofs.Common.{◌≡◌, ℕ, ◌<◌, ◌≤◌, ◌^◌, Bool, true, false, not, ◌||◌, List, [], ◌∷◌, length, sym, Result, Ok, Err, refl, ap, subst, ◌∙◌, arith, nat_lt, nat_le, Some, None}
-use Rattle.std.proofs.lemmas.Bool.Decides.{nat_tests}
+use Rattle.std.proofs.Common.{◌≡◌, ℕ, Bool, true, false, not, ◌||◌, List, [], ◌∷◌, length, sym, refl, ap, subst, ◌∙◌}
 use Rattle.wb_names.specs.Values.{NameValue, DrawopValue}
 use Rattle.wb_names.specs.declared.name.PageId.{PageId}
 use Rattle.wb_codec.specs.declared.datagram.Datagram.{Datagram}
@@ -11,18 +10,14 @@ use Rattle.wb_recovery.specs.Stopping.{receipts}
 use Rattle.rand_pcg.specs.Lcg.{Lcg}
 use Rattle.wb_host.specs.Hearing.{marks_heard}
 use Rattle.wb_host.specs.GivingUp.{is_timed}
-use Rattle.wb_host.specs.Keeper.{KeeperCall, Miss, GoOn, Report, received_of, delay_to, holds}
+use Rattle.wb_host.specs.Keeper.{KeeperCall, Miss, GoOn, received_of, delay_to, holds}
 use Rattle.wb_host.specs.Keeping.{KeeperValue, StandsFor, Keeps}
 use Rattle.wb_host.specs.Missing.{wanted_of as names_wanted}
-use Rattle.wb_host.specs.Sessions.{message_of}
 use Rattle.wb_host.specs.Ticks.{sends_for, stopped_in, stopped_after}
-use Rattle.wb_host.specs.declared.keep_fault.KeepFault.{KeepFault}
-use Rattle.wb_host.specs.declared.keep_fault.KeepFault.TheVariants as keeping
-use Rattle.wb_host.specs.KeepFaults.{IsKeptBy, moment_fault}
 use Rattle.wb_member.specs.Board.{Held}
 use Rattle.wb_member.specs.Holding.{IsOpenAt, MemberValue}
 use Rattle.wb_member.specs.Members.{calling}
-use Rattle.wb_member.specs.Opened.{Opened, present, events, due_count, sent_by, ticked, ticked_fault, wanted_of, looked, may_ask, with_asked, reported, message}
+use Rattle.wb_member.specs.Opened.{Opened, present, events, due_count, sent_by, ticked, wanted_of, looked, may_ask, with_asked}
 use Rattle.wb_member.specs.Random.{word_of, words_of, after_word, after_words}
 
 abbrev pub member : Held → KeeperValue → Lcg → MemberValue
@@ -42,21 +37,6 @@ called b k k' g g' host call call' count at keeps e words = record {
 }
 
 -- ---- time goes on
-
--- a moment that is no less than the last one, and in range, has no fault
-pub in_time : (last now : ℕ) → last ≤ now → now < 2 ^ 48 → moment_fault last now ≡ None
-in_time last now late soon =
-    let first : nat_le last now ≡ true = grind (arith, nat_tests, late) in
-    let second : nat_lt now (2 ^ 48) ≡ true = grind (arith, nat_tests, soon) in
-    rw (first, second) refl
-
--- and one that is less is back in time
-pub too_early : (last now : ℕ) → now < last → moment_fault last now ≡ Some keeping.BackInTime
-too_early last now early = let first : nat_le last now ≡ false = grind (arith, nat_tests, early) in rw first refl
-
--- the present moment of the keeper is that of the member
-pub same_fault : {X : Type 0} (v : MemberValue) (host : Opened) (now : ℕ) (r : Result X KeepFault) → IsOpenAt v host → IsKeptBy (moment_fault v.keeper.moment now) r → IsKeptBy (ticked_fault now host) r
-same_fault v host now r at kept = subst (λ (last : ℕ). IsKeptBy (moment_fault last now) r) at.keeper.moment kept
 
 pub tick_done : (b : Held) (k k' : KeeperValue) (g g' : Lcg) (host : Opened) (now count : ℕ) (words : List ℕ) (sent : List Datagram) → IsOpenAt (member b k g) host
     → count ≡ due_count now host → stopped_in host.is.held k.recovery ≡ stopped_after host.is.number host.is.constants host.is.calls host.is.held → words ≡ words_of g count → g' ≡ after_words g count
@@ -102,11 +82,3 @@ ask_done b k k' g g' host name word now at {held} {timed} known none standing st
     rw free (refl, called b k k' g g' host (Miss now (name ∷ []) (word ∷ [])) (Miss (present host) (name ∷ []) (word_of host.random ∷ [])) 1 at keeps call left)
 
 -- ---- a session message
-
-pub session_done : (b : Held) (k k' : KeeperValue) (g : Lcg) (host : Opened) (page : PageId) (datagram : Datagram) → IsOpenAt (member b k g) host
-    → datagram ≡ message_of host.is.number host.is.calls k.moment b.drawops page → Keeps (Report k.moment) k k' → (datagram ≡ message page host) × IsOpenAt (member b k' g) (reported page host)
-session_done b k k' g host page datagram at told keeps =
-    let is : datagram ≡ message page host = told
-    ∙ ap (λ (m : ℕ). message_of host.is.number host.is.calls m b.drawops page) at.keeper.moment
-    ∙ ap (λ (l : List DrawopValue). message_of host.is.number host.is.calls (present host) l page) (same_history b k g host at) in
-    (is, called b k k' g g host (Report k.moment) (Report (present host)) 0 at keeps (ap (λ (m : ℕ). Report m) at.keeper.moment) refl)

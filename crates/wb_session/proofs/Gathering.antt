@@ -10,7 +10,7 @@ use Rattle.wb_session.specs.Session.{Event, Group, IsDistinct, member, IsSession
 use Rattle.wb_session.proofs.Drawn.{drawn_is_once, held_is_drawn}
 use Rattle.wb_session.specs.Repairs.{Words, IsSteady, repair}
 use Rattle.wb_session.specs.Gathering.{MembersCanGather}
-use Rattle.wb_session.proofs.Repairs.{repaired, others, steady_i, steady_j, held_i, held_j, cells_i, cells_j, apart}
+use Rattle.wb_session.proofs.Repairs.{repaired, others, steady_i, steady_j, held_i, held_j, cells_i, cells_j}
 use Rattle.wb_session.proofs.Holding.{member_of}
 
 -- what holds of every member after some events, as against before
@@ -60,9 +60,6 @@ module _ (group : Group) (is : IsDistinct group) (places : List ℕ) where
     module _ (lost : holds (member group events i).held d.name ≡ false) (room : length (member group events i).held < (member group events i).cells) where
       abbrev now : List Event
       now = newer ++ events
-
-      other_j : j ≡ i → ⊥
-      other_j e = apart group events i j d none is session (steady i at_i) (steady j at_j) held lost room (sym e)
 
       steady_k : (k : ℕ) → Contains places k → IsSteady (member group now k)
       steady_k k c = by_place (λ k. IsSteady (member group now k)) i k (steady_i group events i j d none is session (steady i at_i) (steady j at_j) held lost room)

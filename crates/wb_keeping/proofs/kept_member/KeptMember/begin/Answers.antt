@@ -10,7 +10,7 @@ use Rattle.wb_keeping.specs.Kept.{Line, Ticks, Arrives, Hears, Asks, Stops, Sets
 use Rattle.wb_keeping.specs.Performing.{Does, DoesQuietly, IsKeptAt, Keeping, KeptValue, after_doing, after_line, after_lines, sees, sent_by_doing, sent_by_line, sent_by_lines, view_of}
 use Rattle.wb_keeping.specs.Policy.{Policy, View, after_answer, after_came, after_question, after_report, after_state, after_taking_up, after_turn, after_wanting, holds, in_next_round, is_asked, is_full, level, with_distance}
 use Rattle.wb_keeping.specs.Steps.{performs_all, makes_room, set_lines, want_in}
-use Rattle.wb_keeping.proofs.Performed.{then_at, at_inside, does_as, does_by, does_change, does_line, does_of, does_same, does_seen, does_still, does_then, quiet_as, quiet_by, quiet_change, quiet_line, quiet_more, quiet_of, quiet_still, quiet_then}
+use Rattle.wb_keeping.proofs.Performed.{then_at, at_inside, does_as, does_by, does_line, does_seen, does_still, does_then, quiet_as, quiet_by, quiet_line, quiet_more, quiet_of, quiet_still, quiet_then}
 use Rattle.wb_keeping.proofs.OneByOne as rows
 use Rattle.wb_keeping.proofs.LeftSome.{on_err, left_later, left_none}
 use Rattle.wb_keeping.proofs.Wanted as wanted
