@@ -1,16 +1,15 @@
 -- Names and pages that are gone over one by one.
-use Rattle.std.proofs.Common.{◌≡◌, ℕ, suc, ◌+◌, ◌-◌, ◌<◌, ◌≤◌, Bool, true, false, cond, List, [], ◌∷◌, ◌++◌, ◌∙◌, add-one, ap, append_assoc, append-nil, arith, drop, drop-cons, filter, get_or, length, map, refl, subst, sym}
-use Rattle.std.specs.Prelude.{nat_lt}
+use Rattle.std.proofs.Common.{◌≡◌, ℕ, ◌+◌, ◌<◌, ◌≤◌, Bool, true, false, cond, List, [], ◌∷◌, ◌∙◌, add-one, ap, drop, drop-cons, get_or, length, map, refl, subst, sym}
 use Rattle.std.proofs.lemmas.List.{drop_all}
 use Rattle.wb_names.specs.Values.{NameValue}
 use Rattle.wb_names.specs.declared.name.PageId.{PageId}
 use Rattle.wb_codec.specs.declared.datagram.Datagram.{Datagram}
 use Rattle.wb_member.specs.Opened.{Opened}
-use Rattle.wb_keeping.specs.Kept.{Doing, Line, Says, Stops, Transition, and_then, downwards, is_begun, is_unasked, still, want, want_near, want_told}
-use Rattle.wb_keeping.specs.Performing.{Does, DoesQuietly, IsKeptAt, Keeping, KeptValue, after_lines, sees, sent_by_lines, view_of}
+use Rattle.wb_keeping.specs.Kept.{Doing, Line, Says, Stops, and_then, is_begun, is_unasked, still, want, want_near, want_told}
+use Rattle.wb_keeping.specs.Performing.{DoesQuietly, IsKeptAt, Keeping, KeptValue, after_lines, sees, sent_by_lines, view_of}
 use Rattle.wb_keeping.specs.Policy.{Policy, View}
 use Rattle.wb_keeping.specs.Steps.{performs_all}
-use Rattle.wb_keeping.proofs.Performed.{does_as, quiet_as, quiet_more, quiet_still, quiet_then}
+use Rattle.wb_keeping.proofs.Performed.{quiet_as, quiet_more, quiet_then}
 use Rattle.wb_keeping.proofs.Wanted.{not_begun}
 
 -- ---- the next of a list

@@ -1,8 +1,6 @@
 -- What refuses a call, and what becomes of a drawop that comes.
-use Rattle.std.proofs.Common.{◌≡◌, ◌≤◌, ℕ, ◌+◌, Bool, true, false, cond, [], ◌∷◌, arith, refl, subst, sym}
-use Rattle.std.specs.Prelude.{Option, None, Some, Result, Ok, Err, nat_le, nat_lt, not}
-use Rattle.std.proofs.lemmas.Bool.{leb-false}
-use Rattle.wb_names.specs.Drawing.{seq_fault}
+use Rattle.std.proofs.Common.{◌≡◌, ℕ, Bool, true, false, [], ◌∷◌, refl, subst, sym}
+use Rattle.std.specs.Prelude.{Option, None, Some, Result, Ok, Err, not}
 use Rattle.wb_names.specs.Faults.{fault_unless, first_of, value_unless}
 use Rattle.wb_codec.specs.declared.datagram.Datagram.{Datagram}
 use Rattle.wb_codec.specs.declared.datagram.Datagram.TheVariants.{Draw, Session, Request, AskPages, PageState}

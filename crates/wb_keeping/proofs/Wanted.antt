@@ -1,7 +1,6 @@
 -- A name that is wanted.
-use Rattle.std.proofs.Common.{◌≡◌, ℕ, suc, ◌+◌, ◌<◌, Bool, true, false, cond, List, [], ◌∷◌, ◌++◌, ◌∙◌, ap, append-nil, append_assoc, arith, length, length-append, map, refl, sym, true≢false, ◌-◌, ◌≤◌}
-use Rattle.std.specs.Prelude.{Option, Some, None, filter, nat_le, nat_lt, nat_eq}
-use Rattle.std.specs.List.{cons_option}
+use Rattle.std.proofs.Common.{◌≡◌, ℕ, suc, ◌+◌, ◌<◌, Bool, true, false, cond, List, [], ◌∷◌, ◌++◌, ◌∙◌, ap, append_assoc, arith, length, length-append, map, refl, sym, true≢false, ◌-◌}
+use Rattle.std.specs.Prelude.{Option, Some, filter, nat_le, nat_lt, nat_eq}
 use Rattle.std.proofs.lemmas.Bool.{lt-ltb}
 use Rattle.std.proofs.lemmas.Bool.Decides.{nat_tests}
 use Rattle.wb_names.specs.Values.{NameValue}
@@ -9,8 +8,6 @@ use Rattle.wb_names.specs.History.{highest}
 use Rattle.wb_gaps.specs.Holes.{hole_after}
 use Rattle.wb_gaps.specs.declared.holes.Hole.{Hole}
 use Rattle.wb_keeping.specs.Kept.{Asks, Doing, Line, SetsDistance, Stops, downwards, end, is_begun, is_unasked, learned, measures, near_names, paid_for, performs, room_lines, still, stops_oldest, turn, turn_to, usual_lines, want, want_near}
-use Rattle.wb_recovery.specs.declared.timers.AskTimer.{AskTimer}
-use Rattle.wb_host.specs.GivingUp.{level as level_in}
 use Rattle.wb_keeping.specs.Distances.{bounded}
 use Rattle.wb_keeping.specs.Policy.{Policy, View, after_wanting, holds, is_asked, is_full, level, with_distance}
 use Rattle.wb_keeping.specs.Steps.{makes_room, performs_all, want_in}
