@@ -1,4 +1,4 @@
-# Proves the crates that the program stands on, some side by side, and builds it. To be sourced after program.bash;
+# Proves the crates that the program stands on, one after the other, and builds it. To be sourced after program.bash;
 # $logs is the folder of this start's logs, and $owner the process of the session beside which it is proved, if any.
 
 # how many megabytes of memory are free, for the machine and for this container
@@ -13,47 +13,28 @@ free_memory() {
     echo "${free:-4000}"
 }
 
-# how many crates are proved side by side: one for each two processors, and one for each 2,500 MB of free memory
-side_by_side() {
+# How many processors a proof takes: all, up to 8, but one for each 3,000 MB of free memory. While the toolchain proves a crate it
+# locks all that this stands on, so crates are not proved side by side.
+processors() {
     if [ -n "${WB_JOBS-}" ]; then
         echo "$WB_JOBS"
         return
     fi
-    local by_processors by_memory
-    by_processors=$((($(nproc 2>/dev/null || echo 2) + 1) / 2))
-    by_memory=$(($(free_memory) / 2500))
-    [ "$by_memory" -lt "$by_processors" ] && by_processors=$by_memory
-    echo "$((by_processors > 1 ? by_processors : 1))"
+    local all by_memory
+    all=$(nproc 2>/dev/null || echo 2)
+    [ "$all" -lt 8 ] || all=8
+    by_memory=$(($(free_memory) / 3000))
+    [ "$by_memory" -ge "$all" ] || all=$by_memory
+    echo "$((all > 1 ? all : 1))"
 }
 
-# whether a word stands in a list of words
-has() {
-    case " $2 " in *" $1 "*) return 0 ;; *) return 1 ;; esac
-}
-
-# a list of words without one
-without() {
-    local word
-    for word in $2; do
-        [ "$word" = "$1" ] || printf '%s ' "$word"
-    done
-}
-
-# whether all that a crate stands on is proved
-is_ready() {
-    local name
-    for name in $(below "$1"); do
-        if has "$name" "$waiting $running"; then return 1; fi
-    done
-}
-
+# begins to prove a crate, as the process $at; the program's own crate is built too
 start() {
-    local task=check
-    [ "$1" = wb ] && task="run -- check"
+    local task="check --jobs $jobs"
+    [ "$1" = wb ] && task="run --jobs $jobs -- check"
     # each word of the task is a word of rt
     (cd "$top/crates/$1" && exec rt $task </dev/null >"$logs/$1.log" 2>&1) 9>&- &
-    process[$1]=$!
-    running="$running $1"
+    at=$!
 }
 
 # how many functions of a crate are checked, of how many
@@ -78,37 +59,18 @@ bar_of() {
     printf '%*s' "$((width - filled))" '' | tr ' ' .
 }
 
-# Tells what is proved, and which crates are at work: in the file $kept/progress, and on a terminal in one line that
+# Tells what is proved, and which crate is at work: in the file $kept/progress, and on a terminal in one line that
 # renews itself.
 show() {
-    local crate share minutes=$((SECONDS / 60)) work=''
-    for crate in $running; do
-        share=$(share_of "$crate")
-        # its few functions are checked soon, and the rest of its minutes builds the program
-        [ "$crate" != wb ] || share='and the build of the program'
-        work="$work; $crate${share:+ $share}"
-    done
-    [ "$proved $minutes$work" != "$shown" ] || return 0
-    shown="$proved $minutes$work"
-    echo "$proved $many $minutes${work#;}" >"$kept/progress.new" && mv -f "$kept/progress.new" "$kept/progress"
-    ! has_terminal || printf '\r\033[K%.110s' "wb: [$(bar_of "$proved" "$many")] $proved of $many crates proved, $minutes min$work" >&2
-}
-
-# takes in the crates that have ended; fails at the first that is not proved
-collect() {
-    local crate
-    for crate in $running; do
-        ! kill -0 "${process[$crate]}" 2>/dev/null || continue
-        running=$(without "$crate" "$running")
-        if ! wait "${process[$crate]}"; then
-            clear_line
-            cat "$logs/$crate.log" >&2
-            echo "$crate" >"$logs/failed"
-            return 1
-        fi
-        proved=$((proved + 1))
-        has_terminal || say "$crate is proved, $proved of $many crates"
-    done
+    local share work minutes=$((SECONDS / 60))
+    share=$(share_of "$1")
+    # its few functions are checked soon, and the rest of its minutes builds the program
+    [ "$1" != wb ] || share='and the build of the program'
+    work="$1${share:+ $share}"
+    [ "$proved $minutes $work" != "$shown" ] || return 0
+    shown="$proved $minutes $work"
+    echo "$proved $many $minutes $work" >"$kept/progress.new" && mv -f "$kept/progress.new" "$kept/progress"
+    ! has_terminal || printf '\r\033[K%.110s' "wb: [$(bar_of "$proved" "$many")] $proved of $many crates proved, $minutes min; $work" >&2
 }
 
 # whether the launcher is still there, and the session that it proves beside
@@ -116,23 +78,27 @@ is_wanted() {
     kill -0 $$ 2>/dev/null && { [ -z "$owner" ] || kill -0 "$owner" 2>/dev/null; }
 }
 
-# Proves all crates, those first that others stand on, and builds the program. It runs in a process group of its
-# own, which ends with the launcher, $$, however that ends.
+# Proves all crates, those first that others stand on, and builds the program; ends at the first that is not proved. It runs in a
+# process group of its own, which ends with the launcher, $$, however that ends.
 prove_all() {
-    local crate side proved=0 many running='' waiting=$crates shown=''
-    declare -A process
+    local crate at jobs many proved=0 shown=''
     many=$(wc -w <<<"$crates")
-    side=$(side_by_side)
-    while [ -n "$waiting$running" ]; do
-        for crate in $waiting; do
-            [ "$(wc -w <<<"$running")" -lt "$side" ] && is_ready "$crate" || continue
-            waiting=$(without "$crate" "$waiting")
-            start "$crate"
+    jobs=$(processors)
+    for crate in $crates; do
+        start "$crate"
+        while kill -0 "$at" 2>/dev/null; do
+            show "$crate"
+            sleep 0.2
+            is_wanted || kill -TERM 0
         done
-        show
-        sleep 0.2
-        collect || return 1
-        is_wanted || kill -TERM 0
+        if ! wait "$at"; then
+            clear_line
+            cat "$logs/$crate.log" >&2
+            echo "$crate" >"$logs/failed"
+            return 1
+        fi
+        proved=$((proved + 1))
+        has_terminal || say "$crate is proved, $proved of $many crates"
     done
     clear_line
 }
