@@ -11,9 +11,9 @@ use Rattle.wb_lines.specs.Input.{input_lines, MayRemain}
 use Rattle.wb_lines.specs.Items.{Items, Grouping, items_from}
 use Rattle.wb_lines.specs.Groups.{Steps, IsOutcomeOf, IsOutcome, group_rules}
 use Rattle.wb_lines.specs.Driving.{Outcome, writes, before, stop, Gave, IsStop, Meets}
-use Rattle.wb_lines.specs.Moments.{MayCome, Rest, Moment, moment, Moves, IsTrue, at_start}
+use Rattle.wb_lines.specs.Moments.{LinesValue, MayCome, Moment, moment, Moves, IsTrue, at_start}
 use Rattle.wb_lines.specs.Output.{Sends}
-use Rattle.wb_lines.specs.Steps.{Begins, OutcomeAt, Answers, DrivesAll, Settles, Closes, IsLeftAt, MeetsOne}
+use Rattle.wb_lines.specs.Steps.{Begins, OutcomeAt, Answers, IsLeftAt, EndsSo, DrivesAll, Settles, Closes, MeetsOne}
 use Rattle.wb_lines.proofs.KnownBytes.{Appends-none, Consumes-none, Sends-then}
 use Rattle.wb_lines.proofs.Outcomes.{Total, some_outcome}
 
@@ -94,14 +94,18 @@ left_after is_at t (Ok n) e y left (inr m) = absurd m.0
 left_after is_at t (Err f) e y left s = tt
 
 -- an outcome that was met
-met : {S F : Type 0} (A : Outcome F → S → Type 0) (is_at : S → Type 0) (x y sent left : List ℕ) (ending result : Result ℕ (DriveFault F)) (t : S) → (x ++ y ≡ sent ++ left) → Answers A x t ending → Closes ending y left result
-    → ((n : ℕ) → ending ≡ Ok n → is_at t) → MeetsOne A is_at sent result
-met A is_at x y sent left (Ok n) result t split a c at_t = (before x (stop (Ok n)), t, a, left_where is_at t result (at_t n refl), sent_of (before x (stop (Ok n))) (x ++ y) sent left result split (settled x y left (Ok n) result c))
-met A is_at x y sent left (Err (faults.Line k e)) result t split a c at_t = (before x (stop (Err (faults.Line k e))), t, a, left_after is_at t result (faults.Line k e) y left c, sent_of (before x (stop (Err (faults.Line k e)))) (x ++ y) sent left result split (settled x y left (Err (faults.Line k e)) result c))
-met {F = F} A is_at x y sent left (Err faults.Read) result t split a c at_t = (before x (stop (Err faults.Read)), t, a, left_after {F = F} is_at t result faults.Read y left c, sent_of (before x (stop (Err faults.Read))) (x ++ y) sent left result split (settled x y left (Err faults.Read) result c))
-met {F = F} A is_at x y sent left (Err faults.Endless) result t split a c at_t = (before x (stop (Err faults.Endless)), t, a, left_after {F = F} is_at t result faults.Endless y left c, sent_of (before x (stop (Err faults.Endless))) (x ++ y) sent left result split (settled x y left (Err faults.Endless) result c))
-met A is_at x y sent left (Err faults.Memory) result t split a c at_t = (a.0, a.1, a.2, rw c.1 tt, sent_of a.0 (x ++ y) sent left result split (settles_stop a.0 x y left faults.Memory result a.3 tt c.0 c.1))
-met A is_at x y sent left (Err faults.Write) result t split a c at_t = (a.0, a.1, a.2, rw c.1 tt, sent_of a.0 (x ++ y) sent left result split (settles_stop a.0 x y left faults.Write result a.3 tt c.0 c.1))
+met : {S F : Type 0} (A : Outcome F → S → Type 0) (is_at : S → Type 0) (x y sent left : List ℕ) (ending result : Result ℕ (DriveFault F)) → (x ++ y ≡ sent ++ left) → EndsSo is_at A x ending → Closes ending y left result → MeetsOne A is_at sent result
+met {S = S} {F = F} A is_at x y sent left ending result split a c = at ending a.1 a.2 c where
+  plain : (end : Result ℕ (DriveFault F)) → A (before x (stop end)) a.0 → Settles (stop end) y left result → IsLeftAt is_at a.0 result → MeetsOne A is_at sent result
+  plain end one c left_at = (before x (stop end), a.0, one, left_at, sent_of (before x (stop end)) (x ++ y) sent left result split (settled x y left end result c))
+
+  at : (ending : Result ℕ (DriveFault F)) → IsLeftAt is_at a.0 ending → Answers A x a.0 ending → Closes ending y left result → MeetsOne A is_at sent result
+  at (Ok n) t one c = plain (Ok n) one c (left_where is_at a.0 result t)
+  at (Err (faults.Line k e)) t one c = plain (Err (faults.Line k e)) one c (left_after is_at a.0 result (faults.Line k e) y left c)
+  at (Err faults.Read) t one c = plain (Err faults.Read) one c (left_after is_at a.0 result faults.Read y left c)
+  at (Err faults.Endless) t one c = plain (Err faults.Endless) one c (left_after is_at a.0 result faults.Endless y left c)
+  at (Err faults.Memory) t one c = (one.0, one.1, one.2, rw c.1 tt, sent_of one.0 (x ++ y) sent left result split (settles_stop one.0 x y left faults.Memory result one.3 tt c.0 c.1))
+  at (Err faults.Write) t one c = (one.0, one.1, one.2, rw c.1 tt, sent_of one.0 (x ++ y) sent left result split (settles_stop one.0 x y left faults.Write result one.3 tt c.0 c.1))
 
 -- of some outcomes that are outcomes of an input
 meets_of : {S F : Type 0} (A B : Outcome F → S → Type 0) (is_at : S → Type 0) (sent : List ℕ) (result : Result ℕ (DriveFault F)) → ((o : Outcome F) (u : S) → A o u → B o u) → MeetsOne A is_at sent result → MeetsOne B is_at sent result
@@ -109,23 +113,16 @@ meets_of A B is_at sent result h m = (m.0, m.1, h m.0 m.1 m.2, m.3, m.4)
 
 -- From the first moment, at which nothing was read, to the last.
 all_met : {S F T : Type 0} {a b : Moment T} (by : Grouping) (Does : Steps S F) (most : ℕ) (is_at : S → Type 0) (s : S) (x y sent left : List ℕ) (ending result : Result ℕ (DriveFault F)) (m : Moves a b x)
-    → a.lines.seen ≡ seens.Nothing → a.lines.reader ≡ fresh → a.lines.done ≡ 0 → a.lines.most ≡ most → IsTrue b → x ++ y ≡ sent ++ left → DrivesAll is_at (OutcomeAt by Does a.lines None s) m.given x b.lines ending → Closes ending y left result
+    → a.lines ≡ at_start most → IsTrue b → x ++ y ≡ sent ++ left → ((more : List ℕ) (cut : Bool) → MayCome b.lines more cut → EndsSo is_at (OutcomeAt by Does a.lines s (m.given ++ more) cut) x ending) → Closes ending y left result
     → (input : Input b.lines.reader.ended b.failed a.left b.left m.given) → MeetsOne (IsOutcome (group_rules by Does most) b.failed s (m.given ++ input.more)) is_at sent result
-all_met {S = S} {F = F} {a = a} {b = b} by Does most is_at s x y sent left ending result m unseen unread none most_is is_true split d c input = at ending d c where
-  may : MayCome b.lines input.more b.failed
-  may = may_come b input.more is_true (λ e. m.pulls.working_at_end (λ h. absurd (false≢true (sym (ap (λ (r : Ahead). r.ended) unread) ∙ h))) e) input.remains
+all_met {S = S} {F = F} {a = a} {b = b} by Does most is_at s x y sent left ending result m start is_true split d c input =
+    meets_of (OutcomeAt by Does a.lines s (m.given ++ input.more) b.failed) (IsOutcome (group_rules by Does most) b.failed s (m.given ++ input.more)) is_at sent result
+    (λ o u h. subst (λ (is : Items). IsOutcomeOf Does is s o u) (rw start at h.1) h.2) (met (OutcomeAt by Does a.lines s (m.given ++ input.more) b.failed) is_at x y sent left ending result split (d input.more b.failed may) c) where
+      fresh_still : a.lines.reader.ended ≡ true → a.failed ≡ false
+      fresh_still h = absurd (false≢true (sym (ap (λ (v : LinesValue _). v.reader.ended) start) ∙ h))
 
-  A : Outcome F → S → Type 0
-  A o u = OutcomeAt by Does a.lines None s (m.given ++ input.more) b.failed o u
-
-  here : (o : Outcome F) (u : S) → A o u → IsOutcome (group_rules by Does most) b.failed s (m.given ++ input.more) o u
-  here o u h = subst (λ (is : Items). IsOutcomeOf Does is s o u) (whole_rest h.0 h.1) h.2 where
-    whole_rest : (is : Items) → Rest by a.lines None (m.given ++ input.more) b.failed is → is ≡ items_from by most b.failed 0 None (input_lines (m.given ++ input.more))
-    whole_rest is r = rw (unseen, unread, none, most_is) at r
-
-  at : (ending : Result ℕ (DriveFault F)) → DrivesAll is_at (OutcomeAt by Does a.lines None s) m.given x b.lines ending → Closes ending y left result → MeetsOne (IsOutcome (group_rules by Does most) b.failed s (m.given ++ input.more)) is_at sent result
-  at (Ok n) d c = meets_of A (IsOutcome (group_rules by Does most) b.failed s (m.given ++ input.more)) is_at sent result here (met A is_at x y sent left (Ok n) result d.0 split (d.2 input.more b.failed may) c (λ k e. d.1))
-  at (Err e) d c = let r = d input.more b.failed may in meets_of A (IsOutcome (group_rules by Does most) b.failed s (m.given ++ input.more)) is_at sent result here (met A is_at x y sent left (Err e) result r.0 split r.1 c (λ k h. absurd cc))
+      may : MayCome b.lines input.more b.failed
+      may = may_come b input.more is_true (m.pulls.working_at_end fresh_still) input.remains
 
 -- nothing was said of a source or a sink at the start, so what is found later is true
 pub true_later : {T : Type 0} {b : Moment T} (most : ℕ) (left taken : Option (List ℕ)) (failed stuck : Bool) (x : List ℕ) → Moves (moment (at_start most) [] left failed taken stuck) b x → IsTrue b
@@ -137,16 +134,16 @@ MeetsAll by Does most was_at is_at left left' failed taken taken' result = (inpu
     × ((s : _) → was_at s → MeetsOne (IsOutcome (group_rules by Does most) failed s input) is_at written result)
 
 pub meets_all : {S F T : Type 0} {b : Moment T} (by : Grouping) (Does : Steps S F) (most : ℕ) (was_at is_at : S → Type 0) (left taken taken' : Option (List ℕ)) (failed stuck : Bool) (waiting : List ℕ) (ending result : Result ℕ (DriveFault F))
-    → ((x : List ℕ) × (m : Moves (moment (at_start most) [] left failed taken stuck) b x) × ((s : S) → was_at s → DrivesAll is_at (OutcomeAt by Does (at_start {S = T} most) None s) m.given x b.lines ending))
+    → DrivesAll by Does was_at is_at (moment (at_start most) [] left failed taken stuck) b ending
     → ((y : List ℕ) × Sends b.taken b.output taken' waiting y × Closes ending y waiting result) → MeetsAll by Does most was_at is_at left b.left b.failed taken taken' result
-meets_all {b = b} by Does most was_at is_at left taken taken' failed stuck waiting ending result text end =
-    let sends = Sends-then taken b.taken taken' [] b.output waiting text.0 end.0 text.1.sends end.1 in
-    let input = input_from b.lines.reader left b.left failed b.failed text.1.given text.1.pulls in (
-      text.1.given ++ input.more,
+meets_all {b = b} by Does most was_at is_at left taken taken' failed stuck waiting ending result all end =
+    let sends = Sends-then taken b.taken taken' [] b.output waiting all.0 end.0 all.1.sends end.1 in
+    let input = input_from b.lines.reader left b.left failed b.failed all.1.given all.1.pulls in (
+      all.1.given ++ input.more,
       sends.0,
       input.gave,
       sends.1,
-      λ s at. all_met by Does most is_at s text.0 end.0 sends.0 waiting ending result text.1 refl refl refl refl (true_later most left taken failed stuck text.0 text.1) sends.2 (text.2 s at) end.2 input,
+      λ s at. all_met by Does most is_at s all.0 end.0 sends.0 waiting ending result all.1 refl (true_later most left taken failed stuck all.0 all.1) sends.2 (all.2 s at) end.2 input,
     )
 
 -- memory ran out before anything was read

@@ -9,7 +9,9 @@ pub mod StandingLines
 pub mod Moments
 pub mod Looking
 pub mod GroupedLines
+pub mod FirstLines
 pub mod Outcomes
+pub mod Turns
 pub mod LongLines
 pub mod Endings
 pub mod LoneLines

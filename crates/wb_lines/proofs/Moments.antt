@@ -69,17 +69,22 @@ Reads-then by a b c x y js ks p q = record {
       (q.joins (grown_by g js) more cut is (gathers_back by g js ks gathers) may (subst (λ (h : Option Begun). Rest by c.lines h more cut is) (sym (grown-more g js ks)) rest)));
 }
 
--- text was printed, and nothing else happened
+-- ---- text was printed, and nothing else happened
+
+unfoldable pub Moves-prints : {S : Type 0} (a b : Moment S) (text : List ℕ) → b.lines ≡ a.lines → b.left ≡ a.left → b.failed ≡ a.failed → b.taken ≡ a.taken → b.stuck ≡ a.stuck → b.output ≡ a.output ++ text → Moves a b text
+Moves-prints a b text lines left failed taken stuck prints = record {
+  given = [];
+  pulls = rw (lines, left, failed) (Pulls-none a.lines.reader a.left a.failed);
+  sends = rw taken (Sends-more a.taken a.output b.output text prints);
+  most = rw lines refl;
+  done = rw lines (omega arith);
+  true_still = λ t. record { failed = rw (lines, failed) t.failed; stuck = rw (lines, stuck) t.stuck };
+  may = λ more cut may. rw lines at may;
+}
+
 pub Reads-prints : {S : Type 0} (by : Grouping) (a b : Moment S) (text : List ℕ) → b.lines ≡ a.lines → b.left ≡ a.left → b.failed ≡ a.failed → b.taken ≡ a.taken → b.stuck ≡ a.stuck → b.output ≡ a.output ++ text → Reads by a b text []
+unfolding Moves-prints
 Reads-prints by a b text lines left failed taken stuck prints = record {
-  moves = record {
-    given = [];
-    pulls = rw (lines, left, failed) (Pulls-none a.lines.reader a.left a.failed);
-    sends = rw taken (Sends-more a.taken a.output b.output text prints);
-    most = rw lines refl;
-    done = rw lines (omega arith);
-    true_still = λ t. record { failed = rw (lines, failed) t.failed; stuck = rw (lines, stuck) t.stuck };
-    may = λ more cut may. rw lines at may;
-  };
+  moves = Moves-prints a b text lines left failed taken stuck prints;
   joins = λ g more cut is gathers may rest. subst (λ (h : Option Begun). Rest by a.lines h more cut is) (grown-none g) (rw lines at rest);
 }

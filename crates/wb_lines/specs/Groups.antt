@@ -1,11 +1,11 @@
 -- What is written for an input whose lines are taken in groups, each in one of several ways, and how it ends.
-use Rattle.std.specs.Prelude.{◌≡◌, ℕ, List, [], Bool, Result, Ok, Err}
+use Rattle.std.specs.Prelude.{◌≡◌, ℕ, List, Bool, Result, Ok, Err}
 use Rattle.wb_lines.specs.declared.fault.DriveFault.{DriveFault}
 use Rattle.wb_lines.specs.declared.fault.DriveFault.TheVariants as faults
 use Rattle.wb_lines.specs.Input.{InputLine, input_lines}
 use Rattle.wb_lines.specs.Handling.{Met, Step, goes, stops, ends}
-use Rattle.wb_lines.specs.Items.{InputEnd, finished, unreadable, endless, Items, over, group, Grouping, alone, items}
-use Rattle.wb_lines.specs.Driving.{Rules, Outcome, before, stop}
+use Rattle.wb_lines.specs.Items.{InputEnd, finished, unreadable, endless, Items, over, group, Grouping, items}
+use Rattle.wb_lines.specs.Driving.{Outcome, before, stop}
 
 -- Which steps a handler in a state may do with the group that begins at the line of a number.
 abbrev pub Steps : Type 0 → Type 0 → Type 1
@@ -20,9 +20,9 @@ pub record GroupRules (S F : Type 0) : Type 1 where
 abbrev pub group_rules : {S F : Type 0} → Grouping → Steps S F → ℕ → GroupRules S F
 group_rules by step most = record { by = by; step = step; most = most }
 
--- Each line is a group of its own, and has one step.
-abbrev pub one_by_one : {S F : Type 0} → Rules S F → GroupRules S F
-one_by_one rules = record { by = alone; step = λ s number met joined step. step ≡ rules.step s number met; most = rules.most }
+-- the one step of a line that is taken alone
+abbrev pub only_step : {S F : Type 0} → (S → ℕ → Met → Step S F) → Steps S F
+only_step step = λ s number met joined one. one ≡ step s number met
 
 -- how many lines were taken, or a fault
 abbrev pub answer_of : {F : Type 0} → InputEnd → Result ℕ (DriveFault F)

@@ -1,5 +1,5 @@
 -- What an input comes to: its lines in groups, and how it ends.
-use Rattle.std.specs.Prelude.{ℕ, ◌+◌, List, [], ◌∷◌, ◌++◌, Bool, true, false, nat_lt, ◌&&◌, ◌||◌, not, Option, Some, None, if◌then◌else◌}
+use Rattle.std.specs.Prelude.{ℕ, ◌+◌, List, [], ◌∷◌, ◌++◌, Bool, false, nat_lt, ◌&&◌, ◌||◌, not, Option, Some, None, if◌then◌else◌}
 use Rattle.wb_lines.specs.Input.{InputLine}
 use Rattle.wb_lines.specs.Handling.{Met, whole, too_long}
 use Rattle.wb_lines.specs.Taking.{is_short, is_passed}

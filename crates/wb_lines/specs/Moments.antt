@@ -4,13 +4,15 @@ use Rattle.wb_lines.specs.declared.fault.DriveFault.{DriveFault}
 use Rattle.wb_lines.specs.declared.fault.DriveFault.TheVariants as faults
 use Rattle.wb_lines.specs.declared.line_reader.Found.{Found}
 use Rattle.wb_lines.specs.declared.line_reader.Found.TheVariants as founds
+use Rattle.wb_lines.specs.declared.lines.First.{First}
+use Rattle.wb_lines.specs.declared.lines.First.TheVariants as firsts
 use Rattle.wb_lines.specs.declared.lines.Seen.{Seen}
 use Rattle.wb_lines.specs.declared.lines.Seen.TheVariants as seens
 use Rattle.wb_lines.specs.Ahead.{Ahead, Pulls, IsLine, NoLineFeed}
 use Rattle.wb_lines.specs.Output.{Sends}
 use Rattle.wb_lines.specs.Input.{InputLine, input_lines, standing, MayFollow, most_bytes}
 use Rattle.wb_lines.specs.Handling.{too_long}
-use Rattle.wb_lines.specs.Items.{InputEnd, finished, unreadable, endless, Items, over, group, Grouping, Begun, closed, items_from}
+use Rattle.wb_lines.specs.Items.{finished, unreadable, endless, Items, over, group, Grouping, Begun, begin, closed, items_from}
 
 -- How many lines were taken, of at most so many; what the reader has ahead; the line that was read last; and what was found behind those that were taken.
 pub record LinesValue (S : Type 0) : Type 0 where
@@ -120,11 +122,15 @@ Gathers by None [] = Unit {0}
 Gathers by None (line ∷ lines) = ⊥
 Gathers by (Some g) lines = HasJoined by g.first lines
 
--- These lines were taken, and join the group that is begun, if one is.
+-- What follows these lines, which join the group that is begun, if one is, followed before with them.
+abbrev pub Joins : {S : Type 0} → Grouping → LinesValue S → LinesValue S → List ℕ → List InputLine → Type 0
+Joins by old new given joined = (g : Option Begun) (more : List ℕ) (cut : Bool) (is : Items) → Gathers by g joined → MayCome new more cut
+    → Rest by new (grown_by g joined) more cut is → Rest by old g (given ++ more) cut is
+
+-- These lines were taken, and join that group.
 pub record Reads {S : Type 0} (by : Grouping) (old new : Moment S) (written : List ℕ) (joined : List InputLine) : Type 0 where
   pub moves : Moves old new written
-  pub joins : (g : Option Begun) (more : List ℕ) (cut : Bool) (is : Items) → Gathers by g joined → MayCome new.lines more cut
-      → Rest by new.lines (grown_by g joined) more cut is → Rest by old.lines g (moves.given ++ more) cut is
+  pub joins : Joins by old.lines new.lines moves.given joined
 
 -- The next line, if there is one, does not join them.
 abbrev pub IsBehind : {S : Type 0} → Grouping → InputLine → Seen S → Type 0
@@ -170,13 +176,45 @@ abbrev pub TakesJoined : {S : Type 0} → (InputLine → S → Type 0) → Group
 TakesJoined says by old new (Some said) = (line : InputLine) × says line said × (by.joins line ≡ true) × (old.lines.done < new.lines.done) × Reads by old new [] (line ∷ [])
 TakesJoined says by old new None = Reads by old new [] [] × IsBehind by new.lines.line new.lines.seen
 
--- How a driver ends by what was found.
-abbrev pub EndsBy : {S F : Type 0} → Seen S → Result Bool (DriveFault F) → Type 0
+-- ---- what a driver takes next
+
+-- How it ends by what was found, which is no line.
+abbrev pub EndsBy : {S F : Type 0} → Seen S → Result (Option (First S)) (DriveFault F) → Type 0
+EndsBy seens.End result = result ≡ Ok None
 EndsBy seens.Failed result = result ≡ Err faults.Read
 EndsBy seens.TooMany result = result ≡ Err faults.Endless
 EndsBy seens.Unwritten result = result ≡ Err faults.Write
 EndsBy seens.Memory result = result ≡ Err faults.Memory
-EndsBy seen result = result ≡ Ok false
+EndsBy seen result = ⊥
+
+-- What was looked at is taken, where it is a line; or the driver ends by it.
+abbrev pub TakesSeen : {S F : Type 0} → (InputLine → S → Type 0) → LinesValue S → LinesValue S → Result (Option (First S)) (DriveFault F) → Type 0
+TakesSeen says old new (Ok (Some (firsts.Line said))) = TakesLine says old new (Some said)
+TakesSeen says old new (Ok (Some firsts.TooLong)) = (old.seen ≡ seens.TooLong) × (new ≡ with_one old) × (old.done < old.most) × StartsLong old.line.bytes
+TakesSeen says old new result = (new ≡ old) × EndsBy old.seen result
+
+-- what is known of the first of a group
+abbrev pub IsFirst : {S : Type 0} → (InputLine → S → Type 0) → First S → InputLine → Type 0
+IsFirst says (firsts.Line said) line = says line said
+IsFirst says firsts.TooLong line = StartsLong line.bytes
+
+-- Where this is still pulled, these items follow the lines before it: the group that it begins; or a line that is too long, of which the rest was not read.
+abbrev pub RestOf : {S : Type 0} → Grouping → First S → ℕ → LinesValue S → List ℕ → Bool → Items → Type 0
+RestOf by (firsts.Line said) n v more cut is = Rest by v (Some (begin v.done v.line)) more cut is
+RestOf by firsts.TooLong n v more cut is = is ≡ items_from by v.most cut n None (input_lines (v.line.bytes ++ (v.reader.bytes ++ more)))
+
+-- It was taken: what follows now followed before.
+pub record TakesFirst {S : Type 0} (says : InputLine → S → Type 0) (by : Grouping) (old new : LinesValue S) (given : List ℕ) (first : First S) : Type 0 where
+  pub taken : new.seen ≡ seens.Nothing
+  pub count : new.done ≡ old.done + 1
+  pub few : old.done < new.most
+  pub is_first : IsFirst says first new.line
+  pub rest : (more : List ℕ) (cut : Bool) (is : Items) → MayCome new more cut → RestOf by first old.done new more cut is → Rest by old None (given ++ more) cut is
+
+-- The next line is taken, or the driver ends.
+abbrev pub TakesNext : {S F : Type 0} → (InputLine → S → Type 0) → Grouping → Moment S → Moment S → Result (Option (First S)) (DriveFault F) → Type 0
+TakesNext says by old new (Ok (Some first)) = (moves : Moves old new []) × TakesFirst says by old.lines new.lines moves.given first
+TakesNext says by old new result = Reads by old new [] [] × EndsBy new.lines.seen result
 
 -- The rest of a line that is too long is passed over: what follows then is what follows the line.
 abbrev pub PassesLine : {S : Type 0} → Grouping → LinesValue S → LinesValue S → List ℕ → Type 0

@@ -1,15 +1,17 @@
 -- How a driver takes lines: what a handler does with a group, what it came to, and how the driver ends.
-use Rattle.std.specs.Prelude.{◌≡◌, ◌⊎◌, ℕ, List, [], ◌++◌, Bool, true, false, Option, Some, None, Result, Ok, Err}
+use Rattle.std.specs.Prelude.{◌≡◌, ◌⊎◌, ℕ, List, [], ◌++◌, Bool, true, false, None, Result, Ok, Err, OnOk}
 use Rattle.wb_lines.specs.declared.fault.DriveFault.{DriveFault}
 use Rattle.wb_lines.specs.declared.fault.DriveFault.TheVariants as faults
+use Rattle.wb_lines.specs.declared.lines.First.{First}
+use Rattle.wb_lines.specs.declared.lines.First.TheVariants as firsts
 use Rattle.wb_lines.specs.declared.handler.Stop.{Stop}
 use Rattle.wb_lines.specs.declared.handler.Stop.TheVariants as handler_stops
 use Rattle.wb_lines.specs.Input.{InputLine, BeginsWith}
-use Rattle.wb_lines.specs.Handling.{Step, goes, stops, ends, text_of}
-use Rattle.wb_lines.specs.Items.{Items, Grouping, Begun}
+use Rattle.wb_lines.specs.Handling.{whole, too_long, Step, goes, stops, ends, text_of}
+use Rattle.wb_lines.specs.Items.{Items, Grouping}
 use Rattle.wb_lines.specs.Driving.{Outcome, writes, before, stop, is_stop, IsStopped, Meets}
 use Rattle.wb_lines.specs.Groups.{Steps, IsOutcomeOf}
-use Rattle.wb_lines.specs.Moments.{LinesValue, MayCome, Rest, HasJoined, IsGroupEnd, is_broken}
+use Rattle.wb_lines.specs.Moments.{LinesValue, MayCome, Rest, HasJoined, Joins, IsGroupEnd, is_broken, PassesLine, Moment, Moves}
 
 -- why a driver stops where its handler does, at the line of this number
 abbrev pub fault_of : {F : Type 0} → ℕ → Stop F → DriveFault F
@@ -36,15 +38,27 @@ abbrev pub DoesGroup : {S F U T : Type 0} → Grouping → (S → Type 0) → Li
 DoesGroup by is_at printed May first joined v (Ok u) = TakesAll (is_broken v.seen) by is_at printed May first joined v
 DoesGroup by is_at printed May first joined v (Err e) = (all : List InputLine) → DoesOne {U = Unit {0}} is_at printed (May all) (Err e)
 
+-- What it did with what was taken. Where it went on behind a line that is too long, the rest of that was passed over.
+abbrev pub HandlesBy : {S F U T : Type 0} → Grouping → Steps S F → (S → Type 0) → (S → Type 0) → First T → LinesValue T → LinesValue T → List ℕ → List ℕ → Result U (Stop F) → Type 0
+HandlesBy by Does was_at is_at (firsts.Line said) old new given printed result =
+    (joined : List InputLine) × Joins by old new given joined
+    × ((s : _) → was_at s → DoesGroup by is_at printed (Does s old.done (whole old.line)) old.line joined new result)
+HandlesBy by Does was_at is_at firsts.TooLong old new given printed result =
+    OnOk result (PassesLine by old new given) × ((s : _) → was_at s → DoesOne is_at printed (Does s old.done too_long []) result)
+
+abbrev pub Handles : {S F U T : Type 0} → Grouping → Steps S F → (S → Type 0) → (S → Type 0) → First T → Moment T → Moment T → Result U (Stop F) → Type 0
+Handles by Does was_at is_at first old new result =
+    (printed : List ℕ) × (moves : Moves old new printed) × HandlesBy by Does was_at is_at first old.lines new.lines moves.given printed result
+
 -- ---- what it comes to
 
 -- The text of an outcome begins with what was written.
 abbrev pub Begins : {F : Type 0} → Outcome F → List ℕ → Type 0
 Begins (writes text end) written = BeginsWith text written
 
--- Behind what was taken, with the group that is begun: an outcome of the rest, from a state on.
-abbrev pub OutcomeAt : {S F T : Type 0} → Grouping → Steps S F → LinesValue T → Option Begun → S → List ℕ → Bool → Outcome F → S → Type 0
-OutcomeAt by Does v g s more cut o t = (is : Items) × Rest by v g more cut is × IsOutcomeOf Does is s o t
+-- Behind what was taken, an outcome of the rest, from a state on.
+abbrev pub OutcomeAt : {S F T : Type 0} → Grouping → Steps S F → LinesValue T → S → List ℕ → Bool → Outcome F → S → Type 0
+OutcomeAt by Does v s more cut o t = (is : Items) × Rest by v None more cut is × IsOutcomeOf Does is s o t
 
 -- Behind a text, the driver ends so: it is an outcome, or a front of the text of one where the driver has to stop.
 abbrev pub Answers : {S F : Type 0} → (Outcome F → S → Type 0) → List ℕ → S → Result ℕ (DriveFault F) → Type 0
@@ -52,18 +66,18 @@ Answers Whole written t (Err faults.Memory) = (o : _) × (u : _) × Whole o u ×
 Answers Whole written t (Err faults.Write) = (o : _) × (u : _) × Whole o u × Begins o written
 Answers Whole written t result = Whole (before written (stop result)) t
 
--- What was to come is, behind a text, what comes now; or the driver ends. A handler is at some states afterwards.
-abbrev pub Drives : {S F T : Type 0} → Grouping → Steps S F → (S → Type 0) → (List ℕ → Bool → Outcome F → S → Type 0) → List ℕ → List ℕ → LinesValue T → Result Bool (DriveFault F) → Type 0
-Drives by Does is_at Whole given written v (Ok true) =
-    (t : _) × is_at t × ((more : List ℕ) (cut : Bool) → MayCome v more cut → (o : _) (u : _) → OutcomeAt by Does v None t more cut o u → Whole (given ++ more) cut (before written o) u)
-Drives by Does is_at Whole given written v (Ok false) =
-    (t : _) × is_at t × ((more : List ℕ) (cut : Bool) → MayCome v more cut → Answers (Whole (given ++ more) cut) written t (Ok v.done))
-Drives by Does is_at Whole given written v (Err e) = (more : List ℕ) (cut : Bool) → MayCome v more cut → (t : _) × Answers (Whole (given ++ more) cut) written t (Err e)
+-- The handler is at a state, unless the driver ends with a fault.
+abbrev pub IsLeftAt : {S F : Type 0} → (S → Type 0) → S → Result ℕ (DriveFault F) → Type 0
+IsLeftAt is_at t (Ok n) = is_at t
+IsLeftAt is_at t (Err e) = Unit {0}
 
--- All lines.
-abbrev pub DrivesAll : {S F T : Type 0} → (S → Type 0) → (List ℕ → Bool → Outcome F → S → Type 0) → List ℕ → List ℕ → LinesValue T → Result ℕ (DriveFault F) → Type 0
-DrivesAll is_at Whole given written v (Ok n) = (t : _) × is_at t × ((more : List ℕ) (cut : Bool) → MayCome v more cut → Answers (Whole (given ++ more) cut) written t (Ok n))
-DrivesAll is_at Whole given written v (Err e) = (more : List ℕ) (cut : Bool) → MayCome v more cut → (t : _) × Answers (Whole (given ++ more) cut) written t (Err e)
+abbrev pub EndsSo : {S F : Type 0} → (S → Type 0) → (Outcome F → S → Type 0) → List ℕ → Result ℕ (DriveFault F) → Type 0
+EndsSo is_at Whole written result = (t : _) × IsLeftAt is_at t result × Answers Whole written t result
+
+-- All lines were taken, or the driver ended before.
+abbrev pub DrivesAll : {S F T : Type 0} → Grouping → Steps S F → (S → Type 0) → (S → Type 0) → Moment T → Moment T → Result ℕ (DriveFault F) → Type 0
+DrivesAll by Does was_at is_at old new result = (printed : List ℕ) × (moves : Moves old new printed)
+    × ((s : _) → was_at s → (more : List ℕ) (cut : Bool) → MayCome new.lines more cut → EndsSo is_at (OutcomeAt by Does old.lines s (moves.given ++ more) cut) printed result)
 
 -- ---- the end
 
@@ -79,11 +93,6 @@ ClosesAfter false e written waiting result = Settles (stop (Err e)) written wait
 abbrev pub Closes : {F : Type 0} → Result ℕ (DriveFault F) → List ℕ → List ℕ → Result ℕ (DriveFault F) → Type 0
 Closes (Ok m) written waiting result = Settles (stop (Ok m)) written waiting result
 Closes (Err e) written waiting result = ClosesAfter (is_stop e) e written waiting result
-
--- The handler is at a state, unless the driver ends with a fault.
-abbrev pub IsLeftAt : {S F : Type 0} → (S → Type 0) → S → Result ℕ (DriveFault F) → Type 0
-IsLeftAt is_at t (Ok n) = is_at t
-IsLeftAt is_at t (Err e) = Unit {0}
 
 -- One of some outcomes was met: its text was written, and its end answered.
 abbrev pub MeetsOne : {S F : Type 0} → (Outcome F → S → Type 0) → (S → Type 0) → List ℕ → Result ℕ (DriveFault F) → Type 0

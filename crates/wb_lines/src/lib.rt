@@ -1,10 +1,10 @@
 //! Text that comes and goes line by line: what reads it, what stands in a line, and what waits to
 //! be written.
 //!
-//! `drive` hands the lines of a source to a handler, and writes what the handler prints. It stands
-//! on `LineReader`, which reads the lines, and on `Output`, which holds text until it is written. A
-//! line has words, numbers and hexadecimal digits, which stand in modules of their own. Nothing
-//! here knows what the lines say.
+//! `drive` hands the lines of a source to a handler, and writes what the handler prints. Who takes
+//! several lines together pulls them from a `Progress`. Both stand on `LineReader`, which reads the
+//! lines, and on `Output`, which holds text until it is written. A line has words, numbers and
+//! hexadecimal digits, which stand in modules of their own. Nothing here knows what the lines say.
 #![tactic(auto)]
 
 mod content;
@@ -15,19 +15,18 @@ mod hexadecimal;
 mod line_reader;
 mod lines;
 mod numbers;
-mod one_by_one;
 mod output;
 mod progress;
 mod saying;
 mod words;
 
 pub use content::{without_carriage_return, without_end};
-pub use driving::{close, drive, drive_groups, fault_of};
+pub use driving::{close, drive, fault_of};
 pub use fault::DriveFault;
-pub use handler::{GroupHandler, Handler, Stop};
+pub use handler::{Handler, Stop};
 pub use hexadecimal::unhex;
 pub use line_reader::{Found, LineReader, Pulled};
-pub use lines::{Lines, Seen};
+pub use lines::{First, Lines, Seen};
 pub use numbers::number;
 pub use output::{Output, Unwritten};
 pub use progress::Progress;

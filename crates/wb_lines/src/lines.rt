@@ -1,7 +1,7 @@
 //! The lines of a source, of which the next is looked at before it is taken.
-ghost use Rattle.std.specs.Prelude.{◌≡◌, ◌≢◌, ◌<◌, ◌≤◌, ◌↔◌, [], List, ℕ, Err, IfOk, IfSome, IsTrue};
+ghost use Rattle.std.specs.Prelude.{◌≡◌, ◌≢◌, ◌<◌, ◌≤◌, [], List, ℕ, Err, IfOk, IfSome};
 ghost use Rattle.wb_lines.specs.declared.lines.Seen.TheVariants as seens;
-ghost use Rattle.wb_lines.specs.Moments.{moment, is_broken, with_seen, Reads, IsSound, IsLineOrMemory, StartsLong, with_one, TakesLine, IsJoining, EndsBy, Moves, PassesLine, at_start, found_over};
+ghost use Rattle.wb_lines.specs.Moments.{moment, is_broken, with_seen, Reads, IsSound, IsLineOrMemory, TakesLine, TakesSeen, IsJoining, Moves, PassesLine, at_start, found_over};
 
 use crate::fault::DriveFault;
 use crate::line_reader::{Found, LineReader, Pulled};
@@ -31,6 +31,15 @@ pub enum Seen<S> {
     Unwritten,
     /// Memory ran out.
     Memory,
+}
+
+/// What a driver takes next.
+#[derive(Drop)]
+pub enum First<S> {
+    /// A line, and what it says.
+    Line(S),
+    /// One that is too long. The rest of it was not read.
+    TooLong,
 }
 
 /// What passing over a line came to.
@@ -123,8 +132,7 @@ impl<S: Saying> Lines<S> {
     /// Whether no more lines can be read, though there may be some: what waited could not be
     /// written, or memory ran out.
     pub fn is_broken(&self) -> bool
-        ensures broken { result ≡ is_broken self.now.seen }
-        ensures sound { IsSound S.says self.now }
+        ensures { result ≡ is_broken self.now.seen }
     {
         matches!(&self.seen, Seen::Unwritten | Seen::Memory)
     }
@@ -233,6 +241,7 @@ impl<S: Saying> Lines<S> {
             (W.taken sink.new) (W.has_failed sink.new)) [] [] }
         ensures looked { self.new.seen ≢ seens.Nothing }
         ensures count { (self.new.done ≡ self.old.done) × (self.new.most ≡ self.old.most) }
+        ensures sound { IsSound S.says self.old }
     {
         if !matches!(&self.seen, Seen::Nothing) {
             return;
@@ -258,14 +267,29 @@ impl<S: Saying> Lines<S> {
         }
     }
 
-    /// Takes the line that was looked at, which is too long. The rest of it is not read.
-    pub fn take_too_long(&mut self)
-        requires { self.old.seen ≡ seens.TooLong }
-        ensures line { self.new ≡ with_one self.old }
-        ensures long { (self.old.done < self.old.most) × StartsLong self.old.line.bytes }
+    /// Takes what was looked at, if it is a line. Else answers how a driver ends by it: at the end
+    /// of the input, or with a fault.
+    pub(crate) fn take_first<F>(&mut self) -> Result<Option<First<S>>, DriveFault<F>>
+        requires { self.old.seen ≢ seens.Nothing }
+        ensures taken { TakesSeen S.says self.old self.new result }
+        ensures faults { (result ≡ Err DriveFault.Read → self.new.seen ≡ seens.Failed) ×
+            (result ≡ Err DriveFault.Write → self.new.seen ≡ seens.Unwritten) }
     {
-        self.seen = Seen::Nothing;
-        self.done += 1;
+        if let Some(said) = self.take_line() {
+            return Ok(Some(First::Line(said)));
+        }
+        match &self.seen {
+            Seen::TooLong => {
+                self.seen = Seen::Nothing;
+                self.done += 1;
+                Ok(Some(First::TooLong))
+            }
+            Seen::Failed => Err(DriveFault::Read),
+            Seen::TooMany => Err(DriveFault::Endless),
+            Seen::Unwritten => Err(DriveFault::Write),
+            Seen::Memory => Err(DriveFault::Memory),
+            Seen::End | Seen::Nothing | Seen::Line(_) => Ok(None),
+        }
     }
 
     /// Whether the line that was looked at joins those before it.
@@ -275,29 +299,6 @@ impl<S: Saying> Lines<S> {
         match &self.seen {
             Seen::Line(said) => said.joins(),
             _ => false,
-        }
-    }
-
-    /// Whether a line was looked at that is too long.
-    pub fn is_too_long(&self) -> bool
-        ensures { IsTrue result ↔ (self.now.seen ≡ seens.TooLong) }
-    {
-        matches!(&self.seen, Seen::TooLong)
-    }
-
-    /// How a driver ends by what was found, which is no line: at the end of the input, or with a
-    /// fault.
-    pub fn end<F>(&self) -> Result<bool, DriveFault<F>>
-        ensures end { EndsBy self.now.seen result }
-        ensures faults { (result ≡ Err DriveFault.Read → self.now.seen ≡ seens.Failed) ×
-            (result ≡ Err DriveFault.Write → self.now.seen ≡ seens.Unwritten) }
-    {
-        match &self.seen {
-            Seen::Failed => Err(DriveFault::Read),
-            Seen::TooMany => Err(DriveFault::Endless),
-            Seen::Unwritten => Err(DriveFault::Write),
-            Seen::Memory => Err(DriveFault::Memory),
-            Seen::End | Seen::Nothing | Seen::Line(_) | Seen::TooLong => Ok(false),
         }
     }
 

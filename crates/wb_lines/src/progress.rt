@@ -1,8 +1,10 @@
 //! How far a driver has come.
-ghost use Rattle.std.specs.Prelude.{◌≡◌, ◌≤◌, ◌<◌, [], List, ℕ, IfSome};
-ghost use Rattle.wb_lines.specs.Moments.{moment, TakesJoined};
+ghost use Rattle.std.specs.Prelude.{◌≡◌, ◌≤◌, ◌<◌, [], List, ℕ, Err, IfSome};
+ghost use Rattle.wb_lines.specs.declared.lines.Seen.TheVariants as seens;
+ghost use Rattle.wb_lines.specs.Moments.{moment, IsSound, TakesNext, TakesJoined};
 
-use crate::lines::Lines;
+use crate::fault::DriveFault;
+use crate::lines::{First, Lines};
 use crate::output::Output;
 use crate::saying::Saying;
 use std::alloc::Global;
@@ -16,6 +18,26 @@ pub struct Progress<S: Saying> {
 }
 
 impl<S: Saying> Progress<S> {
+    /// Takes the next line, as the first of those that join it. Answers none at the end of the
+    /// input, and a fault where no more lines can be read.
+    pub fn next_first<F, R: Source, W: Sink>(
+        &mut self,
+        alloc: Global,
+        source: &mut R,
+        sink: &mut W,
+    ) -> Result<Option<First<S>>, DriveFault<F>>
+        ensures sound { IsSound S.says self.old.lines }
+        ensures next { TakesNext S.says S.by (moment self.old.lines self.old.output
+            (R.left source.old) (R.has_failed source.old) (W.taken sink.old)
+            (W.has_failed sink.old)) (moment self.new.lines self.new.output (R.left source.new)
+            (R.has_failed source.new) (W.taken sink.new) (W.has_failed sink.new)) result }
+        ensures faults { (result ≡ Err DriveFault.Read → self.new.lines.seen ≡ seens.Failed) ×
+            (result ≡ Err DriveFault.Write → self.new.lines.seen ≡ seens.Unwritten) }
+    {
+        self.lines.look(alloc, source, &mut self.output, sink);
+        self.lines.take_first()
+    }
+
     /// Takes the next line, if it joins those before it. Answers what it says.
     pub fn next_joined<R: Source, W: Sink>(
         &mut self,

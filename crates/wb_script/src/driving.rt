@@ -1,18 +1,13 @@
-//! The loop of a run, over the parts of the driver of wb_lines.
-//!
-//! It is `drive_groups` of wb_lines for one handler. That one is generic over its handler, and what
-//! starts threads can't stand behind a trait here: a bound `Sync` of an `impl` holds on its own
-//! thread alone.
-ghost use Rattle.std.specs.Prelude.{◌≡◌, ◌<◌, ◌≤◌, List, ℕ, true, false, Ok, Err, Some, None, IfOk};
+//! The loop of a run.
+ghost use Rattle.std.specs.Prelude.{◌≡◌, ◌≤◌, List, ℕ, true, Err, IfOk};
 ghost use Rattle.std.specs.Io.KnownBytes.{Appends};
 ghost use Rattle.wb_lines.specs.declared.lines.Seen.TheVariants as seens;
-ghost use Rattle.wb_lines.specs.Items.{begin};
 ghost use Rattle.wb_lines.specs.Groups.{IsOutcome, group_rules};
 ghost use Rattle.wb_lines.specs.Driving.{Gave};
-ghost use Rattle.wb_lines.specs.Moments.{moment, is_broken, Moves};
-ghost use Rattle.wb_lines.specs.Steps.{OutcomeAt, Drives, DrivesAll, MeetsOne};
+ghost use Rattle.wb_lines.specs.Moments.{moment};
+ghost use Rattle.wb_lines.specs.Steps.{DrivesAll, MeetsOne};
 ghost use Rattle.wb_script.specs.Script.{State, most_lines};
-ghost use Rattle.wb_script.specs.Inside.Parts.{Says, by_batches};
+ghost use Rattle.wb_script.specs.Inside.Parts.{by_batches};
 ghost use Rattle.wb_script.specs.Inside.Steps.{IsAt, may_take};
 
 use crate::host::Host;
@@ -22,80 +17,11 @@ use std::sync::Wait;
 use std::thread::Threads;
 use wb_commands::LineFault;
 use wb_feed::Gate;
-use wb_lines::{DriveFault, Lines, Output, Progress, close, fault_of};
+use wb_lines::{DriveFault, First, Lines, Output, Progress, close, fault_of};
 use wb_names::{Sink, Source};
 
-/// Hands a line that was taken to the host, which takes those that join it.
-fn hand_over<T: Threads + Wait + Sync, R: Source, W: Sink, G: Gate + Sync>(
-    alloc: Global,
-    said: Said,
-    host: &mut Host<'_, T, G>,
-    progress: &mut Progress<Said>,
-    source: &mut R,
-    sink: &mut W,
-) -> Result<bool, DriveFault<LineFault>>
-    requires said { Says progress.old.lines.line said }
-    requires taken { progress.old.lines.seen ≡ seens.Nothing }
-    ensures text { (printed : List ℕ) ×
-        (moves : Moves (moment progress.old.lines progress.old.output
-        (R.left source.old) (R.has_failed source.old) (W.taken sink.old) (W.has_failed sink.old))
-        (moment progress.new.lines progress.new.output (R.left source.new) (R.has_failed source.new)
-        (W.taken sink.new) (W.has_failed sink.new)) printed) × ((s : State) → IsAt host.old s →
-        Drives by_batches may_take (IsAt host.new) (OutcomeAt by_batches may_take progress.old.lines
-        (Some (begin progress.old.lines.done progress.old.lines.line)) s) moves.given printed
-        progress.new.lines result) }
-    ensures going { result ≡ Ok true → is_broken progress.new.lines.seen ≡ false }
-    ensures faults { (result ≡ Err DriveFault.Read → progress.new.lines.seen ≡ seens.Failed) ×
-        (result ≡ Err DriveFault.Write → progress.new.lines.seen ≡ seens.Unwritten) }
-{
-    let number = progress.lines.done();
-    if let Err(stop) = host.take(alloc, said, progress, source, sink) {
-        return Err(fault_of(number, stop));
-    }
-    if progress.lines.is_broken() {
-        progress.lines.end()
-    } else {
-        Ok(true)
-    }
-}
-
-/// Takes the next line and those that join it. Answers whether there was one.
-fn take_group<T: Threads + Wait + Sync, R: Source, W: Sink, G: Gate + Sync>(
-    alloc: Global,
-    host: &mut Host<'_, T, G>,
-    progress: &mut Progress<Said>,
-    source: &mut R,
-    sink: &mut W,
-) -> Result<bool, DriveFault<LineFault>>
-    requires going { is_broken progress.old.lines.seen ≡ false }
-    ensures text { (printed : List ℕ) ×
-        (moves : Moves (moment progress.old.lines progress.old.output
-        (R.left source.old) (R.has_failed source.old) (W.taken sink.old) (W.has_failed sink.old))
-        (moment progress.new.lines progress.new.output (R.left source.new) (R.has_failed source.new)
-        (W.taken sink.new) (W.has_failed sink.new)) printed) ×
-        ((s : State) → IsAt host.old s → Drives by_batches may_take (IsAt host.new)
-        (OutcomeAt by_batches may_take progress.old.lines None s) moves.given printed
-        progress.new.lines result) }
-    ensures on { result ≡ Ok true → (progress.old.lines.done < progress.old.lines.most) ×
-        (progress.old.lines.done < progress.new.lines.done) ×
-        (is_broken progress.new.lines.seen ≡ false) }
-    ensures faults { (result ≡ Err DriveFault.Read → progress.new.lines.seen ≡ seens.Failed) ×
-        (result ≡ Err DriveFault.Write → progress.new.lines.seen ≡ seens.Unwritten) }
-{
-    progress
-        .lines
-        .look(alloc, source, &mut progress.output, sink);
-    if progress.lines.is_too_long() {
-        progress.lines.take_too_long();
-        return Err(DriveFault::Endless);
-    }
-    match progress.lines.take_line() {
-        Some(said) => hand_over(alloc, said, host, progress, source, sink),
-        None => progress.lines.end(),
-    }
-}
-
-/// Takes group after group. Answers how many lines there were.
+/// Has the host take line after line, with each those that join it. Answers how many lines there
+/// were.
 fn take_groups<T: Threads + Wait + Sync, R: Source, W: Sink, G: Gate + Sync>(
     alloc: Global,
     host: &mut Host<'_, T, G>,
@@ -103,19 +29,25 @@ fn take_groups<T: Threads + Wait + Sync, R: Source, W: Sink, G: Gate + Sync>(
     source: &mut R,
     sink: &mut W,
 ) -> Result<u64, DriveFault<LineFault>>
-    requires going { is_broken progress.old.lines.seen ≡ false }
-    ensures text { (printed : List ℕ) ×
-        (moves : Moves (moment progress.old.lines progress.old.output
-        (R.left source.old) (R.has_failed source.old) (W.taken sink.old) (W.has_failed sink.old))
+    requires start { progress.old.lines.seen ≡ seens.Nothing }
+    ensures all { DrivesAll by_batches may_take (IsAt host.old) (IsAt host.new)
+        (moment progress.old.lines progress.old.output (R.left source.old) (R.has_failed source.old)
+        (W.taken sink.old) (W.has_failed sink.old))
         (moment progress.new.lines progress.new.output (R.left source.new) (R.has_failed source.new)
-        (W.taken sink.new) (W.has_failed sink.new)) printed) × ((s : State) → IsAt host.old s →
-        DrivesAll (IsAt host.new) (OutcomeAt by_batches may_take progress.old.lines None s)
-        moves.given printed progress.new.lines result) }
+        (W.taken sink.new) (W.has_failed sink.new)) result }
     ensures few { IfOk result (λ lines. lines ≤ progress.old.lines.most) }
     ensures faults { (result ≡ Err DriveFault.Read → progress.new.lines.seen ≡ seens.Failed) ×
         (result ≡ Err DriveFault.Write → progress.new.lines.seen ≡ seens.Unwritten) }
 {
-    while take_group(alloc, host, progress, source, sink)? {}
+    while let Some(first) = progress.next_first(alloc, source, sink)? {
+        let First::Line(said) = first else {
+            return Err(DriveFault::Endless);
+        };
+        let number = progress.lines.done();
+        if let Err(stop) = host.take(alloc, said, progress, source, sink) {
+            return Err(fault_of(number, stop));
+        }
+    }
     Ok(progress.lines.done())
 }
 

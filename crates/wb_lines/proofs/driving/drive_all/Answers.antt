@@ -1,34 +1,35 @@
-use Rattle.std.proofs.Common.{true, Ok, Err, refl}
+use Rattle.std.proofs.Common.{ℕ, None, Ok, Err, ap, ◌∙◌}
 use Rattle.std.proofs.lemmas.Result.{err_from_is_err_and}
-use Rattle.wb_lines.proofs.Outcomes.{at_first, chained, ends_all}
+use Rattle.wb_lines.specs.Items.{alone}
+use Rattle.wb_lines.specs.Groups.{only_step}
+use Rattle.wb_lines.specs.Steps.{fault_of}
+use Rattle.wb_lines.proofs.LoneLines.{says_any, total}
+use Rattle.wb_lines.proofs.Turns.{drive_starts, drive_goes, drive_stops, drive_ends}
 use Rattle.wb_lines.proofs.driving.drive_all.Goals as goal
 
-pub loop-init : goal.loop-init
-loop-init g c = record {
-  going = c.requires.going;
-  text = at_first g.H.Said.Saying.by g.H.GroupHandler.step (g.H.GroupHandler.is_at c.args.handler.now) _;
-}
+pub loop-first-init : goal.loop-first-init
+loop-first-init g c = drive_starts alone says_any (only_step g.H.Handler.step) (g.H.Handler.is_at c.args.handler.now) _ (total g.H.Handler.step) c.requires.start
 
-pub returns-in_err-drive_group-clause-text : goal.returns-in_err-drive_group-clause-text
-returns-in_err-drive_group-clause-text g c =
-    let so_far = c.loop.invariant.text in
-    let one = c.in_err-drive_group.ensures.text in
+pub returns-in_err-first-clause-all : goal.returns-in_err-first-clause-all
+returns-in_err-first-clause-all g c =
+    let next = c.in_err-first.ensures.next in
     let p = err_from_is_err_and c.from_residual.result c.from_residual.ensures.1 in
     rw (p.1, p.2)
-    (chained g.H.Said.Saying.by g.H.GroupHandler.step (g.H.GroupHandler.is_at c.args.handler.now) (g.H.GroupHandler.is_at c.loop.handler) (g.H.GroupHandler.is_at c.drive_group.new.handler) so_far.0 one.0 (Err c.in_err-drive_group.field-0.0) so_far.1 one.1 so_far.2 one.2)
+    (drive_ends alone says_any (only_step g.H.Handler.step) (g.H.Handler.is_at c.args.handler.now) (g.H.Handler.is_at c.loop-first.handler) (Err c.in_err-first.field-0.0) c.in_err-first.ensures.sound next.0 next.1 c.loop-first.invariant)
 
-pub loop-preserved : goal.loop-preserved
-loop-preserved g c =
-    let so_far = c.loop.invariant.text in
-    let one = rw c.if-branch.true at c.in_ok-drive_group.ensures.text in
-    let on = rw c.if-branch.true at c.in_ok-drive_group.ensures.on in
-    record {
-      going = (on refl).2;
-      text = chained g.H.Said.Saying.by g.H.GroupHandler.step (g.H.GroupHandler.is_at c.args.handler.now) (g.H.GroupHandler.is_at c.loop.handler) (g.H.GroupHandler.is_at c.drive_group.new.handler) so_far.0 one.0 (Ok true) so_far.1 one.1 so_far.2 one.2;
-    }
+pub returns-in-Err-clause-all : goal.returns-in-Err-clause-all
+returns-in-Err-clause-all g c =
+    let next = rw c.in-Some.is at c.in_ok-first.ensures.next in
+    rw (c.fault_of.ensures.fault ∙ ap (λ (n : ℕ). fault_of n c.in-Err.stop) c.done-number.ensures.count)
+    (drive_stops alone says_any (only_step g.H.Handler.step) (g.H.Handler.is_at c.args.handler.now) (g.H.Handler.is_at c.loop-first.handler) (g.H.Handler.is_at c.hand_over.new.handler) c.in-Some.first c.in-Err.stop (total g.H.Handler.step) c.in_ok-first.ensures.sound next c.in-Err.ensures c.loop-first.invariant)
 
-pub returns-clause-text : goal.returns-clause-text
-returns-clause-text g c =
-    let so_far = c.loop.invariant.text in
-    let one = rw c.if-branch.false at c.in_ok-drive_group.ensures.text in
-    ends_all g.H.Said.Saying.by g.H.GroupHandler.step (g.H.GroupHandler.is_at c.args.handler.now) (g.H.GroupHandler.is_at c.loop.handler) (g.H.GroupHandler.is_at c.drive_group.new.handler) so_far.0 one.0 c.done.result c.done.ensures.count so_far.1 one.1 so_far.2 one.2
+pub loop-first-preserved : goal.loop-first-preserved
+loop-first-preserved g c =
+    let next = rw c.in-Some.is at c.in_ok-first.ensures.next in
+    drive_goes alone says_any (only_step g.H.Handler.step) (g.H.Handler.is_at c.args.handler.now) (g.H.Handler.is_at c.loop-first.handler) (g.H.Handler.is_at c.hand_over.new.handler) c.in-Some.first (total g.H.Handler.step) c.in_ok-first.ensures.sound next c.in_default-hand_over.ensures c.loop-first.invariant
+
+pub returns-clause-all : goal.returns-clause-all
+returns-clause-all g c =
+    let next = rw c.in_default.is at c.in_ok-first.ensures.next in
+    rw c.done.ensures.count
+    (drive_ends alone says_any (only_step g.H.Handler.step) (g.H.Handler.is_at c.args.handler.now) (g.H.Handler.is_at c.loop-first.handler) (Ok None) c.in_ok-first.ensures.sound next.0 next.1 c.loop-first.invariant)

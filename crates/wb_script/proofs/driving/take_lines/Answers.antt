@@ -14,14 +14,14 @@ returns-in_err-new-clause-lines g c =
 pub returns-clause-lines : goal.returns-clause-lines
 returns-clause-lines g c =
     meets_all by_batches may_take c.args.most (IsAt c.args.host.now) (IsAt c.take_groups-ending.new.host) _ _ (g.W.Sink.taken c.close.new.sink) _ _ c.close.new.output c.take_groups-ending.result c.close.result
-    (rw (c.in_ok-new.ensures, c.new-2.ensures) at c.take_groups-ending.ensures.text) c.close.ensures.text
+    (rw (c.in_ok-new.ensures, c.new-2.ensures) at c.take_groups-ending.ensures.all) c.close.ensures.text
 
 pub returns-clause-read : goal.returns-clause-read
 returns-clause-read g c = λ e.
-    let text = rw (c.in_ok-new.ensures, c.new-2.ensures) at c.take_groups-ending.ensures.text in
-    (true_later c.args.most _ _ _ _ text.0 text.1).failed (c.take_groups-ending.ensures.faults.0 (c.close.ensures.read e))
+    let all = rw (c.in_ok-new.ensures, c.new-2.ensures) at c.take_groups-ending.ensures.all in
+    (true_later c.args.most _ _ _ _ all.0 all.1).failed (c.take_groups-ending.ensures.faults.0 (c.close.ensures.read e))
 
 pub returns-clause-write : goal.returns-clause-write
 returns-clause-write g c = λ e.
-    let text = rw (c.in_ok-new.ensures, c.new-2.ensures) at c.take_groups-ending.ensures.text in
-    c.close.ensures.failed (λ f. (true_later c.args.most _ _ _ _ text.0 text.1).stuck (c.take_groups-ending.ensures.faults.1 f)) e
+    let all = rw (c.in_ok-new.ensures, c.new-2.ensures) at c.take_groups-ending.ensures.all in
+    c.close.ensures.failed (λ f. (true_later c.args.most _ _ _ _ all.0 all.1).stuck (c.take_groups-ending.ensures.faults.1 f)) e

@@ -14,7 +14,7 @@ returns-in_err-member g c =
 pub returns-then-is_broken : goal.returns-then-is_broken
 returns-then-is_broken g c =
     let t = c.in_ok-member.ensures in
-    let broken = sym c.is_broken.ensures.broken ∙ c.if-is_broken.true in
+    let broken = sym c.is_broken.ensures ∙ c.if-is_broken.true in
     ([], t.0, t.1, (counts_in c.in_ok-member.batch, t.2, rw broken refl))
 
 pub returns-in_err-text : goal.returns-in_err-text
@@ -33,6 +33,6 @@ pub returns : goal.returns
 returns g c =
     let t = c.in_ok-member.ensures in
     let text = batch_line (counts_in c.in_ok-member.batch) in
-    let going = sym c.is_broken.ensures.broken ∙ c.if-is_broken.false in
+    let going = sym c.is_broken.ensures ∙ c.if-is_broken.false in
     let printed = c.in_ok-add.ensures.ok ∙ ap (λ (t : List ℕ). c.take_arrivals.new.progress.output ++ t) (c.as_bytes.ensures.value ∙ c.in_ok-text.ensures) in
     (text, t.0, printed_then text t.0 t.1 refl refl refl refl refl printed, (counts_in c.in_ok-member.batch, t.2, rw going refl))
