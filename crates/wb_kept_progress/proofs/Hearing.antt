@@ -32,7 +32,7 @@ use Rattle.wb_member.specs.Random.{words_of}
 use Rattle.wb_keeping.specs.Credit.{cost}
 use Rattle.wb_keeping.specs.Distances.{bounded}
 use Rattle.wb_keeping.specs.Fairness.{AnswersWhatIsHeld}
-use Rattle.wb_keeping.specs.Kept.{Hears, SetsDistance, Ticks, Transition, and_then, answers, asks_pages, came, distance_in, hears, hears_session, measures, own_echo, own_marks, performs, reports, still, timed, told_names, want_told, Line}
+use Rattle.wb_keeping.specs.Kept.{Hears, SetsDistance, Ticks, Transition, and_then, came, distance_in, hears, hears_session, measures, own_echo, own_marks, performs, still, timed, told_names, want_told, Line}
 use Rattle.wb_keeping.specs.Performing.{Keeping, after_doing, after_lines, sees, view_of}
 use Rattle.wb_keeping.specs.Policy.{Policy, holds, with_distance}
 use Rattle.wb_keeping.proofs.EachStep.{having, HoldsOfDue, having_done, timed_holds}

@@ -1,5 +1,5 @@
 -- A number below a top has its turn, and is asked for.
-use Rattle.std.proofs.Common.{◌≡◌, ℕ, zero, suc, ◌+◌, ◌-◌, ◌*◌, ◌<◌, ◌≤◌, Bool, true, false, cond, List, [], ◌∷◌, ◌++◌, ◌∙◌, Some, None, ap, arith, append_assoc, eqb-true, inl, inr, length, map, refl, subst, sym, true≢false, ⊎_elim}
+use Rattle.std.proofs.Common.{◌≡◌, ℕ, zero, suc, ◌+◌, ◌*◌, ◌<◌, ◌≤◌, Bool, true, false, cond, List, [], ◌∷◌, ◌++◌, ◌∙◌, Some, None, ap, arith, append_assoc, eqb-true, inl, inr, length, map, refl, subst, sym, true≢false, ⊎_elim}
 use Rattle.std.specs.Prelude.{◌⊎◌, ◌&&◌, Contains, max, nat_eq, nat_le, not}
 use Rattle.std.specs.List.{flat_map}
 use Rattle.std.proofs.lemmas.Bool.{leb-true}
@@ -23,7 +23,7 @@ use Rattle.wb_host.proofs.KeptCalls.{holds_not}
 use Rattle.wb_member.specs.Judged.{is_full}
 use Rattle.wb_member.specs.Opened.{Opened, asks_for, opened_with, present}
 use Rattle.wb_keeping.specs.Fairness.{AnswersWhatIsHeld, Told, after_telling, after_tellings, after_turn, after_turns, marks_in_turn, name_in_turn, page_in_turn, where_left}
-use Rattle.wb_keeping.specs.Kept.{Ticks, performs, ticks, timed, turn}
+use Rattle.wb_keeping.specs.Kept.{Ticks, performs, ticks, timed}
 use Rattle.wb_keeping.specs.Laws.{Ticked, doing_of}
 use Rattle.wb_keeping.specs.Performing.{Keeping, after_doing, sees}
 use Rattle.wb_keeping.specs.Reports.{page_after, slice_after}

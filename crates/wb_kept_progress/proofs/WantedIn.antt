@@ -13,7 +13,7 @@ use Rattle.wb_member.specs.Judged.{is_full}
 use Rattle.wb_member.specs.Opened.{asks_for, present}
 use Rattle.wb_keeping.specs.Credit.{cost, has_credit}
 use Rattle.wb_keeping.specs.Fairness.{AnswersWhatIsHeld, led_to, name_in_turn}
-use Rattle.wb_keeping.specs.Kept.{Doing, Line, Ticks, Transition, and_then, answers, asks_pages, performs, reports, still, timed, turn, turn_to, want, want_told}
+use Rattle.wb_keeping.specs.Kept.{Doing, Line, Ticks, Transition, and_then, performs, still, timed, turn, turn_to, want, want_told}
 use Rattle.wb_keeping.specs.Performing.{Keeping, after_doing, after_lines, sees, view_of}
 use Rattle.wb_keeping.specs.Policy.{View, after_turn, after_wanting, in_next_round, Policy}
 use Rattle.wb_keeping.specs.Turns.{name_in, nowhere}
