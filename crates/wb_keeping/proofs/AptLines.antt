@@ -1,5 +1,5 @@
 -- A host that keeps itself sets and backs off timers by distances that are not below 10 milliseconds, and time does not go back.
-use Rattle.std.proofs.Common.{◌≡◌, ℕ, ◌+◌, ◌*◌, ◌/◌, ◌≤◌, Bool, true, false, cond, List, [], ◌∷◌, ◌++◌, ◌∙◌, Option, Some, None, ap, arith, length, map, refl, subst, sym}
+use Rattle.std.proofs.Common.{◌≡◌, ℕ, ◌+◌, ◌*◌, ◌/◌, ◌≤◌, Bool, true, false, cond, List, [], ◌∷◌, ◌++◌, ◌∙◌, Option, Some, None, ap, arith, map, refl, subst, sym}
 use Rattle.std.specs.Prelude.{◌&&◌, IfSome, nat_eq, nat_le, take, unwrap_or}
 use Rattle.std.specs.List.{find}
 use Rattle.std.specs.Option.{option_or}
@@ -17,16 +17,16 @@ use Rattle.wb_member.specs.Judged.{delay}
 use Rattle.wb_member.specs.Opened.{Opened, has_room_for, heard, may_ask, opened_with, present}
 use Rattle.wb_keeping.specs.Bounds.{new_keeping}
 use Rattle.wb_keeping.specs.Distances.{bounded, usual_with}
-use Rattle.wb_keeping.specs.Kept.{Arrives, Asks, Doing, Hears, Line, Says, SetsDistance, Stops, Ticks, Tunes, distance_in, measures, own_echo, room_lines, state_of, still, stops_oldest, usual_lines, want}
+use Rattle.wb_keeping.specs.Kept.{Arrives, Asks, Doing, Hears, Line, Says, SetsDistance, Stops, Ticks, Tunes, distance_in, measures, own_echo, still, want}
 use Rattle.wb_keeping.specs.Laws.{AreTaken, KeptLine, expand}
 use Rattle.wb_keeping.specs.Performing.{Keeping, after_doing, after_line, after_lines, sees, view_of}
-use Rattle.wb_keeping.specs.Policy.{Policy, View, after_wanting, holds, is_asked, is_full, level, with_distance}
-use Rattle.wb_keeping.specs.Wanting.{is_wanted, oldest}
-use Rattle.wb_keeping.specs.declared.wanting.AskedName.{AskedName}
+use Rattle.wb_keeping.specs.Policy.{Policy, after_wanting, holds, is_full, level, with_distance}
+use Rattle.wb_keeping.specs.Wanting.{is_wanted}
 use Rattle.wb_keeping.proofs.EachStep.{HoldsOfParts, all_parts_hold, doing, having, having_done}
 use Rattle.wb_keeping.proofs.Performed.{after_both}
 use Rattle.wb_keeping.proofs.SpacedLines.{AreApt, IsSpacedHost, either_host, missing, tick_spaced}
 use Rattle.wb_keeping.proofs.Wanted.{lines_wanted}
+use Rattle.wb_keeping.proofs.EachLine.{Each, states_each, wanted_each}
 
 -- ---- lines after lines
 
@@ -47,11 +47,16 @@ IsFar host = (source : ℕ) → 10000 ≤ delay host source
 abbrev IsSafe : List Line → Opened → Type 0
 IsSafe lines host = IsFar host → AreApt lines host × IsFar (after_lines lines host)
 
-safe_both : (one other : List Line) (host : Opened) → IsSafe one host → IsSafe other (after_lines one host) → IsSafe (one ++ other) host
-safe_both one other host a b far =
-    let first = a far in
-    let second = b first.1 in
-    (apt_both one other host first.0 second.0, subst IsFar (sym (after_both one other host)) second.1)
+-- so it is of lines, each of which is so at any host
+abbrev IsSafeLine : Line → Type 0
+IsSafeLine line = (host : Opened) → IsSafe (line ∷ []) host
+
+all_safe : (lines : List Line) (host : Opened) → Each IsSafeLine lines → IsSafe lines host
+all_safe [] host each far = (tt, far)
+all_safe (line ∷ lines) host each far =
+    let one = each.0 host far in
+    let rest = all_safe lines (after_line line host) each.1 one.1 in
+    ((one.0.0, rest.0), rest.1)
 
 -- the one that was last told or set
 abbrev told_last : ℕ → Opened → Option ℕ
@@ -76,29 +81,17 @@ sets_far source micros host long far other = by (nat_eq source other) where
 
 -- ---- a name that is wanted
 
-stops_safe : (name : NameValue) (host : Opened) → IsSafe (Stops name ∷ []) host
-stops_safe name host far = ((tt, tt), λ source. far source)
-
 nothing_safe : (host : Opened) → IsSafe [] host
 nothing_safe host far = (tt, far)
 
-room_safe : (name : NameValue) (v : View) (host : Opened) → IsSafe (room_lines name v) host
-room_safe name v host = by (is_asked v name) (nat_le 64 (length v.asked)) (oldest v.asked) where
-  by : (a b : Bool) (o : Option AskedName) → IsSafe (cond a (Stops name ∷ []) (cond b (stops_oldest o) [])) host
-  by true b o = stops_safe name host
-  by false true None = nothing_safe host
-  by false true (Some a) = stops_safe a.name host
-  by false false o = nothing_safe host
+stops_safe : (name : NameValue) → IsSafeLine (Stops name)
+stops_safe name host far = ((tt, tt), λ source. far source)
 
-usual_safe : (source distance : ℕ) (usual : Option ℕ) (host : Opened) → IfSome usual (λ usual. 10000 ≤ usual) → IsSafe (usual_lines source distance usual) host
-usual_safe source distance None host long = nothing_safe host
-usual_safe source distance (Some u) host long = by (nat_eq distance 100000) where
-  by : (b : Bool) → IsSafe (cond b (SetsDistance source u ∷ []) []) host
-  by true = λ far. ((tt, tt), sets_far source u host long far)
-  by false = nothing_safe host
-
-asks_safe : (name : NameValue) (host : Opened) → IsSafe (Asks name ∷ []) host
-asks_safe name host far = ((far name.source, tt), asks_far name host far)
+wanted_safe : (name : NameValue) (anew : Bool) (k : Keeping) → IfSome k.policy.usual (λ usual. 10000 ≤ usual)
+    → IsSafe (lines_wanted name anew (sees k.host) k.policy) k.host
+wanted_safe name anew k long = all_safe (lines_wanted name anew (sees k.host) k.policy) k.host
+    (wanted_each IsSafeLine stops_safe name (λ host far. ((far name.source, tt), asks_far name host far)) anew (sees k.host) k.policy
+    (λ micros e host far. ((tt, tt), sets_far name.source micros host (subst (λ (o : Option ℕ). IfSome o (λ usual. 10000 ≤ usual)) e long) far)))
 
 -- ---- each step
 
@@ -134,21 +127,8 @@ wants_apt name anew k = by (is_wanted (holds (view_of k.host) name) (is_full (vi
   by false = safely k [] k.policy (nothing_safe k.host) (λ u. u)
   by true = record {
     at = refl;
-    apt = λ ready.
-        let v = view_of k.host in
-        let room = room_lines name v in
-        let usual = usual_lines name.source (v.distance name.source) k.policy.usual in
-        let one = after_lines room k.host in
-        let two = after_lines usual one in
-        let asking = safe_both usual (Asks name ∷ []) one (usual_safe name.source (v.distance name.source) k.policy.usual one ready.usual) (asks_safe name two) in
-        let safe = safe_both room (usual ++ Asks name ∷ []) k.host (room_safe name v k.host) asking in
-        let is = safe ready.far in
-        (is.0, record { far = is.1; usual = ready.usual });
+    apt = λ ready. let is = wanted_safe name anew k ready.usual ready.far in (is.0, record { far = is.1; usual = ready.usual });
   }
-
-says_safe : (v : View) (pages : List PageId) (host : Opened) → IsSafe (map (λ (page : PageId). Says (state_of v page)) pages) host
-says_safe v [] host far = (tt, far)
-says_safe v (page ∷ pages) host far = let rest = says_safe v pages host far in ((tt, rest.0), rest.1)
 
 -- ---- a distance that is heard
 
@@ -243,8 +223,15 @@ first_constant constants within =
 
 parts_keep_apt : HoldsOfParts KeepsApt
 parts_keep_apt = record {
-  nothing = λ k. safely k [] k.policy (nothing_safe k.host) (λ u. u);
-  both = both_apt;
+  due = record {
+    nothing = λ k. safely k [] k.policy (nothing_safe k.host) (λ u. u);
+    both = both_apt;
+    wants = wants_apt;
+    turned = λ t k. safely k [] _ (nothing_safe k.host) (λ u. u);
+    answers = λ k is. safely k _ _ (all_safe _ k.host (states_each IsSafeLine (view_of k.host) (λ page host far. ((tt, tt), far)) (take 64 (pages_of k.host.is.held)))) (λ u. u);
+    asks_pages = λ k is. safely k (Says (AskPages k.host.is.number) ∷ []) _ (λ far. ((tt, tt), far)) (λ u. u);
+    reports = λ page told k is. safely k _ _ (λ far. ((tt, tt), far)) (λ u. u);
+  };
   ticks = λ now k later. safely k (Ticks now ∷ []) k.policy (λ far. ((later, tt), λ source. far source)) (λ u. u);
   arrives = λ d k. safely k (Arrives d ∷ []) k.policy (λ far. ((tt, tt), λ source. far source)) (λ u. u);
   answered = λ d k lacks asked. safely k (Arrives d ∷ []) _ (λ far. ((tt, tt), λ source. far source)) (λ u. u);
@@ -255,14 +242,9 @@ parts_keep_apt = record {
   hears_distance = λ sender sent page marks echoes k other. record { at = refl; apt = λ ready. distance_apt sender sent page marks echoes k other ready };
   stops = λ name k full. safely k (Stops name ∷ []) k.policy (stops_safe name k.host) (λ u. u);
   tunes = λ constants k within. safely k (Tunes constants ∷ []) k.policy (λ far. ((first_constant constants within, tt), λ source. far source)) (λ u. u);
-  wants = wants_apt;
   draws = λ d k. safely k (Says (Draw d) ∷ []) k.policy (λ far. ((tt, tt), λ source. far source)) (λ u. u);
-  turned = λ t k. safely k [] _ (nothing_safe k.host) (λ u. u);
   told = λ k. safely k [] _ (nothing_safe k.host) (λ u. u);
   takes_up = λ k is. safely k [] _ (nothing_safe k.host) (λ u. u);
-  answers = λ k is. safely k _ _ (says_safe (view_of k.host) (take 64 (pages_of k.host.is.held)) k.host) (λ u. u);
-  asks_pages = λ k is. safely k (Says (AskPages k.host.is.number) ∷ []) _ (λ far. ((tt, tt), far)) (λ u. u);
-  reports = λ page told k is. safely k _ _ (λ far. ((tt, tt), far)) (λ u. u);
 }
 
 -- ---- from the opening on

@@ -44,11 +44,22 @@ having_done d k = record { host = after_lines d.lines k.host; policy = d.policy 
 abbrev pub doing : Policy → List Line → Doing
 doing p lines = record { policy = p; lines = lines }
 
--- A relation of a host, of lines that it performs, and of what it is afterwards. It holds of each step of a policy, and of steps
--- one after the other.
-pub record HoldsOfSteps (R : Keeping → List Line → Keeping → Type 0) : Type 0 where
+-- A relation of a host, of lines that it performs, and of what it is afterwards. It holds of each step that is due or has its turn,
+-- and of steps one after the other.
+pub record HoldsOfDue (R : Keeping → List Line → Keeping → Type 0) : Type 0 where
   pub nothing : (k : Keeping) → R k [] k
   pub both : (k m n : Keeping) (one other : List Line) → R k one m → R m other n → R k (one ++ other) n
+  pub wants : (name : NameValue) (anew : Bool) (k : Keeping) → R k (want name anew (sees k.host) k.policy).lines (after_doing (want name anew) k)
+  pub turned : (t : Turns) (k : Keeping) → R k [] (with_policy (record k.policy { turns = t }) k)
+  pub answers : (k : Keeping) → is_due (present k.host) k.policy.questions.answer ≡ true
+      → R k (map (λ page. Says (state_of (view_of k.host) page)) (take 64 (pages_of k.host.is.held))) (having_done (doing (after_answer (present k.host) k.policy) (map (λ page. Says (state_of (view_of k.host) page)) (take 64 (pages_of k.host.is.held)))) k)
+  pub asks_pages : (k : Keeping) → is_due (present k.host) k.policy.questions.ask ≡ true → R k (Says (AskPages k.host.is.number) ∷ []) (with_policy (after_question (present k.host) k.policy) k)
+  pub reports : (page : PageId) (told : Option ℕ) (k : Keeping) → nat_le k.policy.reports.due (present k.host) ≡ true
+      → R k (reports_page page (slice_after told (report_of k.host.is.held page)) (sees k.host) k.policy).lines (after_doing (reports_page page (slice_after told (report_of k.host.is.held page))) k)
+
+-- It holds of each step of a policy.
+pub record HoldsOfSteps (R : Keeping → List Line → Keeping → Type 0) : Type 0 where
+  pub due : HoldsOfDue R
   pub ticks : (now : ℕ) (k : Keeping) → present k.host ≤ now → R k (Ticks now ∷ []) (having (Ticks now) k)
   pub arrives : (d : DrawopValue) (k : Keeping) → R k (Arrives d ∷ []) (having (Arrives d) k)
   pub answered : (d : DrawopValue) (k : Keeping) → holds (view_of k.host) d.name ≡ false → is_asked (view_of k.host) d.name ≡ true → R k (Arrives d ∷ []) (with_policy (after_came k.policy) (having (Arrives d) k))
@@ -57,22 +68,14 @@ pub record HoldsOfSteps (R : Keeping → List Line → Keeping → Type 0) : Typ
   pub stops : (name : NameValue) (k : Keeping) → is_full (view_of k.host) ≡ true → R k (Stops name ∷ []) (having (Stops name) k)
   pub sets : (source micros : ℕ) (k : Keeping) → R k (SetsDistance source (bounded micros) ∷ []) (having (SetsDistance source (bounded micros)) k)
   pub tunes : (constants : Tuning) (k : Keeping) → are_constants constants ≡ true → R k (Tunes constants ∷ []) (having (Tunes constants) k)
-  pub wants : (name : NameValue) (anew : Bool) (k : Keeping) → R k (want name anew (sees k.host) k.policy).lines (after_doing (want name anew) k)
   pub draws : (d : DrawopValue) (k : Keeping) → R k (Says (Draw d) ∷ []) (having (Says (Draw d)) k)
-  pub turned : (t : Turns) (k : Keeping) → R k [] (with_policy (record k.policy { turns = t }) k)
   pub measured : (micros : ℕ) (k : Keeping) → R k [] (with_policy (with_distance micros k.policy) k)
   pub told : (k : Keeping) → R k [] (with_policy (after_state (present k.host) k.policy) k)
   pub takes_up : (k : Keeping) → is_to_answer (present k.host) (nat_lt 0 (length k.host.is.held)) k.policy.questions ≡ true → R k [] (with_policy (after_taking_up (present k.host) k.policy) k)
-  pub answers : (k : Keeping) → is_due (present k.host) k.policy.questions.answer ≡ true
-      → R k (map (λ page. Says (state_of (view_of k.host) page)) (take 64 (pages_of k.host.is.held))) (having_done (doing (after_answer (present k.host) k.policy) (map (λ page. Says (state_of (view_of k.host) page)) (take 64 (pages_of k.host.is.held)))) k)
-  pub asks_pages : (k : Keeping) → is_due (present k.host) k.policy.questions.ask ≡ true → R k (Says (AskPages k.host.is.number) ∷ []) (with_policy (after_question (present k.host) k.policy) k)
-  pub reports : (page : PageId) (told : Option ℕ) (k : Keeping) → nat_le k.policy.reports.due (present k.host) ≡ true
-      → R k (reports_page page (slice_after told (report_of k.host.is.held page)) (sees k.host) k.policy).lines (after_doing (reports_page page (slice_after told (report_of k.host.is.held page))) k)
 
 -- The same, where a session message of another is one step with the distance that it tells.
 pub record HoldsOfParts (R : Keeping → List Line → Keeping → Type 0) : Type 0 where
-  pub nothing : (k : Keeping) → R k [] k
-  pub both : (k m n : Keeping) (one other : List Line) → R k one m → R m other n → R k (one ++ other) n
+  pub due : HoldsOfDue R
   pub ticks : (now : ℕ) (k : Keeping) → present k.host ≤ now → R k (Ticks now ∷ []) (having (Ticks now) k)
   pub arrives : (d : DrawopValue) (k : Keeping) → R k (Arrives d ∷ []) (having (Arrives d) k)
   pub answered : (d : DrawopValue) (k : Keeping) → holds (view_of k.host) d.name ≡ false → is_asked (view_of k.host) d.name ≡ true → R k (Arrives d ∷ []) (with_policy (after_came k.policy) (having (Arrives d) k))
@@ -85,33 +88,25 @@ pub record HoldsOfParts (R : Keeping → List Line → Keeping → Type 0) : Typ
       R k (Hears (Session sender sent page marks echo) ∷ d.lines) (having_done d m)
   pub stops : (name : NameValue) (k : Keeping) → is_full (view_of k.host) ≡ true → R k (Stops name ∷ []) (having (Stops name) k)
   pub tunes : (constants : Tuning) (k : Keeping) → are_constants constants ≡ true → R k (Tunes constants ∷ []) (having (Tunes constants) k)
-  pub wants : (name : NameValue) (anew : Bool) (k : Keeping) → R k (want name anew (sees k.host) k.policy).lines (after_doing (want name anew) k)
   pub draws : (d : DrawopValue) (k : Keeping) → R k (Says (Draw d) ∷ []) (having (Says (Draw d)) k)
-  pub turned : (t : Turns) (k : Keeping) → R k [] (with_policy (record k.policy { turns = t }) k)
   pub told : (k : Keeping) → R k [] (with_policy (after_state (present k.host) k.policy) k)
   pub takes_up : (k : Keeping) → is_to_answer (present k.host) (nat_lt 0 (length k.host.is.held)) k.policy.questions ≡ true → R k [] (with_policy (after_taking_up (present k.host) k.policy) k)
-  pub answers : (k : Keeping) → is_due (present k.host) k.policy.questions.answer ≡ true
-      → R k (map (λ page. Says (state_of (view_of k.host) page)) (take 64 (pages_of k.host.is.held))) (having_done (doing (after_answer (present k.host) k.policy) (map (λ page. Says (state_of (view_of k.host) page)) (take 64 (pages_of k.host.is.held)))) k)
-  pub asks_pages : (k : Keeping) → is_due (present k.host) k.policy.questions.ask ≡ true → R k (Says (AskPages k.host.is.number) ∷ []) (with_policy (after_question (present k.host) k.policy) k)
-  pub reports : (page : PageId) (told : Option ℕ) (k : Keeping) → nat_le k.policy.reports.due (present k.host) ≡ true
-      → R k (reports_page page (slice_after told (report_of k.host.is.held page)) (sees k.host) k.policy).lines (after_doing (reports_page page (slice_after told (report_of k.host.is.held page))) k)
 
 -- what is so of each step is so of these
 module _ (R : Keeping → List Line → Keeping → Type 0) (is : HoldsOfSteps R) where
   measured_holds : (sender : ℕ) (distance : Option ℕ) (k : Keeping) → let d = measures sender distance (sees k.host) k.policy in R k d.lines (having_done d k)
-  measured_holds sender None k = is.nothing k
+  measured_holds sender None k = is.due.nothing k
   measured_holds sender (Some micros) k = by (nat_eq (bounded micros) micros) where
     p : Policy
     p = with_distance micros k.policy
 
     by : (b : Bool) → let d = doing p (cond b [] (SetsDistance sender (bounded micros) ∷ [])) in R k d.lines (having_done d k)
     by true = is.measured micros k
-    by false = is.both k (with_policy p k) (having_done (doing p (SetsDistance sender (bounded micros) ∷ [])) k) [] (SetsDistance sender (bounded micros) ∷ []) (is.measured micros k) (is.sets sender micros (with_policy p k))
+    by false = is.due.both k (with_policy p k) (having_done (doing p (SetsDistance sender (bounded micros) ∷ [])) k) [] (SetsDistance sender (bounded micros) ∷ []) (is.measured micros k) (is.sets sender micros (with_policy p k))
 
   parts_hold : HoldsOfParts R
   parts_hold = record {
-    nothing = is.nothing;
-    both = is.both;
+    due = is.due;
     ticks = is.ticks;
     arrives = is.arrives;
     answered = is.answered;
@@ -122,24 +117,19 @@ module _ (R : Keeping → List Line → Keeping → Type 0) (is : HoldsOfSteps R
         let v = Session sender sent page marks echo in
         let m = having (Hears v) k in
         let d = measures sender (distance_in (present k.host) echo) (sees m.host) k.policy in
-        is.both k m (having_done d m) (Hears v ∷ []) d.lines (is.hears v k) (measured_holds sender (distance_in (present k.host) echo) m);
+        is.due.both k m (having_done d m) (Hears v ∷ []) d.lines (is.hears v k) (measured_holds sender (distance_in (present k.host) echo) m);
     stops = is.stops;
     tunes = is.tunes;
-    wants = is.wants;
     draws = is.draws;
-    turned = is.turned;
     told = is.told;
     takes_up = is.takes_up;
-    answers = is.answers;
-    asks_pages = is.asks_pages;
-    reports = is.reports;
   }
 
 pub either : (P : Doing → Type 0) (b : Bool) (one other : Doing) → (b ≡ true → P one) → (b ≡ false → P other) → P (cond b one other)
 either P true one other first second = first refl
 either P false one other first second = second refl
 
-module _ (R : Keeping → List Line → Keeping → Type 0) (is : HoldsOfParts R) where
+module _ (R : Keeping → List Line → Keeping → Type 0) where
   -- it holds of what a policy says that its host does, from a host on
   abbrev pub HoldsOf : Keeping → Doing → Type 0
   HoldsOf k d = R k d.lines (having_done d k)
@@ -150,45 +140,46 @@ module _ (R : Keeping → List Line → Keeping → Type 0) (is : HoldsOfParts R
   abbrev pub Holds : Transition → Type 0
   Holds does = (k : Keeping) → HoldsAt does k
 
-  still_holds : Holds still
+module _ (R : Keeping → List Line → Keeping → Type 0) (is : HoldsOfDue R) where
+  still_holds : Holds R still
   still_holds k = is.nothing k
 
   -- one after the other
-  behind : (k : Keeping) (d e : Doing) → HoldsOf k d → HoldsOf (having_done d k) e → HoldsOf k (doing e.policy (d.lines ++ e.lines))
+  behind : (k : Keeping) (d e : Doing) → HoldsOf R k d → HoldsOf R (having_done d k) e → HoldsOf R k (doing e.policy (d.lines ++ e.lines))
   behind k d e one other =
       let joined = is.both k (having_done d k) (having_done e (having_done d k)) d.lines e.lines one other in
       subst (λ (h : Opened). R k (d.lines ++ e.lines) (record { host = h; policy = e.policy })) (sym (after_both d.lines e.lines k.host)) joined
 
-  then_at : (first second : Transition) (k : Keeping) → HoldsAt first k → HoldsAt second (after_doing first k) → HoldsAt (and_then first second) k
+  then_at : (first second : Transition) (k : Keeping) → HoldsAt R first k → HoldsAt R second (after_doing first k) → HoldsAt R (and_then first second) k
   then_at first second k one other =
       let d = first (sees k.host) k.policy in
-      subst (λ (see : List Line → View). HoldsOf k (doing (second see d.policy).policy (d.lines ++ (second see d.policy).lines))) (sym (seen_then d.lines k.host))
+      subst (λ (see : List Line → View). HoldsOf R k (doing (second see d.policy).policy (d.lines ++ (second see d.policy).lines))) (sym (seen_then d.lines k.host))
       (behind k d (second (sees (having_done d k).host) d.policy) one other)
 
-  then_holds : (first second : Transition) → Holds first → Holds second → Holds (and_then first second)
+  then_holds : (first second : Transition) → Holds R first → Holds R second → Holds R (and_then first second)
   then_holds first second one other k = then_at first second k (one k) (other (after_doing first k))
 
   -- the same from another policy on, to which a step leads
-  from_policy : (p : Policy) (k : Keeping) (d : Doing) → R k [] (with_policy p k) → HoldsOf (with_policy p k) d → HoldsOf k d
+  from_policy : (p : Policy) (k : Keeping) (d : Doing) → R k [] (with_policy p k) → HoldsOf R (with_policy p k) d → HoldsOf R k d
   from_policy p k d step it = is.both k (with_policy p k) (having_done d k) [] d.lines step it
 
   -- ---- what is wanted
 
-  told_holds : (names : List NameValue) → Holds (want_told names)
+  pub told_holds : (names : List NameValue) → Holds R (want_told names)
   told_holds [] = still_holds
   told_holds (name ∷ names) = then_holds (want name true) (want_told names) (is.wants name true) (told_holds names)
 
-  near_holds : (names : List NameValue) → Holds (want_near names)
+  near_holds : (names : List NameValue) → Holds R (want_near names)
   near_holds [] k = is.nothing k
   near_holds (name ∷ names) k =
       let see = sees k.host in
       let p = k.policy in
-      either (HoldsOf k) (is_unasked (see []) name) (cond (is_begun (want name false see p)) (and_then (want name false) (want_near names) see p) (still see p)) (want_near names see p)
-      (λ unasked. either (HoldsOf k) (is_begun (want name false see p)) (and_then (want name false) (want_near names) see p) (still see p)
+      either (HoldsOf R k) (is_unasked (see []) name) (cond (is_begun (want name false see p)) (and_then (want name false) (want_near names) see p) (still see p)) (want_near names see p)
+      (λ unasked. either (HoldsOf R k) (is_begun (want name false see p)) (and_then (want name false) (want_near names) see p) (still see p)
       (λ begun. then_holds (want name false) (want_near names) (is.wants name false) (near_holds names) k) (λ not_begun. is.nothing k))
       (λ asked. near_holds names k)
 
-  turn_to_holds : (next first : Option Hole) → Holds (turn_to next first)
+  turn_to_holds : (next first : Option Hole) → Holds R (turn_to next first)
   turn_to_holds (Some h) first k =
       let p = after_turn h k.policy in
       from_policy p k (want (name_in k.policy.turns.round h) true (sees k.host) p) (is.turned p.turns k) (is.wants (name_in k.policy.turns.round h) true (with_policy p k))
@@ -198,88 +189,89 @@ module _ (R : Keeping → List Line → Keeping → Type 0) (is : HoldsOfParts R
       from_policy p k (want (name_in q.turns.round h) true (sees k.host) p) (is.turned p.turns k) (is.wants (name_in q.turns.round h) true (with_policy p k))
   turn_to_holds None None k = is.turned (in_next_round k.policy).turns k
 
-  turn_holds : Holds turn
+  pub turn_holds : Holds R turn
   turn_holds k = turn_to_holds (hole_after k.host.is.held k.policy.turns.page k.policy.turns.source k.policy.turns.number) (hole_after k.host.is.held nowhere 0 0) k
 
-  stops_hold : (asked : List AskedName) (k : Keeping) → is_full (view_of k.host) ≡ true → HoldsOf k (doing k.policy (map (λ (a : AskedName). Stops a.name) asked))
-  stops_hold [] k full = is.nothing k
-  stops_hold (a ∷ asked) k full = is.both k (having (Stops a.name) k) (having_done (doing k.policy (map (λ (a : AskedName). Stops a.name) (a ∷ asked))) k) (Stops a.name ∷ []) (map (λ (a : AskedName). Stops a.name) asked) (is.stops a.name k full) (stops_hold asked (having (Stops a.name) k) full)
+  -- ---- what is due
 
-  end_holds : (k : Keeping) → is_full (view_of k.host) ≡ true → HoldsAt end k
+  answers_hold : Holds R answers
+  answers_hold k =
+      let lines = map (λ page. Says (state_of (view_of k.host) page)) (take 64 (pages_of k.host.is.held)) in
+      either (HoldsOf R k) (is_due (present k.host) k.policy.questions.answer) (doing (after_answer (present k.host) k.policy) lines) (still (sees k.host) k.policy) (is.answers k) (λ later. is.nothing k)
+
+  asks_pages_hold : Holds R asks_pages
+  asks_pages_hold k =
+      either (HoldsOf R k) (is_due (present k.host) k.policy.questions.ask) (doing (after_question (present k.host) k.policy) (Says (AskPages k.host.is.number) ∷ [])) (still (sees k.host) k.policy) (is.asks_pages k) (λ later. is.nothing k)
+
+  rest_holds : (k : Keeping) → nat_le k.policy.reports.due (present k.host) ≡ true → (marks : List MarkValue) → marks ≡ slice_after k.policy.told (report_of k.host.is.held k.policy.told_page) → HoldsAt R (reports_rest marks) k
+  rest_holds k due [] e = is.reports (page_after k.policy.told_page (pages_of k.host.is.held)) None k due
+  rest_holds k due (m ∷ marks) e = subst (λ (marks : List MarkValue). HoldsAt R (reports_page k.policy.told_page marks) k) (sym e) (is.reports k.policy.told_page k.policy.told k due)
+
+  reports_due_hold : Holds R reports_due
+  reports_due_hold k =
+      either (HoldsOf R k) (nat_le k.policy.reports.due (present k.host)) (and_then reports turn (sees k.host) k.policy) (still (sees k.host) k.policy)
+      (λ due. then_at reports turn k (rest_holds k due (slice_after k.policy.told (report_of k.host.is.held k.policy.told_page)) refl) (turn_holds (after_doing reports k))) (λ later. is.nothing k)
+
+  pub timed_holds : Holds R timed
+  timed_holds = then_holds answers (and_then asks_pages reports_due) answers_hold (then_holds asks_pages reports_due asks_pages_hold reports_due_hold)
+
+module _ (R : Keeping → List Line → Keeping → Type 0) (is : HoldsOfParts R) where
+  stops_hold : (asked : List AskedName) (k : Keeping) → is_full (view_of k.host) ≡ true → HoldsOf R k (doing k.policy (map (λ (a : AskedName). Stops a.name) asked))
+  stops_hold [] k full = is.due.nothing k
+  stops_hold (a ∷ asked) k full = is.due.both k (having (Stops a.name) k) (having_done (doing k.policy (map (λ (a : AskedName). Stops a.name) (a ∷ asked))) k) (Stops a.name ∷ []) (map (λ (a : AskedName). Stops a.name) asked) (is.stops a.name k full) (stops_hold asked (having (Stops a.name) k) full)
+
+  end_holds : (k : Keeping) → is_full (view_of k.host) ≡ true → HoldsAt R end k
   end_holds k full = stops_hold (view_of k.host).asked k full
 
   -- a drawop came that was asked for, which costs nothing by now; one came that was not
-  asked_holds : (name : NameValue) (k : Keeping) → HoldsOf (with_policy (after_came k.policy) k) (with_room_done name true (sees k.host) k.policy)
+  asked_holds : (name : NameValue) (k : Keeping) → HoldsOf R (with_policy (after_came k.policy) k) (with_room_done name true (sees k.host) k.policy)
   asked_holds name k =
       let see = sees k.host in
       let p = after_came k.policy in
       let paid = with_policy p k in
       let near = near_here name true see k.policy in
-      either (HoldsOf paid) (lacks_here name true see k.policy) (want_near near see p) (turn see p) (λ lacks. near_holds near paid) (λ has. turn_holds paid)
+      either (HoldsOf R paid) (lacks_here name true see k.policy) (want_near near see p) (turn see p) (λ lacks. near_holds R is.due near paid) (λ has. turn_holds R is.due paid)
 
-  unasked_holds : (name : NameValue) (k : Keeping) → HoldsOf k (with_room_done name false (sees k.host) k.policy)
+  unasked_holds : (name : NameValue) (k : Keeping) → HoldsOf R k (with_room_done name false (sees k.host) k.policy)
   unasked_holds name k =
       let see = sees k.host in
       let near = near_here name false see k.policy in
-      either (HoldsOf k) (lacks_here name false see k.policy) (want_near near see k.policy) (still see k.policy) (λ lacks. near_holds near k) (λ has. is.nothing k)
+      either (HoldsOf R k) (lacks_here name false see k.policy) (want_near near see k.policy) (still see k.policy) (λ lacks. near_holds R is.due near k) (λ has. is.due.nothing k)
 
-  -- ---- what is due
-
-  answers_hold : Holds answers
-  answers_hold k =
-      let lines = map (λ page. Says (state_of (view_of k.host) page)) (take 64 (pages_of k.host.is.held)) in
-      either (HoldsOf k) (is_due (present k.host) k.policy.questions.answer) (doing (after_answer (present k.host) k.policy) lines) (still (sees k.host) k.policy) (is.answers k) (λ later. is.nothing k)
-
-  asks_pages_hold : Holds asks_pages
-  asks_pages_hold k =
-      either (HoldsOf k) (is_due (present k.host) k.policy.questions.ask) (doing (after_question (present k.host) k.policy) (Says (AskPages k.host.is.number) ∷ [])) (still (sees k.host) k.policy) (is.asks_pages k) (λ later. is.nothing k)
-
-  rest_holds : (k : Keeping) → nat_le k.policy.reports.due (present k.host) ≡ true → (marks : List MarkValue) → marks ≡ slice_after k.policy.told (report_of k.host.is.held k.policy.told_page) → HoldsAt (reports_rest marks) k
-  rest_holds k due [] e = is.reports (page_after k.policy.told_page (pages_of k.host.is.held)) None k due
-  rest_holds k due (m ∷ marks) e = subst (λ (marks : List MarkValue). HoldsAt (reports_page k.policy.told_page marks) k) (sym e) (is.reports k.policy.told_page k.policy.told k due)
-
-  reports_due_hold : Holds reports_due
-  reports_due_hold k =
-      either (HoldsOf k) (nat_le k.policy.reports.due (present k.host)) (and_then reports turn (sees k.host) k.policy) (still (sees k.host) k.policy)
-      (λ due. then_at reports turn k (rest_holds k due (slice_after k.policy.told (report_of k.host.is.held k.policy.told_page)) refl) (turn_holds (after_doing reports k))) (λ later. is.nothing k)
-
-  timed_holds : Holds timed
-  timed_holds = then_holds answers (and_then asks_pages reports_due) answers_hold (then_holds asks_pages reports_due asks_pages_hold reports_due_hold)
-
-  ends_hold : Holds ends_full
-  ends_hold k = either (HoldsOf k) (is_full (view_of k.host)) (end (sees k.host) k.policy) (still (sees k.host) k.policy) (λ full. end_holds k full) (λ room. is.nothing k)
+  ends_hold : Holds R ends_full
+  ends_hold k = either (HoldsOf R k) (is_full (view_of k.host)) (end (sees k.host) k.policy) (still (sees k.host) k.policy) (λ full. end_holds k full) (λ room. is.due.nothing k)
 
   -- ---- what comes in
 
   -- a drawop that is new
-  came_in : (d : DrawopValue) (k : Keeping) (was : Bool) → is_asked (view_of k.host) d.name ≡ was → holds (view_of k.host) d.name ≡ false → HoldsAt (and_then (performs (Arrives d)) (learned d.name was)) k
+  came_in : (d : DrawopValue) (k : Keeping) (was : Bool) → is_asked (view_of k.host) d.name ≡ was → holds (view_of k.host) d.name ≡ false → HoldsAt R (and_then (performs (Arrives d)) (learned d.name was)) k
   came_in d k was asked lacks =
       let m = having (Arrives d) k in
       let see = sees m.host in
-      either (λ (e : Doing). HoldsOf k (doing e.policy (Arrives d ∷ e.lines))) (is_full (view_of m.host)) (end see m.policy) (with_room_done d.name was see m.policy)
-      (λ full. is.both k m (having_done (end see m.policy) m) (Arrives d ∷ []) (end see m.policy).lines (is.arrives d k) (end_holds m full))
+      either (λ (e : Doing). HoldsOf R k (doing e.policy (Arrives d ∷ e.lines))) (is_full (view_of m.host)) (end see m.policy) (with_room_done d.name was see m.policy)
+      (λ full. is.due.both k m (having_done (end see m.policy) m) (Arrives d ∷ []) (end see m.policy).lines (is.arrives d k) (end_holds m full))
       (λ room. by was asked) where
         room_left : Bool → Doing
         room_left b = with_room_done d.name b (sees (having (Arrives d) k).host) k.policy
 
-        by : (b : Bool) → is_asked (view_of k.host) d.name ≡ b → HoldsOf k (doing (room_left b).policy (Arrives d ∷ (room_left b).lines))
+        by : (b : Bool) → is_asked (view_of k.host) d.name ≡ b → HoldsOf R k (doing (room_left b).policy (Arrives d ∷ (room_left b).lines))
         by true e =
             let m = having (Arrives d) k in
-            is.both k (with_policy (after_came k.policy) m) (having_done (room_left true) m) (Arrives d ∷ []) (room_left true).lines (is.answered d k lacks e) (asked_holds d.name m)
+            is.due.both k (with_policy (after_came k.policy) m) (having_done (room_left true) m) (Arrives d ∷ []) (room_left true).lines (is.answered d k lacks e) (asked_holds d.name m)
         by false e =
             let m = having (Arrives d) k in
-            is.both k m (having_done (room_left false) m) (Arrives d ∷ []) (room_left false).lines (is.arrives d k) (unasked_holds d.name m)
+            is.due.both k m (having_done (room_left false) m) (Arrives d ∷ []) (room_left false).lines (is.arrives d k) (unasked_holds d.name m)
 
-  takes_holds : (d : DrawopValue) → Holds (takes d)
+  takes_holds : (d : DrawopValue) → Holds R (takes d)
   takes_holds d k = by (holds (view_of k.host) d.name) refl where
     new : Doing
     new = and_then (performs (Arrives d)) (learned d.name (is_asked (view_of k.host) d.name)) (sees k.host) k.policy
 
-    by : (b : Bool) → holds (view_of k.host) d.name ≡ b → HoldsOf k (cond (b || is_full (view_of k.host)) (performs (Arrives d) (sees k.host) k.policy) new)
+    by : (b : Bool) → holds (view_of k.host) d.name ≡ b → HoldsOf R k (cond (b || is_full (view_of k.host)) (performs (Arrives d) (sees k.host) k.policy) new)
     by true e = is.arrives d k
-    by false e = either (HoldsOf k) (is_full (view_of k.host)) (performs (Arrives d) (sees k.host) k.policy) new (λ full. is.arrives d k) (λ room. came_in d k (is_asked (view_of k.host) d.name) refl e)
+    by false e = either (HoldsOf R k) (is_full (view_of k.host)) (performs (Arrives d) (sees k.host) k.policy) new (λ full. is.arrives d k) (λ room. came_in d k (is_asked (view_of k.host) d.name) refl e)
 
-  session_holds : (sender sent : ℕ) (page : PageId) (marks : List MarkValue) (echoes : List Echo) (k : Keeping) → nat_eq sender k.host.is.number ≡ false → HoldsAt (hears_session sender sent page marks echoes) k
+  session_holds : (sender sent : ℕ) (page : PageId) (marks : List MarkValue) (echoes : List Echo) (k : Keeping) → nat_eq sender k.host.is.number ≡ false → HoldsAt R (hears_session sender sent page marks echoes) k
   session_holds sender sent page marks echoes k other =
       let v = view_of k.host in
       let own = own_marks v.me (nat_lt v.now k.policy.ready) marks in
@@ -290,32 +282,32 @@ module _ (R : Keeping → List Line → Keeping → Type 0) (is : HoldsOfParts R
       let two = measures sender (distance_in v.now echo) (sees m.host) k.policy in
       let behind = having_done two m in
       let three = want_told names (sees behind.host) two.policy in
-      let joined : R k (line ∷ (two.lines ++ three.lines)) (having_done three behind) = is.both k behind (having_done three behind) (line ∷ two.lines) three.lines (is.hears_distance sender sent page own echoes k other) (told_holds names behind) in
+      let joined : R k (line ∷ (two.lines ++ three.lines)) (having_done three behind) = is.due.both k behind (having_done three behind) (line ∷ two.lines) three.lines (is.hears_distance sender sent page own echoes k other) (told_holds R is.due names behind) in
       let there = subst (λ (h : Opened). R k (line ∷ (two.lines ++ three.lines)) (record { host = h; policy = three.policy })) (sym (after_both two.lines three.lines m.host)) joined in
-      subst (λ (see : List Line → View). let e = want_told names see two.policy in HoldsOf k (doing e.policy (line ∷ (two.lines ++ e.lines)))) (sym (seen_then two.lines m.host)) there
+      subst (λ (see : List Line → View). let e = want_told names see two.policy in HoldsOf R k (doing e.policy (line ∷ (two.lines ++ e.lines)))) (sym (seen_then two.lines m.host)) there
 
-  some_hold : (sender : ℕ) (page : PageId) (marks : List MarkValue) → Holds (hears_some sender page marks)
-  some_hold sender page [] k = is.nothing k
+  some_hold : (sender : ℕ) (page : PageId) (marks : List MarkValue) → Holds R (hears_some sender page marks)
+  some_hold sender page [] k = is.due.nothing k
   some_hold sender page (m ∷ marks) k = is.hears_marks sender page (m ∷ marks) k
 
-  state_holds : (sender : ℕ) (page : PageId) (marks : List MarkValue) → Holds (hears_state sender page marks)
+  state_holds : (sender : ℕ) (page : PageId) (marks : List MarkValue) → Holds R (hears_state sender page marks)
   state_holds sender page marks k =
       let v = view_of k.host in
       let own = own_marks v.me (nat_lt v.now k.policy.ready) marks in
       let p = after_state v.now k.policy in
       let does = and_then (hears_some sender page own) (want_told (told_names v.me page marks)) in
-      from_policy p k (does (sees k.host) p) (is.told k) (then_holds (hears_some sender page own) (want_told (told_names v.me page marks)) (some_hold sender page own) (told_holds (told_names v.me page marks)) (with_policy p k))
+      from_policy R is.due p k (does (sees k.host) p) (is.told k) (then_holds R is.due (hears_some sender page own) (want_told (told_names v.me page marks)) (some_hold sender page own) (told_holds R is.due (told_names v.me page marks)) (with_policy p k))
 
-  question_holds : Holds takes_question
+  question_holds : Holds R takes_question
   question_holds k =
       let p = after_taking_up (present k.host) k.policy in
-      either (HoldsOf k) (is_to_answer (present k.host) (nat_lt 0 (length k.host.is.held)) k.policy.questions) (still (sees k.host) p) (still (sees k.host) k.policy)
-      (λ takes. is.takes_up k takes) (λ not_taken. is.nothing k)
+      either (HoldsOf R k) (is_to_answer (present k.host) (nat_lt 0 (length k.host.is.held)) k.policy.questions) (still (sees k.host) p) (still (sees k.host) k.policy)
+      (λ takes. is.takes_up k takes) (λ not_taken. is.due.nothing k)
 
-  of_other_holds : (sender : ℕ) (does : Transition) (k : Keeping) → (nat_eq sender k.host.is.number ≡ false → HoldsAt does k) → HoldsOf k (cond (nat_eq sender k.host.is.number) (still (sees k.host) k.policy) (does (sees k.host) k.policy))
-  of_other_holds sender does k it = either (HoldsOf k) (nat_eq sender k.host.is.number) (still (sees k.host) k.policy) (does (sees k.host) k.policy) (λ own. is.nothing k) it
+  of_other_holds : (sender : ℕ) (does : Transition) (k : Keeping) → (nat_eq sender k.host.is.number ≡ false → HoldsAt R does k) → HoldsOf R k (cond (nat_eq sender k.host.is.number) (still (sees k.host) k.policy) (does (sees k.host) k.policy))
+  of_other_holds sender does k it = either (HoldsOf R k) (nat_eq sender k.host.is.number) (still (sees k.host) k.policy) (does (sees k.host) k.policy) (λ own. is.due.nothing k) it
 
-  hears_holds : (v : Datagram) → Holds (hears v)
+  hears_holds : (v : Datagram) → Holds R (hears v)
   hears_holds (Draw d) k = takes_holds d k
   hears_holds (Session sender sent page marks echoes) k = of_other_holds sender (hears_session sender sent page marks echoes) k (session_holds sender sent page marks echoes k)
   hears_holds (PageState sender page marks) k = of_other_holds sender (hears_state sender page marks) k (λ other. state_holds sender page marks k)
@@ -336,28 +328,28 @@ module _ (R : Keeping → List Line → Keeping → Type 0) (is : HoldsOfParts R
   in_range true e = refl
   in_range false e = absurd cc
 
-  pub line_of_parts : (line : KeptLine) (k : Keeping) → fault_of line k ≡ None → HoldsAt (doing_of line) k
+  pub line_of_parts : (line : KeptLine) (k : Keeping) → fault_of line k ≡ None → HoldsAt R (doing_of line) k
   line_of_parts (Came now v) k none =
       let first = performs (Ticks now) in
       let later = leb-true _ _ (on_time (nat_le (present k.host) now) _ none) in
-      then_at first (and_then (hears v) timed) k (is.ticks now k later) (then_holds (hears v) timed (hears_holds v) timed_holds (after_doing first k))
+      then_at R is.due first (and_then (hears v) timed) k (is.ticks now k later) (then_holds R is.due (hears v) timed (hears_holds v) (timed_holds R is.due) (after_doing first k))
   line_of_parts (Ticked now) k none =
       let later = leb-true _ _ (on_time (nat_le (present k.host) now) _ none) in
-      then_at (performs (Ticks now)) timed k (is.ticks now k later) (timed_holds (after_doing (performs (Ticks now)) k))
+      then_at R is.due (performs (Ticks now)) timed k (is.ticks now k later) (timed_holds R is.due (after_doing (performs (Ticks now)) k))
   line_of_parts (Added now page time op) k none =
       let first = performs (Ticks now) in
       let second = draws_it page time op in
       let later = leb-true _ _ (on_time (nat_le (present k.host) now) _ (first_none _ _ none)) in
-      then_at first (and_then second (and_then ends_full timed)) k (is.ticks now k later)
-      (then_holds second (and_then ends_full timed) (λ k. is.draws (drawing (view_of k.host) page time op) k) (then_holds ends_full timed ends_hold timed_holds) (after_doing first k))
+      then_at R is.due first (and_then second (and_then ends_full timed)) k (is.ticks now k later)
+      (then_holds R is.due second (and_then ends_full timed) (λ k. is.draws (drawing (view_of k.host) page time op) k) (then_holds R is.due ends_full timed ends_hold (timed_holds R is.due)) (after_doing first k))
   line_of_parts (Tuned constants) k none = is.tunes constants k (in_range (are_constants constants) none)
 
   -- all that a kept host does
   pub all_parts_hold : (lines : List KeptLine) (k : Keeping) → AreTaken lines k → R k (expand lines k) (after_kept lines k)
-  all_parts_hold [] k taken = is.nothing k
+  all_parts_hold [] k taken = is.due.nothing k
   all_parts_hold (line ∷ lines) k taken =
       let next = after_doing (doing_of line) k in
-      is.both k next (after_kept lines next) (doing_of line (sees k.host) k.policy).lines (expand lines next) (line_of_parts line k taken.0) (all_parts_hold lines next taken.1)
+      is.due.both k next (after_kept lines next) (doing_of line (sees k.host) k.policy).lines (expand lines next) (line_of_parts line k taken.0) (all_parts_hold lines next taken.1)
 
 pub line_holds : (R : Keeping → List Line → Keeping → Type 0) → HoldsOfSteps R → (line : KeptLine) (k : Keeping) → fault_of line k ≡ None
     → let d = doing_of line (sees k.host) k.policy in R k d.lines (having_done d k)

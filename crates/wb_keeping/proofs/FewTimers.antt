@@ -1,10 +1,9 @@
 -- At most 64 request timers stand, whatever comes in.
-use Rattle.std.proofs.Common.{◌≡◌, ℕ, ◌≤◌, zero, suc, Bool, true, false, cond, List, [], ◌∷◌, ◌++◌, ◌∙◌, Option, Some, None, ap, arith, inl, inr, length, map, refl, subst, sym, ⊎_elim}
-use Rattle.std.specs.Prelude.{◌⊎◌, Contains, nat_eq, nat_le, nat_lt, take}
+use Rattle.std.proofs.Common.{◌≡◌, ℕ, ◌≤◌, zero, suc, Bool, true, false, cond, List, [], ◌∷◌, ◌++◌, ◌∙◌, ap, arith, inl, inr, length, map, refl, subst, sym, ⊎_elim}
+use Rattle.std.specs.Prelude.{◌⊎◌, Contains, nat_le, nat_lt, take}
 use Rattle.std.specs.List.{fold}
 use Rattle.std.proofs.lemmas.Bool.{leb-false, leb-true}
 use Rattle.wb_names.specs.Values.{NameValue}
-use Rattle.wb_names.specs.declared.name.PageId.{PageId}
 use Rattle.wb_names.proofs.Listings.{Contains-here, Contains-there}
 use Rattle.wb_gaps.specs.Answers.{pages_of}
 use Rattle.wb_recovery.specs.Events.{timers_of}
@@ -12,10 +11,10 @@ use Rattle.wb_recovery.specs.declared.tuning.Tuning.{Tuning}
 use Rattle.wb_member.specs.Judged.{asked_names}
 use Rattle.wb_member.specs.Opened.{Opened, events, opened_with, present}
 use Rattle.wb_keeping.specs.Bounds.{FewRequestsAtOnce, FewTimersStand, is_ask, new_keeping, timer_count}
-use Rattle.wb_keeping.specs.Kept.{Asks, Line, Says, SetsDistance, Stops, Ticks, room_lines, state_of, still, stops_oldest, usual_lines, want}
+use Rattle.wb_keeping.specs.Kept.{Asks, Line, Stops, Ticks, room_lines, still, stops_oldest, usual_lines, want}
 use Rattle.wb_keeping.specs.Laws.{AreTaken, KeptLine, expand}
 use Rattle.wb_keeping.specs.Performing.{Keeping, after_line, after_lines, sees, view_of}
-use Rattle.wb_keeping.specs.Policy.{Policy, View, after_wanting, holds, is_asked, is_full, level}
+use Rattle.wb_keeping.specs.Policy.{Policy, after_wanting, holds, is_asked, is_full, level}
 use Rattle.wb_keeping.specs.Wanting.{is_wanted, older, oldest}
 use Rattle.wb_keeping.specs.declared.wanting.AskedName.{AskedName}
 use Rattle.wb_keeping.proofs.AskedTimers.{count_seen, named}
@@ -23,6 +22,7 @@ use Rattle.wb_keeping.proofs.EachStep.{HoldsOfSteps, all_hold, doing}
 use Rattle.wb_keeping.proofs.Performed.{after_both}
 use Rattle.wb_keeping.proofs.StandingTimers.{few_requests, no_more, one_less, one_more, stands_asked, stands_in}
 use Rattle.wb_keeping.proofs.Wanted.{lines_wanted}
+use Rattle.wb_keeping.proofs.EachLine.{Each, states_each, usual_each}
 
 -- ---- before each line, and behind them
 
@@ -50,9 +50,11 @@ few_at (first ∷ one) other line host few = few_at one other line (after_line f
 
 -- ---- lines that do not ask
 
+abbrev IsNoAsk : Line → Type 0
+IsNoAsk line = is_ask line ≡ false
+
 abbrev AskNothing : List Line → Type 0
-AskNothing [] = Unit {0}
-AskNothing (line ∷ lines) = (is_ask line ≡ false) × AskNothing lines
+AskNothing lines = Each IsNoAsk lines
 
 none_more : (lines : List Line) (host : Opened) (most : ℕ) → AskNothing lines → timer_count host ≤ most → timer_count (after_lines lines host) ≤ most
 none_more [] host most none few = few
@@ -63,13 +65,6 @@ few_quietly [] host none few = few
 few_quietly (line ∷ lines) host none few = let le = no_more line host none.0 in (few, few_quietly lines (after_line line host) none.1 (omega (arith, le, few)))
 
 -- ---- a name that is wanted
-
-usual_asks_nothing : (source distance : ℕ) (usual : Option ℕ) → AskNothing (usual_lines source distance usual)
-usual_asks_nothing source distance None = tt
-usual_asks_nothing source distance (Some u) = by (nat_eq distance 100000) where
-  by : (b : Bool) → AskNothing (cond b (SetsDistance source u ∷ []) [])
-  by true = (refl, tt)
-  by false = tt
 
 asks_last : (lines : List Line) (name : NameValue) (host : Opened) → AskNothing lines → timer_count host ≤ 63 → AreFew (lines ++ Asks name ∷ []) host
 asks_last [] name host none few = let le = one_more name host in (omega (arith, few), omega (arith, le, few))
@@ -122,7 +117,7 @@ wanted_few name anew k few = by (is_wanted (holds (view_of k.host) name) (is_ful
   by true =
       let usual = usual_lines name.source ((view_of k.host).distance name.source) k.policy.usual in
       let room = room_made name k.host few in
-      few_both (room_lines name (view_of k.host)) (usual ++ Asks name ∷ []) k.host room.0 (asks_last usual name (after_lines (room_lines name (view_of k.host)) k.host) (usual_asks_nothing name.source ((view_of k.host).distance name.source) k.policy.usual) room.1)
+      few_both (room_lines name (view_of k.host)) (usual ++ Asks name ∷ []) k.host room.0 (asks_last usual name (after_lines (room_lines name (view_of k.host)) k.host) (usual_each IsNoAsk name.source ((view_of k.host).distance name.source) k.policy.usual (λ micros e. refl)) room.1)
 
 -- ---- all that a kept host does
 
@@ -142,14 +137,17 @@ both_few k m n one other a b = record {
       few_both one other k.host first (subst (AreFew other) a.at (b.few (subst (λ (h : Opened). timer_count h ≤ 64) (sym a.at) last)));
 }
 
-says_ask_nothing : (v : View) (pages : List PageId) → AskNothing (map (λ (page : PageId). Says (state_of v page)) pages)
-says_ask_nothing v [] = tt
-says_ask_nothing v (page ∷ pages) = (refl, says_ask_nothing v pages)
-
 steps_keep_few : HoldsOfSteps KeepsFew
 steps_keep_few = record {
-  nothing = λ k. quietly k [] k.policy tt;
-  both = both_few;
+  due = record {
+    nothing = λ k. quietly k [] k.policy tt;
+    both = both_few;
+    wants = λ name anew k. record { at = refl; few = wanted_few name anew k };
+    turned = λ t k. quietly k [] _ tt;
+    answers = λ k is. quietly k _ _ (states_each IsNoAsk (view_of k.host) (λ page. refl) (take 64 (pages_of k.host.is.held)));
+    asks_pages = λ k is. quietly k _ _ (refl, tt);
+    reports = λ page told k is. quietly k _ _ (refl, tt);
+  };
   ticks = λ now k later. quietly k (Ticks now ∷ []) k.policy (refl, tt);
   arrives = λ d k. quietly k _ k.policy (refl, tt);
   answered = λ d k lacks asked. quietly k _ _ (refl, tt);
@@ -157,15 +155,10 @@ steps_keep_few = record {
   stops = λ name k full. quietly k _ k.policy (refl, tt);
   sets = λ source micros k. quietly k _ k.policy (refl, tt);
   tunes = λ constants k within. quietly k _ k.policy (refl, tt);
-  wants = λ name anew k. record { at = refl; few = wanted_few name anew k };
   draws = λ d k. quietly k _ k.policy (refl, tt);
-  turned = λ t k. quietly k [] _ tt;
   measured = λ micros k. quietly k [] _ tt;
   told = λ k. quietly k [] _ tt;
   takes_up = λ k is. quietly k [] _ tt;
-  answers = λ k is. quietly k _ _ (says_ask_nothing (view_of k.host) (take 64 (pages_of k.host.is.held)));
-  asks_pages = λ k is. quietly k _ _ (refl, tt);
-  reports = λ page told k is. quietly k _ _ (refl, tt);
 }
 
 -- none stands at first

@@ -7,6 +7,7 @@ pub mod Performed
 pub mod AskedTimers
 pub mod FilledHoles
 pub mod Wanted
+pub mod EachLine
 pub mod OneByOne
 pub mod LeftSome
 pub mod KeptHosts

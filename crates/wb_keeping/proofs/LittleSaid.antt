@@ -1,6 +1,6 @@
 -- How many names a kept host asks for, and how often it speaks of itself.
 use Rattle.std.proofs.Common.{◌≡◌, ℕ, zero, suc, ◌+◌, ◌-◌, ◌*◌, ◌≤◌, Bool, true, false, cond, List, [], ◌∷◌, ◌++◌, ◌∙◌, Option, Some, None, ap, arith, filter, length, length-append, map, max, min, refl, subst, sym, true≢false}
-use Rattle.std.specs.Prelude.{IfSome, IsTrue, ◌&&◌, ◌/◌, is_none, nat_eq, nat_le, nat_lt, not, take}
+use Rattle.std.specs.Prelude.{IfSome, IsTrue, ◌&&◌, ◌/◌, is_none, nat_le, nat_lt, not, take}
 use Rattle.std.proofs.lemmas.Bool.{leb-true}
 use Rattle.std.proofs.lemmas.Bool.Decides.{nat_tests}
 use Rattle.std.proofs.lemmas.List.{length-take}
@@ -16,19 +16,20 @@ use Rattle.wb_member.specs.Random.{word_of}
 use Rattle.wb_keeping.specs.Bounds.{FewNamesAreAsked, LittleIsSaid, answer_count, ask_count, is_ask, is_question, is_report, is_state}
 use Rattle.wb_keeping.specs.Credit.{has_credit}
 use Rattle.wb_keeping.specs.Distances.{bounded}
-use Rattle.wb_keeping.specs.Kept.{Arrives, Asks, Doing, Hears, Line, Says, SetsDistance, Tunes, Stops, Ticks, last_heard, reports_page, room_lines, state_of, still, stops_oldest, usual_lines, want}
+use Rattle.wb_keeping.specs.Kept.{Arrives, Asks, Doing, Hears, Line, Says, SetsDistance, Tunes, Stops, Ticks, last_heard, reports_page, room_lines, state_of, still, usual_lines, want}
 use Rattle.wb_keeping.specs.Laws.{AreTaken, KeptLine, after_kept, expand}
 use Rattle.wb_keeping.specs.Performing.{Keeping, after_doing, after_line, after_lines, sees, view_of}
 use Rattle.wb_keeping.specs.Policy.{Policy, View, after_answer, after_came, after_question, after_state, after_taking_up, after_wanting, draws, holds, is_asked, is_full, level}
 use Rattle.wb_keeping.specs.Questions.{answered_at, heard_at, is_due, is_to_answer, to_answer}
 use Rattle.wb_keeping.specs.Reports.{mean_time, members_in, slice_after}
-use Rattle.wb_keeping.specs.Wanting.{goes_on, is_wanted, oldest}
+use Rattle.wb_keeping.specs.Wanting.{goes_on, is_wanted}
 use Rattle.wb_keeping.specs.declared.questions.Questions.{Questions}
-use Rattle.wb_keeping.specs.declared.wanting.AskedName.{AskedName}
 use Rattle.wb_keeping.proofs.EachStep.{HoldsOfSteps, all_hold, doing, having, having_done, with_policy}
 use Rattle.wb_keeping.proofs.KeptLines.{all_hold as all_four}
 use Rattle.wb_keeping.proofs.Performed.{after_both}
 use Rattle.wb_keeping.proofs.Spending.{IsPaid, one_asked, one_came}
+use Rattle.wb_keeping.proofs.EachLine.{Each, room_each, usual_each}
+use Rattle.wb_keeping.proofs.Saying.{says_after}
 
 -- ---- what is spaced
 
@@ -148,8 +149,7 @@ IsPlain (Tunes constants) = Unit {0}
 IsPlain (Says v) = ⊥
 
 abbrev ArePlain : List Line → Type 0
-ArePlain [] = Unit {0}
-ArePlain (line ∷ lines) = IsPlain line × ArePlain lines
+ArePlain lines = Each IsPlain lines
 
 present_heard : (v : Datagram) (host : Opened) (b : Bool) → present (cond b (heard v host) host) ≡ present host
 present_heard v host true = refl
@@ -304,21 +304,6 @@ ticks_keep now k later = record {
 
 -- ---- a name is wanted
 
-usual_plain : (source distance : ℕ) (usual : Option ℕ) → ArePlain (usual_lines source distance usual)
-usual_plain source distance None = tt
-usual_plain source distance (Some u) = by (nat_eq distance 100000) where
-  by : (b : Bool) → ArePlain (cond b (SetsDistance source u ∷ []) [])
-  by true = (tt, tt)
-  by false = tt
-
-room_plain : (name : NameValue) (v : View) → ArePlain (room_lines name v)
-room_plain name v = by (is_asked v name) (nat_le 64 (length v.asked)) (oldest v.asked) where
-  by : (a b : Bool) (o : Option AskedName) → ArePlain (cond a (Stops name ∷ []) (cond b (stops_oldest o) []))
-  by true b o = (tt, tt)
-  by false true None = tt
-  by false true (Some a) = (tt, tt)
-  by false false o = tt
-
 -- the name is asked for last, and paid for
 asks_keep : (name : NameValue) (k : Keeping) → IsTrue (has_credit k.policy.owed (present k.host)) → Keeps k (Asks name ∷ []) (with_policy (after_wanting (present k.host) k.policy) (having (Asks name) k))
 asks_keep name k credit = record {
@@ -353,6 +338,12 @@ wants_keep name anew k = by (is_wanted (holds v name) (is_full v) anew (level v 
   usual : List Line
   usual = usual_lines name.source (v.distance name.source) k.policy.usual
 
+  room_plain : ArePlain room
+  room_plain = room_each IsPlain (λ name. tt) name v
+
+  usual_plain : ArePlain usual
+  usual_plain = usual_each IsPlain name.source (v.distance name.source) k.policy.usual (λ micros e. tt)
+
   wanted : Doing
   wanted = doing (after_wanting (present k.host) k.policy) (room ++ (usual ++ Asks name ∷ []))
 
@@ -362,10 +353,10 @@ wants_keep name anew k = by (is_wanted (holds v name) (is_full v) anew (level v 
       let credit = (all_four (holds v name) (is_full v) (goes_on anew (level v name)) (has_credit k.policy.owed (present k.host)) e).0 in
       let one = having_done (doing k.policy room) k in
       let two = having_done (doing k.policy usual) one in
-      let stands : present two.host ≡ present k.host = present_plain usual one.host (usual_plain name.source (v.distance name.source) k.policy.usual) ∙ present_plain room k.host (room_plain name v) in
+      let stands : present two.host ≡ present k.host = present_plain usual one.host usual_plain ∙ present_plain room k.host room_plain in
       let last = asks_keep name two (subst (λ (n : ℕ). IsTrue (has_credit k.policy.owed n)) (sym stands) credit) in
       let end = with_policy (after_wanting (present two.host) k.policy) (having (Asks name) two) in
-      let all = both_keep k one end room (usual ++ Asks name ∷ []) (plainly k room (room_plain name v)) (both_keep one two end usual (Asks name ∷ []) (plainly one usual (usual_plain name.source (v.distance name.source) k.policy.usual)) last) in
+      let all = both_keep k one end room (usual ++ Asks name ∷ []) (plainly k room room_plain) (both_keep one two end usual (Asks name ∷ []) (plainly one usual usual_plain) last) in
       let there : end.host ≡ after_lines (room ++ (usual ++ Asks name ∷ [])) k.host = all.at in
       subst (λ (h : Opened). Keeps k (room ++ (usual ++ Asks name ∷ [])) (record { host = h; policy = after_wanting (present k.host) k.policy })) there
       (subst (λ (n : ℕ). Keeps k (room ++ (usual ++ Asks name ∷ [])) (record { host = end.host; policy = after_wanting n k.policy })) stands all)
@@ -379,10 +370,6 @@ says_nothing_else v (page ∷ pages) host = let n = says_nothing_else v pages ho
 says_each : (v : View) (pages : List PageId) → length (filter is_state (map (λ (page : PageId). Says (state_of v page)) pages)) ≡ length pages
 says_each v [] = refl
 says_each v (page ∷ pages) = ap suc (says_each v pages)
-
-says_stand : (v : View) (pages : List PageId) (host : Opened) → after_lines (map (λ (page : PageId). Says (state_of v page)) pages) host ≡ host
-says_stand v [] host = refl
-says_stand v (page ∷ pages) host = says_stand v pages host
 
 due_moment : (now : ℕ) (o : Option ℕ) (P : ℕ → Type 0) → is_due now o ≡ true → IfSome o P → (moment : ℕ) × (moment ≤ now) × P moment
 due_moment now None P due holds_of = absurd (true≢false (sym due))
@@ -412,7 +399,7 @@ answers_keep k due = record {
       let m = due_moment now k.policy.questions.answer _ due w.answered.answer in
       let spaced = one_spaced start now m.0 1000000 (w.bursts * 1000000) (now + 1000000) since m.1 (omega arith) m.2 in
       let old = w.few in
-      subst (λ (h : Opened). IsWithin start wait (present h) k.policy.owed k.policy.reports.due (answered_at now k.policy.questions) d) (sym (says_stand v pages k.host)) (record {
+      subst (λ (h : Opened). IsWithin start wait (present h) k.policy.owed k.policy.reports.due (answered_at now k.policy.questions) d) (sym (says_after v pages k.host)) (record {
         paid = subst (λ (n : ℕ). IsPaid start now k.policy.owed n d.comes) (omega (arith, a, z0)) (subst (λ (n : ℕ). IsPaid start now k.policy.owed c.asks n) (omega (arith, b, z1)) w.paid);
         told = subst (λ (n : ℕ). IsSpaced start now k.policy.reports.due 1000000 (n * 1000000)) (omega (arith, r, z2)) w.told;
         bursts = w.bursts + 1;
@@ -544,8 +531,15 @@ draws_keep d k = quietly k (Says (Draw d) ∷ []) k.policy (zeros (Says (Draw d)
 
 steps_keep : HoldsOfSteps Keeps
 steps_keep = record {
-  nothing = λ k. plainly k [] tt;
-  both = both_keep;
+  due = record {
+    nothing = λ k. plainly k [] tt;
+    both = both_keep;
+    wants = wants_keep;
+    turned = λ t k. quietly k [] _ (plain_nothing [] k.host tt) refl refl refl refl;
+    answers = answers_keep;
+    asks_pages = asks_pages_keep;
+    reports = reports_keep;
+  };
   ticks = ticks_keep;
   arrives = arrives_keep;
   answered = answered_keep;
@@ -553,15 +547,10 @@ steps_keep = record {
   stops = λ name k full. plainly k (Stops name ∷ []) (tt, tt);
   sets = λ source micros k. plainly k (SetsDistance source (bounded micros) ∷ []) (tt, tt);
   tunes = λ constants k within. plainly k (Tunes constants ∷ []) (tt, tt);
-  wants = wants_keep;
   draws = draws_keep;
-  turned = λ t k. quietly k [] _ (plain_nothing [] k.host tt) refl refl refl refl;
   measured = λ micros k. quietly k [] _ (plain_nothing [] k.host tt) refl refl refl refl;
   told = told_keep;
   takes_up = takes_up_keep;
-  answers = answers_keep;
-  asks_pages = asks_pages_keep;
-  reports = reports_keep;
 }
 
 at_first : (now owed due : ℕ) (q : Questions) → IsWithin now q.wait now owed due q none

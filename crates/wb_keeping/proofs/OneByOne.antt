@@ -1,12 +1,9 @@
 -- Names and pages that are gone over one by one.
-use Rattle.std.proofs.Common.{◌≡◌, ℕ, ◌+◌, ◌<◌, ◌≤◌, Bool, true, false, cond, List, [], ◌∷◌, ◌∙◌, add-one, ap, drop, drop-cons, get_or, length, map, refl, subst, sym}
+use Rattle.std.proofs.Common.{◌≡◌, ℕ, ◌+◌, ◌<◌, ◌≤◌, Bool, true, false, cond, List, [], ◌∷◌, ◌∙◌, add-one, ap, drop, drop-cons, get_or, length, map, subst, sym}
 use Rattle.std.proofs.lemmas.List.{drop_all}
 use Rattle.wb_names.specs.Values.{NameValue}
-use Rattle.wb_names.specs.declared.name.PageId.{PageId}
-use Rattle.wb_codec.specs.declared.datagram.Datagram.{Datagram}
-use Rattle.wb_member.specs.Opened.{Opened}
-use Rattle.wb_keeping.specs.Kept.{Doing, Line, Says, Stops, and_then, is_begun, is_unasked, still, want, want_near, want_told}
-use Rattle.wb_keeping.specs.Performing.{DoesQuietly, IsKeptAt, Keeping, KeptValue, after_lines, sees, sent_by_lines, view_of}
+use Rattle.wb_keeping.specs.Kept.{Doing, Line, Stops, and_then, is_begun, is_unasked, still, want, want_near, want_told}
+use Rattle.wb_keeping.specs.Performing.{DoesQuietly, IsKeptAt, Keeping, KeptValue, sees, view_of}
 use Rattle.wb_keeping.specs.Policy.{Policy, View}
 use Rattle.wb_keeping.specs.Steps.{performs_all}
 use Rattle.wb_keeping.proofs.Performed.{quiet_as, quiet_more, quiet_then}
@@ -73,13 +70,3 @@ near_ended names i d {a} {b} lt unknown begun one = at_next (λ (ns : List NameV
     let n = get_or names i d in
     let ns = drop (i + 1) names in
     quiet_as (want_near (n ∷ ns)) (want n false) (λ k at. ended_by n ns (sees k.host) k.policy (unknown k at) (begun k at)) one)
-
--- ---- lines that tell what is so, and change nothing
-
-module _ (state : PageId → Datagram) (told : (page : PageId) (host : Opened) → (after_lines (Says (state page) ∷ []) host ≡ host) × (sent_by_lines (Says (state page) ∷ []) host ≡ state page ∷ [])) where
-  abbrev says : List PageId → List Line
-  says pages = map (λ (page : PageId). Says (state page)) pages
-
-  pub says_after : (pages : List PageId) (host : Opened) → after_lines (says pages) host ≡ host
-  says_after [] host = refl
-  says_after (page ∷ pages) host = ap (after_lines (says pages)) (told page host).0 ∙ says_after pages host

@@ -8,9 +8,6 @@ use Rattle.wb_keeping.specs.Performing.{Does, DoesQuietly, IsKeptAt, Keeping, Ke
 use Rattle.wb_keeping.specs.Policy.{Policy, View}
 use Rattle.wb_keeping.specs.Steps.{performs_all}
 
-abbrev pub kept : MemberValue → Policy → KeptValue
-kept m p = record { member = m; policy = p }
-
 -- ---- lines after lines
 
 pub after_both : (one other : List Line) (host : Opened) → after_lines (one ++ other) host ≡ after_lines other (after_lines one host)

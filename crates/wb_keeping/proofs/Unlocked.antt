@@ -1,6 +1,6 @@
 -- No number of its own that a kept host knows of is greater than 2^31 - 1 and what its board holds, so that a number is always left.
 use Rattle.std.proofs.Common.{◌≡◌, ℕ, ◌+◌, ◌≤◌, ◌<◌, Bool, true, false, cond, List, [], ◌∷◌, ◌++◌, ◌∙◌, ap, arith, length, length-append, map, max, refl, subst, sym, true≢false, inl, inr, ⊎_elim}
-use Rattle.std.specs.Prelude.{Option, Some, None, ◌⊎◌, not, ◌&&◌, ◌||◌, nat_eq, nat_le, nat_lt, take}
+use Rattle.std.specs.Prelude.{None, ◌⊎◌, not, ◌&&◌, ◌||◌, nat_eq, nat_le, nat_lt}
 use Rattle.std.proofs.lemmas.Bool.{and_parts, eqb-true, ltb-true}
 use Rattle.std.proofs.lemmas.Bool.Decides.{nat_tests}
 use Rattle.wb_names.specs.Arrivals.{Outcome, Fresh, Known, Clashed, Left, history_with, outcome_from, outcome_of}
@@ -9,15 +9,12 @@ use Rattle.wb_names.specs.History.{highest, is_of}
 use Rattle.wb_names.specs.Marks.{mark_of}
 use Rattle.wb_names.specs.Orders.{same_name, same_page}
 use Rattle.wb_names.specs.Same.{same_drawop}
-use Rattle.wb_names.specs.Values.{DrawopValue, MarkValue, NameValue}
+use Rattle.wb_names.specs.Values.{DrawopValue, MarkValue}
 use Rattle.wb_names.specs.declared.echo.Echo.{Echo}
 use Rattle.wb_names.specs.declared.name.PageId.{PageId}
 use Rattle.wb_codec.specs.declared.datagram.Datagram.{Datagram}
 use Rattle.wb_codec.specs.declared.datagram.Datagram.TheVariants.{Draw, Session, Request, AskPages, PageState}
-use Rattle.wb_gaps.specs.Answers.{pages_of, report_of}
-use Rattle.wb_gaps.specs.Holes.{hole_after}
 use Rattle.wb_gaps.specs.Joining.{greater, joined, joined_at}
-use Rattle.wb_gaps.specs.declared.holes.Hole.{Hole}
 use Rattle.wb_recovery.specs.declared.tuning.Tuning.{Tuning}
 use Rattle.wb_host.specs.Hearing.{asks_for_held, marks_heard, marks_in, marks_reported}
 use Rattle.wb_host.specs.Keeper.{KeeperCall, Hear, holds, is_own}
@@ -25,20 +22,15 @@ use Rattle.wb_host.specs.declared.keep_fault.KeepFault.TheVariants.{BackInTime}
 use Rattle.wb_member.specs.Members.{Misses}
 use Rattle.wb_member.specs.Opened.{Opened, accepted, doing, has_room_for, heard, last_number, may_ask, opened_with, present, ticked, word_at}
 use Rattle.wb_member.specs.Random.{word_of}
-use Rattle.wb_keeping.specs.Distances.{bounded}
-use Rattle.wb_keeping.specs.Kept.{Arrives, Asks, Doing, Hears, Line, Says, SetsDistance, Tunes, Stops, Ticks, Transition, and_then, answers, asks_pages, distance_in, draws_it, drawing, end, ends_full, hears, hears_session, hears_some, hears_state, is_begun, is_unasked, learned, measures, own_echo, own_marks, paid_for, performs, reports, reports_due, reports_rest, room_lines, state_of, still, stops_oldest, takes, takes_question, timed, told_names, turn, turn_to, usual_lines, want, want_near, want_told}
+use Rattle.wb_keeping.specs.Kept.{Arrives, Asks, Doing, Hears, Line, Says, SetsDistance, Tunes, Stops, Ticks, Transition, and_then, distance_in, draws_it, drawing, ends_full, hears, hears_session, hears_some, hears_state, learned, measures, own_echo, own_marks, performs, still, takes, takes_question, timed, told_names, want_told}
 use Rattle.wb_keeping.specs.Laws.{ANumberIsLeft, Added, AreTaken, Came, KeptLine, Ticked, Tuned, after_kept, doing_of, fault_of}
 use Rattle.wb_keeping.specs.Performing.{Keeping, after_doing, after_line, after_lines, sees, view_of}
-use Rattle.wb_keeping.specs.Policy.{Policy, View, after_answer, after_question, after_state, after_taking_up, after_turn, after_wanting, holds as holds_in, in_next_round, is_asked, is_full, level}
-use Rattle.wb_keeping.specs.Questions.{is_due, is_to_answer}
+use Rattle.wb_keeping.specs.Policy.{after_state, after_taking_up, holds as holds_in, is_asked, is_full}
+use Rattle.wb_keeping.specs.Questions.{is_to_answer}
 use Rattle.wb_keeping.specs.Refusing.{is_unknown, is_unknown_of_ours}
-use Rattle.wb_keeping.specs.Reports.{slice_after}
-use Rattle.wb_keeping.specs.Turns.{name_in, nowhere}
-use Rattle.wb_keeping.specs.Wanting.{is_wanted, oldest}
 use Rattle.wb_keeping.specs.declared.kept_fault.KeptFault.TheVariants.{Host, Ours}
-use Rattle.wb_keeping.specs.declared.wanting.AskedName.{AskedName}
 use Rattle.wb_keeping.proofs.Performed.{then_after}
-use Rattle.wb_keeping.proofs.Wanted.{lacks_here, lines_wanted, near_here, with_room_done}
+use Rattle.wb_keeping.proofs.EachLine.{DoesEach, Each, OfPolicy, ends_each, learned_each, measures_each, then_each, timed_each, told_each}
 
 -- ---- marks of one source
 
@@ -227,119 +219,26 @@ tame_quiet (Says (AskPages asker)) host q = tt
 tame_quiet (Says (PageState sender page marks)) host q = tt
 
 abbrev pub AreQuiet : List Line → Type 0
-AreQuiet [] = Unit {0}
-AreQuiet (line ∷ lines) = IsQuiet line × AreQuiet lines
+AreQuiet lines = Each IsQuiet lines
 
 pub bounded_lines : (lines : List Line) (host : Opened) → AreQuiet lines → IsBounded host → IsBounded (after_lines lines host)
 bounded_lines [] host q b = b
 bounded_lines (line ∷ lines) host q b = bounded_lines lines (after_line line host) q.1 (bounded_line line host b (tame_quiet line host q.0))
 
-both_quiet : (one other : List Line) → AreQuiet one → AreQuiet other → AreQuiet (one ++ other)
-both_quiet [] other a b = b
-both_quiet (line ∷ one) other a b = (a.0, both_quiet one other a.1 b)
-
-either_quiet : (b : Bool) (one other : Doing) → AreQuiet one.lines → AreQuiet other.lines → AreQuiet (cond b one other).lines
-either_quiet true one other a b = a
-either_quiet false one other a b = b
-
--- ---- transitions that touch no number of its own
-
-abbrev DoesQuiet : Transition → Type 0
-DoesQuiet does = (see : List Line → View) (p : Policy) → AreQuiet (does see p).lines
-
-then_quiet : (first second : Transition) → DoesQuiet first → DoesQuiet second → DoesQuiet (and_then first second)
-then_quiet first second f s = λ see p. both_quiet (first see p).lines (second (λ lines. see ((first see p).lines ++ lines)) (first see p).policy).lines (f see p) (s (λ lines. see ((first see p).lines ++ lines)) (first see p).policy)
-
-room_quiet : (name : NameValue) (v : View) → AreQuiet (room_lines name v)
-room_quiet name v = by (is_asked v name) (nat_le 64 (length v.asked)) (oldest v.asked) where
-  by : (a b : Bool) (o : Option AskedName) → AreQuiet (cond a (Stops name ∷ []) (cond b (stops_oldest o) []))
-  by true b o = (tt, tt)
-  by false true None = tt
-  by false true (Some a) = (tt, tt)
-  by false false o = tt
-
-usual_quiet : (source distance : ℕ) (usual : Option ℕ) → AreQuiet (usual_lines source distance usual)
-usual_quiet source distance None = tt
-usual_quiet source distance (Some u) = by (nat_eq distance 100000) where
-  by : (b : Bool) → AreQuiet (cond b (SetsDistance source u ∷ []) [])
-  by true = (tt, tt)
-  by false = tt
-
-want_quiet : (name : NameValue) (anew : Bool) → DoesQuiet (want name anew)
-want_quiet name anew see p =
-    either_quiet (is_wanted (holds_in (see []) name) (is_full (see [])) anew (level (see []) name) p.owed (see []).now)
-    (record { policy = after_wanting (see []).now p; lines = lines_wanted name anew see p }) (still see p)
-    (both_quiet (room_lines name (see [])) (usual_lines name.source ((see []).distance name.source) p.usual ++ Asks name ∷ []) (room_quiet name (see []))
-    (both_quiet (usual_lines name.source ((see []).distance name.source) p.usual) (Asks name ∷ []) (usual_quiet name.source ((see []).distance name.source) p.usual) (tt, tt))) tt
-
-told_quiet : (names : List NameValue) → DoesQuiet (want_told names)
-told_quiet [] = λ see p. tt
-told_quiet (name ∷ names) = then_quiet (want name true) (want_told names) (want_quiet name true) (told_quiet names)
-
-near_quiet : (names : List NameValue) → DoesQuiet (want_near names)
-near_quiet [] see p = tt
-near_quiet (name ∷ names) see p =
-    either_quiet (is_unasked (see []) name) (cond (is_begun (want name false see p)) (and_then (want name false) (want_near names) see p) (still see p)) (want_near names see p)
-    (either_quiet (is_begun (want name false see p)) (and_then (want name false) (want_near names) see p) (still see p) (then_quiet (want name false) (want_near names) (want_quiet name false) (near_quiet names) see p) tt)
-    (near_quiet names see p)
-
-turn_to_quiet : (next first : Option Hole) → DoesQuiet (turn_to next first)
-turn_to_quiet (Some h) first see p = want_quiet (name_in p.turns.round h) true see (after_turn h p)
-turn_to_quiet None (Some h) see p = want_quiet (name_in (in_next_round p).turns.round h) true see (after_turn h (in_next_round p))
-turn_to_quiet None None see p = tt
-
-turn_quiet : DoesQuiet turn
-turn_quiet see p = turn_to_quiet (hole_after (see []).held p.turns.page p.turns.source p.turns.number) (hole_after (see []).held nowhere 0 0) see p
-
-stops_quiet : (asked : List AskedName) → AreQuiet (map (λ (a : AskedName). Stops a.name) asked)
-stops_quiet [] = tt
-stops_quiet (a ∷ asked) = (tt, stops_quiet asked)
-
-end_quiet : DoesQuiet end
-end_quiet see p = stops_quiet (see []).asked
-
-learned_quiet : (name : NameValue) (was : Bool) → DoesQuiet (learned name was)
-learned_quiet name was see p =
-    either_quiet (is_full (see [])) (end see p) (with_room_done name was see p) (end_quiet see p)
-    (either_quiet (lacks_here name was see p) (want_near (near_here name was see p) see (paid_for was p)) (cond was (turn see (paid_for was p)) (still see p)) (near_quiet (near_here name was see p) see (paid_for was p))
-    (either_quiet was (turn see (paid_for was p)) (still see p) (turn_quiet see (paid_for was p)) tt))
-
-says_quiet : (v : View) (pages : List PageId) → AreQuiet (map (λ (page : PageId). Says (state_of v page)) pages)
-says_quiet v [] = tt
-says_quiet v (page ∷ pages) = (tt, says_quiet v pages)
-
-answers_quiet : DoesQuiet answers
-answers_quiet see p = either_quiet (is_due (see []).now p.questions.answer) (record { policy = after_answer (see []).now p; lines = map (λ (page : PageId). Says (state_of (see []) page)) (take 64 (pages_of (see []).held)) }) (still see p) (says_quiet (see []) (take 64 (pages_of (see []).held))) tt
-
-asks_pages_quiet : DoesQuiet asks_pages
-asks_pages_quiet see p = either_quiet (is_due (see []).now p.questions.ask) (record { policy = after_question (see []).now p; lines = Says (AskPages (see []).me) ∷ [] }) (still see p) (tt, tt) tt
-
-rest_quiet : (marks : List MarkValue) → DoesQuiet (reports_rest marks)
-rest_quiet [] see p = (tt, tt)
-rest_quiet (m ∷ marks) see p = (tt, tt)
-
-reports_quiet : DoesQuiet reports
-reports_quiet see p = rest_quiet (slice_after p.told (report_of (see []).held p.told_page)) see p
-
-due_quiet : DoesQuiet reports_due
-due_quiet see p = either_quiet (nat_le p.reports.due (see []).now) (and_then reports turn see p) (still see p) (then_quiet reports turn reports_quiet turn_quiet see p) tt
-
-timed_quiet : DoesQuiet timed
-timed_quiet = then_quiet answers (and_then asks_pages reports_due) answers_quiet (then_quiet asks_pages reports_due asks_pages_quiet due_quiet)
-
-ends_quiet : DoesQuiet ends_full
-ends_quiet see p = either_quiet (is_full (see [])) (end see p) (still see p) (end_quiet see p) tt
-
-measures_quiet : (sender : ℕ) (distance : Option ℕ) → DoesQuiet (measures sender distance)
-measures_quiet sender None see p = tt
-measures_quiet sender (Some micros) see p = by (nat_eq (bounded micros) micros) where
-  by : (b : Bool) → AreQuiet (cond b [] (SetsDistance sender (bounded micros) ∷ []))
-  by true = tt
-  by false = (tt, tt)
+-- what it does of itself touches no number of its own
+are_quiet : OfPolicy IsQuiet
+are_quiet = record {
+  asks = λ name. tt;
+  stops = λ name. tt;
+  sets = λ source micros. tt;
+  states = λ v page. tt;
+  asks_pages = λ asker. tt;
+  reports = λ sender sent page marks echoes. tt;
+}
 
 -- ---- what a kept host does
 
-bounded_doing : (does : Transition) → DoesQuiet does → (k : Keeping) → IsBounded k.host → IsBounded (after_doing does k).host
+bounded_doing : (does : Transition) → DoesEach IsQuiet does → (k : Keeping) → IsBounded k.host → IsBounded (after_doing does k).host
 bounded_doing does q k b = bounded_lines (does (sees k.host) k.policy).lines k.host (q (sees k.host) k.policy) b
 
 bounded_then : (first second : Transition) (k : Keeping) → IsBounded (after_doing second (after_doing first k)).host → IsBounded (after_doing (and_then first second) k).host
@@ -370,7 +269,7 @@ bounded_takes d k known b =
     let tame : IsTame k.host (Arrives d) = one_of d.name.source k.host.is.number d.name.seq (holds k.host.is.held d.name) known in
     let arrived : IsBounded (after_line (Arrives d) k.host) = bounded_line (Arrives d) k.host b tame in
     bounded_either (holds_in (view_of k.host) d.name || is_full (view_of k.host)) (performs (Arrives d) (sees k.host) k.policy) (and_then (performs (Arrives d)) (learned d.name (is_asked (view_of k.host) d.name)) (sees k.host) k.policy) k.host arrived
-    (bounded_then (performs (Arrives d)) (learned d.name (is_asked (view_of k.host) d.name)) k (bounded_doing (learned d.name (is_asked (view_of k.host) d.name)) (learned_quiet d.name (is_asked (view_of k.host) d.name)) (after_doing (performs (Arrives d)) k) arrived))
+    (bounded_then (performs (Arrives d)) (learned d.name (is_asked (view_of k.host) d.name)) k (bounded_doing (learned d.name (is_asked (view_of k.host) d.name)) (learned_each IsQuiet are_quiet d.name (is_asked (view_of k.host) d.name)) (after_doing (performs (Arrives d)) k) arrived))
 
 bounded_session : (sender sent : ℕ) (page : PageId) (marks : List MarkValue) (echoes : List Echo) (k : Keeping) → IsBounded k.host → IsBounded (after_doing (hears_session sender sent page marks echoes) k).host
 bounded_session sender sent page marks echoes k b =
@@ -381,7 +280,7 @@ bounded_session sender sent page marks echoes k b =
     let second = measures sender (distance_in v.now echo) in
     let third = want_told (told_names v.me page marks) in
     let heard : IsBounded (after_line (Hears (Session sender sent page own echo)) k.host) = bounded_line (Hears (Session sender sent page own echo)) k.host b (λ p. on_page v.me (same_page page p) own (own_below v.me (nat_lt v.now k.policy.ready) marks)) in
-    bounded_then first (and_then second third) k (bounded_doing (and_then second third) (then_quiet second third (measures_quiet sender (distance_in v.now echo)) (told_quiet (told_names v.me page marks))) (after_doing first k) heard)
+    bounded_then first (and_then second third) k (bounded_doing (and_then second third) (then_each IsQuiet second third (measures_each IsQuiet are_quiet sender (distance_in v.now echo)) (told_each IsQuiet are_quiet (told_names v.me page marks))) (after_doing first k) heard)
 
 bounded_some : (sender : ℕ) (page : PageId) (own : List MarkValue) (k : Keeping) → OwnBelow k.host.is.number 2147483647 own → IsBounded k.host → IsBounded (after_doing (hears_some sender page own) k).host
 bounded_some sender page [] k below b = b
@@ -393,17 +292,15 @@ bounded_state sender page marks k b =
     let own = own_marks v.me (nat_lt v.now k.policy.ready) marks in
     let third = want_told (told_names v.me page marks) in
     let there : Keeping = record { host = k.host; policy = after_state v.now k.policy } in
-    bounded_then (hears_some sender page own) third there (bounded_doing third (told_quiet (told_names v.me page marks)) (after_doing (hears_some sender page own) there) (bounded_some sender page own there (own_below v.me (nat_lt v.now k.policy.ready) marks) b))
-
-question_quiet : DoesQuiet takes_question
-question_quiet see p = either_quiet (is_to_answer (see []).now (nat_lt 0 (length (see []).held)) p.questions) (still see (after_taking_up (see []).now p)) (still see p) tt tt
+    bounded_then (hears_some sender page own) third there (bounded_doing third (told_each IsQuiet are_quiet (told_names v.me page marks)) (after_doing (hears_some sender page own) there) (bounded_some sender page own there (own_below v.me (nat_lt v.now k.policy.ready) marks) b))
 
 bounded_hears : (v : Datagram) (k : Keeping) → is_unknown_of_ours v k.host ≡ false → IsBounded k.host → IsBounded (after_doing (hears v) k).host
 bounded_hears (Draw d) k known b = bounded_takes d k known b
 bounded_hears (Session sender sent page marks echoes) k known b = bounded_either (nat_eq sender k.host.is.number) (still (sees k.host) k.policy) (hears_session sender sent page marks echoes (sees k.host) k.policy) k.host b (bounded_session sender sent page marks echoes k b)
 bounded_hears (PageState sender page marks) k known b = bounded_either (nat_eq sender k.host.is.number) (still (sees k.host) k.policy) (hears_state sender page marks (sees k.host) k.policy) k.host b (bounded_state sender page marks k b)
 bounded_hears (Request asker name) k known b = bounded_either (nat_eq asker k.host.is.number) (still (sees k.host) k.policy) (performs (Hears (Request asker name)) (sees k.host) k.policy) k.host b (bounded_line (Hears (Request asker name)) k.host b (λ p. tt))
-bounded_hears (AskPages asker) k known b = bounded_either (nat_eq asker k.host.is.number) (still (sees k.host) k.policy) (takes_question (sees k.host) k.policy) k.host b (bounded_doing takes_question question_quiet k b)
+bounded_hears (AskPages asker) k known b = bounded_either (nat_eq asker k.host.is.number) (still (sees k.host) k.policy) (takes_question (sees k.host) k.policy) k.host b
+    (bounded_either (is_to_answer (present k.host) (nat_lt 0 (length k.host.is.held)) k.policy.questions) (still (sees k.host) (after_taking_up (present k.host) k.policy)) (still (sees k.host) k.policy) k.host b b)
 
 -- ---- its lines
 
@@ -424,15 +321,15 @@ bounded_kept (Came now v) k none b =
     let first = performs (Ticks now) in
     let one = after_doing first k in
     let there : IsBounded one.host = bounded_line (Ticks now) k.host b tt in
-    bounded_then first (and_then (hears v) timed) k (bounded_then (hears v) timed one (bounded_doing timed timed_quiet (after_doing (hears v) one) (bounded_hears v one (later_known v now k.host ∙ none_of _ _ none) there)))
-bounded_kept (Ticked now) k none b = bounded_then (performs (Ticks now)) timed k (bounded_doing timed timed_quiet (after_doing (performs (Ticks now)) k) (bounded_line (Ticks now) k.host b tt))
+    bounded_then first (and_then (hears v) timed) k (bounded_then (hears v) timed one (bounded_doing timed (timed_each IsQuiet are_quiet) (after_doing (hears v) one) (bounded_hears v one (later_known v now k.host ∙ none_of _ _ none) there)))
+bounded_kept (Ticked now) k none b = bounded_then (performs (Ticks now)) timed k (bounded_doing timed (timed_each IsQuiet are_quiet) (after_doing (performs (Ticks now)) k) (bounded_line (Ticks now) k.host b tt))
 bounded_kept (Added now page time op) k none b =
     let first = performs (Ticks now) in
     let one = after_doing first k in
     let second = draws_it page time op in
     let there : IsBounded one.host = bounded_line (Ticks now) k.host b tt in
     let drew : IsBounded (after_doing second one).host = bounded_line (Says (Draw (drawing (view_of one.host) page time op))) one.host there (omega arith) in
-    bounded_then first (and_then second (and_then ends_full timed)) k (bounded_then second (and_then ends_full timed) one (bounded_doing (and_then ends_full timed) (then_quiet ends_full timed ends_quiet timed_quiet) (after_doing second one) drew))
+    bounded_then first (and_then second (and_then ends_full timed)) k (bounded_then second (and_then ends_full timed) one (bounded_doing (and_then ends_full timed) (then_each IsQuiet ends_full timed (ends_each IsQuiet are_quiet) (timed_each IsQuiet are_quiet)) (after_doing second one) drew))
 bounded_kept (Tuned constants) k none b = bounded_line (Tunes constants) k.host b tt
 
 bounded_all : (lines : List KeptLine) (k : Keeping) → AreTaken lines k → IsBounded k.host → IsBounded (after_kept lines k).host

@@ -76,11 +76,8 @@ module _ (name : NameValue) (was : Bool) (see : List Line → View) (p : Policy)
   pub learned_full : is_full (see []) ≡ true → learned name was see p ≡ end see p
   learned_full e = ap (λ (b : Bool). cond b (end see p) with_room_done) e
 
-  pub learned_near : is_full (see []) ≡ false → lacks_here ≡ true → learned name was see p ≡ want_near near_here see (paid_for was p)
-  learned_near e f = ap (λ (b : Bool). cond b (end see p) with_room_done) e ∙ ap (λ (b : Bool). cond b (want_near near_here see (paid_for was p)) (cond was (turn see (paid_for was p)) (still see p))) f
-
-  pub learned_none : is_full (see []) ≡ false → lacks_here ≡ false → learned name was see p ≡ cond was (turn see (paid_for was p)) (still see p)
-  learned_none e f = ap (λ (b : Bool). cond b (end see p) with_room_done) e ∙ ap (λ (b : Bool). cond b (want_near near_here see (paid_for was p)) (cond was (turn see (paid_for was p)) (still see p))) f
+  pub learned_room : is_full (see []) ≡ false → learned name was see p ≡ with_room_done
+  learned_room e = ap (λ (b : Bool). cond b (end see p) with_room_done) e
 
 -- ---- the turn of a hole
 
@@ -117,5 +114,3 @@ down_next f names high count below lt =
     append_assoc names (f (high - below) ∷ []) (map f (downwards (high - (below + 1)) (count - (below + 1))))
     ∙ ap (λ (h : ℕ). names ++ f (high - below) ∷ map f (downwards h (count - (below + 1)))) (sym next)
     ∙ ap (λ (n : ℕ). names ++ map f (downwards (high - below) n)) (sym left)
-
--- ---- who is asked for

@@ -27,11 +27,11 @@ use Rattle.wb_keeping.specs.Kept.{Arrives, Asks, Doing, Hears, Line, Says, SetsD
 use Rattle.wb_keeping.specs.Performing.{after_line, after_lines, sees, view_of}
 use Rattle.wb_keeping.specs.Policy.{View, after_wanting, is_asked, is_full, level}
 use Rattle.wb_keeping.specs.Wanting.{goes_on, is_wanted, oldest}
-use Rattle.wb_keeping.specs.declared.wanting.AskedName.{AskedName}
 use Rattle.wb_keeping.proofs.AskedTimers.{level_seen}
 use Rattle.wb_keeping.proofs.EachStep.{doing}
 use Rattle.wb_keeping.proofs.Performed.{after_both}
 use Rattle.wb_keeping.proofs.StandingTimers.{Stands, come, is_some_level, keeps, missed_from, missed_to, same_itself, stands_asked}
+use Rattle.wb_keeping.proofs.EachLine.{Each, oldest_each, room_each, usual_each}
 
 -- ---- answer timers
 
@@ -136,49 +136,40 @@ only_held_is_answered constants number cells seed lines name = lines_answer_held
 
 -- ---- a name that is wanted
 
--- lines that touch no board and ask for nothing
-abbrev AreSmall : List Line → Type 0
-AreSmall [] = Unit {0}
-AreSmall (Stops name ∷ lines) = AreSmall lines
-AreSmall (SetsDistance source micros ∷ lines) = AreSmall lines
-AreSmall (Tunes constants ∷ lines) = AreSmall lines
-AreSmall (line ∷ lines) = ⊥
+-- it stops a timer, or sets a distance or the constants
+abbrev pub IsSetting : Line → Type 0
+IsSetting (Stops name) = Unit {0}
+IsSetting (SetsDistance source micros) = Unit {0}
+IsSetting (Tunes constants) = Unit {0}
+IsSetting line = ⊥
 
-small_held : (lines : List Line) (host : Opened) → AreSmall lines → (after_lines lines host).is.held ≡ host.is.held
-small_held [] host small = refl
-small_held (Stops name ∷ lines) host small = small_held lines (after_line (Stops name) host) small
-small_held (SetsDistance source micros ∷ lines) host small = small_held lines (after_line (SetsDistance source micros) host) small
-small_held (Tunes constants ∷ lines) host small = small_held lines (after_line (Tunes constants) host) small
-small_held (Ticks now ∷ lines) host small = absurd small
-small_held (Arrives d ∷ lines) host small = absurd small
-small_held (Hears v ∷ lines) host small = absurd small
-small_held (Asks name ∷ lines) host small = absurd small
-small_held (Says v ∷ lines) host small = absurd small
+abbrev pub AreSettings : List Line → Type 0
+AreSettings lines = Each IsSetting lines
 
-small_stands : (lines : List Line) (host : Opened) (n : NameValue) → AreSmall lines → Stands (after_lines lines host) n → Stands host n
-small_stands [] host n small stands = stands
-small_stands (Stops name ∷ lines) host n small stands = keeps (Stops name) host refl n (small_stands lines (after_line (Stops name) host) n small stands)
-small_stands (SetsDistance source micros ∷ lines) host n small stands = small_stands lines (after_line (SetsDistance source micros) host) n small stands
-small_stands (Tunes constants ∷ lines) host n small stands = small_stands lines (after_line (Tunes constants) host) n small stands
-small_stands (Ticks now ∷ lines) host n small stands = absurd small
-small_stands (Arrives d ∷ lines) host n small stands = absurd small
-small_stands (Hears v ∷ lines) host n small stands = absurd small
-small_stands (Asks name ∷ lines) host n small stands = absurd small
-small_stands (Says v ∷ lines) host n small stands = absurd small
+settings_hold : (lines : List Line) (host : Opened) → AreSettings lines → (after_lines lines host).is.held ≡ host.is.held
+settings_hold [] host small = refl
+settings_hold (Stops name ∷ lines) host small = settings_hold lines (after_line (Stops name) host) small.1
+settings_hold (SetsDistance source micros ∷ lines) host small = settings_hold lines (after_line (SetsDistance source micros) host) small.1
+settings_hold (Tunes constants ∷ lines) host small = settings_hold lines (after_line (Tunes constants) host) small.1
+settings_hold (Ticks now ∷ lines) host small = absurd small.0
+settings_hold (Arrives d ∷ lines) host small = absurd small.0
+settings_hold (Hears v ∷ lines) host small = absurd small.0
+settings_hold (Asks name ∷ lines) host small = absurd small.0
+settings_hold (Says v ∷ lines) host small = absurd small.0
 
-usual_small : (source distance : ℕ) (usual : Option ℕ) → AreSmall (usual_lines source distance usual)
-usual_small source distance None = tt
-usual_small source distance (Some u) = by (nat_eq distance 100000) where
-  by : (b : Bool) → AreSmall (cond b (SetsDistance source u ∷ []) [])
-  by true = tt
-  by false = tt
-
-oldest_small : (o : Option AskedName) → AreSmall (stops_oldest o)
-oldest_small None = tt
-oldest_small (Some a) = tt
+settings_stand : (lines : List Line) (host : Opened) (n : NameValue) → AreSettings lines → Stands (after_lines lines host) n → Stands host n
+settings_stand [] host n small stands = stands
+settings_stand (Stops name ∷ lines) host n small stands = keeps (Stops name) host refl n (settings_stand lines (after_line (Stops name) host) n small.1 stands)
+settings_stand (SetsDistance source micros ∷ lines) host n small stands = settings_stand lines (after_line (SetsDistance source micros) host) n small.1 stands
+settings_stand (Tunes constants ∷ lines) host n small stands = settings_stand lines (after_line (Tunes constants) host) n small.1 stands
+settings_stand (Ticks now ∷ lines) host n small stands = absurd small.0
+settings_stand (Arrives d ∷ lines) host n small stands = absurd small.0
+settings_stand (Hears v ∷ lines) host n small stands = absurd small.0
+settings_stand (Asks name ∷ lines) host n small stands = absurd small.0
+settings_stand (Says v ∷ lines) host n small stands = absurd small.0
 
 -- behind the lines that make room, no request timer of the name stands
-room_clears : (name : NameValue) (host : Opened) → AreSmall (room_lines name (view_of host)) × (Stands (after_lines (room_lines name (view_of host)) host) name → ⊥)
+room_clears : (name : NameValue) (host : Opened) → Stands (after_lines (room_lines name (view_of host)) host) name → ⊥
 room_clears name host = by (is_asked (view_of host) name) (nat_le 64 (length (view_of host).asked)) refl where
   lines_by : Bool → Bool → List Line
   lines_by a b = cond a (Stops name ∷ []) (cond b (stops_oldest (oldest (view_of host).asked)) [])
@@ -186,17 +177,16 @@ room_clears name host = by (is_asked (view_of host) name) (nat_le 64 (length (vi
   away : is_asked (view_of host) name ≡ false → Stands host name → ⊥
   away e stands = true≢false (sym (ap is_some (level_seen host name) ∙ is_some_level (timers_of host.is.constants (events host) name).ask ∙ stands) ∙ e)
 
-  by : (a b : Bool) → is_asked (view_of host) name ≡ a → AreSmall (lines_by a b) × (Stands (after_lines (lines_by a b) host) name → ⊥)
-  by true b e = (
-    tt,
-    λ stands.
-        let asked = stands_asked host name e in
-        let missed = missed_from (after_line (Stops name) host) name stands in
-        let came = come name name (events host) (subst (λ (b : Bool). since (notices name) (arrives name) (given_up (present host) name b (events host)) ≡ true) asked missed) in
-        true≢false (sym (same_itself name) ∙ came.1),
-  )
-  by false true e = (oldest_small (oldest (view_of host).asked), λ stands. away e (small_stands (stops_oldest (oldest (view_of host).asked)) host name (oldest_small (oldest (view_of host).asked)) stands))
-  by false false e = (tt, λ stands. away e stands)
+  by : (a b : Bool) → is_asked (view_of host) name ≡ a → Stands (after_lines (lines_by a b) host) name → ⊥
+  by true b e stands =
+      let asked = stands_asked host name e in
+      let missed = missed_from (after_line (Stops name) host) name stands in
+      let came = come name name (events host) (subst (λ (b : Bool). since (notices name) (arrives name) (given_up (present host) name b (events host)) ≡ true) asked missed) in
+      true≢false (sym (same_itself name) ∙ came.1)
+  by false true e stands =
+      let first = oldest (view_of host).asked in
+      away e (settings_stand (stops_oldest first) host name (oldest_each IsSetting (λ name. tt) first) stands)
+  by false false e stands = away e stands
 
 not_true : (b : Bool) → (b ≡ true → ⊥) → b ≡ false
 not_true true never = absurd (never refl)
@@ -249,10 +239,9 @@ wanted_is_asked name anew k answers lacks room credit = by (is_wanted (holds k.h
   by : (b : Bool) → is_wanted (holds k.host.is.held name) (is_full v) anew (level v name) k.policy.owed (present k.host) ≡ b → is_asked (view_of (after_lines (cond b wanted (still (sees k.host) k.policy)).lines k.host)) name ≡ true
   by false e = went_on anew (level v name) (wanted_or (is_full v) (goes_on anew (level v name)) (has_credit k.policy.owed (present k.host)) room credit (ap (λ (b : Bool). not b && (not (is_full v) && (not (goes_on anew (level v name)) && has_credit k.policy.owed (present k.host)))) (sym lacks) ∙ e))
   by true e =
-      let clear = room_clears name k.host in
-      let small = usual_small name.source (v.distance name.source) k.policy.usual in
-      let held : two.is.held ≡ k.host.is.held = small_held usual one small ∙ small_held first k.host clear.0 in
+      let small = usual_each IsSetting name.source (v.distance name.source) k.policy.usual (λ micros e. tt) in
+      let held : two.is.held ≡ k.host.is.held = settings_hold usual one small ∙ settings_hold first k.host (room_each IsSetting (λ name. tt) name v) in
       let lacks_then : holds two.is.held name ≡ false = ap (λ (h : List DrawopValue). holds h name) held ∙ lacks in
-      let stands = asks_stand name two lacks_then (λ stands. clear.1 (small_stands usual one name small stands)) (λ is. true≢false (sym (lines_answer_held name usual one (lines_answer_held name first k.host (answers name)) is) ∙ lacks_then)) in
+      let stands = asks_stand name two lacks_then (λ stands. room_clears name k.host (settings_stand usual one name small stands)) (λ is. true≢false (sym (lines_answer_held name usual one (lines_answer_held name first k.host (answers name)) is) ∙ lacks_then)) in
       let there : after_lines (first ++ (usual ++ Asks name ∷ [])) k.host ≡ after_line (Asks name) two = after_both first (usual ++ Asks name ∷ []) k.host ∙ after_both usual (Asks name ∷ []) one in
       subst (λ (h : Opened). is_asked (view_of h) name ≡ true) (sym there) (asked_at (after_line (Asks name) two) stands)

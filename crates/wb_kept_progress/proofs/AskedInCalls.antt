@@ -1,6 +1,6 @@
 -- What a call asks for because of what it hears.
-use Rattle.std.proofs.Common.{◌≡◌, ℕ, ◌<◌, Bool, true, false, cond, List, [], ◌∷◌, ◌++◌, ◌∙◌, Option, Some, None, ap, arith, inl, inr, length, length-append, map, refl, subst, sym, ⊎_elim}
-use Rattle.std.specs.Prelude.{◌⊎◌, ◌||◌, Contains, nat_eq, nat_le, nat_lt}
+use Rattle.std.proofs.Common.{◌≡◌, ℕ, ◌<◌, Bool, true, false, cond, List, [], ◌∷◌, ◌++◌, ◌∙◌, Option, Some, None, ap, arith, inl, inr, length, length-append, refl, subst, sym, ⊎_elim}
+use Rattle.std.specs.Prelude.{◌⊎◌, ◌||◌, Contains, nat_eq, nat_lt, ◌≢◌}
 use Rattle.std.proofs.lemmas.List.Elements.{Contains-append_left, Contains-append_right}
 use Rattle.wb_names.specs.Arrivals.{Outcome, Fresh, Known, Clashed, Left, history_with, outcome_of}
 use Rattle.wb_names.specs.Values.{DrawopValue, MarkValue, NameValue}
@@ -11,19 +11,17 @@ use Rattle.wb_codec.specs.declared.datagram.Datagram.{Datagram}
 use Rattle.wb_codec.specs.declared.datagram.Datagram.TheVariants.{Draw, Session, Request, AskPages, PageState}
 use Rattle.wb_member.specs.Opened.{has_room_for, heard, present}
 use Rattle.wb_keeping.specs.Distances.{bounded}
-use Rattle.wb_keeping.specs.Kept.{Arrives, Asks, Doing, Hears, Line, Says, SetsDistance, Tunes, Stops, Ticks, Transition, and_then, distance_in, hears, hears_session, hears_some, hears_state, learned, measures, of_other, own_echo, own_marks, performs, room_lines, state_of, still, stops_oldest, takes, takes_question, told_names, usual_lines, want, want_told}
+use Rattle.wb_keeping.specs.Kept.{Arrives, Asks, Doing, Hears, Line, Says, SetsDistance, Tunes, Stops, Ticks, Transition, and_then, distance_in, hears, hears_session, hears_some, hears_state, learned, measures, of_other, own_echo, own_marks, performs, room_lines, still, takes, takes_question, told_names, usual_lines, want, want_told}
 use Rattle.wb_keeping.specs.Performing.{Keeping, after_doing, after_line, after_lines, sees, view_of}
 use Rattle.wb_keeping.specs.Policy.{Policy, View, after_state, after_taking_up, after_wanting, holds, is_asked, is_full, level, with_distance}
 use Rattle.wb_keeping.specs.Questions.{is_to_answer}
-use Rattle.wb_keeping.specs.Wanting.{is_wanted, oldest}
-use Rattle.wb_keeping.specs.declared.wanting.AskedName.{AskedName}
+use Rattle.wb_keeping.specs.Wanting.{is_wanted}
 use Rattle.wb_keeping.proofs.EachStep.{doing, having, having_done, with_policy}
 use Rattle.wb_keeping.proofs.Performed.{seen_then, then_after}
 use Rattle.wb_keeping.proofs.Wanted.{lines_wanted}
-use Rattle.wb_kept_progress.proofs.Going.{want_small}
-use Rattle.wb_kept_progress.proofs.Lines.{AreSmall, lines_rest}
+use Rattle.wb_kept_progress.proofs.Lines.{AreSmall, lines_rest, IsSmall, are_small, lines_grow}
 use Rattle.wb_kept_progress.proofs.Repairs.{taken_in}
-use Rattle.wb_kept_progress.proofs.StopCauses.{lines_longer}
+use Rattle.wb_keeping.proofs.EachLine.{want_each, Each, each_both, wanted_each}
 
 -- ---- the lines of transitions
 
@@ -43,8 +41,7 @@ IsAskOf P (Asks n) = P n
 IsAskOf P line = Unit {0}
 
 abbrev pub AskFor : (NameValue → Type 0) → List Line → Type 0
-AskFor P [] = Unit {0}
-AskFor P (line ∷ lines) = IsAskOf P line × AskFor P lines
+AskFor P lines = Each (IsAskOf P) lines
 
 abbrev pub HasAsk : List Line → Type 0
 HasAsk lines = (n : NameValue) × Contains lines (Asks n)
@@ -55,10 +52,6 @@ asked_is P (line ∷ lines) n asks c = ⊎_elim
     (λ (e : line ≡ Asks n). subst (IsAskOf P) e asks.0)
     (λ (d : Contains lines (Asks n)). asked_is P lines n asks.1 d)
     (Contains-cases line (Asks n) lines c)
-
-pub ask_both : (P : NameValue → Type 0) (one other : List Line) → AskFor P one → AskFor P other → AskFor P (one ++ other)
-ask_both P [] other a b = b
-ask_both P (line ∷ one) other a b = (a.0, ask_both P one other a.1 b)
 
 ask_as : (P Q : NameValue → Type 0) → ((n : NameValue) → P n → Q n) → (line : Line) → IsAskOf P line → IsAskOf Q line
 ask_as P Q f (Ticks now) is = tt
@@ -80,34 +73,6 @@ AskNothing lines = AskFor (λ n. ⊥) lines
 
 pub for_nothing : (P : NameValue → Type 0) (lines : List Line) → AskNothing lines → AskFor P lines
 for_nothing P lines none = asks_as (λ n. ⊥) P (λ n is. absurd is) lines none
-
-room_asks : (name : NameValue) (v : View) → AskNothing (room_lines name v)
-room_asks name v = by (is_asked v name) (nat_le 64 (length v.asked)) (oldest v.asked) where
-  by : (a b : Bool) (o : Option AskedName) → AskNothing (cond a (Stops name ∷ []) (cond b (stops_oldest o) []))
-  by true b o = (tt, tt)
-  by false true None = tt
-  by false true (Some a) = (tt, tt)
-  by false false o = tt
-
-usual_asks : (source distance : ℕ) (usual : Option ℕ) → AskNothing (usual_lines source distance usual)
-usual_asks source distance None = tt
-usual_asks source distance (Some u) = by (nat_eq distance 100000) where
-  by : (b : Bool) → AskNothing (cond b (SetsDistance source u ∷ []) [])
-  by true = (tt, tt)
-  by false = tt
-
-pub states_ask : (v : View) (pages : List PageId) → AskNothing (map (λ (page : PageId). Says (state_of v page)) pages)
-states_ask v [] = tt
-states_ask v (page ∷ pages) = (tt, states_ask v pages)
-
--- the lines of a name that is wanted
-pub wanted_asks : (P : NameValue → Type 0) (name : NameValue) (anew : Bool) (see : List Line → View) (p : Policy) → P name
-    → AskFor P (lines_wanted name anew see p)
-wanted_asks P name anew see p is =
-    let v = see [] in
-    let usual = usual_lines name.source (v.distance name.source) p.usual in
-    ask_both P (room_lines name v) (usual ++ Asks name ∷ []) (for_nothing P (room_lines name v) (room_asks name v))
-    (ask_both P usual (Asks name ∷ []) (for_nothing P usual (usual_asks name.source (v.distance name.source) p.usual)) (is, tt))
 
 wanted_is_asked : (name : NameValue) (anew : Bool) (see : List Line → View) (p : Policy) → Contains (lines_wanted name anew see p) (Asks name)
 wanted_is_asked name anew see p =
@@ -140,13 +105,17 @@ small_stays k lines p small turns due = let r = lines_rest lines k.host small in
 abbrev pub IsMore : Keeping → Keeping → Type 0
 IsMore k m = length k.host.is.held < length m.host.is.held
 
+-- what grew is another board
+pub more_differs : (k m : Keeping) → IsMore k m → m.host.is.held ≢ k.host.is.held
+more_differs k m more same = let e = ap (λ (h : List DrawopValue). length h) same in absurd (omega (arith, e, more))
+
 longer_by_one : (h : List DrawopValue) (d : DrawopValue) → length h < length (h ++ d ∷ [])
 longer_by_one h d = let e = length-append h (d ∷ []) in omega (arith, e)
 
 new_is_more : (d : DrawopValue) (k : Keeping) (lines : List Line) → holds (view_of k.host) d.name ≡ false → is_full (view_of k.host) ≡ false
     → length k.host.is.held < length (after_lines lines (after_line (Arrives d) k.host)).is.held
 new_is_more d k lines lacks room =
-    let le = lines_longer lines (after_line (Arrives d) k.host) in
+    let le = (lines_grow lines (after_line (Arrives d) k.host)).longer in
     let e = ap (λ (h : List DrawopValue). length h) (taken_in k.host d lacks room) in
     let lt = longer_by_one k.host.is.held d in
     omega (arith, le, e, lt)
@@ -166,7 +135,7 @@ module _ (P : NameValue → Type 0) where
   asks_both : (k m n : Keeping) (one other : List Line) → AsksFor P k one m → AsksFor P m other n → AsksFor P k (one ++ other) n
   asks_both k m n one other a b = record {
     stays = stays_then k m n a.stays b.stays;
-    asks = ask_both P one other a.asks b.asks;
+    asks = each_both (IsAskOf P) one other a.asks b.asks;
     owed = ⊎_elim (λ (h : HasAsk one). inl (h.0, Contains-append_left one other (Asks h.0) h.1)) (λ (e : m.policy.owed ≡ k.policy.owed).
         ⊎_elim (λ (h : HasAsk other). inl (h.0, Contains-append_right one other (Asks h.0) h.1)) (λ (f : n.policy.owed ≡ m.policy.owed). inr (f ∙ e)) b.owed) a.owed;
   }
@@ -182,7 +151,7 @@ module _ (P : NameValue → Type 0) where
   nothing_asked k = record { stays = as_it_was k; asks = tt; owed = inr refl }
 
   want_asks : (name : NameValue) (anew : Bool) (k : Keeping) → P name → At (want name anew) k
-  want_asks name anew k is = by (is_wanted (holds v name) (is_full v) anew (level v name) k.policy.owed v.now) (want_small name anew (sees k.host) k.policy) where
+  want_asks name anew k is = by (is_wanted (holds v name) (is_full v) anew (level v name) k.policy.owed v.now) (want_each IsSmall are_small name anew (sees k.host) k.policy) where
     v : View
     v = view_of k.host
 
@@ -193,7 +162,7 @@ module _ (P : NameValue → Type 0) where
         → AsksFor P k (cond b wanted (still (sees k.host) k.policy)).lines (having_done (cond b wanted (still (sees k.host) k.policy)) k)
     by true small = record {
       stays = small_stays k (lines_wanted name anew (sees k.host) k.policy) (after_wanting v.now k.policy) small refl refl;
-      asks = wanted_asks P name anew (sees k.host) k.policy is;
+      asks = wanted_each (IsAskOf P) (λ name. tt) name is anew (sees k.host) k.policy (λ micros e. tt);
       owed = inl (name, wanted_is_asked name anew (sees k.host) k.policy);
     }
     by false small = nothing_asked k

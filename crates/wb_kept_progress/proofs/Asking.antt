@@ -31,24 +31,16 @@ use Rattle.wb_keeping.proofs.AskedTimers.{level_seen, named}
 use Rattle.wb_keeping.proofs.Performed.{after_both, then_after}
 use Rattle.wb_keeping.proofs.StandingTimers.{as_many}
 use Rattle.wb_keeping.proofs.Wanted.{lines_wanted}
-use Rattle.wb_keeping.proofs.WantedNames.{lines_answer_held, wanted_is_asked}
+use Rattle.wb_keeping.proofs.WantedNames.{lines_answer_held, wanted_is_asked, AreSettings, IsSetting}
 use Rattle.wb_progress.proofs.OneCall.{le_true}
-use Rattle.wb_kept_progress.proofs.Going.{want_small}
-use Rattle.wb_kept_progress.proofs.Lines.{is_false, lines_of, lines_rest}
+use Rattle.wb_kept_progress.proofs.Lines.{is_false, lines_of, lines_rest, IsSmall, are_small}
+use Rattle.wb_keeping.proofs.EachLine.{want_each, room_each, usual_each, wanted_each}
 
 -- ---- how often a timer was backed off, once a line was performed
 
 -- the request timer of a name was set, and not backed off since
 abbrev pub IsNew : Opened → NameValue → Type 0
 IsNew host n = level host n ≡ Some 0
-
--- lines that stop timers, or set distances
-abbrev AreQuiet : List Line → Type 0
-AreQuiet [] = Unit {0}
-AreQuiet (Stops name ∷ lines) = AreQuiet lines
-AreQuiet (SetsDistance source micros ∷ lines) = AreQuiet lines
-AreQuiet (Tunes constants ∷ lines) = AreQuiet lines
-AreQuiet (line ∷ lines) = ⊥
 
 pub none_new : ◌≡◌ {A = Option ℕ} None (Some 0) → ⊥
 none_new e = true≢false (sym (ap is_some e))
@@ -80,31 +72,31 @@ stop_ends name host = by (asks_for name host) refl where
         got_now : Timers → Timers
         got_now s = cond (is_some s.ask || is_some s.answer) gone s
 
-quiet_leave : (lines : List Line) (n : NameValue) (host : Opened) → AreQuiet lines → IsNew (after_lines lines host) n → IsNew host n
+quiet_leave : (lines : List Line) (n : NameValue) (host : Opened) → AreSettings lines → IsNew (after_lines lines host) n → IsNew host n
 quiet_leave [] n host quiet new = new
-quiet_leave (Stops name ∷ lines) n host quiet new = by (quiet_leave lines n (after_line (Stops name) host) quiet new) (same_name name n) refl where
+quiet_leave (Stops name ∷ lines) n host quiet new = by (quiet_leave lines n (after_line (Stops name) host) quiet.1 new) (same_name name n) refl where
   by : IsNew (after_line (Stops name) host) n → (b : Bool) → same_name name n ≡ b → IsNew host n
   by there false other = sym (stop_leaves name n host other) ∙ there
   by there true same = absurd (none_new (sym (subst (λ (m : NameValue). level (after_line (Stops name) host) m ≡ None) (same_name-is name n same) (stop_ends name host)) ∙ there))
-quiet_leave (SetsDistance source micros ∷ lines) n host quiet new = quiet_leave lines n (after_line (SetsDistance source micros) host) quiet new
-quiet_leave (Tunes constants ∷ lines) n host quiet new = quiet_leave lines n (after_line (Tunes constants) host) quiet new
-quiet_leave (Asks name ∷ lines) n host quiet new = absurd quiet
-quiet_leave (line ∷ lines) n host quiet new = absurd quiet
+quiet_leave (SetsDistance source micros ∷ lines) n host quiet new = quiet_leave lines n (after_line (SetsDistance source micros) host) quiet.1 new
+quiet_leave (Tunes constants ∷ lines) n host quiet new = quiet_leave lines n (after_line (Tunes constants) host) quiet.1 new
+quiet_leave (Asks name ∷ lines) n host quiet new = absurd quiet.0
+quiet_leave (line ∷ lines) n host quiet new = absurd quiet.0
 
 -- where none stands, none comes to stand
 abbrev pub HasNone : Opened → NameValue → Type 0
 HasNone host n = level host n ≡ None
 
-quiet_none : (lines : List Line) (n : NameValue) (host : Opened) → AreQuiet lines → HasNone host n → HasNone (after_lines lines host) n
+quiet_none : (lines : List Line) (n : NameValue) (host : Opened) → AreSettings lines → HasNone host n → HasNone (after_lines lines host) n
 quiet_none [] n host quiet none = none
-quiet_none (Stops name ∷ lines) n host quiet none = quiet_none lines n (after_line (Stops name) host) quiet (by (same_name name n) refl) where
+quiet_none (Stops name ∷ lines) n host quiet none = quiet_none lines n (after_line (Stops name) host) quiet.1 (by (same_name name n) refl) where
   by : (b : Bool) → same_name name n ≡ b → HasNone (after_line (Stops name) host) n
   by false other = stop_leaves name n host other ∙ none
   by true same = subst (λ (m : NameValue). HasNone (after_line (Stops name) host) m) (same_name-is name n same) (stop_ends name host)
-quiet_none (SetsDistance source micros ∷ lines) n host quiet none = quiet_none lines n (after_line (SetsDistance source micros) host) quiet none
-quiet_none (Tunes constants ∷ lines) n host quiet none = quiet_none lines n (after_line (Tunes constants) host) quiet none
-quiet_none (Asks name ∷ lines) n host quiet none = absurd quiet
-quiet_none (line ∷ lines) n host quiet none = absurd quiet
+quiet_none (SetsDistance source micros ∷ lines) n host quiet none = quiet_none lines n (after_line (SetsDistance source micros) host) quiet.1 none
+quiet_none (Tunes constants ∷ lines) n host quiet none = quiet_none lines n (after_line (Tunes constants) host) quiet.1 none
+quiet_none (Asks name ∷ lines) n host quiet none = absurd quiet.0
+quiet_none (line ∷ lines) n host quiet none = absurd quiet.0
 
 -- one that asks sets one timer
 asks_leaves : (name n : NameValue) (host : Opened) → same_name name n ≡ false → level (after_line (Asks name) host) n ≡ level host n
@@ -253,41 +245,11 @@ pub record AreNew (k : Keeping) (names : List NameValue) : Type 0 where
   pub all : (m : NameValue) → IsNew k.host m → Contains names m
   pub paid : present k.host + length names * cost ≤ max k.policy.owed (present k.host)
 
--- the lines by which a name is wanted, and what they come to
-usual_quiet : (source distance : ℕ) (usual : Option ℕ) → AreQuiet (usual_lines source distance usual)
-usual_quiet source distance None = tt
-usual_quiet source distance (Some u) = by (nat_eq distance 100000) where
-  by : (b : Bool) → AreQuiet (cond b (SetsDistance source u ∷ []) [])
-  by true = tt
-  by false = tt
-
-room_quiet : (name : NameValue) (v : View) → AreQuiet (room_lines name v)
-room_quiet name v = by (is_asked v name) (nat_le 64 (length v.asked)) (oldest v.asked) where
-  by : (a b : Bool) (o : Option AskedName) → AreQuiet (cond a (Stops name ∷ []) (cond b (stops_oldest o) []))
-  by true b o = tt
-  by false true None = tt
-  by false true (Some a) = tt
-  by false false o = tt
-
 -- distances move no timer
 usual_levels : (source distance : ℕ) (usual : Option ℕ) (n : NameValue) (host : Opened) → level (after_lines (usual_lines source distance usual) host) n ≡ level host n
 usual_levels source distance None n host = refl
 usual_levels source distance (Some u) n host = by (nat_eq distance 100000) where
   by : (b : Bool) → level (after_lines (cond b (SetsDistance source u ∷ []) []) host) n ≡ level host n
-  by true = refl
-  by false = refl
-
-quiet_time : (lines : List Line) (host : Opened) → AreQuiet lines → present (after_lines lines host) ≡ present host
-quiet_time [] host quiet = refl
-quiet_time (Stops name ∷ lines) host quiet = quiet_time lines (after_line (Stops name) host) quiet
-quiet_time (SetsDistance source micros ∷ lines) host quiet = quiet_time lines (after_line (SetsDistance source micros) host) quiet
-quiet_time (Tunes constants ∷ lines) host quiet = quiet_time lines (after_line (Tunes constants) host) quiet
-quiet_time (Asks name ∷ lines) host quiet = absurd quiet
-quiet_time (line ∷ lines) host quiet = absurd quiet
-
-asks_time : (name : NameValue) (host : Opened) → present (after_line (Asks name) host) ≡ present host
-asks_time name host = by (may_ask name host) where
-  by : (b : Bool) → present (cond b (doing (Misses (present host) (name ∷ []) (word_of host.random ∷ [])) 1 host) host) ≡ present host
   by true = refl
   by false = refl
 
@@ -310,6 +272,12 @@ module _ (name : NameValue) (anew : Bool) (k : Keeping) where
   abbrev last : Opened
   last = after_line (Asks name) two
 
+  room_sets : AreSettings first
+  room_sets = room_each IsSetting (λ name. tt) name v
+
+  usual_sets : AreSettings usual
+  usual_sets = usual_each IsSetting name.source (v.distance name.source) k.policy.usual (λ micros e. tt)
+
   there : after_lines (lines_wanted name anew (sees k.host) k.policy) k.host ≡ last
   there = after_both first (usual ++ Asks name ∷ []) k.host ∙ after_both usual (Asks name ∷ []) one
 
@@ -325,11 +293,13 @@ module _ (name : NameValue) (anew : Bool) (k : Keeping) where
   new_back : (m : NameValue) → IsNew last m → (name ≡ m) ⊎ IsNew k.host m
   new_back m new = ⊎_elim
       (λ (e : name ≡ m). inl e)
-      (λ (new : IsNew two m). inr (quiet_leave first m k.host (room_quiet name v) (quiet_leave usual m one (usual_quiet name.source (v.distance name.source) k.policy.usual) new)))
+      (λ (new : IsNew two m). inr (quiet_leave first m k.host room_sets (quiet_leave usual m one usual_sets new)))
       (asks_new name m two new)
 
-  now_last : present last ≡ present k.host
-  now_last = asks_time name two ∙ quiet_time usual one (usual_quiet name.source (v.distance name.source) k.policy.usual) ∙ quiet_time first k.host (room_quiet name v)
+  now_wanted : present (after_lines (lines_wanted name anew (sees k.host) k.policy) k.host) ≡ present k.host
+  now_wanted =
+      (lines_rest (lines_wanted name anew (sees k.host) k.policy) k.host
+      (wanted_each IsSmall (λ name. tt) name tt anew (sees k.host) k.policy (λ micros e. tt))).now
 
   -- it is among those that are new then, or nothing was done
   module _ (names : List NameValue) (are : AreNew k names) where
@@ -342,7 +312,7 @@ module _ (name : NameValue) (anew : Bool) (k : Keeping) where
             (λ (e : name ≡ m). subst (λ (x : NameValue). Contains (name ∷ names) x) e (Contains-here name names))
             (λ (new : IsNew k.host m). Contains-there name m names (are.all m new))
             (new_back m (subst (λ (h : Opened). IsNew h m) there new));
-        paid = let p = are.paid in let now = ap present there ∙ now_last in paid_then k.policy.owed (present k.host) (present (done true).host) (length names) p now;
+        paid = let p = are.paid in let now = now_wanted in paid_then k.policy.owed (present k.host) (present (done true).host) (length names) p now;
       },
       omega arith,
     ) where
@@ -395,7 +365,7 @@ module _ (name : NameValue) (anew : Bool) (k : Keeping) where
             flipped false e = refl
 
   none_two : (n : NameValue) → HasNone k.host n → HasNone two n
-  none_two n none = quiet_none usual n one (usual_quiet name.source (v.distance name.source) k.policy.usual) (quiet_none first n k.host (room_quiet name v) none)
+  none_two n none = quiet_none usual n one usual_sets (quiet_none first n k.host room_sets none)
 
   -- one without a timer has none then, unless it is the name itself
   pub still_none : (n : NameValue) → same_name name n ≡ false → HasNone k.host n → HasNone (after_doing (want name anew) k).host n
@@ -464,7 +434,7 @@ owed_then name anew k used le = by (is_wanted (holds (view_of k.host) name) (is_
 passes : (name : NameValue) (k : Keeping) (n : NameValue) (used : ℕ) → same_name name n ≡ false → MayBeAsked k n used → MayBeAsked (after_doing (want name true) k) n (suc used)
 passes name k n used other may =
     let d = want name true (sees k.host) k.policy in
-    let rests = lines_rest d.lines k.host (want_small name true (sees k.host) k.policy) in
+    let rests = lines_rest d.lines k.host (want_each IsSmall are_small name true (sees k.host) k.policy) in
     let of = lines_of d.lines k.host in
     let more = then_are_new name true k may.names may.are in
     record {

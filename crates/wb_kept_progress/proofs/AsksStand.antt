@@ -1,65 +1,26 @@
 -- Behind a line by which a host asks for a name its timer stands.
-use Rattle.std.proofs.Common.{◌≡◌, ℕ, Bool, true, false, cond, List, [], ◌∷◌, ◌++◌, ◌∙◌, Option, Some, None, ap, append_assoc, map, refl, subst, sym, ⊎_elim}
-use Rattle.std.specs.Prelude.{Contains, length, nat_eq, nat_le, not, take}
+use Rattle.std.proofs.Common.{◌≡◌, Bool, true, false, cond, List, [], ◌∷◌, ◌++◌, ◌∙◌, None, ap, append_assoc, refl, subst, sym, ⊎_elim}
+use Rattle.std.specs.Prelude.{Contains, not, take}
 use Rattle.std.proofs.lemmas.Bool.{and_parts}
 use Rattle.std.proofs.lemmas.List.Elements.{Contains-append_cases}
 use Rattle.wb_names.specs.Values.{NameValue}
-use Rattle.wb_names.specs.declared.name.PageId.{PageId}
 use Rattle.wb_names.proofs.Listings.{Contains-cases, Contains-none}
 use Rattle.wb_gaps.specs.Answers.{pages_of}
 use Rattle.wb_member.specs.Opened.{Opened, asks_for}
 use Rattle.wb_keeping.specs.Fairness.{AnswersWhatIsHeld}
-use Rattle.wb_keeping.specs.Kept.{Arrives, Asks, Doing, Hears, Line, Says, SetsDistance, Stops, Ticks, Tunes, room_lines, state_of, still, stops_oldest, usual_lines, want}
+use Rattle.wb_keeping.specs.Kept.{Arrives, Asks, Doing, Hears, Line, Stops, Ticks, Tunes, room_lines, still, usual_lines, want}
 use Rattle.wb_keeping.specs.Laws.{KeptLine, doing_of, fault_of}
 use Rattle.wb_keeping.specs.Performing.{Keeping, after_doing, after_lines, sees, view_of}
-use Rattle.wb_keeping.specs.Policy.{View, after_wanting, holds, is_asked, is_full, level}
-use Rattle.wb_keeping.specs.Wanting.{goes_on, is_wanted, oldest}
-use Rattle.wb_keeping.specs.declared.wanting.AskedName.{AskedName}
+use Rattle.wb_keeping.specs.Policy.{View, after_wanting, holds, is_full, level}
+use Rattle.wb_keeping.specs.Wanting.{goes_on, is_wanted}
 use Rattle.wb_keeping.proofs.EachStep.{HoldsOfSteps, line_holds}
 use Rattle.wb_keeping.proofs.Performed.{after_both}
 use Rattle.wb_keeping.proofs.StandingTimers.{stands_asked}
 use Rattle.wb_keeping.proofs.Wanted.{is_asked_for, lines_wanted}
 use Rattle.wb_keeping.proofs.WantedNames.{lines_answer_held, wanted_is_asked}
 use Rattle.wb_kept_progress.proofs.WantedIn.{IsAskedInCall}
-
--- ---- lines that ask for nothing
-
-abbrev IsNoAsk : Line → Type 0
-IsNoAsk (Asks name) = ⊥
-IsNoAsk line = Unit {0}
-
-abbrev AreNoAsks : List Line → Type 0
-AreNoAsks [] = Unit {0}
-AreNoAsks (line ∷ lines) = IsNoAsk line × AreNoAsks lines
-
-none_asks : (n : NameValue) (lines : List Line) → AreNoAsks lines → Contains lines (Asks n) → ⊥
-none_asks n [] none c = Contains-none (Asks n) c
-none_asks n (line ∷ lines) none c = ⊎_elim
-    (λ (e : line ≡ Asks n). subst IsNoAsk e none.0)
-    (λ (rest : Contains lines (Asks n)). none_asks n lines none.1 rest)
-    (Contains-cases line (Asks n) lines c)
-
-oldest_none : (o : Option AskedName) → AreNoAsks (stops_oldest o)
-oldest_none None = tt
-oldest_none (Some a) = (tt, tt)
-
-room_none : (name : NameValue) (v : View) → AreNoAsks (room_lines name v)
-room_none name v = by (is_asked v name) (nat_le 64 (length v.asked)) where
-  by : (a b : Bool) → AreNoAsks (cond a (Stops name ∷ []) (cond b (stops_oldest (oldest v.asked)) []))
-  by true b = (tt, tt)
-  by false true = oldest_none (oldest v.asked)
-  by false false = tt
-
-usual_none : (source distance : ℕ) (usual : Option ℕ) → AreNoAsks (usual_lines source distance usual)
-usual_none source distance None = tt
-usual_none source distance (Some u) = by (nat_eq distance 100000) where
-  by : (b : Bool) → AreNoAsks (cond b (SetsDistance source u ∷ []) [])
-  by true = (tt, tt)
-  by false = tt
-
-says_none : (v : View) (pages : List PageId) → AreNoAsks (map (λ page. Says (state_of v page)) pages)
-says_none v [] = tt
-says_none v (page ∷ pages) = (tt, says_none v pages)
+use Rattle.wb_kept_progress.proofs.AskedInCalls.{AskNothing, IsAskOf, asked_is}
+use Rattle.wb_keeping.proofs.EachLine.{room_each, states_each, usual_each}
 
 -- ---- each step of a policy
 
@@ -74,8 +35,8 @@ record AsksStand (k : Keeping) (lines : List Line) (m : Keeping) : Type 0 where
   at : m.host ≡ after_lines lines k.host
   stand : AnswersWhatIsHeld k.host → (n : NameValue) → Contains lines (Asks n) → Stands lines k.host n
 
-asks_nothing : (k : Keeping) (lines : List Line) (m : Keeping) → m.host ≡ after_lines lines k.host → AreNoAsks lines → AsksStand k lines m
-asks_nothing k lines m at none = record { at = at; stand = λ answers_held n c. absurd (none_asks n lines none c) }
+asks_nothing : (k : Keeping) (lines : List Line) (m : Keeping) → m.host ≡ after_lines lines k.host → AskNothing lines → AsksStand k lines m
+asks_nothing k lines m at none = record { at = at; stand = λ answers_held n c. absurd (asked_is (λ n. ⊥) lines n none c) }
 
 both_stand : (k m l : Keeping) (one other : List Line) → AsksStand k one m → AsksStand m other l → AsksStand k (one ++ other) l
 both_stand k m l one other a b = record { at = b.at ∙ ap (after_lines other) a.at ∙ sym (after_both one other k.host); stand = stand } where
@@ -121,9 +82,9 @@ wants_stand name anew k = record { at = refl; stand = λ answers_held n c. by an
 
   only : (n : NameValue) → Contains (first ++ (usual ++ Asks name ∷ [])) (Asks n) → name ≡ n
   only n c = ⊎_elim
-      (λ (in_first : Contains first (Asks n)). absurd (none_asks n first (room_none name v) in_first))
+      (λ (in_first : Contains first (Asks n)). absurd (asked_is (λ n. ⊥) first n (room_each (IsAskOf (λ n. ⊥)) (λ name. tt) name v) in_first))
       (λ (rest : Contains (usual ++ Asks name ∷ []) (Asks n)). ⊎_elim
-      (λ (in_usual : Contains usual (Asks n)). absurd (none_asks n usual (usual_none name.source (v.distance name.source) k.policy.usual) in_usual))
+      (λ (in_usual : Contains usual (Asks n)). absurd (asked_is (λ n. ⊥) usual n (usual_each (IsAskOf (λ n. ⊥)) name.source (v.distance name.source) k.policy.usual (λ micros e. tt)) in_usual))
       (λ (last : Contains (Asks name ∷ []) (Asks n)). ⊎_elim (same_name n) (λ (none : Contains [] (Asks n)). absurd (Contains-none (Asks n) none)) (Contains-cases (Asks name) (Asks n) [] last))
       (Contains-append_cases usual (Asks name ∷ []) (Asks n) rest))
       (Contains-append_cases first (usual ++ Asks name ∷ []) (Asks n) c)
@@ -154,8 +115,15 @@ wants_stand name anew k = record { at = refl; stand = λ answers_held n c. by an
 
 steps_stand : HoldsOfSteps AsksStand
 steps_stand = record {
-  nothing = λ k. asks_nothing k [] k refl tt;
-  both = both_stand;
+  due = record {
+    nothing = λ k. asks_nothing k [] k refl tt;
+    both = both_stand;
+    wants = wants_stand;
+    turned = λ t k. asks_nothing k [] _ refl tt;
+    answers = λ k is. asks_nothing k _ _ refl (states_each (IsAskOf (λ n. ⊥)) (view_of k.host) (λ page. tt) (take 64 (pages_of k.host.is.held)));
+    asks_pages = λ k is. asks_nothing k _ _ refl (tt, tt);
+    reports = λ page told k is. asks_nothing k _ _ refl (tt, tt);
+  };
   ticks = λ now k later. asks_nothing k (Ticks now ∷ []) _ refl (tt, tt);
   arrives = λ d k. asks_nothing k (Arrives d ∷ []) _ refl (tt, tt);
   answered = λ d k lacks asked. asks_nothing k (Arrives d ∷ []) _ refl (tt, tt);
@@ -163,15 +131,10 @@ steps_stand = record {
   stops = λ name k full. asks_nothing k (Stops name ∷ []) _ refl (tt, tt);
   sets = λ source micros k. asks_nothing k _ _ refl (tt, tt);
   tunes = λ constants k within. asks_nothing k (Tunes constants ∷ []) _ refl (tt, tt);
-  wants = wants_stand;
   draws = λ d k. asks_nothing k _ _ refl (tt, tt);
-  turned = λ t k. asks_nothing k [] _ refl tt;
   measured = λ micros k. asks_nothing k [] _ refl tt;
   told = λ k. asks_nothing k [] _ refl tt;
   takes_up = λ k is. asks_nothing k [] _ refl tt;
-  answers = λ k is. asks_nothing k _ _ refl (says_none (view_of k.host) (take 64 (pages_of k.host.is.held)));
-  asks_pages = λ k is. asks_nothing k _ _ refl (tt, tt);
-  reports = λ page told k is. asks_nothing k _ _ refl (tt, tt);
 }
 
 -- ---- calls

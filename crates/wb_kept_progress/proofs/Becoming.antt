@@ -192,9 +192,6 @@ module _ (hosts : ℕ → Opening) where
 
 module _ (hosts : ℕ → Opening) (terms : Terms) (trace : List TimedLine) (sizes : Sizes) (wait most : ℕ) (all : Holds hosts terms trace sizes wait most)
     (was_held : HeldWasHeld) (due_soon : ReportsAreDue) (wanted : LackIsWanted) (no_credit : NoCreditIsAsked) (ends : StillnessEnds) where
-  abbrev Lacks : List TimedLine → ℕ → NameValue → Type 0
-  Lacks part i n = Contains terms.live i × (holds (there hosts part i).host n ≡ false)
-
   abbrev start : ℕ
   start = known_from terms + wait + repairing terms
 

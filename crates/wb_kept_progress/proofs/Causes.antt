@@ -1,5 +1,5 @@
 -- Why a name is asked for.
-use Rattle.std.proofs.Common.{◌≡◌, ◌≢◌, ℕ, ◌+◌, ◌<◌, ◌≤◌, Bool, true, List, [], ◌∷◌, ◌++◌, ◌∙◌, ap, append_assoc, arith, inl, inr, length, refl, subst, sym, ⊎_elim}
+use Rattle.std.proofs.Common.{◌≡◌, ℕ, ◌+◌, ◌<◌, ◌≤◌, Bool, true, List, [], ◌∷◌, ◌++◌, ◌∙◌, ap, append_assoc, arith, inl, inr, refl, subst, sym, ⊎_elim}
 use Rattle.std.specs.Prelude.{◌⊎◌, ◌&&◌, Contains, filter, nat_eq, nat_le, not}
 use Rattle.wb_names.specs.History.{name_of}
 use Rattle.wb_names.specs.Values.{DrawopValue, MarkValue, NameValue}
@@ -16,7 +16,7 @@ use Rattle.wb_keeping.specs.Performing.{Keeping, after_doing}
 use Rattle.wb_kept_progress.specs.Sessions.{AreTaken, Opening}
 use Rattle.wb_kept_progress.specs.Timed.{IsTold, TellTimes, TimedLine, lines_of}
 use Rattle.wb_kept_progress.specs.Whole.{IsHeldBySome, IsTimelySession, WasSentBy, there}
-use Rattle.wb_kept_progress.proofs.AskedInCalls.{AreTold, IsMore, asked_is, lines_by}
+use Rattle.wb_kept_progress.proofs.AskedInCalls.{AreTold, IsMore, asked_is, lines_by, more_differs}
 use Rattle.wb_kept_progress.proofs.Courses.{IsCourse, came_course, ticked_course}
 use Rattle.wb_kept_progress.proofs.Repairs.{moved}
 use Rattle.wb_kept_progress.proofs.StopCauses.{call_taken}
@@ -102,10 +102,6 @@ module _ (held_was : HeldWasHeld) (hosts : ℕ → Opening) (terms : Terms) (tra
     goes =
         let g = goes_by e.at.line refl (tells_at terms newer older e (subst (TellTimes terms) split session.times)) in
         subst (λ (m : Keeping). IsMore k m ⊎ IsCourse IsSome k now (does hosts e older) m) (sym next_is) g
-
--- what grew is another board
-pub more_differs : (k m : Keeping) → IsMore k m → m.host.is.held ≢ k.host.is.held
-more_differs k m more same = let e = ap (λ (h : List DrawopValue). length h) same in absurd (omega (arith, e, more))
 
 pub asks_have_cause : HeldWasHeld → AsksHaveCause
 asks_have_cause held_was hosts terms trace newer older e n session split late asked =

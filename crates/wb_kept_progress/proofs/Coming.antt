@@ -29,7 +29,8 @@ use Rattle.wb_kept_progress.specs.Sessions.{AreHosts, AreTaken, LineAt, NothingI
 use Rattle.wb_kept_progress.proofs.Hearing.{report_asks, report_holds}
 use Rattle.wb_kept_progress.proofs.Lines.{is_false}
 use Rattle.wb_kept_progress.proofs.Repairs.{asked_can_come, fine_at, idle, is_itself, moved, of_opening, places_differ, session_in_time}
-use Rattle.wb_kept_progress.proofs.Turning.{answers_at, brought_behind, by_turn, comes_to_tell, count_of, in_map, not_ours, others_stay, some_ticks, ticks_unforged, told_of}
+use Rattle.wb_kept_progress.proofs.Turning.{answers_at, brought_behind, by_turn, comes_to_tell, count_of, in_map, not_ours, others_stay, some_ticks, ticks_unforged}
+use Rattle.wb_kept_progress.proofs.Leaving.{told_of}
 
 -- ---- marks
 

@@ -25,12 +25,11 @@ use Rattle.wb_keeping.specs.declared.turns.Turns.{Turns}
 use Rattle.wb_keeping.proofs.EachStep.{doing, having, having_done}
 use Rattle.wb_keeping.proofs.Performed.{then_after}
 use Rattle.wb_keeping.proofs.Wanted.{lines_wanted}
-use Rattle.wb_kept_progress.proofs.Going.{answers_small}
-use Rattle.wb_kept_progress.proofs.Lines.{AreSmall, lines_rest}
+use Rattle.wb_kept_progress.proofs.Lines.{AreSmall, lines_rest, IsSmall, are_small, lines_grow}
 use Rattle.wb_kept_progress.proofs.Repairs.{came_after}
-use Rattle.wb_kept_progress.proofs.StopCauses.{lines_longer}
 use Rattle.wb_kept_progress.proofs.WholeParts.{HasTurn}
-use Rattle.wb_kept_progress.proofs.AskedInCalls.{AreTold, AskFor, AskNothing, AsksFor, HasAsk, IsMore, as_it_was, ask_both, asked_is, asks_as, for_nothing, hears_asks, lines_by, states_ask, then_lines, wanted_asks}
+use Rattle.wb_kept_progress.proofs.AskedInCalls.{AreTold, AskFor, AskNothing, AsksFor, HasAsk, IsMore, as_it_was, asked_is, asks_as, for_nothing, hears_asks, lines_by, then_lines, IsAskOf}
+use Rattle.wb_keeping.proofs.EachLine.{answers_each, each_both, states_each, wanted_each}
 
 -- ---- what is due
 
@@ -59,7 +58,7 @@ turn_wants n p k same is = by (is_wanted (holds v n) (is_full v) true (level v n
 
   by : (b : Bool) → TakesTurn k (cond b wanted (still (sees k.host) p)).lines (having_done (cond b wanted (still (sees k.host) p)) k)
   by true = record {
-    asks = wanted_asks (λ m. name_in_turn k.host.is.held k.policy.turns ≡ Some m) n true (sees k.host) p is;
+    asks = wanted_each (IsAskOf (λ m. name_in_turn k.host.is.held k.policy.turns ≡ Some m)) (λ name. tt) n is true (sees k.host) p (λ micros e. tt);
     owed = inr (same_spent k.policy.owed v.now p.owed v.now same refl);
   }
   by false = record { asks = tt; owed = inl same }
@@ -92,7 +91,7 @@ record IsPlain (k : Keeping) (lines : List Line) (m : Keeping) : Type 0 where
   asks : AskNothing lines
 
 answers_plain : (k : Keeping) → IsPlain k (lines_by answers k) (after_doing answers k) × ((after_doing answers k).policy.reports.due ≡ k.policy.reports.due)
-answers_plain k = by (is_due v.now k.policy.questions.answer) (answers_small (sees k.host) k.policy) where
+answers_plain k = by (is_due v.now k.policy.questions.answer) (answers_each IsSmall are_small (sees k.host) k.policy) where
   v : View
   v = view_of k.host
 
@@ -105,7 +104,7 @@ answers_plain k = by (is_due v.now k.policy.questions.answer) (answers_small (se
   by : (b : Bool) → AreSmall (cond b some none).lines
       → IsPlain k (cond b some none).lines (having_done (cond b some none) k) × ((having_done (cond b some none) k).policy.reports.due ≡ k.policy.reports.due)
   by true small = let r = lines_rest some.lines k.host small in
-      (record { held = r.held; now = r.now; turns = refl; owed = refl; asks = states_ask v (take 64 (pages_of v.held)) }, refl)
+      (record { held = r.held; now = r.now; turns = refl; owed = refl; asks = states_each (IsAskOf (λ n. ⊥)) v (λ page. tt) (take 64 (pages_of v.held)) }, refl)
   by false small = (record { held = refl; now = refl; turns = refl; owed = refl; asks = tt }, refl)
 
 questions_plain : (k : Keeping)
@@ -141,7 +140,7 @@ record TakesDue (k : Keeping) (lines : List Line) (m : Keeping) : Type 0 where
 due_from : (k m n : Keeping) (one other : List Line) → IsPlain k one m → m.policy.reports.due ≡ k.policy.reports.due → TakesDue m other n
     → TakesDue k (one ++ other) n
 due_from k m n one other p due d = record {
-  asks = ask_both (HasTurn k (present k.host)) one other (for_nothing (HasTurn k (present k.host)) one p.asks)
+  asks = each_both (IsAskOf (HasTurn k (present k.host))) one other (for_nothing (HasTurn k (present k.host)) one p.asks)
       (asks_as (HasTurn m (present m.host)) (HasTurn k (present k.host)) had other d.asks);
   owed = ⊎_elim (λ (e : n.policy.owed ≡ m.policy.owed). inl (e ∙ p.owed))
       (λ (e : (m.policy.reports.due ≤ present m.host) × (n.policy.owed ≡ spent m.policy.owed (present m.host))).
@@ -172,7 +171,7 @@ due_taken k = by (nat_le k.policy.reports.due (present k.host)) refl where
       let had : (x : NameValue) → name_in_turn m.host.is.held m.policy.turns ≡ Some x → HasTurn k (present k.host) x =
       λ x named. record { due = due; named = same_turn k m x p.held p.turns named } in
       record {
-        asks = ask_both (HasTurn k (present k.host)) (lines_by reports k) (lines_by turn m) (for_nothing (HasTurn k (present k.host)) (lines_by reports k) p.asks)
+        asks = each_both (IsAskOf (HasTurn k (present k.host))) (lines_by reports k) (lines_by turn m) (for_nothing (HasTurn k (present k.host)) (lines_by reports k) p.asks)
             (asks_as (λ x. name_in_turn m.host.is.held m.policy.turns ≡ Some x) (HasTurn k (present k.host)) had (lines_by turn m) t.asks);
         owed = ⊎_elim (λ (same : (after_doing turn m).policy.owed ≡ m.policy.owed). inl (same ∙ p.owed))
             (λ (more : (after_doing turn m).policy.owed ≡ spent m.policy.owed (present m.host)).
@@ -222,7 +221,7 @@ module _ (P : NameValue → Type 0) (k : Keeping) (now : ℕ) where
       record {
         asks = (
           tt,
-          ask_both Q lines (lines_by timed x) (asks_as P Q (λ n is. inl is) lines a.asks)
+          each_both (IsAskOf Q) lines (lines_by timed x) (asks_as P Q (λ n is. inl is) lines a.asks)
               (asks_as (HasTurn x (present x.host)) Q (λ n h. inr (had n h)) (lines_by timed x) t.asks),
         );
         owed = ⊎_elim
@@ -255,7 +254,7 @@ module _ (P : NameValue → Type 0) (k : Keeping) (now : ℕ) where
       let behind = sym (came_after now v k) in
       ⊎_elim
       (λ (more : IsMore m x).
-      let le = lines_longer (lines_by timed x) x.host in
+      let le = (lines_grow (lines_by timed x) x.host).longer in
       inl (subst (λ (n : Keeping). IsMore k n) behind (omega (arith, more, le))))
       (λ (a : AsksFor P m (lines_by (hears v) m) x).
       inr (subst (λ (n : Keeping). IsCourse P k now (lines_by (came now v) k) n) behind

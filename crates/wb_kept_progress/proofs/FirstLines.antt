@@ -8,13 +8,13 @@ use Rattle.wb_names.specs.declared.parts.Op.{Op}
 use Rattle.wb_codec.specs.declared.datagram.Datagram.{Datagram}
 use Rattle.wb_codec.specs.declared.datagram.Datagram.TheVariants.{Draw, Session, Request, AskPages, PageState}
 use Rattle.wb_member.specs.Opened.{Opened}
-use Rattle.wb_keeping.specs.Kept.{Arrives, Asks, Doing, Hears, Line, Says, SetsDistance, Tunes, Stops, Ticks, Transition, and_then, came, distance_in, drawing, end, ends_full, hears, hears_some, learned, measures, own_echo, own_marks, performs, still, takes_question, timed, told_names, want_told}
+use Rattle.wb_keeping.specs.Kept.{Arrives, Asks, Doing, Hears, Line, Says, SetsDistance, Tunes, Stops, Ticks, Transition, and_then, came, distance_in, drawing, ends_full, hears, hears_some, learned, measures, own_echo, own_marks, performs, still, takes_question, timed, told_names, want_told}
 use Rattle.wb_keeping.specs.Laws.{KeptLine, Came, Ticked, Added, Tuned, doing_of}
 use Rattle.wb_keeping.specs.Performing.{Keeping, after_line, after_lines, sees, view_of}
 use Rattle.wb_keeping.specs.Policy.{Policy, View, after_state, after_taking_up, holds, is_asked, is_full}
 use Rattle.wb_keeping.specs.Questions.{is_to_answer}
-use Rattle.wb_kept_progress.proofs.Going.{SaysLittle, learned_small, measures_small, small_then, stops_small, timed_small, want_told_small}
-use Rattle.wb_kept_progress.proofs.Lines.{AreSmall, small_both}
+use Rattle.wb_kept_progress.proofs.Lines.{AreSmall, IsSmall, are_small}
+use Rattle.wb_keeping.proofs.EachLine.{learned_each, measures_each, timed_each, told_each, each_both, ends_each, then_each}
 
 -- ---- a line of a call
 
@@ -86,7 +86,7 @@ record HasFirst (call : KeptLine) (start host : Opened) (lines : List Line) : Ty
 with_more : (call : KeptLine) (start host : Opened) (lines more : List Line) → AreSmall more → HasFirst call start host lines → AreLinesOf call start host (lines ++ more)
 with_more call start host lines more little f =
     let h = after_lines f.first host in
-    let all = join call start host f.first (f.rest ++ more) f.fine (from_small call start h (f.rest ++ more) (small_both f.rest more f.small little)) in
+    let all = join call start host f.first (f.rest ++ more) f.fine (from_small call start h (f.rest ++ more) (each_both IsSmall f.rest more f.small little)) in
     subst (AreLinesOf call start host) (sym (append_assoc f.first f.rest more) ∙ ap (λ (ls : List Line). ls ++ more) (sym f.split)) all
 
 none_first : (call : KeptLine) (start host : Opened) (lines : List Line) → AreSmall lines → HasFirst call start host lines
@@ -120,7 +120,7 @@ module _ (now : ℕ) (start : Opened) where
     known = one_first call start host (Arrives d) [] ((now, refl), refl) tt
 
     learns : HasFirst call start host new.lines
-    learns = one_first call start host (Arrives d) (learned d.name (is_asked (view_of host) d.name) (sees with_it) p).lines ((now, refl), refl) (learned_small d.name (is_asked (view_of host) d.name) (sees with_it) p)
+    learns = one_first call start host (Arrives d) (learned d.name (is_asked (view_of host) d.name) (sees with_it) p).lines ((now, refl), refl) (learned_each IsSmall are_small d.name (is_asked (view_of host) d.name) (sees with_it) p)
 
     by : (a b : Bool) → HasFirst call start host (cond (a || b) (performs (Arrives d) (sees host) p) new).lines
     by true b = known
@@ -152,7 +152,7 @@ module _ (now : ℕ) (start : Opened) where
 
     other : HasFirst call start host (and_then (performs (Hears own)) more (sees host) p).lines
     other = one_first call start host (Hears own) (more (sees heard) p).lines tt
-        (small_then measuring wanting (measures_small sender (distance_in v.now (own_echo v.me echoes))) (want_told_small (told_names v.me page marks)) (sees heard) p)
+        (then_each IsSmall measuring wanting (measures_each IsSmall are_small sender (distance_in v.now (own_echo v.me echoes))) (told_each IsSmall are_small (told_names v.me page marks)) (sees heard) p)
 
   state_first : (sender : ℕ) (page : PageId) (marks : List MarkValue) (p : Policy) → HasFirst (Came now (PageState sender page marks)) start host (hears (PageState sender page marks) (sees host) p).lines
   state_first sender page marks p = choose call start host (nat_eq sender host.is.number) (still (sees host) p) (and_then (hears_some sender page own) (want_told names) (sees host) q) (none_first call start host [] tt) (from own) where
@@ -172,10 +172,10 @@ module _ (now : ℕ) (start : Opened) where
     names = told_names v.me page marks
 
     from : (own : List MarkValue) → HasFirst call start host (and_then (hears_some sender page own) (want_told names) (sees host) q).lines
-    from [] = none_first call start host (want_told names (sees host) q).lines (want_told_small names (sees host) q)
+    from [] = none_first call start host (want_told names (sees host) q).lines (told_each IsSmall are_small names (sees host) q)
     from (m ∷ own) =
         let heard = after_line (Hears (PageState sender page (m ∷ own))) host in
-        one_first call start host (Hears (PageState sender page (m ∷ own))) (want_told names (sees heard) q).lines tt (want_told_small names (sees heard) q)
+        one_first call start host (Hears (PageState sender page (m ∷ own))) (want_told names (sees heard) q).lines tt (told_each IsSmall are_small names (sees heard) q)
 
   hears_first : (v : Datagram) (p : Policy) → HasFirst (Came now v) start host (hears v (sees host) p).lines
   hears_first (Draw d) p = drawop_first d p
@@ -192,12 +192,6 @@ module _ (now : ℕ) (start : Opened) where
       choose call start host (nat_eq asker host.is.number) (still (sees host) p) (takes_question (sees host) p) none
       (choose call start host (is_to_answer (view_of host).now (nat_lt 0 (length (view_of host).held)) p.questions) (still (sees host) q) (still (sees host) p) none none)
 
-ends_small : SaysLittle ends_full
-ends_small see p = by (is_full (see [])) where
-  by : (b : Bool) → AreSmall (cond b (end see p) (still see p)).lines
-  by true = stops_small (see []).asked
-  by false = tt
-
 -- ---- the lines of a call
 
 pub lines_of_call : (call : KeptLine) (k : Keeping) → AreLinesOf call k.host k.host (doing_of call (sees k.host) k.policy).lines
@@ -205,15 +199,15 @@ lines_of_call (Came now v) k =
     let host = after_line (Ticks now) k.host in
     let d = hears v (sees host) k.policy in
     let see = λ (lines : List Line). sees host (d.lines ++ lines) in
-    (tt, with_more (Came now v) k.host host d.lines (timed see d.policy).lines (timed_small see d.policy) (hears_first now k.host v k.policy))
+    (tt, with_more (Came now v) k.host host d.lines (timed see d.policy).lines (timed_each IsSmall are_small see d.policy) (hears_first now k.host v k.policy))
 lines_of_call (Ticked now) k =
     let host = after_line (Ticks now) k.host in
-    (tt, from_small (Ticked now) k.host host (timed (sees host) k.policy).lines (timed_small (sees host) k.policy))
+    (tt, from_small (Ticked now) k.host host (timed (sees host) k.policy).lines (timed_each IsSmall are_small (sees host) k.policy))
 lines_of_call (Added now page time op) k =
     let host = after_line (Ticks now) k.host in
     let d = drawing (view_of host) page time op in
     let drawn = after_line (Says (Draw d)) host in
-    (tt, ((now, page, time, op, refl, refl), from_small (Added now page time op) k.host drawn (and_then ends_full timed (sees drawn) k.policy).lines (small_then ends_full timed ends_small timed_small (sees drawn) k.policy)))
+    (tt, ((now, page, time, op, refl, refl), from_small (Added now page time op) k.host drawn (and_then ends_full timed (sees drawn) k.policy).lines (then_each IsSmall ends_full timed (ends_each IsSmall are_small) (timed_each IsSmall are_small) (sees drawn) k.policy)))
 lines_of_call (Tuned constants) k = (refl, tt)
 
 -- ---- the line by which a datagram comes in

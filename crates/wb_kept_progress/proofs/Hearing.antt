@@ -8,10 +8,8 @@ use Rattle.wb_names.specs.Values.{MarkValue, NameValue}
 use Rattle.wb_names.specs.declared.echo.Echo.{Echo}
 use Rattle.wb_names.specs.declared.name.PageId.{PageId}
 use Rattle.wb_codec.specs.declared.datagram.Datagram.{Datagram}
-use Rattle.wb_codec.specs.declared.datagram.Datagram.TheVariants.{Session, AskPages}
-use Rattle.wb_gaps.specs.Answers.{pages_of, report_of}
-use Rattle.wb_gaps.specs.Holes.{hole_after}
-use Rattle.wb_gaps.specs.declared.holes.Hole.{Hole}
+use Rattle.wb_codec.specs.declared.datagram.Datagram.TheVariants.{Session}
+use Rattle.wb_gaps.specs.Answers.{pages_of}
 use Rattle.wb_recovery.specs.Events.{Event, due_asks, names_of, timers_of, word_for, constants_after}
 use Rattle.wb_recovery.specs.Stopping.{got_each, is_received, receipts}
 use Rattle.wb_recovery.specs.Timing.{backed_off, fired_ask}
@@ -34,20 +32,18 @@ use Rattle.wb_member.specs.Random.{words_of}
 use Rattle.wb_keeping.specs.Credit.{cost}
 use Rattle.wb_keeping.specs.Distances.{bounded}
 use Rattle.wb_keeping.specs.Fairness.{AnswersWhatIsHeld}
-use Rattle.wb_keeping.specs.Kept.{Doing, Hears, Says, SetsDistance, Ticks, Transition, and_then, answers, asks_pages, came, distance_in, hears, hears_session, measures, own_echo, own_marks, performs, reports, reports_due, reports_rest, state_of, still, timed, told_names, turn, turn_to, want_told}
+use Rattle.wb_keeping.specs.Kept.{Hears, SetsDistance, Ticks, Transition, and_then, came, distance_in, hears, hears_session, measures, own_echo, own_marks, performs, still, timed, told_names, want_told, Line}
 use Rattle.wb_keeping.specs.Performing.{Keeping, after_doing, after_lines, sees, view_of}
-use Rattle.wb_keeping.specs.Policy.{Policy, View, after_answer, after_question, after_turn, holds, in_next_round, with_distance}
-use Rattle.wb_keeping.specs.Questions.{is_due}
-use Rattle.wb_keeping.specs.Reports.{slice_after}
-use Rattle.wb_keeping.specs.Turns.{name_in, nowhere}
-use Rattle.wb_keeping.proofs.EachStep.{having, with_policy}
+use Rattle.wb_keeping.specs.Policy.{Policy, holds, with_distance}
+use Rattle.wb_keeping.proofs.EachStep.{having, HoldsOfDue, having_done, timed_holds}
 use Rattle.wb_keeping.proofs.Performed.{then_after}
 use Rattle.wb_keeping.proofs.StandingTimers.{keeps}
 use Rattle.wb_keeping.proofs.WantedNames.{lines_answer_held}
 use Rattle.wb_kept_progress.proofs.Asking.{IsAskedAnew, IsNew, MayBeAsked, none_new, stays_asked, told_is_asked}
-use Rattle.wb_kept_progress.proofs.Going.{measures_small, timed_small, want_told_small}
-use Rattle.wb_kept_progress.proofs.Lines.{is_false, lines_rest}
+use Rattle.wb_kept_progress.proofs.Lines.{is_false, IsSmall, are_small, does_rest}
 use Rattle.wb_kept_progress.proofs.Repairs.{IsFine, came_after}
+use Rattle.wb_keeping.proofs.EachLine.{measures_each, timed_each, told_each}
+use Rattle.wb_keeping.proofs.Saying.{says_after}
 
 -- ---- behind a long wait no timer is new
 
@@ -162,59 +158,19 @@ asked_as k m n same owed is = record {
   at_most : (now later owed owes names : ℕ) → now + names * cost ≤ max owed now → later ≡ now → owes ≡ owed → later + names * cost ≤ max owes later
   at_most now later owed owes names p e f = omega (arith, p, e, f)
 
-states_said : (v : View) (pages : List PageId) (host : Opened) → after_lines (map (λ (page : PageId). Says (state_of v page)) pages) host ≡ host
-states_said v [] host = refl
-states_said v (page ∷ pages) host = states_said v pages host
+abbrev StaysAsked : NameValue → Keeping → List Line → Keeping → Type 0
+StaysAsked n k lines m = IsAskedAnew k n → IsAskedAnew m n
 
-abbrev done : Keeping → Doing → Keeping
-done k d = record { host = after_lines d.lines k.host; policy = d.policy }
-
-either : (k : Keeping) (n : NameValue) (b : Bool) (x y : Doing) → IsAskedAnew (done k x) n → IsAskedAnew (done k y) n → IsAskedAnew (done k (cond b x y)) n
-either k n true x y p q = p
-either k n false x y p q = q
-
-answers_asked : (k : Keeping) (n : NameValue) → IsAskedAnew k n → IsAskedAnew (after_doing answers k) n
-answers_asked k n is =
-    let v = view_of k.host in
-    let lines = map (λ (page : PageId). Says (state_of v page)) (take 64 (pages_of v.held)) in
-    let d : Doing = record { policy = after_answer v.now k.policy; lines = lines } in
-    either k n (is_due v.now k.policy.questions.answer) d (still (sees k.host) k.policy) (asked_as k (done k d) n (states_said v (take 64 (pages_of v.held)) k.host) refl is) is
-
-asks_asked : (k : Keeping) (n : NameValue) → IsAskedAnew k n → IsAskedAnew (after_doing asks_pages k) n
-asks_asked k n is =
-    let v = view_of k.host in
-    let d : Doing = record { policy = after_question v.now k.policy; lines = Says (AskPages v.me) ∷ [] } in
-    either k n (is_due v.now k.policy.questions.ask) d (still (sees k.host) k.policy) (asked_as k (done k d) n refl refl is) is
-
-rest_asked : (marks : List MarkValue) (k : Keeping) (n : NameValue) → IsAskedAnew k n → IsAskedAnew (done k (reports_rest marks (sees k.host) k.policy)) n
-rest_asked [] k n is = asked_as k (done k (reports_rest [] (sees k.host) k.policy)) n refl refl is
-rest_asked (m ∷ marks) k n is = asked_as k (done k (reports_rest (m ∷ marks) (sees k.host) k.policy)) n refl refl is
-
-turn_to_asked : (next first : Option Hole) (k : Keeping) (n : NameValue) → IsAskedAnew k n → IsAskedAnew (done k (turn_to next first (sees k.host) k.policy)) n
-turn_to_asked (Some h) first k n is =
-    let m = with_policy (after_turn h k.policy) k in
-    stays_asked (name_in k.policy.turns.round h) true m n (asked_as k m n refl refl is)
-turn_to_asked None (Some h) k n is =
-    let q = in_next_round k.policy in
-    let m = with_policy (after_turn h q) k in
-    stays_asked (name_in q.turns.round h) true m n (asked_as k m n refl refl is)
-turn_to_asked None None k n is = asked_as k (with_policy (in_next_round k.policy) k) n refl refl is
-
-turn_asked : (k : Keeping) (n : NameValue) → IsAskedAnew k n → IsAskedAnew (after_doing turn k) n
-turn_asked k n is = turn_to_asked (hole_after k.host.is.held k.policy.turns.page k.policy.turns.source k.policy.turns.number) (hole_after k.host.is.held nowhere 0 0) k n is
-
-due_asked : (k : Keeping) (n : NameValue) → IsAskedAnew k n → IsAskedAnew (after_doing reports_due k) n
-due_asked k n is =
-    let m = after_doing reports k in
-    let reported = rest_asked (slice_after k.policy.told (report_of k.host.is.held k.policy.told_page)) k n is in
-    either k n (nat_le k.policy.reports.due (present k.host)) (and_then reports turn (sees k.host) k.policy) (still (sees k.host) k.policy)
-    (subst (λ (x : Keeping). IsAskedAnew x n) (sym (then_after reports turn k)) (turn_asked m n reported)) is
-
-timed_asked : (k : Keeping) (n : NameValue) → IsAskedAnew k n → IsAskedAnew (after_doing timed k) n
-timed_asked k n is =
-    let a = after_doing answers k in
-    let q = after_doing asks_pages a in
-    subst (λ (x : Keeping). IsAskedAnew x n) (sym (then_after answers (and_then asks_pages reports_due) k ∙ then_after asks_pages reports_due a)) (due_asked q n (asks_asked a n (answers_asked k n is)))
+due_asked : (n : NameValue) → HoldsOfDue (StaysAsked n)
+due_asked n = record {
+  nothing = λ k is. is;
+  both = λ k m l one other a b is. b (a is);
+  wants = λ name anew k is. stays_asked name anew k n is;
+  turned = λ t k is. asked_as k _ n refl refl is;
+  answers = λ k due is. asked_as k _ n (says_after (view_of k.host) (take 64 (pages_of k.host.is.held)) k.host) refl is;
+  asks_pages = λ k due is. asked_as k _ n refl refl is;
+  reports = λ page told k due is. asked_as k _ n refl refl is;
+}
 
 -- ---- a report comes
 
@@ -277,7 +233,7 @@ module _ (k : Keeping) (fine : IsFine k) (answering : AnswersWhatIsHeld k.host) 
 
   heard_so : after_doing (hears (Session sender sent page marks echoes)) m ≡ three
   heard_so =
-      ap (λ (b : Bool). done m (cond b (still (sees m.host) m.policy) (hears_session sender sent page marks echoes (sees m.host) m.policy))) (is_false (nat_eq sender k.host.is.number) (λ same. other (eqb-true sender k.host.is.number same)))
+      ap (λ (b : Bool). having_done (cond b (still (sees m.host) m.policy) (hears_session sender sent page marks echoes (sees m.host) m.policy)) m) (is_false (nat_eq sender k.host.is.number) (λ same. other (eqb-true sender k.host.is.number same)))
       ∙ then_after first (and_then second third) m
       ∙ then_after second third one
 
@@ -287,9 +243,9 @@ module _ (k : Keeping) (fine : IsFine k) (answering : AnswersWhatIsHeld k.host) 
   -- what it holds stays
   pub report_holds : (after_doing (came now (Session sender sent page marks echoes)) k).host.is.held ≡ k.host.is.held
   report_holds =
-      let a = lines_rest (second (sees one.host) one.policy).lines one.host (measures_small sender (distance_in now echo) (sees one.host) one.policy) in
-      let b = lines_rest (third (sees two.host) two.policy).lines two.host (want_told_small (told_names k.host.is.number page marks) (sees two.host) two.policy) in
-      let c = lines_rest (timed (sees three.host) three.policy).lines three.host (timed_small (sees three.host) three.policy) in
+      let a = does_rest second (measures_each IsSmall are_small sender (distance_in now echo)) one in
+      let b = does_rest third (told_each IsSmall are_small (told_names k.host.is.number page marks)) two in
+      let c = does_rest timed (timed_each IsSmall are_small) three in
       ap (λ (x : Keeping). x.host.is.held) report_so ∙ c.held ∙ b.held ∙ a.held ∙ by (has_room_for (Session sender sent page own echo) m.host) where
         by : (b : Bool) → (cond b (heard (Session sender sent page own echo) m.host) m.host).is.held ≡ k.host.is.held
         by true = refl
@@ -303,5 +259,5 @@ module _ (k : Keeping) (fine : IsFine k) (answering : AnswersWhatIsHeld k.host) 
   pub report_asks : asks_for n (after_doing (came now (Session sender sent page marks echoes)) k).host ≡ true
   report_asks =
       let last = after_doing timed three in
-      let is = timed_asked three n asked_three in
+      let is = timed_holds (StaysAsked n) (due_asked n) three asked_three in
       subst (λ (x : Keeping). asks_for n x.host ≡ true) (sym report_so) (some_level (timers_of last.host.is.constants (events last.host) n).ask is.new)

@@ -1,9 +1,9 @@
 -- A call of a host whose board stays as it is: where no report is due, turns and tellings stay; where one is, it is made, and a name has its turn.
-use Rattle.std.proofs.Common.{◌≡◌, ℕ, ◌+◌, ◌/◌, ◌<◌, ◌≤◌, Bool, true, false, cond, List, [], ◌∷◌, ◌∙◌, Option, Some, ap, arith, inl, inr, length, refl, subst, sym, true≢false, ⊎_elim}
-use Rattle.std.specs.Prelude.{◌⊎◌, Contains, max, min, nat_le}
+use Rattle.std.proofs.Common.{◌≡◌, ℕ, ◌+◌, ◌<◌, ◌≤◌, Bool, true, false, cond, List, [], ◌∙◌, Option, Some, ap, arith, inl, inr, length, refl, subst, sym, true≢false, ⊎_elim, ◌-◌, ◌*◌}
+use Rattle.std.specs.Prelude.{◌⊎◌, Contains, max, nat_le}
 use Rattle.std.proofs.lemmas.Bool.Decides.{leb_tells}
 use Rattle.std.proofs.lemmas.List.Elements.{Contains-append_left, Contains-append_right}
-use Rattle.wb_names.specs.Values.{DrawopValue, MarkValue, NameValue}
+use Rattle.wb_names.specs.Values.{DrawopValue, NameValue}
 use Rattle.wb_names.specs.declared.echo.Echo.{Echo}
 use Rattle.wb_names.specs.declared.name.PageId.{PageId}
 use Rattle.wb_names.proofs.Listings.{Contains-here}
@@ -12,20 +12,21 @@ use Rattle.wb_codec.specs.declared.datagram.Datagram.TheVariants.{Session}
 use Rattle.wb_gaps.specs.Answers.{report_of}
 use Rattle.wb_host.specs.Keeper.{holds}
 use Rattle.wb_member.specs.Judged.{is_full}
-use Rattle.wb_member.specs.Opened.{present}
+use Rattle.wb_member.specs.Opened.{present, asks_for}
 use Rattle.wb_keeping.specs.Fairness.{AnswersWhatIsHeld, Told, after_telling, after_turn, marks_in_turn, name_in_turn, page_in_turn}
-use Rattle.wb_keeping.specs.Kept.{Doing, Line, Transition, and_then, answers, asks_pages, last_heard, reports, reports_due, reports_rest, still, timed, turn}
+use Rattle.wb_keeping.specs.Kept.{Doing, Line, Transition, and_then, answers, asks_pages, last_heard, reports, reports_due, still, timed, turn}
 use Rattle.wb_keeping.specs.Performing.{Keeping, after_doing, after_lines, sees, sent_by_doing, sent_by_lines, view_of}
-use Rattle.wb_keeping.specs.Policy.{Policy, View}
-use Rattle.wb_keeping.specs.Reports.{next_report, slice_after}
+use Rattle.wb_keeping.specs.Policy.{Policy}
+use Rattle.wb_keeping.specs.Reports.{slice_after}
 use Rattle.wb_keeping.proofs.FairTurns.{turns_are_taken}
 use Rattle.wb_keeping.proofs.Performed.{then_after, then_sent}
 use Rattle.wb_keeping.proofs.ToldMarks.{reports_tell}
 use Rattle.wb_progress.proofs.OneCall.{le_true}
-use Rattle.wb_kept_progress.proofs.Going.{answers_small, asks_pages_small, reports_small, turn_small}
-use Rattle.wb_kept_progress.proofs.Lines.{IsOf, Rests, is_false, lines_of, lines_rest}
-use Rattle.wb_kept_progress.proofs.Turning.{Leaves, answers_leave, answers_on, asks_leave, rest_leaves, rest_soon, told_of, turn_due, turn_told}
-use Rattle.wb_kept_progress.proofs.WantedIn.{IsAskedIn, IsAskedInCall, LacksCredit, IsWantedIn, MayBeWanted, turn_wants, wanted_later}
+use Rattle.wb_kept_progress.proofs.Lines.{IsOf, Rests, is_false, lines_of, IsSmall, are_small, does_rest}
+use Rattle.wb_kept_progress.proofs.WantedIn.{IsAskedIn, IsAskedInCall, LacksCredit, IsWantedIn, MayBeWanted, turn_wants, wanted_later, IsAskedThen, asked_at_end, turn_owed, same_may}
+use Rattle.wb_keeping.proofs.EachLine.{answers_each, asks_pages_each, reports_each, turn_each}
+use Rattle.wb_kept_progress.proofs.Leaving.{Leaves, answers_leave, asks_leave, rest_late, rest_leaves, rest_soon, told_of, turn_tells}
+use Rattle.wb_keeping.specs.Credit.{cost, has_credit}
 
 -- ---- what a policy tells and whose turn it is
 
@@ -73,17 +74,6 @@ pub record IsReporting (does : Transition) (k : Keeping) (now : ℕ) : Type 0 wh
   pub wants : (n : NameValue) → holds k.host.is.held n ≡ false → is_full k.host ≡ false → name_in_turn k.host.is.held k.policy.turns ≡ Some n
       → IsAskedInCall n does k ⊎ LacksCredit (after_doing does k)
 
--- ---- a report comes a second later at least
-
-next_late : (now sum drawn : ℕ) → now + 1000000 ≤ next_report now (min (max sum 2000000) 64000000) drawn
-next_late now sum drawn = by (min (max sum 2000000) 64000000) (omega arith) where
-  by : (mean : ℕ) → 2000000 ≤ mean → now + 1000000 ≤ now + mean / 2 + drawn
-  by mean le = omega (arith, le)
-
-rest_late : (marks : List MarkValue) (see : List Line → View) (p : Policy) → (see []).now + 1000000 ≤ (reports_rest marks see p).policy.reports.due
-rest_late [] see p = next_late (see []).now _ _
-rest_late (m ∷ marks) see p = next_late (see []).now _ _
-
 -- ---- what is due
 
 abbrev done : Keeping → Doing → Keeping
@@ -100,13 +90,13 @@ module _ (m : Keeping) where
   r = after_doing reports q
 
   rests_a : Rests m.host a.host
-  rests_a = lines_rest (answers (sees m.host) m.policy).lines m.host (answers_small (sees m.host) m.policy)
+  rests_a = does_rest answers (answers_each IsSmall are_small) m
 
   rests_q : Rests a.host q.host
-  rests_q = lines_rest (asks_pages (sees a.host) a.policy).lines a.host (asks_pages_small (sees a.host) a.policy)
+  rests_q = does_rest asks_pages (asks_pages_each IsSmall are_small) a
 
   rests_r : Rests q.host r.host
-  rests_r = lines_rest (reports (sees q.host) q.policy).lines q.host (reports_small (sees q.host) q.policy)
+  rests_r = does_rest reports (reports_each IsSmall are_small) q
 
   leaves_a : Leaves m.policy a.policy
   leaves_a = answers_leave (sees m.host) m.policy
@@ -184,11 +174,11 @@ module _ (m : Keeping) where
         let then : told_of r.policy ≡ after_telling q.host.is.held t =
         ap (λ (page : PageId). let u : Told = record { page = page; last = r.policy.told } in u) tells.1
         ∙ ap (λ (last : Option ℕ). let u : Told = record { page = (after_telling q.host.is.held t).page; last = last } in u) tells.2 in
-        ap (λ (x : Keeping). told_of x.policy) there ∙ turn_told (sees r.host) r.policy ∙ then
+        ap (λ (x : Keeping). told_of x.policy) there ∙ (turn_tells (sees r.host) r.policy).told ∙ then
         ∙ ap (λ (h : List DrawopValue). after_telling h t) held_q ∙ ap (after_telling m.host.is.held) told_q
 
     due_is : (after_doing timed m).policy.reports.due ≡ r.policy.reports.due
-    due_is = ap (λ (x : Keeping). x.policy.reports.due) there ∙ turn_due (sees r.host) r.policy
+    due_is = ap (λ (x : Keeping). x.policy.reports.due) there ∙ (turn_tells (sees r.host) r.policy).due
 
     pub due_soon : (after_doing timed m).policy.reports.due ≤ present m.host + 96000000
     due_soon =
@@ -206,7 +196,7 @@ module _ (m : Keeping) where
 
     pub due_now : present (after_doing timed m).host ≡ present m.host
     due_now =
-        ap (λ (x : Keeping). present x.host) there ∙ (lines_rest (turn (sees r.host) r.policy).lines r.host (turn_small (sees r.host) r.policy)).now ∙ now_r
+        ap (λ (x : Keeping). present x.host) there ∙ (does_rest turn (turn_each IsSmall are_small) r).now ∙ now_r
 
     abbrev report : Datagram
     report =
@@ -256,21 +246,39 @@ module _ (m : Keeping) where
         (λ (without : LacksCredit (after_doing (and_then reports turn) q)). inr (subst LacksCredit (sym (ap by_due is_due_now)) without))
         is
 
+    asked_r : (n : NameValue) → MayBeWanted m n → name_in_turn m.host.is.held m.policy.turns ≡ Some n → IsAskedThen n (after_doing turn r)
+    asked_r n may in_turn = turn_wants n r (same_may n reports q rests_r.held (same_may n asks_pages a rests_q.held (same_may n answers m rests_a.held may)))
+        (ap (λ (h : List DrawopValue). name_in_turn h r.policy.turns) held_r ∙ ap (name_in_turn m.host.is.held) turns_r ∙ in_turn)
+
     pub due_wants : (n : NameValue) → MayBeWanted m n → name_in_turn m.host.is.held m.policy.turns ≡ Some n → IsWantedIn n timed m
     due_wants n may in_turn =
-        let of = lines_of (answers (sees m.host) m.policy).lines m.host in
-        let of_q = lines_of (asks_pages (sees a.host) a.policy).lines a.host in
-        let of_r = lines_of (reports (sees q.host) q.policy).lines q.host in
-        let cells : r.host.is.cells ≡ m.host.is.cells = of_r.cells ∙ of_q.cells ∙ of.cells in
-        let may_r : MayBeWanted r n = record {
-          answers_held = answers_on reports q (answers_on asks_pages a (answers_on answers m may.answers_held));
-          lacks = ap (λ (h : List DrawopValue). holds h n) held_r ∙ may.lacks;
-          room = ap (λ (h : List DrawopValue). nat_le r.host.is.cells (length h)) held_r ∙ ap (λ (c : ℕ). nat_le c (length m.host.is.held)) cells ∙ may.room;
-        } in
-        let turn_r : name_in_turn r.host.is.held r.policy.turns ≡ Some n =
-        ap (λ (h : List DrawopValue). name_in_turn h r.policy.turns) held_r ∙ ap (name_in_turn m.host.is.held) turns_r ∙ in_turn in
         wanted_later n answers (and_then asks_pages reports_due) m
-        (wanted_later n asks_pages reports_due a (when_due n (wanted_later n reports turn q (turn_wants n r may_r turn_r))))
+        (wanted_later n asks_pages reports_due a (when_due n (wanted_later n reports turn q (asked_at_end n turn r (asked_r n may in_turn)))))
+
+    -- all names are paid for
+    module _ (paid : m.policy.owed ≤ present m.host) where
+      owed_turn : (after_doing turn r).policy.owed ≤ present m.host + 250000
+      owed_turn =
+          let e = (rest_leaves (slice_after q.policy.told (report_of q.host.is.held q.policy.told_page)) (sees q.host) q.policy).1 ∙ leaves_q.owed ∙ leaves_a.owed in
+          let n = now_r in
+          let owed : r.policy.owed ≤ present r.host = omega (arith, paid, e, n) in
+          let le : (after_doing turn r).policy.owed ≤ present r.host + 250000 = turn_owed (sees r.host) r.policy owed in
+          omega (arith, le, n)
+
+      pub due_owed : (after_doing timed m).policy.owed ≤ present m.host + 250000
+      due_owed = let e = ap (λ (x : Keeping). x.policy.owed) there in let le = owed_turn in omega (arith, e, le)
+
+      pub due_asks : (n : NameValue) → MayBeWanted m n → name_in_turn m.host.is.held m.policy.turns ≡ Some n → asks_for n (after_doing timed m).host ≡ true
+      due_asks n may in_turn =
+          let x = after_doing turn r in
+          let now = (does_rest turn (turn_each IsSmall are_small) r).now ∙ now_r in
+          ap (λ (k : Keeping). asks_for n k.host) there
+          ∙ ⊎_elim
+          (λ (stands : asks_for n x.host ≡ true). stands)
+          (λ (without : LacksCredit x). absurd (true≢false (sym (has_credit_then x.policy.owed (present x.host) (present m.host) owed_turn now) ∙ without)))
+          (asked_r n may in_turn) where
+            has_credit_then : (owed now then : ℕ) → owed ≤ then + 250000 → now ≡ then → has_credit owed now ≡ true
+            has_credit_then owed now then le e = le_true (max owed now - now) (63 * cost) (omega (arith, le, e))
 
 -- ---- the whole call
 

@@ -33,10 +33,11 @@ use Rattle.wb_kept_progress.proofs.NextReports.{IsBehind, IsCut, Reports, before
 use Rattle.wb_kept_progress.proofs.Repairs.{is_itself, of_opening}
 use Rattle.wb_kept_progress.proofs.StillCalls.{came_now}
 use Rattle.wb_kept_progress.proofs.Told.{told_wants}
-use Rattle.wb_kept_progress.proofs.Turning.{answers_at, in_hole, in_map, told_of}
+use Rattle.wb_kept_progress.proofs.Turning.{answers_at, in_hole, in_map}
 use Rattle.wb_kept_progress.proofs.WantedIn.{IsAskedInCall, LacksCredit}
 use Rattle.wb_kept_progress.proofs.WantingCalls.{wanting_in_call}
 use Rattle.wb_kept_progress.proofs.WholeParts.{HeldWasHeld, IsStill, IsWanting, LackIsWanted}
+use Rattle.wb_kept_progress.proofs.Leaving.{told_of}
 
 -- ---- spans
 

@@ -1,5 +1,6 @@
 pub mod Lines
 pub mod Going
+pub mod Leaving
 pub mod Repairs
 pub mod Turning
 pub mod Asking

@@ -1,6 +1,6 @@
 -- What lines make of a host: of what it holds, and of the timers of a name.
 use Rattle.wb_progress.specs.Keepers.{constants_at}
-use Rattle.std.proofs.Common.{◌≡◌, Bool, true, false, cond, List, [], ◌∷◌, ◌++◌, ◌∙◌, None, ap, refl, subst, sym, true≢false}
+use Rattle.std.proofs.Common.{◌≡◌, Bool, true, false, cond, List, [], ◌∷◌, ◌∙◌, None, ap, refl, subst, sym, true≢false, ◌≤◌, arith, length, length-append}
 use Rattle.std.specs.Prelude.{◌||◌, Contains, is_some, not}
 use Rattle.std.proofs.lemmas.List.Elements.{Contains-append_left}
 use Rattle.wb_names.specs.Arrivals.{Outcome, Fresh, Known, Clashed, Left, history_with, outcome_of}
@@ -16,9 +16,10 @@ use Rattle.wb_host.specs.Keeper.{delay_to, given_up, holds}
 use Rattle.wb_member.specs.Members.{Misses}
 use Rattle.wb_member.specs.Opened.{Opened, accepted, asks_for, doing, events, has_room_for, heard, may_ask, present}
 use Rattle.wb_member.specs.Random.{word_of}
-use Rattle.wb_keeping.specs.Kept.{Arrives, Asks, Hears, Line, Says, SetsDistance, Tunes, Stops, Ticks}
-use Rattle.wb_keeping.specs.Performing.{after_line, after_lines}
+use Rattle.wb_keeping.specs.Kept.{Arrives, Asks, Hears, Line, Says, SetsDistance, Tunes, Stops, Ticks, Transition}
+use Rattle.wb_keeping.specs.Performing.{after_line, after_lines, Keeping, after_doing, sees}
 use Rattle.wb_session.proofs.Names.{with_once}
+use Rattle.wb_keeping.proofs.EachLine.{DoesEach, Each, OfPolicy}
 
 pub is_false : (b : Bool) → (b ≡ true → ⊥) → b ≡ false
 is_false true f = absurd (f refl)
@@ -70,20 +71,29 @@ with_grows h d (Known i) x c = c
 with_grows h d (Clashed i) x c = c
 with_grows h d Left x c = c
 
+with_longer : (h : List DrawopValue) (d : DrawopValue) (o : Outcome) → length h ≤ length (history_with h d o)
+with_longer h d (Fresh i) = let e = length-append h (d ∷ []) in omega (arith, e)
+with_longer h d (Known i) = omega arith
+with_longer h d (Clashed i) = omega arith
+with_longer h d Left = omega arith
+
 -- What is held stays, and no name comes to stand twice.
 pub record Grows (host next : Opened) : Type 0 where
   pub kept : (x : DrawopValue) → Contains host.is.held x → Contains next.is.held x
+  pub longer : length host.is.held ≤ length next.is.held
   pub once : IsHistory host.is.held → IsHistory next.is.held
 
 stays : (host next : Opened) → next.is.held ≡ host.is.held → Grows host next
 stays host next e = record {
   kept = λ x c. subst (λ (h : List DrawopValue). Contains h x) (sym e) c;
+  longer = let same = ap (λ (h : List DrawopValue). length h) e in omega (arith, same);
   once = λ once. subst IsHistory (sym e) once;
 }
 
 accepts : (d : DrawopValue) (host : Opened) → Grows host (accepted d host)
 accepts d host = record {
   kept = λ x c. with_grows host.is.held d (outcome_of host.is.cells host.is.held d) x c;
+  longer = with_longer host.is.held d (outcome_of host.is.cells host.is.held d);
   once = λ once. with_once host.is.cells host.is.held d (outcome_of host.is.cells host.is.held d) refl once;
 }
 
@@ -115,7 +125,9 @@ lines_grow [] host = stays host host refl
 lines_grow (line ∷ lines) host =
     let one = line_grows line host in
     let rest = lines_grow lines (after_line line host) in
-    record { kept = λ x c. rest.kept x (one.kept x c); once = λ once. rest.once (one.once once) }
+    let a = one.longer in
+    let b = rest.longer in
+    record { kept = λ x c. rest.kept x (one.kept x c); longer = omega (arith, a, b); once = λ once. rest.once (one.once once) }
 
 -- ---- lines by which time stands still, nothing comes, and no request is said
 
@@ -134,12 +146,18 @@ IsSmall (Says (AskPages asker)) = Unit {0}
 IsSmall (Says (PageState sender page marks)) = Unit {0}
 
 abbrev pub AreSmall : List Line → Type 0
-AreSmall [] = Unit {0}
-AreSmall (line ∷ lines) = IsSmall line × AreSmall lines
+AreSmall lines = Each IsSmall lines
 
-pub small_both : (one other : List Line) → AreSmall one → AreSmall other → AreSmall (one ++ other)
-small_both [] other a b = b
-small_both (line ∷ one) other a b = (a.0, small_both one other a.1 b)
+-- such are those by which a policy asks and tells
+pub are_small : OfPolicy IsSmall
+are_small = record {
+  asks = λ name. tt;
+  stops = λ name. tt;
+  sets = λ source micros. tt;
+  states = λ v page. tt;
+  asks_pages = λ asker. tt;
+  reports = λ sender sent page marks echoes. tt;
+}
 
 -- What is held stays, and the moment; and so do the timers of a name that is held and is not asked for.
 pub record Rests (host next : Opened) : Type 0 where
@@ -206,3 +224,6 @@ lines_rest (line ∷ lines) host small =
           let e = one.timers n held none in
           more.timers n (ap (λ (h : List DrawopValue). holds h n) one.held ∙ held) (ap (λ (s : Timers). s.ask) e ∙ none) ∙ e;
     }
+
+pub does_rest : (does : Transition) → DoesEach IsSmall does → (k : Keeping) → Rests k.host (after_doing does k).host
+does_rest does small k = lines_rest (does (sees k.host) k.policy).lines k.host (small (sees k.host) k.policy)

@@ -16,8 +16,9 @@ use Rattle.wb_kept_progress.proofs.CallParts.{calls_end, calls_order, due_by_rep
 use Rattle.wb_kept_progress.proofs.InTurn.{IsIdle, IsReporting, IsTimedCall, SamePolicy, one_or_other, same_both, same_policy}
 use Rattle.wb_kept_progress.proofs.OwedAndDue.{due_there, tells_of}
 use Rattle.wb_kept_progress.proofs.StillCalls.{IsTuning, still_call}
-use Rattle.wb_kept_progress.proofs.Turning.{answers_at, told_of}
+use Rattle.wb_kept_progress.proofs.Turning.{answers_at}
 use Rattle.wb_kept_progress.proofs.WholeParts.{IsStill}
+use Rattle.wb_kept_progress.proofs.Leaving.{told_of}
 
 -- ---- parts of a window
 
@@ -96,7 +97,7 @@ module _ (hosts : ℕ → Opening) (terms : Terms) (trace : List TimedLine) (s :
         ∙ sym (still.same (e ∷ []) part i refl live) in
         still_call e.at.line k (e.time + terms.offset i) (told_there newest older e i split same)
         (λ now page time op is. s.drawn newest older e now page time op split (omega (arith, first, last, late)) is)
-        (answers_at hosts (lines_of older) i) (room_there newest older e i split live (omega (arith, last, late))) held
+        (answers_at hosts (lines_of older) i) held
 
     -- one of the calls reports, the first behind a part
     pub record Reports (front base : List TimedLine) : Type 0 where

@@ -21,11 +21,11 @@ use Rattle.wb_kept_progress.specs.Sessions.{AreTaken, LineAt, Opening, kept_at, 
 use Rattle.wb_kept_progress.specs.Timed.{IsTold, TellTimes, TimedLine, called_at, lines_of}
 use Rattle.wb_kept_progress.specs.Whole.{AreCalledInOrder, IsTimelySession, there}
 use Rattle.wb_kept_progress.proofs.CallParts.{calls_order}
-use Rattle.wb_kept_progress.proofs.Going.{want_small}
-use Rattle.wb_kept_progress.proofs.Lines.{lines_rest}
+use Rattle.wb_kept_progress.proofs.Lines.{IsSmall, are_small, does_rest}
 use Rattle.wb_kept_progress.proofs.StillCalls.{IsTuning, call_now}
-use Rattle.wb_kept_progress.proofs.Turning.{next_soon}
 use Rattle.wb_kept_progress.proofs.WholeParts.{ReportsAreDue}
+use Rattle.wb_keeping.proofs.EachLine.{want_each}
+use Rattle.wb_kept_progress.proofs.Leaving.{next_soon}
 
 -- ---- each step of a policy
 
@@ -62,7 +62,7 @@ wants_near name anew k n = record {
   wanted = record { policy = after_wanting v.now k.policy; lines = lines_wanted name anew (sees k.host) k.policy }
 
   now : present (after_doing (want name anew) k).host ≡ present k.host
-  now = (lines_rest (want name anew (sees k.host) k.policy).lines k.host (want_small name anew (sees k.host) k.policy)).now
+  now = (does_rest (want name anew) (want_each IsSmall are_small name anew) k).now
 
   one_more : (owed now : ℕ) → max owed now - now ≤ 63 * cost → max owed now + cost ≤ now + 16000000
   one_more owed now le = omega (arith, le)
@@ -82,8 +82,15 @@ wants_near name anew k n = record {
 
 steps_stay_near : HoldsOfSteps StaysNear
 steps_stay_near = record {
-  nothing = λ k. record { near = λ n. n };
-  both = λ k m l one other a b. record { near = λ n. b.near (a.near n) };
+  due = record {
+    nothing = λ k. record { near = λ n. n };
+    both = λ k m l one other a b. record { near = λ n. b.near (a.near n) };
+    wants = λ name anew k. record { near = wants_near name anew k };
+    turned = λ t k. record { near = λ n. record { owed = n.owed; due = n.due } };
+    answers = λ k is. record { near = λ n. same_near k (having_done (doing (after_answer (present k.host) k.policy) (map (λ page. Says (state_of (view_of k.host) page)) (take 64 (pages_of k.host.is.held)))) k) refl refl (ap present (says_after (view_of k.host) (take 64 (pages_of k.host.is.held)) k.host)) n };
+    asks_pages = λ k is. record { near = λ n. record { owed = n.owed; due = n.due } };
+    reports = λ page told k is. record { near = λ n. record { owed = n.owed; due = next_soon (present k.host) _ (word_of k.policy.words) } };
+  };
   ticks = λ now k later. record { near = λ n. near_then k (having (Ticks now) k) (omega arith) refl later n };
   arrives = λ d k. record { near = λ n. record { owed = n.owed; due = n.due } };
   answered = λ d k lacks asked. record { near = λ n. record { owed = let o = n.owed in omega (arith, o); due = n.due } };
@@ -91,15 +98,10 @@ steps_stay_near = record {
   stops = λ name k full. record { near = λ n. record { owed = n.owed; due = n.due } };
   sets = λ source micros k. record { near = λ n. record { owed = n.owed; due = n.due } };
   tunes = λ constants k within. record { near = λ n. record { owed = n.owed; due = n.due } };
-  wants = λ name anew k. record { near = wants_near name anew k };
   draws = λ d k. record { near = λ n. record { owed = n.owed; due = n.due } };
-  turned = λ t k. record { near = λ n. record { owed = n.owed; due = n.due } };
   measured = λ micros k. record { near = λ n. record { owed = n.owed; due = n.due } };
   told = λ k. record { near = λ n. record { owed = n.owed; due = n.due } };
   takes_up = λ k is. record { near = λ n. record { owed = n.owed; due = n.due } };
-  answers = λ k is. record { near = λ n. same_near k (having_done (doing (after_answer (present k.host) k.policy) (map (λ page. Says (state_of (view_of k.host) page)) (take 64 (pages_of k.host.is.held)))) k) refl refl (ap present (says_after (view_of k.host) (take 64 (pages_of k.host.is.held)) k.host)) n };
-  asks_pages = λ k is. record { near = λ n. record { owed = n.owed; due = n.due } };
-  reports = λ page told k is. record { near = λ n. record { owed = n.owed; due = next_soon (present k.host) _ (word_of k.policy.words) } };
 }
 
 -- ---- hosts after calls

@@ -103,9 +103,6 @@ line_moment line host = ⊎_elim
 
 -- ---- no request timer stands for what is held
 
-alone : (d : DrawopValue) → (x : DrawopValue) → Contains (d ∷ []) x → Contains (d ∷ []) x
-alone d x c = c
-
 takes_none : (d : DrawopValue) (host : Opened) → HeldNone host.is → HeldNone (accepted d host).is
 takes_none d host none = none_after (Takes (present host) (d ∷ []) (d ∷ [])) host.is (All-cons (λ (x : DrawopValue). Contains (d ∷ []) x) d [] (Contains-here d []) (All-nil (λ (x : DrawopValue). Contains (d ∷ []) x))) none
 

@@ -1,24 +1,19 @@
 -- Hosts that keep themselves perform lines, and each call of theirs begins with a tick.
 use Rattle.std.proofs.Common.{◌≡◌, ℕ, ◌+◌, Bool, true, false, cond, List, [], ◌∷◌, ◌++◌, ◌∙◌, ap, eqb-true, eq-eqb, map, refl, subst, sym, ⊎_elim}
-use Rattle.std.specs.Prelude.{◌||◌, length, nat_eq, nat_lt}
-use Rattle.wb_names.specs.Values.{DrawopValue, MarkValue}
-use Rattle.wb_names.specs.declared.echo.Echo.{Echo}
+use Rattle.std.specs.Prelude.{nat_eq}
 use Rattle.wb_names.specs.declared.name.PageId.{PageId}
 use Rattle.wb_names.specs.declared.parts.Op.{Op}
 use Rattle.wb_codec.specs.declared.datagram.Datagram.{Datagram}
-use Rattle.wb_codec.specs.declared.datagram.Datagram.TheVariants.{Draw, Session, Request, AskPages, PageState}
 use Rattle.wb_progress.specs.Turns.{Terms}
 use Rattle.wb_member.specs.Opened.{opened_with, present}
-use Rattle.wb_keeping.specs.Kept.{Line, Arrives, Asks, Doing, Hears, Says, SetsDistance, Tunes, Stops, Ticks, Transition, adds, and_then, came, distance_in, draws_it, end, ends_full, hears, hears_session, hears_some, hears_state, learned, measures, of_other, own_echo, own_marks, performs, still, takes, takes_question, ticks, timed, told_names, want_told}
+use Rattle.wb_keeping.specs.Kept.{Line, Doing, Hears, Tunes, Ticks, Transition, adds, and_then, came, draws_it, ends_full, hears, ticks, timed}
 use Rattle.wb_keeping.specs.Laws.{KeptLine, Came, Ticked, Added, Tuned, doing_of}
 use Rattle.wb_keeping.specs.Performing.{Keeping, after_doing, after_line, after_lines, sees}
-use Rattle.wb_keeping.specs.Policy.{Policy, View, after_state, after_taking_up, holds, is_asked, is_full}
-use Rattle.wb_keeping.specs.Questions.{is_to_answer}
+use Rattle.wb_keeping.specs.Policy.{Policy, View}
 use Rattle.wb_kept_progress.specs.Sessions.{Opening, kept_at}
 use Rattle.wb_kept_progress.specs.Timed.{IsTold, KeptIsPerformed, KeptKeepsMoments, Performed, Start, TellTimes, TimedLine, host_after, lines_of, performed, performed_then, start_of}
-use Rattle.wb_kept_progress.proofs.Going.{learned_small, measures_small, stops_small, timed_small, want_told_small}
-use Rattle.wb_kept_progress.proofs.Lines.{AreSmall}
 use Rattle.wb_kept_progress.proofs.PerLine.{line_moment}
+use Rattle.wb_keeping.proofs.EachLine.{timed_each, DoesEach, Each, OfPolicy, ends_each, then_each, hears_each}
 
 module _ (hosts : ℕ → Start) where
   -- the host at a place behind lines that one performed
@@ -34,9 +29,6 @@ module _ (hosts : ℕ → Start) where
 
 pub kept_is_performed : KeptIsPerformed
 kept_is_performed hosts trace none = record { same = by trace } where
-  starts : ℕ → Start
-  starts j = start_of (hosts j)
-
   by : (trace : List TimedLine) (i : ℕ) → host_after (λ j. start_of (hosts j)) (performed hosts trace) i ≡ (kept_at hosts (lines_of trace) i).host
   by [] i = sym (ap (λ (moments : List ℕ). after_lines (map Ticks moments) (opened_with (hosts i).constants (hosts i).number (hosts i).cells (hosts i).seed)) (none i))
   by (e ∷ older) i = from (nat_eq e.at.place i) refl (by older i) where
@@ -61,80 +53,23 @@ IsNoTick (Ticks now) = ⊥
 IsNoTick line = Unit {0}
 
 abbrev pub AreNoTicks : List Line → Type 0
-AreNoTicks [] = Unit {0}
-AreNoTicks (line ∷ lines) = IsNoTick line × AreNoTicks lines
-
-join : (one other : List Line) → AreNoTicks one → AreNoTicks other → AreNoTicks (one ++ other)
-join [] other a b = b
-join (line ∷ one) other a b = (a.0, join one other a.1 b)
-
-from_small : (lines : List Line) → AreSmall lines → AreNoTicks lines
-from_small [] small = tt
-from_small (Ticks now ∷ lines) small = absurd small.0
-from_small (Arrives d ∷ lines) small = absurd small.0
-from_small (Hears v ∷ lines) small = absurd small.0
-from_small (Asks name ∷ lines) small = (tt, from_small lines small.1)
-from_small (Stops name ∷ lines) small = (tt, from_small lines small.1)
-from_small (SetsDistance source micros ∷ lines) small = (tt, from_small lines small.1)
-from_small (Tunes constants ∷ lines) small = (tt, from_small lines small.1)
-from_small (Says v ∷ lines) small = (tt, from_small lines small.1)
+AreNoTicks lines = Each IsNoTick lines
 
 abbrev pub HasNoTick : Transition → Type 0
-HasNoTick does = (see : List Line → View) (p : Policy) → AreNoTicks (does see p).lines
+HasNoTick does = DoesEach IsNoTick does
 
-both : (first second : Transition) → HasNoTick first → HasNoTick second → HasNoTick (and_then first second)
-both first second f s see p = join (first see p).lines _ (f see p) (s (λ (lines : List Line). see ((first see p).lines ++ lines)) (first see p).policy)
-
-choose : (b : Bool) (x y : Doing) → AreNoTicks x.lines → AreNoTicks y.lines → AreNoTicks (cond b x y).lines
-choose true x y p q = p
-choose false x y p q = q
-
-timed_none : HasNoTick timed
-timed_none see p = from_small (timed see p).lines (timed_small see p)
-
-told_none : (page : PageId) (me : ℕ) (marks : List MarkValue) → HasNoTick (want_told (told_names me page marks))
-told_none page me marks see p = from_small _ (want_told_small (told_names me page marks) see p)
-
-takes_none : (d : DrawopValue) → HasNoTick (takes d)
-takes_none d see p =
-    let v = see [] in
-    let new = and_then (performs (Arrives d)) (learned d.name (is_asked v d.name)) in
-    by (holds v d.name) (is_full v) (new see p) ((tt, from_small _ (learned_small d.name (is_asked v d.name) (λ (lines : List Line). see (Arrives d ∷ lines)) p))) where
-      by : (a b : Bool) (new : Doing) → AreNoTicks new.lines → AreNoTicks (cond (a || b) (performs (Arrives d) see p) new).lines
-      by true b new none = (tt, tt)
-      by false true new none = (tt, tt)
-      by false false new none = none
-
-some_none : (sender : ℕ) (page : PageId) (marks : List MarkValue) → HasNoTick (hears_some sender page marks)
-some_none sender page [] see p = tt
-some_none sender page (m ∷ marks) see p = (tt, tt)
-
-session_none : (sender sent : ℕ) (page : PageId) (marks : List MarkValue) (echoes : List Echo) → HasNoTick (hears_session sender sent page marks echoes)
-session_none sender sent page marks echoes see p =
-    let v = see [] in
-    both (performs (Hears (Session sender sent page (own_marks v.me (nat_lt v.now p.ready) marks) (own_echo v.me echoes)))) (and_then (measures sender (distance_in v.now (own_echo v.me echoes))) (want_told (told_names v.me page marks)))
-    (λ see p. (tt, tt)) (both (measures sender (distance_in v.now (own_echo v.me echoes))) (want_told (told_names v.me page marks)) (λ see p. from_small _ (measures_small sender (distance_in v.now (own_echo v.me echoes)) see p)) (told_none page v.me marks)) see p
-
-state_none : (sender : ℕ) (page : PageId) (marks : List MarkValue) → HasNoTick (hears_state sender page marks)
-state_none sender page marks see p =
-    let v = see [] in
-    both (hears_some sender page (own_marks v.me (nat_lt v.now p.ready) marks)) (want_told (told_names v.me page marks)) (some_none sender page (own_marks v.me (nat_lt v.now p.ready) marks)) (told_none page v.me marks) see (after_state v.now p)
-
-other_none : (sender : ℕ) (does : Transition) → HasNoTick does → HasNoTick (of_other sender does)
-other_none sender does none see p = choose (nat_eq sender (see []).me) (still see p) (does see p) tt (none see p)
-
-question_none : HasNoTick takes_question
-question_none see p = choose (is_to_answer (see []).now (nat_lt 0 (length (see []).held)) p.questions) (still see (after_taking_up (see []).now p)) (still see p) tt tt
+no_ticks : OfPolicy IsNoTick
+no_ticks = record {
+  asks = λ name. tt;
+  stops = λ name. tt;
+  sets = λ source micros. tt;
+  states = λ v page. tt;
+  asks_pages = λ asker. tt;
+  reports = λ sender sent page marks echoes. tt;
+}
 
 pub hears_none : (v : Datagram) → HasNoTick (hears v)
-hears_none (Draw d) = takes_none d
-hears_none (Session sender sent page marks echoes) = other_none sender (hears_session sender sent page marks echoes) (session_none sender sent page marks echoes)
-hears_none (PageState sender page marks) = other_none sender (hears_state sender page marks) (state_none sender page marks)
-hears_none (Request asker name) = other_none asker (performs (Hears (Request asker name))) (λ see p. (tt, tt))
-hears_none (AskPages asker) = other_none asker takes_question question_none
-
-ends_none : HasNoTick ends_full
-ends_none see p = choose (is_full (see [])) (end see p) (still see p) (from_small _ (stops_small (see []).asked)) tt
+hears_none v = hears_each IsNoTick no_ticks (λ v. tt) v (λ d e. tt)
 
 -- a call is a tick to its moment, and lines that are none
 pub record Begins (now : ℕ) (d : Doing) : Type 0 where
@@ -143,16 +78,16 @@ pub record Begins (now : ℕ) (d : Doing) : Type 0 where
   pub none : AreNoTicks rest
 
 pub came_begins : (now : ℕ) (v : Datagram) (see : List Line → View) (p : Policy) → Begins now (came now v see p)
-came_begins now v see p = record { rest = _; is = refl; none = both (hears v) timed (hears_none v) timed_none (λ (lines : List Line). see (Ticks now ∷ lines)) p }
+came_begins now v see p = record { rest = _; is = refl; none = then_each IsNoTick (hears v) timed (hears_none v) (timed_each IsNoTick no_ticks) (λ (lines : List Line). see (Ticks now ∷ lines)) p }
 
 pub ticks_begin : (now : ℕ) (see : List Line → View) (p : Policy) → Begins now (ticks now see p)
-ticks_begin now see p = record { rest = _; is = refl; none = timed_none (λ (lines : List Line). see (Ticks now ∷ lines)) p }
+ticks_begin now see p = record { rest = _; is = refl; none = timed_each IsNoTick no_ticks (λ (lines : List Line). see (Ticks now ∷ lines)) p }
 
 pub adds_begin : (now : ℕ) (page : PageId) (time : ℕ) (op : Op) (see : List Line → View) (p : Policy) → Begins now (adds now page time op see p)
 adds_begin now page time op see p = record {
   rest = _;
   is = refl;
-  none = both (draws_it page time op) (and_then ends_full timed) (λ see p. (tt, tt)) (both ends_full timed ends_none timed_none) (λ (lines : List Line). see (Ticks now ∷ lines)) p;
+  none = then_each IsNoTick (draws_it page time op) (and_then ends_full timed) (λ see p. (tt, tt)) (then_each IsNoTick ends_full timed (ends_each IsNoTick no_ticks) (timed_each IsNoTick no_ticks)) (λ (lines : List Line). see (Ticks now ∷ lines)) p;
 }
 
 -- ---- moments

@@ -40,15 +40,16 @@ use Rattle.wb_keeping.proofs.EachStep.{having}
 use Rattle.wb_keeping.proofs.Performed.{then_after, then_sent}
 use Rattle.wb_kept_progress.specs.Repairs.{AskedCanCome, IsBrought, IsLost, host_at, repair}
 use Rattle.wb_kept_progress.specs.Sessions.{AreHosts, AreTaken, LineAt, NothingIsForged, Opening, WasSent, at, kept_at, sent}
-use Rattle.wb_kept_progress.proofs.Going.{Goes, kept_goes, learned_small, line_goes, timed_small}
-use Rattle.wb_kept_progress.proofs.Lines.{IsOf, Rests, is_false, lines_grow, lines_of, lines_rest}
+use Rattle.wb_kept_progress.proofs.Going.{Goes, kept_goes, line_goes}
+use Rattle.wb_kept_progress.proofs.Lines.{IsOf, Rests, is_false, lines_grow, lines_of, IsSmall, are_small, does_rest}
+use Rattle.wb_keeping.proofs.EachLine.{learned_each, timed_each}
 
 -- ---- one line of a host that keeps itself
 
 pub tick_rests : (now : ℕ) (k : Keeping) → Rests (ticked now k.host) (after_doing (ticks now) k).host
 tick_rests now k =
-    let h = ticked now k.host in
-    subst (λ (m : Keeping). Rests h m.host) (sym (then_after (performs (Ticks now)) timed k)) (lines_rest (timed (sees h) k.policy).lines h (timed_small (sees h) k.policy))
+    subst (λ (m : Keeping). Rests (ticked now k.host) m.host) (sym (then_after (performs (Ticks now)) timed k))
+    (does_rest timed (timed_each IsSmall are_small) (having (Ticks now) k))
 
 pub tick_sends : (now : ℕ) (k : Keeping) (v : Datagram) → Contains (sent_by now k.host) v → Contains (sent_by_doing (ticks now) k) v
 tick_sends now k v c =
@@ -70,7 +71,7 @@ request_rests now asker n k other =
     let g = having (Hears v) m in
     let heard_so : after_doing (hears v) m ≡ g = ap (λ (b : Bool). done m (cond b (still (sees m.host) m.policy) (performs (Hears v) (sees m.host) m.policy))) (is_false (nat_eq asker k.host.is.number) (λ same. other (eqb-true asker k.host.is.number same))) in
     let there : after_doing (came now v) k ≡ after_doing timed g = came_after now v k ∙ ap (after_doing timed) heard_so in
-    subst (λ (x : Keeping). Rests g.host x.host) (sym there) (lines_rest (timed (sees g.host) g.policy).lines g.host (timed_small (sees g.host) g.policy))
+    subst (λ (x : Keeping). Rests g.host x.host) (sym there) (does_rest timed (timed_each IsSmall are_small) g)
 
 -- a drawop that is not held is taken into a free cell
 fresh : (cells k : ℕ) (h : List DrawopValue) (d : DrawopValue) → holds h d.name ≡ false → k + length h < cells → (place : ℕ) × (outcome_from cells k h d ≡ Fresh place)
@@ -100,8 +101,8 @@ drawop_held now d k lost room =
     let there : after_doing (came now (Draw d)) k ≡ after_doing timed (after_doing second (having (Arrives d) m)) = came_after now (Draw d) k ∙ ap (after_doing timed) (taken_so ∙ then_after (performs (Arrives d)) second m) in
     let g = having (Arrives d) m in
     let h = after_doing second g in
-    let one = lines_rest (second (sees g.host) g.policy).lines g.host (learned_small d.name asked (sees g.host) g.policy) in
-    let two = lines_rest (timed (sees h.host) h.policy).lines h.host (timed_small (sees h.host) h.policy) in
+    let one = does_rest second (learned_each IsSmall are_small d.name asked) g in
+    let two = does_rest timed (timed_each IsSmall are_small) h in
     ap (λ (x : Keeping). x.host.is.held) there ∙ two.held ∙ one.held ∙ taken_in m.host d lost room
 
 -- ---- no line is refused
@@ -252,9 +253,6 @@ module _ (o : Keeping) (fine : IsFine o) (d : DrawopValue) (held : Contains o.ho
   has host c = holds_from host.is.held n d c refl
 
   -- told the time once, no timer of the name stands
-  h1 : Opened
-  h1 = ticked first o.host
-
   r1 : Rests (ticked first o.host) o1.host
   r1 = tick_rests first o
 
@@ -410,9 +408,6 @@ module _ (hosts : ℕ → Opening) (older : List LineAt) (i j : ℕ) (d : Drawop
 
   rests : Rests (ticked asking k.host) k1.host
   rests = tick_rests asking k
-
-  request : Datagram
-  request = Request me d.name
 
   requests : Contains (sent_by_doing (ticks asking) k) (Request me d.name)
   requests = tick_sends asking k (Request me d.name) (asker_asks me k.host.is.constants k.host.is.calls k.host.is.held d.name fine_k.constants fine_k.goes.orderly lost.lost asked)

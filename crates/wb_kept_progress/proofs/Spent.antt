@@ -5,8 +5,8 @@ use Rattle.wb_names.specs.Values.{NameValue}
 use Rattle.wb_keeping.specs.Credit.{spent}
 use Rattle.wb_keeping.specs.Kept.{Asks}
 use Rattle.wb_kept_progress.specs.Whole.{IsHeldBySome, there}
-use Rattle.wb_kept_progress.proofs.Causes.{goes, more_differs}
-use Rattle.wb_kept_progress.proofs.AskedInCalls.{IsMore}
+use Rattle.wb_kept_progress.proofs.Causes.{goes}
+use Rattle.wb_kept_progress.proofs.AskedInCalls.{IsMore, more_differs}
 use Rattle.wb_kept_progress.proofs.Courses.{IsCourse}
 use Rattle.wb_kept_progress.proofs.WholeParts.{CreditIsSpent, HeldWasHeld, does}
 

@@ -1,21 +1,16 @@
 -- Why a host that keeps itself gives a name up.
-use Rattle.std.proofs.Common.{◌≡◌, ℕ, ◌<◌, ◌≤◌, Bool, true, false, cond, List, [], ◌∷◌, ◌++◌, ◌∙◌, Option, Some, None, ap, arith, inl, inr, is_some, length, length-append, map, refl, subst, sym, true≢false}
-use Rattle.std.specs.Prelude.{◌⊎◌, ◌&&◌, Contains, nat_eq, nat_le, not, take}
+use Rattle.std.proofs.Common.{◌≡◌, ℕ, ◌<◌, ◌≤◌, Bool, true, false, cond, List, [], ◌∷◌, ◌++◌, ◌∙◌, Option, Some, None, ap, arith, inl, inr, is_some, length, refl, subst, sym, true≢false}
+use Rattle.std.specs.Prelude.{◌⊎◌, ◌&&◌, Contains, nat_le, not, take}
 use Rattle.std.proofs.lemmas.Bool.{and_parts, leb-false, leb-true}
-use Rattle.wb_names.specs.Arrivals.{Outcome, Fresh, Known, Clashed, Left, history_with, outcome_of}
-use Rattle.wb_names.specs.Values.{DrawopValue, NameValue}
-use Rattle.wb_names.specs.declared.name.PageId.{PageId}
-use Rattle.wb_codec.specs.declared.datagram.Datagram.TheVariants.{Draw, Session, Request, AskPages, PageState}
+use Rattle.wb_names.specs.Values.{NameValue}
 use Rattle.wb_gaps.specs.Answers.{pages_of}
 use Rattle.wb_recovery.specs.Events.{timers_of}
 use Rattle.wb_recovery.specs.declared.timers.AskTimer.{AskTimer}
 use Rattle.wb_host.specs.GivingUp.{level as level_in}
 use Rattle.wb_member.specs.Judged.{is_full}
-use Rattle.wb_member.specs.Members.{Misses}
-use Rattle.wb_member.specs.Opened.{Opened, doing as doing_act, events, has_room_for, heard, may_ask, present}
-use Rattle.wb_member.specs.Random.{word_of}
+use Rattle.wb_member.specs.Opened.{Opened, events}
 use Rattle.wb_keeping.specs.Credit.{has_credit}
-use Rattle.wb_keeping.specs.Kept.{Arrives, Asks, Doing, Hears, Line, Says, SetsDistance, Tunes, Stops, Ticks, room_lines, state_of, still, stops_oldest, usual_lines, want}
+use Rattle.wb_keeping.specs.Kept.{Arrives, Asks, Doing, Hears, Line, Says, SetsDistance, Tunes, Stops, Ticks, room_lines, still, stops_oldest, usual_lines, want}
 use Rattle.wb_keeping.specs.Laws.{fault_of}
 use Rattle.wb_keeping.specs.Performing.{Keeping, after_line, after_lines, sees, view_of}
 use Rattle.wb_keeping.specs.Policy.{Policy, View, after_wanting, holds, level, is_full as shows_full}
@@ -30,51 +25,12 @@ use Rattle.wb_kept_progress.specs.Timed.{TimedLine, lines_of}
 use Rattle.wb_kept_progress.specs.Whole.{there}
 use Rattle.wb_kept_progress.proofs.CallLines.{host_before}
 use Rattle.wb_kept_progress.proofs.Coming.{has_room}
-use Rattle.wb_kept_progress.proofs.Lines.{lines_of as lines_keep}
+use Rattle.wb_kept_progress.proofs.Lines.{lines_of as lines_keep, lines_grow}
 use Rattle.wb_kept_progress.proofs.Repairs.{moved}
 use Rattle.wb_kept_progress.proofs.WholeParts.{LinesHaveCalls, StopsHaveCause, does, host_then}
+use Rattle.wb_keeping.proofs.EachLine.{Each, each_both, states_each, usual_each}
 
--- ---- a board grows
-
-with_longer : (h : List DrawopValue) (d : DrawopValue) (o : Outcome) → length h ≤ length (history_with h d o)
-with_longer h d (Fresh i) = let e = length-append h (d ∷ []) in omega (arith, e)
-with_longer h d (Known i) = omega arith
-with_longer h d (Clashed i) = omega arith
-with_longer h d Left = omega arith
-
-abbrev IsAsLong : Opened → Opened → Type 0
-IsAsLong host next = length host.is.held ≤ length next.is.held
-
-as_long : (host : Opened) → IsAsLong host host
-as_long host = omega arith
-
-line_longer : (line : Line) (host : Opened) → IsAsLong host (after_line line host)
-line_longer (Ticks now) host = as_long host
-line_longer (Arrives d) host = with_longer host.is.held d (outcome_of host.is.cells host.is.held d)
-line_longer (Hears v) host = by (has_room_for v host) where
-  by : (b : Bool) → IsAsLong host (cond b (heard v host) host)
-  by true = as_long host
-  by false = as_long host
-line_longer (Asks name) host = by (may_ask name host) where
-  by : (b : Bool) → IsAsLong host (cond b (doing_act (Misses (present host) (name ∷ []) (word_of host.random ∷ [])) 1 host) host)
-  by true = as_long host
-  by false = as_long host
-line_longer (Stops name) host = as_long host
-line_longer (SetsDistance source micros) host = as_long host
-line_longer (Tunes constants) host = as_long host
-line_longer (Says (Draw d)) host = with_longer host.is.held d (outcome_of host.is.cells host.is.held d)
-line_longer (Says (Session sender sent page marks echoes)) host = as_long host
-line_longer (Says (Request asker name)) host = as_long host
-line_longer (Says (AskPages asker)) host = as_long host
-line_longer (Says (PageState sender page marks)) host = as_long host
-
--- more is held behind lines, or as much
-pub lines_longer : (lines : List Line) (host : Opened) → length host.is.held ≤ length (after_lines lines host).is.held
-lines_longer [] host = as_long host
-lines_longer (line ∷ lines) host =
-    let one = line_longer line host in
-    let rest = lines_longer lines (after_line line host) in
-    omega (arith, one, rest)
+-- ---- room on a board
 
 -- what has room behind lines had room before
 pub room_before : (lines : List Line) (host next : Opened) → next ≡ after_lines lines host → is_full next ≡ false → is_full host ≡ false
@@ -82,7 +38,7 @@ room_before lines host next is room =
     let then : is_full (after_lines lines host) ≡ false = subst (λ (h : Opened). is_full h ≡ false) is room in
     let lt = leb-false (after_lines lines host).is.cells (length (after_lines lines host).is.held) then in
     let cells = (lines_keep lines host).cells in
-    let le = lines_longer lines host in
+    let le = (lines_grow lines host).longer in
     has_room host (omega (arith, lt, cells, le))
 
 -- ---- why it gives a name up
@@ -113,8 +69,7 @@ StopsNothing (Stops n) = ⊥
 StopsNothing line = Unit {0}
 
 abbrev StopNothing : List Line → Type 0
-StopNothing [] = Unit {0}
-StopNothing (line ∷ lines) = StopsNothing line × StopNothing lines
+StopNothing lines = Each StopsNothing lines
 
 nothing_caused : (line : Line) (host : Opened) → StopsNothing line → IsCaused line host
 nothing_caused (Stops n) host none = absurd none
@@ -164,17 +119,6 @@ off_six held full anew l owed now e =
       by true false e = absurd (true≢false (sym e))
       by false late e = absurd (true≢false (sym e))
 
-usual_stops_nothing : (source distance : ℕ) (usual : Option ℕ) → StopNothing (usual_lines source distance usual)
-usual_stops_nothing source distance None = tt
-usual_stops_nothing source distance (Some u) = by (nat_eq distance 100000) where
-  by : (b : Bool) → StopNothing (cond b (SetsDistance source u ∷ []) [])
-  by true = (tt, tt)
-  by false = tt
-
-asks_last : (lines : List Line) (name : NameValue) → StopNothing lines → StopNothing (lines ++ Asks name ∷ [])
-asks_last [] name none = (tt, tt)
-asks_last (line ∷ lines) name none = (none.0, asks_last lines name none.1)
-
 wanted_caused : (name : NameValue) (anew : Bool) (k : Keeping) → AreCaused (want name anew (sees k.host) k.policy).lines k.host
 wanted_caused name anew k = by (is_wanted (holds v name) (shows_full v) anew (level v name) k.policy.owed v.now) refl where
   v : View
@@ -194,7 +138,7 @@ wanted_caused name anew k = by (is_wanted (holds v name) (shows_full v) anew (le
       let usual = usual_lines name.source (v.distance name.source) k.policy.usual in
       caused_both (room_lines name v) (usual ++ Asks name ∷ []) k.host (room_caused name k.host (old e))
       (unstopped (usual ++ Asks name ∷ []) (after_lines (room_lines name v) k.host)
-      (asks_last usual name (usual_stops_nothing name.source (v.distance name.source) k.policy.usual)))
+      (each_both StopsNothing usual (Asks name ∷ []) (usual_each StopsNothing name.source (v.distance name.source) k.policy.usual (λ micros e. tt)) (tt, tt)))
 
 -- ---- all that a kept host does
 
@@ -214,14 +158,17 @@ both_give_up k m n one other a b = record {
       caused_both one other k.host first (subst (AreCaused other) a.at (b.caused room));
 }
 
-says_stop_nothing : (v : View) (pages : List PageId) → StopNothing (map (λ (page : PageId). Says (state_of v page)) pages)
-says_stop_nothing v [] = tt
-says_stop_nothing v (page ∷ pages) = (tt, says_stop_nothing v pages)
-
 steps_give_up : HoldsOfSteps GivesUpFor
 steps_give_up = record {
-  nothing = λ k. quietly k [] k.policy tt;
-  both = both_give_up;
+  due = record {
+    nothing = λ k. quietly k [] k.policy tt;
+    both = both_give_up;
+    wants = λ name anew k. record { at = refl; caused = λ room. wanted_caused name anew k };
+    turned = λ t k. quietly k [] _ tt;
+    answers = λ k is. quietly k _ _ (states_each StopsNothing (view_of k.host) (λ page. tt) (take 64 (pages_of k.host.is.held)));
+    asks_pages = λ k is. quietly k _ _ (tt, tt);
+    reports = λ page told k is. quietly k _ _ (tt, tt);
+  };
   ticks = λ now k later. quietly k (Ticks now ∷ []) k.policy (tt, tt);
   arrives = λ d k. quietly k _ k.policy (tt, tt);
   answered = λ d k lacks asked. quietly k _ _ (tt, tt);
@@ -229,15 +176,10 @@ steps_give_up = record {
   stops = λ name k full. record { at = refl; caused = λ room. absurd (true≢false (sym full ∙ room)) };
   sets = λ source micros k. quietly k _ k.policy (tt, tt);
   tunes = λ constants k within. quietly k _ k.policy (tt, tt);
-  wants = λ name anew k. record { at = refl; caused = λ room. wanted_caused name anew k };
   draws = λ d k. quietly k _ k.policy (tt, tt);
-  turned = λ t k. quietly k [] _ tt;
   measured = λ micros k. quietly k [] _ tt;
   told = λ k. quietly k [] _ tt;
   takes_up = λ k is. quietly k [] _ tt;
-  answers = λ k is. quietly k _ _ (says_stop_nothing (view_of k.host) (take 64 (pages_of k.host.is.held)));
-  asks_pages = λ k is. quietly k _ _ (tt, tt);
-  reports = λ page told k is. quietly k _ _ (tt, tt);
 }
 
 -- ---- a session

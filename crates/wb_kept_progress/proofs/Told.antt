@@ -1,34 +1,19 @@
 -- A host that hears a report of a number that it lacks wants it.
-use Rattle.std.proofs.Common.{◌≡◌, ℕ, Bool, true, false, cond, List, ◌∙◌, ap, eqb-true, inl, inr, length, refl, subst, sym, ⊎_elim}
-use Rattle.std.specs.Prelude.{◌⊎◌, Contains, nat_eq, nat_le, nat_lt}
-use Rattle.wb_names.specs.Values.{DrawopValue, MarkValue, NameValue}
+use Rattle.std.proofs.Common.{◌≡◌, ℕ, Bool, true, false, cond, List, ◌∙◌, ap, eqb-true, inl, inr, refl, subst, sym, ⊎_elim}
+use Rattle.std.specs.Prelude.{◌⊎◌, Contains, nat_eq, nat_lt}
+use Rattle.wb_names.specs.Values.{MarkValue, NameValue}
 use Rattle.wb_names.specs.declared.echo.Echo.{Echo}
 use Rattle.wb_names.specs.declared.name.PageId.{PageId}
 use Rattle.wb_codec.specs.declared.datagram.Datagram.{Datagram}
 use Rattle.wb_codec.specs.declared.datagram.Datagram.TheVariants.{Session}
-use Rattle.wb_host.specs.Keeper.{holds}
 use Rattle.wb_member.specs.Opened.{has_room_for, heard}
 use Rattle.wb_keeping.specs.Kept.{Doing, Hears, Ticks, Transition, and_then, came, distance_in, hears, hears_session, measures, own_echo, own_marks, performs, still, timed, told_names, want_told}
 use Rattle.wb_keeping.specs.Performing.{Keeping, after_doing, after_lines, sees}
 use Rattle.wb_keeping.proofs.EachStep.{having}
 use Rattle.wb_keeping.proofs.Performed.{then_after}
-use Rattle.wb_kept_progress.proofs.Going.{measures_small}
-use Rattle.wb_kept_progress.proofs.Lines.{is_false, lines_of, lines_rest}
-use Rattle.wb_kept_progress.proofs.Turning.{answers_on}
-use Rattle.wb_kept_progress.proofs.WantedIn.{IsAskedIn, IsAskedInCall, LacksCredit, IsWantedIn, MayBeWanted, asked_behind_tick, timed_costs, told_is_wanted, wanted_behind, wanted_later}
-
--- what it holds stays, and its cells
-same_may : (n : NameValue) (does : Transition) (k : Keeping) → (after_doing does k).host.is.held ≡ k.host.is.held → MayBeWanted k n
-    → MayBeWanted (after_doing does k) n
-same_may n does k same may =
-    let of = lines_of (does (sees k.host) k.policy).lines k.host in
-    record {
-      answers_held = answers_on does k may.answers_held;
-      lacks = ap (λ (h : List DrawopValue). holds h n) same ∙ may.lacks;
-      room =
-          ap (λ (h : List DrawopValue). nat_le (after_doing does k).host.is.cells (length h)) same ∙ ap (λ (c : ℕ). nat_le c (length k.host.is.held)) of.cells
-          ∙ may.room;
-    }
+use Rattle.wb_kept_progress.proofs.Lines.{is_false, IsSmall, are_small, does_rest}
+use Rattle.wb_kept_progress.proofs.WantedIn.{IsAskedIn, IsAskedInCall, LacksCredit, IsWantedIn, MayBeWanted, asked_behind_tick, timed_costs, told_is_wanted, wanted_behind, wanted_later, same_may}
+use Rattle.wb_keeping.proofs.EachLine.{measures_each}
 
 hearing_holds : (v : Datagram) (k : Keeping) → (after_doing (performs (Hears v)) k).host.is.held ≡ k.host.is.held
 hearing_holds v k = by (has_room_for v k.host) where
@@ -68,7 +53,7 @@ module _ (k : Keeping) (now sender sent : ℕ) (page : PageId) (marks : List Mar
   may_two : MayBeWanted two n
   may_two =
       same_may n second one
-      (lines_rest (second (sees one.host) one.policy).lines one.host (measures_small sender (distance_in now echo) (sees one.host) one.policy)).held
+      (does_rest second (measures_each IsSmall are_small sender (distance_in now echo)) one).held
       (same_may n first t (hearing_holds (Session sender sent page (own_marks k.host.is.number (nat_lt now k.policy.ready) marks) echo) t) (same_may n (performs (Ticks now)) k refl may))
 
   all_heard : IsWantedIn n (and_then first (and_then second third)) t

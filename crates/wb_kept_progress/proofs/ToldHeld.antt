@@ -1,6 +1,6 @@
 -- What a host that keeps itself tells of names, it holds.
-use Rattle.std.proofs.Common.{◌≡◌, ℕ, Bool, true, false, cond, List, [], ◌∷◌, ◌++◌, ◌∙◌, Option, Some, None, ap, arith, inl, inr, length, map, refl, subst, sym, ⊎_elim}
-use Rattle.std.specs.Prelude.{◌⊎◌, Contains, filter, nat_eq, nat_le, nat_lt, take}
+use Rattle.std.proofs.Common.{◌≡◌, ℕ, Bool, true, false, cond, List, [], ◌∷◌, ◌++◌, ◌∙◌, Option, Some, None, ap, arith, inl, inr, map, refl, subst, sym, ⊎_elim}
+use Rattle.std.specs.Prelude.{◌⊎◌, Contains, filter, nat_lt, take}
 use Rattle.std.specs.Option.{option_map}
 use Rattle.std.proofs.lemmas.Bool.{ltb-true}
 use Rattle.std.proofs.lemmas.List.Elements.{Contains-append_cases}
@@ -21,18 +21,18 @@ use Rattle.wb_host.specs.Ticks.{drawop_of, sent_for}
 use Rattle.wb_host.proofs.TickSends.{sent_from}
 use Rattle.wb_progress.proofs.NamesApart.{from_take}
 use Rattle.wb_member.specs.Opened.{Opened, becomes, has_room_for, present, sent_by}
-use Rattle.wb_keeping.specs.Kept.{Arrives, Asks, Hears, Line, Says, SetsDistance, Tunes, Stops, Ticks, last_heard, room_lines, state_of, still, stops_oldest, usual_lines, want}
+use Rattle.wb_keeping.specs.Kept.{Arrives, Asks, Hears, Line, Says, SetsDistance, Tunes, Stops, Ticks, last_heard, state_of, still, want}
 use Rattle.wb_keeping.specs.Laws.{KeptLine, doing_of, fault_of}
 use Rattle.wb_keeping.specs.Performing.{Keeping, after_doing, after_line, after_lines, said_where, sees, sent_by_doing, sent_by_line, sent_by_lines, view_of}
-use Rattle.wb_keeping.specs.Policy.{Policy, View, after_wanting, holds, is_asked, is_full, level}
+use Rattle.wb_keeping.specs.Policy.{Policy, View, after_wanting, holds, is_full, level}
 use Rattle.wb_keeping.specs.Reports.{is_untold, slice_after}
-use Rattle.wb_keeping.specs.Wanting.{is_wanted, oldest}
-use Rattle.wb_keeping.specs.declared.wanting.AskedName.{AskedName}
+use Rattle.wb_keeping.specs.Wanting.{is_wanted}
 use Rattle.wb_keeping.proofs.EachStep.{HoldsOfSteps, doing, line_holds}
 use Rattle.wb_keeping.proofs.Performed.{after_both, sent_by_both}
 use Rattle.wb_keeping.proofs.Wanted.{lines_wanted}
 use Rattle.wb_kept_progress.proofs.Lines.{lines_grow}
 use Rattle.wb_kept_progress.proofs.PerLine.{one_of}
+use Rattle.wb_keeping.proofs.EachLine.{Each, wanted_each}
 
 -- each mark of a page is of a number that is held
 abbrev pub AreHeld : List DrawopValue → PageId → List MarkValue → Type 0
@@ -138,12 +138,7 @@ SendsNothing (Tunes constants) = Unit {0}
 SendsNothing (Says v) = ⊥
 
 abbrev SendNothing : List Line → Type 0
-SendNothing [] = Unit {0}
-SendNothing (line ∷ lines) = SendsNothing line × SendNothing lines
-
-none_both : (one other : List Line) → SendNothing one → SendNothing other → SendNothing (one ++ other)
-none_both [] other a b = b
-none_both (line ∷ one) other a b = (a.0, none_both one other a.1 b)
+SendNothing lines = Each SendsNothing lines
 
 none_sent : (lines : List Line) (host : Opened) (v : Datagram) → SendNothing lines → Contains (sent_by_lines lines host) v → ⊥
 none_sent [] host v none c = Contains-none v c
@@ -156,29 +151,13 @@ none_sent (SetsDistance source micros ∷ lines) host v none c = none_sent lines
 none_sent (Tunes constants ∷ lines) host v none c = none_sent lines (after_line (Tunes constants) host) v none.1 c
 none_sent (Says w ∷ lines) host v none c = none.0
 
-room_none : (name : NameValue) (v : View) → SendNothing (room_lines name v)
-room_none name v = by (is_asked v name) (nat_le 64 (length v.asked)) (oldest v.asked) where
-  by : (a b : Bool) (o : Option AskedName) → SendNothing (cond a (Stops name ∷ []) (cond b (stops_oldest o) []))
-  by true b o = (tt, tt)
-  by false true None = tt
-  by false true (Some a) = (tt, tt)
-  by false false o = tt
-
-usual_none : (source distance : ℕ) (usual : Option ℕ) → SendNothing (usual_lines source distance usual)
-usual_none source distance None = tt
-usual_none source distance (Some u) = by (nat_eq distance 100000) where
-  by : (b : Bool) → SendNothing (cond b (SetsDistance source u ∷ []) [])
-  by true = (tt, tt)
-  by false = tt
-
 want_none : (name : NameValue) (anew : Bool) (see : List Line → View) (p : Policy) → SendNothing (want name anew see p).lines
 want_none name anew see p = by (is_wanted (holds v name) (is_full v) anew (level v name) p.owed v.now) where
   v : View
   v = see []
 
   by : (b : Bool) → SendNothing (cond b (doing (after_wanting v.now p) (lines_wanted name anew see p)) (still see p)).lines
-  by true = none_both (room_lines name v) _ (room_none name v)
-      (none_both (usual_lines name.source (v.distance name.source) p.usual) (Asks name ∷ []) (usual_none name.source (v.distance name.source) p.usual) (tt, tt))
+  by true = wanted_each SendsNothing (λ name. tt) name tt anew see p (λ micros e. tt)
   by false = tt
 
 -- ---- all that a kept host does
@@ -222,8 +201,17 @@ states_tell seen (page ∷ pages) host v c = ⊎_elim
 
 steps_tell : HoldsOfSteps TellsWhatIsHeld
 steps_tell = record {
-  nothing = λ k. quietly k [] k.policy tt;
-  both = both_tell;
+  due = record {
+    nothing = λ k. quietly k [] k.policy tt;
+    both = both_tell;
+    wants = λ name anew k. quietly k _ _ (want_none name anew (sees k.host) k.policy);
+    turned = λ t k. quietly k [] _ tt;
+    answers = λ k is. by_held k _ _ (states_tell (view_of k.host) (take 64 (pages_of k.host.is.held)) k.host);
+    asks_pages = λ k is. by_one k (Says (AskPages k.host.is.number)) _ (λ v c. subst (TellsHeld k.host.is.held) (one_of (AskPages k.host.is.number) v c) tt);
+    reports = λ page told k is.
+        let report = Session k.host.is.number (present k.host) page (slice_after told (report_of k.host.is.held page)) (last_heard (view_of k.host).echoes) in
+        by_one k (Says report) _ (λ v c. subst (TellsHeld k.host.is.held) (one_of report v c) (slice_held k.host.is.held page told));
+  };
   ticks = λ now k later. by_one k (Ticks now) k.policy (tick_tells now k.host);
   arrives = λ d k. quietly k _ k.policy (tt, tt);
   answered = λ d k lacks asked. quietly k _ _ (tt, tt);
@@ -231,17 +219,10 @@ steps_tell = record {
   stops = λ name k full. quietly k _ k.policy (tt, tt);
   sets = λ source micros k. quietly k _ k.policy (tt, tt);
   tunes = λ constants k within. quietly k _ k.policy (tt, tt);
-  wants = λ name anew k. quietly k _ _ (want_none name anew (sees k.host) k.policy);
   draws = λ d k. by_one k (Says (Draw d)) k.policy (draw_tells k.host.is.held d (becomes d k.host));
-  turned = λ t k. quietly k [] _ tt;
   measured = λ micros k. quietly k [] _ tt;
   told = λ k. quietly k [] _ tt;
   takes_up = λ k is. quietly k [] _ tt;
-  answers = λ k is. by_held k _ _ (states_tell (view_of k.host) (take 64 (pages_of k.host.is.held)) k.host);
-  asks_pages = λ k is. by_one k (Says (AskPages k.host.is.number)) _ (λ v c. subst (TellsHeld k.host.is.held) (one_of (AskPages k.host.is.number) v c) tt);
-  reports = λ page told k is.
-      let report = Session k.host.is.number (present k.host) page (slice_after told (report_of k.host.is.held page)) (last_heard (view_of k.host).echoes) in
-      by_one k (Says report) _ (λ v c. subst (TellsHeld k.host.is.held) (one_of report v c) (slice_held k.host.is.held page told));
 }
 
 -- What a call tells is held behind it.

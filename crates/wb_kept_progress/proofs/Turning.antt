@@ -1,21 +1,19 @@
 -- A number below a top has its turn, and is asked for.
-use Rattle.std.proofs.Common.{◌≡◌, ℕ, zero, suc, ◌+◌, ◌-◌, ◌*◌, ◌<◌, ◌≤◌, Bool, true, false, cond, List, [], ◌∷◌, ◌++◌, ◌∙◌, Option, Some, None, ap, arith, append_assoc, eqb-true, inl, inr, length, map, refl, subst, sym, true≢false, ⊎_elim}
-use Rattle.std.specs.Prelude.{◌⊎◌, ◌&&◌, ◌%◌, Contains, is_some, max, min, nat_eq, nat_le, not, take, unwrap_or}
+use Rattle.std.proofs.Common.{◌≡◌, ℕ, zero, suc, ◌+◌, ◌*◌, ◌<◌, ◌≤◌, Bool, true, false, cond, List, [], ◌∷◌, ◌++◌, ◌∙◌, Some, None, ap, arith, append_assoc, eqb-true, inl, inr, length, map, refl, subst, sym, true≢false, ⊎_elim}
+use Rattle.std.specs.Prelude.{◌⊎◌, ◌&&◌, Contains, max, nat_eq, nat_le, not}
 use Rattle.std.specs.List.{flat_map}
-use Rattle.std.specs.Option.{option_map, option_or}
 use Rattle.std.proofs.lemmas.Bool.{leb-true}
 use Rattle.std.proofs.lemmas.List.Elements.{Contains-append_cases, Contains-append_left, Contains-append_right}
 use Rattle.wb_names.specs.History.{IsHeld, highest, name_of}
 use Rattle.wb_names.specs.Values.{DrawopValue, MarkValue, NameValue}
-use Rattle.wb_names.specs.declared.echo.Echo.{Echo}
 use Rattle.wb_names.specs.declared.gap.Gap.{Gap}
 use Rattle.wb_names.specs.declared.name.PageId.{PageId}
 use Rattle.wb_names.proofs.Listings.{Contains-cases, Contains-here, Contains-none, Contains-there}
 use Rattle.wb_codec.specs.declared.datagram.Datagram.{Datagram}
-use Rattle.wb_codec.specs.declared.datagram.Datagram.TheVariants.{AskPages, Session}
+use Rattle.wb_codec.specs.declared.datagram.Datagram.TheVariants.{Session}
 use Rattle.wb_gaps.specs.Answers.{gaps_of, pages_of, report_of}
 use Rattle.wb_gaps.specs.Gaps.{IsMissing}
-use Rattle.wb_gaps.specs.Holes.{hole_after, hole_on, holes_of, holes_on}
+use Rattle.wb_gaps.specs.Holes.{hole_on, holes_of, holes_on}
 use Rattle.wb_gaps.specs.declared.holes.Hole.{Hole}
 use Rattle.wb_gaps.proofs.MissingRanges.{gaps_of_page}
 use Rattle.wb_gaps.proofs.PageAnswers.{pages_of_history}
@@ -24,37 +22,28 @@ use Rattle.wb_host.specs.Keeper.{holds}
 use Rattle.wb_host.proofs.KeptCalls.{holds_not}
 use Rattle.wb_member.specs.Judged.{is_full}
 use Rattle.wb_member.specs.Opened.{Opened, asks_for, opened_with, present}
-use Rattle.wb_keeping.specs.Credit.{cost, has_credit}
-use Rattle.wb_keeping.specs.Fairness.{AnswersWhatIsHeld, Told, after_telling, after_tellings, after_turn, after_turns, led_to, marks_in_turn, name_in_turn, page_in_turn, where_left}
-use Rattle.wb_keeping.specs.Kept.{Doing, Line, Says, Ticks, Transition, and_then, answers, asks_pages, last_heard, performs, reports, reports_due, reports_rest, state_of, still, ticks, timed, turn, turn_to, want}
+use Rattle.wb_keeping.specs.Fairness.{AnswersWhatIsHeld, Told, after_telling, after_tellings, after_turn, after_turns, marks_in_turn, name_in_turn, page_in_turn, where_left}
+use Rattle.wb_keeping.specs.Kept.{Ticks, performs, ticks, timed}
 use Rattle.wb_keeping.specs.Laws.{Ticked, doing_of}
-use Rattle.wb_keeping.specs.Performing.{Keeping, after_doing, after_lines, sees, sent_by_doing, sent_by_lines, view_of}
-use Rattle.wb_keeping.specs.Policy.{Policy, View, after_answer, after_question, after_turn as policy_after, after_wanting, in_next_round}
-use Rattle.wb_keeping.specs.Questions.{is_due}
-use Rattle.wb_keeping.specs.Reports.{next_report, page_after, slice_after}
-use Rattle.wb_keeping.specs.Turns.{name_in, nowhere}
-use Rattle.wb_keeping.specs.Words.{word_of}
+use Rattle.wb_keeping.specs.Performing.{Keeping, after_doing, sees}
+use Rattle.wb_keeping.specs.Reports.{page_after, slice_after}
 use Rattle.wb_keeping.specs.declared.turns.Turns.{Turns}
 use Rattle.wb_keeping.specs.Refusing.{is_unknown}
-use Rattle.wb_keeping.proofs.EachStep.{having, with_policy}
-use Rattle.wb_keeping.proofs.FairTurns.{a_number_has_its_turn, each_number_has_its_turn, turns_are_taken}
+use Rattle.wb_keeping.proofs.EachStep.{having}
+use Rattle.wb_keeping.proofs.FairTurns.{a_number_has_its_turn, each_number_has_its_turn}
 use Rattle.wb_keeping.proofs.KeptLines.{slices_are_short}
-use Rattle.wb_keeping.proofs.Performed.{then_after, then_sent}
-use Rattle.wb_keeping.proofs.StandingTimers.{stands_asked}
-use Rattle.wb_keeping.proofs.ToldMarks.{reports_tell}
-use Rattle.wb_keeping.proofs.Wanted.{is_wanted_here, lines_wanted}
-use Rattle.wb_keeping.proofs.WantedNames.{lines_answer_held, wanted_is_asked}
-use Rattle.wb_progress.proofs.OneCall.{le_true}
+use Rattle.wb_keeping.proofs.Performed.{then_after}
+use Rattle.wb_keeping.proofs.WantedNames.{lines_answer_held}
 use Rattle.wb_kept_progress.specs.Repairs.{AreTicks, ComesToAsk, ComesToTell, IsBrought, IsLost, MissingCanCome, MissingIsAsked, MissingIsAskedSoon, host_at, ready_at, repair}
 use Rattle.wb_kept_progress.specs.Sessions.{AreHosts, AreTaken, LineAt, NothingIsForged, Opening, at, kept_at, sent}
-use Rattle.wb_kept_progress.proofs.Going.{answers_small, asks_pages_small, reports_small, turn_small}
-use Rattle.wb_kept_progress.proofs.Lines.{IsOf, Rests, is_false, lines_of, lines_rest}
+use Rattle.wb_kept_progress.proofs.Lines.{IsOf, is_false, lines_of}
 use Rattle.wb_kept_progress.proofs.Repairs.{asked_can_come, did_send, is_itself, places_differ, tick_in_time, tick_rests}
+use Rattle.wb_kept_progress.proofs.Leaving.{answers_on, told_of}
+use Rattle.wb_kept_progress.proofs.InTurn.{IsReporting, due_asks, due_owed, is_reporting}
+use Rattle.wb_kept_progress.proofs.StillCalls.{ticked_call}
+use Rattle.wb_kept_progress.proofs.WantedIn.{MayBeWanted}
 
 -- ---- one who answers for what it holds alone
-
-pub answers_on : (does : Transition) (k : Keeping) → AnswersWhatIsHeld k.host → AnswersWhatIsHeld (after_doing does k).host
-answers_on does k old name = lines_answer_held name (does (sees k.host) k.policy).lines k.host (old name)
 
 pub answers_at : (hosts : ℕ → Opening) (lines : List LineAt) (i : ℕ) → AnswersWhatIsHeld (host_at hosts lines i)
 answers_at hosts [] i = λ name. lines_answer_held name (map Ticks (hosts i).moments) (opened_with (hosts i).constants (hosts i).number (hosts i).cells (hosts i).seed) (λ e. absurd (true≢false (sym e)))
@@ -68,289 +57,31 @@ answers_at hosts (e ∷ older) i = by (answers_at hosts older i) (nat_eq e.place
 
 -- ---- one tick
 
--- what a policy told last
-abbrev pub told_of : Policy → Told
-told_of p = record { page = p.told_page; last = p.told }
-
--- What a policy has due before it reports leaves its turns, its reports and what it owes.
-pub record Leaves (p q : Policy) : Type 0 where
-  pub turns : q.turns ≡ p.turns
-  pub owed : q.owed ≡ p.owed
-  pub due : q.reports.due ≡ p.reports.due
-  pub told : told_of q ≡ told_of p
-
-either : (p : Policy) (b : Bool) (x y : Doing) → Leaves p x.policy → Leaves p y.policy → Leaves p (cond b x y).policy
-either p true x y l m = l
-either p false x y l m = m
-
-pub answers_leave : (see : List Line → View) (p : Policy) → Leaves p (answers see p).policy
-answers_leave see p =
-    let v = see [] in
-    either p (is_due v.now p.questions.answer) (record { policy = after_answer v.now p; lines = map (λ (page : PageId). Says (state_of v page)) (take 64 (pages_of v.held)) }) (still see p)
-    (record { turns = refl; owed = refl; due = refl; told = refl }) (record { turns = refl; owed = refl; due = refl; told = refl })
-
-pub asks_leave : (see : List Line → View) (p : Policy) → Leaves p (asks_pages see p).policy
-asks_leave see p =
-    let v = see [] in
-    either p (is_due v.now p.questions.ask) (record { policy = after_question v.now p; lines = Says (AskPages v.me) ∷ [] }) (still see p)
-    (record { turns = refl; owed = refl; due = refl; told = refl }) (record { turns = refl; owed = refl; due = refl; told = refl })
-
-pub next_soon : (now sum word : ℕ) → next_report now (min (max sum 2000000) 64000000) (word % (min (max sum 2000000) 64000000 + 1)) ≤ now + 96000000
-next_soon now sum word = by (min (max sum 2000000) 64000000) (omega arith) where
-  under : (a b : ℕ) → a % (b + 1) ≤ b
-  under a b = omega arith
-
-  by : (mean : ℕ) → mean ≤ 64000000 → next_report now mean (word % (mean + 1)) ≤ now + 96000000
-  by mean le = let few = under word mean in omega (arith, le, few)
-
-pub rest_leaves : (marks : List MarkValue) (see : List Line → View) (p : Policy) → ((reports_rest marks see p).policy.turns ≡ p.turns) × ((reports_rest marks see p).policy.owed ≡ p.owed)
-rest_leaves [] see p = (refl, refl)
-rest_leaves (m ∷ marks) see p = (refl, refl)
-
-abbrev done : Keeping → Doing → Keeping
-done k d = record { host = after_lines d.lines k.host; policy = d.policy }
-
--- a turn that comes to a name asks for it
-pub some_name : (a b : NameValue) → Some a ≡ Some b → a ≡ b
-some_name a b e = ap (λ (o : Option NameValue). unwrap_or o a) e
-
-module _ (n : NameValue) (r : Keeping) (answers_held : AnswersWhatIsHeld r.host) (lacks : holds r.host.is.held n ≡ false) (room : is_full r.host ≡ false) (credit : r.policy.owed ≤ present r.host) where
-  has : has_credit r.policy.owed (present r.host) ≡ true
-  has = le_true (max r.policy.owed (present r.host) - present r.host) (63 * cost) (omega (arith, credit))
-
-  wants_so : (t : Turns) (name : NameValue) → name ≡ n → asks_for n (after_doing (want name true) (with_policy (record r.policy { turns = t }) r)).host ≡ true
-  wants_so t name e =
-      let k = with_policy (record r.policy { turns = t }) r in
-      let m = after_doing (want n true) k in
-      subst (λ (x : NameValue). asks_for n (after_doing (want x true) k).host ≡ true) (sym e) (stands_asked m.host n (wanted_is_asked n true k answers_held lacks room has))
-
-  to_it : (next first : Option Hole) → option_map (name_in (led_to next first r.policy.turns).round) (option_or next first) ≡ Some n → asks_for n (done r (turn_to next first (sees r.host) r.policy)).host ≡ true
-  to_it (Some h) first e = wants_so (policy_after h r.policy).turns (name_in r.policy.turns.round h) (some_name (name_in r.policy.turns.round h) n e)
-  to_it None (Some h) e = let q = in_next_round r.policy in wants_so (policy_after h q).turns (name_in q.turns.round h) (some_name (name_in q.turns.round h) n e)
-  to_it None None e = absurd (none_some n e) where
-    none_some : (n : NameValue) → None ≡ Some n → ⊥
-    none_some n e = true≢false (sym (ap is_some e))
-
-  turn_asks : name_in_turn r.host.is.held r.policy.turns ≡ Some n → asks_for n (after_doing turn r).host ≡ true
-  turn_asks e = to_it (hole_after r.host.is.held r.policy.turns.page r.policy.turns.source r.policy.turns.number) (hole_after r.host.is.held nowhere 0 0) e
-
--- a report is followed by the next within 96 seconds
-pub rest_soon : (marks : List MarkValue) (see : List Line → View) (p : Policy) → (reports_rest marks see p).policy.reports.due ≤ (see []).now + 96000000
-rest_soon [] see p = next_soon (see []).now _ (word_of p.words)
-rest_soon (m ∷ marks) see p = next_soon (see []).now _ (word_of p.words)
-
--- a turn asks for one name at most, and reports nothing
-module _ (name : NameValue) (see : List Line → View) (p : Policy) where
-  abbrev wanted_so : Bool → Policy
-  wanted_so b = let d : Doing = cond b (record { policy = after_wanting (see []).now p; lines = lines_wanted name true see p }) (still see p) in d.policy
-
-  want_due : (want name true see p).policy.reports.due ≡ p.reports.due
-  want_due = by (is_wanted_here name true see p) where
-    by : (b : Bool) → (wanted_so b).reports.due ≡ p.reports.due
-    by true = refl
-    by false = refl
-
-  want_owed : p.owed ≤ (see []).now → (want name true see p).policy.owed ≤ (see []).now + 250000
-  want_owed le = by (is_wanted_here name true see p) where
-    one_more : (owed now : ℕ) → owed ≤ now → max owed now + 250000 ≤ now + 250000
-    one_more owed now le = omega (arith, le)
-
-    none_more : (owed now : ℕ) → owed ≤ now → owed ≤ now + 250000
-    none_more owed now le = omega (arith, le)
-
-    by : (b : Bool) → (wanted_so b).owed ≤ (see []).now + 250000
-    by true = one_more p.owed (see []).now le
-    by false = none_more p.owed (see []).now le
-
-turn_to_due : (next first : Option Hole) (see : List Line → View) (p : Policy) → (turn_to next first see p).policy.reports.due ≡ p.reports.due
-turn_to_due (Some h) first see p = want_due (name_in p.turns.round h) see (policy_after h p)
-turn_to_due None (Some h) see p = want_due (name_in (in_next_round p).turns.round h) see (policy_after h (in_next_round p))
-turn_to_due None None see p = refl
-
-pub turn_due : (see : List Line → View) (p : Policy) → (turn see p).policy.reports.due ≡ p.reports.due
-turn_due see p = turn_to_due (hole_after (see []).held p.turns.page p.turns.source p.turns.number) (hole_after (see []).held nowhere 0 0) see p
-
-turn_to_owed : (next first : Option Hole) (see : List Line → View) (p : Policy) → p.owed ≤ (see []).now → (turn_to next first see p).policy.owed ≤ (see []).now + 250000
-turn_to_owed (Some h) first see p le = want_owed (name_in p.turns.round h) see (policy_after h p) le
-turn_to_owed None (Some h) see p le = want_owed (name_in (in_next_round p).turns.round h) see (policy_after h (in_next_round p)) le
-turn_to_owed None None see p le = none_more p.owed (see []).now le where
-  none_more : (owed now : ℕ) → owed ≤ now → owed ≤ now + 250000
-  none_more owed now le = omega (arith, le)
-
-turn_owed : (see : List Line → View) (p : Policy) → p.owed ≤ (see []).now → (turn see p).policy.owed ≤ (see []).now + 250000
-turn_owed see p le = turn_to_owed (hole_after (see []).held p.turns.page p.turns.source p.turns.number) (hole_after (see []).held nowhere 0 0) see p le
-
--- a turn tells nothing
-want_told_same : (name : NameValue) (see : List Line → View) (p : Policy) → told_of (want name true see p).policy ≡ told_of p
-want_told_same name see p = by (is_wanted_here name true see p) where
-  by : (b : Bool) → told_of (let d : Doing = cond b (record { policy = after_wanting (see []).now p; lines = lines_wanted name true see p }) (still see p) in d.policy) ≡ told_of p
-  by true = refl
-  by false = refl
-
-turn_to_told : (next first : Option Hole) (see : List Line → View) (p : Policy) → told_of (turn_to next first see p).policy ≡ told_of p
-turn_to_told (Some h) first see p = want_told_same (name_in p.turns.round h) see (policy_after h p)
-turn_to_told None (Some h) see p = want_told_same (name_in (in_next_round p).turns.round h) see (policy_after h (in_next_round p))
-turn_to_told None None see p = refl
-
-pub turn_told : (see : List Line → View) (p : Policy) → told_of (turn see p).policy ≡ told_of p
-turn_told see p = turn_to_told (hole_after (see []).held p.turns.page p.turns.source p.turns.number) (hole_after (see []).held nowhere 0 0) see p
-
 -- by a tick at which a report is due, and all names are paid for
 module _ (k : Keeping) (now : ℕ) (late : k.policy.reports.due ≤ now) (paid : k.policy.owed ≤ now) where
   abbrev m : Keeping
   m = having (Ticks now) k
 
-  abbrev a : Keeping
-  a = after_doing answers m
-
-  abbrev q : Keeping
-  q = after_doing asks_pages a
-
-  abbrev r : Keeping
-  r = after_doing reports q
-
-  rests_a : Rests m.host a.host
-  rests_a = lines_rest (answers (sees m.host) m.policy).lines m.host (answers_small (sees m.host) m.policy)
-
-  rests_q : Rests a.host q.host
-  rests_q = lines_rest (asks_pages (sees a.host) a.policy).lines a.host (asks_pages_small (sees a.host) a.policy)
-
-  rests_r : Rests q.host r.host
-  rests_r = lines_rest (reports (sees q.host) q.policy).lines q.host (reports_small (sees q.host) q.policy)
-
-  leaves_a : Leaves k.policy a.policy
-  leaves_a = answers_leave (sees m.host) m.policy
-
-  leaves_q : Leaves a.policy q.policy
-  leaves_q = asks_leave (sees a.host) a.policy
-
-  leaves_r : (r.policy.turns ≡ q.policy.turns) × (r.policy.owed ≡ q.policy.owed)
-  leaves_r = rest_leaves (slice_after q.policy.told (report_of q.host.is.held q.policy.told_page)) (sees q.host) q.policy
-
-  now_q : present q.host ≡ now
-  now_q = rests_q.now ∙ rests_a.now
-
-  held_r : r.host.is.held ≡ k.host.is.held
-  held_r = rests_r.held ∙ rests_q.held ∙ rests_a.held
-
-  turns_r : r.policy.turns ≡ k.policy.turns
-  turns_r = leaves_r.0 ∙ leaves_q.turns ∙ leaves_a.turns
-
-  owed_r : r.policy.owed ≤ present r.host
-  owed_r =
-      let e = leaves_r.1 ∙ leaves_q.owed ∙ leaves_a.owed in
-      let at_now = rests_r.now ∙ now_q in
-      omega (arith, paid, e, at_now)
-
-  is_due_now : nat_le q.policy.reports.due (present q.host) ≡ true
-  is_due_now =
-      let e = leaves_q.due ∙ leaves_a.due in
-      let at_now = now_q in
-      le_true q.policy.reports.due (present q.host) (omega (arith, late, e, at_now))
-
-  there : after_doing (ticks now) k ≡ after_doing turn r
-  there =
-      then_after (performs (Ticks now)) timed k
-      ∙ then_after answers (and_then asks_pages reports_due) m
-      ∙ then_after asks_pages reports_due a
-      ∙ ap (λ (b : Bool). done q (cond b (and_then reports turn (sees q.host) q.policy) (still (sees q.host) q.policy))) is_due_now
-      ∙ then_after reports turn q
-
-  of_r : IsOf k.host r.host
-  of_r =
-      let one = lines_of (answers (sees m.host) m.policy).lines m.host in
-      let two = lines_of (asks_pages (sees a.host) a.policy).lines a.host in
-      let three = lines_of (reports (sees q.host) q.policy).lines q.host in
-      record { number = three.number ∙ two.number ∙ one.number; cells = three.cells ∙ two.cells ∙ one.cells; constants = three.constants ∙ two.constants ∙ one.constants }
-
-  pub tick_holds : (after_doing (ticks now) k).host.is.held ≡ k.host.is.held
-  tick_holds =
-      let rests = lines_rest (turn (sees r.host) r.policy).lines r.host (turn_small (sees r.host) r.policy) in
-      ap (λ (x : Keeping). x.host.is.held) there ∙ rests.held ∙ held_r
-
-  pub tick_turns : (after_doing (ticks now) k).policy.turns ≡ after_turn k.host.is.held k.policy.turns
-  tick_turns =
-      ap (λ (x : Keeping). x.policy.turns) there ∙ turns_are_taken (sees r.host) r.policy
-      ∙ ap (λ (h : List DrawopValue). after_turn h r.policy.turns) held_r ∙ ap (after_turn k.host.is.held) turns_r
-
-  told_q : told_of q.policy ≡ told_of k.policy
-  told_q = leaves_q.told ∙ leaves_a.told
-
-  held_q : q.host.is.held ≡ k.host.is.held
-  held_q = rests_q.held ∙ rests_a.held
-
-  of_q : q.host.is.number ≡ k.host.is.number
-  of_q = (lines_of (asks_pages (sees a.host) a.policy).lines a.host).number ∙ (lines_of (answers (sees m.host) m.policy).lines m.host).number
-
-  -- it reports what is told next
-  pub tick_tells : told_of (after_doing (ticks now) k).policy ≡ after_telling k.host.is.held (told_of k.policy)
-  tick_tells =
-      let tells = reports_tell (sees q.host) q.policy in
-      let t = told_of q.policy in
-      let then : told_of r.policy ≡ after_telling q.host.is.held t =
-      ap (λ (page : PageId). let u : Told = record { page = page; last = r.policy.told } in u) tells.1
-      ∙ ap (λ (last : Option ℕ). let u : Told = record { page = (after_telling q.host.is.held t).page; last = last } in u) tells.2 in
-      ap (λ (x : Keeping). told_of x.policy) there ∙ turn_told (sees r.host) r.policy ∙ then
-      ∙ ap (λ (h : List DrawopValue). after_telling h t) held_q ∙ ap (after_telling k.host.is.held) told_q
-
-  abbrev report : Datagram
-  report = Session q.host.is.number (present q.host) (page_in_turn q.host.is.held (told_of q.policy)) (marks_in_turn q.host.is.held (told_of q.policy)) (last_heard (view_of q.host).echoes)
-
-  report_sent : Contains (sent_by_doing reports q) report
-  report_sent =
-      let tells = reports_tell (sees q.host) q.policy in
-      subst (λ (lines : List Line). Contains (sent_by_lines lines q.host) report) (sym tells.0) (Contains-here report [])
-
-  all_sent : Contains (sent_by_doing (ticks now) k) report
-  all_sent =
-      let due : Contains (sent_by_doing reports_due q) report =
-      subst (λ (b : Bool). Contains (sent_by_lines (cond b (and_then reports turn (sees q.host) q.policy) (still (sees q.host) q.policy)).lines q.host) report) (sym is_due_now)
-      (subst (λ (s : List Datagram). Contains s report) (sym (then_sent reports turn q)) (Contains-append_left (sent_by_doing reports q) (sent_by_doing turn r) report report_sent)) in
-      let two : Contains (sent_by_doing (and_then asks_pages reports_due) a) report = subst (λ (s : List Datagram). Contains s report) (sym (then_sent asks_pages reports_due a)) (Contains-append_right (sent_by_doing asks_pages a) (sent_by_doing reports_due q) report due) in
-      let three : Contains (sent_by_doing timed m) report = subst (λ (s : List Datagram). Contains s report) (sym (then_sent answers (and_then asks_pages reports_due) m)) (Contains-append_right (sent_by_doing answers m) (sent_by_doing (and_then asks_pages reports_due) a) report two) in
-      subst (λ (s : List Datagram). Contains s report) (sym (then_sent (performs (Ticks now)) timed k)) (Contains-append_right (sent_by_doing (performs (Ticks now)) k) (sent_by_doing timed m) report three)
-
-  pub tick_reports : (moment : ℕ) × (echoes : List Echo) × Contains (sent_by_doing (ticks now) k) (Session k.host.is.number moment (page_in_turn k.host.is.held (told_of k.policy)) (marks_in_turn k.host.is.held (told_of k.policy)) echoes)
-  tick_reports = (present q.host, last_heard (view_of q.host).echoes, subst (λ (v : Datagram). Contains (sent_by_doing (ticks now) k) v) same all_sent) where
-    echoes : List Echo
-    echoes = last_heard (view_of q.host).echoes
-
-    same : report ≡ Session k.host.is.number (present q.host) (page_in_turn k.host.is.held (told_of k.policy)) (marks_in_turn k.host.is.held (told_of k.policy)) echoes
-    same =
-        ap (λ (me : ℕ). Session me (present q.host) (page_in_turn q.host.is.held (told_of q.policy)) (marks_in_turn q.host.is.held (told_of q.policy)) echoes) of_q
-        ∙ ap (λ (h : List DrawopValue). Session k.host.is.number (present q.host) (page_in_turn h (told_of q.policy)) (marks_in_turn h (told_of q.policy)) echoes) held_q
-        ∙ ap (λ (t : Told). Session k.host.is.number (present q.host) (page_in_turn k.host.is.held t) (marks_in_turn k.host.is.held t) echoes) told_q
-
-  due_r : r.policy.reports.due ≤ now + 96000000
-  due_r =
-      let soon = rest_soon (slice_after q.policy.told (report_of q.host.is.held q.policy.told_page)) (sees q.host) q.policy in
-      let at_now = now_q in
-      omega (arith, soon, at_now)
-
-  due_turn : (turn (sees r.host) r.policy).policy.reports.due ≡ r.policy.reports.due
-  due_turn = turn_due (sees r.host) r.policy
-
-  owed_turn : (turn (sees r.host) r.policy).policy.owed ≤ present r.host + 250000
-  owed_turn = turn_owed (sees r.host) r.policy owed_r
+  there : after_doing (ticks now) k ≡ after_doing timed m
+  there = then_after (performs (Ticks now)) timed k
 
   -- it may do so again 96 seconds later at most
-  pub tick_soon : (present (after_doing (ticks now) k).host ≡ now) × (ready_at (after_doing (ticks now) k) ≤ now + 96000000)
-  tick_soon =
-      let present_is = (tick_rests now k).now in
-      let due : (after_doing (ticks now) k).policy.reports.due ≤ now + 96000000 = subst (λ (x : Keeping). x.policy.reports.due ≤ now + 96000000) (sym there) (subst (λ (d : ℕ). d ≤ now + 96000000) (sym due_turn) due_r) in
-      let owed : (after_doing (ticks now) k).policy.owed ≤ now + 250000 = subst (λ (x : Keeping). x.policy.owed ≤ now + 250000) (sym there) (let le = owed_turn in let at_now = rests_r.now ∙ now_q in omega (arith, le, at_now)) in
-      (present_is, later (present (after_doing (ticks now) k).host) (after_doing (ticks now) k).policy.reports.due (after_doing (ticks now) k).policy.owed now present_is due owed) where
+  tick_soon : AnswersWhatIsHeld k.host → ready_at (after_doing (ticks now) k) ≤ now + 96000000
+  tick_soon answers_held =
+      let r = is_reporting (ticks now) k now (ticked_call now k answers_held) late in
+      let most = r.most in
+      let at_now = r.now_is in
+      let e = ap (λ (x : Keeping). x.policy.owed) there in
+      let le = due_owed m late paid in
+      later (present (after_doing (ticks now) k).host) (after_doing (ticks now) k).policy.reports.due (after_doing (ticks now) k).policy.owed now at_now most (omega (arith, e, le)) where
         later : (a b c now : ℕ) → a ≡ now → b ≤ now + 96000000 → c ≤ now + 250000 → max a (max b c) ≤ now + 96000000
         later a b c now e f g = omega (arith, e, f, g)
 
-  pub tick_asks : (n : NameValue) → AnswersWhatIsHeld k.host → holds k.host.is.held n ≡ false → is_full k.host ≡ false → name_in_turn k.host.is.held k.policy.turns ≡ Some n → asks_for n (after_doing (ticks now) k).host ≡ true
+  tick_asks : (n : NameValue) → AnswersWhatIsHeld k.host → holds k.host.is.held n ≡ false → is_full k.host ≡ false → name_in_turn k.host.is.held k.policy.turns ≡ Some n
+      → asks_for n (after_doing (ticks now) k).host ≡ true
   tick_asks n answers_held lacks room in_turn =
-      let old : AnswersWhatIsHeld m.host = λ name. lines_answer_held name (Ticks now ∷ []) k.host (answers_held name) in
-      let answering = answers_on reports q (answers_on asks_pages a (answers_on answers m old)) in
-      let lacks_r : holds r.host.is.held n ≡ false = ap (λ (h : List DrawopValue). holds h n) held_r ∙ lacks in
-      let room_r : is_full r.host ≡ false = ap (λ (h : List DrawopValue). nat_le r.host.is.cells (length h)) held_r ∙ ap (λ (c : ℕ). nat_le c (length k.host.is.held)) of_r.cells ∙ room in
-      let turn_r : name_in_turn r.host.is.held r.policy.turns ≡ Some n = ap (λ (h : List DrawopValue). name_in_turn h r.policy.turns) held_r ∙ ap (name_in_turn k.host.is.held) turns_r ∙ in_turn in
-      subst (λ (x : Keeping). asks_for n x.host ≡ true) (sym there) (turn_asks n r answering lacks_r room_r owed_r turn_r)
+      let may : MayBeWanted m n = record { answers_held = answers_on (performs (Ticks now)) k answers_held; lacks = lacks; room = room } in
+      ap (λ (x : Keeping). asks_for n x.host) there ∙ due_asks m late paid n may in_turn
 
 -- a report has few marks
 few_in_turn : (held : List DrawopValue) (t : Told) → length (marks_in_turn held t) ≤ 64
@@ -397,6 +128,12 @@ module _ (hosts : ℕ → Opening) (older : List LineAt) (i : ℕ) where
   pub paid_for : (k : Keeping) → k.policy.owed ≤ ready_at k
   paid_for k = third_of_three (present k.host) k.policy.reports.due k.policy.owed
 
+  -- each of them reports
+  reporting : (count : ℕ) → IsReporting (ticks (ready_at (behind count))) (behind count) (ready_at (behind count))
+  reporting count =
+      let k = behind count in
+      is_reporting (ticks (ready_at k)) k (ready_at k) (ticked_call (ready_at k) k (answers_at hosts (some_ticks count ++ older) i)) (due_for k)
+
   pub ticks_taken : (count : ℕ) → AreTaken hosts older → AreTaken hosts (some_ticks count ++ older)
   ticks_taken zero taken = taken
   ticks_taken (suc count) taken =
@@ -419,7 +156,7 @@ module _ (hosts : ℕ → Opening) (older : List LineAt) (i : ℕ) where
   ticks_hold zero = refl
   ticks_hold (suc count) =
       let k = behind count in
-      ap (λ (x : Keeping). x.host.is.held) (behind_next count) ∙ tick_holds k (ready_at k) (due_for k) (paid_for k) ∙ ticks_hold count
+      ap (λ (x : Keeping). x.host.is.held) (behind_next count) ∙ (tick_rests (ready_at k) k).held ∙ ticks_hold count
 
   pub ticks_of : (count : ℕ) → IsOf (host_at hosts older i) (behind count).host
   ticks_of zero = record { number = refl; cells = refl; constants = refl }
@@ -433,14 +170,14 @@ module _ (hosts : ℕ → Opening) (older : List LineAt) (i : ℕ) where
   ticks_turn zero = refl
   ticks_turn (suc count) =
       let k = behind count in
-      ap (λ (x : Keeping). x.policy.turns) (behind_next count) ∙ tick_turns k (ready_at k) (due_for k) (paid_for k)
+      ap (λ (x : Keeping). x.policy.turns) (behind_next count) ∙ (reporting count).turns
       ∙ ap (λ (h : List DrawopValue). after_turn h k.policy.turns) (ticks_hold count) ∙ ap (after_turn (host_at hosts older i).is.held) (ticks_turn count)
 
   ticks_tell : (count : ℕ) → told_of (behind count).policy ≡ after_tellings (host_at hosts older i).is.held count (told_of (kept_at hosts older i).policy)
   ticks_tell zero = refl
   ticks_tell (suc count) =
       let k = behind count in
-      ap (λ (x : Keeping). told_of x.policy) (behind_next count) ∙ tick_tells k (ready_at k) (due_for k) (paid_for k)
+      ap (λ (x : Keeping). told_of x.policy) (behind_next count) ∙ (reporting count).told
       ∙ ap (λ (h : List DrawopValue). after_telling h (told_of k.policy)) (ticks_hold count) ∙ ap (after_telling (host_at hosts older i).is.held) (ticks_tell count)
 
   length_is : (count : ℕ) → length (some_ticks count) ≡ count
@@ -453,7 +190,7 @@ module _ (hosts : ℕ → Opening) (older : List LineAt) (i : ℕ) where
   ready_soon (suc count) =
       let k = behind count in
       let rest = ready_soon count in
-      let one = (tick_soon k (ready_at k) (due_for k) (paid_for k)).1 in
+      let one = tick_soon k (ready_at k) (due_for k) (paid_for k) (answers_at hosts (some_ticks count ++ older) i) in
       let e = ap ready_at (behind_next count) in
       next (ready_at (behind (suc count))) (ready_at (after_doing (ticks (ready_at k)) k)) (ready_at k) (ready_at (kept_at hosts older i)) count e one rest where
         next : (a b c start count : ℕ) → a ≡ b → b ≤ c + 96000000 → c ≤ start + count * 96000000 → a ≤ start + suc count * 96000000
@@ -463,7 +200,7 @@ module _ (hosts : ℕ → Opening) (older : List LineAt) (i : ℕ) where
   ticks_soon count =
       let k = behind count in
       let rest = ready_soon count in
-      let now = ap (λ (x : Keeping). present x.host) (behind_next count) ∙ (tick_soon k (ready_at k) (due_for k) (paid_for k)).0 in
+      let now = ap (λ (x : Keeping). present x.host) (behind_next count) ∙ (reporting count).now_is in
       let many = length_is count in
       fits (present (behind (suc count)).host) (ready_at k) (ready_at (kept_at hosts older i)) (length (some_ticks count)) count now rest many where
         fits : (a b start many count : ℕ) → a ≡ b → b ≤ start + count * 96000000 → many ≡ count → a + 96000000 ≤ start + suc many * 96000000
@@ -498,22 +235,22 @@ module _ (hosts : ℕ → Opening) (older : List LineAt) (i : ℕ) where
       let k = behind count in
       let held = (host_at hosts older i).is.held in
       let t = after_tellings held count (told_of (kept_at hosts older i).policy) in
-      let said = tick_reports k (ready_at k) (due_for k) (paid_for k) in
-      let there : Contains (sent hosts (some_ticks (suc count) ++ older)) (Session k.host.is.number said.0 (page_in_turn k.host.is.held (told_of k.policy)) (marks_in_turn k.host.is.held (told_of k.policy)) said.1) =
-      did_send hosts (some_ticks count ++ older) i (Ticked (ready_at k)) k _ refl said.2 in
+      let said = reporting count in
+      let there : Contains (sent hosts (some_ticks (suc count) ++ older)) (Session k.host.is.number said.moment (page_in_turn k.host.is.held (told_of k.policy)) (marks_in_turn k.host.is.held (told_of k.policy)) said.echoes) =
+      did_send hosts (some_ticks count ++ older) i (Ticked (ready_at k)) k _ refl said.sends in
       record {
         ticks = are_ticks (suc count);
         taken = ticks_taken (suc count) taken;
         soon = ticks_soon count;
         same = ticks_hold (suc count);
-        moment = said.0;
+        moment = said.moment;
         marks = marks_in_turn held t;
-        echoes = said.1;
+        echoes = said.echoes;
         sent = subst (λ (v : Datagram). Contains (sent hosts (some_ticks (suc count) ++ older)) v)
-            (ap (λ (me : ℕ). Session me said.0 (page_in_turn k.host.is.held (told_of k.policy)) (marks_in_turn k.host.is.held (told_of k.policy)) said.1) (ticks_of count).number
-            ∙ ap (λ (h : List DrawopValue). Session (host_at hosts older i).is.number said.0 (page_in_turn h (told_of k.policy)) (marks_in_turn h (told_of k.policy)) said.1) (ticks_hold count)
-            ∙ ap (λ (u : Told). Session (host_at hosts older i).is.number said.0 (page_in_turn held u) (marks_in_turn held u) said.1) (ticks_tell count)
-            ∙ ap (λ (p : PageId). Session (host_at hosts older i).is.number said.0 p (marks_in_turn held t) said.1) page_is)
+            (ap (λ (me : ℕ). Session me said.moment (page_in_turn k.host.is.held (told_of k.policy)) (marks_in_turn k.host.is.held (told_of k.policy)) said.echoes) (ticks_of count).number
+            ∙ ap (λ (h : List DrawopValue). Session (host_at hosts older i).is.number said.moment (page_in_turn h (told_of k.policy)) (marks_in_turn h (told_of k.policy)) said.echoes) (ticks_hold count)
+            ∙ ap (λ (u : Told). Session (host_at hosts older i).is.number said.moment (page_in_turn held u) (marks_in_turn held u) said.echoes) (ticks_tell count)
+            ∙ ap (λ (p : PageId). Session (host_at hosts older i).is.number said.moment p (marks_in_turn held t) said.echoes) page_is)
             there;
         among = among;
         few = few_in_turn held t;

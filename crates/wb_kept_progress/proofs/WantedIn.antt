@@ -1,11 +1,11 @@
 -- A name that is wanted has a timer behind some lines of what is done, or there is no credit behind all of it.
 use Rattle.std.proofs.Common.{◌≡◌, ℕ, ◌+◌, ◌-◌, ◌*◌, ◌≤◌, Bool, true, false, cond, List, [], ◌∷◌, ◌++◌, ◌∙◌, Option, Some, None, ap, append-nil, append_assoc, arith, inl, inr, length, refl, subst, sym, true≢false, ⊎_elim}
-use Rattle.std.specs.Prelude.{◌⊎◌, Contains, is_some, max, nat_le}
+use Rattle.std.specs.Prelude.{◌⊎◌, Contains, is_some, max, nat_le, unwrap_or, take}
 use Rattle.std.specs.Option.{option_map, option_or}
 use Rattle.std.proofs.lemmas.Bool.{leb-true}
 use Rattle.wb_names.specs.Values.{DrawopValue, NameValue}
 use Rattle.wb_names.proofs.Listings.{Contains-cases, Contains-none}
-use Rattle.wb_gaps.specs.Answers.{report_of}
+use Rattle.wb_gaps.specs.Answers.{pages_of}
 use Rattle.wb_gaps.specs.Holes.{hole_after}
 use Rattle.wb_gaps.specs.declared.holes.Hole.{Hole}
 use Rattle.wb_host.specs.Keeper.{holds}
@@ -13,20 +13,20 @@ use Rattle.wb_member.specs.Judged.{is_full}
 use Rattle.wb_member.specs.Opened.{asks_for, present}
 use Rattle.wb_keeping.specs.Credit.{cost, has_credit}
 use Rattle.wb_keeping.specs.Fairness.{AnswersWhatIsHeld, led_to, name_in_turn}
-use Rattle.wb_keeping.specs.Kept.{Doing, Line, Ticks, Transition, and_then, answers, asks_pages, performs, reports, reports_due, still, timed, turn, turn_to, want, want_told}
-use Rattle.wb_keeping.specs.Performing.{Keeping, after_doing, after_lines, sees}
-use Rattle.wb_keeping.specs.Policy.{View, after_turn, after_wanting, in_next_round}
-use Rattle.wb_keeping.specs.Reports.{slice_after}
+use Rattle.wb_keeping.specs.Kept.{Doing, Line, Ticks, Transition, and_then, performs, still, timed, turn, turn_to, want, want_told}
+use Rattle.wb_keeping.specs.Performing.{Keeping, after_doing, after_lines, sees, view_of}
+use Rattle.wb_keeping.specs.Policy.{View, after_turn, after_wanting, in_next_round, Policy}
 use Rattle.wb_keeping.specs.Turns.{name_in, nowhere}
-use Rattle.wb_keeping.proofs.EachStep.{having, with_policy}
+use Rattle.wb_keeping.proofs.EachStep.{having, with_policy, HoldsOfDue, told_holds, timed_holds}
 use Rattle.wb_keeping.proofs.Performed.{after_both, seen_then, then_after}
 use Rattle.wb_keeping.proofs.StandingTimers.{stands_asked}
 use Rattle.wb_keeping.proofs.Wanted.{is_wanted_here, lines_wanted}
 use Rattle.wb_keeping.proofs.WantedNames.{wanted_is_asked}
 use Rattle.wb_progress.proofs.OneCall.{le_true}
-use Rattle.wb_kept_progress.proofs.Going.{answers_small, asks_pages_small, reports_small, want_small}
-use Rattle.wb_kept_progress.proofs.Lines.{is_false, lines_of, lines_rest}
-use Rattle.wb_kept_progress.proofs.Turning.{answers_leave, answers_on, asks_leave, rest_leaves, some_name}
+use Rattle.wb_kept_progress.proofs.Lines.{is_false, lines_of, IsSmall, are_small, does_rest}
+use Rattle.wb_keeping.proofs.EachLine.{want_each}
+use Rattle.wb_kept_progress.proofs.Leaving.{answers_on}
+use Rattle.wb_keeping.proofs.Saying.{says_after}
 
 -- ---- timers within what is done
 
@@ -50,6 +50,18 @@ LacksCredit k = has_credit k.policy.owed (present k.host) ≡ false
 
 abbrev pub IsWantedIn : NameValue → Transition → Keeping → Type 0
 IsWantedIn n does k = IsAskedIn n does k ⊎ LacksCredit (after_doing does k)
+
+-- a timer stands for it behind all of it, or there is no credit
+abbrev pub IsAskedThen : NameValue → Keeping → Type 0
+IsAskedThen n m = (asks_for n m.host ≡ true) ⊎ LacksCredit m
+
+pub asked_at_end : (n : NameValue) (does : Transition) (k : Keeping) → IsAskedThen n (after_doing does k) → IsWantedIn n does k
+asked_at_end n does k is = ⊎_elim
+    (λ (stands : asks_for n (after_doing does k).host ≡ true).
+    let lines = (does (sees k.host) k.policy).lines in
+    inl (record { before = lines; later = []; lines = sym (append-nil lines); stands = stands }))
+    (λ (without : LacksCredit (after_doing does k)). inr without)
+    is
 
 module _ (n : NameValue) (first second : Transition) (k : Keeping) where
   abbrev one : Doing
@@ -112,7 +124,7 @@ stays_without k m costs without =
     no_credit_then k.policy.owed m.policy.owed (present m.host) costs.owed (ap (λ (now : ℕ). has_credit k.policy.owed now) costs.now ∙ without)
 
 pub want_costs : (name : NameValue) (anew : Bool) (k : Keeping) → CostsMore k (after_doing (want name anew) k)
-want_costs name anew k = record { owed = by (is_wanted_here name anew (sees k.host) k.policy); now = (lines_rest (want name anew (sees k.host) k.policy).lines k.host (want_small name anew (sees k.host) k.policy)).now } where
+want_costs name anew k = record { owed = by (is_wanted_here name anew (sees k.host) k.policy); now = (does_rest (want name anew) (want_each IsSmall are_small name anew) k).now } where
   wanted : Doing
   wanted = record { policy = after_wanting (present k.host) k.policy; lines = lines_wanted name anew (sees k.host) k.policy }
 
@@ -123,59 +135,44 @@ want_costs name anew k = record { owed = by (is_wanted_here name anew (sees k.ho
   by true = more k.policy.owed (present k.host)
   by false = omega arith
 
-pub told_costs : (names : List NameValue) (k : Keeping) → CostsMore k (after_doing (want_told names) k)
-told_costs [] k = costs_nothing k
-told_costs (name ∷ names) k =
-    let m = after_doing (want name true) k in
-    subst (CostsMore k) (sym (then_after (want name true) (want_told names) k))
-    (costs_both k m (after_doing (want_told names) m) (want_costs name true k) (told_costs names m))
+-- it pays for one name at most
+module _ (see : List Line → View) where
+  not_more : (owed now : ℕ) → owed ≤ now → owed ≤ now + 250000
+  not_more owed now le = omega (arith, le)
 
-turn_to_costs : (next first : Option Hole) (k : Keeping) → CostsMore k (after_doing (turn_to next first) k)
-turn_to_costs (Some h) first k = let c = want_costs (name_in k.policy.turns.round h) true (with_policy (after_turn h k.policy) k) in record { owed = c.owed; now = c.now }
-turn_to_costs None (Some h) k = let q = in_next_round k.policy in let c = want_costs (name_in q.turns.round h) true (with_policy (after_turn h q) k) in record { owed = c.owed; now = c.now }
-turn_to_costs None None k = record { owed = omega arith; now = refl }
+  want_owed : (name : NameValue) (p : Policy) → p.owed ≤ (see []).now → (want name true see p).policy.owed ≤ (see []).now + 250000
+  want_owed name p le = by (is_wanted_here name true see p) where
+    one_more : (owed now : ℕ) → owed ≤ now → max owed now + 250000 ≤ now + 250000
+    one_more owed now le = omega (arith, le)
 
-pub turn_costs : (k : Keeping) → CostsMore k (after_doing turn k)
-turn_costs k =
-    turn_to_costs (hole_after k.host.is.held k.policy.turns.page k.policy.turns.source k.policy.turns.number) (hole_after k.host.is.held nowhere 0 0) k
+    by : (b : Bool) → (let d : Doing = cond b (record { policy = after_wanting (see []).now p; lines = lines_wanted name true see p }) (still see p) in d.policy.owed) ≤ (see []).now + 250000
+    by true = one_more p.owed (see []).now le
+    by false = not_more p.owed (see []).now le
 
-same_owed : (k m : Keeping) → m.policy.owed ≡ k.policy.owed → present m.host ≡ present k.host → CostsMore k m
-same_owed k m e now = record { owed = omega (arith, e); now = now }
+  turn_to_owed : (next first : Option Hole) (p : Policy) → p.owed ≤ (see []).now → (turn_to next first see p).policy.owed ≤ (see []).now + 250000
+  turn_to_owed (Some h) first p le = want_owed (name_in p.turns.round h) (after_turn h p) le
+  turn_to_owed None (Some h) p le = want_owed (name_in (in_next_round p).turns.round h) (after_turn h (in_next_round p)) le
+  turn_to_owed None None p le = not_more p.owed (see []).now le
 
-pub answers_cost : (k : Keeping) → CostsMore k (after_doing answers k)
-answers_cost k =
-    same_owed k (after_doing answers k) (answers_leave (sees k.host) k.policy).owed
-    (lines_rest (answers (sees k.host) k.policy).lines k.host (answers_small (sees k.host) k.policy)).now
+  pub turn_owed : (p : Policy) → p.owed ≤ (see []).now → (turn see p).policy.owed ≤ (see []).now + 250000
+  turn_owed p le = turn_to_owed (hole_after (see []).held p.turns.page p.turns.source p.turns.number) (hole_after (see []).held nowhere 0 0) p le
 
-pub asks_cost : (k : Keeping) → CostsMore k (after_doing asks_pages k)
-asks_cost k =
-    same_owed k (after_doing asks_pages k) (asks_leave (sees k.host) k.policy).owed
-    (lines_rest (asks_pages (sees k.host) k.policy).lines k.host (asks_pages_small (sees k.host) k.policy)).now
+costs : HoldsOfDue (λ k lines m. CostsMore k m)
+costs = record {
+  nothing = costs_nothing;
+  both = λ k m n one other a b. costs_both k m n a b;
+  wants = want_costs;
+  turned = λ t k. record { owed = omega arith; now = refl };
+  answers = λ k is. record { owed = omega arith; now = ap present (says_after (view_of k.host) (take 64 (pages_of k.host.is.held)) k.host) };
+  asks_pages = λ k is. record { owed = omega arith; now = refl };
+  reports = λ page told k is. record { owed = omega arith; now = refl };
+}
 
-pub reports_cost : (k : Keeping) → CostsMore k (after_doing reports k)
-reports_cost k =
-    same_owed k (after_doing reports k) (rest_leaves (slice_after k.policy.told (report_of k.host.is.held k.policy.told_page)) (sees k.host) k.policy).1
-    (lines_rest (reports (sees k.host) k.policy).lines k.host (reports_small (sees k.host) k.policy)).now
-
-abbrev done : Keeping → Doing → Keeping
-done k d = record { host = after_lines d.lines k.host; policy = d.policy }
-
-choose : (k : Keeping) (b : Bool) (x y : Doing) → CostsMore k (done k x) → CostsMore k (done k y) → CostsMore k (done k (cond b x y))
-choose k true x y p q = p
-choose k false x y p q = q
-
-due_costs : (k : Keeping) → CostsMore k (after_doing reports_due k)
-due_costs k =
-    let m = after_doing reports k in
-    choose k (nat_le k.policy.reports.due (present k.host)) (and_then reports turn (sees k.host) k.policy) (still (sees k.host) k.policy)
-    (subst (CostsMore k) (sym (then_after reports turn k)) (costs_both k m (after_doing turn m) (reports_cost k) (turn_costs m))) (costs_nothing k)
+told_costs : (names : List NameValue) (k : Keeping) → CostsMore k (after_doing (want_told names) k)
+told_costs = told_holds (λ k lines m. CostsMore k m) costs
 
 pub timed_costs : (k : Keeping) → CostsMore k (after_doing timed k)
-timed_costs k =
-    let a = after_doing answers k in
-    let q = after_doing asks_pages a in
-    subst (CostsMore k) (sym (then_after answers (and_then asks_pages reports_due) k ∙ then_after asks_pages reports_due a))
-    (costs_both k a (after_doing reports_due q) (answers_cost k) (costs_both a q (after_doing reports_due q) (asks_cost a) (due_costs q)))
+timed_costs = timed_holds (λ k lines m. CostsMore k m) costs
 
 -- ---- wanted, and then something else
 
@@ -184,6 +181,19 @@ pub record MayBeWanted (k : Keeping) (n : NameValue) : Type 0 where
   pub answers_held : AnswersWhatIsHeld k.host
   pub lacks : holds k.host.is.held n ≡ false
   pub room : is_full k.host ≡ false
+
+-- so it is where what is held stays
+pub same_may : (n : NameValue) (does : Transition) (k : Keeping) → (after_doing does k).host.is.held ≡ k.host.is.held → MayBeWanted k n
+    → MayBeWanted (after_doing does k) n
+same_may n does k same may =
+    let of = lines_of (does (sees k.host) k.policy).lines k.host in
+    record {
+      answers_held = answers_on does k may.answers_held;
+      lacks = ap (λ (h : List DrawopValue). holds h n) same ∙ may.lacks;
+      room =
+          ap (λ (h : List DrawopValue). nat_le (after_doing does k).host.is.cells (length h)) same ∙ ap (λ (c : ℕ). nat_le c (length k.host.is.held)) of.cells
+          ∙ may.room;
+    }
 
 pub wanted_behind : (n : NameValue) (first second : Transition) (k : Keeping) → CostsMore (after_doing first k) (after_doing second (after_doing first k))
     → IsWantedIn n first k → IsWantedIn n (and_then first second) k
@@ -199,78 +209,52 @@ wanted_later n first second k is = ⊎_elim
     (λ (without : LacksCredit (after_doing second (after_doing first k))). inr (subst LacksCredit (sym (then_after first second k)) without))
     is
 
-pub is_wanted_so : (n : NameValue) (k : Keeping) → MayBeWanted k n → IsWantedIn n (want n true) k
+pub is_wanted_so : (n : NameValue) (k : Keeping) → MayBeWanted k n → IsAskedThen n (after_doing (want n true) k)
 is_wanted_so n k may = by (has_credit k.policy.owed (present k.host)) refl where
   m : Keeping
   m = after_doing (want n true) k
 
-  by : (b : Bool) → has_credit k.policy.owed (present k.host) ≡ b → IsWantedIn n (want n true) k
-  by true credit = inl (record {
-    before = (want n true (sees k.host) k.policy).lines;
-    later = [];
-    lines = sym (append-nil (want n true (sees k.host) k.policy).lines);
-    stands = stands_asked m.host n (wanted_is_asked n true k may.answers_held may.lacks may.room credit);
-  })
+  by : (b : Bool) → has_credit k.policy.owed (present k.host) ≡ b → IsAskedThen n m
+  by true credit = inl (stands_asked m.host n (wanted_is_asked n true k may.answers_held may.lacks may.room credit))
   by false none = inr (stays_without k m (want_costs n true k) none)
-
--- what is wanted beside it changes nothing of that
-wanted_beside : (name n : NameValue) (k : Keeping) → MayBeWanted k n → MayBeWanted (after_doing (want name true) k) n
-wanted_beside name n k may =
-    let lines = (want name true (sees k.host) k.policy).lines in
-    let rests = lines_rest lines k.host (want_small name true (sees k.host) k.policy) in
-    let of = lines_of lines k.host in
-    record {
-      answers_held = answers_on (want name true) k may.answers_held;
-      lacks = ap (λ (h : List DrawopValue). holds h n) rests.held ∙ may.lacks;
-      room =
-          ap (λ (h : List DrawopValue). nat_le (after_doing (want name true) k).host.is.cells (length h)) rests.held
-          ∙ ap (λ (c : ℕ). nat_le c (length k.host.is.held)) of.cells ∙ may.room;
-    }
 
 pub told_is_wanted : (names : List NameValue) (n : NameValue) (k : Keeping) → Contains names n → MayBeWanted k n → IsWantedIn n (want_told names) k
 told_is_wanted [] n k among may = absurd (Contains-none n among)
 told_is_wanted (name ∷ names) n k among may = ⊎_elim
-    (λ (e : name ≡ n). wanted_behind n (want name true) (want_told names) k (told_costs names (after_doing (want name true) k)) (subst (λ (x : NameValue). IsWantedIn n (want x true) k) (sym e) (is_wanted_so n k may)))
-    (λ (rest : Contains names n). wanted_later n (want name true) (want_told names) k (told_is_wanted names n (after_doing (want name true) k) rest (wanted_beside name n k may)))
+    (λ (e : name ≡ n). wanted_behind n (want name true) (want_told names) k (told_costs names (after_doing (want name true) k)) (subst (λ (x : NameValue). IsWantedIn n (want x true) k) (sym e) (asked_at_end n (want n true) k (is_wanted_so n k may))))
+    (λ (rest : Contains names n). wanted_later n (want name true) (want_told names) k (told_is_wanted names n (after_doing (want name true) k) rest
+    (same_may n (want name true) k (does_rest (want name true) (want_each IsSmall are_small name true) k).held may)))
     (Contains-cases name n names among)
 
 -- ---- a turn
 
+some_name : (a b : NameValue) → Some a ≡ Some b → a ≡ b
+some_name a b e = ap (λ (o : Option NameValue). unwrap_or o a) e
+
 module _ (n : NameValue) (r : Keeping) (may : MayBeWanted r n) where
   -- the same from another policy of it on
-  from_turns : (m : Keeping) (name : NameValue) → m.host ≡ r.host → name ≡ n → IsWantedIn n (want name true) m
+  from_turns : (m : Keeping) (name : NameValue) → m.host ≡ r.host → name ≡ n → IsAskedThen n (after_doing (want name true) m)
   from_turns m name same e =
-      subst (λ (x : NameValue). IsWantedIn n (want x true) m) (sym e) (is_wanted_so n m (record {
+      subst (λ (x : NameValue). IsAskedThen n (after_doing (want x true) m)) (sym e) (is_wanted_so n m (record {
         answers_held = subst AnswersWhatIsHeld (sym same) may.answers_held;
         lacks = ap (λ h. holds h.is.held n) same ∙ may.lacks;
         room = ap is_full same ∙ may.room;
       }))
 
   to_it : (next first : Option Hole) → option_map (name_in (led_to next first r.policy.turns).round) (option_or next first) ≡ Some n
-      → IsWantedIn n (turn_to next first) r
+      → IsAskedThen n (after_doing (turn_to next first) r)
   to_it (Some h) first e =
-      let m = with_policy (after_turn h r.policy) r in
-      ⊎_elim
-      (λ (a : IsAskedIn n (want (name_in r.policy.turns.round h) true) m). inl (record { before = a.before; later = a.later; lines = a.lines; stands = a.stands }))
-      (λ (without : LacksCredit (after_doing (want (name_in r.policy.turns.round h) true) m)). inr without)
-      (from_turns m (name_in r.policy.turns.round h) refl (some_name (name_in r.policy.turns.round h) n e))
+      let name = name_in r.policy.turns.round h in
+      from_turns (with_policy (after_turn h r.policy) r) name refl (some_name name n e)
   to_it None (Some h) e =
       let q = in_next_round r.policy in
-      let m = with_policy (after_turn h q) r in
-      ⊎_elim
-      (λ (a : IsAskedIn n (want (name_in q.turns.round h) true) m). inl (record { before = a.before; later = a.later; lines = a.lines; stands = a.stands }))
-      (λ (without : LacksCredit (after_doing (want (name_in q.turns.round h) true) m)). inr without)
-      (from_turns m (name_in q.turns.round h) refl (some_name (name_in q.turns.round h) n e))
+      let name = name_in q.turns.round h in
+      from_turns (with_policy (after_turn h q) r) name refl (some_name name n e)
   to_it None None e = absurd (none_some n e) where
     none_some : (n : NameValue) → None ≡ Some n → ⊥
     none_some n e = true≢false (sym (ap is_some e))
 
-  pub turn_wants : name_in_turn r.host.is.held r.policy.turns ≡ Some n → IsWantedIn n turn r
+  pub turn_wants : name_in_turn r.host.is.held r.policy.turns ≡ Some n → IsAskedThen n (after_doing turn r)
   turn_wants e =
       let t = r.policy.turns in
-      let next = hole_after r.host.is.held t.page t.source t.number in
-      let first = hole_after r.host.is.held nowhere 0 0 in
-      ⊎_elim
-      (λ (a : IsAskedIn n (turn_to next first) r). inl (record { before = a.before; later = a.later; lines = a.lines; stands = a.stands }))
-      (λ (without : LacksCredit (after_doing (turn_to next first) r)). inr without)
-      (to_it next first e)
+      to_it (hole_after r.host.is.held t.page t.source t.number) (hole_after r.host.is.held nowhere 0 0) e

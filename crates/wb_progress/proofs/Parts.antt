@@ -12,14 +12,8 @@ pub order_of : (newer later : List Turn) → AreInOrder (newer ++ later) → Are
 order_of [] later order = order
 order_of (e ∷ newer) later order = order_of newer later order.1
 
-heads : (a b : Turn) (x y : List Turn) → a ∷ x ≡ b ∷ y → a ≡ b
-heads a b x y same = cc
-
 pub tails : (a b : Turn) (x y : List Turn) → a ∷ x ≡ b ∷ y → x ≡ y
 tails a b x y same = cc
-
-nil_cons : (e : Turn) (x : List Turn) → ◌≡◌ {A = List Turn} [] (e ∷ x) → ⊥
-nil_cons e x same = cc
 
 -- a part that ends earlier than another is within it
 pub in_past : (newer later front base : List Turn) → newer ++ later ≡ front ++ base → AreInOrder (newer ++ later) → time_of base < time_of later → (middle : List Turn) × (later ≡ middle ++ base)

@@ -1,8 +1,8 @@
 -- After any lines a host holds drawops of one line, whether it keeps itself or not.
-use Rattle.std.proofs.Common.{◌≡◌, ℕ, Bool, true, false, List, [], ◌∷◌, Option, Some, None, Result, Ok, Err, refl, sym, subst, ⊎_elim, All}
+use Rattle.std.proofs.Common.{◌≡◌, ℕ, Bool, true, false, List, [], ◌∷◌, Option, Some, None, Result, Ok, Err, refl, sym, subst, ⊎_elim}
 use Rattle.std.specs.Prelude.{Contains, IfOk, IfSome, if◌then◌else◌}
 use Rattle.std.specs.Option.{option_map}
-use Rattle.std.proofs.lemmas.List.Elements.{All-nil, All-cons, All-contains, All-head, All-tail}
+use Rattle.std.proofs.lemmas.List.Elements.{All-nil, All-cons, All-contains}
 use Rattle.wb_names.specs.Drawing.{op_fault}
 use Rattle.wb_names.specs.Faults.{first_of}
 use Rattle.wb_names.specs.Values.{DrawopValue}
@@ -39,6 +39,7 @@ use Rattle.wb_session_hosts.proofs.DriverLines.{met_fits}
 use Rattle.wb_session_hosts.proofs.HostRanges.{Fits, AnswerFits, first_fits, line_fits}
 use Rattle.wb_session_hosts.proofs.KeptLines.{IsOneLineIn, Brings, Frees, adds_free, came_free, ticks_free, performs_free}
 use Rattle.wb_session_hosts.proofs.OneLines.{board_lines, lawful_line}
+use Rattle.wb_keeping.proofs.EachLine.{Each}
 
 -- ---- what is held after lines
 
@@ -72,9 +73,9 @@ held_line (SetsDistance source micros) host h held = held
 held_line (Tunes constants) host h held = held
 held_line (Says v) host h held = says v host h held
 
-held_lines : (ls : List Line) (host : Opened) → All Brings ls → AreOneLine host.is.held → AreOneLine (after_lines ls host).is.held
+held_lines : (ls : List Line) (host : Opened) → Each Brings ls → AreOneLine host.is.held → AreOneLine (after_lines ls host).is.held
 held_lines [] host h held = held
-held_lines (line ∷ ls) host h held = held_lines ls (after_line line host) (All-tail Brings line ls h) (held_line line host (All-head Brings line ls h) held)
+held_lines (line ∷ ls) host h held = held_lines ls (after_line line host) h.1 (held_line line host h.0 held)
 
 done : (does : Transition) (k : Keeping) → Frees does → AreOneLine k.host.is.held → AreOneLine (after_doing does k).host.is.held
 done does k f held = held_lines (does (sees k.host) k.policy).lines k.host (f (sees k.host) k.policy) held

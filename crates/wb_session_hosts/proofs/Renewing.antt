@@ -11,7 +11,7 @@ use Rattle.wb_recovery.specs.declared.tuning.Tuning.{Tuning}
 use Rattle.wb_recovery.specs.declared.timers.AskTimer.{AskTimer}
 use Rattle.wb_recovery.specs.declared.timers.AnswerTimer.{AnswerTimer}
 use Rattle.wb_host.specs.Hearing.{marks_heard}
-use Rattle.wb_host.specs.Keeper.{Hear, Miss, holds}
+use Rattle.wb_host.specs.Keeper.{Miss, holds}
 use Rattle.wb_host.specs.Ticks.{sent_by_tick}
 use Rattle.wb_progress.specs.Keepers.{AreOrderly}
 use Rattle.wb_progress.specs.Repairs.{timers_at, gave_up, IsIdle, first_wait, answering_wait, quiet_wait}

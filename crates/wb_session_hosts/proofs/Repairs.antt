@@ -5,7 +5,7 @@ use Rattle.wb_names.specs.Values.{NameValue, DrawopValue}
 use Rattle.wb_codec.specs.declared.datagram.Datagram.TheVariants.{Draw, Request}
 use Rattle.wb_recovery.specs.Timing.{are_constants}
 use Rattle.wb_recovery.specs.declared.tuning.Tuning.{Tuning}
-use Rattle.wb_host.specs.Keeper.{Hear, holds}
+use Rattle.wb_host.specs.Keeper.{holds}
 use Rattle.wb_host.specs.Ticks.{sent_by_tick}
 use Rattle.wb_progress.specs.Keepers.{AreOrderly}
 use Rattle.wb_progress.specs.Repairs.{asking_wait, answering_wait, quiet_wait}

@@ -165,9 +165,6 @@ module _ (constants : ℕ → Tuning) (terms : Terms) (trace : List TimedLine) (
 
   -- ---- its moment
 
-  bound : (a b c : ℕ) → a ≤ b → b ≤ c → a ≤ c
-  bound a b c x y = omega (arith, x, y)
-
   -- a call is made at the present moment, or a tick makes its own
   call_moment : (host : Opened) (line : DriverLine) (call : KeeperCall) → IsMade host line call → (moment_at (call ∷ host.is.calls) ≡ present host) ⊎ ((now : ℕ) × (line ≡ Script (lines.Tick now)) × (moment_at (call ∷ host.is.calls) ≡ now))
   call_moment host line (SetDelay source micros) m = inl refl

@@ -1,57 +1,53 @@
 use Rattle.std.proofs.Common.{◌≡◌, ℕ, List, [], ◌∷◌, ◌++◌, ◌∙◌, ap, sym}
-use Rattle.wb_keeping.specs.Kept.{Line, Asks, Doing, performs, and_then, want}
-use Rattle.wb_keeping.specs.Performing.{KeptValue, sees, view_of}
+use Rattle.wb_keeping.specs.Kept.{Line, Asks, Doing, Transition, performs, and_then, room_lines, usual_lines, want}
+use Rattle.wb_keeping.specs.Performing.{IsKeptAt, Keeping, KeptValue, sees, view_of}
 use Rattle.wb_keeping.specs.Policy.{Policy, after_wanting, holds, is_full, level}
 use Rattle.wb_keeping.specs.Steps.{performs_all, makes_room, set_lines}
 use Rattle.wb_keeping.proofs.Performed.{at_inside, quiet_by}
 use Rattle.wb_keeping.proofs.LeftSome.{on_err, left_by}
 use Rattle.wb_keeping.proofs.Wanted as wanted
 use Rattle.wb_member.specs.Opened.{present}
-use Rattle.wb_keeping.specs.Kept.{room_lines, usual_lines}
 use Rattle.wb_keeping.proofs.kept_member.KeptMember.want.Goals as goal
+use Rattle.wb_keeping.proofs.kept_member.KeptMember.want.Goals.{After-begin}
 
-pub returns-clause-does : goal.returns-clause-does
-returns-clause-does c =
+-- the lines by which it begins to ask, where the name is wanted
+abbrev asking : After-begin → Transition
+asking c =
+    let n = c.args.name.now in
+    and_then (makes_room n) (and_then (performs_all (set_lines n.source c.usual_to-usual.result)) (performs (Asks n)))
+
+begins : (c : After-begin) (k : Keeping) → IsKeptAt c.args.self.now k
+    → want c.args.name.now c.args.may_start_anew (sees k.host) k.policy ≡ asking c (sees k.host) (after_wanting (present k.host) k.policy)
+begins c k at =
     let n = c.args.name.now in
     let anew = c.args.may_start_anew in
     let seen = c.candidate-candidate.result in
-    let lines = and_then (makes_room n) (and_then (performs_all (set_lines n.source c.usual_to-usual.result)) (performs (Asks n))) in
-    quiet_by (want n anew) lines
-    (λ k at.
     let inside = at_inside k c.self.view_is at in
     let now : c.moment-now.result ≡ present k.host = c.moment-now.ensures.moment k.host inside.member in
-    let spent = c.if-not-want.ensures.spent in
     let same = wanted.same_wanted seen.is_held (holds (view_of k.host) n) seen.is_full (is_full (view_of k.host)) anew seen.level (level (view_of k.host) n) c.self.inside.policy.owed k.policy.owed c.moment-now.result (present k.host)
     (c.candidate-candidate.ensures.held k at) (c.candidate-candidate.ensures.full k at) (c.candidate-candidate.ensures.level k at)
     (ap (λ (p : Policy). p.owed) inside.policy) now in
-    let usual : set_lines n.source c.usual_to-usual.result ≡ usual_lines n.source ((view_of k.host).distance n.source) k.policy.usual = c.usual_to-usual.ensures.lines k at in (
-      after_wanting (present k.host) k.policy,
-      spent ∙ ap (λ (m : ℕ). after_wanting m c.self.inside.policy) now ∙ ap (after_wanting (present k.host)) inside.policy,
-      wanted.is_asked_for n anew (sees k.host) k.policy (sym same ∙ sym c.if-not-want.ensures.wanted)
-          ∙ ap (λ (ls : List Line). let d : Doing = record { policy = after_wanting (present k.host) k.policy; lines = room_lines n (view_of k.host) ++ (ls ++ Asks n ∷ []) } in d)
-          (sym usual),
-    ))
+    let usual : set_lines n.source c.usual_to-usual.result ≡ usual_lines n.source ((view_of k.host).distance n.source) k.policy.usual = c.usual_to-usual.ensures.lines k at in
+    wanted.is_asked_for n anew (sees k.host) k.policy (sym same ∙ sym c.if-not-want.ensures.wanted)
+    ∙ ap (λ (ls : List Line). let d : Doing = record { policy = after_wanting (present k.host) k.policy; lines = room_lines n (view_of k.host) ++ (ls ++ Asks n ∷ []) } in d)
+    (sym usual)
+
+spends : (c : After-begin) (k : Keeping) → IsKeptAt c.args.self.now k
+    → after_wanting c.moment-now.result c.self.inside.policy ≡ after_wanting (present k.host) k.policy
+spends c k at =
+    let inside = at_inside k c.self.view_is at in
+    ap (λ (m : ℕ). after_wanting m c.self.inside.policy) (c.moment-now.ensures.moment k.host inside.member) ∙ ap (after_wanting (present k.host)) inside.policy
+
+pub returns-clause-does : goal.returns-clause-does
+returns-clause-does c =
+    let here = (goal.at.returns-clause-does c).After-begin in
+    quiet_by (want c.args.name.now c.args.may_start_anew) (asking here)
+    (λ k at. (after_wanting (present k.host) k.policy, c.if-not-want.ensures.spent ∙ spends here k at, begins here k at))
     (ap (λ (v : KeptValue). v.member) c.self.view_is) c.in_ok-begin.ensures.does
 
 pub returns-in_err-begin-clause-left : goal.returns-in_err-begin-clause-left
 returns-in_err-begin-clause-left c = on_err _ (
-    let n = c.args.name.now in
-    let anew = c.args.may_start_anew in
-    let seen = c.candidate-candidate.result in
-    let lines = and_then (makes_room n) (and_then (performs_all (set_lines n.source c.usual_to-usual.result)) (performs (Asks n))) in
-    left_by (want n anew) lines
-    (λ k at.
-    let inside = at_inside k c.self.view_is at in
-    let now : c.moment-now.result ≡ present k.host = c.moment-now.ensures.moment k.host inside.member in
-    let spent = c.if-not-want.ensures.spent in
-    let same = wanted.same_wanted seen.is_held (holds (view_of k.host) n) seen.is_full (is_full (view_of k.host)) anew seen.level (level (view_of k.host) n) c.self.inside.policy.owed k.policy.owed c.moment-now.result (present k.host)
-    (c.candidate-candidate.ensures.held k at) (c.candidate-candidate.ensures.full k at) (c.candidate-candidate.ensures.level k at)
-    (ap (λ (p : Policy). p.owed) inside.policy) now in
-    let usual : set_lines n.source c.usual_to-usual.result ≡ usual_lines n.source ((view_of k.host).distance n.source) k.policy.usual = c.usual_to-usual.ensures.lines k at in (
-      after_wanting (present k.host) k.policy,
-      spent ∙ ap (λ (m : ℕ). after_wanting m c.self.inside.policy) now ∙ ap (after_wanting (present k.host)) inside.policy,
-      wanted.is_asked_for n anew (sees k.host) k.policy (sym same ∙ sym c.if-not-want.ensures.wanted)
-          ∙ ap (λ (ls : List Line). let d : Doing = record { policy = after_wanting (present k.host) k.policy; lines = room_lines n (view_of k.host) ++ (ls ++ Asks n ∷ []) } in d)
-          (sym usual),
-    ))
+    let here = (goal.at.returns-in_err-begin-clause-left c).After-begin in
+    left_by (want c.args.name.now c.args.may_start_anew) (asking here)
+    (λ k at. (after_wanting (present k.host) k.policy, c.if-not-want.ensures.spent ∙ spends here k at, begins here k at))
     (ap (λ (v : KeptValue). v.member) c.self.view_is) c.in_err-begin.ensures.left)
