@@ -1,6 +1,5 @@
 //! What a line of a driver says.
 ghost use Rattle.std.specs.Prelude.{◌≡◌, ◌<◌, ◌^◌, IfOk};
-ghost use Rattle.std.specs.Option.{option_map};
 ghost use Rattle.std.specs.Str.{bytes_eq};
 ghost use Rattle.wb_names.specs.Moments.{IsMoment};
 ghost use Rattle.wb_words.specs.Words.{split_once};
@@ -8,7 +7,7 @@ ghost use Rattle.wb_words.specs.Adding.{adding_reading};
 ghost use Rattle.wb_words.specs.Reading.{reading as reading_words};
 ghost use Rattle.wb_lines.specs.Words.{words};
 ghost use Rattle.wb_commands.specs.Parsing.{line_of as script_line_of};
-ghost use Rattle.wb_dialog.specs.Lines.{Parses, IsWithin, by_words, unanswered_by, unanswered_words, part_behind, said_by, added_by, name, command, keep_line, moment_of, came_line, line_of_words, line_of};
+ghost use Rattle.wb_dialog.specs.Lines.{Parses, IsWithin, by_words, unanswered_by, unanswered_words, said_by, added_by, name, command, keep_line, moment_of, came_line, line_of_words, line_of};
 
 use crate::fault::{Refusal, Unanswered};
 use crate::line::DriverLine;
@@ -30,22 +29,6 @@ fn is_word(word: &[u8], other: &[u8]) -> bool
     ensures { result ≡ bytes_eq word.now other.now }
 {
     word.len() == other.len() && word == other
-}
-
-/// What stands behind a word and a space, with which a line begins.
-fn behind<'a>(line: &'a [u8], opener: &[u8]) -> Option<&'a [u8]>
-    ensures { option_map (λ x. x.now) result ≡ part_behind opener.now (split_once 32 line.now) }
-{
-    match split_once(line, b' ') {
-        Some((word, rest)) => {
-            if is_word(word, opener) {
-                Some(rest)
-            } else {
-                None
-            }
-        }
-        None => None,
-    }
 }
 
 /// The name of the only four words: creator and number of its page, its source and its number
@@ -112,34 +95,42 @@ fn came_line(alloc: Global, rest: &[u8]) -> Result<DriverLine, Unanswered>
     }
 }
 
-/// The line with this first word and these further ones.
+/// The line with this first word and these further ones. Each is returned where it is found: a line
+/// is large, and it would be copied out of each branch of one expression.
 #[tactic(auto, unfolding(crate::specs::Lines::command))]
 fn command(alloc: Global, line: &[u8], word: &[u8], rest: &[u8]) -> Result<DriverLine, Unanswered>
     ensures line { Parses result (command line.now word.now (words rest.now)) }
     ensures within { IfOk result IsWithin }
 {
     if is_word(word, b"say") {
-        Err(Unanswered::Refused(Refusal::Line(LineFault::Words)))
-    } else if is_word(word, b"next") {
-        Ok(DriverLine::Next(page(rest)?))
-    } else if is_word(word, b"view") {
-        Ok(DriverLine::View(page(rest)?))
-    } else if is_word(word, b"known") {
-        no_words(rest).ok_or(LineFault::Words)?;
-        Ok(DriverLine::Known)
-    } else if is_word(word, b"ask") {
-        Ok(DriverLine::Ask(name(rest)?))
-    } else if is_word(word, b"stop") {
-        Ok(DriverLine::Stop(name(rest)?))
-    } else if is_word(word, b"keep") {
-        Ok(keep_line(rest)?)
-    } else if is_word(word, b"came") {
-        came_line(alloc, rest)
-    } else if is_word(word, b"add") {
-        Err(Unanswered::Refused(Refusal::Line(LineFault::Words)))
-    } else {
-        script_line(alloc, line)
+        return Err(Unanswered::Refused(Refusal::Line(LineFault::Words)));
     }
+    if is_word(word, b"next") {
+        return Ok(DriverLine::Next(page(rest)?));
+    }
+    if is_word(word, b"view") {
+        return Ok(DriverLine::View(page(rest)?));
+    }
+    if is_word(word, b"known") {
+        no_words(rest).ok_or(LineFault::Words)?;
+        return Ok(DriverLine::Known);
+    }
+    if is_word(word, b"ask") {
+        return Ok(DriverLine::Ask(name(rest)?));
+    }
+    if is_word(word, b"stop") {
+        return Ok(DriverLine::Stop(name(rest)?));
+    }
+    if is_word(word, b"keep") {
+        return Ok(keep_line(rest)?);
+    }
+    if is_word(word, b"came") {
+        return came_line(alloc, rest);
+    }
+    if is_word(word, b"add") {
+        return Err(Unanswered::Refused(Refusal::Line(LineFault::Words)));
+    }
+    script_line(alloc, line)
 }
 
 /// A line of a script.
@@ -158,10 +149,10 @@ fn words_line(alloc: Global, line: &[u8]) -> Result<DriverLine, Unanswered>
     ensures line { Parses result (line_of_words line.now (words line.now)) }
     ensures within { IfOk result IsWithin }
 {
-    match next_word(line) {
-        Some((word, rest)) => command(alloc, line, word, rest),
-        None => script_line(alloc, line),
+    if let Some((word, rest)) = next_word(line) {
+        return command(alloc, line, word, rest);
     }
+    script_line(alloc, line)
 }
 
 /// Why what is said in words was not read.
@@ -196,17 +187,38 @@ fn added(alloc: Global, words: &[u8]) -> Result<DriverLine, Unanswered>
     }
 }
 
+/// The line in which this stands before its first space, and these bytes behind it.
+#[tactic(auto, using(crate::proofs::FirstWords::first_of))]
+fn split_line(
+    alloc: Global,
+    line: &[u8],
+    word: &[u8],
+    rest: &[u8],
+) -> Result<DriverLine, Unanswered>
+    requires { split_once 32 line.now ≡ Some (word.now, rest.now) }
+    ensures line { Parses result (line_of line.now) }
+    ensures within { IfOk result IsWithin }
+{
+    if is_word(word, b"say") {
+        return said(alloc, rest);
+    }
+    if is_word(word, b"add") {
+        return added(alloc, rest);
+    }
+    if word.is_empty() {
+        return words_line(alloc, line);
+    }
+    command(alloc, line, word, rest)
+}
+
 /// The line that the bytes say, which stand without their end, or its first fault: of what is to be
 /// said or added, the first word that is wrong; else that of a script's line.
 pub(crate) fn read_line(alloc: Global, line: &[u8]) -> Result<DriverLine, Unanswered>
     ensures line { Parses result (line_of line.now) }
     ensures within { IfOk result IsWithin }
 {
-    if let Some(words) = behind(line, b"say") {
-        return said(alloc, words);
-    }
-    if let Some(words) = behind(line, b"add") {
-        return added(alloc, words);
+    if let Some((word, rest)) = split_once(line, b' ') {
+        return split_line(alloc, line, word, rest);
     }
     words_line(alloc, line)
 }
