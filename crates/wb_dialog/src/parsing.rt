@@ -165,7 +165,11 @@ fn refused_words(fault: WordsFault) -> Unanswered
     }
 }
 
+// A function pays at entry for the size of its locals, and those of what is inlined. So each of
+// these two is a call of its own, and lines of other kinds do not pay for it.
+
 /// What is to be said.
+#[inline(never)]
 fn said(alloc: Global, words: &[u8]) -> Result<DriverLine, Unanswered>
     ensures line { Parses result (said_by (reading_words words.now)) }
     ensures within { IfOk result IsWithin }
@@ -177,6 +181,7 @@ fn said(alloc: Global, words: &[u8]) -> Result<DriverLine, Unanswered>
 }
 
 /// A drawing that is to be added.
+#[inline(never)]
 fn added(alloc: Global, words: &[u8]) -> Result<DriverLine, Unanswered>
     ensures line { Parses result (added_by (adding_reading words.now)) }
     ensures within { IfOk result IsWithin }
