@@ -38,10 +38,6 @@ words_none begun (b ∷ bytes) e = by (words_none (begun ++ b ∷ []) bytes) (na
   by later true h = let made : ◌≡◌ {A = Option (List ℕ × List ℕ)} (Some (begun, bytes)) None = (chosen (nat_eq b 32) _ _ _ e).first h in absurd cc
   by later false h = rw h (later ((chosen (nat_eq b 32) _ _ _ e).second h) ∙ ap (λ (w : List ℕ). first_and w []) (append_assoc begun (b ∷ []) bytes))
 
--- What stands before the first space is the first word, where it is one.
-pub first_of : (line word rest : List ℕ) → split_once 32 line ≡ Some (word, rest) → nat_eq (length word) 0 ≡ false → words line ≡ word ∷ words rest
-first_of line word rest e some = words_split [] line word rest e ∙ ap (λ (t : Bool). if t then words rest else word ∷ words rest) some
-
 -- ---- words that begin no line of a script
 
 -- it is no word of a script's line, and tells no kind of datagram

@@ -134,9 +134,7 @@ fn go_out(
     Ok(())
 }
 
-/// A datagram is to be said. It is no part of `answer` in the program either, where all other lines
-/// would pay at entry for its datagrams.
-#[inline(never)]
+/// A datagram is to be said.
 fn say(
     alloc: Global,
     member: &mut Member,

@@ -59,8 +59,7 @@ impl Dialog {
         }
     }
 
-    /// What a line does before a board is open. No other line pays at entry for the host here.
-    #[inline(never)]
+    /// What a line does before a board is open.
     fn begin(&mut self, alloc: Global, line: &DriverLine) -> Result<(), Unanswered>
         requires line { IsWithin line.now }
         requires closed { self.old.host ≡ None }
@@ -104,9 +103,7 @@ impl Dialog {
         }
     }
 
-    /// From now on the host keeps itself, where it may. No other line pays at entry for the host
-    /// here.
-    #[inline(never)]
+    /// From now on the host keeps itself, where it may.
     fn keep(&mut self, rate: u32, listen: u32) -> Result<(), Unanswered>
         requires rate { 1 ≤ rate }
         ensures does { DoesHost self.old.host self.new.host [] result (keep_reply rate listen) }

@@ -1,5 +1,6 @@
 //! What a line of a driver says.
 ghost use Rattle.std.specs.Prelude.{◌≡◌, ◌<◌, ◌^◌, IfOk};
+ghost use Rattle.std.specs.Option.{option_map};
 ghost use Rattle.std.specs.Str.{bytes_eq};
 ghost use Rattle.wb_names.specs.Moments.{IsMoment};
 ghost use Rattle.wb_words.specs.Words.{split_once};
@@ -7,7 +8,7 @@ ghost use Rattle.wb_words.specs.Adding.{adding_reading};
 ghost use Rattle.wb_words.specs.Reading.{reading as reading_words};
 ghost use Rattle.wb_lines.specs.Words.{words};
 ghost use Rattle.wb_commands.specs.Parsing.{line_of as script_line_of};
-ghost use Rattle.wb_dialog.specs.Lines.{Parses, IsWithin, by_words, unanswered_by, unanswered_words, said_by, added_by, name, command, keep_line, moment_of, came_line, line_of_words, line_of};
+ghost use Rattle.wb_dialog.specs.Lines.{Parses, IsWithin, by_words, unanswered_by, unanswered_words, part_behind, said_by, added_by, name, command, keep_line, moment_of, came_line, line_of_words, line_of};
 
 use crate::fault::{Refusal, Unanswered};
 use crate::line::DriverLine;
@@ -29,6 +30,22 @@ fn is_word(word: &[u8], other: &[u8]) -> bool
     ensures { result ≡ bytes_eq word.now other.now }
 {
     word.len() == other.len() && word == other
+}
+
+/// What stands behind a word and a space, with which a line begins.
+fn behind<'a>(line: &'a [u8], opener: &[u8]) -> Option<&'a [u8]>
+    ensures { option_map (λ x. x.now) result ≡ part_behind opener.now (split_once 32 line.now) }
+{
+    match split_once(line, b' ') {
+        Some((word, rest)) => {
+            if is_word(word, opener) {
+                Some(rest)
+            } else {
+                None
+            }
+        }
+        None => None,
+    }
 }
 
 /// The name of the only four words: creator and number of its page, its source and its number
@@ -165,11 +182,7 @@ fn refused_words(fault: WordsFault) -> Unanswered
     }
 }
 
-// A function pays at entry for the size of its locals, and those of what is inlined. So each of
-// these two is a call of its own, and lines of other kinds do not pay for it.
-
 /// What is to be said.
-#[inline(never)]
 fn said(alloc: Global, words: &[u8]) -> Result<DriverLine, Unanswered>
     ensures line { Parses result (said_by (reading_words words.now)) }
     ensures within { IfOk result IsWithin }
@@ -181,7 +194,6 @@ fn said(alloc: Global, words: &[u8]) -> Result<DriverLine, Unanswered>
 }
 
 /// A drawing that is to be added.
-#[inline(never)]
 fn added(alloc: Global, words: &[u8]) -> Result<DriverLine, Unanswered>
     ensures line { Parses result (added_by (adding_reading words.now)) }
     ensures within { IfOk result IsWithin }
@@ -192,38 +204,17 @@ fn added(alloc: Global, words: &[u8]) -> Result<DriverLine, Unanswered>
     }
 }
 
-/// The line in which this stands before its first space, and these bytes behind it.
-#[tactic(auto, using(crate::proofs::FirstWords::first_of))]
-fn split_line(
-    alloc: Global,
-    line: &[u8],
-    word: &[u8],
-    rest: &[u8],
-) -> Result<DriverLine, Unanswered>
-    requires { split_once 32 line.now ≡ Some (word.now, rest.now) }
-    ensures line { Parses result (line_of line.now) }
-    ensures within { IfOk result IsWithin }
-{
-    if is_word(word, b"say") {
-        return said(alloc, rest);
-    }
-    if is_word(word, b"add") {
-        return added(alloc, rest);
-    }
-    if word.is_empty() {
-        return words_line(alloc, line);
-    }
-    command(alloc, line, word, rest)
-}
-
 /// The line that the bytes say, which stand without their end, or its first fault: of what is to be
 /// said or added, the first word that is wrong; else that of a script's line.
 pub(crate) fn read_line(alloc: Global, line: &[u8]) -> Result<DriverLine, Unanswered>
     ensures line { Parses result (line_of line.now) }
     ensures within { IfOk result IsWithin }
 {
-    if let Some((word, rest)) = split_once(line, b' ') {
-        return split_line(alloc, line, word, rest);
+    if let Some(words) = behind(line, b"say") {
+        return said(alloc, words);
+    }
+    if let Some(words) = behind(line, b"add") {
+        return added(alloc, words);
     }
     words_line(alloc, line)
 }
