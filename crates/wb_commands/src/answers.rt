@@ -30,15 +30,14 @@ pub fn batch_line(
 }
 
 /// The line that ends the batch that one drawop is, by what became of it.
-pub fn arrival_line(alloc: Global, became: Option<Reply>) -> Result<String, AllocError>
-    ensures { IfOk result (λ text.
-        string_bytes text ≡ batch_line (counts_of (outcome_in became ∷ []))) }
+pub fn arrival_line(became: Option<Reply>) -> &'static [u8]
+    ensures { result.now ≡ batch_line (counts_of (outcome_in became ∷ [])) }
 {
     match became {
-        Some(Reply::New(_)) => "batch 1 0 0 0\n".to_owned(alloc),
-        Some(Reply::Again(_)) => "batch 0 1 0 0\n".to_owned(alloc),
-        Some(Reply::Clash(_)) => "batch 0 0 1 0\n".to_owned(alloc),
-        None => "batch 0 0 0 1\n".to_owned(alloc),
+        Some(Reply::New(_)) => b"batch 1 0 0 0\n",
+        Some(Reply::Again(_)) => b"batch 0 1 0 0\n",
+        Some(Reply::Clash(_)) => b"batch 0 0 1 0\n",
+        None => b"batch 0 0 0 1\n",
     }
 }
 

@@ -69,10 +69,6 @@ module _ {X U : Type 0} (old new : KeptValue) (k : Keeping) (does : Transition) 
     by (Err (unanswered.Refused e)) tells = absurd tells
     by (Err unanswered.Memory) tells = tells
 
--- without memory for the text of a batch nothing is printed
-pub nothing_begins : (U : Type 0) (new : KeptValue) (k : Keeping) (r : Reply) → DoesReply {U = U} (Some (Kept k)) (Some (values.Kept new)) [] (Err unanswered.Memory) r
-nothing_begins U new k r = begins_empty (text_in r)
-
 -- ---- a host that its driver drives
 
 -- What a member does for a line, a host does that it is, and keeps what is left of its seed.

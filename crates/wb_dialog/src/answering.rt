@@ -39,17 +39,12 @@ fn act(
 }
 
 /// A drawop comes in.
-fn arrive(
-    alloc: Global,
-    member: &mut Member,
-    drawop: &Drawop,
-    output: &mut Output,
-) -> Result<(), Unanswered>
+fn arrive(member: &mut Member, drawop: &Drawop, output: &mut Output) -> Result<(), Unanswered>
     ensures text { Adds output.old output.new (λ written.
         DoesAt member.old member.new written result (arrives drawop.now)) }
 {
     let became = member.accept(drawop)?;
-    count(alloc, became, output)?;
+    count(became, output)?;
     Ok(())
 }
 
@@ -66,7 +61,7 @@ fn script(
 {
     match command {
         Command::Skip => Ok(()),
-        Command::Arrive(drawop) => arrive(alloc, member, drawop, output),
+        Command::Arrive(drawop) => arrive(member, drawop, output),
         Command::Board { .. } => Err(Unanswered::Refused(Refusal::Line(LineFault::SecondBoard))),
         _ => act(alloc, member, command, output),
     }
@@ -95,12 +90,11 @@ fn send(alloc: Global, datagram: &Datagram, output: &mut Output) -> Result<(), A
 }
 
 /// Prints the batch that one drawop is. Without memory it prints nothing.
-fn count(alloc: Global, became: Option<Reply>, output: &mut Output) -> Result<(), AllocError>
+fn count(became: Option<Reply>, output: &mut Output) -> Result<(), AllocError>
     ensures ok { OnOk result (output.new ≡ output.old ++ batch_of (outcome_in became)) }
     ensures err { OnErr result (output.new ≡ output.old) }
 {
-    let text = arrival_line(alloc, became)?;
-    output.add(text.as_bytes())
+    output.add(arrival_line(became))
 }
 
 /// A drawop of ours is accepted, and goes out where it is new or was held already.
@@ -117,8 +111,8 @@ fn publish(
     match became {
         Some(Reply::New(_)) => send(alloc, &Datagram::Draw(*drawop), output)?,
         Some(Reply::Again(_)) => send(alloc, &Datagram::Draw(*drawop), output)?,
-        Some(Reply::Clash(_)) => count(alloc, became, output)?,
-        None => count(alloc, became, output)?,
+        Some(Reply::Clash(_)) => count(became, output)?,
+        None => count(became, output)?,
     }
     Ok(())
 }

@@ -1,12 +1,15 @@
 //! The texts of a block.
-ghost use Rattle.std.specs.Prelude.{◌≡◌, None, Some, IfOk};
+ghost use Rattle.std.specs.Prelude.{◌≡◌, Some, IfOk};
 ghost use Rattle.std.specs.String.{string_bytes};
 ghost use Rattle.wb_dialog.specs.Dialog.{view_text, known_text, words_line, next_line, ask_line, stop_line, ok_line, refused_line};
+ghost use Rattle.wb_dialog.specs.Doing.{Adds, Prints};
 
 use crate::fault::Refusal;
+use itoa::Buffer;
 use std::alloc::{AllocError, Global};
 use wb_codec::Datagram;
 use wb_commands::list_text;
+use wb_lines::Output;
 use wb_names::{Drawop, PageId};
 use wb_words::write_words;
 
@@ -66,16 +69,24 @@ pub(crate) fn refused_line(alloc: Global, refusal: Refusal) -> Result<String, Al
     format!(in alloc; "refused {refusal}\n")
 }
 
-/// The line that closes the block of a line that was taken, where a timer is due at this moment.
-pub(crate) fn due_line(alloc: Global, moment: u64) -> Result<String, AllocError>
-    ensures { IfOk result (λ text. string_bytes text ≡ ok_line (Some moment)) }
+/// Prints the line that closes the block of a line that was taken, where a timer is due at this
+/// moment. Without memory it prints a front of it.
+fn print_due(moment: u64, output: &mut Output) -> Result<(), AllocError>
+    ensures { Adds output.old output.new (λ written.
+        Prints written result (ok_line (Some moment))) }
 {
-    format!(in alloc; "ok {moment}\n")
+    let mut digits = Buffer::new();
+    output.add(b"ok ")?;
+    output.add(digits.format(moment).as_bytes())?;
+    output.add(b"\n")
 }
 
-/// The same, where no timer is due.
-pub(crate) fn never_line() -> &'static [u8]
-    ensures { result.now ≡ ok_line None }
+/// The same, where there is a timer or none.
+pub(crate) fn print_ok(due: Option<u64>, output: &mut Output) -> Result<(), AllocError>
+    ensures { Adds output.old output.new (λ written. Prints written result (ok_line due)) }
 {
-    b"ok never\n"
+    match due {
+        Some(moment) => print_due(moment, output),
+        None => output.add(b"ok never\n"),
+    }
 }

@@ -6,7 +6,7 @@ ghost use Rattle.wb_dialog.specs.Dialog.{ok_line};
 ghost use Rattle.wb_dialog.specs.Hosting.{Host as HostState, due_at, keep_reply, reply, reply_to, taken_reply};
 ghost use Rattle.wb_dialog.specs.Doing.{DoesReply, MayBeAt, Prints, Adds, DoesHost, BlocksAt};
 
-use crate::blocks::{due_line, never_line, refused_line};
+use crate::blocks::{print_ok, refused_line};
 use crate::fault::{Refusal, Unanswered};
 use crate::line::DriverLine;
 use crate::opened::Host;
@@ -143,20 +143,19 @@ impl Dialog {
             (λ s. reply self.old.tuning s (line_of content.now))) }
         ensures tuning { self.new.tuning ≡ self.old.tuning }
     {
-        let line = read_line(alloc, content)?;
-        self.act(alloc, &line, output)
+        match &read_line(alloc, content) {
+            Ok(line) => self.act(alloc, line, output),
+            Err(unanswered) => Err(*unanswered),
+        }
     }
 
     /// Closes the block of a line that was taken.
-    fn close(&self, alloc: Global, output: &mut Output) -> Result<(), AllocError>
+    fn close(&self, output: &mut Output) -> Result<(), AllocError>
         ensures { Adds output.old output.new (λ written.
             (s : Option HostState) → MayBeAt self.now.host s →
             Prints written result (ok_line (due_at s))) }
     {
-        match self.next_due() {
-            Some(moment) => output.add(due_line(alloc, moment)?.as_bytes()),
-            None => output.add(never_line()),
-        }
+        print_ok(self.next_due(), output)
     }
 
     /// Prints the block of a line, which stands without its end: what it prints, and `ok DUE`; or,
@@ -174,7 +173,7 @@ impl Dialog {
         ensures tuning { self.new.tuning ≡ self.old.tuning }
     {
         match self.read(alloc, content, output) {
-            Ok(()) => self.close(alloc, output),
+            Ok(()) => self.close(output),
             Err(Unanswered::Refused(refusal)) => self.refuse(alloc, refusal, output),
             Err(Unanswered::Memory) => Err(AllocError),
         }

@@ -1,6 +1,5 @@
 //! What the lines of a driver do at a host that keeps itself.
-ghost use Rattle.std.specs.Prelude.{◌≡◌, ◌<◌, ◌^◌, ◌++◌, [], IfOk, true};
-ghost use Rattle.std.specs.String.{string_bytes};
+ghost use Rattle.std.specs.Prelude.{◌≡◌, ◌<◌, ◌^◌, ◌++◌, [], true};
 ghost use Rattle.wb_names.specs.Moments.{IsMoment};
 ghost use Rattle.wb_names.specs.Shapes.{op_of};
 ghost use Rattle.wb_member.specs.Holding.{outcome_in};
@@ -15,7 +14,7 @@ ghost use Rattle.wb_dialog.specs.Lines.{IsWithin};
 use crate::blocks::{known_text, next_line, view_text};
 use crate::fault::{Refusal, Unanswered};
 use crate::line::DriverLine;
-use std::alloc::{AllocError, Global};
+use std::alloc::Global;
 use wb_codec::Datagram;
 use wb_commands::{
     Command, LineFault, arrival_line, gaps_text, pages_text, print_sends, report_text,
@@ -71,7 +70,7 @@ fn tell(
 }
 
 /// Time goes on to a moment.
-#[tactic(auto, using(crate::proofs::KeptReplies::does_line, crate::proofs::KeptReplies::nothing_begins))]
+#[tactic(auto, using(crate::proofs::KeptReplies::does_line))]
 fn tick(
     alloc: Global,
     kept: &mut KeptMember,
@@ -100,17 +99,17 @@ fn tune(kept: &mut KeptMember, constants: Tuning) -> Result<(), Unanswered>
 }
 
 /// The batch that a datagram is, where it is a drawop, by what became of that.
-fn batch(alloc: Global, datagram: &Datagram, became: Option<Reply>) -> Result<String, AllocError>
-    ensures { IfOk result (λ text. string_bytes text ≡ came_text datagram.now (outcome_in became)) }
+fn batch(datagram: &Datagram, became: Option<Reply>) -> &'static [u8]
+    ensures { result.now ≡ came_text datagram.now (outcome_in became) }
 {
     match datagram {
-        Datagram::Draw(_) => arrival_line(alloc, became),
-        _ => Ok(String::new(alloc)),
+        Datagram::Draw(_) => arrival_line(became),
+        _ => b"",
     }
 }
 
 /// A datagram came in at a moment. Of a drawop the batch is printed last.
-#[tactic(auto, using(crate::proofs::KeptReplies::does_line, crate::proofs::KeptReplies::nothing_begins))]
+#[tactic(auto, using(crate::proofs::KeptReplies::does_line))]
 fn came(
     alloc: Global,
     kept: &mut KeptMember,
@@ -123,10 +122,7 @@ fn came(
         DoesKept kept.old kept.new written result (kept_takes now datagram.now)) }
 {
     match kept.came(alloc, now, datagram) {
-        Ok(Done { sent, became }) => {
-            let text = batch(alloc, datagram, became)?;
-            tell(alloc, &sent, text.as_bytes(), output)
-        }
+        Ok(Done { sent, became }) => tell(alloc, &sent, batch(datagram, became), output),
         Err(fault) => Err(refused(fault)),
     }
 }
@@ -147,19 +143,19 @@ fn shape_of(op: &Op) -> Shape<'_>
 }
 
 /// The batch of a drawing that is not sent: its board is full.
-fn unsent(alloc: Global, became: Option<Reply>) -> Result<String, AllocError>
-    ensures { IfOk result (λ text. string_bytes text ≡ unsent_text (outcome_in became)) }
+fn unsent(became: Option<Reply>) -> &'static [u8]
+    ensures { result.now ≡ unsent_text (outcome_in became) }
 {
     match became {
-        Some(Reply::New(_)) => Ok(String::new(alloc)),
-        Some(Reply::Again(_)) => Ok(String::new(alloc)),
-        Some(Reply::Clash(_)) => arrival_line(alloc, became),
-        None => arrival_line(alloc, became),
+        Some(Reply::New(_)) => b"",
+        Some(Reply::Again(_)) => b"",
+        Some(Reply::Clash(_)) => arrival_line(became),
+        None => arrival_line(became),
     }
 }
 
 /// The user draws an operation. Where the board is full, the batch is printed last.
-#[tactic(auto, using(crate::proofs::KeptReplies::does_line, crate::proofs::KeptReplies::nothing_begins))]
+#[tactic(auto, using(crate::proofs::KeptReplies::does_line))]
 fn draw(
     alloc: Global,
     kept: &mut KeptMember,
@@ -173,10 +169,7 @@ fn draw(
         (kept_draws adding.now.moment adding.now.page adding.now.time (op_of shape.entry))) }
 {
     match kept.add(alloc, adding.moment, adding.page, adding.time, shape) {
-        Ok(Done { sent, became }) => {
-            let text = unsent(alloc, became)?;
-            tell(alloc, &sent, text.as_bytes(), output)
-        }
+        Ok(Done { sent, became }) => tell(alloc, &sent, unsent(became), output),
         Err(fault) => Err(refused(fault)),
     }
 }

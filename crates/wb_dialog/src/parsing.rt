@@ -112,34 +112,42 @@ fn came_line(alloc: Global, rest: &[u8]) -> Result<DriverLine, Unanswered>
     }
 }
 
-/// The line with this first word and these further ones.
+/// The line with this first word and these further ones. Each is returned where it is found: a line
+/// is large, and it would be copied out of each branch of one expression.
 #[tactic(auto, unfolding(crate::specs::Lines::command))]
 fn command(alloc: Global, line: &[u8], word: &[u8], rest: &[u8]) -> Result<DriverLine, Unanswered>
     ensures line { Parses result (command line.now word.now (words rest.now)) }
     ensures within { IfOk result IsWithin }
 {
     if is_word(word, b"say") {
-        Err(Unanswered::Refused(Refusal::Line(LineFault::Words)))
-    } else if is_word(word, b"next") {
-        Ok(DriverLine::Next(page(rest)?))
-    } else if is_word(word, b"view") {
-        Ok(DriverLine::View(page(rest)?))
-    } else if is_word(word, b"known") {
-        no_words(rest).ok_or(LineFault::Words)?;
-        Ok(DriverLine::Known)
-    } else if is_word(word, b"ask") {
-        Ok(DriverLine::Ask(name(rest)?))
-    } else if is_word(word, b"stop") {
-        Ok(DriverLine::Stop(name(rest)?))
-    } else if is_word(word, b"keep") {
-        Ok(keep_line(rest)?)
-    } else if is_word(word, b"came") {
-        came_line(alloc, rest)
-    } else if is_word(word, b"add") {
-        Err(Unanswered::Refused(Refusal::Line(LineFault::Words)))
-    } else {
-        script_line(alloc, line)
+        return Err(Unanswered::Refused(Refusal::Line(LineFault::Words)));
     }
+    if is_word(word, b"next") {
+        return Ok(DriverLine::Next(page(rest)?));
+    }
+    if is_word(word, b"view") {
+        return Ok(DriverLine::View(page(rest)?));
+    }
+    if is_word(word, b"known") {
+        no_words(rest).ok_or(LineFault::Words)?;
+        return Ok(DriverLine::Known);
+    }
+    if is_word(word, b"ask") {
+        return Ok(DriverLine::Ask(name(rest)?));
+    }
+    if is_word(word, b"stop") {
+        return Ok(DriverLine::Stop(name(rest)?));
+    }
+    if is_word(word, b"keep") {
+        return Ok(keep_line(rest)?);
+    }
+    if is_word(word, b"came") {
+        return came_line(alloc, rest);
+    }
+    if is_word(word, b"add") {
+        return Err(Unanswered::Refused(Refusal::Line(LineFault::Words)));
+    }
+    script_line(alloc, line)
 }
 
 /// A line of a script.
@@ -158,10 +166,10 @@ fn words_line(alloc: Global, line: &[u8]) -> Result<DriverLine, Unanswered>
     ensures line { Parses result (line_of_words line.now (words line.now)) }
     ensures within { IfOk result IsWithin }
 {
-    match next_word(line) {
-        Some((word, rest)) => command(alloc, line, word, rest),
-        None => script_line(alloc, line),
+    if let Some((word, rest)) = next_word(line) {
+        return command(alloc, line, word, rest);
     }
+    script_line(alloc, line)
 }
 
 /// Why what is said in words was not read.
