@@ -3,6 +3,8 @@
 from __future__ import annotations
 
 import random
+import time
+from collections.abc import Iterator
 
 from . import datagrams
 from .conversations import parted
@@ -19,6 +21,7 @@ SEED = 41
 SEEDS = range(1, 17)
 LINES = 400
 TEN_MINUTES = 600_000_000
+CROWD = 60_000
 timers = Words(SEED)
 TIMERS = [timers.next() for _ in range(80)]
 policy = Words(SEED, 55)
@@ -533,6 +536,44 @@ def judge_seldom(judge: Judge) -> None:
     judge.equal("requests for one name in ten minutes", sum(at <= moments[0] + TEN_MINUTES for at in moments), 15)
 
 
+def heard_by(count: int, together: int) -> Iterator[tuple[str, list[tuple[int, int]]]]:
+    """Senders in three orders, each with the moment at which it is heard: so many at a moment."""
+    rising = list(range(2, count + 2))
+    orders = {"rising": rising, "falling": rising[::-1], "mixed": random.Random(count).sample(rising, count)}
+    for name, senders in orders.items():
+        yield name, [(sender, place // together) for place, sender in enumerate(senders)]
+
+
+def hearing(heard: list[tuple[int, int]]) -> str:
+    """The lines of a host that keeps itself and hears these senders at these moments."""
+    came = [f"came {at} {session(sender, sender, PAGE, [], [])}\n" for sender, at in heard]
+    return f"board 1 100 1 {SEED}\nkeep 4000 0\n" + "".join(came)
+
+
+def judge_echoes(judge: Judge) -> None:
+    """A report echoes the 32 senders that were heard last; of those heard at one moment, those with the least numbers."""
+    for count in 31, 32, 33, 400:
+        for together in 1, 3, count:
+            for name, heard in heard_by(count, together):
+                last = sorted(heard, key=lambda one: (-one[1], one[0]))[:32]
+                echoes: list[Echo] = [(sender, sender, REPORT - at) for sender, at in sorted(last)]
+                said = host(hearing(heard) + f"tick {REPORT}\n").splitlines()[-2]
+                wanted = f"send {report(REPORT, (0, 0), [], echoes)}"
+                judge.equal(f"echoes of {count} senders, {name}, {together} at once", said, wanted)
+
+
+def judge_crowd(judge: Judge) -> None:
+    """However many senders are forged, a report costs no more than to have heard them did."""
+    _, heard = next(heard_by(CROWD, 100))
+    lines = hearing(heard)
+    times: list[float] = []
+    for given in lines, lines + f"tick {REPORT}\n":
+        began = time.perf_counter()
+        host(given)
+        times.append(time.perf_counter() - began)
+    judge.equal(f"a report beside {CROWD} senders holds nobody up", times[1] < 3 * times[0], True)
+
+
 def judge_random(judge: Judge) -> None:
     for seed in SEEDS:
         given, printed = KeptSession(seed).conversation()
@@ -559,4 +600,6 @@ def judge_all(judge: Judge) -> None:
     judge_refused(judge)
     judge_kept_or_not(judge)
     judge_seldom(judge)
+    judge_echoes(judge)
+    judge_crowd(judge)
     judge_random(judge)

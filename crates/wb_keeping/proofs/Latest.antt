@@ -18,10 +18,10 @@ use Rattle.wb_keeping.proofs.KeptLines.{slices_are_short}
 later : (a b c d : ℕ) → is_lt (ordering_then (nat_cmp a b) (nat_cmp c d)) ≡ (nat_lt a b || (nat_eq a b && nat_lt c d))
 later a b c d = grind (arith, common_steps, nat_tests)
 
-is_later : (e f : Echo) → heard_later e f ≡ (nat_lt e.held f.held || (nat_eq e.held f.held && nat_lt e.source f.source))
+pub is_later : (e f : Echo) → heard_later e f ≡ (nat_lt e.held f.held || (nat_eq e.held f.held && nat_lt e.source f.source))
 is_later e f = later e.held f.held e.source f.source
 
-itself : (e : Echo) → heard_later e e ≡ false
+pub itself : (e : Echo) → heard_later e e ≡ false
 itself e = is_later e e ∙ grind (arith, nat_tests)
 
 ordered : (a b c x y z : ℕ) → (nat_lt a b || (nat_eq a b && nat_lt x y)) ≡ true → (nat_lt b c || (nat_eq b c && nat_lt y z)) ≡ true → (nat_lt a c || (nat_eq a c && nat_lt x z)) ≡ true

@@ -14,6 +14,7 @@ pub mod KeptHosts
 pub mod Unlocked
 pub mod Refused
 pub mod Latest
+pub mod Lasts
 pub mod Saying
 pub mod EachStep
 pub mod StandingTimers

@@ -1,13 +1,15 @@
 //! Which part of what is heard or held a policy takes.
-ghost use Rattle.std.specs.Prelude.{◌≡◌, ◌≤◌, ◌<◌, IfOk, Bool, filter, length, map, nat_eq, nat_le, nat_lt, ◌&&◌};
+ghost use Rattle.std.specs.Prelude.{◌≡◌, ◌≤◌, ◌<◌, IfOk, Bool, filter, length, map, nat_eq, nat_le, nat_lt, not, ◌&&◌};
 ghost use Rattle.wb_names.specs.History.{name_of};
 ghost use Rattle.std.specs.List.{count_by};
+ghost use Rattle.std.specs.Ordering.{is_lt};
 ghost use Rattle.wb_keeping.specs.Kept.{distance_in, downwards, heard_later, last_heard, last_source, near_names, own_echo, own_marks, told_names};
 ghost use Rattle.wb_keeping.specs.Reports.{slice_after};
 ghost use Rattle.std.specs.Prelude.{None};
 
 use crate::reports::slice_after;
 use std::alloc::{AllocError, Global};
+use std::cmp::Ordering;
 use wb_names::{Echo, Echoes, Mark, Marks, Name, PageId};
 use wb_recovery::distance;
 
@@ -86,22 +88,47 @@ pub(crate) fn last_heard(alloc: Global, echoes: &Echoes) -> Result<Echoes, Alloc
 fn latest(alloc: Global, all: &[Echo]) -> Result<Vec<Echo>, AllocError>
     ensures { IfOk result (λ last. last.items ≡ last_heard all.now) }
 {
-    let last = all.iter().filter(|echo| is_among_last(**echo, all));
-    last.copied().collect(alloc)
+    if all.len() < ECHOES {
+        return all.to_vec(alloc);
+    }
+    let first = first_of_latest(alloc, all)?;
+    not_before(alloc, first, all)
 }
 
-/// Whether fewer than 32 were heard later.
-fn is_among_last(echo: Echo, all: &[Echo]) -> bool
-    ensures { result ≡ nat_lt (count_by (λ f. heard_later f echo) all.now) 32 }
+/// The senders that were not heard before one.
+fn not_before(alloc: Global, one: Echo, all: &[Echo]) -> Result<Vec<Echo>, AllocError>
+    ensures { IfOk result (λ others.
+        others.items ≡ filter (λ e. not (heard_later one e)) all.now) }
 {
-    all.iter().filter(|other| is_later(**other, echo)).count() < ECHOES
+    let others = all.iter().filter(|other| !is_later(one, **other));
+    others.copied().collect(alloc)
+}
+
+/// Of the 32 senders that were heard last, the one that was heard first.
+fn first_of_latest(alloc: Global, all: &[Echo]) -> Result<Echo, AllocError>
+    requires { 32 ≤ length all.now }
+    ensures later { IfOk result (λ first. count_by (λ e. heard_later e first) all.now < 32) }
+    ensures others { IfOk result (λ first.
+        32 ≤ count_by (λ e. not (heard_later first e)) all.now) }
+{
+    let mut ranked = all.to_vec(alloc)?;
+    let (_, first, _) = ranked.select_nth_unstable_by(ECHOES - 1, |a, b| by_hearing(*a, *b));
+    Ok(*first)
 }
 
 /// Whether one was heard after another, or at the same moment and has the lesser number.
 fn is_later(one: Echo, other: Echo) -> bool
     ensures { result ≡ heard_later one other }
 {
-    (one.held, one.source) < (other.held, other.source)
+    by_hearing(one, other) == Ordering::Less
+}
+
+/// The order in which senders are echoed: who was heard later comes first, and of those heard at
+/// one moment who has the lesser number.
+fn by_hearing(one: Echo, other: Echo) -> Ordering
+    ensures { is_lt result ≡ heard_later one other }
+{
+    (one.held, one.source).cmp(&(other.held, other.source))
 }
 
 /// The next marks of a page, at most 64, those of sources above one that was told.

@@ -1,0 +1,12 @@
+use Rattle.std.proofs.Common.{◌≡◌, IfOk, List, rules, subst}
+use Rattle.wb_names.specs.declared.echo.Echo.{Echo}
+use Rattle.wb_keeping.proofs.Lasts.{few_are_last, last_are_not_before}
+use Rattle.wb_keeping.proofs.choices.latest.Goals as goal
+
+pub returns-then-all-lt-ECHOES : goal.returns-then-all-lt-ECHOES
+returns-then-all-lt-ECHOES c = search (rules, few_are_last c.args.all.now c.if-all-lt-ECHOES.true)
+
+pub returns : goal.returns
+returns c =
+    let same = last_are_not_before c.args.all.now c.in_ok-first.first c.in_ok-first.ensures.later c.in_ok-first.ensures.others in
+    subst (λ (es : List Echo). IfOk c.not_before.result (λ last. last.items ≡ es)) same c.not_before.ensures
