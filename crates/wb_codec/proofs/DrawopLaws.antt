@@ -16,7 +16,6 @@ use Rattle.wb_names.specs.Drawing.{IsLawful, seq_fault}
 use Rattle.wb_names.specs.declared.parts.Figure.{Figure}
 use Rattle.wb_names.specs.declared.parts.Stroke.{Stroke}
 use Rattle.wb_names.specs.declared.parts.Change.{Change}
-use Rattle.wb_names.specs.declared.parts.Change.TheVariants.{Restore}
 use Rattle.wb_names.specs.declared.parts.Target.{Target}
 use Rattle.wb_names.specs.declared.parts.Op.{Op}
 use Rattle.wb_names.specs.declared.parts.Op.TheVariants.{Drawn, Text, Aimed}

@@ -1,5 +1,5 @@
 -- What a line of a script says, or its first fault.
-use Rattle.std.specs.Prelude.{◌≡◌, ◌<◌, ◌≤◌, IfErr, MatchResult, ℕ, ◌-◌, ◌^◌, List, [], ◌∷◌, Bool, true, false, nat_eq, Option, Some, None, Result, Ok, Err, if◌then◌else◌, codes, bytes_eq}
+use Rattle.std.specs.Prelude.{◌≡◌, ◌≤◌, IfErr, MatchResult, ℕ, ◌-◌, ◌^◌, List, [], ◌∷◌, Bool, true, false, nat_eq, Option, Some, None, Result, Ok, Err, if◌then◌else◌, codes, bytes_eq}
 use Rattle.wb_names.specs.Moments.{IsMoment}
 use Rattle.wb_names.specs.declared.moment.TheConstants.{MAX_MOMENT}
 use Rattle.wb_names.specs.declared.name.PageId.{PageId}

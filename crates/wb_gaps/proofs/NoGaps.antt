@@ -1,5 +1,5 @@
 -- What a list holds that has no gaps below its report.
-use Rattle.std.proofs.Common.{◌≡◌, ℕ, Bool, true, false, List, [], refl, ◌∙◌, sym, arith, ◌⊎◌, inl, inr, ⊎_elim, true≢false}
+use Rattle.std.proofs.Common.{◌≡◌, ℕ, Bool, true, false, List, refl, ◌∙◌, sym, arith, ◌⊎◌, inl, inr, ⊎_elim, true≢false}
 use Rattle.wb_names.specs.Values.{DrawopValue}
 use Rattle.wb_names.specs.History.{IsHeld}
 use Rattle.wb_names.specs.declared.name.PageId.{PageId}

@@ -1,5 +1,5 @@
 -- What a desk keeps of its list, as the list grows and as holdings take in the rest of it.
-use Rattle.std.proofs.Common.{◌≡◌, ℕ, List, [], length, take, refl, sym, ap, subst, ◌∙◌, arith}
+use Rattle.std.proofs.Common.{◌≡◌, ℕ, List, length, take, sym, ap, subst, ◌∙◌, arith}
 use Rattle.std.specs.Prelude.{Result, Ok, Err, MatchResult}
 use Rattle.std.proofs.lemmas.List.{take-append-le, length-append}
 use mathlib.Core.List.{IsPrefix}

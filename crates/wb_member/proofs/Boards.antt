@@ -1,10 +1,7 @@
 -- What the desk that owns all rows of a board is answered: p is the desk before the call, q the desk after it.
-use Rattle.std.proofs.Common.{◌≡◌, ℕ, ◌+◌, ◌<◌, ◌≤◌, Bool, true, false, List, length, refl, sym, ap, ◌∙◌, subst, arith, ◌⊎◌, inl, inr, Result, Ok, Err, IfOk, IsPermutation, nat_le}
-use Rattle.std.proofs.lemmas.Bool.Decides.{nat_tests}
-use Rattle.std.proofs.lemmas.List.Sorted.{IsPermutation-refl}
+use Rattle.std.proofs.Common.{◌≡◌, ℕ, ◌+◌, ◌≤◌, List, length, sym, ap, ◌∙◌, subst, arith, ◌⊎◌, inl, inr, Result, Ok, Err, IfOk}
 use Rattle.wb_names.specs.Values.{DrawopValue, MarkValue}
 use Rattle.wb_names.specs.declared.name.PageId.{PageId}
-use Rattle.wb_names.proofs.Arrivals.{batch_is}
 use Rattle.wb_host.specs.Desks.{HistoryValue, PassValue, IsSamePass, IsSound, KeepsRows, ReadsOn}
 use Rattle.wb_names.specs.declared.gap.Gap.{Gap}
 use Rattle.wb_gaps.specs.Answers.{gaps_of, report_of, pages_of}

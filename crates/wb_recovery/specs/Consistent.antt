@@ -1,5 +1,5 @@
 -- How a recovery keeps its timers: by name, with their alarms, and the first moment of each kind.
-use Rattle.std.specs.Prelude.{◌≡◌, ℕ, ◌<◌, ◌^◌, IsTrue, true}
+use Rattle.std.specs.Prelude.{◌≡◌, ℕ, IsTrue, true}
 use Rattle.std.specs.BTreeMap.{BTreeMap, IsOrdered}
 use Rattle.wb_names.specs.Moments.{IsMoment}
 use Rattle.wb_names.specs.Values.{NameValue}

@@ -1,5 +1,5 @@
 -- What each call makes of the timers of one name.
-use Rattle.std.specs.Prelude.{ℕ, ◌+◌, ◌-◌, ◌*◌, ◌/◌, ◌%◌, ◌^◌, ◌<◌, Bool, true, false, ◌&&◌, ◌||◌, Option, Some, None, IfSome, is_some, is_none, min, nat_eq, nat_le, if◌then◌else◌}
+use Rattle.std.specs.Prelude.{ℕ, ◌+◌, ◌-◌, ◌*◌, ◌/◌, ◌%◌, ◌^◌, Bool, true, false, ◌&&◌, ◌||◌, Option, Some, None, IfSome, is_some, is_none, min, nat_eq, nat_le, if◌then◌else◌}
 use Rattle.wb_recovery.specs.Delays.{IsDelay}
 use Rattle.wb_recovery.specs.declared.tuning.TheConstants.{MAX_CONSTANT}
 use Rattle.wb_recovery.specs.declared.tuning.Tuning.{Tuning}

@@ -1,4 +1,4 @@
-use Rattle.std.proofs.Common.{◌≡◌, ◌∙◌, Bool, true, false, ap, sym, subst, refl, cond}
+use Rattle.std.proofs.Common.{◌≡◌, ◌∙◌, Bool, true, false, ap, sym, subst, cond}
 use Rattle.wb_member.specs.Board.{Held}
 use Rattle.wb_member.specs.Holding.{MemberValue, IsOpenAt}
 use Rattle.wb_member.specs.Opened.{heard, takes_word}

@@ -1,4 +1,4 @@
-use Rattle.std.proofs.Common.{rules, ◌≡◌, ◌∙◌, ℕ, List, ap, sym, subst}
+use Rattle.std.proofs.Common.{rules, ◌≡◌, ◌∙◌, List, ap, sym, subst}
 use Rattle.wb_names.specs.Values.{DrawopValue}
 use Rattle.wb_host.specs.Known.{known_number}
 use Rattle.wb_member.specs.Holding.{MemberValue, IsOpenAt}
