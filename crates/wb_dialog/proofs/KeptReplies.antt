@@ -19,7 +19,7 @@ use Rattle.wb_dialog.specs.declared.fault.Unanswered.{Unanswered}
 use Rattle.wb_dialog.specs.declared.fault.Unanswered.TheVariants as unanswered
 use Rattle.wb_dialog.specs.declared.opened.Host.TheVariants as values
 use Rattle.wb_dialog.specs.Dialog.{Answer, gives, refuses, answer_at}
-use Rattle.wb_dialog.specs.Hosting.{Host, Driven, Kept, Reply, prints, denies, as_driven, due_at, in_time, keep_reply, kept_does, kept_refusal, kept_reply, seed_after, taken_by}
+use Rattle.wb_dialog.specs.Hosting.{Host, Driven, Kept, prints, denies, as_driven, due_at, in_time, keep_reply, kept_does, kept_refusal, kept_reply, seed_after, taken_by}
 use Rattle.wb_dialog.specs.Doing.{DoesAnswer, DoesAt, DoesKept, DoesReply, IsHostAt, Tells, seed_by, text_in, unanswered_of}
 
 -- ---- a call of its member

@@ -1,5 +1,5 @@
 -- A worker's loop over the messages.
-use Rattle.std.proofs.Common.{◌≡◌, ℕ, ◌+◌, ◌≤◌, Bool, true, false, true≢false, List, [], ◌∷◌, ◌++◌, refl, ap, sym, subst, ◌∙◌, arith, append_assoc, ◌⊎◌, ⊎_elim}
+use Rattle.std.proofs.Common.{◌≡◌, ℕ, ◌+◌, ◌≤◌, Bool, true, false, true≢false, List, [], ◌∷◌, ◌++◌, refl, ap, sym, subst, ◌∙◌, arith, ◌⊎◌, ⊎_elim}
 use Rattle.std.proofs.lemmas.Grind.{flat_map-append}
 use Rattle.std.proofs.lemmas.List.{append-nil, map-append}
 use Rattle.wb_names.specs.Values.{DrawopValue}
@@ -14,7 +14,7 @@ use Rattle.wb_feed.specs.declared.channel.Message.{Message}
 use Rattle.wb_feed.specs.declared.channel.Message.TheVariants.{Take, End}
 use Rattle.wb_feed.specs.declared.channel.ChannelView.{ChannelView}
 use Rattle.wb_feed.specs.Channel.{channel_view, receives, AreBelow, Follows}
-use Rattle.wb_feed.specs.Served.{Spot, entries, takes, offered, noted, told_of, Rises, Served}
+use Rattle.wb_feed.specs.Served.{Spot, entries, takes, noted, told_of, Rises, Served}
 
 pub takes-append : (xs ys : List Message) → takes (xs ++ ys) ≡ takes xs ++ takes ys
 takes-append [] ys = refl

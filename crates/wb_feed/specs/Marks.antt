@@ -1,5 +1,5 @@
 -- Which of the drawops arrived were accepted, with which replies, and what is taken again of the others.
-use Rattle.std.specs.Prelude.{◌≡◌, ℕ, ◌+◌, ◌<◌, ◌≤◌, ◌==◌, ◌||◌, Bool, true, false, cond, List, [], ◌∷◌, length, set, slice_index_or, Option, Some, None, map, is_some}
+use Rattle.std.specs.Prelude.{◌≡◌, ℕ, ◌+◌, ◌<◌, ◌≤◌, ◌==◌, ◌||◌, Bool, false, cond, List, [], ◌∷◌, length, set, slice_index_or, Option, Some, None, map, is_some}
 use Rattle.wb_names.specs.Values.{DrawopValue}
 use Rattle.wb_names.specs.Arrivals.{Counts, counts_of, Outcome}
 use Rattle.wb_host.specs.Desks.{PassValue}
