@@ -107,9 +107,8 @@ fn not_before(alloc: Global, one: Echo, all: &[Echo]) -> Result<Vec<Echo>, Alloc
 /// Of the 32 senders that were heard last, the one that was heard first.
 fn first_of_latest(alloc: Global, all: &[Echo]) -> Result<Echo, AllocError>
     requires { 32 ≤ length all.now }
-    ensures later { IfOk result (λ first. count_by (λ e. heard_later e first) all.now < 32) }
-    ensures others { IfOk result (λ first.
-        32 ≤ count_by (λ e. not (heard_later first e)) all.now) }
+    ensures { IfOk result (λ first. (count_by (λ e. heard_later e first) all.now < 32)
+        × (32 ≤ count_by (λ e. not (heard_later first e)) all.now)) }
 {
     let mut ranked = all.to_vec(alloc)?;
     let (_, first, _) = ranked.select_nth_unstable_by(ECHOES - 1, |a, b| by_hearing(*a, *b));

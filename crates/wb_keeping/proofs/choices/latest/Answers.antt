@@ -8,5 +8,5 @@ returns-then-all-lt-ECHOES c = search (rules, few_are_last c.args.all.now c.if-a
 
 pub returns : goal.returns
 returns c =
-    let same = last_are_not_before c.args.all.now c.in_ok-first.first c.in_ok-first.ensures.later c.in_ok-first.ensures.others in
+    let same = last_are_not_before c.args.all.now c.in_ok-first.first c.in_ok-first.ensures.0 c.in_ok-first.ensures.1 in
     subst (λ (es : List Echo). IfOk c.not_before.result (λ last. last.items ≡ es)) same c.not_before.ensures
