@@ -562,16 +562,22 @@ def judge_echoes(judge: Judge) -> None:
                 judge.equal(f"echoes of {count} senders, {name}, {together} at once", said, wanted)
 
 
-def judge_crowd(judge: Judge) -> None:
-    """However many senders are forged, a report costs no more than to have heard them did."""
-    _, heard = next(heard_by(CROWD, 100))
-    lines = hearing(heard)
+def least_time(given: str) -> float:
+    """The least of three times that a host takes for these lines, in seconds."""
     times: list[float] = []
-    for given in lines, lines + f"tick {REPORT}\n":
+    for _ in range(3):
         began = time.perf_counter()
         host(given)
         times.append(time.perf_counter() - began)
-    judge.equal(f"a report beside {CROWD} senders holds nobody up", times[1] < 3 * times[0], True)
+    return min(times)
+
+
+def judge_crowd(judge: Judge) -> None:
+    """However many senders are forged, a report takes no longer than a few times what it took to hear them."""
+    _, heard = next(heard_by(CROWD, 100))
+    lines = hearing(heard)
+    told = least_time(lines + f"tick {REPORT}\n")
+    judge.equal(f"a report beside {CROWD} senders holds nobody up", told < 5 * least_time(lines), True)
 
 
 def judge_random(judge: Judge) -> None:
