@@ -1,0 +1,13 @@
+pub mod Sharing
+pub mod Listing
+pub mod Anywhere
+pub mod Sizes
+pub mod Sameness
+pub mod Outcome
+pub mod Members
+pub mod Shared
+pub mod Stepping
+pub mod Bounds
+pub mod Taking
+pub mod Twins
+pub mod Gathering

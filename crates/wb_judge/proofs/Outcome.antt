@@ -1,0 +1,132 @@
+-- What a datagram makes of the lists of a judge.
+use Rattle.std.proofs.Common.{◌≡◌, ◌⊎◌, ◌∙◌, ℕ, Bool, true, false, cond, [], ap, inl, inr, refl}
+use Rattle.std.specs.List.{list_any}
+use Rattle.std.specs.Prelude.{Some, nat_eq, not, ◌||◌}
+use Rattle.wb_codec.specs.declared.datagram.Datagram.{Datagram}
+use Rattle.wb_codec.specs.declared.datagram.Datagram.TheVariants.{AskPages, Draw, PageState, Request, Session}
+use Rattle.wb_judge.specs.Answers.{answers}
+use Rattle.wb_judge.specs.Buckets.{has_room, paid_after}
+use Rattle.wb_judge.specs.Judge.{Judge, is_forged, knows}
+use Rattle.wb_judge.specs.Judging.{after_admitted, after_admitting, after_answer, after_fetching, after_hearing, after_of, after_own, after_question, after_report, after_said, fetching_at, is_fetched, is_forged_mark, is_twin, speaking, with_payment}
+use Rattle.wb_judge.specs.Known.{known_from}
+use Rattle.wb_judge.specs.Laws.{is_answer}
+use Rattle.wb_judge.specs.Others.{other_with}
+use Rattle.wb_judge.specs.Reports.{report_of}
+use Rattle.wb_judge.specs.Strange.{without_origin}
+use Rattle.wb_judge.specs.declared.facts.Facts.{Facts}
+use Rattle.wb_judge.specs.declared.limits.TheConstants.{ASKED_AHEAD, ASKED_PAUSE}
+use Rattle.wb_judge.specs.declared.origin.Origin.{Origin}
+use Rattle.wb_judge.specs.declared.others.Other.{Other}
+use Rattle.wb_judge.specs.declared.report.Report.{Report}
+
+-- the lists are as they were
+pub record Same (j k : Judge) : Type 0 where
+  pub own : k.own ≡ j.own
+  pub known : k.known ≡ j.known
+  pub others : k.others ≡ j.others
+  pub strange : k.strange ≡ j.strange
+
+-- a number was heard from an origin, which answered or not
+pub record Heard (o : Origin) (answer : Bool) (now : ℕ) (j k : Judge) : Type 0 where
+  pub own : k.own ≡ j.own
+  pub known : k.known ≡ cond answer (known_from o now j.known) j.known
+  pub others : (x : Other) × (k.others ≡ other_with x j.others)
+  pub strange : k.strange ≡ cond answer (without_origin o j.strange) j.strange
+
+same : (j : Judge) → Same j j
+same j = record { own = refl; known = refl; others = refl; strange = refl }
+
+paid : (answer : Bool) (n : ℕ) (j : Judge) → Same j (with_payment answer n j)
+paid true n j = record { own = refl; known = refl; others = refl; strange = refl }
+paid false n j = record { own = refl; known = refl; others = refl; strange = refl }
+
+either : (b : Bool) (i j k : Judge) → Same i j → Same i k → Same i (cond b j k)
+either true i j k one other = one
+either false i j k one other = other
+
+admitting : (o : Origin) (number : ℕ) (answer : Bool) (now : ℕ) (j : Judge) → Same j (after_admitting o number answer now j)
+unfolding after_admitting
+admitting o number answer now j = either _ j j _ (same j) (paid answer _ j)
+
+question : (o : Origin) (misses : Bool) (now : ℕ) (j : Judge) → Same j (after_question o misses now j)
+unfolding after_question
+question o misses now j =
+    either (knows o now j || (misses || not (has_room ASKED_AHEAD j.asked now))) j j (record j { asked = paid_after ASKED_PAUSE j.asked now }) (same j)
+    (record { own = refl; known = refl; others = refl; strange = refl })
+
+owned : (sent : ℕ) (r : Report) (now : ℕ) (j : Judge) → Same j (after_own sent r now j)
+unfolding after_own
+owned sent r now j =
+    either (list_any (nat_eq sent) j.own) j j (record j { alien = Some (record { sent = sent; at = now }); has_twin = j.has_twin || is_twin sent r now j }) (same j)
+    (record { own = refl; known = refl; others = refl; strange = refl })
+
+fetching : (b : Bool) (now : ℕ) (j : Judge) → Same j (after_fetching b now j)
+unfolding after_fetching
+fetching true now j = record { own = refl; known = refl; others = refl; strange = refl }
+fetching false now j = same j
+
+-- the lists but for the numbers that were heard
+record Answered (o : Origin) (answer : Bool) (now : ℕ) (j k : Judge) : Type 0 where
+  own : k.own ≡ j.own
+  known : k.known ≡ cond answer (known_from o now j.known) j.known
+  others : k.others ≡ j.others
+  strange : k.strange ≡ cond answer (without_origin o j.strange) j.strange
+
+answered : (answer : Bool) (o : Origin) (now : ℕ) (j : Judge) → Answered o answer now j (after_answer answer o now j)
+unfolding after_answer
+answered true o now j = record { own = refl; known = refl; others = refl; strange = refl }
+answered false o now j = record { own = refl; known = refl; others = refl; strange = refl }
+
+hearing : (o : Origin) (number : ℕ) (answer : Bool) (lacking now : ℕ) (j : Judge) → Heard o answer now j (after_hearing o number answer lacking now j)
+unfolding after_hearing
+hearing o number answer lacking now j =
+    let x = speaking o number answer now j in
+    let fetch = is_fetched x lacking now j in
+    let a = answered answer o now j in
+    let f = fetching fetch now (after_answer answer o now j) in
+    record {
+      own = f.own ∙ a.own;
+      known = f.known ∙ a.known;
+      others = (fetching_at fetch now x, ap (other_with (fetching_at fetch now x)) (f.others ∙ a.others));
+      strange = f.strange ∙ a.strange;
+    }
+
+-- heard after lists that are as they were
+after_same : (o : Origin) (answer : Bool) (now : ℕ) (i j k : Judge) → Same i j → Heard o answer now j k → Heard o answer now i k
+after_same o answer now i j k s h = record {
+  own = h.own ∙ s.own;
+  known = h.known ∙ ap (λ known. cond answer (known_from o now known) known) s.known;
+  others = (h.others.0, h.others.1 ∙ ap (other_with h.others.0) s.others);
+  strange = h.strange ∙ ap (λ strange. cond answer (without_origin o strange) strange) s.strange;
+}
+
+choice : (b : Bool) (o : Origin) (answer : Bool) (now : ℕ) (i j k : Judge) → (Same i j ⊎ Heard o answer now i j) → (Same i k ⊎ Heard o answer now i k) → Same i (cond b j k) ⊎ Heard o answer now i (cond b j k)
+choice true o answer now i j k one other = one
+choice false o answer now i j k one other = other
+
+admitted : (o : Origin) (r : Report) (answer : Bool) (f : Facts) (j : Judge) → Same j (after_admitted o r answer f j) ⊎ Heard o answer f.at j (after_admitted o r answer f j)
+unfolding after_admitted
+admitted o r answer f j = choice (is_forged_mark r f) o answer f.at j j _ (inl (same j)) (inr (hearing o r.speaker answer f.lacking f.at j))
+
+later : (o : Origin) (answer : Bool) (now : ℕ) (i j k : Judge) → Same i j → (Same j k ⊎ Heard o answer now j k) → Same i k ⊎ Heard o answer now i k
+later o answer now i j k s (inl t) = inl (record { own = t.own ∙ s.own; known = t.known ∙ s.known; others = t.others ∙ s.others; strange = t.strange ∙ s.strange })
+later o answer now i j k s (inr h) = inr (after_same o answer now i j k s h)
+
+reported : (o : Origin) (r : Report) (f : Facts) (j : Judge) → Same j (after_report o r f j) ⊎ Heard o (answers j.own r.echo f.at) f.at j (after_report o r f j)
+unfolding after_report
+reported o r f j =
+    let answer = answers j.own r.echo f.at in
+    let k = after_admitting o r.speaker answer f.at j in
+    choice _ o answer f.at j j _ (inl (same j)) (later o answer f.at j k _ (admitting o r.speaker answer f.at j) (admitted o r answer f k))
+
+said : (o : Origin) (number : ℕ) (answer : Bool) (now : ℕ) (j ours theirs : Judge) → Same j ours → (Same j theirs ⊎ Heard o answer now j theirs)
+    → Same j (after_said o number j ours theirs) ⊎ Heard o answer now j (after_said o number j ours theirs)
+said o number answer now j ours theirs s h = choice (is_forged number o j) o answer now j j _ (inl (same j)) (choice (nat_eq number j.me) o answer now j ours theirs (inl s) h)
+
+-- a datagram leaves the lists as they were, or a number was heard
+pub outcome : (o : Origin) (v : Datagram) (f : Facts) (j : Judge) → Same j (after_of o v f j) ⊎ Heard o (is_answer v f.at j) f.at j (after_of o v f j)
+outcome o (Draw d) f j = inl (same j)
+outcome o (Session s sent page marks echoes) f j = let r = report_of j.me s marks echoes in said o s _ f.at j _ _ (owned sent r f.at j) (reported o r f j)
+outcome o (PageState s page marks) f j = said o s _ f.at j _ _ (same j) (reported o (report_of j.me s marks []) f j)
+outcome o (Request asker name) f j = said o asker _ f.at j _ _ (same j) (inl (question o (not f.holds) f.at j))
+outcome o (AskPages asker) f j = said o asker _ f.at j _ _ (same j) (inl (question o false f.at j))

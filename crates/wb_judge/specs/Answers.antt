@@ -1,0 +1,15 @@
+-- Who answers us: who echoes a moment at which we reported lately. Nobody knows such a moment who did not hear that report.
+use Rattle.std.specs.Prelude.{ℕ, ◌-◌, Bool, false, ◌&&◌, List, Option, Some, None, nat_eq, nat_le}
+use Rattle.std.specs.List.{list_any}
+use Rattle.wb_names.specs.declared.echo.Echo.{Echo}
+use Rattle.wb_judge.specs.Lists.{joined}
+use Rattle.wb_judge.specs.declared.limits.TheConstants.{FRESH, MOST_OWN}
+
+-- the moments of our reports, with one more
+abbrev pub reported : ℕ → List ℕ → List ℕ
+reported sent own = joined MOST_OWN sent own
+
+-- An echo of us answers if its moment is one of ours and not too old, and it was held no longer than that is ago.
+unfoldable pub answers : List ℕ → Option Echo → ℕ → Bool
+answers own None now = false
+answers own (Some e) now = list_any (nat_eq e.sent) own && (nat_le (now - e.sent) FRESH && nat_le e.held (now - e.sent))

@@ -1,0 +1,10 @@
+-- The time of day goes on from where it was told.
+use Rattle.std.specs.Prelude.{ℕ, ◌+◌, ◌-◌}
+
+-- at a moment the time of day was told
+pub record DayClock : Type 0 where
+  pub wall : ℕ
+  pub at : ℕ
+
+abbrev pub time_of_day : DayClock → ℕ → ℕ
+time_of_day clock now = clock.wall + (now - clock.at)

@@ -1,0 +1,173 @@
+-- What follows of the judgement, whatever comes in.
+use Rattle.std.specs.Prelude.{◌≡◌, ◌⊎◌, ℕ, ◌+◌, ◌-◌, ◌*◌, ◌≤◌, Bool, true, false, not, ◌&&◌, List, [], ◌∷◌, ◌++◌, Option, Some, None, AllPairs, filter, is_none, length, if◌then◌else◌}
+use Rattle.wb_names.specs.Orders.{same_name}
+use Rattle.wb_names.specs.Values.{DrawopValue, NameValue}
+use Rattle.wb_names.specs.declared.echo.Echo.{Echo}
+use Rattle.wb_codec.specs.declared.datagram.Datagram.{Datagram}
+use Rattle.wb_codec.specs.declared.datagram.Datagram.TheVariants.{Draw, PageState, Session}
+use Rattle.wb_judge.specs.Answers.{answers, reported}
+use Rattle.wb_judge.specs.Buckets.{has_room, paid_after}
+use Rattle.wb_judge.specs.Days.{DayClock, time_of_day}
+use Rattle.wb_judge.specs.Judge.{Judge, after_leaving, after_taking, is_full, knows}
+use Rattle.wb_judge.specs.Judging.{after_judging, draws, verdict}
+use Rattle.wb_judge.specs.Others.{is_bound_elsewhere}
+use Rattle.wb_judge.specs.Reports.{echo_to}
+use Rattle.wb_judge.specs.Strange.{has_name, is_given_by, with_given}
+use Rattle.wb_judge.specs.declared.facts.Facts.{Facts}
+use Rattle.wb_judge.specs.declared.limits.TheConstants.{AHEAD_KNOWN, MOST_KNOWN, MOST_OTHERS, MOST_OWN}
+use Rattle.wb_judge.specs.declared.origin.Origin.{Origin}
+use Rattle.wb_judge.specs.declared.strange.Given.{Given}
+use Rattle.wb_judge.specs.declared.verdict.Why.TheVariants.{Again}
+
+-- ---- members
+
+-- the echo of us that a datagram has, if it has one
+abbrev pub echo_in : ℕ → Datagram → Option Echo
+echo_in me (Session s sent page marks echoes) = echo_to me echoes
+echo_in me v = None
+
+-- it echoes a moment at which we reported lately
+abbrev pub is_answer : Datagram → ℕ → Judge → Bool
+is_answer v now j = answers j.own (echo_in j.me v) now
+
+-- An origin is known after a datagram only if it was before, or the datagram came from there and answered us.
+abbrev pub OnlyAnswersMakeKnown : Type 0
+OnlyAnswersMakeKnown = (o p : Origin) (v : Datagram) (f : Facts) (j : Judge) (now : ℕ) → knows p now (after_judging o v f j) ≡ true
+    → (knows p now j ≡ true) ⊎ (knows p f.at j ≡ true) ⊎ ((o ≡ p) × (is_answer v f.at j ≡ true))
+
+-- A member's drawop is not dropped that is not ours, is no more than a day ahead, and has a cell.
+abbrev pub AMemberIsNotDropped : Type 0
+AMemberIsNotDropped = (o : Origin) (d : DrawopValue) (f : Facts) (j : Judge) → knows o f.at j ≡ true → ¬ (d.name.source ≡ j.me)
+    → d.time ≤ time_of_day j.clock f.at + AHEAD_KNOWN → (draws d.op && is_full f.held j) ≡ false → (verdict o (Draw d) f j).why ≡ None
+
+-- who speaks in a report
+abbrev pub speaker_in : Datagram → Option ℕ
+speaker_in (Session s sent page marks echoes) = Some s
+speaker_in (PageState s page marks) = Some s
+speaker_in v = None
+
+-- A number that has answered us stays where it speaks: a report from elsewhere that does not answer changes nothing of any number.
+abbrev pub NumbersStay : Type 0
+NumbersStay = (o : Origin) (number : ℕ) (v : Datagram) (f : Facts) (j : Judge) → speaker_in v ≡ Some number
+    → is_bound_elsewhere number o f.at j.others ≡ true → is_answer v f.at j ≡ false → (after_judging o v f j).others ≡ j.others
+
+-- What answers nobody, as a replay, shows no twin.
+abbrev pub ReplayIsNoTwin : Type 0
+ReplayIsNoTwin = (o : Origin) (v : Datagram) (f : Facts) (j : Judge) → is_answer v f.at j ≡ false → (after_judging o v f j).has_twin ≡ j.has_twin
+
+-- ---- strangers
+
+-- A datagram vouches for nobody: what another origin gave stays strange, and what its own gave, unless it answers.
+abbrev pub VouchesForNobody : Type 0
+VouchesForNobody = (o : Origin) (v : Datagram) (f : Facts) (j : Judge)
+    → filter (λ g. not (is_given_by o g)) (after_judging o v f j).strange.given ≡ filter (λ g. not (is_given_by o g)) j.strange.given
+
+abbrev pub StaysStrange : Type 0
+StaysStrange = (o : Origin) (v : Datagram) (f : Facts) (j : Judge) → is_answer v f.at j ≡ false → (after_judging o v f j).strange ≡ j.strange
+
+-- no two have one name
+abbrev pub StandOnce : List Given → Type 0
+StandOnce given = AllPairs (λ g h. same_name g.name h.name ≡ false) given
+
+abbrev pub NamesCountOnce : Type 0
+NamesCountOnce = (g : Given) (j : Judge) → StandOnce j.strange.given → StandOnce (with_given g j.strange).given
+
+-- A stranger hushes no repair of ours, and puts off no request.
+abbrev pub StrangersHushNobody : Type 0
+StrangersHushNobody = (o : Origin) (d : DrawopValue) (f : Facts) (j : Judge) → knows o f.at j ≡ false → f.holds ≡ true
+    → (verdict o (Draw d) f j).why ≡ Some Again
+
+-- moments that rise, from one to another
+abbrev pub AreFrom : ℕ → ℕ → List ℕ → Type 0
+AreFrom start end [] = start ≤ end
+AreFrom start end (now ∷ moments) = (start ≤ now) × AreFrom now end moments
+
+-- how many of what comes at these moments a bucket takes
+abbrev pub taken_at : ℕ → ℕ → ℕ → List ℕ → ℕ
+taken_at ahead pause paid [] = 0
+taken_at ahead pause paid (now ∷ moments) =
+    if has_room ahead paid now then 1 + taken_at ahead pause (paid_after pause paid now) moments else taken_at ahead pause paid moments
+
+-- So many at once, and then one in each pause.
+abbrev pub FewAreTaken : Type 0
+FewAreTaken = (ahead pause paid start end : ℕ) (moments : List ℕ) → AreFrom start end moments → taken_at ahead pause paid moments * pause ≤ ahead + pause + (end - start)
+
+-- ---- steps of a judge
+
+-- A datagram comes, and the board takes it in if it is a drawop that is handed in and new; we report; the time of day is told; who spoke from an
+-- origin is gone; and a record tells a stranger's drawop.
+pub data Step : Type 0 where
+  Comes : (o : Origin) → (v : Datagram) → (f : Facts) → Step
+  Reports : (sent : ℕ) → Step
+  Tells : (clock : DayClock) → Step
+  Leaves : (o : Origin) → Step
+  Remembers : (name : NameValue) → Step
+
+abbrev pub is_taken : Origin → DrawopValue → Facts → Judge → Bool
+is_taken o d f j = is_none (verdict o (Draw d) f j).why && not f.holds
+
+abbrev pub after_datagram : Origin → Datagram → Facts → Judge → Judge
+after_datagram o (Draw d) f j =
+    if is_taken o d f j then after_taking (record { name = d.name; origin = Some o }) o f.at (after_judging o (Draw d) f j)
+    else after_judging o (Draw d) f j
+after_datagram o v f j = after_judging o v f j
+
+abbrev pub after_step : Step → Judge → Judge
+after_step (Comes o v f) j = after_datagram o v f j
+after_step (Reports sent) j = record j { own = reported sent j.own }
+after_step (Tells clock) j = record j { clock = clock }
+after_step (Leaves o) j = after_leaving o j
+after_step (Remembers name) j = record j { strange = with_given (record { name = name; origin = None }) j.strange }
+
+abbrev pub after_steps : List Step → Judge → Judge
+after_steps [] j = j
+after_steps (s ∷ steps) j = after_steps steps (after_step s j)
+
+-- all that is remembered is bounded
+pub record IsBounded (j : Judge) : Type 0 where
+  pub own : length j.own ≤ MOST_OWN
+  pub known : length j.known ≤ MOST_KNOWN
+  pub others : length j.others ≤ MOST_OTHERS
+  pub strange : length j.strange.given ≤ j.strange.most
+
+abbrev pub StateIsBounded : Type 0
+StateIsBounded = (steps : List Step) (j : Judge) → IsBounded j → IsBounded (after_steps steps j)
+
+-- the share stays as it was opened
+abbrev pub SharesStay : Type 0
+SharesStay = (steps : List Step) (j : Judge) → (after_steps steps j).strange.most ≡ j.strange.most
+
+-- No datagram of these origins answers us.
+abbrev pub answers_from : (Origin → Bool) → Step → Judge → Bool
+answers_from some (Comes o v f) j = some o && is_answer v f.at j
+answers_from some s j = false
+
+abbrev pub NeverAnswer : (Origin → Bool) → List Step → Judge → Type 0
+NeverAnswer some [] j = Unit {0}
+NeverAnswer some (s ∷ steps) j = (answers_from some s j ≡ false) × NeverAnswer some steps (after_step s j)
+
+-- The names of the drawops that were taken in from these origins and did not count yet.
+abbrev pub counts : (Origin → Bool) → Origin → DrawopValue → Facts → Judge → Bool
+counts some o d f j = (some o && is_taken o d f j) && not (has_name d.name j.strange.given)
+
+abbrev pub new_name : (Origin → Bool) → Origin → Datagram → Facts → Judge → List NameValue
+new_name some o (Draw d) f j = if counts some o d f j then d.name ∷ [] else []
+new_name some o v f j = []
+
+abbrev pub new_names : (Origin → Bool) → Step → Judge → List NameValue
+new_names some (Comes o v f) j = new_name some o v f j
+new_names some s j = []
+
+abbrev pub names_from : (Origin → Bool) → List Step → Judge → List NameValue
+names_from some [] j = []
+names_from some (s ∷ steps) j = new_names some s j ++ names_from some steps (after_step s j)
+
+-- none of these origins is known
+abbrev pub AreStrange : (Origin → Bool) → Judge → Type 0
+AreStrange some j = (o : Origin) (now : ℕ) → some o ≡ true → knows o now j ≡ false
+
+-- However many origins that are not known give whatever they like, in whatever order, while none of them answers: of all that they give no more
+-- is taken in than the share of strangers.
+abbrev pub StrangersHaveAShare : Type 0
+StrangersHaveAShare = (some : Origin → Bool) (steps : List Step) (j : Judge) → IsBounded j → AreStrange some j → NeverAnswer some steps j
+    → length (names_from some steps j) ≤ j.strange.most

@@ -1,0 +1,17 @@
+pub mod Origins
+pub mod Buckets
+pub mod Lists
+pub mod Answers
+pub mod Known
+pub mod Others
+pub mod Shares
+pub mod Strange
+pub mod Holding
+pub mod Verdicts
+pub mod Reports
+pub mod Days
+pub mod Judge
+pub mod Judging
+pub mod Adding
+pub mod Pages
+pub mod Laws

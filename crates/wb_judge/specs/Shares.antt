@@ -1,0 +1,9 @@
+-- What is held that no known origin gave, and how much of it is taken.
+use Rattle.std.specs.Prelude.{ℕ, List}
+use Rattle.wb_judge.specs.declared.strange.Given.{Given}
+
+-- at most so many drawops, and of one origin at most so many
+pub record Shares : Type 0 where
+  pub most : ℕ
+  pub most_of_origin : ℕ
+  pub given : List Given

@@ -1,0 +1,19 @@
+//! What a member says of itself, and of a datagram that came in.
+
+/// What a member says of itself, and of a datagram that came in. What does not bear on the kind of
+/// the datagram may be anything.
+#[derive(Clone, Copy, Debug)]
+pub struct Facts {
+    /// The moment, which is not before that of the call before.
+    pub at: u64,
+    /// How many drawops the board holds on all pages.
+    pub held: u32,
+    /// Whether it draws nothing yet, since it just began.
+    pub listens: bool,
+    /// Whether it holds the drawop that came, or what a request asks for.
+    pub holds: bool,
+    /// The greatest number of ours that it holds on the page of a report or a drawop, or 0.
+    pub top: u32,
+    /// How many numbers up to the marks of a report it does not hold.
+    pub lacking: u64,
+}

@@ -1,0 +1,108 @@
+//! Any datagram that came in.
+
+ghost use Rattle.std.specs.Prelude.{◌≡◌};
+ghost use Rattle.wb_names.specs.Moments.{IsMoment};
+ghost use Rattle.wb_judge.specs.Judging.{after_judging, after_own, after_question, after_report, after_said, own_verdict, question_verdict, report_verdict, said_verdict, verdict};
+ghost use Rattle.wb_judge.specs.Verdicts.{dropped, warned};
+
+use super::Judge;
+use crate::facts::Facts;
+use crate::origin::Origin;
+use crate::report::Report;
+use crate::verdict::{Verdict, Warning, Why};
+use wb_codec::Datagram;
+
+impl Judge {
+    /// What becomes of a datagram that came from an origin.
+    pub fn judge(&mut self, origin: Origin, datagram: &Datagram, facts: &Facts) -> Verdict
+        requires { IsMoment facts.now.at }
+        ensures verdict { result ≡ verdict origin datagram.now facts.now self.old }
+        ensures after { self.new ≡ after_judging origin datagram.now facts.now self.old }
+    {
+        self.known.renew(origin, facts.at);
+        match datagram {
+            Datagram::Draw(drawop) => self.judge_drawop(origin, drawop, facts),
+            Datagram::Session {
+                sender,
+                sent,
+                marks,
+                echoes,
+                ..
+            } => {
+                let report = Report::of_session(
+                    self.me,
+                    *sender,
+                    marks.as_slice(),
+                    echoes.as_slice(),
+                );
+                self.judge_session(origin, *sent, &report, facts)
+            }
+            Datagram::PageState { sender, marks, .. } => {
+                let report = Report::of_page(self.me, *sender, marks.as_slice());
+                self.judge_page(origin, &report, facts)
+            }
+            Datagram::Request { asker, .. } => {
+                self.judge_asking(origin, *asker, !facts.holds, facts.at)
+            }
+            Datagram::AskPages { asker } => self.judge_asking(origin, *asker, false, facts.at),
+        }
+    }
+
+    /// A session message.
+    fn judge_session(
+        &mut self,
+        origin: Origin,
+        sent: u64,
+        report: &Report,
+        facts: &Facts,
+    ) -> Verdict
+        requires { IsMoment facts.now.at }
+        ensures verdict { result ≡ said_verdict origin report.now.speaker self.old (own_verdict sent report.now facts.now.at self.old) (report_verdict origin report.now facts.now self.old) }
+        ensures after { self.new ≡ after_said origin report.now.speaker self.old (after_own sent report.now facts.now.at self.old) (after_report origin report.now facts.now self.old) }
+    {
+        if self.is_forged(report.speaker, origin) {
+            return impostor(report.speaker);
+        }
+        if report.speaker == self.me {
+            return self.judge_own(sent, report, facts.at);
+        }
+        self.judge_report(origin, report, facts)
+    }
+
+    /// A page state.
+    fn judge_page(&mut self, origin: Origin, report: &Report, facts: &Facts) -> Verdict
+        requires { IsMoment facts.now.at }
+        ensures verdict { result ≡ said_verdict origin report.now.speaker self.old (dropped Why.Own) (report_verdict origin report.now facts.now self.old) }
+        ensures after { self.new ≡ after_said origin report.now.speaker self.old self.old (after_report origin report.now facts.now self.old) }
+    {
+        if self.is_forged(report.speaker, origin) {
+            return impostor(report.speaker);
+        }
+        if report.speaker == self.me {
+            return Verdict::dropped(Why::Own);
+        }
+        self.judge_report(origin, report, facts)
+    }
+
+    /// A request, or a question for pages.
+    fn judge_asking(&mut self, origin: Origin, asker: u32, misses: bool, now: u64) -> Verdict
+        requires { IsMoment now }
+        ensures verdict { result ≡ said_verdict origin asker self.old (dropped Why.Own) (question_verdict origin misses now self.old) }
+        ensures after { self.new ≡ after_said origin asker self.old self.old (after_question origin misses now self.old) }
+    {
+        if self.is_forged(asker, origin) {
+            return impostor(asker);
+        }
+        if asker == self.me {
+            return Verdict::dropped(Why::Own);
+        }
+        self.judge_question(origin, misses, now)
+    }
+}
+
+/// Another owner speaks under a number.
+fn impostor(number: u32) -> Verdict
+    ensures { result ≡ warned Why.Speaks (Warning.Impostor number) }
+{
+    Verdict::warned(Why::Speaks, Warning::Impostor(number))
+}

@@ -1,0 +1,67 @@
+//! What follows of the judgement, proved for whatever comes in. The functions do nothing: each
+//! stands here for its clause.
+
+ghost use Rattle.std.specs.Prelude.{◌≡◌, ◌^◌};
+ghost use Rattle.wb_judge.specs.declared.limits.TheConstants.{AHEAD_KNOWN, AHEAD_STRANGER, FRESH, LEAST_SHARE, MOST_KNOWN, MOST_OTHERS, MOST_OWN, OF_ORIGIN, PATIENCE, RESERVE, SILENCE, STRANGERS, STRANGE_PAGES, STRANGE_ROWS, TIME_LIMIT};
+ghost use Rattle.wb_judge.specs.Laws.{AMemberIsNotDropped, FewAreTaken, NamesCountOnce, NumbersStay, OnlyAnswersMakeKnown, ReplayIsNoTwin, SharesStay, StateIsBounded, StaysStrange, StrangersHaveAShare, StrangersHushNobody, VouchesForNobody};
+
+/// An origin becomes known by an answer that came from there, and by nothing else. A number that
+/// has answered us stays where it speaks, while it speaks, until it answers from elsewhere.
+pub fn only_answers_make_known()
+    ensures known { OnlyAnswersMakeKnown }
+    ensures numbers { NumbersStay }
+{}
+
+/// A member's drawop is not dropped that is not ours, is at most a day ahead of the time of day,
+/// and has a cell.
+pub fn a_member_is_not_dropped()
+    ensures { AMemberIsNotDropped }
+{}
+
+/// A datagram vouches for nobody: what another origin gave stays strange, and what its own gave
+/// too, unless it answers.
+pub fn nobody_is_vouched_for()
+    ensures others { VouchesForNobody }
+    ensures own { StaysStrange }
+{}
+
+/// However many origins that are not known give whatever they like, while none of them answers, no
+/// more is taken in of it than the share of strangers, in which a name counts once.
+pub fn strangers_have_a_share()
+    ensures share { StrangersHaveAShare }
+    ensures once { NamesCountOnce }
+    ensures stays { SharesStay }
+{}
+
+/// A stranger hushes no repair of ours. Of its questions so many are taken at once and then one in
+/// each pause, and so are numbers that are new.
+pub fn strangers_hush_nobody()
+    ensures repairs { StrangersHushNobody }
+    ensures few { FewAreTaken }
+{}
+
+/// What answers nobody, as a replay, shows no twin.
+pub fn a_replay_is_no_twin()
+    ensures { ReplayIsNoTwin }
+{}
+
+/// How many moments of ours, origins and numbers are remembered, and the limit of times.
+pub fn limits()
+    ensures remembered { (MOST_OWN ≡ 256) × (MOST_KNOWN ≡ 1024) × (MOST_OTHERS ≡ 1024) }
+    ensures time { TIME_LIMIT ≡ 2 ^ 62 }
+{}
+
+/// The other numbers of the judgement: in microseconds how long an echo is fresh, and an origin or a
+/// number may be silent; the parts of a board, pages and sources for strangers; and how far ahead a
+/// time may be.
+pub fn numbers()
+    ensures silent { (FRESH ≡ 256000000) × (SILENCE ≡ 600000000) × (PATIENCE ≡ 192000000) }
+    ensures shares { (STRANGERS ≡ 16) × (OF_ORIGIN ≡ 128) × (LEAST_SHARE ≡ 16) × (RESERVE ≡ 32) }
+    ensures wide { (STRANGE_PAGES ≡ 16) × (STRANGE_ROWS ≡ 256) }
+    ensures ahead { (AHEAD_KNOWN ≡ 86400000000) × (AHEAD_STRANGER ≡ 60000000) }
+{}
+
+/// All that a judge remembers is bounded.
+pub fn state_is_bounded()
+    ensures { StateIsBounded }
+{}

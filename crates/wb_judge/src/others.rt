@@ -1,0 +1,143 @@
+//! The numbers that were heard.
+
+ghost use Rattle.std.specs.Prelude.{◌≡◌, ◌≤◌, ◌<◌, [], IfOk, IfSome, is_none, length, position};
+ghost use Rattle.wb_judge.specs.Others.{first_to_go, gone_from, is_bound_elsewhere, other_of, other_with, spoken, without};
+
+use crate::limits::{MOST_OTHERS, PATIENCE};
+use crate::origin::Origin;
+use std::alloc::{AllocError, Global};
+use std::marker::Model;
+
+/// A number that was heard: from where, when last, when it last answered us, and when a stream of
+/// it began.
+#[derive(Clone, Copy, Debug)]
+pub struct Other {
+    pub number: u32,
+    pub origin: Origin,
+    pub at: u64,
+    pub answered: Option<u64>,
+    pub fetched: Option<u64>,
+}
+
+/// At most 1,024 numbers, the one at the end that was heard last.
+#[derive(Drop)]
+pub struct Others {
+    items: Vec<Other>,
+}
+
+impl Model for Others {
+    ghost use Rattle.std.specs.Prelude.{List, length, ◌≤◌, vec_capacity};
+    ghost use Rattle.wb_judge.specs.declared.others.Other.{Other};
+
+    ghost Value = { List Other };
+
+    ghost view = { λ o. o.items.items };
+
+    ghost invariant = { λ o. (length o.items.items ≤ 1024) × (1024 ≤ vec_capacity o.items) };
+}
+
+impl Others {
+    /// Nobody was heard yet.
+    pub(crate) fn new(alloc: Global) -> Result<Others, AllocError>
+        ensures { IfOk result (λ o. o ≡ []) }
+    {
+        let items = Vec::with_capacity(alloc, MOST_OTHERS)?;
+        Ok(Others { items })
+    }
+
+    /// A number, if it is remembered.
+    pub fn get(&self, number: u32) -> Option<Other>
+        ensures { result ≡ other_of number self.now }
+    {
+        other_of(&self.items, number)
+    }
+
+    /// Whether it is that of a member that has answered us and speaks from another origin.
+    #[tactic(auto, unfolding(crate::specs::Others::is_bound_elsewhere))]
+    pub(crate) fn is_bound_elsewhere(&self, number: u32, origin: Origin, now: u64) -> bool
+        ensures { result ≡ is_bound_elsewhere number origin now self.now }
+    {
+        match self.get(number) {
+            None => false,
+            Some(other) => {
+                !other.origin.is(&origin)
+                    && other.answered.is_some()
+                    && now.saturating_sub(other.at) <= PATIENCE
+            }
+        }
+    }
+
+    /// What is remembered of a number that speaks from there.
+    #[tactic(auto, unfolding(crate::specs::Others::spoken))]
+    pub(crate) fn spoken(&self, number: u32, origin: Origin, now: u64) -> Other
+        ensures { result ≡ spoken number origin now self.now }
+    {
+        let new = Other {
+            number,
+            origin,
+            at: now,
+            answered: None,
+            fetched: None,
+        };
+        match self.get(number) {
+            None => new,
+            Some(before) => {
+                if before.origin.is(&origin) {
+                    Other { at: now, ..before }
+                } else {
+                    new
+                }
+            }
+        }
+    }
+
+    /// Remembers what a number has become that was heard.
+    #[tactic(auto, unfolding(crate::specs::Others::other_with))]
+    pub(crate) fn put(&mut self, other: Other)
+        ensures { self.new ≡ other_with other self.old }
+    {
+        self.forget(other.number);
+        if self.items.len() >= MOST_OTHERS {
+            let first = self.first_to_go();
+            let _gone = self.items.remove(first);
+        }
+        self.items.push_reserved(other);
+    }
+
+    /// The first that has not answered us, else the first.
+    fn first_to_go(&self) -> usize
+        requires { 0 < length self.now }
+        ensures place { result ≡ first_to_go self.now }
+        ensures within { result < length self.now }
+    {
+        unanswered(&self.items).unwrap_or(0)
+    }
+
+    fn forget(&mut self, number: u32)
+        ensures { self.new ≡ without number self.old }
+    {
+        self.items.retain(|other| other.number != number);
+    }
+
+    /// Who spoke from there is gone.
+    pub(crate) fn remove(&mut self, origin: Origin)
+        ensures { self.new ≡ gone_from origin self.old }
+    {
+        self.items.retain(|other| !other.origin.is(&origin));
+    }
+}
+
+/// A number, if it is among some.
+fn other_of(others: &[Other], number: u32) -> Option<Other>
+    ensures { result ≡ other_of number others.now }
+{
+    others.iter().find(|other| other.number == number).copied()
+}
+
+/// The place of the first that has not answered us, if there is one.
+fn unanswered(others: &[Other]) -> Option<usize>
+    ensures place { result ≡ position (λ x. is_none x.answered) others.now }
+    ensures within { IfSome result (λ place. place < length others.now) }
+{
+    others.iter().position(|other| other.answered.is_none())
+}

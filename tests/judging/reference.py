@@ -1,0 +1,328 @@
+"""The judgement of a member, as the table of cases has it: which datagrams are handed to its host, and why the others are not.
+
+It is written to be read, and kept apart from those that have to be fast: `live/judge.py` and `web/page/judge.js` pass the table that
+make_cases.py makes by it. It has no host, no clock and no socket: whoever asks tells the moment, and what the host holds. Moments and times
+are microseconds. A datagram is said in the words of `wb words`."""
+
+from __future__ import annotations
+
+from dataclasses import dataclass, field
+from typing import Dict, List, NamedTuple, Optional, Sequence, Tuple
+
+SECOND = 1_000_000
+MINUTE, DAY = 60 * SECOND, 86_400 * SECOND
+
+# Moments of our own reports that are remembered. An echo of one that is older than FRESH answers nobody.
+OWN, FRESH = 256, 256 * SECOND
+
+# An origin that answered us is known until it was silent for so long, and a number stays with its origin for so long.
+SILENCE, PATIENCE = 600 * SECOND, 192 * SECOND
+
+# origins that are known, and numbers that were heard
+MOST_KNOWN, MOST_OTHERS = 1_024, 1_024
+
+# One cell in so many is for all that no known origin gave, and one in so many for what one such origin gave, but so many at least.
+STRANGERS, OF_ORIGIN, LEAST_SHARE = 16, 128, 16
+
+# Pages on which drawops stand that no known origin gave, and sources that they have, summed over the pages: a host tells its pages in turn, and the
+# sources of a page in parts, so each keeps what members draw from being told for a while.
+STRANGE_PAGES, STRANGE_ROWS = 16, 256
+
+# one cell in so many is kept for deletes and restores of members
+RESERVE = 32
+
+# So many at once, and then one in each pause: numbers that are heard first, those that answer us, and requests and questions of origins that
+# are not known.
+MOST_NEW, MOST_ANSWERING, NEW_PAUSE = 256, 256, SECOND
+MOST_ASKED, ASKED_PAUSE = 64, SECOND // 16
+
+# Who lacks so many numbers takes a stream, unless one began so lately, or one of that member.
+LACKING, FETCH_PAUSE, FETCH_AGAIN = 500, 10 * SECOND, 60 * SECOND
+
+# A number of ours that is so far above what we hold is forged, and so is any from here on.
+FORGED_ABOVE, FORGED_NUMBER = 65_536, 2**31
+
+# how far ahead of our time of day the time of a drawop may be
+AHEAD_KNOWN, AHEAD_STRANGER = DAY, MINUTE
+
+
+class Origin(NamedTuple):
+    """Where a datagram came from. It has an owner if the network lets nobody else send from there."""
+
+    text: str
+    owner: Optional[str] = None
+
+
+class Name(NamedTuple):
+    """Of a drawop: its source, its page `C/N`, and its number there."""
+
+    source: int
+    page: str
+    number: int
+
+
+@dataclass(frozen=True)
+class Datagram:
+    """What of a datagram is judged. A report is a session message or a page state."""
+
+    kind: str
+    speaker: int
+    name: Optional[Name] = None  # of a drawop, or of what a request asks for
+    time: int = 0
+    is_drawing: bool = False
+    sent: int = 0
+    marks: Dict[int, int] = field(default_factory=dict)
+    echoes: Dict[int, Tuple[int, int]] = field(default_factory=dict)
+
+
+@dataclass(frozen=True)
+class Facts:
+    """What the host says of itself, and of a datagram."""
+
+    now: int
+    held: int = 0  # drawops on all pages
+    listens: bool = False
+    holds: bool = False  # the drawop, or what the request asks for
+    top: int = 0  # the greatest number of ours that is held on the page of a report or a drawop
+    lacking: int = 0  # numbers up to the marks of a report that are not held
+
+
+@dataclass(frozen=True)
+class Verdict:
+    """Whether a datagram is handed in, or else why not; what people are warned of; and from where a stream is taken."""
+
+    why: Optional[str] = None
+    warn: Optional[str] = None
+    fetch: Optional[Origin] = None
+
+
+@dataclass
+class Other:
+    """A number that was heard: from where, when last, when it last answered us, and when a stream of it began."""
+
+    origin: Origin
+    at: int
+    answered: Optional[int] = None
+    fetched: Optional[int] = None
+
+
+class Bucket:
+    """So many at once, and then one in each pause."""
+
+    def __init__(self, most: int, pause: int) -> None:
+        self.most, self.pause = most, pause
+        self.paid = 0  # up to this moment
+
+    def takes(self, now: int) -> bool:
+        if max(self.paid, now) - now > (self.most - 1) * self.pause:
+            return False
+        self.paid = max(self.paid, now) + self.pause
+        return True
+
+
+class Judge:
+    """`here` is the owner of our own origin, if the network keeps it, and `strangers` how many drawops no known origin may give."""
+
+    def __init__(self, me: int, cells: int, now: int, wall: int, here: Optional[str] = None, strangers: Optional[int] = None) -> None:
+        self.me, self.cells, self.here = me, cells, here
+        self.most_strange = max(LEAST_SHARE, cells // STRANGERS) if strangers is None else strangers
+        self.most_of_origin = min(self.most_strange, max(LEAST_SHARE, cells // OF_ORIGIN))
+        self.tell_time(now, wall)
+        self.known: Dict[Origin, int] = {}  # when something last came from there
+        self.others: Dict[int, Other] = {}  # the one that was heard last at the end
+        self.own: List[int] = []
+        self.alien: Optional[Tuple[int, int]] = None  # of the last report under our number that is not ours: its moment, and when it came
+        self.strange: Dict[Name, Origin] = {}  # what is held that no known origin gave
+        self.new = Bucket(MOST_NEW, NEW_PAUSE)
+        self.answering = Bucket(MOST_ANSWERING, NEW_PAUSE)
+        self.asked = Bucket(MOST_ASKED, ASKED_PAUSE)
+        self.fetch_at = 0
+        self.has_twin = False
+
+    # ---- what is told
+
+    def tell_time(self, now: int, wall: int) -> None:
+        """The time of day at a moment."""
+        self.wall, self.wall_at = wall, now
+
+    def reported(self, sent: int) -> None:
+        """A report of ours has this moment."""
+        self.own = [*self.own, sent][-OWN:]
+
+    def took(self, origin: Origin, name: Name, now: int) -> None:
+        """The host has taken in a drawop that is new."""
+        if not self.is_known(origin, now):
+            self.strange[name] = origin
+
+    def remember(self, name: Name) -> None:
+        """By the record, no known origin gave a drawop that is held."""
+        self.strange[name] = Origin("record")
+
+    def leave(self, origin: Origin) -> None:
+        """The network says that who spoke from there is gone."""
+        self.known.pop(origin, None)
+        self.others = {number: other for number, other in self.others.items() if other.origin != origin}
+
+    # ---- questions
+
+    def time_of_day(self, now: int) -> int:
+        return self.wall + now - self.wall_at
+
+    def is_known(self, origin: Origin, now: int) -> bool:
+        return origin in self.known and now - self.known[origin] <= SILENCE
+
+    def answers(self, datagram: Datagram, now: int) -> bool:
+        """Whether a report echoes a moment at which we reported lately, which nobody knows that did not hear that report."""
+        sent, held = datagram.echoes.get(self.me, (-1, 0))
+        return sent in self.own and now - sent <= FRESH and held <= now - sent
+
+    def is_bound_elsewhere(self, number: int, origin: Origin, now: int) -> bool:
+        """Whether a number is that of a member that has answered us and speaks from another origin."""
+        other = self.others.get(number)
+        return other is not None and other.origin != origin and other.answered is not None and now - other.at <= PATIENCE
+
+    def is_forged(self, number: int, origin: Origin) -> bool:
+        """Whether a number is another owner's: it is theirs who spoke under it first, and ours is ours."""
+        if origin.owner is None:
+            return False
+        owner = self.here if number == self.me else self.others[number].origin.owner if number in self.others else None
+        return owner is not None and owner != origin.owner
+
+    def is_full(self, held: int) -> bool:
+        """No drawing has room, and deletes and restores of members alone have."""
+        return held >= self.cells - self.cells // RESERVE
+
+    def is_over(self, origin: Origin) -> bool:
+        """No more that is new is taken from an origin that is not known."""
+        given = list(self.strange.values())
+        return len(given) >= self.most_strange or given.count(origin) >= self.most_of_origin
+
+    def is_wide(self, name: Name) -> bool:
+        """It would be on a page more, or of a source more on a page, than all that no known origin gave may be."""
+        pages, rows = {each.page for each in self.strange}, {(each.source, each.page) for each in self.strange}
+        opens_page, opens_row = name.page not in pages, (name.source, name.page) not in rows
+        return opens_page and len(pages) >= STRANGE_PAGES or opens_row and len(rows) >= STRANGE_ROWS
+
+    # ---- what comes in
+
+    def judge(self, origin: Origin, datagram: Datagram, facts: Facts) -> Verdict:
+        if self.is_known(origin, facts.now):
+            self.known[origin] = facts.now
+        if datagram.kind == "draw":
+            return self.judge_drawop(origin, datagram, facts)
+        if self.is_forged(datagram.speaker, origin):
+            return Verdict("speaks", "speaks %d" % datagram.speaker)
+        if datagram.speaker == self.me:
+            return self.judge_own(datagram, facts.now)
+        if datagram.kind in ("session-message", "page-state"):
+            return self.judge_report(origin, datagram, facts)
+        return self.judge_question(origin, datagram, facts)
+
+    def judge_own(self, datagram: Datagram, now: int) -> Verdict:
+        """Under our own number. If it is no report of ours and answers us, somebody is here who has our number too."""
+        if datagram.kind == "session-message" and datagram.sent not in self.own:
+            self.alien = datagram.sent, now
+            if self.answers(datagram, now) and not self.has_twin:
+                self.has_twin = True
+                return Verdict("own", "twin")
+        return Verdict("own")
+
+    def judge_report(self, origin: Origin, datagram: Datagram, facts: Facts) -> Verdict:
+        is_answer, other = self.answers(datagram, facts.now), self.others.get(datagram.speaker)
+        if not is_answer and self.is_bound_elsewhere(datagram.speaker, origin, facts.now):
+            return Verdict("speaks")
+        has_room = other is not None and (is_answer or other.origin == origin)
+        if not has_room and not (self.answering if is_answer else self.new).takes(facts.now):
+            return Verdict("crowd")
+        own = datagram.marks.get(self.me, 0)
+        if facts.listens and own > facts.top + FORGED_ABOVE:
+            return Verdict("mark", "mark")
+        self.hear(datagram.speaker, origin, facts.now, is_answer)
+        return Verdict(None, "mark" if not facts.listens and own > facts.top else None, self.fetch(datagram.speaker, facts))
+
+    def hear(self, number: int, origin: Origin, now: int, is_answer: bool) -> None:
+        """A number speaks from there. Of too many, one that has not answered us goes first."""
+        before = self.others.pop(number, None)
+        other = before if before is not None and before.origin == origin else Other(origin, now)
+        other.at = now
+        if is_answer:
+            other.answered = now
+            self.know(origin, now)
+        self.others[number] = other
+        if len(self.others) > MOST_OTHERS:
+            unanswered = [each for each, one in self.others.items() if one.answered is None and each != number]
+            del self.others[[*unanswered, *self.others][0]]
+
+    def know(self, origin: Origin, now: int) -> None:
+        """A member speaks from there: what came from there before is a member's too."""
+        self.known[origin] = now
+        if len(self.known) > MOST_KNOWN:
+            del self.known[min(self.known, key=lambda each: self.known[each])]
+        self.strange = {name: each for name, each in self.strange.items() if each != origin}
+
+    def fetch(self, number: int, facts: Facts) -> Optional[Origin]:
+        """Who lacks much takes a stream, of a member that has answered us, from where it speaks."""
+        other, now = self.others[number], facts.now
+        if other.answered is None or facts.lacking < LACKING or now < self.fetch_at:
+            return None
+        if other.fetched is not None and now - other.fetched < FETCH_AGAIN:
+            return None
+        other.fetched, self.fetch_at = now, now + FETCH_PAUSE
+        return other.origin
+
+    def judge_question(self, origin: Origin, datagram: Datagram, facts: Facts) -> Verdict:
+        """A stranger's request for what is not held puts off no request of ours, and its others are answered few at a time."""
+        if self.is_known(origin, facts.now):
+            return Verdict()
+        if datagram.kind == "request" and not facts.holds:
+            return Verdict("stranger")
+        return Verdict(None if self.asked.takes(facts.now) else "flood")
+
+    def judge_drawop(self, origin: Origin, datagram: Datagram, facts: Facts) -> Verdict:
+        is_known = self.is_known(origin, facts.now)
+        if facts.holds:  # a repair that a member gave keeps us from giving it, and one of a stranger does not
+            return Verdict(None if is_known else "again")
+        if self.is_forged_drawop(is_known, datagram, facts):
+            return Verdict("own")
+        if not is_known and self.is_bound_elsewhere(datagram.speaker, origin, facts.now):
+            return Verdict("speaks")
+        if datagram.time > self.time_of_day(facts.now) + (AHEAD_KNOWN if is_known else AHEAD_STRANGER):
+            return Verdict("ahead")
+        if self.is_full(facts.held) and (datagram.is_drawing or not is_known):
+            return Verdict("full", "full")
+        if not is_known and self.is_over(origin):
+            return Verdict("share", "share" if self.most_strange else None)
+        if not is_known and datagram.name is not None and self.is_wide(datagram.name):
+            return Verdict("pages")
+        return Verdict()
+
+    def is_forged_drawop(self, is_known: bool, datagram: Datagram, facts: Facts) -> bool:
+        """Whether a drawop is not ours that has our number. One that we drew and a crash lost is: our numbers go on above it."""
+        if datagram.speaker != self.me or datagram.name is None:
+            return False
+        number = datagram.name.number
+        return number >= FORGED_NUMBER or number > facts.top + FORGED_ABOVE or not (facts.listens or is_known)
+
+    # ---- what is sent
+
+    def own_echo(self, now: int) -> Optional[Tuple[int, int]]:
+        """What a report of ours echoes besides, under our own number: the moment of the last report that was not ours, and how long ago it
+        came. Who has our number too hears by it that we have heard it."""
+        if self.alien is None or now - self.alien[1] > FRESH:
+            return None
+        return self.alien[0], now - self.alien[1]
+
+    def fault_of_adding(self, is_drawing: bool, held: int) -> Optional[str]:
+        """Why nothing can be drawn."""
+        if self.has_twin:
+            return "twin"
+        return "full" if is_drawing and self.is_full(held) else None
+
+    def order_of(self, held: Sequence[Name]) -> List[str]:
+        """The pages of what is held, which is told in the order in which it came: first those of ours, then those with drawops of members, then
+        those of strangers alone. Of each kind the one comes first on which was drawn last."""
+        ranks: Dict[str, Tuple[int, int]] = {}
+        for at, name in enumerate(held):
+            rank = 0 if name.source == self.me else 2 if name in self.strange else 1
+            ranks[name.page] = min(rank, ranks.get(name.page, (2, 0))[0]), -at
+        return sorted(ranks, key=lambda page: ranks[page])
