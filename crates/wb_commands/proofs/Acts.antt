@@ -1,5 +1,5 @@
 -- What a host does and then is, from what its member answered.
-use Rattle.std.proofs.Common.{◌≡◌, ℕ, ◌<◌, ◌^◌, Bool, true, false, cond, List, [], ◌∷◌, ◌++◌, Result, Ok, Err, refl, sym, subst, ◌∙◌, arith, OnOk, IfErr, nat_le, nat_lt, append-nil}
+use Rattle.std.proofs.Common.{◌≡◌, ℕ, ◌<◌, ◌^◌, Bool, true, false, cond, List, [], ◌∷◌, ◌++◌, Option, Some, None, Result, Ok, Err, refl, sym, subst, ◌∙◌, arith, nat_le, nat_lt, append-nil}
 use Rattle.std.proofs.lemmas.Bool.Decides.{nat_tests}
 use Rattle.wb_names.specs.Faults.{first_of, fault_unless}
 use Rattle.wb_codec.specs.declared.datagram.Datagram.{Datagram}
@@ -12,9 +12,11 @@ use Rattle.wb_commands.specs.declared.fault.LineFault.TheVariants as faults
 use Rattle.wb_commands.specs.declared.fault.Untaken.{Untaken}
 use Rattle.wb_commands.specs.declared.fault.Untaken.TheVariants as untaken
 use Rattle.wb_commands.specs.declared.command.Command.TheVariants as lines
-use Rattle.wb_commands.specs.declared.query.Query.{Query}
-use Rattle.wb_commands.specs.Doing.{DoesAct, Tells, fault_of, printed}
-use Rattle.wb_commands.specs.Acts.{Act, does, fails, asked, act}
+use Rattle.wb_member.specs.Questions.{Told, answer_to}
+use Rattle.wb_member.specs.declared.questions.Query.{Query}
+use Rattle.wb_commands.specs.Answers.{answer_text}
+use Rattle.wb_commands.specs.Doing.{DoesAct, PrintsAnswer, fault_of, printed}
+use Rattle.wb_commands.specs.Acts.{Act, does, fails, tells, asked, act}
 use Rattle.wb_commands.specs.SentLines.{sends_text}
 
 -- want of memory before anything was printed
@@ -23,15 +25,19 @@ act_at_once host new a = (printed a, refl)
 
 -- ---- a question
 
-pub asked_done : (r : Result (Unit {0}) Untaken) (v w : MemberValue) (query : Query) (old new : List ℕ) → w ≡ v → OnOk r (Tells v query old new) → IfErr r (λ e. (e ≡ untaken.Memory) × (new ≡ old))
+pub asked_done : (r : Result (Unit {0}) Untaken) (v w : MemberValue) (query : Query) (said : Told) (old new : List ℕ) → w ≡ v → ((host : Opened) → IsOpenAt v host → said ≡ answer_to query host) → PrintsAnswer old new r (answer_text said)
     → (x : List ℕ) × (new ≡ old ++ x) × ((host : Opened) → IsOpenAt v host → DoesAct host w x r (asked query host))
-asked_done (Ok u) v w query old new same ok err = (ok.0, ok.1, λ host at. (subst (λ (m : MemberValue). IsOpenAt m host) (sym same) at, ok.2 host at))
-asked_done (Err f) v w query old new same ok err = (
-  [],
-  err.1 ∙ sym (append-nil old),
-  λ host at.
-      subst (λ (e : Untaken). DoesAct {U = Unit {0}} host w [] (Err e) (asked query host)) (sym err.0) (act_at_once host w (asked query host)),
-)
+asked_done r v w query said old new same is prints = let did = by r (answer_text said) prints in (
+  did.0,
+  did.1,
+  λ host at. subst (λ (t : Told). DoesAct host w did.0 r (tells host (answer_text t))) (is host at) (did.2 host (subst (λ (m : MemberValue). IsOpenAt m host) (sym same) at)),
+) where
+  by : (r : Result (Unit {0}) Untaken) (text : Option (List ℕ)) → PrintsAnswer old new r text → (x : List ℕ) × (new ≡ old ++ x) × ((host : Opened) → IsOpenAt w host → DoesAct host w x r (tells host text))
+  by (Ok u) (Some text) p = (text, p, λ host at. (at, refl))
+  by (Ok u) None p = absurd p
+  by (Err (untaken.Line e)) (Some text) p = absurd p
+  by (Err (untaken.Line e)) None p = ([], p.1 ∙ sym (append-nil old), λ host at. (p.0, at, refl))
+  by (Err untaken.Memory) text p = ([], p ∙ sym (append-nil old), λ host at. act_at_once host w (tells host text))
 
 -- ---- a call that a member may refuse
 

@@ -1,15 +1,15 @@
 -- What a script prints for its batches and its questions.
-use Rattle.std.specs.Prelude.{◌≡◌, ℕ, true, List, ◌++◌, length, codes, flat_map}
+use Rattle.std.specs.Prelude.{ℕ, List, ◌++◌, length, Option, Some, codes, flat_map}
 use Rattle.std.specs.Fmt.{decimal}
+use Rattle.std.specs.Option.{option_map}
 use Rattle.wb_names.specs.Values.{DrawopValue, MarkValue}
 use Rattle.wb_names.specs.declared.name.PageId.{PageId}
 use Rattle.wb_names.specs.declared.gap.Gap.{Gap}
-use Rattle.wb_display.specs.Canvas.{canvas_text, is_canvas_size}
 use Rattle.wb_names.specs.Arrivals.{Counts}
-use Rattle.wb_commands.specs.declared.query.Query.{Query}
-use Rattle.wb_commands.specs.declared.query.Query.TheVariants.{Canvas, Gaps, Report, Pages}
-use Rattle.wb_gaps.specs.Answers.{gaps_of, report_of, pages_of}
-use Rattle.wb_member.specs.Queries.{view_of}
+use Rattle.wb_codec.specs.declared.datagram.Datagram.TheVariants as datagrams
+use Rattle.wb_words.specs.Spelling.{spelled}
+use Rattle.wb_member.specs.Questions.{Told}
+use Rattle.wb_member.specs.Questions as told
 
 -- the line that ends a batch
 abbrev pub batch_line : Counts → List ℕ
@@ -43,14 +43,25 @@ report_text marks = list_text (codes "report ") mark_line marks
 abbrev pub pages_text : List PageId → List ℕ
 pages_text pages = list_text (codes "pages ") page_line pages
 
--- what is printed for a question, where these marks of each page were heard, at a history
-abbrev pub answer_text : (PageId → List MarkValue) → List DrawopValue → Query → List ℕ
-answer_text marks history (Canvas page width height) = canvas_text (view_of history page) width height
-answer_text marks history (Gaps page) = gaps_text (gaps_of history page (marks page))
-answer_text marks history (Report page) = report_text (report_of history page)
-answer_text marks history Pages = pages_text (pages_of history)
+abbrev pub known_text : List PageId → List ℕ
+known_text pages = list_text (codes "known ") page_line pages
 
--- a canvas that is asked for is not too large
-abbrev pub IsAnswerable : Query → Type 0
-IsAnswerable (Canvas page width height) = is_canvas_size width height ≡ true
-IsAnswerable query = Unit {0}
+-- a drawop in words on a line
+abbrev pub words_line : DrawopValue → List ℕ
+words_line d = spelled (datagrams.Draw d) ++ codes "\n"
+
+abbrev pub view_text : List DrawopValue → List ℕ
+view_text drawops = list_text (codes "view ") words_line drawops
+
+abbrev pub next_line : ℕ → List ℕ
+next_line n = codes "next " ++ (decimal n ++ codes "\n")
+
+-- What is printed for an answer. That no number is left has no text.
+abbrev pub answer_text : Told → Option (List ℕ)
+answer_text (told.canvas text) = Some text
+answer_text (told.gaps ranges) = Some (gaps_text ranges)
+answer_text (told.report marks) = Some (report_text marks)
+answer_text (told.pages all) = Some (pages_text all)
+answer_text (told.view drawops) = Some (view_text drawops)
+answer_text (told.known all) = Some (known_text all)
+answer_text (told.next number) = option_map next_line number

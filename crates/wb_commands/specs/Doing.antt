@@ -1,7 +1,6 @@
 -- What the code does for a line at an open member, by what the line is to do.
-use Rattle.std.specs.Prelude.{◌≡◌, List, ℕ, [], ◌++◌, Result, Ok, Err}
+use Rattle.std.specs.Prelude.{◌≡◌, List, ℕ, [], ◌++◌, Option, Some, None, Result, Ok, Err}
 use Rattle.wb_lines.specs.Input.{BeginsWith}
-use Rattle.wb_host.specs.Hearing.{marks_heard}
 use Rattle.wb_host.specs.declared.keep_fault.KeepFault.{KeepFault}
 use Rattle.wb_host.specs.declared.keep_fault.KeepFault.TheVariants as keeping
 use Rattle.wb_member.specs.Holding.{MemberValue, IsOpenAt}
@@ -9,8 +8,6 @@ use Rattle.wb_member.specs.Opened.{Opened}
 use Rattle.wb_commands.specs.declared.fault.LineFault.TheVariants as faults
 use Rattle.wb_commands.specs.declared.fault.Untaken.{Untaken}
 use Rattle.wb_commands.specs.declared.fault.Untaken.TheVariants as untaken
-use Rattle.wb_commands.specs.declared.query.Query.{Query}
-use Rattle.wb_commands.specs.Answers.{answer_text}
 use Rattle.wb_commands.specs.Acts.{Act, does, fails}
 
 -- what is printed for a line
@@ -31,11 +28,13 @@ abbrev pub DoesAt : {U : Type 0} → MemberValue → MemberValue → List ℕ �
 DoesAt old new before after result act =
     (written : List ℕ) × (after ≡ before ++ written) × ((host : Opened) → IsOpenAt old host → DoesAct host new written result (act host))
 
--- What a member prints for a question behind a text that waits, at each host at which it may be.
-abbrev pub Tells : MemberValue → Query → List ℕ → List ℕ → Type 0
-Tells v query before after =
-    (text : List ℕ) × (after ≡ before ++ text)
-    × ((host : Opened) → IsOpenAt v host → text ≡ answer_text (marks_heard host.is.number host.is.calls) host.is.held query)
+-- The text of an answer is printed behind what waits; where it has none, that is refused; or memory ran out, and nothing is printed.
+abbrev pub PrintsAnswer : {U : Type 0} → List ℕ → List ℕ → Result U Untaken → Option (List ℕ) → Type 0
+PrintsAnswer before after (Ok u) (Some text) = after ≡ before ++ text
+PrintsAnswer before after (Ok u) None = ⊥
+PrintsAnswer before after (Err (untaken.Line e)) (Some text) = ⊥
+PrintsAnswer before after (Err (untaken.Line e)) None = (e ≡ faults.TooMany) × (after ≡ before)
+PrintsAnswer before after (Err untaken.Memory) text = after ≡ before
 
 -- why a line is not taken, where a member refuses it with a fault
 abbrev pub fault_of : KeepFault → Untaken

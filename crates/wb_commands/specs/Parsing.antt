@@ -14,7 +14,6 @@ use Rattle.wb_commands.specs.declared.fault.LineFault.{LineFault}
 use Rattle.wb_commands.specs.declared.fault.LineFault.TheVariants as faults
 use Rattle.wb_commands.specs.declared.fault.Untaken.{Untaken}
 use Rattle.wb_commands.specs.declared.fault.Untaken.TheVariants as untaken
-use Rattle.wb_display.specs.Canvas.{is_canvas_size}
 use Rattle.wb_display.specs.declared.canvas.TheConstants.Canvas.{MAX_WIDTH, MAX_HEIGHT}
 use Rattle.wb_recovery.specs.Delays.{IsDelay}
 use Rattle.wb_recovery.specs.Timing.{are_constants}
@@ -24,7 +23,10 @@ use Rattle.wb_host.specs.Counts.{IsCellCount, MAX_CELLS}
 use Rattle.wb_host.specs.declared.board.TheConstants.{MAX_WORKERS}
 use Rattle.wb_commands.specs.Faults.{line_code}
 use Rattle.wb_commands.specs.declared.command.Command.{Command}
-use Rattle.wb_commands.specs.declared.command.Command.TheVariants.{Skip, Board, Arrive, Hear, Distance, Tune, Tick, Look, Session, Show, Gaps, Report, Pages}
+use Rattle.wb_commands.specs.declared.command.Command.TheVariants.{Skip, Board, Arrive, Hear, Distance, Tune, Tick, Look, Session, Question}
+use Rattle.wb_member.specs.Questions.{IsAnswerable}
+use Rattle.wb_member.specs.declared.questions.Query.{Query}
+use Rattle.wb_member.specs.declared.questions.Query.TheVariants.{Canvas, Gaps, Report, Pages}
 use Rattle.wb_lines.specs.Words.{words, number_of, unhex}
 
 infixl 10 ◌>>=◌
@@ -68,14 +70,14 @@ board arguments = do
   Ok (Board member cells workers seed)
 
 -- the page, the width and the height of a canvas
-unfoldable pub show : List (List ℕ) → Result Command LineFault
+unfoldable pub show : List (List ℕ) → Result Query LineFault
 show arguments = do
   words' ← or_fault faults.Words (four_of arguments)
   creator ← number 0 (2 ^ 32 - 1) words'.0
   number' ← number 0 (2 ^ 32 - 1) words'.1
   width ← number 1 MAX_WIDTH words'.2
   height ← number 1 MAX_HEIGHT words'.3
-  Ok (Show (record { creator = creator; number = number' }) width height)
+  Ok (Canvas (record { creator = creator; number = number' }) width height)
 
 -- a source, and a delay in microseconds
 unfoldable pub distance : List (List ℕ) → Result Command LineFault
@@ -110,8 +112,17 @@ page arguments = do
   number' ← number 0 (2 ^ 32 - 1) words'.1
   Ok (record { creator = creator; number = number' })
 
-abbrev pub pages : List (List ℕ) → Result Command LineFault
+abbrev pub pages : List (List ℕ) → Result Query LineFault
 pages arguments = or_fault faults.Words (none_of arguments) >>= λ nothing. Ok Pages
+
+-- the question with this first word
+unfoldable pub question : List ℕ → List (List ℕ) → Result Query LineFault
+question word arguments =
+    if bytes_eq word (codes "show") then show arguments
+    else (if bytes_eq word (codes "gaps") then page arguments >>= (λ p. Ok (Gaps p))
+    else (if bytes_eq word (codes "report") then page arguments >>= (λ p. Ok (Report p))
+    else (if bytes_eq word (codes "pages") then pages arguments
+    else Err faults.Unknown)))
 
 -- the datagram that bytes spell
 abbrev pub spelled : Result Datagram ReadFault → Result Datagram LineFault
@@ -148,14 +159,12 @@ hear arguments = datagram arguments >>= heard
 abbrev pub bytes_line : List (List ℕ) → Result Command LineFault
 bytes_line arguments = datagram arguments >>= λ v. Ok (handed_in v)
 
--- the line of a page with this first word
+-- the line of a page with this first word, or a question
 unfoldable pub page_line : List ℕ → List (List ℕ) → Result Command LineFault
 page_line word arguments =
     if bytes_eq word (codes "look") then page arguments >>= (λ p. Ok (Look p))
     else (if bytes_eq word (codes "session") then page arguments >>= (λ p. Ok (Session p))
-    else (if bytes_eq word (codes "gaps") then page arguments >>= (λ p. Ok (Gaps p))
-    else (if bytes_eq word (codes "report") then page arguments >>= (λ p. Ok (Report p))
-    else Err faults.Unknown)))
+    else question word arguments >>= (λ query. Ok (Question query)))
 
 -- the line with this first word and these further ones
 unfoldable pub command : List ℕ → List (List ℕ) → Result Command LineFault
@@ -164,12 +173,10 @@ command word arguments =
     else (if bytes_eq word (codes "arrive") then arrive arguments
     else (if bytes_eq word (codes "hear") then hear arguments
     else (if bytes_eq word (codes "datagram") then bytes_line arguments
-    else (if bytes_eq word (codes "show") then show arguments
     else (if bytes_eq word (codes "distance") then distance arguments
     else (if bytes_eq word (codes "tuning") then tuning arguments
     else (if bytes_eq word (codes "tick") then tick arguments
-    else (if bytes_eq word (codes "pages") then pages arguments
-    else page_line word arguments))))))))
+    else page_line word arguments))))))
 
 -- a comment begins with `#`
 abbrev pub begins_comment : List ℕ → Bool
@@ -192,7 +199,7 @@ line_of bytes = if begins_datagram bytes then in_words (reading_words bytes) els
 -- What a line carries is in its range: the cells of a board, the size of a canvas, constants, moments and delays.
 abbrev pub IsWithin : Command → Type 0
 IsWithin (Board member cells workers seed) = IsCellCount cells
-IsWithin (Show page width height) = is_canvas_size width height ≡ true
+IsWithin (Question query) = IsAnswerable query
 IsWithin (Distance source micros) = IsDelay micros
 IsWithin (Tune constants) = are_constants constants ≡ true
 IsWithin (Tick moment) = IsMoment moment

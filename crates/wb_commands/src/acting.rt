@@ -5,7 +5,7 @@ ghost use Rattle.wb_recovery.specs.Delays.{IsDelay};
 ghost use Rattle.wb_recovery.specs.Timing.{are_constants};
 ghost use Rattle.wb_member.specs.Holding.{IsOpenAt};
 ghost use Rattle.wb_member.specs.Opened.{Opened};
-ghost use Rattle.wb_commands.specs.Answers.{IsAnswerable};
+ghost use Rattle.wb_member.specs.Questions.{IsAnswerable};
 ghost use Rattle.wb_commands.specs.Doing.{DoesAct, DoesAt, fault_of};
 ghost use Rattle.wb_commands.specs.Acts.{asked, act};
 ghost use Rattle.wb_commands.specs.Parsing.{IsWithin};
@@ -13,13 +13,12 @@ ghost use Rattle.wb_commands.specs.Parsing.{IsWithin};
 use crate::answers::print;
 use crate::command::Command;
 use crate::fault::{LineFault, Untaken};
-use crate::query::Query;
 use crate::sent_lines::{look_line, print_sends};
 use std::alloc::Global;
 use wb_codec::Datagram;
 use wb_host::KeepFault;
 use wb_lines::Output;
-use wb_member::Member;
+use wb_member::{Member, Query};
 use wb_names::PageId;
 use wb_recovery::Tuning;
 
@@ -35,17 +34,13 @@ fn refused(fault: KeepFault) -> Untaken
     }
 }
 
-/// Answers a question.
-fn answer(
-    alloc: Global,
-    member: &mut Member,
-    query: Query,
-    output: &mut Output,
-) -> Result<(), Untaken>
+/// Asks the member a question, and prints the answer.
+fn ask(alloc: Global, member: &mut Member, query: Query, output: &mut Output) -> Result<(), Untaken>
     requires { IsAnswerable query }
     ensures text { DoesAt member.old member.new output.old output.new result (asked query) }
 {
-    print(alloc, member, query, output)
+    let answer = member.answer(alloc, query)?;
+    print(alloc, &answer, output)
 }
 
 /// Sets the delay to a source, in microseconds.
@@ -149,21 +144,7 @@ pub fn act(
     ensures text { DoesAt member.old member.new output.old output.new result (act command.now) }
 {
     match command {
-        Command::Show {
-            page,
-            width,
-            height,
-        } => {
-            let canvas = Query::Canvas {
-                page: *page,
-                width: *width,
-                height: *height,
-            };
-            answer(alloc, member, canvas, output)
-        }
-        Command::Gaps(page) => answer(alloc, member, Query::Gaps(*page), output),
-        Command::Report(page) => answer(alloc, member, Query::Report(*page), output),
-        Command::Pages => answer(alloc, member, Query::Pages, output),
+        Command::Question(query) => ask(alloc, member, *query, output),
         Command::Hear(datagram) => hear(alloc, member, datagram, output),
         Command::Distance { source, micros } => set_delay(member, *source, *micros),
         Command::Tune(constants) => tune(member, *constants),

@@ -1,19 +1,21 @@
 //! The lines that answer questions, and the counts of a batch.
-ghost use Rattle.std.specs.Prelude.{◌≡◌, ◌∷◌, [], IfOk, IfErr, OnOk};
+ghost use Rattle.std.specs.Prelude.{◌≡◌, ◌∷◌, [], IfOk};
 ghost use Rattle.std.specs.String.{string_bytes};
 ghost use Rattle.wb_names.specs.Arrivals.{counts, counts_of};
 ghost use Rattle.wb_member.specs.Holding.{outcome_in};
-ghost use Rattle.wb_commands.specs.Answers.{batch_line, gaps_text, report_text, pages_text, IsAnswerable};
-ghost use Rattle.wb_commands.specs.Doing.{Tells};
+ghost use Rattle.wb_member.specs.Questions.{told};
+ghost use Rattle.wb_commands.specs.Answers.{answer_text, batch_line, gaps_text, known_text, next_line, pages_text, report_text, view_text, words_line};
+ghost use Rattle.wb_commands.specs.Doing.{PrintsAnswer};
 
-use crate::fault::Untaken;
+use crate::fault::{LineFault, Untaken};
 use crate::listing::list_text;
-use crate::query::Query;
 use std::alloc::{AllocError, Global};
+use wb_codec::Datagram;
 use wb_host::Reply;
 use wb_lines::Output;
-use wb_member::Member;
-use wb_names::{Gap, Mark, PageId};
+use wb_member::Answer;
+use wb_names::{Drawop, Gap, Mark, PageId};
+use wb_words::write_words;
 
 /// The line that ends a batch: how many of its drawops were fresh, held already, clashed with one
 /// of their name, and were left for want of a cell.
@@ -43,59 +45,75 @@ pub fn arrival_line(became: Option<Reply>) -> &'static [u8]
 
 /// How many missing ranges there are, and a line for each: its source, its first number and its
 /// last.
-pub fn gaps_text(alloc: Global, gaps: &[Gap]) -> Result<String, AllocError>
+fn gaps_text(alloc: Global, gaps: &[Gap]) -> Result<String, AllocError>
     ensures { IfOk result (λ text. string_bytes text ≡ gaps_text gaps.now) }
 {
     list_text(alloc, "gaps ", gaps)
 }
 
 /// How many marks there are, and a line for each: its source and its number.
-pub fn report_text(alloc: Global, marks: &[Mark]) -> Result<String, AllocError>
+fn report_text(alloc: Global, marks: &[Mark]) -> Result<String, AllocError>
     ensures { IfOk result (λ text. string_bytes text ≡ report_text marks.now) }
 {
     list_text(alloc, "report ", marks)
 }
 
 /// How many pages there are, and a line for each: its creator and its number.
-pub fn pages_text(alloc: Global, pages: &[PageId]) -> Result<String, AllocError>
+fn pages_text(alloc: Global, pages: &[PageId]) -> Result<String, AllocError>
     ensures { IfOk result (λ text. string_bytes text ≡ pages_text pages.now) }
 {
     list_text(alloc, "pages ", pages)
 }
 
-/// Prints what a member answers to a question.
-pub fn print(
-    alloc: Global,
-    member: &mut Member,
-    query: Query,
-    output: &mut Output,
-) -> Result<(), Untaken>
-    requires { IsAnswerable query }
-    ensures same { member.new ≡ member.old }
-    ensures ok { OnOk result (Tells member.old query output.old output.new) }
-    ensures err { IfErr result (λ e. (e ≡ Untaken.Memory) × (output.new ≡ output.old)) }
+/// How many pages are known, and a line for each.
+fn known_text(alloc: Global, pages: &[PageId]) -> Result<String, AllocError>
+    ensures { IfOk result (λ text. string_bytes text ≡ known_text pages.now) }
 {
-    match query {
-        Query::Canvas {
-            page,
-            width,
-            height,
-        } => {
-            let canvas = member.show(alloc, page, width, height)?;
-            output.add(canvas.bytes())?;
-        }
-        Query::Gaps(page) => {
-            let gaps = member.gaps(alloc, page)?;
-            output.add(gaps_text(alloc, &gaps)?.as_bytes())?;
-        }
-        Query::Report(page) => {
-            let marks = member.report(alloc, page)?;
-            output.add(report_text(alloc, marks.as_slice())?.as_bytes())?;
-        }
-        Query::Pages => {
-            let pages = member.pages(alloc)?;
-            output.add(pages_text(alloc, &pages)?.as_bytes())?;
-        }
+    list_text(alloc, "known ", pages)
+}
+
+/// A drawop in words, with a line feed.
+fn words_line(alloc: Global, drawop: &Drawop) -> Result<Vec<u8>, AllocError>
+    ensures { IfOk result (λ line. line.items ≡ words_line drawop.now) }
+{
+    let mut line = write_words(alloc, &Datagram::Draw(*drawop))?;
+    line.push(b'\n')?;
+    Ok(line)
+}
+
+/// How many drawops a page shows, and each in words.
+fn view_text(alloc: Global, drawops: &[Drawop]) -> Result<Vec<u8>, AllocError>
+    ensures { IfOk result (λ text. text.items ≡ view_text drawops.now) }
+{
+    let count = drawops.len();
+    let mut text = format!(in alloc; "view {count}\n")?.into_bytes();
+    for drawop in drawops {
+        text.extend_from_slice(words_line(alloc, drawop)?.as_slice())?;
+    }
+    Ok(text)
+}
+
+/// The number of the next drawop on a page.
+fn next_line(alloc: Global, number: u32) -> Result<String, AllocError>
+    ensures { IfOk result (λ text. string_bytes text ≡ next_line number) }
+{
+    format!(in alloc; "next {number}\n")
+}
+
+/// Prints an answer. Refused with `TooMany`, where no number is left. Unless it is printed, nothing
+/// is.
+pub fn print(alloc: Global, answer: &Answer, output: &mut Output) -> Result<(), Untaken>
+    ensures { PrintsAnswer output.old output.new result (answer_text (told answer.now)) }
+{
+    match answer {
+        Answer::Canvas(canvas) => output.add(canvas.bytes())?,
+        Answer::Gaps(gaps) => output.add(gaps_text(alloc, gaps)?.as_bytes())?,
+        Answer::Report(marks) => output.add(report_text(alloc, marks.as_slice())?.as_bytes())?,
+        Answer::Pages(pages) => output.add(pages_text(alloc, pages)?.as_bytes())?,
+        Answer::View(drawops) => output.add(view_text(alloc, drawops)?.as_slice())?,
+        Answer::Known(pages) => output.add(known_text(alloc, pages)?.as_bytes())?,
+        Answer::Next(Some(number)) => output.add(next_line(alloc, *number)?.as_bytes())?,
+        Answer::Next(None) => return Err(Untaken::Line(LineFault::TooMany)),
     }
     Ok(())
 }

@@ -1,5 +1,6 @@
 //! The lines of a script, with their words as fields.
 use wb_codec::Datagram;
+use wb_member::Query;
 use wb_names::{Drawop, PageId};
 use wb_recovery::Tuning;
 
@@ -36,16 +37,7 @@ pub enum Command {
     Look(PageId),
     /// `session C N` prints the session message of a page.
     Session(PageId),
-    /// `show C N W H` prints the canvas of a page, so many cells wide and high.
-    Show {
-        page: PageId,
-        width: u32,
-        height: u32,
-    },
-    /// `gaps C N` prints the missing ranges of a page.
-    Gaps(PageId),
-    /// `report C N` prints the report of a page.
-    Report(PageId),
-    /// `pages` prints the pages of the board.
-    Pages,
+    /// A question: the answer is printed. A script asks by `show C N W H`, `gaps C N`, `report C N`
+    /// and `pages`; the other questions are for the crates above to read.
+    Question(Query),
 }

@@ -15,17 +15,14 @@ mod fault;
 pub mod laws;
 mod listing;
 mod parsing;
-mod query;
 mod sent_lines;
 
 pub use acting::act;
-pub use answers::{arrival_line, batch_line, gaps_text, pages_text, report_text};
+pub use answers::{arrival_line, batch_line, print};
 pub use command::Command;
 pub use fault::{LineFault, Untaken};
-pub use listing::{Listed, list_text, pair_line};
 pub use parsing::{
     datagram, four_words, no_words, number_word, one_word, page, parse_line, two_words, u32_word,
 };
-pub use query::Query;
 pub use sent_lines::{print_sends, send_line};
 pub use wb_host::MAX_WORKERS;

@@ -7,7 +7,7 @@ use std::alloc::{AllocError, Global};
 use wb_names::{Gap, Mark, PageId};
 
 /// What has a line of its own in an answer.
-pub trait Listed {
+pub(crate) trait Listed {
     /// The characters of its line.
     ghost spelled: { Self → List ℕ };
 
@@ -17,7 +17,7 @@ pub trait Listed {
 }
 
 /// Two numbers on a line.
-pub fn pair_line(alloc: Global, a: u32, b: u32) -> Result<String, AllocError>
+fn pair_line(alloc: Global, a: u32, b: u32) -> Result<String, AllocError>
     ensures { IfOk result (λ text. string_bytes text ≡ pair_line a b) }
 {
     format!(in alloc; "{a} {b}\n")
@@ -63,7 +63,11 @@ impl Listed for PageId {
 
 /// A word with a space behind it and how many there are, on a line; and a line for each, in their
 /// order.
-pub fn list_text<T: Listed>(alloc: Global, word: &str, items: &[T]) -> Result<String, AllocError>
+pub(crate) fn list_text<T: Listed>(
+    alloc: Global,
+    word: &str,
+    items: &[T],
+) -> Result<String, AllocError>
     ensures { IfOk result (λ text. string_bytes text ≡ list_text word.now T.spelled items.now) }
 {
     let count = items.len();

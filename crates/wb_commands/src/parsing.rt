@@ -1,7 +1,8 @@
 //! What the words of a line mean.
 ghost use Rattle.std.specs.Prelude.{◌≡◌, ◌≤◌, IfOk, Result, Ok, Err, option_map};
 ghost use Rattle.wb_lines.specs.Words.{words};
-ghost use Rattle.wb_commands.specs.Parsing.{Parses, ParsesLine, IsWithin, number, none_of, one_of, two_of, four_of, board, show, distance, tuning, tick, page, pages, page_line, datagram, arrive, hear, handed_in, bytes_line, command, begins_comment, line_of_words, in_words, line_of, CarriesDatagram};
+ghost use Rattle.wb_member.specs.Questions.{IsAnswerable};
+ghost use Rattle.wb_commands.specs.Parsing.{Parses, ParsesLine, IsWithin, number, none_of, one_of, two_of, four_of, board, show, distance, tuning, tick, page, pages, question, page_line, datagram, arrive, hear, handed_in, bytes_line, command, begins_comment, line_of_words, in_words, line_of, CarriesDatagram};
 ghost use Rattle.wb_words.specs.Reading.{reading as reading_words};
 
 use crate::command::Command;
@@ -11,6 +12,7 @@ use wb_codec::{Datagram, ReadFault, read};
 use wb_display::Canvas;
 use wb_host::{MAX_CELLS, MAX_WORKERS};
 use wb_lines::{next_word, number, unhex};
+use wb_member::Query;
 use wb_names::{MAX_MOMENT, PageId};
 use wb_recovery::{MAX_CONSTANT, MAX_DELAY, Tuning};
 use wb_words::{DigitsFault, WordsFault, begins_datagram, read_words};
@@ -96,9 +98,9 @@ fn board(rest: &[u8]) -> Result<Command, LineFault>
 }
 
 #[tactic(auto, unfolding(crate::specs::Parsing::show))]
-fn show(rest: &[u8]) -> Result<Command, LineFault>
-    ensures line { result ≡ show (words rest.now) }
-    ensures within { IfOk result IsWithin }
+fn show(rest: &[u8]) -> Result<Query, LineFault>
+    ensures query { result ≡ show (words rest.now) }
+    ensures within { IfOk result IsAnswerable }
 {
     let (creator, number, width, height) = four_words(rest).ok_or(LineFault::Words)?;
     let creator = u32_word(creator, 0, u32::MAX)?;
@@ -106,7 +108,7 @@ fn show(rest: &[u8]) -> Result<Command, LineFault>
     let width = u32_word(width, 1, Canvas::MAX_WIDTH)?;
     let height = u32_word(height, 1, Canvas::MAX_HEIGHT)?;
     let page = PageId { creator, number };
-    Ok(Command::Show {
+    Ok(Query::Canvas {
         page,
         width,
         height,
@@ -159,12 +161,30 @@ pub fn page(rest: &[u8]) -> Result<PageId, LineFault>
     Ok(PageId { creator, number })
 }
 
-fn pages(rest: &[u8]) -> Result<Command, LineFault>
-    ensures line { result ≡ pages (words rest.now) }
-    ensures within { IfOk result IsWithin }
+fn pages(rest: &[u8]) -> Result<Query, LineFault>
+    ensures { result ≡ pages (words rest.now) }
 {
     no_words(rest).ok_or(LineFault::Words)?;
-    Ok(Command::Pages)
+    Ok(Query::Pages)
+}
+
+/// The question with this first word.
+#[tactic(auto, unfolding(crate::specs::Parsing::question))]
+fn question(word: &[u8], rest: &[u8]) -> Result<Query, LineFault>
+    ensures query { result ≡ question word.now (words rest.now) }
+    ensures within { IfOk result IsAnswerable }
+{
+    if word == b"show".as_slice() {
+        show(rest)
+    } else if word == b"gaps".as_slice() {
+        Ok(Query::Gaps(page(rest)?))
+    } else if word == b"report".as_slice() {
+        Ok(Query::Report(page(rest)?))
+    } else if word == b"pages".as_slice() {
+        pages(rest)
+    } else {
+        Err(LineFault::Unknown)
+    }
 }
 
 /// The datagram whose bytes the only word spells in hexadecimal. The first fault is `Words`, `Hex`
@@ -232,12 +252,8 @@ fn page_line(word: &[u8], rest: &[u8]) -> Result<Command, LineFault>
         Ok(Command::Look(page(rest)?))
     } else if word == b"session".as_slice() {
         Ok(Command::Session(page(rest)?))
-    } else if word == b"gaps".as_slice() {
-        Ok(Command::Gaps(page(rest)?))
-    } else if word == b"report".as_slice() {
-        Ok(Command::Report(page(rest)?))
     } else {
-        Err(LineFault::Unknown)
+        Ok(Command::Question(question(word, rest)?))
     }
 }
 
@@ -254,16 +270,12 @@ fn command(alloc: Global, word: &[u8], rest: &[u8]) -> Result<Command, Untaken>
         hear(alloc, rest)
     } else if word == b"datagram".as_slice() {
         bytes_line(alloc, rest)
-    } else if word == b"show".as_slice() {
-        Ok(show(rest)?)
     } else if word == b"distance".as_slice() {
         Ok(distance(rest)?)
     } else if word == b"tuning".as_slice() {
         Ok(tuning(rest)?)
     } else if word == b"tick".as_slice() {
         Ok(tick(rest)?)
-    } else if word == b"pages".as_slice() {
-        Ok(pages(rest)?)
     } else {
         Ok(page_line(word, rest)?)
     }

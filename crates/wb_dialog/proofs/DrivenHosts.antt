@@ -10,7 +10,7 @@ use Rattle.wb_lines.specs.Input.{InputLine, input_lines}
 use Rattle.wb_lines.specs.Taking.{met, is_taken}
 use Rattle.wb_dialog.specs.declared.fault.Refusal.{Refusal}
 use Rattle.wb_dialog.specs.declared.line.DriverLine.{DriverLine}
-use Rattle.wb_dialog.specs.declared.line.DriverLine.TheVariants.{Script, Say, Next, View, Known, Ask, Stop, Keep, Came, Add}
+use Rattle.wb_dialog.specs.declared.line.DriverLine.TheVariants.{Script, Say, Ask, Stop, Keep, Came, Add}
 use Rattle.wb_dialog.specs.Dialog as plain
 use Rattle.wb_dialog.specs.Dialog.{Answer, gives, refuses, answer, answer_at, answer_first, answer_of, block, says_line, answered_lines}
 use Rattle.wb_dialog.specs.Hosting as hosting
@@ -30,9 +30,6 @@ AnswersAs s seed said = (later : Option ℕ) × (reply s.tuning (driven_host see
 by_line : (tuning : Tuning) (host : Option Opened) (seed : Option ℕ) (line : DriverLine) → BeginsNoKeep (Ok line) → AnswersAs (record { tuning = tuning; host = host }) seed (Ok line)
 by_line tuning None seed (Script line) plainly = (seed_in (Script line), refl)
 by_line tuning None seed (Say v) plainly = (None, refl)
-by_line tuning None seed (Next page) plainly = (None, refl)
-by_line tuning None seed (View page) plainly = (None, refl)
-by_line tuning None seed Known plainly = (None, refl)
 by_line tuning None seed (Ask name) plainly = (None, refl)
 by_line tuning None seed (Stop name) plainly = (None, refl)
 by_line tuning None seed (Keep rate listen) plainly = absurd plainly
@@ -40,9 +37,6 @@ by_line tuning None seed (Came now v) plainly = (None, refl)
 by_line tuning None seed (Add adding) plainly = (None, refl)
 by_line tuning (Some host) seed (Script line) plainly = (seed_after (Script line) seed, refl)
 by_line tuning (Some host) seed (Say v) plainly = (None, refl)
-by_line tuning (Some host) seed (Next page) plainly = (seed, refl)
-by_line tuning (Some host) seed (View page) plainly = (seed, refl)
-by_line tuning (Some host) seed Known plainly = (seed, refl)
 by_line tuning (Some host) seed (Ask name) plainly = (None, refl)
 by_line tuning (Some host) seed (Stop name) plainly = (None, refl)
 by_line tuning (Some host) seed (Keep rate listen) plainly = absurd plainly
@@ -101,9 +95,6 @@ no_keep : (s : plain.State) (said : Result DriverLine Refusal) (host : Option Op
 no_keep s (Err e) host text given = tt
 no_keep s (Ok (Script line)) host text given = tt
 no_keep s (Ok (Say v)) host text given = tt
-no_keep s (Ok (Next page)) host text given = tt
-no_keep s (Ok (View page)) host text given = tt
-no_keep s (Ok Known) host text given = tt
 no_keep s (Ok (Ask name)) host text given = tt
 no_keep s (Ok (Stop name)) host text given = tt
 no_keep s (Ok (Keep rate listen)) host text given = at s.host given where

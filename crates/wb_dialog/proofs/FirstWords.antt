@@ -11,7 +11,7 @@ use Rattle.wb_words.proofs.Splitting.{chosen, some_is, words_split_once, words_w
 use Rattle.wb_commands.specs.declared.command.Command.{Command}
 use Rattle.wb_commands.specs.declared.fault.LineFault.{LineFault}
 use Rattle.wb_commands.specs.declared.fault.LineFault.TheVariants as faults
-use Rattle.wb_commands.specs.Parsing.{line_of_words, line_of, in_words, command, page_line}
+use Rattle.wb_commands.specs.Parsing.{line_of_words, line_of, in_words, command, page_line, question}
 
 -- ---- what stands before the first space
 
@@ -48,9 +48,6 @@ pub record IsUnknown (word : List ℕ) : Type 0 where
 -- the words that begin a line of a driver alone
 pub record AreUnknown : Type 0 where
   pub say : IsUnknown (codes "say")
-  pub next : IsUnknown (codes "next")
-  pub view : IsUnknown (codes "view")
-  pub known : IsUnknown (codes "known")
   pub ask : IsUnknown (codes "ask")
   pub stop : IsUnknown (codes "stop")
   pub keep : IsUnknown (codes "keep")
@@ -58,12 +55,9 @@ pub record AreUnknown : Type 0 where
   pub add : IsUnknown (codes "add")
 
 pub unknown : AreUnknown
-unfolding command page_line is_kind
+unfolding command page_line question is_kind
 unknown = record {
   say = record { script = λ arguments. refl; kind = refl };
-  next = record { script = λ arguments. refl; kind = refl };
-  view = record { script = λ arguments. refl; kind = refl };
-  known = record { script = λ arguments. refl; kind = refl };
   ask = record { script = λ arguments. refl; kind = refl };
   stop = record { script = λ arguments. refl; kind = refl };
   keep = record { script = λ arguments. refl; kind = refl };

@@ -17,15 +17,15 @@ use Rattle.wb_gaps.specs.declared.holes.Hole.{Hole}
 use Rattle.wb_member.specs.Members.{Misses}
 use Rattle.wb_member.specs.Opened.{Opened, answered, becomes, doing, has_room_for, heard, may_ask, present, sent_by}
 use Rattle.wb_member.specs.Random.{word_of}
-use Rattle.wb_keeping.specs.Kept.{Doing, Line, Ticks, Arrives, Hears, Asks, Stops, SetsDistance, Tunes, Says, Transition, and_then, answers, asks_pages, distance_in, draws_it, end, ends_full, hears, hears_session, hears_some, hears_state, is_begun, is_unasked, learned, measures, near_names, of_other, own_echo, own_marks, paid_for, performs, reports, reports_due, reports_rest, room_lines, state_of, still, stops_oldest, takes, takes_question, timed, told_names, turn, turn_to, usual_lines, want, want_near, want_told}
-use Rattle.wb_keeping.specs.Distances.{bounded}
+use Rattle.wb_keeping.specs.Kept.{Doing, Line, Ticks, Arrives, Hears, Asks, Stops, SetsDistance, Tunes, Says, Transition, and_then, answers, asks_pages, distance_in, draws_it, end, ends_full, hears, hears_session, hears_some, hears_state, is_begun, is_unasked, learned, measures, near_names, of_other, own_echo, own_marks, paid_for, performs, reports, reports_due, reports_rest, room_lines, state_of, still, stops_one, takes, takes_question, timed, told_names, turn, turn_to, want, want_near, want_told, hears_request, lending}
+use Rattle.wb_keeping.specs.Distances.{bounded, unknown}
 use Rattle.wb_keeping.specs.Performing.{Keeping, after_line, after_lines, after_saying, said, said_where, sees, sent_by_line}
-use Rattle.wb_keeping.specs.Policy.{Policy, View, after_answer, after_question, after_state, after_taking_up, after_turn, after_wanting, holds, in_next_round, is_asked, is_full, level}
+use Rattle.wb_keeping.specs.Policy.{Policy, View, after_answer, after_question, after_state, after_taking_up, after_turn, after_wanting, holds, in_next_round, is_asked, is_full, level, is_known}
 use Rattle.wb_keeping.specs.Questions.{is_due, is_to_answer}
 use Rattle.wb_keeping.specs.Refusing.{back_in_time, drawing_fault, is_unknown_of_ours, waits_fault}
-use Rattle.wb_keeping.specs.Reports.{slice_after}
+use Rattle.wb_keeping.specs.Reports.{rest_after}
 use Rattle.wb_keeping.specs.Turns.{name_in, nowhere}
-use Rattle.wb_keeping.specs.Wanting.{is_wanted, oldest}
+use Rattle.wb_keeping.specs.Wanting.{giving_way, is_wanted}
 use Rattle.wb_host.specs.declared.keep_fault.KeepFault.TheVariants.{BackInTime}
 use Rattle.wb_keeping.specs.declared.kept_fault.KeptFault.{KeptFault}
 use Rattle.wb_keeping.specs.declared.kept_fault.KeptFault.TheVariants as kept_faults
@@ -81,23 +81,21 @@ module _ (n : ℕ) where
       own_append n one.lines (second (λ lines. see (one.lines ++ lines)) one.policy).lines (f see p same) (s (λ lines. see (one.lines ++ lines)) one.policy (λ lines. same (one.lines ++ lines)))
 
   own_room : (name : NameValue) (v : View) → AllOwn n (room_lines name v)
-  own_room name v = own_lines n (is_asked v name) (Stops name ∷ []) (if nat_le 64 (length v.asked) then stops_oldest (oldest v.asked) else []) (tt, tt)
-      (own_lines n (nat_le 64 (length v.asked)) (stops_oldest (oldest v.asked)) [] (at (oldest v.asked)) tt) where
-        at : (a : Option AskedName) → AllOwn n (stops_oldest a)
-        at None = tt
-        at (Some a) = (tt, tt)
+  own_room name v = own_lines n (is_asked v name) (Stops name ∷ []) (stops_one (giving_way v.asked)) (tt, tt) (at (giving_way v.asked)) where
+    at : (a : Option AskedName) → AllOwn n (stops_one a)
+    at None = tt
+    at (Some a) = (tt, tt)
 
-  own_usual : (source distance : ℕ) (usual : Option ℕ) → AllOwn n (usual_lines source distance usual)
-  own_usual source distance None = tt
-  own_usual source distance (Some usual) = own_lines n (nat_eq distance 100000) (SetsDistance source usual ∷ []) [] (tt, tt) tt
+  own_lending : (source distance usual : ℕ) (line : Line) → AllOwn n (line ∷ []) → AllOwn n (lending source distance usual line)
+  own_lending source distance usual line own = own_lines n (nat_eq distance unknown) (SetsDistance source usual ∷ line ∷ SetsDistance source unknown ∷ []) (line ∷ []) (tt, (own.0, (tt, tt))) own
 
   own_want : (name : NameValue) (anew : Bool) → Owns n (want name anew)
   own_want name anew see p same =
       let v = see [] in
-      let usual : List Line = usual_lines name.source (v.distance name.source) p.usual in
-      let wanted : Doing = record { policy = after_wanting v.now p; lines = room_lines name v ++ (usual ++ Asks name ∷ []) } in
-      own_if n (is_wanted (holds v name) (is_full v) anew (level v name) p.owed v.now) wanted (still see p)
-      (own_append n (room_lines name v) (usual ++ Asks name ∷ []) (own_room name v) (own_append n usual (Asks name ∷ []) (own_usual name.source (v.distance name.source) p.usual) (tt, tt)))
+      let asks : List Line = lending name.source (v.distance name.source) p.usual (Asks name) in
+      let wanted : Doing = record { policy = after_wanting v.now p; lines = room_lines name v ++ asks } in
+      own_if n (is_wanted (holds v name) (is_full v) anew (is_known v name.source) (level v name) p.owed v.now) wanted (still see p)
+      (own_append n (room_lines name v) asks (own_room name v) (own_lending name.source (v.distance name.source) p.usual (Asks name) (tt, tt)))
       tt
 
   own_told : (names : List NameValue) → Owns n (want_told names)
@@ -163,7 +161,7 @@ module _ (n : ℕ) where
   own_rest (m ∷ marks) see p same = (same [], tt)
 
   own_reports : Owns n reports
-  own_reports see p same = own_rest (slice_after p.told (report_of (see []).held p.told_page)) see p same
+  own_reports see p same = own_rest (rest_after p.until p.told (report_of (see []).held p.told_page)) see p same
 
   own_due : Owns n reports_due
   own_due see p same = own_if n (nat_le p.reports.due (see []).now) (and_then reports turn see p) (still see p) (own_then reports turn own_reports own_turn see p same) tt
@@ -208,6 +206,12 @@ module _ (n : ℕ) where
       let own = own_marks v.me (nat_lt v.now p.ready) marks in
       own_then (hears_some sender page own) (want_told (told_names v.me page marks)) (own_some sender page own) (own_told (told_names v.me page marks)) see (after_state v.now p) same
 
+  own_request : (asker : ℕ) (name : NameValue) → Owns n (hears_request asker name)
+  own_request asker name see p same =
+      let v = see [] in
+      let source = if holds v name then asker else name.source in
+      own_lending source (v.distance source) p.usual (Hears (datagrams.Request asker name)) (tt, tt)
+
   own_question : Owns n takes_question
   own_question see p same =
       let v = see [] in
@@ -220,7 +224,7 @@ module _ (n : ℕ) where
   own_hears (datagrams.Draw d) = own_takes d
   own_hears (datagrams.Session sender sent page marks echoes) = own_of sender (hears_session sender sent page marks echoes) (own_session sender sent page marks echoes)
   own_hears (datagrams.PageState sender page marks) = own_of sender (hears_state sender page marks) (own_state sender page marks)
-  own_hears (datagrams.Request asker name) = own_of asker (performs (Hears (datagrams.Request asker name))) (own_heard (datagrams.Request asker name))
+  own_hears (datagrams.Request asker name) = own_of asker (hears_request asker name) (own_request asker name)
   own_hears (datagrams.AskPages asker) = own_of asker takes_question own_question
 
   own_drawing : (page : PageId) (time : ℕ) (op : Op) → Owns n (draws_it page time op)

@@ -1,5 +1,5 @@
 -- What a host that keeps itself does for a line, by what its member did.
-use Rattle.std.proofs.Common.{◌≡◌, ℕ, List, [], ◌++◌, Option, Some, None, Result, Ok, Err, refl, sym, ap, subst, ◌∙◌}
+use Rattle.std.proofs.Common.{◌≡◌, ℕ, List, [], ◌++◌, Option, Some, None, Result, Ok, Err, refl, sym, ap, subst, ◌∙◌, append-nil}
 use Rattle.std.specs.Prelude.{IsTrue, is_some}
 use Rattle.wb_codec.specs.declared.datagram.Datagram.{Datagram}
 use Rattle.wb_host.specs.declared.keep_fault.KeepFault.TheVariants as keep_faults
@@ -11,16 +11,24 @@ use Rattle.wb_keeping.specs.Policy.{begun}
 use Rattle.wb_keeping.specs.Refusing.{IsRefusedBy}
 use Rattle.wb_keeping.specs.declared.kept_fault.KeptFault.{KeptFault}
 use Rattle.wb_keeping.specs.declared.kept_fault.KeptFault.TheVariants as kept_faults
+use Rattle.wb_member.specs.Questions.{Told, answer_to}
+use Rattle.wb_member.specs.declared.questions.Query.{Query}
+use Rattle.wb_commands.specs.Acts.{tells}
+use Rattle.wb_commands.specs.Answers.{answer_text}
+use Rattle.wb_commands.specs.Doing.{PrintsAnswer}
 use Rattle.wb_commands.specs.SentLines.{sends_text}
+use Rattle.wb_commands.specs.declared.fault.Untaken.{Untaken}
+use Rattle.wb_commands.specs.declared.fault.Untaken.TheVariants as untaken
 use Rattle.wb_dialog.proofs.Fronts.{begins_empty}
 use Rattle.wb_dialog.specs.declared.fault.Refusal.TheVariants as refusals
 use Rattle.wb_dialog.specs.declared.line.DriverLine.{DriverLine}
 use Rattle.wb_dialog.specs.declared.fault.Unanswered.{Unanswered}
 use Rattle.wb_dialog.specs.declared.fault.Unanswered.TheVariants as unanswered
 use Rattle.wb_dialog.specs.declared.opened.Host.TheVariants as values
-use Rattle.wb_dialog.specs.Dialog.{Answer, gives, refuses, answer_at}
-use Rattle.wb_dialog.specs.Hosting.{Host, Driven, Kept, prints, denies, as_driven, due_at, in_time, keep_reply, kept_does, kept_refusal, kept_reply, seed_after, taken_by}
-use Rattle.wb_dialog.specs.Doing.{DoesAnswer, DoesAt, DoesKept, DoesReply, IsHostAt, Tells, seed_by, text_in, unanswered_of}
+use Rattle.wb_dialog.specs.Dialog.{Answer, gives, refuses, answer_at, answered}
+use Rattle.wb_dialog.specs.Lines.{asks, unanswered_by}
+use Rattle.wb_dialog.specs.Hosting.{Host, Driven, Kept, prints, denies, as_driven, due_at, in_time, keep_reply, kept_does, kept_refusal, kept_reply, kept_shows, seed_after, taken_by}
+use Rattle.wb_dialog.specs.Doing.{Adds, DoesAnswer, DoesAt, DoesKept, DoesReply, IsHostAt, Tells, seed_by, text_in, unanswered_of}
 
 -- ---- a call of its member
 
@@ -123,3 +131,25 @@ due_driven member seed moment due (Kept k) at = absurd at
 pub due_itself : (kept : KeptValue) (moment : ℕ) → ((k : Keeping) → IsKeptAt kept k → moment ≡ kept_due k) → (h : Host) → IsHostAt (values.Kept kept) h → in_time moment ≡ due_at (Some h)
 due_itself kept moment due (Kept k) at = ap in_time (due k at)
 due_itself kept moment due (Driven host own) at = absurd at
+
+-- ---- a question
+
+abbrev unanswered_at : {U : Type 0} → Result U Untaken → Result U Unanswered
+unanswered_at (Ok u) = Ok u
+unanswered_at (Err e) = Err (unanswered_by e)
+
+-- The answer is printed, or the question is refused, or memory ran out: a host that keeps itself stays as it is.
+pub asks_line : {U : Type 0} (old new : KeptValue) (query : Query) (said : Told) (before after : List ℕ) (r : Result U Untaken) → new ≡ old → ((k : Keeping) → IsKeptAt old k → said ≡ answer_to query k.host) → PrintsAnswer before after r (answer_text said)
+    → Adds before after (λ written. DoesKept old new written (unanswered_at r) (kept_reply (asks query)))
+asks_line {U} old new query said before after r same is told = let did = by r (answer_text said) told in (
+  did.0,
+  did.1,
+  λ k at. subst (λ (t : Told). DoesReply (Some (Kept k)) (Some (values.Kept new)) did.0 (unanswered_at r) (kept_shows k (answered (tells k.host (answer_text t))))) (is k at) (did.2 k (subst (λ (v : KeptValue). IsKeptAt v k) (sym same) at)),
+) where
+  by : (r : Result U Untaken) (text : Option (List ℕ)) → PrintsAnswer before after r text
+      → (written : List ℕ) × (after ≡ before ++ written) × ((k : Keeping) → IsKeptAt new k → DoesReply (Some (Kept k)) (Some (values.Kept new)) written (unanswered_at r) (kept_shows k (answered (tells k.host text))))
+  by (Ok u) (Some text) p = (text, p, λ k at. (at, refl))
+  by (Ok u) None p = absurd p
+  by (Err (untaken.Line e)) (Some text) p = absurd p
+  by (Err (untaken.Line e)) None p = ([], p.1 ∙ sym (append-nil before), λ k at. (ap refusals.Line p.0, at, refl))
+  by (Err untaken.Memory) text p = ([], p ∙ sym (append-nil before), λ k at. begins_empty (text_in (kept_shows k (answered (tells k.host text)))))

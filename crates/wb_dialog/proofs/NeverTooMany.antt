@@ -11,7 +11,8 @@ use Rattle.wb_codec.specs.declared.datagram.Datagram.TheVariants as datagrams
 use Rattle.wb_recovery.specs.declared.tuning.Tuning.{Tuning}
 use Rattle.wb_host.specs.declared.keep_fault.KeepFault.TheVariants.{BackInTime}
 use Rattle.wb_member.specs.Members.{Misses}
-use Rattle.wb_member.specs.Opened.{Opened, doing, has_room_for, heard, last_number, may_ask, next_number, present, sent_by, ticked}
+use Rattle.wb_member.specs.Opened.{Opened, doing, has_room_for, heard, last_number, may_ask, present, sent_by, ticked}
+use Rattle.wb_member.specs.Questions.{answer_to}
 use Rattle.wb_member.specs.Random.{word_of}
 use Rattle.wb_keeping.specs.Kept.{Arrives, Asks, Hears, Line, Says, SetsDistance, Tunes, Stops, Ticks, Transition, drawing}
 use Rattle.wb_keeping.specs.Laws.{Added, Came as CameIn, KeptLine, Ticked, doing_of, fault_of}
@@ -21,15 +22,16 @@ use Rattle.wb_keeping.specs.declared.kept_fault.KeptFault.TheVariants as kept_fa
 use Rattle.wb_keeping.proofs.Unlocked.{IsBounded, bounded_kept, bounded_line, bounded_open, number_left}
 use Rattle.wb_lines.specs.Input.{InputLine}
 use Rattle.wb_lines.specs.Taking.{met}
-use Rattle.wb_commands.specs.Acts.{does, fails}
+use Rattle.wb_commands.specs.Acts.{does, fails, tells}
+use Rattle.wb_commands.specs.Answers.{answer_text}
 use Rattle.wb_commands.specs.SentLines.{sends_text}
 use Rattle.wb_commands.specs.declared.command.Command.TheVariants as lines
 use Rattle.wb_commands.specs.declared.fault.LineFault.TheVariants as faults
 use Rattle.wb_dialog.specs.declared.fault.Refusal.{Refusal}
 use Rattle.wb_dialog.specs.declared.fault.Refusal.TheVariants as refusals
 use Rattle.wb_dialog.specs.declared.line.DriverLine.{DriverLine}
-use Rattle.wb_dialog.specs.declared.line.DriverLine.TheVariants.{Script, Say, Next, View, Known, Ask, Stop, Keep, Came, Add}
-use Rattle.wb_dialog.specs.Dialog.{Answer, answer_at, answered, gives, numbered, refuses, says_line}
+use Rattle.wb_dialog.specs.declared.line.DriverLine.TheVariants.{Script, Say, Ask, Stop, Keep, Came, Add}
+use Rattle.wb_dialog.specs.Dialog.{Answer, answer_at, answered, gives, refuses, says_line}
 use Rattle.wb_dialog.specs.Hosting.{Driven, Host, Hosting, Kept, Reply, as_driven, denies, host_after, hosting_after, hosting_from, is_acting, keep_reply, kept_does, kept_reply, kept_shows, reply, reply_of, reply_to, seed_after, taken_reply, unopened}
 use Rattle.wb_dialog.specs.KeptLaws.{AddIsNotTooMany}
 
@@ -92,14 +94,8 @@ kept_counts (Script (lines.Hear v)) k counts = counts
 kept_counts (Script (lines.Distance source micros)) k counts = counts
 kept_counts (Script (lines.Look page)) k counts = counts
 kept_counts (Script (lines.Session page)) k counts = counts
-kept_counts (Script (lines.Show page width height)) k counts = counts
-kept_counts (Script (lines.Gaps page)) k counts = counts
-kept_counts (Script (lines.Report page)) k counts = counts
-kept_counts (Script lines.Pages) k counts = counts
+kept_counts (Script (lines.Question query)) k counts = shows_count k (answer_at (Script (lines.Question query)) k.host) counts
 kept_counts (Say v) k counts = counts
-kept_counts (Next page) k counts = shows_count k (answer_at (Next page) k.host) counts
-kept_counts (View page) k counts = counts
-kept_counts Known k counts = counts
 kept_counts (Ask name) k counts = counts
 kept_counts (Stop name) k counts = counts
 kept_counts (Keep rate listen) k counts = counts
@@ -123,9 +119,9 @@ ticks_count now seed host counts = by (nat_lt now (present host)) where
   by true = counts
   by false = λ few. bounded_line (Ticks now) host (counts few) tt
 
-next_counts : (page : PageId) (seed : ℕ) (host : Opened) (n : Option ℕ) → MayCount host → Counts (host_after (Some (Driven host (Some seed))) (as_driven (Some seed) (numbered host n)))
-next_counts page seed host None counts = counts
-next_counts page seed host (Some n) counts = counts
+asks_count : (seed : ℕ) (host : Opened) (text : Option (List ℕ)) → MayCount host → Counts (host_after (Some (Driven host (Some seed))) (as_driven (Some seed) (answered (tells host text))))
+asks_count seed host None counts = counts
+asks_count seed host (Some text) counts = counts
 
 either_seed : (b : Bool) (seed : Option ℕ) → cond b seed seed ≡ seed
 either_seed true seed = refl
@@ -142,14 +138,8 @@ driven_counts (Script (lines.Distance source micros)) host (Some seed) counts = 
 driven_counts (Script (lines.Tune constants)) host (Some seed) counts = acted host (Some seed) (answer_at (Script (lines.Tune constants)) host) counts
 driven_counts (Script (lines.Look page)) host (Some seed) counts = acted host (Some seed) (answer_at (Script (lines.Look page)) host) counts
 driven_counts (Script (lines.Session page)) host (Some seed) counts = acted host (Some seed) (answer_at (Script (lines.Session page)) host) counts
-driven_counts (Script (lines.Show page width height)) host (Some seed) counts = counts
-driven_counts (Script (lines.Gaps page)) host (Some seed) counts = counts
-driven_counts (Script (lines.Report page)) host (Some seed) counts = counts
-driven_counts (Script lines.Pages) host (Some seed) counts = counts
+driven_counts (Script (lines.Question query)) host (Some seed) counts = asks_count seed host (answer_text (answer_to query host)) counts
 driven_counts (Say v) host (Some seed) counts = acted host (Some seed) (answer_at (Say v) host) counts
-driven_counts (Next page) host (Some seed) counts = next_counts page seed host (next_number page host) counts
-driven_counts (View page) host (Some seed) counts = counts
-driven_counts Known host (Some seed) counts = counts
 driven_counts (Ask name) host (Some seed) counts = acted host (Some seed) (answer_at (Ask name) host) counts
 driven_counts (Stop name) host (Some seed) counts = acted host (Some seed) (answer_at (Stop name) host) counts
 driven_counts (Keep rate listen) host (Some seed) counts = acted host (Some seed) (answer_at (Keep rate listen) host) counts
@@ -168,14 +158,8 @@ opened_counts tuning (Script (lines.Tick now)) = tt
 opened_counts tuning (Script (lines.Tune constants)) = tt
 opened_counts tuning (Script (lines.Look page)) = tt
 opened_counts tuning (Script (lines.Session page)) = tt
-opened_counts tuning (Script (lines.Show page width height)) = tt
-opened_counts tuning (Script (lines.Gaps page)) = tt
-opened_counts tuning (Script (lines.Report page)) = tt
-opened_counts tuning (Script lines.Pages) = tt
+opened_counts tuning (Script (lines.Question query)) = tt
 opened_counts tuning (Say v) = tt
-opened_counts tuning (Next page) = tt
-opened_counts tuning (View page) = tt
-opened_counts tuning Known = tt
 opened_counts tuning (Ask name) = tt
 opened_counts tuning (Stop name) = tt
 opened_counts tuning (Keep rate listen) = tt
@@ -199,9 +183,6 @@ line_counts : (tuning : Tuning) (h : Option Host) (line : DriverLine) → Counts
 line_counts tuning h (Keep rate listen) counts = keeps_counting rate listen h counts
 line_counts tuning h (Script line) counts = taken_counts tuning h (Script line) counts
 line_counts tuning h (Say v) counts = taken_counts tuning h (Say v) counts
-line_counts tuning h (Next page) counts = taken_counts tuning h (Next page) counts
-line_counts tuning h (View page) counts = taken_counts tuning h (View page) counts
-line_counts tuning h Known counts = taken_counts tuning h Known counts
 line_counts tuning h (Ask name) counts = taken_counts tuning h (Ask name) counts
 line_counts tuning h (Stop name) counts = taken_counts tuning h (Stop name) counts
 line_counts tuning h (Came now v) counts = taken_counts tuning h (Came now v) counts

@@ -3,11 +3,9 @@ use Rattle.std.specs.Prelude.{ℕ, List, [], ◌∷◌, ◌++◌, Bool, nat_eq, 
 use Rattle.std.specs.List.{concat}
 use Rattle.wb_names.specs.Values.{DrawopValue}
 use Rattle.wb_names.specs.Arrivals.{Outcome, Fresh, Known as KnownDrawop, Clashed, Left, counts_of}
-use Rattle.wb_names.specs.declared.name.PageId.{PageId}
 use Rattle.wb_recovery.specs.declared.tuning.Tuning.{Tuning}
 use Rattle.wb_codec.specs.declared.datagram.Datagram.{Datagram as DatagramValue}
 use Rattle.wb_codec.specs.declared.datagram.Datagram.TheVariants as datagrams
-use Rattle.wb_words.specs.Spelling.{spelled}
 use Rattle.std.specs.declared.convert.Infallible.{Infallible}
 use Rattle.wb_lines.specs.Input.{InputLine, input_lines, content}
 use Rattle.wb_lines.specs.Handling.{Met, whole, too_long, Step, goes}
@@ -15,12 +13,12 @@ use Rattle.wb_lines.specs.Taking.{met, is_taken}
 use Rattle.wb_commands.specs.declared.command.Command.{Command}
 use Rattle.wb_commands.specs.declared.command.Command.TheVariants as lines
 use Rattle.wb_commands.specs.declared.fault.LineFault.TheVariants as faults
-use Rattle.wb_commands.specs.Answers.{batch_line, list_text, page_line}
+use Rattle.wb_commands.specs.Answers.{batch_line}
 use Rattle.wb_commands.specs.SentLines.{send_line}
 use Rattle.wb_commands.specs.Acts.{Act, does, fails, act}
-use Rattle.wb_member.specs.Opened.{Opened, opened_with, becomes, accepted, shown, pages_known, next_number, next_due, may_ask, with_asked, asks_for, with_stopped, by_host}
+use Rattle.wb_member.specs.Opened.{Opened, opened_with, becomes, accepted, next_due, may_ask, with_asked, asks_for, with_stopped, by_host}
 use Rattle.wb_dialog.specs.declared.line.DriverLine.{DriverLine}
-use Rattle.wb_dialog.specs.declared.line.DriverLine.TheVariants.{Script, Say, Next, View, Known, Ask, Stop, Keep, Came, Add}
+use Rattle.wb_dialog.specs.declared.line.DriverLine.TheVariants.{Script, Say, Ask, Stop, Keep, Came, Add}
 use Rattle.wb_dialog.specs.declared.fault.Refusal.{Refusal}
 use Rattle.wb_dialog.specs.declared.fault.Refusal.TheVariants as refusals
 use Rattle.wb_dialog.specs.Refusals.{refusal_text}
@@ -74,30 +72,11 @@ says v host = if nat_eq (speaker v) host.is.number then goes_out v host else ref
 
 -- ---- what a driver asks of a host
 
--- what a line of a script does at an open host
+-- what a line of a script does at an open host, or a question
 abbrev pub script_answer : Command → Opened → Answer
 script_answer (lines.Arrive d) host = arrives d host
 script_answer (lines.Board member cells workers seed) host = refuses (refusals.Line faults.SecondBoard)
 script_answer line host = answered (act line host)
-
-abbrev pub next_line : ℕ → List ℕ
-next_line n = codes "next " ++ (decimal n ++ codes "\n")
-
--- the number of our next drawop on a page, where one is left
-abbrev pub numbered : Opened → Option ℕ → Answer
-numbered host None = refuses (refusals.Line faults.TooMany)
-numbered host (Some n) = gives (Some host) (next_line n)
-
--- how many drawops there are, and a line in words for each
-abbrev pub words_line : DrawopValue → List ℕ
-words_line d = spelled (datagrams.Draw d) ++ codes "\n"
-
-abbrev pub view_text : List DrawopValue → List ℕ
-view_text drawops = list_text (codes "view ") words_line drawops
-
--- how many pages there are, and a line for each
-abbrev pub known_text : List PageId → List ℕ
-known_text pages = list_text (codes "known ") page_line pages
 
 -- whether it began to ask for a name, and whether it gave up
 abbrev pub ask_line : Bool → List ℕ
@@ -112,9 +91,6 @@ stop_line asked = if asked then codes "stop 1\n" else codes "stop 0\n"
 abbrev pub answer_at : DriverLine → Opened → Answer
 answer_at (Script line) host = script_answer line host
 answer_at (Say v) host = says v host
-answer_at (Next page) host = numbered host (next_number page host)
-answer_at (View page) host = gives (Some host) (view_text (shown page host))
-answer_at Known host = gives (Some host) (known_text (pages_known host))
 answer_at (Ask name) host = gives (Some (with_asked name host)) (ask_line (may_ask name host))
 answer_at (Stop name) host = gives (Some (with_stopped name host)) (stop_line (asks_for name host))
 answer_at (Keep rate listen) host = refuses refusals.TooLate

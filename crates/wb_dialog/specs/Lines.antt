@@ -13,13 +13,17 @@ use Rattle.wb_words.specs.Adding.{adding_reading}
 use Rattle.wb_words.specs.Reading.{reading as reading_words}
 use Rattle.wb_words.specs.declared.adding.Adding.{Adding}
 use Rattle.wb_lines.specs.Words.{words}
+use Rattle.wb_member.specs.declared.questions.Query.{Query}
+use Rattle.wb_member.specs.declared.questions.Query.TheVariants.{View, Known, Next}
+use Rattle.wb_commands.specs.declared.command.Command.{Command}
+use Rattle.wb_commands.specs.declared.command.Command.TheVariants as lines
 use Rattle.wb_commands.specs.declared.fault.LineFault.{LineFault}
 use Rattle.wb_commands.specs.declared.fault.LineFault.TheVariants as faults
 use Rattle.wb_commands.specs.declared.fault.Untaken.{Untaken}
 use Rattle.wb_commands.specs.declared.fault.Untaken.TheVariants as untaken
 use Rattle.wb_commands.specs.Parsing.{or_fault, number, none_of, two_of, four_of, page, datagram, ◌>>=◌, line_of as script_line_of, IsWithin as IsScriptWithin}
 use Rattle.wb_dialog.specs.declared.line.DriverLine.{DriverLine}
-use Rattle.wb_dialog.specs.declared.line.DriverLine.TheVariants.{Script, Say, Next, View, Known, Ask, Stop, Keep, Came, Add}
+use Rattle.wb_dialog.specs.declared.line.DriverLine.TheVariants.{Script, Say, Ask, Stop, Keep, Came, Add}
 use Rattle.wb_dialog.specs.declared.fault.Refusal.{Refusal}
 use Rattle.wb_dialog.specs.declared.fault.Refusal.TheVariants as refusals
 use Rattle.wb_dialog.specs.declared.fault.Unanswered.{Unanswered}
@@ -51,8 +55,22 @@ name arguments = do
   seq ← number 1 (2 ^ 32 - 1) words'.3
   Ok (record { source = source; page = record { creator = creator; number = number' }; seq = seq })
 
-abbrev pub known_line : List (List ℕ) → Result DriverLine Refusal
-known_line arguments = by_words (λ nothing. Known) (or_fault faults.Words (none_of arguments))
+-- the question with this first word that no script asks
+unfoldable pub question : List ℕ → List (List ℕ) → Result Query LineFault
+question word arguments =
+    if bytes_eq word (codes "next") then page arguments >>= (λ p. Ok (Next p))
+    else (if bytes_eq word (codes "view") then page arguments >>= (λ p. Ok (View p))
+    else (if bytes_eq word (codes "known") then or_fault faults.Words (none_of arguments) >>= (λ nothing. Ok Known)
+    else Err faults.Unknown))
+
+abbrev pub asks : Query → DriverLine
+asks query = Script (lines.Question query)
+
+-- a line of a script; where no script has such a line, a question
+abbrev pub script_or : Result Query LineFault → Result Command LineFault → Result DriverLine Refusal
+script_or query (Ok line) = Ok (Script line)
+script_or query (Err faults.Unknown) = by_words asks query
+script_or query (Err e) = Err (refusals.Line e)
 
 -- the rate of reports, and for how long nothing is added
 unfoldable pub keep_line : List (List ℕ) → Result DriverLine LineFault
@@ -78,20 +96,17 @@ came_line arguments = do
   v ← datagram (words_behind arguments)
   Ok (Came now v)
 
--- The line with this first word and these further ones. One that is not a driver's own is a script's. The words behind
+-- The line with this first word and these further ones. One that is not a driver's own is a script's, or a question. The words behind
 -- `say` and `add` stand one space after it, so where they do not, they are wrong.
 unfoldable pub command : List ℕ → List ℕ → List (List ℕ) → Result DriverLine Refusal
 command line word arguments =
     if bytes_eq word (codes "say") then Err (refusals.Line faults.Words)
-    else (if bytes_eq word (codes "next") then by_words Next (page arguments)
-    else (if bytes_eq word (codes "view") then by_words View (page arguments)
-    else (if bytes_eq word (codes "known") then known_line arguments
     else (if bytes_eq word (codes "ask") then by_words Ask (name arguments)
     else (if bytes_eq word (codes "stop") then by_words Stop (name arguments)
     else (if bytes_eq word (codes "keep") then by_words (λ line. line) (keep_line arguments)
     else (if bytes_eq word (codes "came") then by_words (λ line. line) (came_line arguments)
     else (if bytes_eq word (codes "add") then Err (refusals.Line faults.Words)
-    else by_words Script (script_line_of line)))))))))
+    else script_or (question word arguments) (script_line_of line))))))
 
 abbrev pub line_of_words : List ℕ → List (List ℕ) → Result DriverLine Refusal
 line_of_words line [] = by_words Script (script_line_of line)
@@ -124,9 +139,6 @@ line_of line = line_behind line (said_part (split_once 32 line)) (added_part (sp
 abbrev pub IsWithin : DriverLine → Type 0
 IsWithin (Script line) = IsScriptWithin line
 IsWithin (Say v) = Unit {0}
-IsWithin (Next p) = Unit {0}
-IsWithin (View p) = Unit {0}
-IsWithin Known = Unit {0}
 IsWithin (Ask n) = Unit {0}
 IsWithin (Stop n) = Unit {0}
 IsWithin (Keep rate listen) = (1 ≤ rate) × (listen < 2 ^ 32)

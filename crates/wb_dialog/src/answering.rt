@@ -1,15 +1,14 @@
 //! What the lines of a driver do at an open member.
 ghost use Rattle.std.specs.Prelude.{◌≡◌, ◌++◌, OnOk, OnErr};
 ghost use Rattle.wb_member.specs.Holding.{outcome_in};
-ghost use Rattle.wb_member.specs.Opened.{next_number};
 ghost use Rattle.wb_commands.specs.Acts.{act};
 ghost use Rattle.wb_commands.specs.Parsing.{IsWithin as IsScriptWithin};
 ghost use Rattle.wb_dialog.specs.Lines.{IsWithin};
 ghost use Rattle.wb_commands.specs.SentLines.{send_line};
-ghost use Rattle.wb_dialog.specs.Dialog.{answered, arrives, batch_of, goes_out, speaker, says, script_answer, numbered, answer_at};
+ghost use Rattle.wb_dialog.specs.Dialog.{answered, arrives, batch_of, goes_out, speaker, says, script_answer, answer_at};
 ghost use Rattle.wb_dialog.specs.Doing.{DoesAt, Adds};
 
-use crate::blocks::{ask_line, known_text, next_line, stop_line, view_text};
+use crate::blocks::{ask_line, stop_line};
 use crate::fault::{Refusal, Unanswered};
 use crate::line::DriverLine;
 use std::alloc::{AllocError, Global};
@@ -18,7 +17,7 @@ use wb_commands::{Command, LineFault, Untaken, arrival_line, send_line};
 use wb_host::Reply;
 use wb_lines::Output;
 use wb_member::Member;
-use wb_names::{Drawop, Name, PageId};
+use wb_names::{Drawop, Name};
 
 /// What a line of a script does here, but for arrivals and boards.
 fn act(
@@ -150,44 +149,6 @@ fn say(
     go_out(alloc, member, datagram, output)
 }
 
-/// The number of our next drawop on a page is asked for.
-fn next(alloc: Global, member: &Member, page: PageId, output: &mut Output) -> Result<(), Unanswered>
-    ensures text { Adds output.old output.new (λ written.
-        DoesAt member.now member.now written result
-        (λ host. numbered host (next_number page host))) }
-{
-    let Some(number) = member.next_number(page) else {
-        return Err(Unanswered::Refused(Refusal::Line(LineFault::TooMany)));
-    };
-    output.add(next_line(alloc, number)?.as_bytes())?;
-    Ok(())
-}
-
-/// The drawops that a page shows are asked for.
-fn view(
-    alloc: Global,
-    member: &mut Member,
-    page: PageId,
-    output: &mut Output,
-) -> Result<(), Unanswered>
-    ensures text { Adds output.old output.new (λ written.
-        DoesAt member.old member.new written result (answer_at (DriverLine.View page))) }
-{
-    let drawops = member.view(alloc, page)?;
-    output.add(view_text(alloc, &drawops)?.as_slice())?;
-    Ok(())
-}
-
-/// The pages that are known are asked for.
-fn known(alloc: Global, member: &mut Member, output: &mut Output) -> Result<(), Unanswered>
-    ensures text { Adds output.old output.new (λ written.
-        DoesAt member.old member.new written result (answer_at DriverLine.Known)) }
-{
-    let pages = member.known(alloc)?;
-    output.add(known_text(alloc, &pages)?.as_bytes())?;
-    Ok(())
-}
-
 /// It begins to ask for a name.
 fn ask(
     alloc: Global,
@@ -228,9 +189,6 @@ pub(crate) fn answer(
     match line {
         DriverLine::Script(line) => script(alloc, member, line, output),
         DriverLine::Say(datagram) => say(alloc, member, datagram, output),
-        DriverLine::Next(page) => next(alloc, member, *page, output),
-        DriverLine::View(page) => view(alloc, member, *page, output),
-        DriverLine::Known => known(alloc, member, output),
         DriverLine::Ask(name) => ask(alloc, member, name, output),
         DriverLine::Stop(name) => stop(member, name, output),
         DriverLine::Keep { .. } => Err(Unanswered::Refused(Refusal::TooLate)),

@@ -1,52 +1,13 @@
 //! The texts of a block.
 ghost use Rattle.std.specs.Prelude.{◌≡◌, Some, IfOk};
 ghost use Rattle.std.specs.String.{string_bytes};
-ghost use Rattle.wb_dialog.specs.Dialog.{view_text, known_text, words_line, next_line, ask_line, stop_line, ok_line, refused_line};
+ghost use Rattle.wb_dialog.specs.Dialog.{ask_line, stop_line, ok_line, refused_line};
 ghost use Rattle.wb_dialog.specs.Doing.{Adds, Prints};
 
 use crate::fault::Refusal;
 use itoa::Buffer;
 use std::alloc::{AllocError, Global};
-use wb_codec::Datagram;
-use wb_commands::list_text;
 use wb_lines::Output;
-use wb_names::{Drawop, PageId};
-use wb_words::write_words;
-
-/// The number of our next drawop on a page.
-pub(crate) fn next_line(alloc: Global, number: u32) -> Result<String, AllocError>
-    ensures { IfOk result (λ text. string_bytes text ≡ next_line number) }
-{
-    format!(in alloc; "next {number}\n")
-}
-
-/// A drawop in words, with a line feed.
-fn words_line(alloc: Global, drawop: &Drawop) -> Result<Vec<u8>, AllocError>
-    ensures { IfOk result (λ line. line.items ≡ words_line drawop.now) }
-{
-    let mut line = write_words(alloc, &Datagram::Draw(*drawop))?;
-    line.push(b'\n')?;
-    Ok(line)
-}
-
-/// How many drawops a page shows, and each in words.
-pub(crate) fn view_text(alloc: Global, drawops: &[Drawop]) -> Result<Vec<u8>, AllocError>
-    ensures { IfOk result (λ text. text.items ≡ view_text drawops.now) }
-{
-    let count = drawops.len();
-    let mut text = format!(in alloc; "view {count}\n")?.into_bytes();
-    for drawop in drawops {
-        text.extend_from_slice(words_line(alloc, drawop)?.as_slice())?;
-    }
-    Ok(text)
-}
-
-/// How many pages are known, and which.
-pub(crate) fn known_text(alloc: Global, pages: &[PageId]) -> Result<String, AllocError>
-    ensures { IfOk result (λ text. string_bytes text ≡ known_text pages.now) }
-{
-    list_text(alloc, "known ", pages)
-}
 
 /// Whether it began to ask for a name.
 pub(crate) fn ask_line(begun: bool) -> &'static [u8]

@@ -3,7 +3,7 @@ ghost use Rattle.std.specs.Prelude.{◌≡◌, ◌<◌, ◌^◌, ◌++◌, [], t
 ghost use Rattle.wb_names.specs.Moments.{IsMoment};
 ghost use Rattle.wb_names.specs.Shapes.{op_of};
 ghost use Rattle.wb_member.specs.Holding.{outcome_in};
-ghost use Rattle.wb_display.specs.Canvas.{is_canvas_size};
+ghost use Rattle.wb_member.specs.Questions.{IsAnswerable};
 ghost use Rattle.wb_commands.specs.Parsing.{IsWithin as IsScriptWithin};
 ghost use Rattle.wb_commands.specs.SentLines.{sends_text};
 ghost use Rattle.wb_dialog.specs.Doing.{DoesKept, Tells, unanswered_of, Adds};
@@ -11,18 +11,17 @@ ghost use Rattle.wb_recovery.specs.Timing.{are_constants};
 ghost use Rattle.wb_dialog.specs.Hosting.{came_text, kept_adds, kept_draws, kept_reply, kept_takes, kept_ticks, kept_tunes, unsent_text, wrong_target};
 ghost use Rattle.wb_dialog.specs.Lines.{IsWithin};
 
-use crate::blocks::{known_text, next_line, view_text};
 use crate::fault::{Refusal, Unanswered};
 use crate::line::DriverLine;
+use crate::parsing::refused as untaken;
 use std::alloc::Global;
 use wb_codec::Datagram;
-use wb_commands::{
-    Command, LineFault, arrival_line, gaps_text, pages_text, print_sends, report_text,
-};
+use wb_commands::{Command, LineFault, arrival_line, print, print_sends};
 use wb_host::{KeepFault, Reply};
 use wb_keeping::{Done, KeptFault, KeptMember};
 use wb_lines::Output;
-use wb_names::{FieldFault, Op, PageId, Shape};
+use wb_member::Query;
+use wb_names::{FieldFault, Op, Shape};
 use wb_recovery::Tuning;
 use wb_words::{Adding, WordFault, WrongWord};
 
@@ -188,65 +187,23 @@ fn add(
     draw(alloc, kept, adding, shape_of(&adding.op), output)
 }
 
-/// The canvas of a page is asked for.
-fn show(
+/// Its member is asked a question, and the answer is printed.
+fn ask(
     alloc: Global,
     kept: &mut KeptMember,
-    page: PageId,
-    width: u32,
-    height: u32,
+    query: Query,
     output: &mut Output,
 ) -> Result<(), Unanswered>
-    requires { is_canvas_size width height ≡ true }
+    requires { IsAnswerable query }
     ensures text { Adds output.old output.new (λ written.
         DoesKept kept.old kept.new written result
-        (kept_reply (DriverLine.Script (Command.Show page width height)))) }
+        (kept_reply (DriverLine.Script (Command.Question query)))) }
 {
-    let canvas = kept.show(alloc, page, width, height)?;
-    output.add(canvas.bytes())?;
-    Ok(())
-}
-
-/// The missing ranges of a page are asked for.
-fn gaps(
-    alloc: Global,
-    kept: &mut KeptMember,
-    page: PageId,
-    output: &mut Output,
-) -> Result<(), Unanswered>
-    ensures text { Adds output.old output.new (λ written.
-        DoesKept kept.old kept.new written result
-        (kept_reply (DriverLine.Script (Command.Gaps page)))) }
-{
-    let gaps = kept.gaps(alloc, page)?;
-    output.add(gaps_text(alloc, &gaps)?.as_bytes())?;
-    Ok(())
-}
-
-/// The greatest number of each source of a page is asked for.
-fn report(
-    alloc: Global,
-    kept: &mut KeptMember,
-    page: PageId,
-    output: &mut Output,
-) -> Result<(), Unanswered>
-    ensures text { Adds output.old output.new (λ written.
-        DoesKept kept.old kept.new written result
-        (kept_reply (DriverLine.Script (Command.Report page)))) }
-{
-    let marks = kept.report(alloc, page)?;
-    output.add(report_text(alloc, marks.as_slice())?.as_bytes())?;
-    Ok(())
-}
-
-/// The pages that have drawops are asked for.
-fn pages(alloc: Global, kept: &mut KeptMember, output: &mut Output) -> Result<(), Unanswered>
-    ensures text { Adds output.old output.new (λ written.
-        DoesKept kept.old kept.new written result (kept_reply (DriverLine.Script Command.Pages))) }
-{
-    let pages = kept.pages(alloc)?;
-    output.add(pages_text(alloc, &pages)?.as_bytes())?;
-    Ok(())
+    let answer = kept.answer(alloc, query)?;
+    match print(alloc, &answer, output) {
+        Ok(()) => Ok(()),
+        Err(fault) => Err(untaken(fault)),
+    }
 }
 
 /// What a line of a script does, of which some are its driver's to judge no more.
@@ -265,58 +222,9 @@ fn script(
         Command::Board { .. } => Err(Unanswered::Refused(Refusal::Line(LineFault::SecondBoard))),
         Command::Tick { moment } => tick(alloc, kept, *moment, output),
         Command::Tune(constants) => tune(kept, *constants),
-        Command::Show {
-            page,
-            width,
-            height,
-        } => show(alloc, kept, *page, *width, *height, output),
-        Command::Gaps(page) => gaps(alloc, kept, *page, output),
-        Command::Report(page) => report(alloc, kept, *page, output),
-        Command::Pages => pages(alloc, kept, output),
+        Command::Question(query) => ask(alloc, kept, *query, output),
         _ => Err(Unanswered::Refused(Refusal::Kept)),
     }
-}
-
-/// The number of our next drawing on a page is asked for.
-fn next(
-    alloc: Global,
-    kept: &KeptMember,
-    page: PageId,
-    output: &mut Output,
-) -> Result<(), Unanswered>
-    ensures text { Adds output.old output.new (λ written.
-        DoesKept kept.now kept.now written result (kept_reply (DriverLine.Next page))) }
-{
-    let Some(number) = kept.next_number(page) else {
-        return Err(Unanswered::Refused(Refusal::Line(LineFault::TooMany)));
-    };
-    output.add(next_line(alloc, number)?.as_bytes())?;
-    Ok(())
-}
-
-/// The drawops that a page shows are asked for.
-fn view(
-    alloc: Global,
-    kept: &mut KeptMember,
-    page: PageId,
-    output: &mut Output,
-) -> Result<(), Unanswered>
-    ensures text { Adds output.old output.new (λ written.
-        DoesKept kept.old kept.new written result (kept_reply (DriverLine.View page))) }
-{
-    let drawops = kept.view(alloc, page)?;
-    output.add(view_text(alloc, &drawops)?.as_slice())?;
-    Ok(())
-}
-
-/// The pages that are known are asked for.
-fn known(alloc: Global, kept: &mut KeptMember, output: &mut Output) -> Result<(), Unanswered>
-    ensures text { Adds output.old output.new (λ written.
-        DoesKept kept.old kept.new written result (kept_reply DriverLine.Known)) }
-{
-    let pages = kept.known(alloc)?;
-    output.add(known_text(alloc, &pages)?.as_bytes())?;
-    Ok(())
 }
 
 /// What a line does at a host that keeps itself: it prints, or it is refused, and then the host
@@ -333,9 +241,6 @@ pub(crate) fn answer_kept(
 {
     match line {
         DriverLine::Script(line) => script(alloc, kept, line, output),
-        DriverLine::Next(page) => next(alloc, kept, *page, output),
-        DriverLine::View(page) => view(alloc, kept, *page, output),
-        DriverLine::Known => known(alloc, kept, output),
         DriverLine::Came { now, datagram } => came(alloc, kept, *now, datagram, output),
         DriverLine::Add(adding) => add(alloc, kept, adding, output),
         _ => Err(Unanswered::Refused(Refusal::Kept)),

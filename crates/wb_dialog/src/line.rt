@@ -1,22 +1,18 @@
 //! The lines of a driver.
 use wb_codec::Datagram;
 use wb_commands::Command;
-use wb_names::{Name, PageId};
+use wb_names::Name;
 use wb_words::Adding;
 
 /// A line of a driver, with its words as fields.
 #[derive(Debug, Drop)]
 pub enum DriverLine {
-    /// A line of a script.
+    /// A line of a script, or a question that no script asks: `next C N`, the number of our next
+    /// drawop on a page; `view C N`, the drawops that a page shows; `known`, the pages that were
+    /// heard of.
     Script(Command),
     /// `say WORDS`: a datagram of ours is to go out.
     Say(Datagram),
-    /// `next C N` asks for the number of our next drawop on a page.
-    Next(PageId),
-    /// `view C N` asks for the drawops that a page shows.
-    View(PageId),
-    /// `known` asks for the pages that were heard of.
-    Known,
     /// `ask C N SOURCE NUMBER` begins to miss a drawop.
     Ask(Name),
     /// `stop C N SOURCE NUMBER` gives up asking for a drawop.

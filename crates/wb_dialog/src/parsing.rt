@@ -7,17 +7,19 @@ ghost use Rattle.wb_words.specs.Words.{split_once};
 ghost use Rattle.wb_words.specs.Adding.{adding_reading};
 ghost use Rattle.wb_words.specs.Reading.{reading as reading_words};
 ghost use Rattle.wb_lines.specs.Words.{words};
+ghost use Rattle.wb_member.specs.Questions.{IsAnswerable};
 ghost use Rattle.wb_commands.specs.Parsing.{line_of as script_line_of};
-ghost use Rattle.wb_dialog.specs.Lines.{Parses, IsWithin, by_words, unanswered_by, unanswered_words, part_behind, said_by, added_by, name, command, keep_line, moment_of, came_line, line_of_words, line_of};
+ghost use Rattle.wb_dialog.specs.Lines.{Parses, IsWithin, by_words, unanswered_by, unanswered_words, part_behind, said_by, added_by, name, command, keep_line, question, script_or, moment_of, came_line, line_of_words, line_of};
 
 use crate::fault::{Refusal, Unanswered};
 use crate::line::DriverLine;
 use std::alloc::Global;
 use wb_commands::{
-    LineFault, Untaken, datagram, four_words, no_words, number_word, page, parse_line, two_words,
-    u32_word,
+    Command, LineFault, Untaken, datagram, four_words, no_words, number_word, page, parse_line,
+    two_words, u32_word,
 };
 use wb_lines::next_word;
+use wb_member::Query;
 use wb_names::{MAX_MOMENT, Name, PageId};
 use wb_words::{WordsFault, read_adding, read_words, split_once};
 
@@ -66,8 +68,8 @@ fn name(rest: &[u8]) -> Result<Name, LineFault>
     }
 }
 
-/// Why a line of a script was not parsed.
-fn refused(fault: Untaken) -> Unanswered
+/// Why a line is not answered, by why it is not taken.
+pub(crate) fn refused(fault: Untaken) -> Unanswered
     ensures { result ≡ unanswered_by fault }
 {
     match fault {
@@ -122,16 +124,6 @@ fn command(alloc: Global, line: &[u8], word: &[u8], rest: &[u8]) -> Result<Drive
     if is_word(word, b"say") {
         return Err(Unanswered::Refused(Refusal::Line(LineFault::Words)));
     }
-    if is_word(word, b"next") {
-        return Ok(DriverLine::Next(page(rest)?));
-    }
-    if is_word(word, b"view") {
-        return Ok(DriverLine::View(page(rest)?));
-    }
-    if is_word(word, b"known") {
-        no_words(rest).ok_or(LineFault::Words)?;
-        return Ok(DriverLine::Known);
-    }
     if is_word(word, b"ask") {
         return Ok(DriverLine::Ask(name(rest)?));
     }
@@ -147,7 +139,47 @@ fn command(alloc: Global, line: &[u8], word: &[u8], rest: &[u8]) -> Result<Drive
     if is_word(word, b"add") {
         return Err(Unanswered::Refused(Refusal::Line(LineFault::Words)));
     }
-    script_line(alloc, line)
+    script_or_question(alloc, line, word, rest)
+}
+
+/// The question with this first word that no script asks.
+#[tactic(auto, unfolding(crate::specs::Lines::question))]
+fn question(word: &[u8], rest: &[u8]) -> Result<Query, LineFault>
+    ensures query { result ≡ question word.now (words rest.now) }
+    ensures within { IfOk result IsAnswerable }
+{
+    if is_word(word, b"next") {
+        return Ok(Query::Next(page(rest)?));
+    }
+    if is_word(word, b"view") {
+        return Ok(Query::View(page(rest)?));
+    }
+    if is_word(word, b"known") {
+        no_words(rest).ok_or(LineFault::Words)?;
+        return Ok(Query::Known);
+    }
+    Err(LineFault::Unknown)
+}
+
+/// A line of a script; where no script has such a line, a question.
+fn script_or_question(
+    alloc: Global,
+    line: &[u8],
+    word: &[u8],
+    rest: &[u8],
+) -> Result<DriverLine, Unanswered>
+    ensures line { Parses result
+        (script_or (question word.now (words rest.now)) (script_line_of line.now)) }
+    ensures within { IfOk result IsWithin }
+{
+    match parse_line(alloc, line) {
+        Ok(line) => Ok(DriverLine::Script(line)),
+        Err(Untaken::Line(LineFault::Unknown)) => {
+            let query = question(word, rest)?;
+            Ok(DriverLine::Script(Command::Question(query)))
+        }
+        Err(fault) => Err(refused(fault)),
+    }
 }
 
 /// A line of a script.

@@ -6,6 +6,7 @@ use Rattle.wb_names.specs.Values.{DrawopValue}
 use Rattle.wb_names.specs.declared.parts.Figure.TheVariants.{Line, Frame}
 use Rattle.wb_names.specs.declared.parts.Op.{Op}
 use Rattle.wb_names.specs.declared.parts.Op.TheVariants.{Drawn, Text, Aimed}
+use Rattle.wb_display.specs.declared.canvas.TheConstants.Canvas.{MAX_WIDTH, MAX_HEIGHT}
 
 -- how far two numbers are apart
 abbrev pub distance : ℕ → ℕ → ℕ
@@ -77,6 +78,6 @@ row_text ds w y = map (λ x. glyph_at ds x y) (range_with_len 0 w) ++ 10 ∷ []
 abbrev pub canvas_text : List DrawopValue → ℕ → ℕ → List ℕ
 canvas_text ds w h = flat_map (row_text ds w) (range_with_len 0 h)
 
--- a canvas has 1 to 200 columns and 1 to 100 rows
+-- a canvas has a column and a row at least
 abbrev pub is_canvas_size : ℕ → ℕ → Bool
-is_canvas_size w h = (nat_le 1 w && nat_le w 200) && (nat_le 1 h && nat_le h 100)
+is_canvas_size w h = (nat_le 1 w && nat_le w MAX_WIDTH) && (nat_le 1 h && nat_le h MAX_HEIGHT)

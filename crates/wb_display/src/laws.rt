@@ -1,6 +1,8 @@
-//! Laws of what a page shows. Each function does nothing: its contract is a law, for proofs to
+//! Laws of what a page shows, and of the size of a canvas. Each function does nothing: its contract is a law, for proofs to
 //! cite.
 
+ghost use Rattle.std.specs.Prelude.{◌≡◌};
+ghost use Rattle.wb_display.specs.declared.canvas.TheConstants.Canvas.{MAX_WIDTH, MAX_HEIGHT};
 ghost use Rattle.wb_display.specs.Laws.{Converges, StaysAView, KeepsTheFirst, PaintsAlike, AgreesWithOlderRule, PutsShow, StandsAlone, HoldsItsPage, HoldsAHistory, LinesStepByOne};
 
 /// Histories that hold the same drawops, in any order, show the same list on every page.
@@ -57,4 +59,9 @@ pub fn layer_keeps_the_first()
 /// point.
 pub fn line_steps()
     ensures { LinesStepByOne }
+{}
+
+/// The most columns and rows of a canvas.
+pub fn limits()
+    ensures { (MAX_WIDTH ≡ 200) × (MAX_HEIGHT ≡ 100) }
 {}

@@ -16,7 +16,7 @@ use Rattle.wb_host.specs.declared.reply.Reply.{Reply}
 use Rattle.wb_feed.specs.declared.channel.Message.{Message}
 use Rattle.wb_feed.specs.declared.batch.Batch.{Batch}
 use Rattle.wb_feed.specs.Accepts.{Entry, Runs, drawops, tally}
-use Rattle.wb_feed.specs.Batches.{counts_in, Takes, IsShared, IsSettled}
+use Rattle.wb_feed.specs.Batches.{counted, counts_in, Takes, IsShared, IsSettled}
 use Rattle.wb_feed.specs.Workers.{nobody, worker, Work, Worked}
 use Rattle.wb_feed.specs.Channel.{once_below, IsComplete, AreRight, spots}
 use Rattle.wb_feed.specs.Marks.{unmarked, Marks, told_at, told_outcomes, AreOnce, filled, filed_outcomes, Files, Settles}
@@ -126,6 +126,19 @@ module _ (n : ℕ) (p q r : PassValue) (g h : ChannelView) (told : List (ℕ × 
     all = m.all;
   }
 
+  tallied : counts_in b ≡ counted shares
+  unfolding shares
+  tallied =
+      let log = entries c.log in
+      let more = m.log in
+      let sum = tally-append log more in
+      let filed' : counts_of (filed_outcomes filed) ≡ counts (tally log).fresh (tally log).again (tally log).clash 0 = files.counted once ∙ (ap (λ l. counts_of (told_outcomes l)) c.tells ∙ told_counts c.log) in
+      let fresh : (tally (log ++ more)).fresh ≡ b.fresh = omega (arith, sum.fresh, m.total.fresh, ap (λ k. k.fresh) filed') in
+      let again : (tally (log ++ more)).again ≡ b.again = omega (arith, sum.again, m.total.again, ap (λ k. k.again) filed') in
+      let clash : (tally (log ++ more)).clash ≡ b.clash = omega (arith, sum.clash, m.total.clash, ap (λ k. k.clash) filed') in
+      let left : (tally more).left ≡ b.left = omega (arith, m.total.left, ap (λ k. k.left) filed') in
+      sym (same_counts fresh again clash left)
+
   takes_all : IsSound p → IsSound r → Takes p arrived n r b
   unfolding shares
   takes_all sp sr =
@@ -163,4 +176,4 @@ module _ (n : ℕ) (p q r : PassValue) (g h : ChannelView) (told : List (ℕ × 
       }
 
   pub settles : IsSound p → IsSettled n p arrived r b
-  settles sp = record { taken = takes_all sp (runs_sound q r m.log (work_sound n p q c.log c.gots sp c.did) m.runs); shared = shares }
+  settles sp = record { taken = takes_all sp (runs_sound q r m.log (work_sound n p q c.log c.gots sp c.did) m.runs); shared = (shares, tallied) }

@@ -7,10 +7,10 @@ use Rattle.wb_names.specs.Arrivals.{Counts, counts, IsBatch}
 use Rattle.wb_host.specs.Desks.{PassValue, IsWhole}
 use Rattle.wb_feed.specs.declared.batch.Batch.{Batch}
 use Rattle.wb_feed.specs.declared.channel.Message.{Message}
-use Rattle.wb_feed.specs.Accepts.{Entry, Runs, drawops}
+use Rattle.wb_feed.specs.Accepts.{Entry, Runs, drawops, tally}
 use Rattle.wb_feed.specs.Marks.{Marks, unmarked}
 use Rattle.wb_feed.specs.Channel.{once_below}
-use Rattle.wb_feed.specs.Served.{Spot, accepted_at, offered, OffersRight, times_offered}
+use Rattle.wb_feed.specs.Served.{Spot, accepted_at, entries, offered, OffersRight, times_offered}
 use Rattle.wb_feed.specs.Workers.{Work}
 
 abbrev pub counts_in : Batch → Counts
@@ -61,7 +61,15 @@ pub record IsShared (workers : ℕ) (p : PassValue) (given : List DrawopValue) (
   pub rest : Runs joined left_over q
   pub all : drawops left_over ≡ unmarked marks given
 
+-- What the workers accepted and what was taken after them, by its outcomes. What they left was taken then.
+abbrev pub counted : {workers : ℕ} {p q : PassValue} {given : List DrawopValue} → IsShared workers p given q → Counts
+counted s = let all = tally (entries s.log ++ s.left_over) in counts all.fresh all.again all.clash (tally s.left_over).left
+
+-- it was shared so, and the counts are those of what was accepted
+abbrev pub SharesAndCounts : ℕ → PassValue → List DrawopValue → PassValue → Batch → Type 0
+SharesAndCounts workers p given q b = (s : IsShared workers p given q) × (counts_in b ≡ counted s)
+
 -- what a batch did, and how it was shared
 pub record IsSettled (workers : ℕ) (p : PassValue) (given : List DrawopValue) (q : PassValue) (b : Batch) : Type 0 where
   pub taken : Takes p given workers q b
-  pub shared : IsShared workers p given q
+  pub shared : SharesAndCounts workers p given q b

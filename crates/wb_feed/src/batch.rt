@@ -5,13 +5,13 @@ ghost use Rattle.crossbeam_channel.specs.Ends.{sends_on, receives_on};
 ghost use Rattle.wb_names.specs.Values.{DrawopValue};
 ghost use Rattle.wb_names.specs.Arrivals.{Outcome};
 ghost use Rattle.wb_host.specs.Counts.{IsWorkerCount};
-ghost use Rattle.wb_host.specs.Desks.{IsPassOf};
+ghost use Rattle.wb_host.specs.Desks.{IsPassOf, IsSound};
 ghost use Rattle.wb_feed.specs.Accepts.{Keeps, LosesAtMost, Accepts};
 ghost use Rattle.wb_feed.specs.Channel.{channel_view};
 ghost use Rattle.wb_feed.specs.Marks.{CountsOne, Files, IsPut, Settles};
 ghost use Rattle.wb_feed.specs.Feeding.{HasFed};
 ghost use Rattle.wb_feed.specs.Workers.{handed_out, MayLose};
-ghost use Rattle.wb_feed.specs.Batches.{Takes, IsShared, IsSettled};
+ghost use Rattle.wb_feed.specs.Batches.{Takes, IsSettled, SharesAndCounts};
 
 use crate::arrivals::Arrivals;
 use crate::channel::{ChannelView, EachOnce, Message};
@@ -79,6 +79,7 @@ pub fn run_batch<R: Threads + Wait + Sync, S: Arrivals, G: Gate + Sync>(
 ) -> Result<(Batch, Vec<Drawop>), FeedFault>
     requires desk { IsPassOf board.now desk.old }
     ensures kept { Keeps desk.old desk.new }
+    ensures sound { IsSound desk.new }
     ensures rows { LosesAtMost (handed_out workers desk.old.free) desk.old desk.new }
     ensures every_row { result ≢ Err FeedFault.Memory → LosesAtMost 0 desk.old desk.new }
     ensures workers { (result ≡ Err FeedFault.Workers) ↔ ((workers ≡ 0) ⊎ (MAX_WORKERS < workers)) }
@@ -91,9 +92,11 @@ pub fn run_batch<R: Threads + Wait + Sync, S: Arrivals, G: Gate + Sync>(
     ensures few { IfOk result
         (λ r. length r.1.items + S.most_to_come arrivals.new ≤ S.most_to_come arrivals.old) }
     ensures taken { IfOk result (λ r. Takes desk.old r.1.items workers desk.new r.0) }
-    ensures shared { IfOk result (λ r. IsShared workers desk.old r.1.items desk.new) }
+    ensures shared { IfOk result (λ r. SharesAndCounts workers desk.old r.1.items desk.new r.0) }
     ensures ended { OnOk result (S.has_ended arrivals.new ≡ true) }
 {
+    // The number of its rows says, for the proof alone, that the desk is sound.
+    let _sound = desk.rows_left();
     if workers == 0 || workers > MAX_WORKERS {
         return Err(FeedFault::Workers);
     }
@@ -113,7 +116,9 @@ pub fn run_batch<R: Threads + Wait + Sync, S: Arrivals, G: Gate + Sync>(
         workers,
     };
     let mut feeding = Feeding::new(alloc, channel, pass);
-    match take_batch(place, desk, &mut feeding, arrivals) {
+    let taken = take_batch(place, desk, &mut feeding, arrivals);
+    let _sound = desk.rows_left();
+    match taken {
         Ok(batch) => Ok((batch, feeding.into_arrived())),
         Err(WorkFault::Start) => Err(FeedFault::Start),
         Err(WorkFault::Memory) => Err(FeedFault::Memory),

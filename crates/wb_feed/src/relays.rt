@@ -2,7 +2,7 @@
 ghost use Rattle.std.specs.Prelude.{◌≡◌, MatchResult, IfOk};
 ghost use Rattle.std.specs.Thread.{IsSync};
 ghost use Rattle.wb_names.specs.Values.{DrawopValue};
-ghost use Rattle.wb_host.specs.Desks.{IsPassOf};
+ghost use Rattle.wb_host.specs.Desks.{IsPassOf, IsSound};
 ghost use Rattle.wb_feed.specs.Accepts.{Keeps};
 ghost use Rattle.wb_feed.specs.Relays.{Relayed, NotRelayed, TellsOf, NotTold, Hears};
 
@@ -51,12 +51,16 @@ pub fn relay<R: Threads + Sync>(
     requires teller { IsPassOf board.now teller.old }
     requires hearer { IsPassOf board.now hearer.old }
     ensures kept { Keeps teller.old teller.new × Keeps hearer.old hearer.new }
+    ensures sound { IsSound teller.new × IsSound hearer.new }
     ensures relayed { MatchResult result
         (Relayed teller.old hearer.old drawop.now teller.new hearer.new)
         (NotRelayed teller.old hearer.old drawop.now teller.new hearer.new) }
 {
     let (told, ()) = join_mut(rt, &mut || tell(alloc, board, teller, drawop), &mut || ());
-    hear(board, hearer, told)
+    let reply = hear(board, hearer, told);
+    // The numbers of their rows say, for the proof alone, that both desks are sound.
+    let (_teller, _hearer) = (teller.rows_left(), hearer.rows_left());
+    reply
 }
 
 /// Lets the hearer take in the desk that the teller sent.

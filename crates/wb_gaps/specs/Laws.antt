@@ -4,6 +4,7 @@ use Rattle.wb_names.specs.Values.{DrawopValue, MarkValue}
 use Rattle.wb_names.specs.History.{IsHeld}
 use Rattle.wb_names.specs.Marks.{mark_of, known, IsReport, IsMerge}
 use Rattle.wb_names.specs.Ascending.{AreMarks}
+use Rattle.wb_names.specs.declared.entries.TheConstants.{MAX_ENTRIES}
 use Rattle.wb_names.specs.declared.gap.Gap.{Gap}
 use Rattle.wb_names.specs.declared.name.PageId.{PageId}
 use Rattle.wb_gaps.specs.Answers.{gaps_of, report_of, reports_of, pages_of}
@@ -82,11 +83,11 @@ OnlyGaps = (history : List DrawopValue) (page : PageId) (marks : List MarkValue)
 
 -- the function gives the report of a page; a history of at most 65,535 members has one on each
 abbrev pub ReportOfPage : Type 0
-ReportOfPage = (history : List DrawopValue) (page : PageId) → length history ≤ 65535 → IsReport history page (report_of history page)
+ReportOfPage = (history : List DrawopValue) (page : PageId) → length history ≤ MAX_ENTRIES → IsReport history page (report_of history page)
 
 -- and there is no other
 abbrev pub OnlyReport : Type 0
-OnlyReport = (history : List DrawopValue) (page : PageId) (marks : List MarkValue) → length history ≤ 65535 → IsReport history page marks → marks ≡ report_of history page
+OnlyReport = (history : List DrawopValue) (page : PageId) (marks : List MarkValue) → length history ≤ MAX_ENTRIES → IsReport history page marks → marks ≡ report_of history page
 
 -- the function gives the pages of a history
 abbrev pub PagesOfHistory : Type 0
@@ -98,8 +99,8 @@ OnlyPages = (history : List DrawopValue) (pages : List PageId) → ArePages hist
 
 -- the function gives the reports of all pages of a history of at most 65,535 members
 abbrev pub ReportsOfPages : Type 0
-ReportsOfPages = (history : List DrawopValue) → length history ≤ 65535 → AreReports history (reports_of history)
+ReportsOfPages = (history : List DrawopValue) → length history ≤ MAX_ENTRIES → AreReports history (reports_of history)
 
 -- and there is no other such list
 abbrev pub OnlyReports : Type 0
-OnlyReports = (history : List DrawopValue) (reports : List PageReport) → length history ≤ 65535 → AreReports history reports → reports ≡ reports_of history
+OnlyReports = (history : List DrawopValue) (reports : List PageReport) → length history ≤ MAX_ENTRIES → AreReports history reports → reports ≡ reports_of history

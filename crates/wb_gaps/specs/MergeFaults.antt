@@ -1,6 +1,7 @@
 -- Why two lists of marks are not merged.
 use Rattle.std.specs.Prelude.{ℕ, ◌<◌, ◌≤◌, List}
 use Rattle.wb_names.specs.Values.{MarkValue}
+use Rattle.wb_names.specs.declared.entries.TheConstants.{MAX_ENTRIES}
 use Rattle.wb_gaps.specs.Merging.{source_count}
 use Rattle.wb_gaps.specs.declared.merged.MergeFault.{MergeFault}
 use Rattle.wb_gaps.specs.declared.merged.MergeFault.TheVariants.{TooMany, Memory}
@@ -11,5 +12,5 @@ merge_code Memory = 2
 
 -- a list of marks has at most 65,535 sources, and this is decided before memory is asked for
 abbrev pub IsMergeFault : List MarkValue → List MarkValue → MergeFault → Type 0
-IsMergeFault a b TooMany = 65535 < source_count a b
-IsMergeFault a b Memory = source_count a b ≤ 65535
+IsMergeFault a b TooMany = MAX_ENTRIES < source_count a b
+IsMergeFault a b Memory = source_count a b ≤ MAX_ENTRIES

@@ -8,6 +8,7 @@ use Rattle.std.specs.declared.cmp.Ordering.TheVariants.{Less}
 use Rattle.std.specs.declared.ops.Bound.{Bound}
 use Rattle.std.specs.declared.ops.Bound.TheVariants.{Excluded, Unbounded}
 use Rattle.wb_names.specs.Orders.{page_cmp, same_page}
+use Rattle.wb_names.specs.Values.{greatest_number}
 use Rattle.wb_names.specs.declared.name.PageId.{PageId}
 use Rattle.wb_gaps.specs.Holdings.{HeldRange}
 use Rattle.wb_gaps.specs.declared.holdings.Start.{Start}
@@ -39,7 +40,7 @@ runs_on page entries = map run_of (filter (is_on page) entries)
 -- all places after a page, or all of them
 abbrev pub past_page : Option PageId → Bound Start
 past_page None = Unbounded
-past_page (Some page) = Excluded (start page 4294967295 4294967295)
+past_page (Some page) = Excluded (start page greatest_number greatest_number)
 
 -- the last number of the range that begins there, if one does
 abbrev pub last_at : List (Start × ℕ) → PageId → ℕ → ℕ → Option ℕ
@@ -64,13 +65,13 @@ IsNextPage entries last (Some next) = HasPage entries next × IsPast last next �
 pub record AreApart (lasts : ℕ → Option ℕ) : Type 0 where
   pub positive : (first last : ℕ) → lasts first ≡ Some last → 1 ≤ first
   pub filled : (first last : ℕ) → lasts first ≡ Some last → first ≤ last
-  pub fits : (first last : ℕ) → lasts first ≡ Some last → last ≤ 4294967295
+  pub fits : (first last : ℕ) → lasts first ≡ Some last → last ≤ greatest_number
   pub apart : (first last next end : ℕ) → lasts first ≡ Some last → lasts next ≡ Some end → first < next → last + 1 < next
 
 -- so it is for each page and source, and sources are of 32 bits
 pub record AreRanges (entries : List (Start × ℕ)) : Type 0 where
   pub apart : (page : PageId) (source : ℕ) → AreApart (last_at entries page source)
-  pub sources : (page : PageId) (source first last : ℕ) → last_at entries page source first ≡ Some last → source ≤ 4294967295
+  pub sources : (page : PageId) (source first last : ℕ) → last_at entries page source first ≡ Some last → source ≤ greatest_number
 
 -- the number lies in a range
 abbrev pub Covers : (ℕ → Option ℕ) → ℕ → Type 0

@@ -6,6 +6,7 @@ ghost use Rattle.wb_names.specs.Listing.{Lists};
 ghost use Rattle.wb_names.specs.Marks.{IsReport};
 ghost use Rattle.wb_names.specs.Orders.{page_cmp};
 ghost use Rattle.wb_names.specs.Values.{DrawopValue};
+ghost use Rattle.wb_names.specs.declared.entries.TheConstants.{MAX_ENTRIES};
 ghost use Rattle.wb_gaps.specs.Gaps.{AreGaps};
 ghost use Rattle.wb_gaps.specs.Holdings.{HoldNamesOf};
 ghost use Rattle.wb_gaps.specs.Pages.{ArePages};
@@ -46,7 +47,7 @@ impl Holdings {
     /// sequence number, as session messages tell it (Floyd and others, 1997). At most 65,535 ranges
     /// are held, so that there are not too many marks. It costs what the page has of ranges.
     pub fn report(&self, alloc: Global, page: PageId) -> Result<Marks, AllocError>
-        requires { length self.now ≤ 65535 }
+        requires { length self.now ≤ MAX_ENTRIES }
         ensures { (history : List DrawopValue) → HoldNamesOf history self.now →
             IfOk result (λ marks. IsReport history page marks) }
     {

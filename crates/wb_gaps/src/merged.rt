@@ -2,6 +2,7 @@
 
 ghost use Rattle.std.specs.Prelude.{◌≡◌, ◌≤◌, IfOk, MatchResult};
 ghost use Rattle.wb_names.specs.Marks.{IsMerge};
+ghost use Rattle.wb_names.specs.declared.entries.TheConstants.{MAX_ENTRIES};
 ghost use Rattle.wb_gaps.specs.Merging.{source_count};
 ghost use Rattle.wb_gaps.specs.MergeFaults.{IsMergeFault};
 
@@ -40,7 +41,7 @@ impl MergeFault {
 /// asked for, and with `Memory` where memory is refused.
 pub fn merge_marks(alloc: Global, first: &Marks, second: &Marks) -> Result<Marks, MergeFault>
     ensures merge { IfOk result (λ marks. IsMerge first.now second.now marks) }
-    ensures fault { MatchResult result (λ _. source_count first.now second.now ≤ 65535)
+    ensures fault { MatchResult result (λ _. source_count first.now second.now ≤ MAX_ENTRIES)
         (IsMergeFault first.now second.now) }
 {
     let first = first.as_slice();

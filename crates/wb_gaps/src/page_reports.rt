@@ -2,6 +2,7 @@
 
 ghost use Rattle.std.specs.Prelude.{◌≤◌, List, IfOk, length};
 ghost use Rattle.wb_names.specs.Values.{DrawopValue};
+ghost use Rattle.wb_names.specs.declared.entries.TheConstants.{MAX_ENTRIES};
 ghost use Rattle.wb_gaps.specs.Holdings.{HoldNamesOf};
 ghost use Rattle.wb_gaps.specs.PageReports.{AreReports};
 
@@ -23,7 +24,7 @@ impl Holdings {
     /// held, so that no report has too many marks. It costs what is held of ranges, and a look-up
     /// for each page.
     pub fn reports(&self, alloc: Global) -> Result<Vec<PageReport>, AllocError>
-        requires { length self.now ≤ 65535 }
+        requires { length self.now ≤ MAX_ENTRIES }
         ensures { (history : List DrawopValue) → HoldNamesOf history self.now →
             IfOk result (λ reports. AreReports history reports.items) }
     {

@@ -15,7 +15,7 @@
 //!
 //! In reading order: `history`, `parts` and `pass` have the public calls, and `claim` the answers
 //! to one; `cursor`, `members`, `ranges`, `spares`, `walk` and `claiming` what a pass does in them;
-//! `cells`, `steps`, `rule` and `knowledge` the table.
+//! `cells`, `steps`, `rule` and `knowledge` the table. `laws` says how many cells there may be.
 #![tactic(auto)]
 
 mod cells;
@@ -24,6 +24,7 @@ mod claiming;
 mod cursor;
 mod history;
 mod knowledge;
+pub mod laws;
 mod members;
 mod parts;
 mod pass;

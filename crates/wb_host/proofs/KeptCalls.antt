@@ -71,19 +71,19 @@ keeps_inward call inward old new recovery now is moment stands me t calls s = su
 })
 
 -- ---- a delay is set
-pub keeps_delay : (source micros : ℕ) (old new : KeeperValue) (delays : List (ℕ × ℕ)) → new ≡ record old { delays = delays } → ((q : ℕ) → lookup (is_at (nat_cmp q)) delays ≡ cond (is_at (nat_cmp source) q) (Some micros) (lookup (is_at (nat_cmp q)) old.delays)) → Keeps (SetDelay source micros) old new
-keeps_delay source micros old new delays is r me t calls s = subst (StandsFor me t (SetDelay source micros ∷ calls)) (sym is) (record {
+pub keeps_delay : (source micros : ℕ) (entry : Option ℕ) (old new : KeeperValue) (delays : List (ℕ × ℕ)) → unwrap_or entry 100000 ≡ micros → new ≡ record old { delays = delays } → ((q : ℕ) → lookup (is_at (nat_cmp q)) delays ≡ cond (is_at (nat_cmp source) q) entry (lookup (is_at (nat_cmp q)) old.delays)) → Keeps (SetDelay source micros) old new
+keeps_delay source micros entry old new delays told is r me t calls s = subst (StandsFor me t (SetDelay source micros ∷ calls)) (sym is) (record {
   me_is = s.me_is;
   moment = s.moment;
   recovery = s.recovery;
-  delays = λ q. ap (λ (o : Option ℕ). unwrap_or o 100000) (r q ∙ ap (λ (b : Bool). cond b (Some micros) (lookup (is_at (nat_cmp q)) old.delays)) (sym (nat_ties source q))) ∙ from q (nat_eq source q);
+  delays = λ q. ap (λ (o : Option ℕ). unwrap_or o 100000) (r q ∙ ap (λ (b : Bool). cond b entry (lookup (is_at (nat_cmp q)) old.delays)) (sym (nat_ties source q))) ∙ from q (nat_eq source q);
   heard = s.heard;
   senders = s.senders;
   marks = λ page q. s.marks page q ∙ sym (max_none _);
   merged = s.merged;
 }) where
-  from : (q : ℕ) (b : Bool) → unwrap_or (cond b (Some micros) (lookup (is_at (nat_cmp q)) old.delays)) 100000 ≡ unwrap_or (option_or (cond b (Some micros) None) (newest (delay_given me q) calls)) 100000
-  from q true = refl
+  from : (q : ℕ) (b : Bool) → unwrap_or (cond b entry (lookup (is_at (nat_cmp q)) old.delays)) 100000 ≡ unwrap_or (option_or (cond b (Some micros) None) (newest (delay_given me q) calls)) 100000
+  from q true = told
   from q false = s.delays q
 
 -- ---- the constants change

@@ -3,23 +3,27 @@ use Rattle.std.proofs.Common.{◌≡◌, ℕ, ◌-◌, Bool, true, false, cond, 
 use Rattle.std.specs.Prelude.{Contains, nat_eq}
 use Rattle.std.specs.List.{filter_map, list_any}
 use Rattle.std.specs.Option.{option_map}
-use Rattle.std.specs.Ordering.{is_eq}
+use Rattle.std.specs.List.Sorted.{IsStrictlySortedBy}
+use Rattle.std.specs.Map.{keys_of}
+use Rattle.std.specs.Ordering.{is_eq, nat_cmp}
 use Rattle.std.proofs.lemmas.Map.Views.{Contains-from_any}
 use Rattle.wb_history.specs.Passes.{PassValue, IsSound}
 use Rattle.wb_names.specs.Listing.{Lists}
 use Rattle.wb_names.specs.declared.echo.Echo.{Echo}
 use Rattle.wb_names.specs.declared.name.PageId.{PageId}
-use Rattle.wb_names.proofs.Listings.{lists_same}
+use Rattle.wb_names.proofs.Listings.{lists_same, one_list}
 use Rattle.wb_names.proofs.Orders.{nat_ties}
 use Rattle.wb_codec.specs.declared.datagram.Datagram.{Datagram}
 use Rattle.wb_gaps.specs.Answers.{report_of}
 use Rattle.wb_gaps.proofs.PageAnswers.{report_of_page}
 use Rattle.wb_gaps.proofs.Sorting.{lists_sorted}
 use Rattle.wb_host.specs.Keeper.{KeeperCall, newest, session_heard, heard_by, senders_of, last_heard}
-use Rattle.wb_host.specs.Sessions.{echo_cmp, IsEchoTo, IsSession, echo_to, echoes_of, message_of, MessageIsSession}
+use Rattle.wb_host.specs.Keeping.{heard_at}
+use Rattle.wb_host.specs.Sessions.{echo_cmp, IsEchoTo, IsSession, echo_to, echoes_at, echoes_of, message_of, MessageIsSession}
 use Rattle.wb_host.specs.declared.keeper.Heard.{Heard}
 use Rattle.wb_host.proofs.KeeperAnswers.{few_seen}
 use Rattle.wb_host.proofs.OneMessage.{echo_total, one_session}
+use Rattle.wb_host.proofs.SentEchoes.{echoes_heard}
 use Rattle.wb_host.proofs.TickSends.{sent_by, sent_from}
 
 abbrev echo_as : ℕ → ℕ → Heard → Echo
@@ -61,6 +65,11 @@ module _ (me : ℕ) (calls : List KeeperCall) (now : ℕ) where
       (lists_sorted echo_total told (λ x y cx cy tie.
       let same : x.source ≡ y.source = eqb-true x.source y.source (nat_ties x.source y.source ∙ ap is_eq tie) in
       some_same x y (sym (echo_there x (from x cx)) ∙ ap (echo_to me calls now) same ∙ echo_there y (from y cy))))
+
+-- what a keeper holds of its senders
+pub only_echoes : (me : ℕ) (calls : List KeeperCall) (now : ℕ) (heard : List (ℕ × Heard)) → IsStrictlySortedBy nat_cmp (keys_of heard) → ((source : ℕ) → heard_at heard source ≡ last_heard me calls source) → echoes_at now heard ≡ echoes_of me calls now
+only_echoes me calls now heard rises same =
+    one_list echo_total (IsEchoTo me calls now) (echoes_at now heard) (echoes_of me calls now) (echoes_heard me now calls heard rises same) (echoes_listed me calls now)
 
 pub message_is_session : MessageIsSession
 message_is_session me calls now history page few = record {

@@ -18,6 +18,7 @@ use Rattle.wb_recovery.specs.declared.missed.Missed.{Missed}
 use Rattle.wb_recovery.specs.declared.missed.Received.{Received}
 use Rattle.wb_recovery.specs.declared.tuning.Tuning.{Tuning}
 use Rattle.wb_host.specs.declared.keeper.Heard.{Heard}
+use Rattle.wb_host.specs.declared.keeper.TheConstants.Keeper.{FIRST_DELAY}
 
 -- An accepted call, with what it found on the desk: whether a name that was asked for was held; which of the names
 -- that arrived were held; which names with a request timer were; whether a name that is given up had a request timer.
@@ -113,7 +114,7 @@ delay_given me source call = None
 
 -- the delay to a source that was last set or told, else a tenth of a second
 abbrev pub delay_to : ℕ → List KeeperCall → ℕ → ℕ
-delay_to me calls source = unwrap_or (newest (delay_given me source) calls) 100000
+delay_to me calls source = unwrap_or (newest (delay_given me source) calls) FIRST_DELAY
 
 -- ---- the senders of session messages
 

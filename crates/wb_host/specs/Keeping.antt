@@ -16,6 +16,7 @@ use Rattle.wb_recovery.specs.declared.tuning.Tuning.{Tuning}
 use Rattle.wb_host.specs.Keeper.{KeeperCall, moment_at, high_heard, delay_to, senders_of, last_heard, events_of}
 use Rattle.wb_host.specs.Hearing.{marks_heard}
 use Rattle.wb_host.specs.declared.keeper.Heard.{Heard}
+use Rattle.wb_host.specs.declared.keeper.TheConstants.Keeper.{FIRST_DELAY}
 
 -- its member's number, the moment of its last call, its timers, and by source or page the delays, the session messages
 -- and the marks that it heard
@@ -28,7 +29,7 @@ pub record KeeperValue : Type 0 where
   pub marks : List (PageId × List MarkValue)
 
 abbrev pub delay_at : List (ℕ × ℕ) → ℕ → ℕ
-delay_at delays source = unwrap_or (lookup (is_at (nat_cmp source)) delays) 100000
+delay_at delays source = unwrap_or (lookup (is_at (nat_cmp source)) delays) FIRST_DELAY
 
 abbrev pub heard_at : List (ℕ × Heard) → ℕ → Option Heard
 heard_at heard source = lookup (is_at (nat_cmp source)) heard

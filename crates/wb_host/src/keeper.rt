@@ -87,6 +87,9 @@ impl Keeper {
     /// The delay to a source of which none was set or told, in microseconds: a tenth of a second.
     pub const FIRST_DELAY: u64 = 100_000;
 
+    /// The number of request timers up to which `missing` wants names.
+    pub const MOST_ASKS: usize = 64;
+
     /// The keeper of the member `me`, which has heard nothing. A constant that is not 1 to 16 is
     /// refused with `Constant`.
     pub fn new(alloc: Global, me: u32, tuning: Tuning) -> Result<Keeper, TuningFault>
@@ -109,7 +112,8 @@ impl Keeper {
         }
     }
 
-    /// Sets the delay to a source, in microseconds below 2^24, until another is set or told.
+    /// Sets the delay to a source, in microseconds below 2^24, until another is set or told. The
+    /// first delay takes no room, since each source has it that has no other.
     ///
     /// Refused with `Range` or `Memory`, in this order.
     pub fn set_delay(&mut self, source: u32, micros: u64) -> Result<(), KeepFault>
@@ -119,6 +123,10 @@ impl Keeper {
     {
         if micros >= DELAY_LIMIT {
             return Err(KeepFault::Range);
+        }
+        if micros == Keeper::FIRST_DELAY {
+            self.delays.remove(&source);
+            return Ok(());
         }
         if self.delays.insert(source, micros).is_err() {
             return Err(KeepFault::Memory);

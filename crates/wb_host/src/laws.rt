@@ -1,4 +1,4 @@
-//! Laws of the board and of its keeper. Each function does nothing that is seen: its contract is a
+//! Laws of the board and of its keeper, and of their limits. Each function does nothing that is seen: its contract is a
 //! law, for proofs to cite.
 
 ghost use Rattle.wb_host.specs.Hearing.{OneSent, AnswersAreSent};
@@ -11,6 +11,8 @@ ghost use Rattle.wb_host.specs.Dues.{NextDueIsLeast};
 ghost use Rattle.wb_host.specs.Known.{KnownPagesAreKnown};
 ghost use Rattle.wb_host.specs.Laws.{AnswersConverge, CanvasesConverge, ReportsAgree};
 ghost use Rattle.wb_host.specs.Runs.{OneRun};
+ghost use Rattle.wb_host.specs.declared.board.TheConstants.{MAX_WORKERS};
+ghost use Rattle.wb_host.specs.declared.keeper.TheConstants.Keeper.{FIRST_DELAY, MOST_ASKS};
 ghost use Rattle.wb_host.specs.Sessions.{OneSession, MessageIsSession};
 ghost use Rattle.wb_host.specs.KeeperLaws.{AnswersWithHeld, AsksForNoneHeld, DrawopsOnlyMove, FirstSendersAreEchoed, MarksAreGreatest, MergedAreGreatest, OrderOfArrivalIsFree, OwnOnlyMoves, StoppedByCalls};
 
@@ -127,3 +129,11 @@ pub fn sent_is_read_back(sent: &[Datagram])
     }
     reading_undoes_spelling();
 }
+
+/// The most workers of a batch; the delay to a source in microseconds before one is told; and the
+/// request timers up to which names are wanted.
+pub fn limits()
+    ensures workers { MAX_WORKERS ≡ 8 }
+    ensures delay { FIRST_DELAY ≡ 100000 }
+    ensures asks { MOST_ASKS ≡ 64 }
+{}

@@ -1,6 +1,6 @@
 -- A host that keeps itself sets and backs off timers by distances that are not below 10 milliseconds, and time does not go back.
 use Rattle.std.proofs.Common.{◌≡◌, ℕ, ◌+◌, ◌*◌, ◌/◌, ◌≤◌, Bool, true, false, cond, List, [], ◌∷◌, ◌++◌, ◌∙◌, Option, Some, None, ap, arith, map, refl, subst, sym}
-use Rattle.std.specs.Prelude.{◌&&◌, IfSome, nat_eq, nat_le, take, unwrap_or}
+use Rattle.std.specs.Prelude.{◌&&◌, IfSome, nat_eq, nat_le, take, unwrap_or, max, min}
 use Rattle.std.specs.List.{find}
 use Rattle.std.specs.Option.{option_or}
 use Rattle.std.proofs.lemmas.Bool.{and_parts, eqb-true, leb-true}
@@ -16,11 +16,11 @@ use Rattle.wb_host.specs.Keeper.{delay_given, distance_by, newest}
 use Rattle.wb_member.specs.Judged.{delay}
 use Rattle.wb_member.specs.Opened.{Opened, has_room_for, heard, may_ask, opened_with, present}
 use Rattle.wb_keeping.specs.Bounds.{new_keeping}
-use Rattle.wb_keeping.specs.Distances.{bounded, usual_with}
+use Rattle.wb_keeping.specs.Distances.{bounded, known, unknown, usual_with}
 use Rattle.wb_keeping.specs.Kept.{Arrives, Asks, Doing, Hears, Line, Says, SetsDistance, Stops, Ticks, Tunes, distance_in, measures, own_echo, still, want}
 use Rattle.wb_keeping.specs.Laws.{AreTaken, KeptLine, expand}
 use Rattle.wb_keeping.specs.Performing.{Keeping, after_doing, after_line, after_lines, sees, view_of}
-use Rattle.wb_keeping.specs.Policy.{Policy, after_wanting, holds, is_full, level, with_distance}
+use Rattle.wb_keeping.specs.Policy.{Policy, after_wanting, holds, is_full, level, with_distance, is_known}
 use Rattle.wb_keeping.specs.Wanting.{is_wanted}
 use Rattle.wb_keeping.proofs.EachStep.{HoldsOfParts, all_parts_hold, doing, having, having_done}
 use Rattle.wb_keeping.proofs.Performed.{after_both}
@@ -87,25 +87,25 @@ nothing_safe host far = (tt, far)
 stops_safe : (name : NameValue) → IsSafeLine (Stops name)
 stops_safe name host far = ((tt, tt), λ source. far source)
 
-wanted_safe : (name : NameValue) (anew : Bool) (k : Keeping) → IfSome k.policy.usual (λ usual. 10000 ≤ usual)
+wanted_safe : (name : NameValue) (anew : Bool) (k : Keeping) → 10000 ≤ k.policy.usual
     → IsSafe (lines_wanted name anew (sees k.host) k.policy) k.host
 wanted_safe name anew k long = all_safe (lines_wanted name anew (sees k.host) k.policy) k.host
     (wanted_each IsSafeLine stops_safe name (λ host far. ((far name.source, tt), asks_far name host far)) anew (sees k.host) k.policy
-    (λ micros e host far. ((tt, tt), sets_far name.source micros host (subst (λ (o : Option ℕ). IfSome o (λ usual. 10000 ≤ usual)) e long) far)))
+    (λ host far. ((tt, tt), sets_far name.source k.policy.usual host long far)) (λ host far. ((tt, tt), sets_far name.source unknown host (omega arith) far)))
 
 -- ---- each step
 
 -- the distances, and the usual one, are not below 10 milliseconds
 record IsReady (k : Keeping) : Type 0 where
   far : IsFar k.host
-  usual : IfSome k.policy.usual (λ usual. 10000 ≤ usual)
+  usual : 10000 ≤ k.policy.usual
 
 record KeepsApt (k : Keeping) (lines : List Line) (m : Keeping) : Type 0 where
   at : m.host ≡ after_lines lines k.host
   apt : IsReady k → AreApt lines k.host × IsReady m
 
 safely : (k : Keeping) (lines : List Line) (p : Policy) → IsSafe lines k.host
-    → (IfSome k.policy.usual (λ usual. 10000 ≤ usual) → IfSome p.usual (λ usual. 10000 ≤ usual))
+    → (10000 ≤ k.policy.usual → 10000 ≤ p.usual)
     → KeepsApt k lines (record { host = after_lines lines k.host; policy = p })
 safely k lines p safe usual = record { at = refl; apt = λ ready. let is = safe ready.far in (is.0, record { far = is.1; usual = usual ready.usual }) }
 
@@ -119,7 +119,7 @@ both_apt k m n one other a b = record {
 }
 
 wants_apt : (name : NameValue) (anew : Bool) (k : Keeping) → KeepsApt k (want name anew (sees k.host) k.policy).lines (after_doing (want name anew) k)
-wants_apt name anew k = by (is_wanted (holds (view_of k.host) name) (is_full (view_of k.host)) anew (level (view_of k.host) name) k.policy.owed (present k.host)) where
+wants_apt name anew k = by (is_wanted (holds (view_of k.host) name) (is_full (view_of k.host)) anew (is_known (view_of k.host) name.source) (level (view_of k.host) name) k.policy.owed (present k.host)) where
   wanted : Doing
   wanted = doing (after_wanting (present k.host) k.policy) (lines_wanted name anew (sees k.host) k.policy)
 
@@ -142,11 +142,15 @@ own_told me now (e ∷ echoes) = by (nat_eq e.source me) refl (own_told me now e
   by false other later = later
 
 bounded_long : (micros : ℕ) → 10000 ≤ bounded micros
-bounded_long micros = omega arith
+bounded_long micros = by (min (max micros 10000) 1000000) (omega arith) where
+  by : (m : ℕ) → 10000 ≤ m → 10000 ≤ known m
+  by m le = either (nat_eq m unknown) where
+    either : (b : Bool) → 10000 ≤ cond b (unknown + 1) m
+    either true = omega arith
+    either false = le
 
-usual_long : (o : Option ℕ) (micros : ℕ) → IfSome o (λ usual. 10000 ≤ usual) → 10000 ≤ usual_with o (bounded micros)
-usual_long None micros is = bounded_long micros
-usual_long (Some u) micros is = by (bounded micros) (bounded_long micros) where
+usual_long : (u micros : ℕ) → 10000 ≤ u → 10000 ≤ usual_with u (bounded micros)
+usual_long u micros is = by (bounded micros) (bounded_long micros) where
   by : (m : ℕ) → 10000 ≤ m → 10000 ≤ (7 * u + m) / 8
   by m le = omega (arith, le, is)
 
@@ -230,7 +234,7 @@ parts_keep_apt = record {
     turned = λ t k. safely k [] _ (nothing_safe k.host) (λ u. u);
     answers = λ k is. safely k _ _ (all_safe _ k.host (states_each IsSafeLine (view_of k.host) (λ page host far. ((tt, tt), far)) (take 64 (pages_of k.host.is.held)))) (λ u. u);
     asks_pages = λ k is. safely k (Says (AskPages k.host.is.number) ∷ []) _ (λ far. ((tt, tt), far)) (λ u. u);
-    reports = λ page told k is. safely k _ _ (λ far. ((tt, tt), far)) (λ u. u);
+    reports = λ page until told k is. safely k _ _ (λ far. ((tt, tt), far)) (λ u. u);
   };
   ticks = λ now k later. safely k (Ticks now ∷ []) k.policy (λ far. ((later, tt), λ source. far source)) (λ u. u);
   arrives = λ d k. safely k (Arrives d ∷ []) k.policy (λ far. ((tt, tt), λ source. far source)) (λ u. u);
@@ -240,6 +244,8 @@ parts_keep_apt = record {
   hears_marks = λ sender page marks k. safely k (Hears (PageState sender page marks) ∷ []) k.policy
       (λ far. ((tt, tt), heard_far (PageState sender page marks) k.host (λ source. none_told (nat_eq sender k.host.is.number) (told_last source k.host) (far source)) far)) (λ u. u);
   hears_distance = λ sender sent page marks echoes k other. record { at = refl; apt = λ ready. distance_apt sender sent page marks echoes k other ready };
+  lends = λ source k. record { at = refl; apt = λ ready. (((tt, tt), record { far = sets_far source k.policy.usual k.host ready.usual ready.far; usual = ready.usual })) };
+  takes_back = λ source k. safely k (SetsDistance source unknown ∷ []) k.policy (λ far. ((tt, tt), sets_far source unknown k.host (omega arith) far)) (λ u. u);
   stops = λ name k full. safely k (Stops name ∷ []) k.policy (stops_safe name k.host) (λ u. u);
   tunes = λ constants k within. safely k (Tunes constants ∷ []) k.policy (λ far. ((first_constant constants within, tt), λ source. far source)) (λ u. u);
   draws = λ d k. safely k (Says (Draw d) ∷ []) k.policy (λ far. ((tt, tt), λ source. far source)) (λ u. u);
@@ -264,7 +270,7 @@ module _ (constants : Tuning) (number cells seed : ℕ) (moments : List ℕ) (po
   pub new_spaced : are_constants constants ≡ true → IsSpacedHost start.host
   new_spaced within = ticks_spaced moments (opened_with constants number cells seed) (first_constant constants within, tt)
 
-  pub apt_from_new : (lines : List KeptLine) → IfSome policy.usual (λ usual. 10000 ≤ usual) → AreTaken lines start → AreApt (expand lines start) start.host
+  pub apt_from_new : (lines : List KeptLine) → 10000 ≤ policy.usual → AreTaken lines start → AreApt (expand lines start) start.host
   apt_from_new lines usual taken =
       let far = ticks_far moments (opened_with constants number cells seed) (λ source. omega arith) in
       ((all_parts_hold KeepsApt parts_keep_apt lines start taken).apt (record { far = far; usual = usual })).0

@@ -8,13 +8,13 @@ use Rattle.wb_codec.specs.declared.datagram.Datagram.TheVariants.{Session, AskPa
 use Rattle.wb_gaps.specs.Answers.{pages_of, report_of}
 use Rattle.wb_gaps.specs.Holes.{hole_after}
 use Rattle.wb_gaps.specs.declared.holes.Hole.{Hole}
-use Rattle.wb_keeping.specs.Distances.{bounded}
-use Rattle.wb_keeping.specs.Kept.{Asks, Doing, Line, Says, SetsDistance, Stops, Transition, and_then, answers, asks_pages, end, ends_full, is_begun, is_unasked, learned, measures, paid_for, reports, reports_due, reports_rest, room_lines, state_of, still, stops_oldest, timed, turn, turn_to, usual_lines, want, want_near, want_told, Arrives, Hears, distance_in, hears, hears_session, hears_some, hears_state, of_other, own_echo, own_marks, performs, takes, takes_question, told_names}
+use Rattle.wb_keeping.specs.Distances.{bounded, unknown}
+use Rattle.wb_keeping.specs.Kept.{Asks, Doing, Line, Says, SetsDistance, Stops, Transition, and_then, answers, asks_pages, end, ends_full, is_begun, is_unasked, learned, measures, paid_for, reports, reports_due, reports_rest, room_lines, state_of, still, stops_one, timed, turn, turn_to, want, want_near, want_told, Arrives, Hears, distance_in, hears, hears_session, hears_some, hears_state, of_other, own_echo, own_marks, performs, takes, takes_question, told_names, lending, hears_request}
 use Rattle.wb_keeping.specs.Policy.{Policy, View, after_answer, after_question, after_turn, after_wanting, in_next_round, is_asked, is_full, after_state, after_taking_up, holds}
 use Rattle.wb_keeping.specs.Questions.{is_due, is_to_answer}
-use Rattle.wb_keeping.specs.Reports.{slice_after}
+use Rattle.wb_keeping.specs.Reports.{rest_after, slice_after}
 use Rattle.wb_keeping.specs.Turns.{name_in, nowhere}
-use Rattle.wb_keeping.specs.Wanting.{oldest}
+use Rattle.wb_keeping.specs.Wanting.{giving_way}
 use Rattle.wb_keeping.specs.declared.wanting.AskedName.{AskedName}
 use Rattle.wb_keeping.proofs.Wanted.{is_wanted_here, lacks_here, lines_wanted, near_here, with_room_done}
 use Rattle.wb_codec.specs.declared.datagram.Datagram.{Datagram}
@@ -42,32 +42,30 @@ module _ (P : Line → Type 0) where
 
   -- ---- the lines by which a name is wanted
 
-  pub oldest_each : ((name : NameValue) → P (Stops name)) → (o : Option AskedName) → Each P (stops_oldest o)
-  oldest_each stops None = tt
-  oldest_each stops (Some a) = (stops a.name, tt)
+  pub one_each : ((name : NameValue) → P (Stops name)) → (o : Option AskedName) → Each P (stops_one o)
+  one_each stops None = tt
+  one_each stops (Some a) = (stops a.name, tt)
 
   pub room_each : ((name : NameValue) → P (Stops name)) → (name : NameValue) (v : View) → Each P (room_lines name v)
-  room_each stops name v = by (is_asked v name) (nat_le 64 (length v.asked)) where
-    by : (a b : Bool) → Each P (cond a (Stops name ∷ []) (cond b (stops_oldest (oldest v.asked)) []))
-    by true b = (stops name, tt)
-    by false true = oldest_each stops (oldest v.asked)
-    by false false = tt
+  room_each stops name v = by (is_asked v name) where
+    by : (a : Bool) → Each P (cond a (Stops name ∷ []) (stops_one (giving_way v.asked)))
+    by true = (stops name, tt)
+    by false = one_each stops (giving_way v.asked)
 
-  pub usual_each : (source distance : ℕ) (usual : Option ℕ) → ((micros : ℕ) → usual ≡ Some micros → P (SetsDistance source micros))
-      → Each P (usual_lines source distance usual)
-  usual_each source distance None sets = tt
-  usual_each source distance (Some micros) sets = by (nat_eq distance 100000) where
-    by : (b : Bool) → Each P (cond b (SetsDistance source micros ∷ []) [])
-    by true = (sets micros refl, tt)
-    by false = tt
+  -- a line to which the usual distance is lent
+  pub lent_each : (source distance usual : ℕ) (line : Line) → P (SetsDistance source usual) → P line → P (SetsDistance source unknown)
+      → Each P (lending source distance usual line)
+  lent_each source distance usual line lends is takes = by (nat_eq distance unknown) where
+    by : (b : Bool) → Each P (cond b (SetsDistance source usual ∷ line ∷ SetsDistance source unknown ∷ []) (line ∷ []))
+    by true = (lends, (is, (takes, tt)))
+    by false = (is, tt)
 
   pub wanted_each : ((name : NameValue) → P (Stops name)) → (name : NameValue) → P (Asks name) → (anew : Bool) (see : List Line → View) (p : Policy)
-      → ((micros : ℕ) → p.usual ≡ Some micros → P (SetsDistance name.source micros)) → Each P (lines_wanted name anew see p)
-  wanted_each stops name asks anew see p sets =
+      → P (SetsDistance name.source p.usual) → P (SetsDistance name.source unknown) → Each P (lines_wanted name anew see p)
+  wanted_each stops name asks anew see p lends takes =
       let v = see [] in
-      let usual = usual_lines name.source (v.distance name.source) p.usual in
-      each_both (room_lines name v) (usual ++ Asks name ∷ []) (room_each stops name v)
-      (each_both usual (Asks name ∷ []) (usual_each name.source (v.distance name.source) p.usual sets) (asks, tt))
+      each_both (room_lines name v) (lending name.source (v.distance name.source) p.usual (Asks name)) (room_each stops name v)
+      (lent_each name.source (v.distance name.source) p.usual (Asks name) lends asks takes)
 
   -- ---- the pages that it tells
 
@@ -91,7 +89,7 @@ module _ (P : Line → Type 0) (is : OfPolicy P) where
   pub want_each : (name : NameValue) (anew : Bool) → DoesEach P (want name anew)
   want_each name anew see p =
       choose P (is_wanted_here name anew see p) (record { policy = after_wanting (see []).now p; lines = lines_wanted name anew see p }) (still see p)
-      (wanted_each P is.stops name (is.asks name) anew see p (λ micros e. is.sets name.source micros)) tt
+      (wanted_each P is.stops name (is.asks name) anew see p (is.sets name.source p.usual) (is.sets name.source unknown)) tt
 
   pub told_each : (names : List NameValue) → DoesEach P (want_told names)
   told_each [] see p = tt
@@ -159,7 +157,7 @@ module _ (P : Line → Type 0) (is : OfPolicy P) where
   rest_each (m ∷ marks) see p = (is.reports _ _ _ _ _, tt)
 
   pub reports_each : DoesEach P reports
-  reports_each see p = rest_each (slice_after p.told (report_of (see []).held p.told_page)) see p
+  reports_each see p = rest_each (rest_after p.until p.told (report_of (see []).held p.told_page)) see p
 
   due_each : DoesEach P reports_due
   due_each see p =
@@ -200,6 +198,12 @@ module _ (P : Line → Type 0) (is : OfPolicy P) (heard : (v : Datagram) → P (
       let names = told_names v.me page marks in
       then_each P (hears_some sender page own) (want_told names) (some_each sender page own) (told_each P is names) see (after_state v.now p)
 
+  request_each : (asker : ℕ) (name : NameValue) → DoesEach P (hears_request asker name)
+  request_each asker name see p =
+      let v = see [] in
+      let source = cond (holds v name) asker name.source in
+      lent_each P source (v.distance source) p.usual (Hears (Request asker name)) (is.sets source p.usual) (heard (Request asker name)) (is.sets source unknown)
+
   question_each : DoesEach P takes_question
   question_each see p =
       let v = see [] in
@@ -214,5 +218,5 @@ module _ (P : Line → Type 0) (is : OfPolicy P) (heard : (v : Datagram) → P (
       other_each sender (hears_session sender sent page marks echoes) (session_each sender sent page marks echoes)
   hears_each (PageState sender page marks) arrives = other_each sender (hears_state sender page marks) (state_each sender page marks)
   hears_each (Request asker name) arrives =
-      other_each asker (performs (Hears (Request asker name))) (λ see p. (heard (Request asker name), tt))
+      other_each asker (hears_request asker name) (request_each asker name)
   hears_each (AskPages asker) arrives = other_each asker takes_question question_each

@@ -13,15 +13,15 @@ use Rattle.wb_gaps.specs.Holes.{hole_after}
 use Rattle.wb_gaps.specs.declared.holes.Hole.{Hole}
 use Rattle.wb_host.specs.declared.keep_fault.KeepFault.TheVariants.{BackInTime, Range}
 use Rattle.wb_member.specs.Opened.{Opened, present}
-use Rattle.wb_keeping.specs.Distances.{bounded}
+use Rattle.wb_keeping.specs.Distances.{bounded, unknown}
 use Rattle.wb_recovery.specs.Timing.{are_constants}
 use Rattle.wb_recovery.specs.declared.tuning.Tuning.{Tuning}
-use Rattle.wb_keeping.specs.Kept.{Arrives, Doing, Hears, Line, Says, SetsDistance, Tunes, Stops, Ticks, Transition, and_then, answers, asks_pages, distance_in, draws_it, drawing, end, ends_full, hears, hears_session, hears_some, hears_state, is_begun, is_unasked, learned, measures, own_echo, own_marks, performs, reports, reports_due, reports_page, reports_rest, state_of, still, takes, takes_question, timed, told_names, turn, turn_to, want, want_near, want_told}
+use Rattle.wb_keeping.specs.Kept.{Arrives, Doing, Hears, Line, Says, SetsDistance, Tunes, Stops, Ticks, Transition, and_then, answers, asks_pages, distance_in, draws_it, drawing, end, ends_full, hears, hears_session, hears_some, hears_state, is_begun, is_unasked, learned, measures, own_echo, own_marks, performs, reports, reports_due, reports_page, reports_rest, state_of, still, takes, takes_question, timed, told_names, turn, turn_to, want, want_near, want_told, until_in, hears_request}
 use Rattle.wb_keeping.specs.Laws.{Added, AreTaken, Came, KeptLine, Ticked, Tuned, after_kept, doing_of, expand, fault_of}
 use Rattle.wb_keeping.specs.Performing.{Keeping, after_doing, after_line, after_lines, sees, view_of}
 use Rattle.wb_keeping.specs.Policy.{Policy, View, after_answer, after_came, after_question, after_state, after_taking_up, after_turn, holds, in_next_round, is_asked, is_full, with_distance}
 use Rattle.wb_keeping.specs.Questions.{is_due, is_to_answer}
-use Rattle.wb_keeping.specs.Reports.{page_after, slice_after}
+use Rattle.wb_keeping.specs.Reports.{is_telling, page_after, rest_after, slice_after}
 use Rattle.wb_keeping.specs.Turns.{name_in, nowhere}
 use Rattle.wb_keeping.specs.declared.kept_fault.KeptFault.{KeptFault}
 use Rattle.wb_keeping.specs.declared.kept_fault.KeptFault.TheVariants.{Host}
@@ -54,8 +54,8 @@ pub record HoldsOfDue (R : Keeping → List Line → Keeping → Type 0) : Type 
   pub answers : (k : Keeping) → is_due (present k.host) k.policy.questions.answer ≡ true
       → R k (map (λ page. Says (state_of (view_of k.host) page)) (take 64 (pages_of k.host.is.held))) (having_done (doing (after_answer (present k.host) k.policy) (map (λ page. Says (state_of (view_of k.host) page)) (take 64 (pages_of k.host.is.held)))) k)
   pub asks_pages : (k : Keeping) → is_due (present k.host) k.policy.questions.ask ≡ true → R k (Says (AskPages k.host.is.number) ∷ []) (with_policy (after_question (present k.host) k.policy) k)
-  pub reports : (page : PageId) (told : Option ℕ) (k : Keeping) → nat_le k.policy.reports.due (present k.host) ≡ true
-      → R k (reports_page page (slice_after told (report_of k.host.is.held page)) (sees k.host) k.policy).lines (after_doing (reports_page page (slice_after told (report_of k.host.is.held page))) k)
+  pub reports : (page : PageId) (until : ℕ) (told : Option ℕ) (k : Keeping) → nat_le k.policy.reports.due (present k.host) ≡ true
+      → R k (reports_page page until (slice_after told (report_of k.host.is.held page)) (sees k.host) k.policy).lines (after_doing (reports_page page until (slice_after told (report_of k.host.is.held page))) k)
 
 -- It holds of each step of a policy.
 pub record HoldsOfSteps (R : Keeping → List Line → Keeping → Type 0) : Type 0 where
@@ -67,6 +67,8 @@ pub record HoldsOfSteps (R : Keeping → List Line → Keeping → Type 0) : Typ
   -- outside of `wants` only a full board gives names up
   pub stops : (name : NameValue) (k : Keeping) → is_full (view_of k.host) ≡ true → R k (Stops name ∷ []) (having (Stops name) k)
   pub sets : (source micros : ℕ) (k : Keeping) → R k (SetsDistance source (bounded micros) ∷ []) (having (SetsDistance source (bounded micros)) k)
+  pub lends : (source : ℕ) (k : Keeping) → R k (SetsDistance source k.policy.usual ∷ []) (having (SetsDistance source k.policy.usual) k)
+  pub takes_back : (source : ℕ) (k : Keeping) → R k (SetsDistance source unknown ∷ []) (having (SetsDistance source unknown) k)
   pub tunes : (constants : Tuning) (k : Keeping) → are_constants constants ≡ true → R k (Tunes constants ∷ []) (having (Tunes constants) k)
   pub draws : (d : DrawopValue) (k : Keeping) → R k (Says (Draw d) ∷ []) (having (Says (Draw d)) k)
   pub measured : (micros : ℕ) (k : Keeping) → R k [] (with_policy (with_distance micros k.policy) k)
@@ -80,6 +82,8 @@ pub record HoldsOfParts (R : Keeping → List Line → Keeping → Type 0) : Typ
   pub arrives : (d : DrawopValue) (k : Keeping) → R k (Arrives d ∷ []) (having (Arrives d) k)
   pub answered : (d : DrawopValue) (k : Keeping) → holds (view_of k.host) d.name ≡ false → is_asked (view_of k.host) d.name ≡ true → R k (Arrives d ∷ []) (with_policy (after_came k.policy) (having (Arrives d) k))
   pub hears_request : (asker : ℕ) (name : NameValue) (k : Keeping) → R k (Hears (Request asker name) ∷ []) (having (Hears (Request asker name)) k)
+  pub lends : (source : ℕ) (k : Keeping) → R k (SetsDistance source k.policy.usual ∷ []) (having (SetsDistance source k.policy.usual) k)
+  pub takes_back : (source : ℕ) (k : Keeping) → R k (SetsDistance source unknown ∷ []) (having (SetsDistance source unknown) k)
   pub hears_marks : (sender : ℕ) (page : PageId) (marks : List MarkValue) (k : Keeping) → R k (Hears (PageState sender page marks) ∷ []) (having (Hears (PageState sender page marks)) k)
   pub hears_distance : (sender sent : ℕ) (page : PageId) (marks : List MarkValue) (echoes : List Echo) (k : Keeping) → nat_eq sender k.host.is.number ≡ false
       → let echo = own_echo k.host.is.number echoes in
@@ -111,6 +115,8 @@ module _ (R : Keeping → List Line → Keeping → Type 0) (is : HoldsOfSteps R
     arrives = is.arrives;
     answered = is.answered;
     hears_request = λ asker name k. is.hears (Request asker name) k;
+    lends = is.lends;
+    takes_back = is.takes_back;
     hears_marks = λ sender page marks k. is.hears (PageState sender page marks) k;
     hears_distance = λ sender sent page marks echoes k other.
         let echo = own_echo k.host.is.number echoes in
@@ -203,14 +209,22 @@ module _ (R : Keeping → List Line → Keeping → Type 0) (is : HoldsOfDue R) 
   asks_pages_hold k =
       either (HoldsOf R k) (is_due (present k.host) k.policy.questions.ask) (doing (after_question (present k.host) k.policy) (Says (AskPages k.host.is.number) ∷ [])) (still (sees k.host) k.policy) (is.asks_pages k) (λ later. is.nothing k)
 
-  rest_holds : (k : Keeping) → nat_le k.policy.reports.due (present k.host) ≡ true → (marks : List MarkValue) → marks ≡ slice_after k.policy.told (report_of k.host.is.held k.policy.told_page) → HoldsAt R (reports_rest marks) k
-  rest_holds k due [] e = is.reports (page_after k.policy.told_page (pages_of k.host.is.held)) None k due
-  rest_holds k due (m ∷ marks) e = subst (λ (marks : List MarkValue). HoldsAt R (reports_page k.policy.told_page marks) k) (sym e) (is.reports k.policy.told_page k.policy.told k due)
+  rest_holds : (k : Keeping) → nat_le k.policy.reports.due (present k.host) ≡ true → (marks : List MarkValue) → marks ≡ rest_after k.policy.until k.policy.told (report_of k.host.is.held k.policy.told_page) → HoldsAt R (reports_rest marks) k
+  rest_holds k due [] e =
+      let page = page_after k.policy.told_page (pages_of k.host.is.held) in
+      is.reports page (until_in (report_of k.host.is.held page)) None k due
+  rest_holds k due (m ∷ marks) e = by (is_telling k.policy.until k.policy.told) e where
+    slice : List MarkValue
+    slice = slice_after k.policy.told (report_of k.host.is.held k.policy.told_page)
+
+    by : (b : Bool) → m ∷ marks ≡ cond b slice [] → HoldsAt R (reports_page k.policy.told_page k.policy.until (m ∷ marks)) k
+    by true e = subst (λ (marks : List MarkValue). HoldsAt R (reports_page k.policy.told_page k.policy.until marks) k) (sym e) (is.reports k.policy.told_page k.policy.until k.policy.told k due)
+    by false e = absurd cc
 
   reports_due_hold : Holds R reports_due
   reports_due_hold k =
       either (HoldsOf R k) (nat_le k.policy.reports.due (present k.host)) (and_then reports turn (sees k.host) k.policy) (still (sees k.host) k.policy)
-      (λ due. then_at reports turn k (rest_holds k due (slice_after k.policy.told (report_of k.host.is.held k.policy.told_page)) refl) (turn_holds (after_doing reports k))) (λ later. is.nothing k)
+      (λ due. then_at reports turn k (rest_holds k due (rest_after k.policy.until k.policy.told (report_of k.host.is.held k.policy.told_page)) refl) (turn_holds (after_doing reports k))) (λ later. is.nothing k)
 
   pub timed_holds : Holds R timed
   timed_holds = then_holds answers (and_then asks_pages reports_due) answers_hold (then_holds asks_pages reports_due asks_pages_hold reports_due_hold)
@@ -223,7 +237,7 @@ module _ (R : Keeping → List Line → Keeping → Type 0) (is : HoldsOfParts R
   end_holds : (k : Keeping) → is_full (view_of k.host) ≡ true → HoldsAt R end k
   end_holds k full = stops_hold (view_of k.host).asked k full
 
-  -- a drawop came that was asked for, which costs nothing by now; one came that was not
+  -- a drawop came that was asked for, which pays; one came that was not
   asked_holds : (name : NameValue) (k : Keeping) → HoldsOf R (with_policy (after_came k.policy) k) (with_room_done name true (sees k.host) k.policy)
   asked_holds name k =
       let see = sees k.host in
@@ -304,6 +318,23 @@ module _ (R : Keeping → List Line → Keeping → Type 0) (is : HoldsOfParts R
       either (HoldsOf R k) (is_to_answer (present k.host) (nat_lt 0 (length k.host.is.held)) k.policy.questions) (still (sees k.host) p) (still (sees k.host) k.policy)
       (λ takes. is.takes_up k takes) (λ not_taken. is.due.nothing k)
 
+  request_holds : (asker : ℕ) (name : NameValue) → Holds R (hears_request asker name)
+  request_holds asker name k = by (nat_eq ((view_of k.host).distance source) unknown) where
+    source : ℕ
+    source = cond (holds (view_of k.host) name) asker name.source
+
+    v : Datagram
+    v = Request asker name
+
+    by : (b : Bool) → HoldsOf R k (doing k.policy (cond b (SetsDistance source k.policy.usual ∷ Hears v ∷ SetsDistance source unknown ∷ []) (Hears v ∷ [])))
+    by true =
+        let one = having (SetsDistance source k.policy.usual) k in
+        let two = having (Hears v) one in
+        let three = having (SetsDistance source unknown) two in
+        is.due.both k one three (SetsDistance source k.policy.usual ∷ []) (Hears v ∷ SetsDistance source unknown ∷ []) (is.lends source k)
+        (is.due.both one two three (Hears v ∷ []) (SetsDistance source unknown ∷ []) (is.hears_request asker name one) (is.takes_back source two))
+    by false = is.hears_request asker name k
+
   of_other_holds : (sender : ℕ) (does : Transition) (k : Keeping) → (nat_eq sender k.host.is.number ≡ false → HoldsAt R does k) → HoldsOf R k (cond (nat_eq sender k.host.is.number) (still (sees k.host) k.policy) (does (sees k.host) k.policy))
   of_other_holds sender does k it = either (HoldsOf R k) (nat_eq sender k.host.is.number) (still (sees k.host) k.policy) (does (sees k.host) k.policy) (λ own. is.due.nothing k) it
 
@@ -311,7 +342,7 @@ module _ (R : Keeping → List Line → Keeping → Type 0) (is : HoldsOfParts R
   hears_holds (Draw d) k = takes_holds d k
   hears_holds (Session sender sent page marks echoes) k = of_other_holds sender (hears_session sender sent page marks echoes) k (session_holds sender sent page marks echoes k)
   hears_holds (PageState sender page marks) k = of_other_holds sender (hears_state sender page marks) k (λ other. state_holds sender page marks k)
-  hears_holds (Request asker name) k = of_other_holds asker (performs (Hears (Request asker name))) k (λ other. is.hears_request asker name k)
+  hears_holds (Request asker name) k = of_other_holds asker (hears_request asker name) k (λ other. request_holds asker name k)
   hears_holds (AskPages asker) k = of_other_holds asker takes_question k (λ other. question_holds k)
 
   -- ---- lines

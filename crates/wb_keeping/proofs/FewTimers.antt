@@ -1,8 +1,8 @@
 -- At most 64 request timers stand, whatever comes in.
-use Rattle.std.proofs.Common.{◌≡◌, ℕ, ◌≤◌, zero, suc, Bool, true, false, cond, List, [], ◌∷◌, ◌++◌, ◌∙◌, ap, arith, inl, inr, length, map, refl, subst, sym, ⊎_elim}
-use Rattle.std.specs.Prelude.{◌⊎◌, Contains, nat_le, nat_lt, take}
+use Rattle.std.proofs.Common.{◌≡◌, ℕ, ◌≤◌, zero, suc, Bool, true, false, cond, List, [], ◌∷◌, ◌++◌, ◌∙◌, Some, None, ap, arith, inl, inr, length, map, refl, subst, sym, true≢false, ⊎_elim}
+use Rattle.std.specs.Prelude.{◌⊎◌, ◌||◌, Contains, nat_eq, nat_le, nat_lt, take}
 use Rattle.std.specs.List.{fold}
-use Rattle.std.proofs.lemmas.Bool.{leb-false, leb-true}
+use Rattle.std.proofs.lemmas.Bool.{leb-false}
 use Rattle.wb_names.specs.Values.{NameValue}
 use Rattle.wb_names.proofs.Listings.{Contains-here, Contains-there}
 use Rattle.wb_gaps.specs.Answers.{pages_of}
@@ -11,18 +11,19 @@ use Rattle.wb_recovery.specs.declared.tuning.Tuning.{Tuning}
 use Rattle.wb_member.specs.Judged.{asked_names}
 use Rattle.wb_member.specs.Opened.{Opened, events, opened_with, present}
 use Rattle.wb_keeping.specs.Bounds.{FewRequestsAtOnce, FewTimersStand, is_ask, new_keeping, timer_count}
-use Rattle.wb_keeping.specs.Kept.{Asks, Line, Stops, Ticks, room_lines, still, stops_oldest, usual_lines, want}
+use Rattle.wb_keeping.specs.Distances.{unknown}
+use Rattle.wb_keeping.specs.Kept.{Asks, Line, Stops, Ticks, room_lines, still, stops_one, want, lending, SetsDistance}
 use Rattle.wb_keeping.specs.Laws.{AreTaken, KeptLine, expand}
 use Rattle.wb_keeping.specs.Performing.{Keeping, after_line, after_lines, sees, view_of}
-use Rattle.wb_keeping.specs.Policy.{Policy, after_wanting, holds, is_asked, is_full, level}
-use Rattle.wb_keeping.specs.Wanting.{is_wanted, older, oldest}
+use Rattle.wb_keeping.specs.Policy.{Policy, after_wanting, holds, is_asked, is_full, level, is_known}
+use Rattle.wb_keeping.specs.Wanting.{gives_way, giving_way, is_old, is_wanted, older}
 use Rattle.wb_keeping.specs.declared.wanting.AskedName.{AskedName}
 use Rattle.wb_keeping.proofs.AskedTimers.{count_seen, named}
 use Rattle.wb_keeping.proofs.EachStep.{HoldsOfSteps, all_hold, doing}
 use Rattle.wb_keeping.proofs.Performed.{after_both}
 use Rattle.wb_keeping.proofs.StandingTimers.{few_requests, no_more, one_less, one_more, stands_asked, stands_in}
 use Rattle.wb_keeping.proofs.Wanted.{lines_wanted}
-use Rattle.wb_keeping.proofs.EachLine.{Each, states_each, usual_each}
+use Rattle.wb_keeping.proofs.EachLine.{Each, states_each}
 
 -- ---- before each line, and behind them
 
@@ -66,9 +67,20 @@ few_quietly (line ∷ lines) host none few = let le = no_more line host none.0 i
 
 -- ---- a name that is wanted
 
-asks_last : (lines : List Line) (name : NameValue) (host : Opened) → AskNothing lines → timer_count host ≤ 63 → AreFew (lines ++ Asks name ∷ []) host
-asks_last [] name host none few = let le = one_more name host in (omega (arith, few), omega (arith, le, few))
-asks_last (line ∷ lines) name host none few = let le = no_more line host none.0 in (omega (arith, few), asks_last lines name (after_line line host) none.1 (omega (arith, le, few)))
+asks_one : (name : NameValue) (host : Opened) → timer_count host ≤ 63 → (timer_count host ≤ 64) × (timer_count (after_line (Asks name) host) ≤ 64)
+asks_one name host few = let le = one_more name host in (omega (arith, few), omega (arith, le, few))
+
+lent_few : (source distance usual : ℕ) (name : NameValue) (host : Opened) → timer_count host ≤ 63 → AreFew (lending source distance usual (Asks name)) host
+lent_few source distance usual name host few = by (nat_eq distance unknown) where
+  by : (b : Bool) → AreFew (cond b (SetsDistance source usual ∷ Asks name ∷ SetsDistance source unknown ∷ []) (Asks name ∷ [])) host
+  by false = asks_one name host few
+  by true =
+      let one = after_line (SetsDistance source usual) host in
+      let less = no_more (SetsDistance source usual) host refl in
+      let asks = asks_one name one (omega (arith, less, few)) in
+      let then = no_more (SetsDistance source unknown) (after_line (Asks name) one) refl in
+      let last = asks.1 in
+      (omega (arith, few), (asks.0, (asks.1, omega (arith, then, last))))
 
 -- a name is the oldest of some, or among those behind the first
 oldest_in : (a : AskedName) (later : List AskedName) → (fold older a later ≡ a) ⊎ Contains (map (λ (a : AskedName). a.name) later) (fold older a later).name
@@ -91,33 +103,49 @@ oldest_among a later = ⊎_elim
       names : List NameValue
       names = map (λ (a : AskedName). a.name) later
 
--- one of those that are asked for
-oldest_stands : (host : Opened) (asked : List AskedName) → asked ≡ (view_of host).asked → 64 ≤ length asked → timer_count host ≤ 64 → AreFew (stops_oldest (oldest asked)) host × (timer_count (after_lines (stops_oldest (oldest asked)) host) ≤ 63)
-oldest_stands host [] e many few = absurd (omega (arith, many))
-oldest_stands host (a ∷ later) e many few =
-    let name = (fold older a later).name in
-    let names : map (λ (a : AskedName). a.name) (a ∷ later) ≡ asked_names host = ap (map (λ (a : AskedName). a.name)) e ∙ named (timers_of host.is.constants (events host)) _ in
-    let stands = stands_in host name (subst (λ (ns : List NameValue). Contains ns name) names (oldest_among a later)) in
-    let lt = one_less name host stands in
-    ((few, omega (arith, lt, few)), omega (arith, lt, few))
+either_false : (a b : Bool) → (a || b) ≡ false → a ≡ false
+either_false true b e = absurd (true≢false e)
+either_false false b e = refl
+
+-- behind the one that gives way there is room for one more
+way_made : (host : Opened) (asked : List AskedName) → asked ≡ (view_of host).asked → timer_count host ≤ 64 → AreFew (stops_one (giving_way asked)) host × (timer_count (after_lines (stops_one (giving_way asked)) host) ≤ 63)
+way_made host [] e few = let none = ap (λ (asked : List AskedName). length asked) e ∙ count_seen host in (few, omega (arith, none))
+way_made host (a ∷ later) e few = by (gives_way (length (a ∷ later)) (fold older a later).level) refl where
+  first : AskedName
+  first = fold older a later
+
+  way : Bool → List Line
+  way b = stops_one (cond b (Some first) None)
+
+  by : (b : Bool) → gives_way (length (a ∷ later)) first.level ≡ b → AreFew (way b) host × (timer_count (after_lines (way b) host) ≤ 63)
+  by false f =
+      let lt = leb-false 64 (length (a ∷ later)) (either_false (nat_le 64 (length (a ∷ later))) (is_old first.level) f) in
+      let counts = ap (λ (asked : List AskedName). length asked) e ∙ count_seen host in
+      (few, omega (arith, lt, counts))
+  by true f =
+      let names : map (λ (a : AskedName). a.name) (a ∷ later) ≡ asked_names host = ap (map (λ (a : AskedName). a.name)) e ∙ named (timers_of host.is.constants (events host)) _ in
+      let stands = stands_in host first.name (subst (λ (ns : List NameValue). Contains ns first.name) names (oldest_among a later)) in
+      let lt = one_less first.name host stands in
+      ((few, omega (arith, lt, few)), omega (arith, lt, few))
 
 -- there is room for one timer more
 room_made : (name : NameValue) (host : Opened) → timer_count host ≤ 64 → AreFew (room_lines name (view_of host)) host × (timer_count (after_lines (room_lines name (view_of host)) host) ≤ 63)
-room_made name host few = by (is_asked (view_of host) name) (nat_le 64 (length (view_of host).asked)) refl refl where
-  by : (a b : Bool) → is_asked (view_of host) name ≡ a → nat_le 64 (length (view_of host).asked) ≡ b
-      → AreFew (cond a (Stops name ∷ []) (cond b (stops_oldest (oldest (view_of host).asked)) [])) host × (timer_count (after_lines (cond a (Stops name ∷ []) (cond b (stops_oldest (oldest (view_of host).asked)) [])) host) ≤ 63)
-  by true b e f = let lt = one_less name host (stands_asked host name e) in ((few, omega (arith, lt, few)), omega (arith, lt, few))
-  by false true e f = oldest_stands host (view_of host).asked refl (leb-true _ _ f) few
-  by false false e f = let lt = leb-false _ _ f in let counts = count_seen host in (few, omega (arith, lt, counts))
+room_made name host few = by (is_asked (view_of host) name) refl where
+  lines_by : Bool → List Line
+  lines_by a = cond a (Stops name ∷ []) (stops_one (giving_way (view_of host).asked))
+
+  by : (a : Bool) → is_asked (view_of host) name ≡ a → AreFew (lines_by a) host × (timer_count (after_lines (lines_by a) host) ≤ 63)
+  by true e = let lt = one_less name host (stands_asked host name e) in ((few, omega (arith, lt, few)), omega (arith, lt, few))
+  by false e = way_made host (view_of host).asked refl few
 
 wanted_few : (name : NameValue) (anew : Bool) (k : Keeping) → timer_count k.host ≤ 64 → AreFew (want name anew (sees k.host) k.policy).lines k.host
-wanted_few name anew k few = by (is_wanted (holds (view_of k.host) name) (is_full (view_of k.host)) anew (level (view_of k.host) name) k.policy.owed (present k.host)) where
+wanted_few name anew k few = by (is_wanted (holds (view_of k.host) name) (is_full (view_of k.host)) anew (is_known (view_of k.host) name.source) (level (view_of k.host) name) k.policy.owed (present k.host)) where
   by : (b : Bool) → AreFew (cond b (doing (after_wanting (present k.host) k.policy) (lines_wanted name anew (sees k.host) k.policy)) (still (sees k.host) k.policy)).lines k.host
   by false = few
   by true =
-      let usual = usual_lines name.source ((view_of k.host).distance name.source) k.policy.usual in
       let room = room_made name k.host few in
-      few_both (room_lines name (view_of k.host)) (usual ++ Asks name ∷ []) k.host room.0 (asks_last usual name (after_lines (room_lines name (view_of k.host)) k.host) (usual_each IsNoAsk name.source ((view_of k.host).distance name.source) k.policy.usual (λ micros e. refl)) room.1)
+      few_both (room_lines name (view_of k.host)) (lending name.source ((view_of k.host).distance name.source) k.policy.usual (Asks name)) k.host room.0
+      (lent_few name.source ((view_of k.host).distance name.source) k.policy.usual name (after_lines (room_lines name (view_of k.host)) k.host) room.1)
 
 -- ---- all that a kept host does
 
@@ -146,7 +174,7 @@ steps_keep_few = record {
     turned = λ t k. quietly k [] _ tt;
     answers = λ k is. quietly k _ _ (states_each IsNoAsk (view_of k.host) (λ page. refl) (take 64 (pages_of k.host.is.held)));
     asks_pages = λ k is. quietly k _ _ (refl, tt);
-    reports = λ page told k is. quietly k _ _ (refl, tt);
+    reports = λ page until told k is. quietly k _ _ (refl, tt);
   };
   ticks = λ now k later. quietly k (Ticks now ∷ []) k.policy (refl, tt);
   arrives = λ d k. quietly k _ k.policy (refl, tt);
@@ -154,6 +182,8 @@ steps_keep_few = record {
   hears = λ v k. quietly k _ k.policy (refl, tt);
   stops = λ name k full. quietly k _ k.policy (refl, tt);
   sets = λ source micros k. quietly k _ k.policy (refl, tt);
+  lends = λ source k. quietly k _ k.policy (refl, tt);
+  takes_back = λ source k. quietly k _ k.policy (refl, tt);
   tunes = λ constants k within. quietly k _ k.policy (refl, tt);
   draws = λ d k. quietly k _ k.policy (refl, tt);
   measured = λ micros k. quietly k [] _ tt;

@@ -1,13 +1,12 @@
 -- The lines of a kept host.
 use Rattle.std.proofs.Common.{◌≡◌, ◌⊎◌, Bool, true, false, cond, [], arith, filter, inl, inr, refl, sym, true≢false}
-use Rattle.std.specs.Prelude.{IsTrue, not, ◌&&◌}
+use Rattle.std.specs.Prelude.{IsTrue, not, ◌&&◌, ◌||◌}
 use Rattle.std.proofs.lemmas.List.{length-take}
 use Rattle.wb_names.specs.Values.{MarkValue}
-use Rattle.wb_keeping.specs.Credit.{has_credit}
 use Rattle.wb_keeping.specs.Kept.{Doing}
 use Rattle.wb_keeping.specs.Laws.{NothingIsDue, SlicesAreShort, TimeComesFirst, WantedIsPaid}
-use Rattle.wb_keeping.specs.Policy.{Policy, holds, is_full, level}
-use Rattle.wb_keeping.specs.Wanting.{goes_on, is_wanted}
+use Rattle.wb_keeping.specs.Policy.{Policy, holds, is_full, level, is_known}
+use Rattle.wb_keeping.specs.Wanting.{goes_on, is_paid, is_wanted}
 use Rattle.wb_keeping.specs.Reports.{is_untold}
 
 pub time_comes_first : TimeComesFirst
@@ -36,7 +35,7 @@ one_of false one other P p holds_then is = inl refl
 pub wanted_is_paid : WantedIsPaid
 wanted_is_paid name anew see p =
     let v = see [] in
-    elim (one_of (is_wanted (holds v name) (is_full v) anew (level v name) p.owed v.now) _ _ (IsTrue (has_credit p.owed v.now) × (holds v name ≡ false)) _ (all_hold (holds v name) (is_full v) (goes_on anew (level v name)) (has_credit p.owed v.now)) refl) [
+    elim (one_of (is_wanted (holds v name) (is_full v) anew (is_known v name.source) (level v name) p.owed v.now) _ _ (IsTrue (is_paid (anew || is_known v name.source) p.owed v.now) × (holds v name ≡ false)) _ (all_hold (holds v name) (is_full v) (goes_on anew (level v name)) (is_paid (anew || is_known v name.source) p.owed v.now)) refl) [
       | inl same ↦ inl same
       | inr paid ↦ inr (paid.0.0, paid.0.1, paid.1)
     ]

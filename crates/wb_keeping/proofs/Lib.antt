@@ -10,6 +10,7 @@ pub mod Wanted
 pub mod EachLine
 pub mod OneByOne
 pub mod LeftSome
+pub mod Lending
 pub mod KeptHosts
 pub mod Unlocked
 pub mod Refused
@@ -24,6 +25,7 @@ pub mod Cycle
 pub mod HolesRise
 pub mod FairTurns
 pub mod ToldMarks
+pub mod Rising
 pub mod WantedNames
 pub mod BackedOff
 pub mod SpacedLines

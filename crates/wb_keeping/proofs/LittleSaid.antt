@@ -1,6 +1,6 @@
 -- How many names a kept host asks for, and how often it speaks of itself.
 use Rattle.std.proofs.Common.{◌≡◌, ℕ, zero, suc, ◌+◌, ◌-◌, ◌*◌, ◌≤◌, Bool, true, false, cond, List, [], ◌∷◌, ◌++◌, ◌∙◌, Option, Some, None, ap, arith, filter, length, length-append, map, max, min, refl, subst, sym, true≢false}
-use Rattle.std.specs.Prelude.{IfSome, IsTrue, ◌&&◌, ◌/◌, is_none, nat_le, nat_lt, not, take}
+use Rattle.std.specs.Prelude.{IfSome, IsTrue, ◌&&◌, ◌/◌, is_none, nat_eq, nat_le, nat_lt, not, take, ◌||◌}
 use Rattle.std.proofs.lemmas.Bool.{leb-true}
 use Rattle.std.proofs.lemmas.Bool.Decides.{nat_tests}
 use Rattle.std.proofs.lemmas.List.{length-take}
@@ -15,20 +15,20 @@ use Rattle.wb_member.specs.Opened.{Opened, doing as doing_act, has_room_for, hea
 use Rattle.wb_member.specs.Random.{word_of}
 use Rattle.wb_keeping.specs.Bounds.{FewNamesAreAsked, LittleIsSaid, answer_count, ask_count, is_ask, is_question, is_report, is_state}
 use Rattle.wb_keeping.specs.Credit.{has_credit}
-use Rattle.wb_keeping.specs.Distances.{bounded}
-use Rattle.wb_keeping.specs.Kept.{Arrives, Asks, Doing, Hears, Line, Says, SetsDistance, Tunes, Stops, Ticks, last_heard, reports_page, room_lines, state_of, still, usual_lines, want}
+use Rattle.wb_keeping.specs.Distances.{bounded, unknown}
+use Rattle.wb_keeping.specs.Kept.{Arrives, Asks, Doing, Hears, Line, Says, SetsDistance, Tunes, Stops, Ticks, last_heard, reports_page, room_lines, state_of, still, want, lending}
 use Rattle.wb_keeping.specs.Laws.{AreTaken, KeptLine, after_kept, expand}
 use Rattle.wb_keeping.specs.Performing.{Keeping, after_doing, after_line, after_lines, sees, view_of}
-use Rattle.wb_keeping.specs.Policy.{Policy, View, after_answer, after_came, after_question, after_state, after_taking_up, after_wanting, draws, holds, is_asked, is_full, level}
+use Rattle.wb_keeping.specs.Policy.{Policy, View, after_answer, after_came, after_question, after_state, after_taking_up, after_wanting, draws, holds, is_asked, is_full, level, is_known}
 use Rattle.wb_keeping.specs.Questions.{answered_at, heard_at, is_due, is_to_answer, to_answer}
 use Rattle.wb_keeping.specs.Reports.{mean_time, members_in, slice_after}
-use Rattle.wb_keeping.specs.Wanting.{goes_on, is_wanted}
+use Rattle.wb_keeping.specs.Wanting.{goes_on, is_paid, is_wanted}
 use Rattle.wb_keeping.specs.declared.questions.Questions.{Questions}
 use Rattle.wb_keeping.proofs.EachStep.{HoldsOfSteps, all_hold, doing, having, having_done, with_policy}
 use Rattle.wb_keeping.proofs.KeptLines.{all_hold as all_four}
 use Rattle.wb_keeping.proofs.Performed.{after_both}
-use Rattle.wb_keeping.proofs.Spending.{IsPaid, one_asked, one_came}
-use Rattle.wb_keeping.proofs.EachLine.{Each, room_each, usual_each}
+use Rattle.wb_keeping.proofs.Spending.{IsPaid, has_place, one_asked, one_came}
+use Rattle.wb_keeping.proofs.EachLine.{Each, room_each}
 use Rattle.wb_keeping.proofs.Saying.{says_after}
 
 -- ---- what is spaced
@@ -256,8 +256,8 @@ answered_keep d k lacks asked = record {
       let q = up.questions in
       let states = w.few in
       record {
-        paid = subst (λ (n : ℕ). IsPaid start (present k.host) (k.policy.owed - 250000) n e.comes) (omega (arith, a))
-            (subst (λ (n : ℕ). IsPaid start (present k.host) (k.policy.owed - 250000) c.asks n) (omega (arith, b, one)) (one_came start (present k.host) k.policy.owed c.asks c.comes w.paid));
+        paid = subst (λ (n : ℕ). IsPaid start (present k.host) (k.policy.owed - 500000) n e.comes) (omega (arith, a))
+            (subst (λ (n : ℕ). IsPaid start (present k.host) (k.policy.owed - 500000) c.asks n) (omega (arith, b, one)) (one_came start (present k.host) k.policy.owed c.asks c.comes w.paid));
         told = subst (λ (n : ℕ). IsSpaced start (present k.host) k.policy.reports.due 1000000 (n * 1000000)) (omega (arith, r)) w.told;
         bursts = w.bursts;
         answered = w.answered;
@@ -327,39 +327,51 @@ asks_keep name k credit = record {
       });
 }
 
+-- and so where a distance is lent for that
+lent_keeps : (source distance : ℕ) (name : NameValue) (k : Keeping) → IsTrue (has_credit k.policy.owed (present k.host))
+    → Keeps k (lending source distance k.policy.usual (Asks name)) (having_done (doing (after_wanting (present k.host) k.policy) (lending source distance k.policy.usual (Asks name))) k)
+lent_keeps source distance name k credit = by (nat_eq distance unknown) where
+  p : Policy
+  p = after_wanting (present k.host) k.policy
+
+  by : (b : Bool) → let lines = cond b (SetsDistance source k.policy.usual ∷ Asks name ∷ SetsDistance source unknown ∷ []) (Asks name ∷ []) in Keeps k lines (having_done (doing p lines) k)
+  by false = asks_keep name k credit
+  by true =
+      let one = having (SetsDistance source k.policy.usual) k in
+      let two = with_policy p (having (Asks name) one) in
+      let three = having (SetsDistance source unknown) two in
+      both_keep k one three (SetsDistance source k.policy.usual ∷ []) (Asks name ∷ SetsDistance source unknown ∷ []) (plainly k (SetsDistance source k.policy.usual ∷ []) (tt, tt))
+      (both_keep one two three (Asks name ∷ []) (SetsDistance source unknown ∷ []) (asks_keep name one credit) (plainly two (SetsDistance source unknown ∷ []) (tt, tt)))
+
 wants_keep : (name : NameValue) (anew : Bool) (k : Keeping) → Keeps k (want name anew (sees k.host) k.policy).lines (after_doing (want name anew) k)
-wants_keep name anew k = by (is_wanted (holds v name) (is_full v) anew (level v name) k.policy.owed (present k.host)) refl where
+wants_keep name anew k = by (is_wanted (holds v name) (is_full v) anew (is_known v name.source) (level v name) k.policy.owed (present k.host)) refl where
   v : View
   v = view_of k.host
 
   room : List Line
   room = room_lines name v
 
-  usual : List Line
-  usual = usual_lines name.source (v.distance name.source) k.policy.usual
+  last : List Line
+  last = lending name.source (v.distance name.source) k.policy.usual (Asks name)
 
   room_plain : ArePlain room
   room_plain = room_each IsPlain (λ name. tt) name v
 
-  usual_plain : ArePlain usual
-  usual_plain = usual_each IsPlain name.source (v.distance name.source) k.policy.usual (λ micros e. tt)
-
   wanted : Doing
-  wanted = doing (after_wanting (present k.host) k.policy) (room ++ (usual ++ Asks name ∷ []))
+  wanted = doing (after_wanting (present k.host) k.policy) (room ++ last)
 
-  by : (b : Bool) → is_wanted (holds v name) (is_full v) anew (level v name) k.policy.owed (present k.host) ≡ b → Keeps k (cond b wanted (still (sees k.host) k.policy)).lines (having_done (cond b wanted (still (sees k.host) k.policy)) k)
+  by : (b : Bool) → is_wanted (holds v name) (is_full v) anew (is_known v name.source) (level v name) k.policy.owed (present k.host) ≡ b → Keeps k (cond b wanted (still (sees k.host) k.policy)).lines (having_done (cond b wanted (still (sees k.host) k.policy)) k)
   by false e = plainly k [] tt
   by true e =
-      let credit = (all_four (holds v name) (is_full v) (goes_on anew (level v name)) (has_credit k.policy.owed (present k.host)) e).0 in
+      let credit = has_place (anew || is_known v name.source) k.policy.owed (present k.host) (all_four (holds v name) (is_full v) (goes_on anew (level v name)) (is_paid (anew || is_known v name.source) k.policy.owed (present k.host)) e).0 in
       let one = having_done (doing k.policy room) k in
-      let two = having_done (doing k.policy usual) one in
-      let stands : present two.host ≡ present k.host = present_plain usual one.host usual_plain ∙ present_plain room k.host room_plain in
-      let last = asks_keep name two (subst (λ (n : ℕ). IsTrue (has_credit k.policy.owed n)) (sym stands) credit) in
-      let end = with_policy (after_wanting (present two.host) k.policy) (having (Asks name) two) in
-      let all = both_keep k one end room (usual ++ Asks name ∷ []) (plainly k room room_plain) (both_keep one two end usual (Asks name ∷ []) (plainly one usual usual_plain) last) in
-      let there : end.host ≡ after_lines (room ++ (usual ++ Asks name ∷ [])) k.host = all.at in
-      subst (λ (h : Opened). Keeps k (room ++ (usual ++ Asks name ∷ [])) (record { host = h; policy = after_wanting (present k.host) k.policy })) there
-      (subst (λ (n : ℕ). Keeps k (room ++ (usual ++ Asks name ∷ [])) (record { host = end.host; policy = after_wanting n k.policy })) stands all)
+      let stands : present one.host ≡ present k.host = present_plain room k.host room_plain in
+      let asked = lent_keeps name.source (v.distance name.source) name one (subst (λ (n : ℕ). IsTrue (has_credit k.policy.owed n)) (sym stands) credit) in
+      let end = having_done (doing (after_wanting (present one.host) k.policy) last) one in
+      let all = both_keep k one end room last (plainly k room room_plain) asked in
+      let there : end.host ≡ after_lines (room ++ last) k.host = all.at in
+      subst (λ (h : Opened). Keeps k (room ++ last) (record { host = h; policy = after_wanting (present k.host) k.policy })) there
+      (subst (λ (n : ℕ). Keeps k (room ++ last) (record { host = end.host; policy = after_wanting n k.policy })) stands all)
 
 -- ---- what is said
 
@@ -442,9 +454,9 @@ asks_pages_keep k due = record {
 mean_slow : (rate members bytes : ℕ) → 2000000 ≤ min (max (members * bytes * 1000000 / rate) 2000000) 64000000
 mean_slow rate members bytes = omega arith
 
-reports_keep : (page : PageId) (told : Option ℕ) (k : Keeping) → nat_le k.policy.reports.due (present k.host) ≡ true
-    → Keeps k (reports_page page (slice_after told (report_of k.host.is.held page)) (sees k.host) k.policy).lines (after_doing (reports_page page (slice_after told (report_of k.host.is.held page))) k)
-reports_keep page told k due = record {
+reports_keep : (page : PageId) (until : ℕ) (told : Option ℕ) (k : Keeping) → nat_le k.policy.reports.due (present k.host) ≡ true
+    → Keeps k (reports_page page until (slice_after told (report_of k.host.is.held page)) (sees k.host) k.policy).lines (after_doing (reports_page page until (slice_after told (report_of k.host.is.held page))) k)
+reports_keep page until told k due = record {
   at = refl;
   within = λ start wait c d up w.
       let now = present k.host in
@@ -546,6 +558,8 @@ steps_keep = record {
   hears = λ v k. plainly k (Hears v ∷ []) (tt, tt);
   stops = λ name k full. plainly k (Stops name ∷ []) (tt, tt);
   sets = λ source micros k. plainly k (SetsDistance source (bounded micros) ∷ []) (tt, tt);
+  lends = λ source k. plainly k (SetsDistance source k.policy.usual ∷ []) (tt, tt);
+  takes_back = λ source k. plainly k (SetsDistance source unknown ∷ []) (tt, tt);
   tunes = λ constants k within. plainly k (Tunes constants ∷ []) (tt, tt);
   draws = draws_keep;
   measured = λ micros k. quietly k [] _ (plain_nothing [] k.host tt) refl refl refl refl;

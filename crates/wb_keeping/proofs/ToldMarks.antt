@@ -8,7 +8,7 @@ use Rattle.std.specs.Option.{option_or}
 use Rattle.std.specs.Ordering.{is_lt, nat_cmp, ordering_reverse}
 use Rattle.std.specs.declared.cmp.Ordering.TheVariants.{Less}
 use Rattle.std.proofs.Math.ListN.{drop_of_length-le}
-use Rattle.std.proofs.lemmas.Bool.{leb-false, leb-true, ltb-true}
+use Rattle.std.proofs.lemmas.Bool.{leb-false, leb-true, lt-ltb, ltb-true}
 use Rattle.std.proofs.lemmas.Bool.Decides.{nat_tests}
 use Rattle.std.proofs.lemmas.Grind.{common_steps}
 use Rattle.std.proofs.lemmas.List.{get_or-drop, get_or-take, length-drop, length-take, take_all}
@@ -23,11 +23,11 @@ use Rattle.wb_gaps.specs.Answers.{pages_of, report_of, sources_of, top_mark}
 use Rattle.wb_gaps.proofs.PageAnswers.{pages_of_history}
 use Rattle.wb_gaps.proofs.Sorting.{sorted_rises}
 use Rattle.wb_gaps.proofs.Starts.{page_itself}
-use Rattle.wb_keeping.specs.Fairness.{EachMarkIsTold, ReportsTell, Told, after_tellings, marks_in_turn, page_in_turn, slices_of, slices_on, where_left}
+use Rattle.wb_keeping.specs.Fairness.{EachMarkIsTold, ReportsTell, Told, after_tellings, left_to_tell, marks_in_turn, page_in_turn, slices_of, slices_on, until_in_turn, where_left}
 use Rattle.wb_codec.specs.declared.datagram.Datagram.TheVariants.{Session}
-use Rattle.wb_keeping.specs.Kept.{Line, Says, last_heard, last_source, reports_rest}
+use Rattle.wb_keeping.specs.Kept.{Line, Says, last_heard, last_source, reports_rest, until_in}
 use Rattle.wb_keeping.specs.Policy.{Policy, View}
-use Rattle.wb_keeping.specs.Reports.{first_of_pages, is_after, is_untold, page_after, slice_after}
+use Rattle.wb_keeping.specs.Reports.{first_of_pages, is_after, is_telling, is_untold, page_after, rest_after, slice_after}
 use Rattle.wb_keeping.specs.Turns.{nowhere}
 use Rattle.wb_keeping.proofs.Cycle as cycle
 use Rattle.wb_keeping.proofs.Cycle.{found_at}
@@ -155,6 +155,49 @@ behind_slice told report (m ∷ rest) all e none =
     ∙ ap (filter (λ m. is_untold last m.source)) (sym e)
     ∙ drop_left 64 told (m ∷ rest) left
 
+-- ---- where a telling ends
+
+last_above : (a : ℕ) (marks : List MarkValue) → AreAbove a marks → Ascend marks → a ≤ unwrap_or (last_source (Some a) marks) 0
+last_above a [] above all = omega arith
+last_above a (m ∷ marks) above all = let lt = above.0 in let le = last_above m.source marks all.0 all.1 in omega (arith, lt, le)
+
+first_source : (n m : MarkValue) (ns ms : List MarkValue) → n ∷ ns ≡ m ∷ ms → n.source ≡ m.source
+first_source n m ns ms e = cc
+
+-- no source of a page is above its last
+below_last : (p : MarkValue → Bool) (marks : List MarkValue) (m : MarkValue) (left : List MarkValue) → Ascend marks → filter p marks ≡ m ∷ left → m.source ≤ until_in marks
+below_last p [] m left all e = absurd cc
+below_last p (x ∷ []) m left all e = by (p x) e where
+  by : (b : Bool) → cond b (x ∷ []) [] ≡ m ∷ left → m.source ≤ x.source
+  by true e = let same = first_source x m [] left e in omega (arith, same)
+  by false e = absurd cc
+below_last p (x ∷ y ∷ marks) m left all e = by (p x) e (λ rest. below_last p (y ∷ marks) m left all.1 rest) where
+  by : (b : Bool) → cond b (x ∷ filter p (y ∷ marks)) (filter p (y ∷ marks)) ≡ m ∷ left → (filter p (y ∷ marks) ≡ m ∷ left → m.source ≤ until_in (y ∷ marks)) → m.source ≤ until_in (y ∷ marks)
+  by true e later = let same = first_source x m (filter p (y ∷ marks)) left e in let le = last_above x.source (y ∷ marks) all.0 all.1 in omega (arith, same, le)
+  by false e later = later e
+
+-- the first that is left passes the test
+passes : (p : MarkValue → Bool) (marks : List MarkValue) (m : MarkValue) (left : List MarkValue) → filter p marks ≡ m ∷ left → p m ≡ true
+passes p [] m left e = absurd cc
+passes p (x ∷ marks) m left e = by (p x) refl e (λ rest. passes p marks m left rest) where
+  same : (ns : List MarkValue) → x ∷ ns ≡ m ∷ left → x ≡ m
+  same ns e = cc
+
+  by : (b : Bool) → p x ≡ b → cond b (x ∷ filter p marks) (filter p marks) ≡ m ∷ left → (filter p marks ≡ m ∷ left → p m ≡ true) → p m ≡ true
+  by true is e later = ap p (sym (same (filter p marks) e)) ∙ is
+  by false is e later = later e
+
+some_last : (a : ℕ) (marks : List MarkValue) → (b : ℕ) × (last_source (Some a) marks ≡ Some b)
+some_last a [] = (a, refl)
+some_last a (m ∷ marks) = some_last m.source marks
+
+-- something is left to tell where a source is left
+tells_on : (until : ℕ) (told : Option ℕ) (some : (b : ℕ) × (told ≡ Some b)) (source : ℕ) → is_untold told source ≡ true → source ≤ until → is_telling until told ≡ true
+tells_on until told some source untold le =
+    ap (is_telling until) some.1 ∙ (
+    let lt = ltb-true some.0 source (ap (λ (o : Option ℕ). is_untold o source) (sym some.1) ∙ untold) in
+    lt-ltb some.0 until (omega (arith, lt, le)))
+
 -- ---- pages ascend
 
 behind_pages : (p : PageId) (pages : List PageId) → AllByRecursion (λ q. page_cmp p q ≡ Less) pages → cycle.AreBehind is_after p pages
@@ -174,57 +217,118 @@ module _ (held : List DrawopValue) (t : Told) where
   abbrev at : ℕ → Told
   at count = after_tellings held count t
 
+  -- what is left of its page, told or not
+  abbrev left_at : ℕ → List MarkValue
+  left_at count = filter (λ m. is_untold (at count).last m.source) (report_of held (at count).page)
+
+  abbrev going : ℕ → Bool
+  going count = is_telling (at count).until (at count).last
+
   -- after so many, the next one tells the first of these marks of a page
   record Tells (count : ℕ) (page : PageId) (rest : List MarkValue) : Type 0 where
     page_is : page_in_turn held (at count) ≡ page
     marks_are : marks_in_turn held (at count) ≡ take 64 rest
+    until_is : until_in_turn held (at count) ≡ until_in (report_of held page)
     told : Option ℕ
     left : rest ≡ filter (λ m. is_untold told m.source) (report_of held page)
     whole : (rest ≡ []) → told ≡ None
 
   -- and then the others are left
-  leaves : (count : ℕ) (page : PageId) (rest : List MarkValue) → Tells count page rest → filter (λ m. is_untold (at (suc count)).last m.source) (report_of held (at (suc count)).page) ≡ drop 64 rest
+  leaves : (count : ℕ) (page : PageId) (rest : List MarkValue) → Tells count page rest → left_at (suc count) ≡ drop 64 rest
   leaves count page rest s =
       ap (λ (p : PageId). filter (λ m. is_untold (last_source None (marks_in_turn held (at count))) m.source) (report_of held p)) s.page_is
       ∙ ap (λ (ms : List MarkValue). filter (λ m. is_untold (last_source None ms) m.source) (report_of held page)) s.marks_are
       ∙ behind_slice s.told (report_of held page) rest (report_ascends held page) s.left s.whole
 
-  -- something is left
-  goes_on : (count : ℕ) (rest : List MarkValue) (m : MarkValue) → filter (λ m. is_untold (at count).last m.source) (report_of held (at count).page) ≡ m ∷ rest → Tells count (at count).page (m ∷ rest)
-  goes_on count rest m e = record {
-    page_is = ap (λ (ms : List MarkValue). where_left (take 64 ms) (page_after (at count).page (pages_of held)) (at count).page) e;
-    marks_are = ap (λ (ms : List MarkValue). where_left (take 64 ms) (slice_after None (report_of held (page_after (at count).page (pages_of held)))) (take 64 ms)) e;
-    told = (at count).last;
-    left = sym e;
-    whole = λ none. absurd cc;
-  }
+  -- something is left to tell
+  left_is : (count : ℕ) (rest : List MarkValue) → going count ≡ true → left_at count ≡ rest → left_to_tell held (at count) ≡ take 64 rest
+  left_is count rest on e = ap (λ (b : Bool). cond b (take 64 (left_at count)) []) on ∙ ap (take 64) e
+
+  page_on : (count : ℕ) (m : MarkValue) (rest : List MarkValue) → left_to_tell held (at count) ≡ m ∷ rest → page_in_turn held (at count) ≡ (at count).page
+  page_on count m rest e = ap (λ (ms : List MarkValue). where_left ms (page_after (at count).page (pages_of held)) (at count).page) e
+
+  marks_on : (count : ℕ) (m : MarkValue) (rest : List MarkValue) → left_to_tell held (at count) ≡ m ∷ rest → marks_in_turn held (at count) ≡ m ∷ rest
+  marks_on count m rest e = ap (λ (ms : List MarkValue). where_left ms (slice_after None (report_of held (page_after (at count).page (pages_of held)))) ms) e
+
+  until_on : (count : ℕ) (m : MarkValue) (rest : List MarkValue) → left_to_tell held (at count) ≡ m ∷ rest → until_in_turn held (at count) ≡ (at count).until
+  until_on count m rest e = ap (λ (ms : List MarkValue). where_left ms (until_in (report_of held (page_after (at count).page (pages_of held)))) (at count).until) e
 
   all_of : (marks : List MarkValue) → marks ≡ filter (λ m. is_untold None m.source) marks
   all_of [] = refl
   all_of (m ∷ marks) = ap (λ (ms : List MarkValue). m ∷ ms) (all_of marks)
 
-  -- nothing is left, and the next page begins
-  goes_over : (count : ℕ) → filter (λ m. is_untold (at count).last m.source) (report_of held (at count).page) ≡ [] → let q = page_after (at count).page (pages_of held) in Tells count q (report_of held q)
+  -- nothing is left to tell, and the next page begins
+  goes_over : (count : ℕ) → left_to_tell held (at count) ≡ [] → let q = page_after (at count).page (pages_of held) in Tells count q (report_of held q)
   goes_over count e =
       let q = page_after (at count).page (pages_of held) in
       record {
-        page_is = ap (λ (ms : List MarkValue). where_left (take 64 ms) q (at count).page) e;
-        marks_are = ap (λ (ms : List MarkValue). where_left (take 64 ms) (slice_after None (report_of held q)) (take 64 ms)) e ∙ ap (take 64) (sym (all_of (report_of held q)));
+        page_is = ap (λ (ms : List MarkValue). where_left ms q (at count).page) e;
+        marks_are = ap (λ (ms : List MarkValue). where_left ms (slice_after None (report_of held q)) ms) e ∙ ap (take 64) (sym (all_of (report_of held q)));
+        until_is = ap (λ (ms : List MarkValue). where_left ms (until_in (report_of held q)) (at count).until) e;
         told = None;
         left = all_of (report_of held q);
         whole = λ none. refl;
       }
 
+  -- nothing is left of the page
+  none_left : (count : ℕ) → left_at count ≡ [] → left_to_tell held (at count) ≡ []
+  none_left count e = by (going count) where
+    by : (b : Bool) → cond b (take 64 (left_at count)) [] ≡ []
+    by true = ap (take 64) e
+    by false = refl
+
+  -- the marks that are told are the first of what is left of the page, and the others are left then
+  told_on : (count : ℕ) (m : MarkValue) (rest : List MarkValue) → left_to_tell held (at count) ≡ m ∷ rest → ((at (suc count)).page ≡ (at count).page) × (left_at (suc count) ≡ drop 64 (left_at count))
+  told_on count m rest e = (page_on count m rest e, left) where
+    none_some : [] ≡ m ∷ rest → ⊥
+    none_some e = cc
+
+    slice : take 64 (left_at count) ≡ m ∷ rest
+    slice = by (going count) e where
+      by : (b : Bool) → cond b (take 64 (left_at count)) [] ≡ m ∷ rest → take 64 (left_at count) ≡ m ∷ rest
+      by true is = is
+      by false is = absurd (none_some is)
+
+    left : left_at (suc count) ≡ drop 64 (left_at count)
+    left =
+        ap (λ (p : PageId). filter (λ m. is_untold (last_source None (marks_in_turn held (at count))) m.source) (report_of held p)) (page_on count m rest e)
+        ∙ ap (λ (ms : List MarkValue). filter (λ m. is_untold (last_source None ms) m.source) (report_of held (at count).page)) (marks_on count m rest e ∙ sym slice)
+        ∙ behind_slice (at count).last (report_of held (at count).page) (left_at count) (report_ascends held (at count).page) refl (λ none. absurd (none_some (sym (ap (take 64) none) ∙ slice)))
+
+  -- the source was not told yet at which a telling ends
+  still_going : (count : ℕ) (page : PageId) (rest : List MarkValue) (m : MarkValue) (left : List MarkValue) → Tells count page rest → 64 < length rest → drop 64 rest ≡ m ∷ left → going (suc count) ≡ true
+  still_going count page rest m left s long e =
+      tells_on (at (suc count)).until (at (suc count)).last (told_some rest s.marks_are long) m.source untold (subst (λ (n : ℕ). m.source ≤ n) (sym s.until_is) (below_last (λ m. is_untold (at (suc count)).last m.source) (report_of held page) m left (report_ascends held page) is_left)) where
+        told_some : (rest : List MarkValue) → marks_in_turn held (at count) ≡ take 64 rest → 64 < length rest → (b : ℕ) × ((at (suc count)).last ≡ Some b)
+        told_some [] e long = absurd (omega (arith, long))
+        told_some (x ∷ rest) e long = let l = some_last x.source (take 63 rest) in (l.0, ap (last_source None) e ∙ l.1)
+
+        is_left : filter (λ m. is_untold (at (suc count)).last m.source) (report_of held page) ≡ m ∷ left
+        is_left = ap (λ (p : PageId). filter (λ m. is_untold (at (suc count)).last m.source) (report_of held p)) (sym s.page_is) ∙ leaves count page rest s ∙ e
+
+        untold : is_untold (at (suc count)).last m.source ≡ true
+        untold = passes (λ m. is_untold (at (suc count)).last m.source) (report_of held page) m left is_left
+
   onward : (count : ℕ) (page : PageId) (rest : List MarkValue) → Tells count page rest → 64 < length rest → Tells (suc count) page (drop 64 rest)
   onward count page rest s long = by (drop 64 rest) refl where
+    next : (m : MarkValue) (left : List MarkValue) → drop 64 rest ≡ m ∷ left → left_to_tell held (at (suc count)) ≡ take 64 (m ∷ left) → Tells (suc count) page (m ∷ left)
+    next m left e told = record {
+      page_is = page_on (suc count) m (take 63 left) told ∙ s.page_is;
+      marks_are = marks_on (suc count) m (take 63 left) told;
+      until_is = until_on (suc count) m (take 63 left) told ∙ s.until_is;
+      told = (at (suc count)).last;
+      left = sym (ap (λ (p : PageId). filter (λ m. is_untold (at (suc count)).last m.source) (report_of held p)) (sym s.page_is) ∙ leaves count page rest s ∙ e);
+      whole = λ none. absurd cc;
+    }
+
     by : (left : List MarkValue) → drop 64 rest ≡ left → Tells (suc count) page left
     by [] e = absurd (let a = length-drop 64 rest in let b : length (drop 64 rest) ≡ 0 = ap (λ (ms : List MarkValue). length ms) e in omega (arith, a, b, long))
-    by (m ∷ left) e = subst (λ (p : PageId). Tells (suc count) p (m ∷ left)) s.page_is (goes_on (suc count) left m (leaves count page rest s ∙ e))
+    by (m ∷ left) e = next m left e (left_is (suc count) (m ∷ left) (still_going count page rest m left s long e) (leaves count page rest s ∙ e))
 
   over : (count : ℕ) (page : PageId) (rest : List MarkValue) → Tells count page rest → length rest ≤ 64 → Tells (suc count) (page_after page (pages_of held)) (report_of held (page_after page (pages_of held)))
   over count page rest s short =
       subst (λ (p : PageId). Tells (suc count) (page_after p (pages_of held)) (report_of held (page_after p (pages_of held)))) s.page_is
-      (goes_over (suc count) (leaves count page rest s ∙ drop_of_length-le rest short))
+      (goes_over (suc count) (none_left (suc count) (leaves count page rest s ∙ drop_of_length-le rest short)))
 
   -- the page ends after as many reports as what is left has slices
   ended : (k count : ℕ) (page : PageId) (rest : List MarkValue) → (k * 64 < length rest) ⊎ (k ≡ 0) → length rest ≤ suc k * 64 → Tells count page rest
@@ -265,13 +369,15 @@ module _ (held : List DrawopValue) (t : Told) where
   told_in zero count j page rest d low high lt s =
       let within : j < length (take 64 rest) = let l = length-take 64 rest in omega (arith, l, high, lt) in
       let there : Contains (marks_in_turn held (at count)) (get_or rest j d) = subst (λ (ms : List MarkValue). Contains ms (get_or rest j d)) (sym s.marks_are) (subst (λ (m : MarkValue). Contains (take 64 rest) m) (get_or-take 64 rest j d (omega (arith, high))) (Contains-get_or (take 64 rest) j d within)) in
-      subst (λ (n : ℕ). (page_in_turn held (at n) ≡ page) × Contains (marks_in_turn held (at n)) (get_or rest j d)) (omega arith) (s.page_is, there)
+      let none : count ≡ zero + count = omega arith in
+      subst (λ (n : ℕ). (page_in_turn held (at n) ≡ page) × Contains (marks_in_turn held (at n)) (get_or rest j d)) none (s.page_is, there)
   told_in (suc k) count j page rest d low high lt s =
       let left = length-drop 64 rest in
       let there = told_in k (suc count) (j - 64) page (drop 64 rest) d (omega (arith, low)) (omega (arith, high)) (omega (arith, lt, left, low)) (onward count page rest s (omega (arith, low, lt))) in
+      let next : k + suc count ≡ suc k + count = omega arith in
       let same : get_or (drop 64 rest) (j - 64) d ≡ get_or rest j d = get_or-drop 64 rest (j - 64) d ∙ ap (λ (n : ℕ). get_or rest n d) (omega (arith, low)) in
       subst (λ (m : MarkValue). (page_in_turn held (at (suc k + count)) ≡ page) × Contains (marks_in_turn held (at (suc k + count))) m) same
-      (subst (λ (n : ℕ). (page_in_turn held (at n) ≡ page) × Contains (marks_in_turn held (at n)) (get_or (drop 64 rest) (j - 64) d)) (omega arith) there)
+      (subst (λ (n : ℕ). (page_in_turn held (at n) ≡ page) × Contains (marks_in_turn held (at n)) (get_or (drop 64 rest) (j - 64) d)) next there)
 
   -- ---- page by page
 
@@ -427,24 +533,37 @@ module _ (held : List DrawopValue) (t : Told) where
       few : count ≤ slices_on held t.page
       begins : (page : PageId) → page ≡ page_after t.page pages → Tells count page (report_of held page)
 
+    begins_at : (count : ℕ) → left_to_tell held (at count) ≡ [] → (at count).page ≡ t.page → count ≤ slices_on held t.page → Soon
+    begins_at count e same few = record {
+      count = count;
+      few = few;
+      begins = λ page is. subst (λ (p : PageId). Tells count p (report_of held p)) (ap (λ (p : PageId). page_after p pages) same ∙ sym is) (goes_over count e);
+    }
+
+    -- what is left of the page is told by as many reports as it has slices, or fewer
+    finish : (slices count : ℕ) → length (left_at count) ≤ slices * 64 → (at count).page ≡ t.page → count + slices ≤ slices_on held t.page → Soon
+    finish zero count few same le = begins_at count (none_left count (empty (left_at count) few)) same (omega (arith, le)) where
+      empty : (marks : List MarkValue) → length marks ≤ 0 → marks ≡ []
+      empty [] few = refl
+      empty (m ∷ marks) few = absurd (omega (arith, few))
+    finish (suc slices) count few same le = by (left_to_tell held (at count)) refl (λ (m : MarkValue) (rest : List MarkValue) (e : left_to_tell held (at count) ≡ m ∷ rest).
+        let is = told_on count m rest e in
+        let less : length (left_at (suc count)) ≤ slices * 64 = let l = ap (λ (ms : List MarkValue). length ms) is.1 in let d = length-drop 64 (left_at count) in omega (arith, l, d, few) in
+        finish slices (suc count) less (is.0 ∙ same) (omega (arith, le))) where
+          by : (rest : List MarkValue) → left_to_tell held (at count) ≡ rest → ((m : MarkValue) (rest : List MarkValue) → left_to_tell held (at count) ≡ m ∷ rest → Soon) → Soon
+          by [] e next = begins_at count e same (omega (arith, le))
+          by (m ∷ rest) e next = next m rest e
+
     soon : Soon
-    soon = by (filter (λ m. is_untold t.last m.source) (report_of held t.page)) refl where
-      by : (rest : List MarkValue) → filter (λ m. is_untold t.last m.source) (report_of held t.page) ≡ rest → Soon
-      by [] e = record { count = 0; few = omega arith; begins = λ page is. subst (λ (p : PageId). Tells 0 p (report_of held p)) (sym is) (goes_over 0 e) }
-      by (m ∷ rest) e =
-          let first = goes_on 0 rest m e in
-          let long : length (m ∷ rest) ≤ length (report_of held t.page) =
-          let counts = length-filter (λ (m : MarkValue). is_untold t.last m.source) (report_of held t.page) in
-          let few = count_by-le-length (λ (m : MarkValue). is_untold t.last m.source) (report_of held t.page) in
-          let same : length (filter (λ m. is_untold t.last m.source) (report_of held t.page)) ≡ length (m ∷ rest) = ap (λ (ms : List MarkValue). length ms) e in
-          omega (arith, counts, few, same) in
-          record {
-            count = max 1 ((length (m ∷ rest) + 63) / 64) + 0;
-            few = fits (length (m ∷ rest)) (length (report_of held t.page)) long;
-            begins = λ page is. subst (λ (p : PageId). Tells (max 1 ((length (m ∷ rest) + 63) / 64) + 0) p (report_of held p)) (sym is) (page_ends 0 t.page (m ∷ rest) first);
-          } where
-            fits : (a b : ℕ) → a ≤ b → max 1 ((a + 63) / 64) + 0 ≤ max 1 ((b + 63) / 64)
-            fits a b le = omega (arith, le)
+    soon =
+        let counts = length-filter (λ (m : MarkValue). is_untold t.last m.source) (report_of held t.page) in
+        let few = count_by-le-length (λ (m : MarkValue). is_untold t.last m.source) (report_of held t.page) in
+        finish ((length (left_at 0) + 63) / 64) 0 (whole (length (left_at 0))) refl (fits (length (left_at 0)) (length (report_of held t.page)) (omega (arith, counts, few))) where
+          whole : (a : ℕ) → a ≤ (a + 63) / 64 * 64
+          whole a = omega arith
+
+          fits : (a b : ℕ) → a ≤ b → 0 + (a + 63) / 64 ≤ max 1 ((b + 63) / 64)
+          fits a b le = omega (arith, le)
 
     -- it is one of the pages
     page_among : 0 < length pages → (i : ℕ) × (i < length pages) × (page_at i ≡ page_after t.page pages)
@@ -469,15 +588,16 @@ each_mark_is_told held t page m (j, lt, e) there =
 
 -- ---- a report of a policy
 
-rest_tells : (see : List Line → View) (p : Policy) (marks : List MarkValue) → marks ≡ slice_after p.told (report_of (see []).held p.told_page)
+rest_tells : (see : List Line → View) (p : Policy) (marks : List MarkValue)
     → let v = see [] in
     let other = page_after p.told_page (pages_of v.held) in
     let page = where_left marks other p.told_page in
     let told = where_left marks (slice_after None (report_of v.held other)) marks in
     ((reports_rest marks see p).lines ≡ Says (Session v.me v.now page told (last_heard v.echoes)) ∷ [])
     × ((reports_rest marks see p).policy.told_page ≡ page) × ((reports_rest marks see p).policy.told ≡ last_source None told)
-rest_tells see p [] e = (refl, refl, refl)
-rest_tells see p (m ∷ marks) e = (refl, refl, refl)
+    × ((reports_rest marks see p).policy.until ≡ where_left marks (until_in (report_of v.held other)) p.until)
+rest_tells see p [] = (refl, refl, refl, refl)
+rest_tells see p (m ∷ marks) = (refl, refl, refl, refl)
 
 pub reports_tell : ReportsTell
-reports_tell see p = rest_tells see p (slice_after p.told (report_of (see []).held p.told_page)) refl
+reports_tell see p = rest_tells see p (rest_after p.until p.told (report_of (see []).held p.told_page))

@@ -9,7 +9,7 @@ use Rattle.wb_names.specs.History.{highest, is_of}
 use Rattle.wb_names.specs.Marks.{mark_of}
 use Rattle.wb_names.specs.Orders.{same_name, same_page}
 use Rattle.wb_names.specs.Same.{same_drawop}
-use Rattle.wb_names.specs.Values.{DrawopValue, MarkValue}
+use Rattle.wb_names.specs.Values.{DrawopValue, MarkValue, NameValue}
 use Rattle.wb_names.specs.declared.echo.Echo.{Echo}
 use Rattle.wb_names.specs.declared.name.PageId.{PageId}
 use Rattle.wb_codec.specs.declared.datagram.Datagram.{Datagram}
@@ -22,7 +22,8 @@ use Rattle.wb_host.specs.declared.keep_fault.KeepFault.TheVariants.{BackInTime}
 use Rattle.wb_member.specs.Members.{Misses}
 use Rattle.wb_member.specs.Opened.{Opened, accepted, doing, has_room_for, heard, last_number, may_ask, opened_with, present, ticked, word_at}
 use Rattle.wb_member.specs.Random.{word_of}
-use Rattle.wb_keeping.specs.Kept.{Arrives, Asks, Doing, Hears, Line, Says, SetsDistance, Tunes, Stops, Ticks, Transition, and_then, distance_in, draws_it, drawing, ends_full, hears, hears_session, hears_some, hears_state, learned, measures, own_echo, own_marks, performs, still, takes, takes_question, timed, told_names, want_told}
+use Rattle.wb_keeping.specs.Distances.{unknown}
+use Rattle.wb_keeping.specs.Kept.{Arrives, Asks, Doing, Hears, Line, Says, SetsDistance, Tunes, Stops, Ticks, Transition, and_then, distance_in, draws_it, drawing, ends_full, hears, hears_session, hears_some, hears_state, learned, measures, own_echo, own_marks, performs, still, takes, takes_question, timed, told_names, want_told, hears_request}
 use Rattle.wb_keeping.specs.Laws.{ANumberIsLeft, Added, AreTaken, Came, KeptLine, Ticked, Tuned, after_kept, doing_of, fault_of}
 use Rattle.wb_keeping.specs.Performing.{Keeping, after_doing, after_line, after_lines, sees, view_of}
 use Rattle.wb_keeping.specs.Policy.{after_state, after_taking_up, holds as holds_in, is_asked, is_full}
@@ -294,11 +295,26 @@ bounded_state sender page marks k b =
     let there : Keeping = record { host = k.host; policy = after_state v.now k.policy } in
     bounded_then (hears_some sender page own) third there (bounded_doing third (told_each IsQuiet are_quiet (told_names v.me page marks)) (after_doing (hears_some sender page own) there) (bounded_some sender page own there (own_below v.me (nat_lt v.now k.policy.ready) marks) b))
 
+bounded_request : (asker : ℕ) (name : NameValue) (k : Keeping) → IsBounded k.host → IsBounded (after_doing (hears_request asker name) k).host
+bounded_request asker name k b = by (nat_eq ((view_of k.host).distance source) unknown) where
+  source : ℕ
+  source = cond (holds_in (view_of k.host) name) asker name.source
+
+  line : Line
+  line = Hears (Request asker name)
+
+  by : (lends : Bool) → IsBounded (after_lines (cond lends (SetsDistance source k.policy.usual ∷ line ∷ SetsDistance source unknown ∷ []) (line ∷ [])) k.host)
+  by true =
+      let one = after_line (SetsDistance source k.policy.usual) k.host in
+      let two = after_line line one in
+      bounded_line (SetsDistance source unknown) two (bounded_line line one (bounded_line (SetsDistance source k.policy.usual) k.host b (tame_quiet (SetsDistance source k.policy.usual) k.host tt)) (λ p. tt)) (tame_quiet (SetsDistance source unknown) two tt)
+  by false = bounded_line line k.host b (λ p. tt)
+
 bounded_hears : (v : Datagram) (k : Keeping) → is_unknown_of_ours v k.host ≡ false → IsBounded k.host → IsBounded (after_doing (hears v) k).host
 bounded_hears (Draw d) k known b = bounded_takes d k known b
 bounded_hears (Session sender sent page marks echoes) k known b = bounded_either (nat_eq sender k.host.is.number) (still (sees k.host) k.policy) (hears_session sender sent page marks echoes (sees k.host) k.policy) k.host b (bounded_session sender sent page marks echoes k b)
 bounded_hears (PageState sender page marks) k known b = bounded_either (nat_eq sender k.host.is.number) (still (sees k.host) k.policy) (hears_state sender page marks (sees k.host) k.policy) k.host b (bounded_state sender page marks k b)
-bounded_hears (Request asker name) k known b = bounded_either (nat_eq asker k.host.is.number) (still (sees k.host) k.policy) (performs (Hears (Request asker name)) (sees k.host) k.policy) k.host b (bounded_line (Hears (Request asker name)) k.host b (λ p. tt))
+bounded_hears (Request asker name) k known b = bounded_either (nat_eq asker k.host.is.number) (still (sees k.host) k.policy) (hears_request asker name (sees k.host) k.policy) k.host b (bounded_request asker name k b)
 bounded_hears (AskPages asker) k known b = bounded_either (nat_eq asker k.host.is.number) (still (sees k.host) k.policy) (takes_question (sees k.host) k.policy) k.host b
     (bounded_either (is_to_answer (present k.host) (nat_lt 0 (length k.host.is.held)) k.policy.questions) (still (sees k.host) (after_taking_up (present k.host) k.policy)) (still (sees k.host) k.policy) k.host b b)
 

@@ -7,19 +7,35 @@ use Rattle.wb_names.specs.Values.{NameValue}
 use Rattle.wb_names.specs.History.{highest}
 use Rattle.wb_gaps.specs.Holes.{hole_after}
 use Rattle.wb_gaps.specs.declared.holes.Hole.{Hole}
-use Rattle.wb_keeping.specs.Kept.{Asks, Doing, Line, SetsDistance, Stops, downwards, end, is_begun, is_unasked, learned, measures, near_names, paid_for, performs, room_lines, still, stops_oldest, turn, turn_to, usual_lines, want, want_near}
-use Rattle.wb_keeping.specs.Distances.{bounded}
-use Rattle.wb_keeping.specs.Policy.{Policy, View, after_wanting, holds, is_asked, is_full, level, with_distance}
+use Rattle.wb_keeping.specs.Kept.{Asks, Doing, Line, SetsDistance, Stops, downwards, end, is_begun, is_unasked, learned, measures, near_names, paid_for, performs, room_lines, still, stops_one, turn, turn_to, want, want_near, lending}
+use Rattle.wb_keeping.specs.Distances.{bounded, unknown}
+use Rattle.wb_keeping.specs.Policy.{Policy, View, after_wanting, holds, is_asked, is_full, level, with_distance, is_known}
 use Rattle.wb_keeping.specs.Steps.{makes_room, performs_all, want_in}
 use Rattle.wb_keeping.specs.Turns.{nowhere}
-use Rattle.wb_keeping.specs.Wanting.{is_wanted, oldest}
+use Rattle.wb_keeping.specs.Wanting.{giving_way, is_wanted}
+
+-- ---- a line to which a distance is lent, and those before it and behind it
+
+abbrev pub lent_first : ℕ → ℕ → ℕ → List Line
+lent_first source distance usual = cond (nat_eq distance unknown) (SetsDistance source usual ∷ []) []
+
+abbrev pub taken_back : ℕ → ℕ → List Line
+taken_back source distance = cond (nat_eq distance unknown) (SetsDistance source unknown ∷ []) []
+
+pub lending_parts : (source distance usual : ℕ) (line : Line) → lending source distance usual line ≡ lent_first source distance usual ++ line ∷ taken_back source distance
+lending_parts source distance usual line = by (nat_eq distance unknown) where
+  by : (b : Bool) → cond b (SetsDistance source usual ∷ line ∷ SetsDistance source unknown ∷ []) (line ∷ []) ≡ cond b (SetsDistance source usual ∷ []) [] ++ line ∷ cond b (SetsDistance source unknown ∷ []) []
+  by true = refl
+  by false = refl
+
+-- ---- a name that is wanted
 
 module _ (name : NameValue) (anew : Bool) (see : List Line → View) (p : Policy) where
   abbrev pub is_wanted_here : Bool
-  is_wanted_here = is_wanted (holds (see []) name) (is_full (see [])) anew (level (see []) name) p.owed (see []).now
+  is_wanted_here = is_wanted (holds (see []) name) (is_full (see [])) anew (is_known (see []) name.source) (level (see []) name) p.owed (see []).now
 
   abbrev pub lines_wanted : List Line
-  lines_wanted = room_lines name (see []) ++ (usual_lines name.source ((see []).distance name.source) p.usual ++ Asks name ∷ [])
+  lines_wanted = room_lines name (see []) ++ lending name.source ((see []).distance name.source) p.usual (Asks name)
 
   abbrev wanted : Doing
   wanted = record { policy = after_wanting (see []).now p; lines = lines_wanted }
@@ -30,11 +46,12 @@ module _ (name : NameValue) (anew : Bool) (see : List Line → View) (p : Policy
   pub is_not_asked_for : is_wanted_here ≡ false → want name anew see p ≡ still see p
   is_not_asked_for e = ap (λ (b : Bool). cond b wanted (still see p)) e
 
-  some_lines : (one other : List Line) (line : Line) → nat_lt 0 (length (one ++ (other ++ line ∷ []))) ≡ true
-  some_lines one other line = let a = length-append one (other ++ line ∷ []) in let b = length-append other (line ∷ []) in lt-ltb _ _ (omega arith)
+  some_lines : (one : List Line) (lends : Bool) (first line last : Line) → nat_lt 0 (length (one ++ cond lends (first ∷ line ∷ last ∷ []) (line ∷ []))) ≡ true
+  some_lines one true first line last = let a = length-append one (first ∷ line ∷ last ∷ []) in lt-ltb _ _ (omega (arith, a))
+  some_lines one false first line last = let a = length-append one (line ∷ []) in lt-ltb _ _ (omega (arith, a))
 
   pub begun : is_wanted_here ≡ true → is_begun (want name anew see p) ≡ true
-  begun e = ap is_begun (is_asked_for e) ∙ some_lines _ _ _
+  begun e = ap is_begun (is_asked_for e) ∙ some_lines (room_lines name (see [])) (nat_eq ((see []).distance name.source) unknown) _ _ _
 
   pub not_begun : is_begun (want name anew see p) ≡ false → want name anew see p ≡ still see p
   not_begun e = by is_wanted_here refl where
@@ -49,17 +66,10 @@ module _ (name : NameValue) (see : List Line → View) (p : Policy) where
   lines_to lines = record { policy = p; lines = lines }
 
   pub room_asked : is_asked (see []) name ≡ true → makes_room name see p ≡ performs (Stops name) see p
-  room_asked e = ap (λ (b : Bool). lines_to (cond b (Stops name ∷ []) (cond (nat_le 64 (length (see []).asked)) (stops_oldest (oldest (see []).asked)) []))) e
+  room_asked e = ap (λ (b : Bool). lines_to (cond b (Stops name ∷ []) (stops_one (giving_way (see []).asked)))) e
 
-  pub room_there : is_asked (see []) name ≡ false → nat_le 64 (length (see []).asked) ≡ false → makes_room name see p ≡ still see p
-  room_there e f =
-      ap (λ (b : Bool). lines_to (cond b (Stops name ∷ []) (cond (nat_le 64 (length (see []).asked)) (stops_oldest (oldest (see []).asked)) []))) e
-      ∙ ap (λ (b : Bool). lines_to (cond b (stops_oldest (oldest (see []).asked)) [])) f
-
-  pub room_made : is_asked (see []) name ≡ false → nat_le 64 (length (see []).asked) ≡ true → makes_room name see p ≡ performs_all (stops_oldest (oldest (see []).asked)) see p
-  room_made e f =
-      ap (λ (b : Bool). lines_to (cond b (Stops name ∷ []) (cond (nat_le 64 (length (see []).asked)) (stops_oldest (oldest (see []).asked)) []))) e
-      ∙ ap (λ (b : Bool). lines_to (cond b (stops_oldest (oldest (see []).asked)) [])) f
+  pub room_made : is_asked (see []) name ≡ false → makes_room name see p ≡ performs_all (stops_one (giving_way (see []).asked)) see p
+  room_made e = ap (λ (b : Bool). lines_to (cond b (Stops name ∷ []) (stops_one (giving_way (see []).asked)))) e
 
 -- ---- a drawop that is new
 
@@ -102,8 +112,9 @@ measured sender distance micros near see p d n ne =
     ∙ ap (λ (b : Bool). let d : Doing = record { policy = with_distance micros p; lines = cond b [] (SetsDistance sender (bounded micros) ∷ []) } in d) (not_same (bounded micros) micros (λ e. ne (n ∙ e)))
     ∙ ap (λ (m : ℕ). let d : Doing = record { policy = with_distance micros p; lines = SetsDistance sender m ∷ [] } in d) (sym n)
 
-pub same_wanted : (held here full room anew : Bool) (old new : Option ℕ) (owed due then now : ℕ) → held ≡ here → full ≡ room → old ≡ new → owed ≡ due → then ≡ now → is_wanted held full anew old owed then ≡ is_wanted here room anew new due now
-same_wanted held here full room anew old new owed due then now h f l o n = λ i. is_wanted (h i) (f i) anew (l i) (o i) (n i)
+pub same_wanted : (held here full room anew known told : Bool) (old new : Option ℕ) (owed due then now : ℕ) → held ≡ here → full ≡ room → known ≡ told → old ≡ new → owed ≡ due → then ≡ now
+    → is_wanted held full anew known old owed then ≡ is_wanted here room anew told new due now
+same_wanted held here full room anew known told old new owed due then now h f k l o n = λ i. is_wanted (h i) (f i) anew (k i) (l i) (o i) (n i)
 
 -- ---- names, one below the other
 

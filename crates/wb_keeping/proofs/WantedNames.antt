@@ -21,17 +21,17 @@ use Rattle.wb_host.specs.Ticks.{stopped_after}
 use Rattle.wb_member.specs.Members.{Misses}
 use Rattle.wb_member.specs.Opened.{Opened, doing as doing_act, events, has_room_for, heard, may_ask, opened_with, present, word_at}
 use Rattle.wb_member.specs.Random.{word_of}
-use Rattle.wb_keeping.specs.Credit.{has_credit}
 use Rattle.wb_keeping.specs.Fairness.{OnlyHeldIsAnswered, WantedIsAsked, is_answering}
-use Rattle.wb_keeping.specs.Kept.{Arrives, Asks, Doing, Hears, Line, Says, SetsDistance, Tunes, Stops, Ticks, room_lines, still, stops_oldest, usual_lines}
+use Rattle.wb_keeping.specs.Distances.{unknown}
+use Rattle.wb_keeping.specs.Kept.{Arrives, Asks, Doing, Hears, Line, Says, SetsDistance, Tunes, Stops, Ticks, room_lines, still, stops_one, lending}
 use Rattle.wb_keeping.specs.Performing.{after_line, after_lines, sees, view_of}
-use Rattle.wb_keeping.specs.Policy.{View, after_wanting, is_asked, is_full, level}
-use Rattle.wb_keeping.specs.Wanting.{goes_on, is_wanted, oldest}
+use Rattle.wb_keeping.specs.Policy.{View, after_wanting, is_asked, is_full, level, is_known}
+use Rattle.wb_keeping.specs.Wanting.{giving_way, goes_on, is_paid, is_wanted}
 use Rattle.wb_keeping.proofs.AskedTimers.{level_seen}
 use Rattle.wb_keeping.proofs.EachStep.{doing}
 use Rattle.wb_keeping.proofs.Performed.{after_both}
 use Rattle.wb_keeping.proofs.StandingTimers.{Stands, come, is_some_level, keeps, missed_from, missed_to, same_itself, stands_asked}
-use Rattle.wb_keeping.proofs.EachLine.{Each, oldest_each, room_each, usual_each}
+use Rattle.wb_keeping.proofs.EachLine.{Each, one_each, room_each}
 
 -- ---- answer timers
 
@@ -170,23 +170,22 @@ settings_stand (Says v ∷ lines) host n small stands = absurd small.0
 
 -- behind the lines that make room, no request timer of the name stands
 room_clears : (name : NameValue) (host : Opened) → Stands (after_lines (room_lines name (view_of host)) host) name → ⊥
-room_clears name host = by (is_asked (view_of host) name) (nat_le 64 (length (view_of host).asked)) refl where
-  lines_by : Bool → Bool → List Line
-  lines_by a b = cond a (Stops name ∷ []) (cond b (stops_oldest (oldest (view_of host).asked)) [])
+room_clears name host = by (is_asked (view_of host) name) refl where
+  lines_by : Bool → List Line
+  lines_by a = cond a (Stops name ∷ []) (stops_one (giving_way (view_of host).asked))
 
   away : is_asked (view_of host) name ≡ false → Stands host name → ⊥
   away e stands = true≢false (sym (ap is_some (level_seen host name) ∙ is_some_level (timers_of host.is.constants (events host) name).ask ∙ stands) ∙ e)
 
-  by : (a b : Bool) → is_asked (view_of host) name ≡ a → Stands (after_lines (lines_by a b) host) name → ⊥
-  by true b e stands =
+  by : (a : Bool) → is_asked (view_of host) name ≡ a → Stands (after_lines (lines_by a) host) name → ⊥
+  by true e stands =
       let asked = stands_asked host name e in
       let missed = missed_from (after_line (Stops name) host) name stands in
       let came = come name name (events host) (subst (λ (b : Bool). since (notices name) (arrives name) (given_up (present host) name b (events host)) ≡ true) asked missed) in
       true≢false (sym (same_itself name) ∙ came.1)
-  by false true e stands =
-      let first = oldest (view_of host).asked in
-      away e (settings_stand (stops_oldest first) host name (oldest_each IsSetting (λ name. tt) first) stands)
-  by false false e stands = away e stands
+  by false e stands =
+      let first = giving_way (view_of host).asked in
+      away e (settings_stand (stops_one first) host name (one_each IsSetting (λ name. tt) first) stands)
 
 not_true : (b : Bool) → (b ≡ true → ⊥) → b ≡ false
 not_true true never = absurd (never refl)
@@ -203,6 +202,19 @@ asks_stand name host lacks unasked unanswered =
       asking : Opened
       asking = doing_act (Misses (present host) (name ∷ []) (word_of host.random ∷ [])) 1 host
 
+-- a name that is asked for while a distance is lent
+lent_stands : (source distance usual : ℕ) (name : NameValue) (host : Opened) → holds host.is.held name ≡ false → (Stands host name → ⊥) → (is_answering host name ≡ true → ⊥)
+    → is_asked (view_of (after_lines (lending source distance usual (Asks name)) host)) name ≡ true
+lent_stands source distance usual name host lacks unasked unanswered = by (nat_eq distance unknown) where
+  asked_at : (host : Opened) → Stands host name → is_asked (view_of host) name ≡ true
+  asked_at host stands = ap is_some (level_seen host name) ∙ is_some_level (timers_of host.is.constants (events host) name).ask ∙ stands
+
+  by : (b : Bool) → is_asked (view_of (after_lines (cond b (SetsDistance source usual ∷ Asks name ∷ SetsDistance source unknown ∷ []) (Asks name ∷ [])) host)) name ≡ true
+  by false = asked_at (after_line (Asks name) host) (asks_stand name host lacks unasked unanswered)
+  by true =
+      let one = after_line (SetsDistance source usual) host in
+      asked_at (after_line (SetsDistance source unknown) (after_line (Asks name) one)) (asks_stand name one lacks unasked unanswered)
+
 wanted_or : (full on credit : Bool) → full ≡ false → credit ≡ true → (not full && (not on && credit)) ≡ false → on ≡ true
 wanted_or false true true a b e = refl
 wanted_or false false true a b e = absurd (true≢false e)
@@ -214,34 +226,27 @@ went_on anew None e = absurd (true≢false (sym e))
 went_on anew (Some n) e = refl
 
 pub wanted_is_asked : WantedIsAsked
-wanted_is_asked name anew k answers lacks room credit = by (is_wanted (holds k.host.is.held name) (is_full v) anew (level v name) k.policy.owed (present k.host)) refl where
+wanted_is_asked name anew k answers lacks room credit = by (is_wanted (holds k.host.is.held name) (is_full v) anew (is_known v name.source) (level v name) k.policy.owed (present k.host)) refl where
   v : View
   v = view_of k.host
 
   first : List Line
   first = room_lines name v
 
-  usual : List Line
-  usual = usual_lines name.source (v.distance name.source) k.policy.usual
+  last : List Line
+  last = lending name.source (v.distance name.source) k.policy.usual (Asks name)
 
   wanted : Doing
-  wanted = doing (after_wanting (present k.host) k.policy) (first ++ (usual ++ Asks name ∷ []))
+  wanted = doing (after_wanting (present k.host) k.policy) (first ++ last)
 
   one : Opened
   one = after_lines first k.host
 
-  two : Opened
-  two = after_lines usual one
-
-  asked_at : (host : Opened) → Stands host name → is_asked (view_of host) name ≡ true
-  asked_at host stands = ap is_some (level_seen host name) ∙ is_some_level (timers_of host.is.constants (events host) name).ask ∙ stands
-
-  by : (b : Bool) → is_wanted (holds k.host.is.held name) (is_full v) anew (level v name) k.policy.owed (present k.host) ≡ b → is_asked (view_of (after_lines (cond b wanted (still (sees k.host) k.policy)).lines k.host)) name ≡ true
-  by false e = went_on anew (level v name) (wanted_or (is_full v) (goes_on anew (level v name)) (has_credit k.policy.owed (present k.host)) room credit (ap (λ (b : Bool). not b && (not (is_full v) && (not (goes_on anew (level v name)) && has_credit k.policy.owed (present k.host)))) (sym lacks) ∙ e))
+  by : (b : Bool) → is_wanted (holds k.host.is.held name) (is_full v) anew (is_known v name.source) (level v name) k.policy.owed (present k.host) ≡ b → is_asked (view_of (after_lines (cond b wanted (still (sees k.host) k.policy)).lines k.host)) name ≡ true
+  by false e = went_on anew (level v name) (wanted_or (is_full v) (goes_on anew (level v name)) (is_paid (anew || is_known v name.source) k.policy.owed (present k.host)) room credit (ap (λ (b : Bool). not b && (not (is_full v) && (not (goes_on anew (level v name)) && is_paid (anew || is_known v name.source) k.policy.owed (present k.host)))) (sym lacks) ∙ e))
   by true e =
-      let small = usual_each IsSetting name.source (v.distance name.source) k.policy.usual (λ micros e. tt) in
-      let held : two.is.held ≡ k.host.is.held = settings_hold usual one small ∙ settings_hold first k.host (room_each IsSetting (λ name. tt) name v) in
-      let lacks_then : holds two.is.held name ≡ false = ap (λ (h : List DrawopValue). holds h name) held ∙ lacks in
-      let stands = asks_stand name two lacks_then (λ stands. room_clears name k.host (settings_stand usual one name small stands)) (λ is. true≢false (sym (lines_answer_held name usual one (lines_answer_held name first k.host (answers name)) is) ∙ lacks_then)) in
-      let there : after_lines (first ++ (usual ++ Asks name ∷ [])) k.host ≡ after_line (Asks name) two = after_both first (usual ++ Asks name ∷ []) k.host ∙ after_both usual (Asks name ∷ []) one in
-      subst (λ (h : Opened). is_asked (view_of h) name ≡ true) (sym there) (asked_at (after_line (Asks name) two) stands)
+      let held : one.is.held ≡ k.host.is.held = settings_hold first k.host (room_each IsSetting (λ name. tt) name v) in
+      let lacks_then : holds one.is.held name ≡ false = ap (λ (h : List DrawopValue). holds h name) held ∙ lacks in
+      let unanswered : is_answering one name ≡ true → ⊥ = λ is. true≢false (sym (lines_answer_held name first k.host (answers name) is) ∙ lacks_then) in
+      subst (λ (h : Opened). is_asked (view_of h) name ≡ true) (sym (after_both first last k.host))
+      (lent_stands name.source (v.distance name.source) k.policy.usual name one lacks_then (room_clears name k.host) unanswered)

@@ -1,5 +1,5 @@
 -- Bounds on what a host that keeps itself asks for and says, whatever comes in.
-use Rattle.std.specs.Prelude.{◌≡◌, ℕ, ◌+◌, ◌-◌, ◌*◌, ◌≤◌, Bool, true, false, not, ◌&&◌, List, [], ◌∷◌, ◌++◌, Contains, IfSome, filter, length, map, take, if◌then◌else◌}
+use Rattle.std.specs.Prelude.{◌≡◌, ℕ, ◌+◌, ◌-◌, ◌*◌, ◌≤◌, Bool, true, false, not, ◌&&◌, List, [], ◌∷◌, ◌++◌, Contains, filter, length, map, take, if◌then◌else◌}
 use Rattle.wb_names.specs.Orders.{same_name}
 use Rattle.wb_names.specs.Values.{NameValue}
 use Rattle.wb_codec.specs.declared.datagram.Datagram.{Datagram}
@@ -60,7 +60,7 @@ abbrev pub NamesAreSeldomRequested : Type 0
 NamesAreSeldomRequested = (constants : Tuning) (number cells seed : ℕ) (moments : List ℕ) (policy : Policy) (lines : List KeptLine) (before : List Line) (first : Line) (part later : List Line) (n : NameValue)
     → let start = new_keeping constants number cells seed moments policy in
     let host = after_lines before start.host in
-    are_constants constants ≡ true → IfSome policy.usual (λ usual. 10000 ≤ usual) → AreTaken lines start
+    are_constants constants ≡ true → 10000 ≤ policy.usual → AreTaken lines start
     → expand lines start ≡ before ++ ((first ∷ part) ++ later) → ¬ Contains (first ∷ part) (Asks n)
     → present (after_lines (first ∷ part) host) ≤ present (after_line first host) + 600000000
     → request_count n (sent_by_lines (first ∷ part) host) ≤ 15
@@ -86,10 +86,10 @@ answer_count [] host = 0
 answer_count (line ∷ lines) host = (if is_answer line host then 1 else 0) + answer_count lines (after_line line host)
 
 -- Whatever comes in, a host asks from one moment to another for at most 64 names, for one more in each quarter of a second, and for
--- one more for each that it asked for and that came.
+-- two more for each that it asked for and that came.
 abbrev pub FewNamesAreAsked : Type 0
 FewNamesAreAsked = (lines : List KeptLine) (k : Keeping) → AreTaken lines k
-    → ask_count (expand lines k) * cost ≤ (64 + answer_count (expand lines k) k.host) * cost + (present (after_kept lines k).host - present k.host)
+    → ask_count (expand lines k) * cost ≤ (64 + 2 * answer_count (expand lines k) k.host) * cost + (present (after_kept lines k).host - present k.host)
 
 -- ---- what is said
 

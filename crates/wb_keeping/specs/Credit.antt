@@ -9,10 +9,14 @@ cost = 250000
 abbrev pub has_credit : ℕ → ℕ → Bool
 has_credit owed now = nat_le (max owed now - now) (63 * cost)
 
+-- and seventeen are left
+abbrev pub leaves_some : ℕ → ℕ → Bool
+leaves_some owed now = nat_le (max owed now - now) (47 * cost)
+
 -- up to which moment names are paid for, once one more is asked for
 abbrev pub spent : ℕ → ℕ → ℕ
 spent owed now = max owed now + cost
 
--- and once one that was asked for came, which costs nothing then
+-- And once one that was asked for came, which pays for two: for itself, and for one that is asked for again since its request was lost.
 abbrev pub repaid : ℕ → ℕ
-repaid owed = owed - cost
+repaid owed = owed - 2 * cost

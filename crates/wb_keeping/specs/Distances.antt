@@ -1,11 +1,21 @@
--- Which distances a host believes.
-use Rattle.std.specs.Prelude.{ℕ, ◌+◌, ◌*◌, ◌/◌, Option, Some, None, max, min}
+-- Which distances a host believes, and which it takes for one that it does not know.
+use Rattle.std.specs.Prelude.{ℕ, ◌+◌, ◌*◌, ◌/◌, max, min, nat_eq, if◌then◌else◌}
+
+-- the distance to who told none
+abbrev pub unknown : ℕ
+unknown = 100000
+
+-- Who told a distance is known: it is not that of who told none.
+abbrev pub known : ℕ → ℕ
+known micros = if nat_eq micros unknown then unknown + 1 else micros
 
 -- not below ten milliseconds, where computers differ more than networks, and not above a second
 abbrev pub bounded : ℕ → ℕ
-bounded micros = min (max micros 10000) 1000000
+bounded micros = known (min (max micros 10000) 1000000)
 
--- the usual distance, once one more was told: an eighth of the way to it
-abbrev pub usual_with : Option ℕ → ℕ → ℕ
-usual_with None micros = micros
-usual_with (Some usual) micros = (7 * usual + micros) / 8
+-- the usual distance at first, that of a session in one town; and once one more was told: an eighth of the way to it
+abbrev pub first_usual : ℕ
+first_usual = 20000
+
+abbrev pub usual_with : ℕ → ℕ → ℕ
+usual_with usual micros = (7 * usual + micros) / 8

@@ -1,12 +1,12 @@
--- The time of a drawing: it comes after all that its page shows, unless that is an hour ahead.
+-- The time of a drawing: it comes after all that its page shows, unless that is two days ahead.
 use Rattle.std.specs.Prelude.{ℕ, ◌+◌, ◌-◌, ◌^◌, Bool, ◌&&◌, List, [], ◌∷◌, map, filter, max, min, nat_lt, if◌then◌else◌}
 use Rattle.wb_names.specs.Orders.{same_page}
 use Rattle.wb_names.specs.Values.{DrawopValue}
 use Rattle.wb_names.specs.declared.name.PageId.{PageId}
 
--- on the page, with a time below an hour after this one
+-- on the page, with a time less than two days after this one
 abbrev pub is_near : PageId → ℕ → DrawopValue → Bool
-is_near page time d = same_page d.name.page page && nat_lt d.time (time + 3600000000)
+is_near page time d = same_page d.name.page page && nat_lt d.time (time + 172800000000)
 
 -- one more than the greatest of some times, or 0 where there is none
 abbrev pub after_all : List ℕ → ℕ

@@ -1,5 +1,5 @@
 -- Whose turn it is, and what is told, one after the other, where what is held stays as it is.
-use Rattle.std.specs.Prelude.{◌≡◌, ℕ, zero, suc, ◌+◌, ◌-◌, ◌*◌, ◌/◌, ◌^◌, ◌<◌, ◌≤◌, Bool, false, true, List, [], ◌∷◌, Option, Some, None, Contains, is_some, length, max}
+use Rattle.std.specs.Prelude.{◌≡◌, ◌⊎◌, ℕ, zero, suc, ◌+◌, ◌-◌, ◌*◌, ◌/◌, ◌^◌, ◌<◌, ◌≤◌, Bool, false, true, List, [], ◌∷◌, Option, Some, None, Contains, filter, is_some, length, max, ◌||◌}
 use Rattle.std.specs.List.{sum_by}
 use Rattle.std.specs.Option.{option_map, option_or}
 use Rattle.wb_names.specs.History.{name_of}
@@ -12,12 +12,12 @@ use Rattle.wb_member.specs.Opened.{Opened, events, opened_with, present}
 use Rattle.wb_gaps.specs.Answers.{pages_of, report_of}
 use Rattle.wb_gaps.specs.Holes.{hole_after, holes_of}
 use Rattle.wb_gaps.specs.declared.holes.Hole.{Hole}
-use Rattle.wb_keeping.specs.Credit.{has_credit}
-use Rattle.wb_keeping.specs.Kept.{Line, Says, last_heard, last_source, reports, turn, want}
+use Rattle.wb_keeping.specs.Kept.{Line, Says, last_heard, last_source, reports, turn, until_in, want}
 use Rattle.wb_keeping.specs.Performing.{Keeping, after_doing, after_lines, view_of}
-use Rattle.wb_keeping.specs.Policy.{Policy, View, holds, is_asked, is_full}
-use Rattle.wb_keeping.specs.Reports.{page_after, slice_after}
+use Rattle.wb_keeping.specs.Policy.{Policy, View, holds, is_asked, is_full, is_known}
+use Rattle.wb_keeping.specs.Reports.{is_untold, page_after, rest_after, slice_after}
 use Rattle.wb_keeping.specs.Turns.{after_hole, name_in, next_round, nowhere}
+use Rattle.wb_keeping.specs.Wanting.{is_paid}
 use Rattle.wb_keeping.specs.declared.turns.Turns.{Turns}
 
 -- ---- holes
@@ -62,26 +62,33 @@ EachNumberHasItsTurn = (held : List DrawopValue) (t : Turns) (hole : Hole) (numb
 
 -- ---- marks
 
--- the page that was told last, and its last source that was told
+-- the page that was told last, its last source that was told, and the last that it had when its telling began
 pub record Told : Type 0 where
   pub page : PageId
   pub last : Option ℕ
+  pub until : ℕ
+
+-- what is left of the telling
+abbrev pub left_to_tell : List DrawopValue → Told → List MarkValue
+left_to_tell held t = rest_after t.until t.last (report_of held t.page)
 
 -- by whether something of a page is left
 abbrev pub where_left : {X : Type 0} → List MarkValue → X → X → X
 where_left [] none some = none
 where_left (m ∷ marks) none some = some
 
--- the page that is told next, and which of its marks: the rest of the page that was told last, or the next page
+-- the page that is told next, and which of its marks: what is left of the telling, or the next page
 abbrev pub page_in_turn : List DrawopValue → Told → PageId
-page_in_turn held t = where_left (slice_after t.last (report_of held t.page)) (page_after t.page (pages_of held)) t.page
+page_in_turn held t = where_left (left_to_tell held t) (page_after t.page (pages_of held)) t.page
 
 abbrev pub marks_in_turn : List DrawopValue → Told → List MarkValue
-marks_in_turn held t =
-    where_left (slice_after t.last (report_of held t.page)) (slice_after None (report_of held (page_after t.page (pages_of held)))) (slice_after t.last (report_of held t.page))
+marks_in_turn held t = where_left (left_to_tell held t) (slice_after None (report_of held (page_after t.page (pages_of held)))) (left_to_tell held t)
+
+abbrev pub until_in_turn : List DrawopValue → Told → ℕ
+until_in_turn held t = where_left (left_to_tell held t) (until_in (report_of held (page_after t.page (pages_of held)))) t.until
 
 abbrev pub after_telling : List DrawopValue → Told → Told
-after_telling held t = record { page = page_in_turn held t; last = last_source None (marks_in_turn held t) }
+after_telling held t = record { page = page_in_turn held t; last = last_source None (marks_in_turn held t); until = until_in_turn held t }
 
 abbrev pub after_tellings : List DrawopValue → ℕ → Told → Told
 after_tellings held zero t = t
@@ -91,9 +98,9 @@ after_tellings held (suc count) t = after_telling held (after_tellings held coun
 abbrev pub ReportsTell : Type 0
 ReportsTell = (see : List Line → View) (p : Policy)
     → let v = see [] in
-    let t : Told = record { page = p.told_page; last = p.told } in
+    let t : Told = record { page = p.told_page; last = p.told; until = p.until } in
     ((reports see p).lines ≡ Says (Session v.me v.now (page_in_turn v.held t) (marks_in_turn v.held t) (last_heard v.echoes)) ∷ [])
-    × ((reports see p).policy.told_page ≡ (after_telling v.held t).page) × ((reports see p).policy.told ≡ (after_telling v.held t).last)
+    × ((reports see p).policy.told_page ≡ (after_telling v.held t).page) × ((reports see p).policy.told ≡ (after_telling v.held t).last) × ((reports see p).policy.until ≡ (after_telling v.held t).until)
 
 -- so many slices of at most 64 marks a page has, and at least one
 abbrev pub slices_on : List DrawopValue → PageId → ℕ
@@ -107,6 +114,17 @@ slices_of held = sum_by (slices_on held) (pages_of held)
 abbrev pub EachMarkIsTold : Type 0
 EachMarkIsTold = (held : List DrawopValue) (t : Told) (page : PageId) (m : MarkValue) → Contains (pages_of held) page → Contains (report_of held page) m
     → (count : ℕ) × (count < slices_of held + slices_on held t.page) × (page_in_turn held (after_tellings held count t) ≡ page) × Contains (marks_in_turn held (after_tellings held count t)) m
+
+-- While the telling of a page goes on, whatever the board has become meanwhile: a report tells of that page sources above those that were told, and 64
+-- of them or all that there are. So a telling tells no source twice, and each of its reports but the last tells 64.
+pub record GoesOnTelling (held : List DrawopValue) (t : Told) : Type 0 where
+  pub page : page_in_turn held t ≡ t.page
+  pub until : until_in_turn held t ≡ t.until
+  pub above : (m : MarkValue) → Contains (marks_in_turn held t) m → is_untold t.last m.source ≡ true
+  pub many : (length (marks_in_turn held t) ≡ 64) ⊎ (marks_in_turn held t ≡ filter (λ m. is_untold t.last m.source) (report_of held t.page))
+
+abbrev pub TellingsRise : Type 0
+TellingsRise = (held : List DrawopValue) (t : Told) (m : MarkValue) → Contains (left_to_tell held t) m → GoesOnTelling held t
 
 -- ---- what becomes of a name that is wanted
 
@@ -124,5 +142,5 @@ OnlyHeldIsAnswered = (constants : Tuning) (number cells seed : ℕ) (lines : Lis
 
 -- A name that is wanted has a request timer then, unless it is held, the board is full, or there is no credit.
 abbrev pub WantedIsAsked : Type 0
-WantedIsAsked = (name : NameValue) (anew : Bool) (k : Keeping) → AnswersWhatIsHeld k.host → holds (view_of k.host) name ≡ false → is_full (view_of k.host) ≡ false → has_credit k.policy.owed (present k.host) ≡ true
+WantedIsAsked = (name : NameValue) (anew : Bool) (k : Keeping) → AnswersWhatIsHeld k.host → holds (view_of k.host) name ≡ false → is_full (view_of k.host) ≡ false → is_paid (anew || is_known (view_of k.host) name.source) k.policy.owed (present k.host) ≡ true
     → is_asked (view_of (after_doing (want name anew) k).host) name ≡ true

@@ -1,6 +1,6 @@
 -- A host that keeps itself whole: what it does for a datagram that comes, as time goes on, and for a drawing. Each is a list of lines
--- that a host takes today, performed one after the other. So a kept host is a host whose driver hands in these lines.
-use Rattle.std.specs.Prelude.{ℕ, zero, suc, ◌+◌, ◌-◌, ◌*◌, Bool, true, false, not, ◌&&◌, ◌||◌, List, [], ◌∷◌, ◌++◌, Option, Some, None, filter, length, map, max, min, nat_eq, nat_le, nat_lt, take, if◌then◌else◌}
+-- that a host performs, one after the other. So a kept host is a host whose driver hands in these lines.
+use Rattle.std.specs.Prelude.{ℕ, zero, suc, ◌+◌, ◌-◌, ◌*◌, Bool, true, false, not, ◌&&◌, ◌||◌, List, [], ◌∷◌, ◌++◌, Option, Some, None, filter, length, map, max, min, nat_eq, nat_le, nat_lt, take, unwrap_or, if◌then◌else◌}
 use Rattle.std.specs.List.{count_by}
 use Rattle.std.specs.Ordering.{is_lt, nat_cmp, ordering_then}
 use Rattle.wb_names.specs.History.{highest, name_of}
@@ -15,44 +15,33 @@ use Rattle.wb_gaps.specs.Holes.{hole_after}
 use Rattle.wb_gaps.specs.declared.holes.Hole.{Hole}
 use Rattle.wb_recovery.specs.Distance.{distance_of}
 use Rattle.wb_recovery.specs.declared.tuning.Tuning.{Tuning}
-use Rattle.wb_keeping.specs.Distances.{bounded}
+pub use Rattle.wb_member.specs.Lines.{Line, Ticks, Arrives, Hears, Asks, Stops, SetsDistance, Tunes, Says}
+use Rattle.wb_keeping.specs.Distances.{bounded, unknown}
 use Rattle.wb_keeping.specs.Drawings.{drawing_time}
-use Rattle.wb_keeping.specs.Policy.{Policy, View, after_answer, after_came, after_question, after_report, after_state, after_taking_up, after_turn, after_wanting, holds, in_next_round, is_asked, is_full, level, with_distance}
+use Rattle.wb_keeping.specs.Policy.{Policy, View, after_answer, after_came, after_question, after_report, after_state, after_taking_up, after_turn, after_wanting, holds, in_next_round, is_asked, is_full, level, with_distance, is_known}
 use Rattle.wb_keeping.specs.Questions.{is_due, is_to_answer}
-use Rattle.wb_keeping.specs.Reports.{members_in, page_after, slice_after}
+use Rattle.wb_keeping.specs.Reports.{members_in, page_after, rest_after, slice_after}
 use Rattle.wb_keeping.specs.Turns.{name_in, nowhere}
-use Rattle.wb_keeping.specs.Wanting.{is_wanted, oldest}
+use Rattle.wb_keeping.specs.Wanting.{giving_way, is_wanted}
 use Rattle.wb_keeping.specs.declared.wanting.AskedName.{AskedName}
-
--- a line that a host takes today
-pub data Line : Type 0 where
-  Ticks : (now : ℕ) → Line
-  Arrives : (d : DrawopValue) → Line
-  Hears : (v : Datagram) → Line
-  Asks : (name : NameValue) → Line
-  Stops : (name : NameValue) → Line
-  SetsDistance : (source micros : ℕ) → Line
-  Tunes : (constants : Tuning) → Line
-  Says : (v : Datagram) → Line
 
 -- what a policy does: the lines that its host performs, and the policy afterwards
 pub record Doing : Type 0 where
   pub policy : Policy
   pub lines : List Line
 
--- the lines that stop the timer of the oldest name, where one stands
-abbrev pub stops_oldest : Option AskedName → List Line
-stops_oldest None = []
-stops_oldest (Some a) = Stops a.name ∷ []
+-- the lines that give a name up, where there is one
+abbrev pub stops_one : Option AskedName → List Line
+stops_one None = []
+stops_one (Some a) = Stops a.name ∷ []
 
--- at most 64 timers stand, and one that starts anew is stopped first
+-- A timer that starts anew is stopped first, and for another name the oldest one gives way. So at most 64 stand.
 abbrev pub room_lines : NameValue → View → List Line
-room_lines name v = if is_asked v name then Stops name ∷ [] else (if nat_le 64 (length v.asked) then stops_oldest (oldest v.asked) else [])
+room_lines name v = if is_asked v name then Stops name ∷ [] else stops_one (giving_way v.asked)
 
--- a source that told no distance has the usual one
-abbrev pub usual_lines : ℕ → ℕ → Option ℕ → List Line
-usual_lines source distance None = []
-usual_lines source distance (Some usual) = if nat_eq distance 100000 then SetsDistance source usual ∷ [] else []
+-- A source that told no distance has the usual one for one line: it is lent, and then taken back.
+abbrev pub lending : ℕ → ℕ → ℕ → Line → List Line
+lending source distance usual line = if nat_eq distance unknown then SetsDistance source usual ∷ line ∷ SetsDistance source unknown ∷ [] else line ∷ []
 
 -- the marks of this member that are believed: while it listens, below 2^31
 abbrev pub own_marks : ℕ → Bool → List MarkValue → List MarkValue
@@ -112,8 +101,8 @@ and_then first second see p =
 abbrev pub want : NameValue → Bool → Transition
 want name anew see p =
     let v = see [] in
-    if is_wanted (holds v name) (is_full v) anew (level v name) p.owed v.now
-    then record { policy = after_wanting v.now p; lines = room_lines name v ++ (usual_lines name.source (v.distance name.source) p.usual ++ Asks name ∷ []) }
+    if is_wanted (holds v name) (is_full v) anew (is_known v name.source) (level v name) p.owed v.now
+    then record { policy = after_wanting v.now p; lines = room_lines name v ++ lending name.source (v.distance name.source) p.usual (Asks name) }
     else still see p
 
 -- who reports a number holds it
@@ -150,7 +139,7 @@ turn see p =
 abbrev pub end : Transition
 end see p = record { policy = p; lines = map (λ a. Stops a.name) (see []).asked }
 
--- what was asked for costs nothing
+-- what was asked for and came pays
 abbrev pub paid_for : Bool → Policy → Policy
 paid_for was_asked p = if was_asked then after_came p else p
 
@@ -187,26 +176,35 @@ abbrev pub last_source : Option ℕ → List MarkValue → Option ℕ
 last_source told [] = told
 last_source told (m ∷ marks) = last_source (Some m.source) marks
 
--- It reports a page. A report is the session message of today, with at most 64 of its marks and 32 of its echoes.
-abbrev pub reports_page : PageId → List MarkValue → Transition
-reports_page page marks see p =
+-- where the telling of a page ends that has these marks
+abbrev pub until_in : List MarkValue → ℕ
+until_in marks = unwrap_or (last_source None marks) 0
+
+-- It reports a page, whose telling ends at a source. A report is the session message of its member, with at most 64 of its marks and 32 of its echoes.
+abbrev pub reports_page : PageId → ℕ → List MarkValue → Transition
+reports_page page until marks see p =
     let v = see [] in
     let echoes = last_heard v.echoes in
     record {
-      policy = after_report v.now page (last_source None marks) (members_in v.echoes) (32 + 8 * length marks + 20 * length echoes) p;
+      policy = after_report v.now page (last_source None marks) until (members_in v.echoes) (32 + 8 * length marks + 20 * length echoes) p;
       lines = Says (Session v.me v.now page marks echoes) ∷ [];
     }
 
--- the rest of the page that was told last, or the next page
-abbrev pub reports_rest : List MarkValue → Transition
-reports_rest [] see p =
+-- the telling of the next page begins
+abbrev pub reports_next : Transition
+reports_next see p =
     let v = see [] in
     let page = page_after p.told_page (pages_of v.held) in
-    reports_page page (slice_after None (report_of v.held page)) see p
-reports_rest (m ∷ marks) see p = reports_page p.told_page (m ∷ marks) see p
+    let marks = report_of v.held page in
+    reports_page page (until_in marks) (slice_after None marks) see p
+
+-- the rest of the page that is told, or the next page
+abbrev pub reports_rest : List MarkValue → Transition
+reports_rest [] see p = reports_next see p
+reports_rest (m ∷ marks) see p = reports_page p.told_page p.until (m ∷ marks) see p
 
 abbrev pub reports : Transition
-reports see p = reports_rest (slice_after p.told (report_of (see []).held p.told_page)) see p
+reports see p = reports_rest (rest_after p.until p.told (report_of (see []).held p.told_page)) see p
 
 abbrev pub reports_due : Transition
 reports_due see p = if nat_le p.reports.due (see []).now then and_then reports turn see p else still see p
@@ -247,6 +245,13 @@ hears_state sender page marks see p =
     let own = own_marks v.me (nat_lt v.now p.ready) marks in
     and_then (hears_some sender page own) (want_told (told_names v.me page marks)) see (after_state v.now p)
 
+-- Of a name that is held the distance to the asker counts, and of another that to its source.
+abbrev pub hears_request : ℕ → NameValue → Transition
+hears_request asker name see p =
+    let v = see [] in
+    let source = if holds v name then asker else name.source in
+    record { policy = p; lines = lending source (v.distance source) p.usual (Hears (Request asker name)) }
+
 abbrev pub takes_question : Transition
 takes_question see p =
     let v = see [] in
@@ -262,7 +267,7 @@ abbrev pub hears : Datagram → Transition
 hears (Draw d) = takes d
 hears (Session sender sent page marks echoes) = of_other sender (hears_session sender sent page marks echoes)
 hears (PageState sender page marks) = of_other sender (hears_state sender page marks)
-hears (Request asker name) = of_other asker (performs (Hears (Request asker name)))
+hears (Request asker name) = of_other asker (hears_request asker name)
 hears (AskPages asker) = of_other asker takes_question
 
 -- ---- the lines of a kept host

@@ -1,5 +1,5 @@
 -- Laws of a policy.
-use Rattle.std.specs.Prelude.{◌≡◌, ◌⊎◌, ℕ, ◌+◌, ◌-◌, ◌*◌, ◌≤◌, ◌<◌, Bool, false, List, [], ◌∷◌, ◌++◌, IsTrue, Option, None, length, map, nat_le}
+use Rattle.std.specs.Prelude.{◌≡◌, ◌⊎◌, ℕ, ◌+◌, ◌-◌, ◌*◌, ◌≤◌, ◌<◌, Bool, false, List, [], ◌∷◌, ◌++◌, IsTrue, Option, None, length, map, nat_le, ◌||◌}
 use Rattle.wb_names.specs.Ascending.{AreEchoes}
 use Rattle.wb_names.specs.Drawing.{op_fault}
 use Rattle.wb_names.specs.Faults.{fault_unless}
@@ -18,10 +18,11 @@ use Rattle.wb_keeping.specs.Refusing.{add_fault, came_fault, tick_fault}
 use Rattle.wb_host.specs.declared.keep_fault.KeepFault.TheVariants.{Range}
 use Rattle.wb_keeping.specs.declared.kept_fault.KeptFault.{KeptFault}
 use Rattle.wb_keeping.specs.declared.kept_fault.KeptFault.TheVariants.{Host}
-use Rattle.wb_keeping.specs.Policy.{Policy, View, after_wanting, holds}
+use Rattle.wb_keeping.specs.Policy.{Policy, View, after_wanting, holds, is_known}
 use Rattle.wb_keeping.specs.Questions.{is_due}
 use Rattle.wb_keeping.specs.Reports.{slice_after}
 use Rattle.wb_keeping.specs.Credit.{cost, has_credit, repaid, spent}
+use Rattle.wb_keeping.specs.Wanting.{is_paid}
 
 -- a name is asked for at a moment; one that was asked for comes
 pub data Spending : Type 0 where
@@ -51,26 +52,26 @@ IsSpent owed start end [] = start ≤ end
 IsSpent owed start end (Asks now ∷ before) = (now ≤ end) × IsTrue (has_credit (owed_after owed before) now) × IsSpent owed start now before
 IsSpent owed start end (Comes ∷ before) = IsSpent owed start end before
 
--- From one moment to another at most 64 names are asked for, one more for each quarter of a second, and one more for each that came.
+-- From one moment to another at most 64 names are asked for, one more for each quarter of a second, and two more for each that came.
 abbrev pub FewAreAsked : Type 0
-FewAreAsked = (owed start end : ℕ) (spending : List Spending) → IsSpent owed start end spending → asks_in spending * cost ≤ (64 + comes_in spending) * cost + (end - start)
+FewAreAsked = (owed start end : ℕ) (spending : List Spending) → IsSpent owed start end spending → asks_in spending * cost ≤ (64 + 2 * comes_in spending) * cost + (end - start)
 
 -- ---- a kept host
 
--- what comes in is first of all a moment, as where today's driver ticks before each line
+-- what comes in is first of all a moment, as where a driver ticks before each line
 abbrev pub TimeComesFirst : Type 0
 TimeComesFirst = (now : ℕ) (v : Datagram) (see : List Line → View) (p : Policy) → (later : List Line) × ((came now v see p).lines ≡ Ticks now ∷ later)
 
--- Where neither an answer nor a question nor a report is due, time goes on as it does today, and the policy stays.
+-- Where neither an answer nor a question nor a report is due, time goes on as at a host that its driver drives, and the policy stays.
 abbrev pub NothingIsDue : Type 0
 NothingIsDue = (now : ℕ) (see : List Line → View) (p : Policy)
     → is_due (see (Ticks now ∷ [])).now p.questions.answer ≡ false → is_due (see (Ticks now ∷ [])).now p.questions.ask ≡ false → nat_le p.reports.due (see (Ticks now ∷ [])).now ≡ false
     → ticks now see p ≡ record { policy = p; lines = Ticks now ∷ [] }
 
--- What is wanted is asked for only where it is not held and there is credit, and then it costs; else nothing is done.
+-- What is wanted is asked for only where it is not held and there is credit for it, and then it costs; else nothing is done.
 abbrev pub WantedIsPaid : Type 0
 WantedIsPaid = (name : NameValue) (anew : Bool) (see : List Line → View) (p : Policy)
-    → (want name anew see p ≡ still see p) ⊎ (IsTrue (has_credit p.owed (see []).now) × (holds (see []) name ≡ false) × ((want name anew see p).policy ≡ after_wanting (see []).now p))
+    → (want name anew see p ≡ still see p) ⊎ (IsTrue (is_paid (anew || is_known (see []) name.source) p.owed (see []).now) × (holds (see []) name ≡ false) × ((want name anew see p).policy ≡ after_wanting (see []).now p))
 
 -- a report or a page state has at most 64 marks, whatever is held
 abbrev pub SlicesAreShort : Type 0
@@ -110,7 +111,7 @@ abbrev pub sent_by_kept : List KeptLine → Keeping → List Datagram
 sent_by_kept [] k = []
 sent_by_kept (line ∷ lines) k = sent_by_doing (doing_of line) k ++ sent_by_kept lines (after_doing (doing_of line) k)
 
--- the lines of today in their place
+-- the lines that are performed, in their place
 abbrev pub expand : List KeptLine → Keeping → List Line
 expand [] k = []
 expand (line ∷ lines) k = (doing_of line (sees k.host) k.policy).lines ++ expand lines (after_doing (doing_of line) k)

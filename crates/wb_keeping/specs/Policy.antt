@@ -1,5 +1,5 @@
 -- The state of a policy, and what it sees of its host.
-use Rattle.std.specs.Prelude.{ℕ, ◌+◌, Bool, List, Option, Some, None, is_some, length, min, nat_le}
+use Rattle.std.specs.Prelude.{ℕ, ◌+◌, Bool, List, Option, Some, None, is_some, length, min, nat_eq, nat_le, not}
 use Rattle.std.specs.List.{find, list_any}
 use Rattle.std.specs.Option.{option_map}
 use Rattle.rand_pcg.specs.Lcg.{Lcg}
@@ -9,7 +9,7 @@ use Rattle.wb_names.specs.declared.echo.Echo.{Echo}
 use Rattle.wb_names.specs.declared.name.PageId.{PageId}
 use Rattle.wb_gaps.specs.declared.holes.Hole.{Hole}
 use Rattle.wb_keeping.specs.Credit.{repaid, spent}
-use Rattle.wb_keeping.specs.Distances.{bounded, usual_with}
+use Rattle.wb_keeping.specs.Distances.{bounded, first_usual, unknown, usual_with}
 use Rattle.wb_keeping.specs.Questions.{answered_at, asked_at, heard_at, opened_at, to_answer}
 use Rattle.wb_keeping.specs.Reports.{mean_time, next_report}
 use Rattle.wb_keeping.specs.Turns.{after_hole, next_round, nowhere}
@@ -20,7 +20,7 @@ use Rattle.wb_keeping.specs.declared.turns.Turns.{Turns}
 use Rattle.wb_keeping.specs.declared.wanting.AskedName.{AskedName}
 
 -- A fixed number of integers. Nothing is added before `ready`; `told_page` and `told` are the page and the last source of the last
--- report, `owed` is the moment up to which names are paid for, and `usual` the usual distance.
+-- report, `until` is the last source that the page had when its telling began, `owed` is the moment up to which names are paid for, and `usual` the usual distance.
 pub record Policy : Type 0 where
   pub ready : ℕ
   pub reports : Reports
@@ -28,8 +28,9 @@ pub record Policy : Type 0 where
   pub turns : Turns
   pub told_page : PageId
   pub told : Option ℕ
+  pub until : ℕ
   pub owed : ℕ
-  pub usual : Option ℕ
+  pub usual : ℕ
   pub words : Lcg
 
 -- a number drawn from 0 to this, and the policy without the word that it took
@@ -50,8 +51,9 @@ begun now rate listen seed =
       turns = record { page = nowhere; source = 0; number = 0; round = 0 };
       told_page = nowhere;
       told = None;
+      until = 0;
       owed = 0;
-      usual = None;
+      usual = first_usual;
       words = after_word (after_word words);
     }
 
@@ -73,7 +75,7 @@ in_next_round p = record p { turns = next_round p.turns }
 
 -- an echo told a distance
 abbrev pub with_distance : ℕ → Policy → Policy
-with_distance micros p = record p { usual = Some (usual_with p.usual (bounded micros)) }
+with_distance micros p = record p { usual = usual_with p.usual (bounded micros) }
 
 -- it asked for pages; it took up a question, and answered it; somebody answered
 abbrev pub after_question : ℕ → Policy → Policy
@@ -88,11 +90,11 @@ after_answer now p = record p { questions = answered_at now p.questions }
 abbrev pub after_state : ℕ → Policy → Policy
 after_state now p = record p { questions = heard_at now p.questions }
 
--- it reported a page up to a source: so many bytes, among so many members
-abbrev pub after_report : ℕ → PageId → Option ℕ → ℕ → ℕ → Policy → Policy
-after_report now page last members bytes p =
+-- It reported a page up to a source, and its telling goes on until another: so many bytes, among so many members.
+abbrev pub after_report : ℕ → PageId → Option ℕ → ℕ → ℕ → ℕ → Policy → Policy
+after_report now page last until members bytes p =
     let mean = mean_time p.reports.rate members bytes in
-    record (after_draw p) { told_page = page; told = last; reports = record p.reports { due = next_report now mean (draws mean p) } }
+    record (after_draw p) { told_page = page; told = last; until = until; reports = record p.reports { due = next_report now mean (draws mean p) } }
 
 -- the least moment at which it has something to do
 abbrev pub sooner : ℕ → Option ℕ → ℕ
@@ -120,6 +122,10 @@ holds v name = list_any (λ d. same_name d.name name) v.held
 
 abbrev pub is_full : View → Bool
 is_full v = nat_le v.cells (length v.held)
+
+-- a source told its distance
+abbrev pub is_known : View → ℕ → Bool
+is_known v source = not (nat_eq (v.distance source) unknown)
 
 -- how often the request timer of a name was backed off, where one stands
 abbrev pub level : View → NameValue → Option ℕ

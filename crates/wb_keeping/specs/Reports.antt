@@ -1,5 +1,5 @@
 -- Reports: when one is due, and which marks it has.
-use Rattle.std.specs.Prelude.{ℕ, ◌+◌, ◌*◌, ◌/◌, Bool, true, List, [], ◌∷◌, Option, Some, None, filter, length, max, min, nat_lt, take, unwrap_or}
+use Rattle.std.specs.Prelude.{ℕ, ◌+◌, ◌*◌, ◌/◌, Bool, true, false, List, [], ◌∷◌, Option, Some, None, filter, length, max, min, nat_lt, take, unwrap_or, if◌then◌else◌}
 use Rattle.std.specs.List.{find}
 use Rattle.std.specs.Option.{option_or}
 use Rattle.std.specs.Ordering.{is_lt}
@@ -31,6 +31,15 @@ is_untold (Some told) source = nat_lt told source
 -- the next 64 marks of a page
 abbrev pub slice_after : Option ℕ → List MarkValue → List MarkValue
 slice_after told marks = take 64 (filter (λ m. is_untold told m.source) marks)
+
+-- The telling of a page goes on until the source is told that was its last when it began, whatever has come since.
+abbrev pub is_telling : ℕ → Option ℕ → Bool
+is_telling until None = false
+is_telling until (Some told) = nat_lt told until
+
+-- the next marks of the page that is told, and none where its telling has ended
+abbrev pub rest_after : ℕ → Option ℕ → List MarkValue → List MarkValue
+rest_after until told marks = if is_telling until told then slice_after told marks else []
 
 -- the first of some pages
 abbrev pub first_of_pages : List PageId → Option PageId

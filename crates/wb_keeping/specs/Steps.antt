@@ -1,9 +1,10 @@
 -- The parts of a transition, as a member performs them one by one.
-use Rattle.std.specs.Prelude.{ℕ, true, List, [], ◌∷◌, Option, Some, None}
+use Rattle.std.specs.Prelude.{ℕ, true, List, [], ◌∷◌, Option, Some, None, nat_eq, if◌then◌else◌}
 use Rattle.wb_names.specs.Values.{NameValue}
 use Rattle.wb_gaps.specs.Holes.{hole_after}
 use Rattle.wb_gaps.specs.declared.holes.Hole.{Hole}
-use Rattle.wb_keeping.specs.Kept.{Line, SetsDistance, Transition, room_lines, turn_to, want}
+use Rattle.wb_keeping.specs.Distances.{unknown}
+use Rattle.wb_keeping.specs.Kept.{Line, SetsDistance, Transition, room_lines, turn_to, want, and_then, performs}
 use Rattle.wb_keeping.specs.Policy.{after_turn}
 use Rattle.wb_keeping.specs.Turns.{name_in, nowhere}
 
@@ -15,10 +16,21 @@ performs_all lines see p = record { policy = p; lines = lines }
 abbrev pub makes_room : NameValue → Transition
 makes_room name see p = record { policy = p; lines = room_lines name (see []) }
 
--- the distance to a source is set, where there is one to set
+-- what is lent to a source whose distance is this one, and the lines that lend it and take it back
+abbrev pub lent_at : ℕ → ℕ → Option ℕ
+lent_at distance usual = if nat_eq distance unknown then Some usual else None
+
 abbrev pub set_lines : ℕ → Option ℕ → List Line
 set_lines source None = []
 set_lines source (Some micros) = SetsDistance source micros ∷ []
+
+abbrev pub back_lines : ℕ → Option ℕ → List Line
+back_lines source None = []
+back_lines source (Some micros) = SetsDistance source unknown ∷ []
+
+-- a line between these
+abbrev pub lends_for : ℕ → Option ℕ → Line → Transition
+lends_for source lent line = and_then (performs_all (set_lines source lent)) (and_then (performs line) (performs_all (back_lines source lent)))
 
 -- another round begins, where no hole is left in this one
 abbrev pub turn_again : Transition

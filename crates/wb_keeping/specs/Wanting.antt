@@ -1,17 +1,27 @@
 -- Which names are asked for.
-use Rattle.std.specs.Prelude.{ℕ, Bool, false, not, ◌&&◌, List, [], ◌∷◌, Option, Some, None, nat_le, nat_lt, if◌then◌else◌}
+use Rattle.std.specs.Prelude.{ℕ, Bool, true, false, not, ◌&&◌, ◌||◌, List, [], ◌∷◌, Option, Some, None, length, nat_le, nat_lt, if◌then◌else◌}
 use Rattle.std.specs.List.{fold}
-use Rattle.wb_keeping.specs.Credit.{has_credit}
+use Rattle.wb_keeping.specs.Credit.{has_credit, leaves_some}
 use Rattle.wb_keeping.specs.declared.wanting.AskedName.{AskedName}
 
--- Its timer goes on, unless it is to start anew and was backed off six times or more, when it has waited over a minute.
+-- A timer is old once it was backed off four times.
+abbrev pub is_old : ℕ → Bool
+is_old level = nat_le 4 level
+
+-- It goes on, unless it is to start anew and is old.
 abbrev pub goes_on : Bool → Option ℕ → Bool
 goes_on anew None = false
-goes_on anew (Some level) = not (anew && nat_le 6 level)
+goes_on anew (Some level) = not (anew && is_old level)
 
--- A name is asked for that is not held, where the board has room for it, no timer of it goes on, and there is credit.
-abbrev pub is_wanted : Bool → Bool → Bool → Option ℕ → ℕ → ℕ → Bool
-is_wanted held full anew level owed now = not held && (not full && (not (goes_on anew level) && has_credit owed now))
+-- There is credit as long as a place is left. What comes last leaves sixteen places to all others.
+abbrev pub is_paid : Bool → ℕ → ℕ → Bool
+is_paid true owed now = has_credit owed now
+is_paid false owed now = leaves_some owed now
+
+-- A name is asked for that is not held, where the board has room for it, no timer of it goes on, and there is credit. Neighbours of what
+-- came come last where their source told no distance, so that drawops that are forged with holes leave room for what members draw and report.
+abbrev pub is_wanted : Bool → Bool → Bool → Bool → Option ℕ → ℕ → ℕ → Bool
+is_wanted held full anew known level owed now = not held && (not full && (not (goes_on anew level) && is_paid (anew || known) owed now))
 
 -- of two names that are asked for, the one whose timer was backed off more, and the first where both were equally often
 abbrev pub older : AskedName → AskedName → AskedName
@@ -21,3 +31,15 @@ older one other = if nat_lt one.level other.level then other else one
 abbrev pub oldest : List AskedName → Option AskedName
 oldest [] = None
 oldest (asked ∷ later) = Some (fold older asked later)
+
+-- The oldest timer gives way to that of another name where 64 stand, or it is old.
+abbrev pub gives_way : ℕ → ℕ → Bool
+gives_way count level = nat_le 64 count || is_old level
+
+abbrev pub way_of : ℕ → Option AskedName → Option AskedName
+way_of count None = None
+way_of count (Some a) = if gives_way count a.level then Some a else None
+
+-- the name that is given up where another is newly asked for
+abbrev pub giving_way : List AskedName → Option AskedName
+giving_way asked = way_of (length asked) (oldest asked)

@@ -3,7 +3,7 @@ ghost use Rattle.std.specs.Prelude.{◌≡◌, ◌≤◌, ◌<◌, IfOk, Bool, f
 ghost use Rattle.wb_names.specs.History.{name_of};
 ghost use Rattle.std.specs.List.{count_by};
 ghost use Rattle.std.specs.Ordering.{is_lt};
-ghost use Rattle.wb_keeping.specs.Kept.{distance_in, downwards, heard_later, last_heard, last_source, near_names, own_echo, own_marks, told_names};
+ghost use Rattle.wb_keeping.specs.Kept.{distance_in, downwards, heard_later, last_heard, last_source, near_names, own_echo, own_marks, told_names, until_in};
 ghost use Rattle.wb_keeping.specs.Reports.{slice_after};
 ghost use Rattle.std.specs.Prelude.{None};
 
@@ -151,6 +151,13 @@ pub(crate) fn last_source(marks: &[Mark]) -> Option<u32>
         last = Some(mark.source());
     }
     last
+}
+
+/// Where the telling of a page ends that has these marks: its last source, or 0.
+pub(crate) fn until_in(marks: &[Mark]) -> u32
+    ensures { result ≡ until_in marks.now }
+{
+    last_source(marks).unwrap_or(0)
 }
 
 /// The names of the marks of a page, but for numbers of this member from 2^31 on, which nobody but

@@ -3,10 +3,12 @@
 ghost use Rattle.std.specs.Prelude.{◌≡◌, ◌<◌, ◌^◌, IsTrue};
 ghost use Rattle.wb_names.specs.Moments.{IsMoment};
 ghost use Rattle.wb_keeping.specs.Credit.{has_credit, repaid, spent};
+ghost use Rattle.wb_keeping.specs.Wanting.{is_paid};
 
 /// The credit of who asks for names. Each name that is asked for is paid for in a quarter of a
-/// second, and 64 may be asked for at once. What came costs nothing. So who is answered asks as
-/// fast as it is, and who is not at four names a second.
+/// second, and 64 may be asked for at once. What came pays for two names: for itself, and for one
+/// that is asked for again since its request was lost. So who is answered asks as fast as it is,
+/// and who is not at four names a second.
 #[derive(Clone, Copy, Debug, PartialEq, Eq)]
 pub struct Credit {
     /// Names are paid for up to this moment.
@@ -17,17 +19,29 @@ impl Credit {
     /// What a name costs, in microseconds.
     pub const COST: u64 = 250_000;
 
+    /// What a name pays that was asked for and came, in microseconds.
+    const CAME: u64 = 2 * Credit::COST;
+
     /// The most that may be owed where another name is asked for, in microseconds.
     const MOST: u64 = 63 * Credit::COST;
+
+    /// The most where that is a name that comes last.
+    const LAST: u64 = 47 * Credit::COST;
 
     /// The whole credit.
     pub const WHOLE: Credit = Credit { owed: 0 };
 
-    /// Whether another name may be asked for at this moment.
-    pub fn is_left(&self, now: u64) -> bool
-        ensures { result ≡ has_credit self.now.owed now }
+    /// Whether another name may be asked for at this moment. What comes last leaves sixteen places
+    /// to all others.
+    pub fn is_left(&self, takes_any: bool, now: u64) -> bool
+        ensures { result ≡ is_paid takes_any self.now.owed now }
     {
-        self.owed.saturating_sub(now) <= Credit::MOST
+        let most = if takes_any {
+            Credit::MOST
+        } else {
+            Credit::LAST
+        };
+        self.owed.saturating_sub(now) <= most
     }
 
     /// A name is asked for.
@@ -43,6 +57,6 @@ impl Credit {
     pub fn repay(&mut self)
         ensures { self.new.owed ≡ repaid self.old.owed }
     {
-        self.owed = self.owed.saturating_sub(Credit::COST);
+        self.owed = self.owed.saturating_sub(Credit::CAME);
     }
 }

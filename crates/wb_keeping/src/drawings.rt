@@ -5,11 +5,12 @@ ghost use Rattle.wb_keeping.specs.Drawings.{drawing_time, is_near, later};
 
 use wb_names::{Drawop, PageId};
 
-/// How far ahead times are believed, in microseconds: an hour.
-const AHEAD: u64 = 3_600_000_000;
+/// How far ahead times are believed, in microseconds: two days, so that a drawing also comes after
+/// those of a member whose clock shows tomorrow.
+const AHEAD: u64 = 172_800_000_000;
 
 /// The time of a drawing on a page of a list, where its user's clock tells this one: it comes after
-/// all that the page has, but for what is an hour or more ahead. It costs a walk over the list.
+/// all that the page has, but for what is two days or more ahead. It costs a walk over the list.
 pub fn time_of(list: &[Drawop], page: PageId, time: u64) -> u64
     ensures { result ≡ drawing_time list.now page time }
 {
@@ -31,7 +32,7 @@ fn later(latest: u64, drawop: &Drawop, page: PageId, time: u64) -> u64
     }
 }
 
-/// Whether a drawop is on the page, and its time less than an hour after this one.
+/// Whether a drawop is on the page, and its time less than two days after this one.
 fn is_near(drawop: &Drawop, page: PageId, time: u64) -> bool
     ensures { result ≡ is_near page time drawop.now }
 {

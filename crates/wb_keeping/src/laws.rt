@@ -2,19 +2,19 @@
 //! for its clause.
 
 ghost use Rattle.wb_keeping.specs.Bounds.{FewNamesAreAsked, FewRequestsAtOnce, FewTimersStand, LittleIsSaid, NamesAreSeldomRequested};
-ghost use Rattle.wb_keeping.specs.Fairness.{EachHoleHasItsTurn, EachMarkIsTold, EachNumberHasItsTurn, OnlyHeldIsAnswered, ReportsTell, TurnsAreTaken, WantedIsAsked};
+ghost use Rattle.wb_keeping.specs.Fairness.{EachHoleHasItsTurn, EachMarkIsTold, EachNumberHasItsTurn, OnlyHeldIsAnswered, ReportsTell, TellingsRise, TurnsAreTaken, WantedIsAsked};
 ghost use Rattle.wb_keeping.specs.Laws.{ANumberIsLeft, DrawingIsNotLocked, FewAreAsked, KeptHostsAreHosts, NothingIsDue, ReportsAreSmall, SlicesAreShort, TimeComesFirst, WantedIsPaid};
 
 /// Whatever comes in, from one moment to another at most 64 names are asked for, one more for each
-/// quarter of a second, and one more for each that was asked for and came. A name that is wanted is
+/// quarter of a second, and two more for each that was asked for and came. A name that is wanted is
 /// asked for only where there is credit, and costs.
 pub fn few_are_asked()
     ensures few { FewAreAsked }
     ensures paid { WantedIsPaid }
 {}
 
-/// A host that keeps itself takes what comes in as today's driver does, who ticks first. Where
-/// nothing of its own is due, time goes on as it does today.
+/// A host that keeps itself takes what comes in as a driver does who ticks first. Where nothing of
+/// its own is due, time goes on as at a host that its driver drives.
 pub fn time_goes_on()
     ensures first { TimeComesFirst }
     ensures alone { NothingIsDue }
@@ -27,9 +27,9 @@ pub fn slices_are_short()
     ensures bytes { ReportsAreSmall }
 {}
 
-/// A host that keeps itself is a host whose driver hands in lines of today: for each list of what
-/// comes, ticks and is drawn, there is one list of these, after which such a host is the same
-/// member, and has sent the same datagrams in the same order.
+/// A host that keeps itself is a host whose driver hands in lines: for each list of what comes,
+/// ticks and is drawn, there is one list of these, after which such a host is the same member, and
+/// has sent the same datagrams in the same order.
 pub fn kept_hosts_are_hosts()
     ensures { KeptHostsAreHosts }
 {}
@@ -57,7 +57,7 @@ pub fn names_are_seldom_requested()
 {}
 
 /// Whatever comes in, a host that keeps itself asks from one moment to another for at most 64
-/// names, for one more in each quarter of a second, and for one more for each that it asked for and
+/// names, for one more in each quarter of a second, and for two more for each that it asked for and
 /// that came.
 pub fn few_names_are_asked()
     ensures { FewNamesAreAsked }
@@ -78,10 +78,13 @@ pub fn turns_are_fair()
 {}
 
 /// While what is held stays as it is, each mark of a board of S slices is told among each S
-/// reports, and as many more as the page that was told last has slices.
+/// reports, and as many more as the page that was told last has slices. Whatever comes in while a
+/// page is told, each report tells of it sources above those that were told, 64 or all that there
+/// are: so sources that come keep a telling from its end for as many reports as they fill.
 pub fn each_mark_is_told()
     ensures told { ReportsTell }
     ensures marks { EachMarkIsTold }
+    ensures rise { TellingsRise }
 {}
 
 /// A name that is wanted has a request timer then, unless it is held, the board is full, or there

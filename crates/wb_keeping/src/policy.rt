@@ -1,18 +1,19 @@
 //! The policy of a host that keeps itself: all that it remembers, and what each thing that happens
 //! makes of it.
 
-ghost use Rattle.std.specs.Prelude.{◌≡◌, ◌≤◌, ◌<◌, ◌^◌, ◌+◌, IfSome, if◌then◌else◌, nat_le, nat_lt};
+ghost use Rattle.std.specs.Prelude.{◌≡◌, ◌≤◌, ◌<◌, ◌^◌, ◌+◌, if◌then◌else◌, nat_le, nat_lt};
 ghost use Rattle.wb_names.specs.Moments.{IsMoment};
 ghost use Rattle.wb_keeping.specs.Distances.{bounded};
 ghost use Rattle.wb_keeping.specs.Policy.{after_answer, after_came, after_question, after_report, after_state, after_taking_up, after_turn, after_wanting, begun, in_next_round, next_moment, sooner, with_distance};
 ghost use Rattle.wb_keeping.specs.Questions.{is_due, is_to_answer};
+ghost use Rattle.wb_keeping.specs.Reports.{is_telling};
 ghost use Rattle.wb_keeping.specs.Turns.{name_in};
 ghost use Rattle.wb_keeping.specs.Wanting.{is_wanted};
 
 use crate::credit::Credit;
 use crate::distances::Distances;
 use crate::questions::Questions;
-use crate::reports::Reports;
+use crate::reports::{Reports, is_telling};
 use crate::turns::Turns;
 use crate::wanting::Candidate;
 use crate::words::PolicyWords;
@@ -33,6 +34,8 @@ pub struct Policy {
     told_page: PageId,
     /// The last source of the last report, where it told one.
     told: Option<u32>,
+    /// The last source that its page had when its telling began.
+    until: u32,
     credit: Credit,
     distances: Distances,
     words: PolicyWords,
@@ -51,6 +54,7 @@ impl Model for Policy {
       turns = p.turns;
       told_page = p.told_page;
       told = p.told;
+      until = p.until;
       owed = p.credit.owed;
       usual = p.distances;
       words = p.words;
@@ -82,6 +86,7 @@ impl Policy {
             turns: Turns::START,
             told_page: Turns::START.page,
             told: None,
+            until: 0,
             credit: Credit::WHOLE,
             distances: Distances::new(),
             words,
@@ -107,7 +112,7 @@ impl Policy {
     pub fn want(&mut self, candidate: &Candidate, may_start_anew: bool, now: u64) -> bool
         requires { IsMoment now }
         ensures wanted { result ≡ is_wanted candidate.now.is_held candidate.now.is_full
-            may_start_anew candidate.now.level self.old.owed now }
+            may_start_anew candidate.now.is_known candidate.now.level self.old.owed now }
         ensures spent { self.new ≡ (if result then after_wanting now self.old else self.old) }
     {
         if !candidate.is_wanted(&self.credit, may_start_anew, now) {
@@ -217,13 +222,35 @@ impl Policy {
         (self.told_page, self.told)
     }
 
-    /// It reported a page up to a source, where it has one: so many bytes, among so many members.
-    /// So reports are at least a second apart, and at most 96.
-    pub fn reported(&mut self, now: u64, page: PageId, last: Option<u32>, members: u64, bytes: u64)
+    /// The last source that the page had when its telling began.
+    pub fn until(&self) -> u32
+        ensures { result ≡ self.now.until }
+    {
+        self.until
+    }
+
+    /// Whether the telling of the page of the last report goes on.
+    pub fn is_telling(&self) -> bool
+        ensures { result ≡ is_telling self.now.until self.now.told }
+    {
+        is_telling(self.until, self.told)
+    }
+
+    /// It reported a page up to a source, where it has one, and tells it until another: so many
+    /// bytes, among so many members. So reports are at least a second apart, and at most 96.
+    pub fn reported(
+        &mut self,
+        now: u64,
+        page: PageId,
+        last: Option<u32>,
+        until: u32,
+        members: u64,
+        bytes: u64,
+    )
         requires moment { IsMoment now }
         requires members { members ≤ Reports.MEMBERS }
         requires bytes { bytes ≤ 2000000 }
-        ensures after { self.new ≡ after_report now page last members bytes self.old }
+        ensures after { self.new ≡ after_report now page last until members bytes self.old }
         ensures rare { now + 1000000 ≤ self.new.reports.due }
         ensures soon { self.new.reports.due ≤ now + 96000000 }
     {
@@ -232,12 +259,13 @@ impl Policy {
         self.reports.reported(now, mean, drawn);
         self.told_page = page;
         self.told = last;
+        self.until = until;
     }
 
-    /// The usual distance, where one was told: at most a second.
-    pub fn usual(&self) -> Option<u64>
+    /// The usual distance: at most a second.
+    pub fn usual(&self) -> u64
         ensures usual { result ≡ self.now.usual }
-        ensures near { IfSome result (λ usual. usual ≤ 1000000) }
+        ensures near { result ≤ 1000000 }
     {
         self.distances.usual()
     }

@@ -3,7 +3,7 @@
 ghost use Rattle.std.specs.Prelude.{◌≡◌, ◌≤◌, ◌<◌, ◌^◌, ◌+◌, ◌*◌, IfOk, filter, length, nat_le, nat_lt};
 ghost use Rattle.std.specs.List.{find};
 ghost use Rattle.wb_names.specs.Moments.{IsMoment};
-ghost use Rattle.wb_keeping.specs.Reports.{is_after, is_untold, mean_time, members_in, next_report, page_after, slice_after};
+ghost use Rattle.wb_keeping.specs.Reports.{is_after, is_telling, is_untold, mean_time, members_in, next_report, page_after, slice_after};
 
 use std::alloc::{AllocError, Global};
 use wb_names::{Echo, MAX_ENTRIES, Mark, PageId};
@@ -109,6 +109,17 @@ fn is_untold(told: Option<u32>, source: u32) -> bool
     match told {
         Some(told) => told < source,
         None => true,
+    }
+}
+
+/// Whether the telling of a page goes on: the source was not told yet that was its last when its
+/// telling began. What has come since waits for the next telling, so that it holds no page up.
+pub fn is_telling(until: u32, told: Option<u32>) -> bool
+    ensures { result ≡ is_telling until told }
+{
+    match told {
+        Some(told) => told < until,
+        None => false,
     }
 }
 

@@ -1,10 +1,17 @@
 //! Which names are asked for.
 
 ghost use Rattle.std.specs.Prelude.{◌≡◌};
-ghost use Rattle.wb_keeping.specs.Wanting.{goes_on, is_wanted, older, oldest};
+ghost use Rattle.wb_keeping.specs.Wanting.{gives_way, giving_way, goes_on, is_old, is_wanted, older, oldest};
 
 use crate::credit::Credit;
 use wb_names::Name;
+
+/// The most request timers that stand.
+const TIMERS: usize = 64;
+
+/// The level from which a timer is old: it has then waited 15 to 30 times its distance, times the
+/// first constant of requests.
+const OLD: u32 = 4;
 
 /// What a member shows of a name that it might ask for.
 #[derive(Clone, Copy, Debug, PartialEq, Eq)]
@@ -13,21 +20,24 @@ pub struct Candidate {
     pub is_held: bool,
     /// Whether the board has no room for it.
     pub is_full: bool,
+    /// Whether its source told its distance.
+    pub is_known: bool,
     /// How often its request timer was backed off. None where none stands.
     pub level: Option<u32>,
 }
 
 impl Candidate {
-    /// The level from which a timer starts anew: it has then waited 63 to 126 times its distance.
-    const OLD: u32 = 6;
-
     /// Whether it is asked for at this moment, at this credit: a timer that stands goes on, unless
-    /// it is old and may start anew.
+    /// it is old and may start anew. A neighbour of what came, which starts nothing anew, comes last
+    /// where its source told no distance.
     pub fn is_wanted(&self, credit: &Credit, may_start_anew: bool, now: u64) -> bool
-        ensures { result ≡ is_wanted self.now.is_held self.now.is_full may_start_anew self.now.level
-            credit.now.owed now }
+        ensures { result ≡ is_wanted self.now.is_held self.now.is_full may_start_anew
+            self.now.is_known self.now.level credit.now.owed now }
     {
-        !self.is_held && !self.is_full && !self.goes_on(may_start_anew) && credit.is_left(now)
+        !self.is_held
+            && !self.is_full
+            && !self.goes_on(may_start_anew)
+            && credit.is_left(may_start_anew || self.is_known, now)
     }
 
     /// Whether a timer of it goes on.
@@ -35,10 +45,17 @@ impl Candidate {
         ensures { result ≡ goes_on may_start_anew self.now.level }
     {
         match self.level {
-            Some(level) => !(may_start_anew && level >= Candidate::OLD),
+            Some(level) => !(may_start_anew && is_old(level)),
             None => false,
         }
     }
+}
+
+/// Whether a timer is old that was backed off so often.
+fn is_old(level: u32) -> bool
+    ensures { result ≡ is_old level }
+{
+    level >= OLD
 }
 
 /// A name that is asked for, and how often its request timer was backed off.
@@ -50,8 +67,27 @@ pub struct AskedName {
     pub level: u32,
 }
 
-/// The one whose timer was backed off most, and the first of these: it makes room where another is
-/// to be asked for. None where there is none.
+/// The one that is given up where another is newly asked for: the oldest, where 64 timers stand or
+/// it is old. None where none gives way.
+pub fn giving_way(asked: &[AskedName]) -> Option<AskedName>
+    ensures { result ≡ giving_way asked.now }
+{
+    let oldest = oldest(asked)?;
+    if gives_way(asked.len(), oldest.level) {
+        Some(oldest)
+    } else {
+        None
+    }
+}
+
+/// Whether the oldest of so many timers gives way that was backed off so often.
+fn gives_way(count: usize, level: u32) -> bool
+    ensures { result ≡ gives_way count level }
+{
+    count >= TIMERS || is_old(level)
+}
+
+/// The one whose timer was backed off most, and the first of these. None where there is none.
 pub fn oldest(asked: &[AskedName]) -> Option<AskedName>
     ensures { result ≡ oldest asked.now }
 {

@@ -9,16 +9,16 @@ use Rattle.wb_names.specs.declared.name.PageId.{PageId}
 use Rattle.wb_names.proofs.Listings.{Contains-cases, Contains-here, Contains-none, Contains-there}
 use Rattle.wb_codec.specs.declared.datagram.Datagram.{Datagram}
 use Rattle.wb_codec.specs.declared.datagram.Datagram.TheVariants.{Draw, Session, Request, AskPages, PageState}
-use Rattle.wb_member.specs.Opened.{has_room_for, heard, present}
-use Rattle.wb_keeping.specs.Distances.{bounded}
-use Rattle.wb_keeping.specs.Kept.{Arrives, Asks, Doing, Hears, Line, Says, SetsDistance, Tunes, Stops, Ticks, Transition, and_then, distance_in, hears, hears_session, hears_some, hears_state, learned, measures, of_other, own_echo, own_marks, performs, room_lines, still, takes, takes_question, told_names, usual_lines, want, want_told}
+use Rattle.wb_member.specs.Opened.{has_room_for, heard, present, Opened}
+use Rattle.wb_keeping.specs.Distances.{bounded, unknown}
+use Rattle.wb_keeping.specs.Kept.{Arrives, Asks, Doing, Hears, Line, Says, SetsDistance, Tunes, Stops, Ticks, Transition, and_then, distance_in, hears, hears_session, hears_some, hears_state, learned, measures, of_other, own_echo, own_marks, performs, room_lines, still, takes, takes_question, told_names, want, want_told, lending, hears_request}
 use Rattle.wb_keeping.specs.Performing.{Keeping, after_doing, after_line, after_lines, sees, view_of}
-use Rattle.wb_keeping.specs.Policy.{Policy, View, after_state, after_taking_up, after_wanting, holds, is_asked, is_full, level, with_distance}
+use Rattle.wb_keeping.specs.Policy.{Policy, View, after_state, after_taking_up, after_wanting, holds, is_asked, is_full, level, with_distance, is_known}
 use Rattle.wb_keeping.specs.Questions.{is_to_answer}
 use Rattle.wb_keeping.specs.Wanting.{is_wanted}
 use Rattle.wb_keeping.proofs.EachStep.{doing, having, having_done, with_policy}
 use Rattle.wb_keeping.proofs.Performed.{seen_then, then_after}
-use Rattle.wb_keeping.proofs.Wanted.{lines_wanted}
+use Rattle.wb_keeping.proofs.Wanted.{lines_wanted, lending_parts, lent_first, taken_back}
 use Rattle.wb_kept_progress.proofs.Lines.{AreSmall, lines_rest, IsSmall, are_small, lines_grow}
 use Rattle.wb_kept_progress.proofs.Repairs.{taken_in}
 use Rattle.wb_keeping.proofs.EachLine.{want_each, Each, each_both, wanted_each}
@@ -77,8 +77,10 @@ for_nothing P lines none = asks_as (λ n. ⊥) P (λ n is. absurd is) lines none
 wanted_is_asked : (name : NameValue) (anew : Bool) (see : List Line → View) (p : Policy) → Contains (lines_wanted name anew see p) (Asks name)
 wanted_is_asked name anew see p =
     let v = see [] in
-    let usual = usual_lines name.source (v.distance name.source) p.usual in
-    Contains-append_right (room_lines name v) (usual ++ Asks name ∷ []) (Asks name) (Contains-append_right usual (Asks name ∷ []) (Asks name) (Contains-here (Asks name) []))
+    let usual = lent_first name.source (v.distance name.source) p.usual in
+    let back = taken_back name.source (v.distance name.source) in
+    Contains-append_right (room_lines name v) (lending name.source (v.distance name.source) p.usual (Asks name)) (Asks name)
+    (subst (λ (ls : List Line). Contains ls (Asks name)) (sym (lending_parts name.source (v.distance name.source) p.usual (Asks name))) (Contains-append_right usual (Asks name ∷ back) (Asks name) (Contains-here (Asks name) back)))
 
 -- ---- what stays
 
@@ -151,7 +153,7 @@ module _ (P : NameValue → Type 0) where
   nothing_asked k = record { stays = as_it_was k; asks = tt; owed = inr refl }
 
   want_asks : (name : NameValue) (anew : Bool) (k : Keeping) → P name → At (want name anew) k
-  want_asks name anew k is = by (is_wanted (holds v name) (is_full v) anew (level v name) k.policy.owed v.now) (want_each IsSmall are_small name anew (sees k.host) k.policy) where
+  want_asks name anew k is = by (is_wanted (holds v name) (is_full v) anew (is_known v name.source) (level v name) k.policy.owed v.now) (want_each IsSmall are_small name anew (sees k.host) k.policy) where
     v : View
     v = view_of k.host
 
@@ -162,7 +164,7 @@ module _ (P : NameValue → Type 0) where
         → AsksFor P k (cond b wanted (still (sees k.host) k.policy)).lines (having_done (cond b wanted (still (sees k.host) k.policy)) k)
     by true small = record {
       stays = small_stays k (lines_wanted name anew (sees k.host) k.policy) (after_wanting v.now k.policy) small refl refl;
-      asks = wanted_each (IsAskOf P) (λ name. tt) name is anew (sees k.host) k.policy (λ micros e. tt);
+      asks = wanted_each (IsAskOf P) (λ name. tt) name is anew (sees k.host) k.policy tt tt;
       owed = inl (name, wanted_is_asked name anew (sees k.host) k.policy);
     }
     by false small = nothing_asked k
@@ -189,6 +191,25 @@ module _ (P : NameValue → Type 0) where
     by : (b : Bool) → AsksFor P k (Hears v ∷ []) (record { host = cond b (heard v k.host) k.host; policy = k.policy })
     by true = record { stays = record { held = refl; now = refl; turns = refl; due = refl }; asks = (tt, tt); owed = inr refl }
     by false = record { stays = record { held = refl; now = refl; turns = refl; due = refl }; asks = (tt, tt); owed = inr refl }
+
+  request_asks : (asker : ℕ) (name : NameValue) (k : Keeping) → At (hears_request asker name) k
+  request_asks asker name k = by (nat_eq ((view_of k.host).distance source) unknown) where
+    source : ℕ
+    source = cond (holds (view_of k.host) name) asker name.source
+
+    v : Datagram
+    v = Request asker name
+
+    one : Opened
+    one = after_line (SetsDistance source k.policy.usual) k.host
+
+    heard_stays : (b : Bool) → Stays k (record { host = after_line (SetsDistance source unknown) (cond b (heard v one) one); policy = k.policy })
+    heard_stays true = record { held = refl; now = refl; turns = refl; due = refl }
+    heard_stays false = record { held = refl; now = refl; turns = refl; due = refl }
+
+    by : (b : Bool) → let lines = cond b (SetsDistance source k.policy.usual ∷ Hears v ∷ SetsDistance source unknown ∷ []) (Hears v ∷ []) in AsksFor P k lines (having_done (doing k.policy lines) k)
+    by true = record { stays = heard_stays (has_room_for v one); asks = (tt, (tt, (tt, tt))); owed = inr refl }
+    by false = hear_asks v k
 
   -- the names that a session message or a page state tells
   abbrev pub AreTold : ℕ → Datagram → Type 0
@@ -288,6 +309,6 @@ module _ (P : NameValue → Type 0) where
   hears_asks (Draw d) k told = takes_asks d k
   hears_asks (Session sender sent page marks echoes) k told = inr (other_asks sender (hears_session sender sent page marks echoes) k
       (session_asks sender sent page marks echoes k told))
-  hears_asks (Request asker name) k told = inr (other_asks asker (performs (Hears (Request asker name))) k (hear_asks (Request asker name) k))
+  hears_asks (Request asker name) k told = inr (other_asks asker (hears_request asker name) k (request_asks asker name k))
   hears_asks (AskPages asker) k told = inr (other_asks asker takes_question k (question_asks k))
   hears_asks (PageState sender page marks) k told = inr (other_asks sender (hears_state sender page marks) k (state_asks sender page marks k told))

@@ -1,9 +1,9 @@
 -- A name that is asked for in a call is still asked for behind it: where another needs its timer, one that was backed off gives way.
 use Rattle.wb_progress.specs.Keepers.{constants_at}
-use Rattle.std.proofs.Common.{◌≡◌, ℕ, suc, ◌+◌, ◌-◌, ◌*◌, ◌≤◌, Bool, true, false, cond, List, [], ◌∷◌, ◌++◌, ◌∙◌, Option, Some, None, ap, arith, inl, inr, length, map, refl, subst, sym, true≢false, ⊎_elim}
+use Rattle.std.proofs.Common.{◌≡◌, ℕ, suc, ◌+◌, ◌-◌, ◌*◌, ◌≤◌, Bool, true, false, cond, List, [], ◌∷◌, ◌∙◌, Option, Some, None, ap, arith, inl, inr, length, map, refl, subst, sym, true≢false, ⊎_elim}
 use Rattle.std.specs.Prelude.{◌⊎◌, ◌||◌, Contains, is_none, is_some, max, nat_eq, nat_le, nat_lt, not, unwrap_or}
 use Rattle.std.specs.List.{cons_option, fold}
-use Rattle.std.proofs.lemmas.Bool.{and_parts, leb-true, ltb-false, ltb-true}
+use Rattle.std.proofs.lemmas.Bool.{and_parts, leb-true, ltb-false, ltb-true, or_cases}
 use Rattle.wb_names.specs.Orders.{same_name}
 use Rattle.wb_names.specs.Values.{DrawopValue, NameValue}
 use Rattle.wb_names.proofs.Listings.{Contains-cases, Contains-here, Contains-none, Contains-there}
@@ -22,19 +22,21 @@ use Rattle.wb_member.specs.Opened.{Opened, asks_for, doing, events, may_ask, pre
 use Rattle.wb_member.specs.Random.{word_of}
 use Rattle.wb_keeping.specs.Credit.{cost, has_credit}
 use Rattle.wb_keeping.specs.Fairness.{AnswersWhatIsHeld}
-use Rattle.wb_keeping.specs.Kept.{Asks, Doing, Line, SetsDistance, Tunes, Stops, room_lines, still, stops_oldest, usual_lines, want, want_told}
+use Rattle.wb_keeping.specs.Distances.{unknown}
+use Rattle.wb_keeping.specs.Kept.{Asks, Doing, Line, SetsDistance, Tunes, Stops, room_lines, still, stops_one, want, want_told, lending}
 use Rattle.wb_keeping.specs.Performing.{Keeping, after_doing, after_line, after_lines, asked_name, asked_with, sees, view_of}
-use Rattle.wb_keeping.specs.Policy.{View, after_wanting, holds, is_asked, is_full, level as level_by}
-use Rattle.wb_keeping.specs.Wanting.{goes_on, is_wanted, older, oldest}
+use Rattle.wb_keeping.specs.Policy.{View, after_wanting, holds, is_asked, is_full, level as level_by, is_known}
+use Rattle.wb_keeping.specs.Wanting.{gives_way, giving_way, goes_on, is_old, is_wanted, older}
 use Rattle.wb_keeping.specs.declared.wanting.AskedName.{AskedName}
 use Rattle.wb_keeping.proofs.AskedTimers.{level_seen, named}
 use Rattle.wb_keeping.proofs.Performed.{after_both, then_after}
 use Rattle.wb_keeping.proofs.StandingTimers.{as_many}
-use Rattle.wb_keeping.proofs.Wanted.{lines_wanted}
+use Rattle.wb_keeping.proofs.Wanted.{lines_wanted, lending_parts, lent_first, taken_back}
 use Rattle.wb_keeping.proofs.WantedNames.{lines_answer_held, wanted_is_asked, AreSettings, IsSetting}
 use Rattle.wb_progress.proofs.OneCall.{le_true}
+use Rattle.wb_keeping.proofs.Spending.{has_place}
 use Rattle.wb_kept_progress.proofs.Lines.{is_false, lines_of, lines_rest, IsSmall, are_small}
-use Rattle.wb_keeping.proofs.EachLine.{want_each, room_each, usual_each, wanted_each}
+use Rattle.wb_keeping.proofs.EachLine.{want_each, room_each, wanted_each}
 
 -- ---- how often a timer was backed off, once a line was performed
 
@@ -246,10 +248,15 @@ pub record AreNew (k : Keeping) (names : List NameValue) : Type 0 where
   pub paid : present k.host + length names * cost ≤ max k.policy.owed (present k.host)
 
 -- distances move no timer
-usual_levels : (source distance : ℕ) (usual : Option ℕ) (n : NameValue) (host : Opened) → level (after_lines (usual_lines source distance usual) host) n ≡ level host n
-usual_levels source distance None n host = refl
-usual_levels source distance (Some u) n host = by (nat_eq distance 100000) where
-  by : (b : Bool) → level (after_lines (cond b (SetsDistance source u ∷ []) []) host) n ≡ level host n
+lent_levels : (source distance usual : ℕ) (n : NameValue) (host : Opened) → level (after_lines (lent_first source distance usual) host) n ≡ level host n
+lent_levels source distance usual n host = by (nat_eq distance unknown) where
+  by : (b : Bool) → level (after_lines (cond b (SetsDistance source usual ∷ []) []) host) n ≡ level host n
+  by true = refl
+  by false = refl
+
+back_levels : (source distance : ℕ) (n : NameValue) (host : Opened) → level (after_lines (taken_back source distance) host) n ≡ level host n
+back_levels source distance n host = by (nat_eq distance unknown) where
+  by : (b : Bool) → level (after_lines (cond b (SetsDistance source unknown ∷ []) []) host) n ≡ level host n
   by true = refl
   by false = refl
 
@@ -261,7 +268,10 @@ module _ (name : NameValue) (anew : Bool) (k : Keeping) where
   first = room_lines name v
 
   abbrev usual : List Line
-  usual = usual_lines name.source (v.distance name.source) k.policy.usual
+  usual = lent_first name.source (v.distance name.source) k.policy.usual
+
+  abbrev back : List Line
+  back = taken_back name.source (v.distance name.source)
 
   abbrev one : Opened
   one = after_lines first k.host
@@ -276,10 +286,20 @@ module _ (name : NameValue) (anew : Bool) (k : Keeping) where
   room_sets = room_each IsSetting (λ name. tt) name v
 
   usual_sets : AreSettings usual
-  usual_sets = usual_each IsSetting name.source (v.distance name.source) k.policy.usual (λ micros e. tt)
+  usual_sets = by (nat_eq (v.distance name.source) unknown) where
+    by : (b : Bool) → AreSettings (cond b (SetsDistance name.source k.policy.usual ∷ []) [])
+    by true = (tt, tt)
+    by false = tt
 
-  there : after_lines (lines_wanted name anew (sees k.host) k.policy) k.host ≡ last
-  there = after_both first (usual ++ Asks name ∷ []) k.host ∙ after_both usual (Asks name ∷ []) one
+  there : after_lines (lines_wanted name anew (sees k.host) k.policy) k.host ≡ after_lines back last
+  there =
+      after_both first (lending name.source (v.distance name.source) k.policy.usual (Asks name)) k.host
+      ∙ ap (λ (ls : List Line). after_lines ls one) (lending_parts name.source (v.distance name.source) k.policy.usual (Asks name))
+      ∙ after_both usual (Asks name ∷ back) one
+
+  -- the levels are those behind the line that asks
+  pub levels_there : (m : NameValue) → level (after_lines (lines_wanted name anew (sees k.host) k.policy) k.host) m ≡ level last m
+  levels_there m = ap (λ (h : Opened). level h m) there ∙ back_levels name.source (v.distance name.source) m last
 
   abbrev wanted : Doing
   wanted = record { policy = after_wanting v.now k.policy; lines = lines_wanted name anew (sees k.host) k.policy }
@@ -288,7 +308,7 @@ module _ (name : NameValue) (anew : Bool) (k : Keeping) where
   done b = let d : Doing = cond b wanted (still (sees k.host) k.policy) in record { host = after_lines d.lines k.host; policy = d.policy }
 
   abbrev is_so : Bool
-  is_so = is_wanted (holds v name) (is_full v) anew (level_by v name) k.policy.owed v.now
+  is_so = is_wanted (holds v name) (is_full v) anew (is_known v name.source) (level_by v name) k.policy.owed v.now
 
   new_back : (m : NameValue) → IsNew last m → (name ≡ m) ⊎ IsNew k.host m
   new_back m new = ⊎_elim
@@ -299,7 +319,7 @@ module _ (name : NameValue) (anew : Bool) (k : Keeping) where
   now_wanted : present (after_lines (lines_wanted name anew (sees k.host) k.policy) k.host) ≡ present k.host
   now_wanted =
       (lines_rest (lines_wanted name anew (sees k.host) k.policy) k.host
-      (wanted_each IsSmall (λ name. tt) name tt anew (sees k.host) k.policy (λ micros e. tt))).now
+      (wanted_each IsSmall (λ name. tt) name tt anew (sees k.host) k.policy tt tt)).now
 
   -- it is among those that are new then, or nothing was done
   module _ (names : List NameValue) (are : AreNew k names) where
@@ -311,7 +331,7 @@ module _ (name : NameValue) (anew : Bool) (k : Keeping) where
         all = λ m new. ⊎_elim
             (λ (e : name ≡ m). subst (λ (x : NameValue). Contains (name ∷ names) x) e (Contains-here name names))
             (λ (new : IsNew k.host m). Contains-there name m names (are.all m new))
-            (new_back m (subst (λ (h : Opened). IsNew h m) there new));
+            (new_back m (sym (levels_there m) ∙ new));
         paid = let p = are.paid in let now = now_wanted in paid_then k.policy.owed (present k.host) (present (done true).host) (length names) p now;
       },
       omega arith,
@@ -335,20 +355,28 @@ module _ (name : NameValue) (anew : Bool) (k : Keeping) where
             on false = refl
 
       room_keeps : same_name name n ≡ false → length names ≤ 63 → IsNew one n
-      room_keeps other few = by (is_asked v name) (nat_le 64 (length v.asked)) refl v.asked refl where
-        lines_by : Bool → Bool → List AskedName → List Line
-        lines_by a b asked = cond a (Stops name ∷ []) (cond b (stops_oldest (oldest asked)) [])
+      room_keeps other few = by (is_asked v name) v.asked refl where
+        -- one that gives way is not new
+        not_new : (a : AskedName) (later : List AskedName) → v.asked ≡ a ∷ later → gives_way (length (a ∷ later)) (fold older a later).level ≡ true → IsNew k.host (fold older a later).name → ⊥
+        not_new a later e way is_new = ⊎_elim
+            (λ (many : nat_le 64 (length (a ∷ later)) ≡ true). oldest_is_old k.host names are.all few a later e (leb-true 64 (length (a ∷ later)) many) is_new)
+            (λ (old : is_old (fold older a later).level ≡ true).
+            let told = level_told k.host (fold older a later) (subst (λ (asked : List AskedName). Contains asked (fold older a later)) (sym e) (oldest_is_one a later)) in
+            let zero_level = same_zero (fold older a later).level (sym told ∙ is_new) in
+            let four = leb-true 4 (fold older a later).level old in
+            absurd (omega (arith, four, zero_level)))
+            (or_cases (nat_le 64 (length (a ∷ later))) (is_old (fold older a later).level) way)
 
-        not_oldest : (a : AskedName) (later : List AskedName) → v.asked ≡ a ∷ later → nat_le 64 (length v.asked) ≡ true → same_name (fold older a later).name n ≡ false
-        not_oldest a later e many = is_false (same_name (fold older a later).name n) (λ same.
-            oldest_is_old k.host names are.all few a later e (leb-true 64 (length (a ∷ later)) (ap (λ (asked : List AskedName). nat_le 64 (length asked)) (sym e) ∙ many))
-            (subst (λ (m : NameValue). level k.host m ≡ Some 0) (sym (same_name-is (fold older a later).name n same)) new))
+        way : (a : AskedName) (later : List AskedName) → v.asked ≡ a ∷ later → (b : Bool) → gives_way (length (a ∷ later)) (fold older a later).level ≡ b
+            → IsNew (after_lines (stops_one (cond b (Some (fold older a later)) None)) k.host) n
+        way a later is false e = new
+        way a later is true e = stop_leaves (fold older a later).name n k.host (is_false (same_name (fold older a later).name n) (λ same.
+            not_new a later is e (subst (λ (m : NameValue). level k.host m ≡ Some 0) (sym (same_name-is (fold older a later).name n same)) new))) ∙ new
 
-        by : (a b : Bool) → nat_le 64 (length v.asked) ≡ b → (asked : List AskedName) → v.asked ≡ asked → IsNew (after_lines (lines_by a b asked) k.host) n
-        by true b e asked is = stop_leaves name n k.host other ∙ new
-        by false false e asked is = new
-        by false true e [] is = new
-        by false true e (a ∷ later) is = stop_leaves (fold older a later).name n k.host (not_oldest a later is e) ∙ new
+        by : (a : Bool) → (asked : List AskedName) → v.asked ≡ asked → IsNew (after_lines (cond a (Stops name ∷ []) (stops_one (giving_way asked))) k.host) n
+        by true asked is = stop_leaves name n k.host other ∙ new
+        by false [] is = new
+        by false (a ∷ later) is = way a later is (gives_way (length (a ∷ later)) (fold older a later).level) refl
 
       stays_new : (b : Bool) → is_so ≡ b → IsNew (done b).host n
       stays_new false e = new
@@ -358,8 +386,8 @@ module _ (name : NameValue) (anew : Bool) (k : Keeping) where
           let three_part = and_parts (not (goes_on anew (level_by v name))) _ two_part.1 in
           let idle = flipped (goes_on anew (level_by v name)) three_part.0 in
           let other = another idle in
-          let kept = room_keeps other (few three_part.1) in
-          subst (λ (h : Opened). IsNew h n) (sym there) (asks_leaves name n two other ∙ usual_levels name.source (v.distance name.source) k.policy.usual n one ∙ kept) where
+          let kept = room_keeps other (few (has_place (anew || is_known v name.source) k.policy.owed (present k.host) three_part.1)) in
+          levels_there n ∙ asks_leaves name n two other ∙ lent_levels name.source (v.distance name.source) k.policy.usual n one ∙ kept where
             flipped : (b : Bool) → not b ≡ true → b ≡ false
             flipped true e = absurd (true≢false (sym e))
             flipped false e = refl
@@ -372,7 +400,7 @@ module _ (name : NameValue) (anew : Bool) (k : Keeping) where
   still_none n other none = by is_so where
     by : (b : Bool) → HasNone (done b).host n
     by false = none
-    by true = subst (λ (h : Opened). HasNone h n) (sym there) (asks_leaves name n two other ∙ none_two n none)
+    by true = levels_there n ∙ asks_leaves name n two other ∙ none_two n none
 
   -- where it had none, and has one then, that is new
   pub set_anew : HasNone k.host name → is_asked (view_of (after_doing (want name anew) k).host) name ≡ true → IsNew (after_doing (want name anew) k).host name
@@ -386,7 +414,7 @@ module _ (name : NameValue) (anew : Bool) (k : Keeping) where
 
     by : (b : Bool) → is_asked (view_of (done b).host) name ≡ true → IsNew (done b).host name
     by false asked = absurd (never k.host none asked)
-    by true asked = subst (λ (h : Opened). IsNew h name) (sym there) (by_may (may_ask name two) refl (subst (λ (h : Opened). is_asked (view_of h) name ≡ true) there asked))
+    by true asked = levels_there name ∙ by_may (may_ask name two) refl (ap is_some (level_seen last name ∙ sym (levels_there name) ∙ sym (level_seen (after_lines (lines_wanted name anew (sees k.host) k.policy) k.host) name)) ∙ asked)
 
   -- what is new then
   pub then_are_new : (names : List NameValue) → AreNew k names → (more : List NameValue) × AreNew (after_doing (want name anew) k) more × (length more ≤ length names + 1)
@@ -419,7 +447,7 @@ stays_asked name anew k n is =
     record { names = more.0; are = more.1; new = new_stays name anew k is.names is.are n is.new }
 
 owed_then : (name : NameValue) (anew : Bool) (k : Keeping) (used : ℕ) → k.policy.owed ≤ present k.host + used * cost → (after_doing (want name anew) k).policy.owed ≤ present k.host + suc used * cost
-owed_then name anew k used le = by (is_wanted (holds (view_of k.host) name) (is_full (view_of k.host)) anew (level_by (view_of k.host) name) k.policy.owed (present k.host)) where
+owed_then name anew k used le = by (is_wanted (holds (view_of k.host) name) (is_full (view_of k.host)) anew (is_known (view_of k.host) name.source) (level_by (view_of k.host) name) k.policy.owed (present k.host)) where
   wanted : Doing
   wanted = record { policy = after_wanting (present k.host) k.policy; lines = lines_wanted name anew (sees k.host) k.policy }
 

@@ -1,6 +1,6 @@
 -- Behind a line by which a host asks for a name its timer stands.
 use Rattle.std.proofs.Common.{◌≡◌, Bool, true, false, cond, List, [], ◌∷◌, ◌++◌, ◌∙◌, None, ap, append_assoc, refl, subst, sym, ⊎_elim}
-use Rattle.std.specs.Prelude.{Contains, not, take}
+use Rattle.std.specs.Prelude.{Contains, not, take, nat_eq}
 use Rattle.std.proofs.lemmas.Bool.{and_parts}
 use Rattle.std.proofs.lemmas.List.Elements.{Contains-append_cases}
 use Rattle.wb_names.specs.Values.{NameValue}
@@ -8,19 +8,20 @@ use Rattle.wb_names.proofs.Listings.{Contains-cases, Contains-none}
 use Rattle.wb_gaps.specs.Answers.{pages_of}
 use Rattle.wb_member.specs.Opened.{Opened, asks_for}
 use Rattle.wb_keeping.specs.Fairness.{AnswersWhatIsHeld}
-use Rattle.wb_keeping.specs.Kept.{Arrives, Asks, Doing, Hears, Line, Stops, Ticks, Tunes, room_lines, still, usual_lines, want}
+use Rattle.wb_keeping.specs.Distances.{unknown}
+use Rattle.wb_keeping.specs.Kept.{Arrives, Asks, Doing, Hears, Line, Stops, Ticks, Tunes, room_lines, still, want, lending, SetsDistance}
 use Rattle.wb_keeping.specs.Laws.{KeptLine, doing_of, fault_of}
 use Rattle.wb_keeping.specs.Performing.{Keeping, after_doing, after_lines, sees, view_of}
-use Rattle.wb_keeping.specs.Policy.{View, after_wanting, holds, is_full, level}
+use Rattle.wb_keeping.specs.Policy.{View, after_wanting, holds, is_full, level, is_known}
 use Rattle.wb_keeping.specs.Wanting.{goes_on, is_wanted}
 use Rattle.wb_keeping.proofs.EachStep.{HoldsOfSteps, line_holds}
 use Rattle.wb_keeping.proofs.Performed.{after_both}
 use Rattle.wb_keeping.proofs.StandingTimers.{stands_asked}
-use Rattle.wb_keeping.proofs.Wanted.{is_asked_for, lines_wanted}
+use Rattle.wb_keeping.proofs.Wanted.{is_asked_for, lines_wanted, lending_parts, lent_first, taken_back}
 use Rattle.wb_keeping.proofs.WantedNames.{lines_answer_held, wanted_is_asked}
 use Rattle.wb_kept_progress.proofs.WantedIn.{IsAskedInCall}
 use Rattle.wb_kept_progress.proofs.AskedInCalls.{AskNothing, IsAskOf, asked_is}
-use Rattle.wb_keeping.proofs.EachLine.{room_each, states_each, usual_each}
+use Rattle.wb_keeping.proofs.EachLine.{room_each, states_each}
 
 -- ---- each step of a policy
 
@@ -61,7 +62,7 @@ both_stand k m l one other a b = record { at = b.at ∙ ap (after_lines other) a
       (Contains-append_cases one other (Asks n) c)
 
 wants_stand : (name : NameValue) (anew : Bool) (k : Keeping) → AsksStand k (want name anew (sees k.host) k.policy).lines (after_doing (want name anew) k)
-wants_stand name anew k = record { at = refl; stand = λ answers_held n c. by answers_held n (is_wanted (holds v name) (is_full v) anew (level v name) k.policy.owed v.now) refl c } where
+wants_stand name anew k = record { at = refl; stand = λ answers_held n c. by answers_held n (is_wanted (holds v name) (is_full v) anew (is_known v name.source) (level v name) k.policy.owed v.now) refl c } where
   v : View
   v = view_of k.host
 
@@ -69,7 +70,13 @@ wants_stand name anew k = record { at = refl; stand = λ answers_held n c. by an
   first = room_lines name v
 
   usual : List Line
-  usual = usual_lines name.source (v.distance name.source) k.policy.usual
+  usual = lent_first name.source (v.distance name.source) k.policy.usual
+
+  back : List Line
+  back = taken_back name.source (v.distance name.source)
+
+  parts : lending name.source (v.distance name.source) k.policy.usual (Asks name) ≡ usual ++ Asks name ∷ back
+  parts = lending_parts name.source (v.distance name.source) k.policy.usual (Asks name)
 
   wanted : Doing
   wanted = record { policy = after_wanting v.now k.policy; lines = lines_wanted name anew (sees k.host) k.policy }
@@ -80,38 +87,72 @@ wants_stand name anew k = record { at = refl; stand = λ answers_held n c. by an
   same_name : (n : NameValue) → Asks name ≡ Asks n → name ≡ n
   same_name n e = cc
 
-  only : (n : NameValue) → Contains (first ++ (usual ++ Asks name ∷ [])) (Asks n) → name ≡ n
+  usual_asks : AskNothing usual
+  usual_asks = by (nat_eq (v.distance name.source) unknown) where
+    by : (b : Bool) → AskNothing (cond b (SetsDistance name.source k.policy.usual ∷ []) [])
+    by true = (tt, tt)
+    by false = tt
+
+  back_asks : AskNothing back
+  back_asks = by (nat_eq (v.distance name.source) unknown) where
+    by : (b : Bool) → AskNothing (cond b (SetsDistance name.source unknown ∷ []) [])
+    by true = (tt, tt)
+    by false = tt
+
+  none_asks : (lines : List Line) (n : NameValue) → AskNothing lines → Contains lines (Asks n) → name ≡ n
+  none_asks lines n none c = absurd (asked_is (λ n. ⊥) lines n none c)
+
+  only : (n : NameValue) → Contains (first ++ (usual ++ Asks name ∷ back)) (Asks n) → name ≡ n
   only n c = ⊎_elim
-      (λ (in_first : Contains first (Asks n)). absurd (asked_is (λ n. ⊥) first n (room_each (IsAskOf (λ n. ⊥)) (λ name. tt) name v) in_first))
-      (λ (rest : Contains (usual ++ Asks name ∷ []) (Asks n)). ⊎_elim
-      (λ (in_usual : Contains usual (Asks n)). absurd (asked_is (λ n. ⊥) usual n (usual_each (IsAskOf (λ n. ⊥)) name.source (v.distance name.source) k.policy.usual (λ micros e. tt)) in_usual))
-      (λ (last : Contains (Asks name ∷ []) (Asks n)). ⊎_elim (same_name n) (λ (none : Contains [] (Asks n)). absurd (Contains-none (Asks n) none)) (Contains-cases (Asks name) (Asks n) [] last))
-      (Contains-append_cases usual (Asks name ∷ []) (Asks n) rest))
-      (Contains-append_cases first (usual ++ Asks name ∷ []) (Asks n) c)
+      (none_asks first n (room_each (IsAskOf (λ n. ⊥)) (λ name. tt) name v))
+      (λ (rest : Contains (usual ++ Asks name ∷ back) (Asks n)). ⊎_elim
+      (none_asks usual n usual_asks)
+      (λ (last : Contains (Asks name ∷ back) (Asks n)). ⊎_elim (same_name n) (none_asks back n back_asks) (Contains-cases (Asks name) (Asks n) back last))
+      (Contains-append_cases usual (Asks name ∷ back) (Asks n) rest))
+      (Contains-append_cases first (usual ++ Asks name ∷ back) (Asks n) c)
 
   flipped : (b : Bool) → not b ≡ true → b ≡ false
   flipped true e = sym e
   flipped false e = refl
 
-  asked : AnswersWhatIsHeld k.host → is_wanted (holds v name) (is_full v) anew (level v name) k.policy.owed v.now ≡ true
-      → asks_for name (after_lines (first ++ (usual ++ Asks name ∷ [])) k.host) ≡ true
+  -- what takes a distance back leaves the timers
+  asks_back : (host : Opened) → asks_for name (after_lines back host) ≡ asks_for name host
+  asks_back host = by (nat_eq (v.distance name.source) unknown) where
+    by : (b : Bool) → asks_for name (after_lines (cond b (SetsDistance name.source unknown ∷ []) []) host) ≡ asks_for name host
+    by true = refl
+    by false = refl
+
+  before : List Line
+  before = first ++ (usual ++ Asks name ∷ [])
+
+  whole : lines_wanted name anew (sees k.host) k.policy ≡ before ++ back
+  whole =
+      ap (λ (ls : List Line). first ++ ls) (parts ∙ sym (append_assoc usual (Asks name ∷ []) back))
+      ∙ sym (append_assoc first (usual ++ Asks name ∷ []) back)
+
+  asked : AnswersWhatIsHeld k.host → is_wanted (holds v name) (is_full v) anew (is_known v name.source) (level v name) k.policy.owed v.now ≡ true → asks_for name (after_lines before k.host) ≡ true
   asked answers_held e =
       let one = and_parts (not (holds v name)) _ e in
       let two = and_parts (not (is_full v)) _ one.1 in
       let three = and_parts (not (goes_on anew (level v name))) _ two.1 in
-      ap (λ (d : Doing). asks_for name (after_lines d.lines k.host)) (sym (is_asked_for name anew (sees k.host) k.policy e))
+      sym (asks_back (after_lines before k.host))
+      ∙ ap (asks_for name) (sym (after_both before back k.host))
+      ∙ ap (λ (ls : List Line). asks_for name (after_lines ls k.host)) (sym whole)
+      ∙ ap (λ (d : Doing). asks_for name (after_lines d.lines k.host)) (sym (is_asked_for name anew (sees k.host) k.policy e))
       ∙ stands_asked (after_doing (want name anew) k).host name
       (wanted_is_asked name anew k answers_held (flipped (holds v name) one.0) (flipped (is_full v) two.0) three.1)
 
-  by : AnswersWhatIsHeld k.host → (n : NameValue) (b : Bool) → is_wanted (holds v name) (is_full v) anew (level v name) k.policy.owed v.now ≡ b
+  by : AnswersWhatIsHeld k.host → (n : NameValue) (b : Bool) → is_wanted (holds v name) (is_full v) anew (is_known v name.source) (level v name) k.policy.owed v.now ≡ b
       → Contains (so b).lines (Asks n) → Stands (so b).lines k.host n
   by answers_held n false e c = absurd (Contains-none (Asks n) c)
-  by answers_held n true e c = subst (Stands (first ++ (usual ++ Asks name ∷ [])) k.host) (only n c) (record {
-    before = first ++ usual;
-    later = [];
-    split = sym (append_assoc first usual (Asks name ∷ []));
-    stands = ap (λ (ls : List Line). asks_for name (after_lines ls k.host)) (append_assoc first usual (Asks name ∷ [])) ∙ asked answers_held e;
-  })
+  by answers_held n true e c =
+      let parted : lines_wanted name anew (sees k.host) k.policy ≡ first ++ (usual ++ Asks name ∷ back) = ap (λ (ls : List Line). first ++ ls) parts in
+      subst (Stands (lines_wanted name anew (sees k.host) k.policy) k.host) (only n (subst (λ (ls : List Line). Contains ls (Asks n)) parted c)) (record {
+        before = first ++ usual;
+        later = back;
+        split = parted ∙ sym (append_assoc first usual (Asks name ∷ back));
+        stands = ap (λ (ls : List Line). asks_for name (after_lines ls k.host)) (append_assoc first usual (Asks name ∷ [])) ∙ asked answers_held e;
+      })
 
 steps_stand : HoldsOfSteps AsksStand
 steps_stand = record {
@@ -122,7 +163,7 @@ steps_stand = record {
     turned = λ t k. asks_nothing k [] _ refl tt;
     answers = λ k is. asks_nothing k _ _ refl (states_each (IsAskOf (λ n. ⊥)) (view_of k.host) (λ page. tt) (take 64 (pages_of k.host.is.held)));
     asks_pages = λ k is. asks_nothing k _ _ refl (tt, tt);
-    reports = λ page told k is. asks_nothing k _ _ refl (tt, tt);
+    reports = λ page until told k is. asks_nothing k _ _ refl (tt, tt);
   };
   ticks = λ now k later. asks_nothing k (Ticks now ∷ []) _ refl (tt, tt);
   arrives = λ d k. asks_nothing k (Arrives d ∷ []) _ refl (tt, tt);
@@ -130,6 +171,8 @@ steps_stand = record {
   hears = λ v k. asks_nothing k (Hears v ∷ []) _ refl (tt, tt);
   stops = λ name k full. asks_nothing k (Stops name ∷ []) _ refl (tt, tt);
   sets = λ source micros k. asks_nothing k _ _ refl (tt, tt);
+  lends = λ source k. asks_nothing k _ _ refl (tt, tt);
+  takes_back = λ source k. asks_nothing k _ _ refl (tt, tt);
   tunes = λ constants k within. asks_nothing k (Tunes constants ∷ []) _ refl (tt, tt);
   draws = λ d k. asks_nothing k _ _ refl (tt, tt);
   measured = λ micros k. asks_nothing k [] _ refl tt;

@@ -91,14 +91,14 @@ module _ (hosts : ℕ → Opening) (terms : Terms) (trace : List TimedLine) (s :
 
     -- what is handed in by a later call comes by one of its lines
     comes : (newer : List Performed) → all ≡ newer ++ x ∷ back → (j : ℕ) (v : Datagram) (line : Line) (h : IsHandedIn c.newer j (c.e.time + terms.delivery) v)
-        → ((rest : List Line) × (does hosts h.call (h.between ++ c.e ∷ c.older) ≡ (Ticks h.now ∷ []) ++ line ∷ rest)) → ComesTo newer j (x.time + terms.delivery) line
+        → ((before : List Line) × (rest : List Line) × (does hosts h.call (h.between ++ c.e ∷ c.older) ≡ (Ticks h.now ∷ before) ++ line ∷ rest)) → ComesTo newer j (x.time + terms.delivery) line
     comes newer split j v line h begins =
         let calls : List TimedLine = h.between ++ c.e ∷ c.older in
         let handed : trace ≡ h.later ++ h.call ∷ calls = c.split ∙ ap (λ (t : List TimedLine). t ++ c.e ∷ c.older) h.split ∙ append_assoc h.later (h.call ∷ h.between) (c.e ∷ c.older) in
-        let base : List Performed = performed_then h.call.time h.call.at.place (Ticks h.now ∷ []) (performed hosts calls) in
+        let base : List Performed = performed_then h.call.time h.call.at.place (Ticks h.now ∷ begins.0) (performed hosts calls) in
         let arrival : Performed = at_place h.call.time h.call.at.place line in
-        let a : Ends all (arrival ∷ base) = line_stands hosts trace h.later calls h.call (Ticks h.now ∷ []) begins.0 line handed begins.1 in
-        let b : Ends base (x ∷ back) = ends_both base (performed hosts calls) (x ∷ back) (then_front h.call.time h.call.at.place (Ticks h.now ∷ []) (performed hosts calls))
+        let a : Ends all (arrival ∷ base) = line_stands hosts trace h.later calls h.call (Ticks h.now ∷ begins.0) begins.1 line handed begins.2 in
+        let b : Ends base (x ∷ back) = ends_both base (performed hosts calls) (x ∷ back) (then_front h.call.time h.call.at.place (Ticks h.now ∷ begins.0) (performed hosts calls))
         (ends_both (performed hosts calls) (performed hosts (c.e ∷ c.older)) (x ∷ back) (front_of hosts h.between (c.e ∷ c.older)) (call_ends hosts trace x back c)) in
         let whole : all ≡ (a.0 ++ arrival ∷ b.0) ++ x ∷ back = a.1 ∙ ap (λ (t : List Performed). a.0 ++ arrival ∷ t) b.1 ∙ sym (append_assoc a.0 (arrival ∷ b.0) (x ∷ back)) in
         record {
@@ -122,14 +122,14 @@ module _ (hosts : ℕ → Opening) (terms : Terms) (trace : List TimedLine) (s :
           let h = handed_in (Draw d) sent in
           let there_j = there hosts (h.between ++ c.e ∷ c.older) h.call.at.place in
           let begins = drawop_begins h.now d there_j in
-          comes newer split j (Draw d) (Arrives d) h (begins.0, ap (λ (line : KeptLine). (doing_of line (sees there_j.host) there_j.policy).lines) h.is ∙ begins.1)
+          comes newer split j (Draw d) (Arrives d) h ([], begins.0, ap (λ (line : KeptLine). (doing_of line (sees there_j.host) there_j.policy).lines) h.is ∙ begins.1)
 
       requests : (asker : ℕ) (m : NameValue) → Contains (sends starts back x) (Request asker m) → ComesTo newer j (x.time + terms.delivery) (Hears (Request asker m))
       requests asker m sent =
           let h = handed_in (Request asker m) sent in
           let there_j = there hosts (h.between ++ c.e ∷ c.older) h.call.at.place in
           let begins = request_begins h.now asker m there_j (apart (h.between ++ c.e ∷ c.older) h.call.at.place h.place) in
-          comes newer split j (Request asker m) (Hears (Request asker m)) h (begins.0, ap (λ (line : KeptLine). (doing_of line (sees there_j.host) there_j.policy).lines) h.is ∙ begins.1) where
+          comes newer split j (Request asker m) (Hears (Request asker m)) h (begins.0, begins.1, ap (λ (line : KeptLine). (doing_of line (sees there_j.host) there_j.policy).lines) h.is ∙ begins.2) where
             own : asker ≡ (hosts x.place).number
             own = ⊎_elim
                 (λ (g : (asker ≡ before.is.number) × (holds before m ≡ false)). g.0 ∙ (of_start starts back x.place).number)

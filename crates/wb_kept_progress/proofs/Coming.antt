@@ -25,11 +25,11 @@ use Rattle.wb_keeping.specs.Laws.{Came, fault_of}
 use Rattle.wb_keeping.specs.Performing.{Keeping, after_doing}
 use Rattle.wb_keeping.proofs.ToldMarks.{each_mark_is_told}
 use Rattle.wb_kept_progress.specs.Repairs.{ComesToTell, HasCome, IsBrought, IsLost, LostCanCome, MarksComeToBeTold, host_at, repair}
-use Rattle.wb_kept_progress.specs.Sessions.{AreHosts, AreTaken, LineAt, NothingIsForged, Opening, at, kept_at}
+use Rattle.wb_kept_progress.specs.Sessions.{AreHosts, AreSent, AreTaken, LineAt, Opening, at, kept_at}
 use Rattle.wb_kept_progress.proofs.Hearing.{report_asks, report_holds}
 use Rattle.wb_kept_progress.proofs.Lines.{is_false}
 use Rattle.wb_kept_progress.proofs.Repairs.{asked_can_come, fine_at, idle, is_itself, moved, of_opening, places_differ, session_in_time}
-use Rattle.wb_kept_progress.proofs.Turning.{answers_at, brought_behind, by_turn, comes_to_tell, count_of, in_map, not_ours, others_stay, some_ticks, ticks_unforged}
+use Rattle.wb_kept_progress.proofs.Turning.{answers_at, brought_behind, by_turn, comes_to_tell, count_of, in_map, not_ours, others_stay, sent_both, some_ticks, ticks_sent}
 use Rattle.wb_kept_progress.proofs.Leaving.{told_of}
 
 -- ---- marks
@@ -209,13 +209,13 @@ module _ (hosts : ℕ → Opening) (are : AreHosts hosts) where
         known = not_ours n (host_at hosts l2 i) small;
       }
 
-      unforged_2 : NothingIsForged hosts older → NothingIsForged hosts l2
-      unforged_2 unforged = (told.sent, ticks_unforged hosts older j count unforged)
+      sent_2 : AreSent hosts (at i (Came now v) ∷ ticks_j) older
+      sent_2 = (told.sent, ticks_sent hosts older j count)
 
       by_report : (newer : List LineAt) × IsBrought hosts newer older i j d
       by_report = (
         repair i j (host_at hosts l2 i) (host_at hosts l2 j) d ++ (at i (Came now v) ∷ ticks_j),
-        brought_behind hosts (repair i j (host_at hosts l2 i) (host_at hosts l2 j) d) (at i (Came now v) ∷ ticks_j) older i j d unforged_2 same_2 there_2 (asked_can_come hosts l2 i j d are taken_2 lost_2 asked_2),
+        brought_behind hosts (repair i j (host_at hosts l2 i) (host_at hosts l2 j) d) (at i (Came now v) ∷ ticks_j) older i j d sent_2 same_2 there_2 (asked_can_come hosts l2 i j d are taken_2 lost_2 asked_2),
       )
 
     pub top_comes : (newer : List LineAt) × IsBrought hosts newer older i j d
@@ -229,16 +229,16 @@ module _ (hosts : ℕ → Opening) (are : AreHosts hosts) where
   has_come : (newer older : List LineAt) (i j : ℕ) (d : DrawopValue) → IsBrought hosts newer older i j d → HasCome hosts newer older i d
   has_come newer older i j d b = record {
     taken = b.taken;
-    unforged = b.unforged;
+    sent = b.sent;
     held = subst (λ (h : List DrawopValue). Contains h d) (sym b.held) (Contains-append_right (host_at hosts older i).is.held (d ∷ []) d (Contains-here d []));
   }
 
-  come_behind : (newer more older : List LineAt) (i : ℕ) (d : DrawopValue) → (NothingIsForged hosts older → NothingIsForged hosts (more ++ older)) → HasCome hosts newer (more ++ older) i d → HasCome hosts (newer ++ more) older i d
-  come_behind newer more older i d unforged c =
+  come_behind : (newer more older : List LineAt) (i : ℕ) (d : DrawopValue) → AreSent hosts more older → HasCome hosts newer (more ++ older) i d → HasCome hosts (newer ++ more) older i d
+  come_behind newer more older i d sent c =
       let e = sym (append_assoc newer more older) in
       record {
         taken = subst (AreTaken hosts) e c.taken;
-        unforged = λ none. subst (NothingIsForged hosts) e (c.unforged (unforged none));
+        sent = sent_both hosts more older newer c.sent sent;
         held = subst (λ (lines : List LineAt). Contains (host_at hosts lines i).is.held d) e c.held;
       }
 
@@ -334,7 +334,7 @@ module _ (hosts : ℕ → Opening) (are : AreHosts hosts) where
       by_top : (newer : List LineAt) × HasCome hosts newer older i d
       by_top =
           let rest = by_its_turn (more ++ older) b.taken lost_then top_then in
-          (rest.0 ++ more, come_behind rest.0 more older i d b.unforged rest.1)
+          (rest.0 ++ more, come_behind rest.0 more older i d b.sent rest.1)
 
     pub comes : (newer : List LineAt) × HasCome hosts newer older i d
     comes = by (nat_eq d.name.seq top) refl (holds held_i t.name) refl where

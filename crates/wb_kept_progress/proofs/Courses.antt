@@ -16,9 +16,9 @@ use Rattle.wb_keeping.specs.Credit.{spent}
 use Rattle.wb_keeping.specs.Fairness.{led_to, name_in_turn}
 use Rattle.wb_keeping.specs.Kept.{Asks, Doing, Line, Says, Ticks, Transition, and_then, answers, asks_pages, came, hears, performs, reports, reports_due, reports_rest, state_of, still, ticks, timed, turn, turn_to, want}
 use Rattle.wb_keeping.specs.Performing.{Keeping, after_doing, sees, view_of}
-use Rattle.wb_keeping.specs.Policy.{Policy, View, after_answer, after_question, after_turn, after_wanting, holds, in_next_round, is_full, level}
+use Rattle.wb_keeping.specs.Policy.{Policy, View, after_answer, after_question, after_turn, after_wanting, holds, in_next_round, is_full, level, is_known}
 use Rattle.wb_keeping.specs.Questions.{is_due}
-use Rattle.wb_keeping.specs.Reports.{slice_after}
+use Rattle.wb_keeping.specs.Reports.{rest_after}
 use Rattle.wb_keeping.specs.Turns.{name_in, nowhere}
 use Rattle.wb_keeping.specs.Wanting.{is_wanted}
 use Rattle.wb_keeping.specs.declared.turns.Turns.{Turns}
@@ -49,7 +49,7 @@ record TakesTurn (k : Keeping) (lines : List Line) (m : Keeping) : Type 0 where
 
 turn_wants : (n : NameValue) (p : Policy) (k : Keeping) → p.owed ≡ k.policy.owed → name_in_turn k.host.is.held k.policy.turns ≡ Some n
     → TakesTurn k (want n true (sees k.host) p).lines (having_done (want n true (sees k.host) p) k)
-turn_wants n p k same is = by (is_wanted (holds v n) (is_full v) true (level v n) p.owed v.now) where
+turn_wants n p k same is = by (is_wanted (holds v n) (is_full v) true (is_known v n.source) (level v n) p.owed v.now) where
   v : View
   v = view_of k.host
 
@@ -58,7 +58,7 @@ turn_wants n p k same is = by (is_wanted (holds v n) (is_full v) true (level v n
 
   by : (b : Bool) → TakesTurn k (cond b wanted (still (sees k.host) p)).lines (having_done (cond b wanted (still (sees k.host) p)) k)
   by true = record {
-    asks = wanted_each (IsAskOf (λ m. name_in_turn k.host.is.held k.policy.turns ≡ Some m)) (λ name. tt) n is true (sees k.host) p (λ micros e. tt);
+    asks = wanted_each (IsAskOf (λ m. name_in_turn k.host.is.held k.policy.turns ≡ Some m)) (λ name. tt) n is true (sees k.host) p tt tt;
     owed = inr (same_spent k.policy.owed v.now p.owed v.now same refl);
   }
   by false = record { asks = tt; owed = inl same }
@@ -129,7 +129,7 @@ rest_plain [] k = record { held = refl; now = refl; turns = refl; owed = refl; a
 rest_plain (m ∷ marks) k = record { held = refl; now = refl; turns = refl; owed = refl; asks = (tt, tt) }
 
 reports_plain : (k : Keeping) → IsPlain k (lines_by reports k) (after_doing reports k)
-reports_plain k = rest_plain (slice_after k.policy.told (report_of k.host.is.held k.policy.told_page)) k
+reports_plain k = rest_plain (rest_after k.policy.until k.policy.told (report_of k.host.is.held k.policy.told_page)) k
 
 -- What is due asks for the name in turn, once a report is due, and spends for that alone.
 record TakesDue (k : Keeping) (lines : List Line) (m : Keeping) : Type 0 where

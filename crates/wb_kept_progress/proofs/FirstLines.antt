@@ -8,7 +8,8 @@ use Rattle.wb_names.specs.declared.parts.Op.{Op}
 use Rattle.wb_codec.specs.declared.datagram.Datagram.{Datagram}
 use Rattle.wb_codec.specs.declared.datagram.Datagram.TheVariants.{Draw, Session, Request, AskPages, PageState}
 use Rattle.wb_member.specs.Opened.{Opened}
-use Rattle.wb_keeping.specs.Kept.{Arrives, Asks, Doing, Hears, Line, Says, SetsDistance, Tunes, Stops, Ticks, Transition, and_then, came, distance_in, drawing, ends_full, hears, hears_some, learned, measures, own_echo, own_marks, performs, still, takes_question, timed, told_names, want_told}
+use Rattle.wb_keeping.specs.Distances.{unknown}
+use Rattle.wb_keeping.specs.Kept.{Arrives, Asks, Doing, Hears, Line, Says, SetsDistance, Tunes, Stops, Ticks, Transition, and_then, came, distance_in, drawing, ends_full, hears, hears_some, learned, measures, own_echo, own_marks, performs, still, takes_question, timed, told_names, want_told, hears_request}
 use Rattle.wb_keeping.specs.Laws.{KeptLine, Came, Ticked, Added, Tuned, doing_of}
 use Rattle.wb_keeping.specs.Performing.{Keeping, after_line, after_lines, sees, view_of}
 use Rattle.wb_keeping.specs.Policy.{Policy, View, after_state, after_taking_up, holds, is_asked, is_full}
@@ -177,14 +178,26 @@ module _ (now : ℕ) (start : Opened) where
         let heard = after_line (Hears (PageState sender page (m ∷ own))) host in
         one_first call start host (Hears (PageState sender page (m ∷ own))) (want_told names (sees heard) q).lines tt (told_each IsSmall are_small names (sees heard) q)
 
+  request_first : (asker : ℕ) (name : NameValue) (p : Policy) → HasFirst (Came now (Request asker name)) start host (hears_request asker name (sees host) p).lines
+  request_first asker name p = by (nat_eq ((view_of host).distance source) unknown) where
+    source : ℕ
+    source = cond (holds (view_of host) name) asker name.source
+
+    line : Line
+    line = Hears (Request asker name)
+
+    by : (b : Bool) → HasFirst (Came now (Request asker name)) start host (cond b (SetsDistance source p.usual ∷ line ∷ SetsDistance source unknown ∷ []) (line ∷ []))
+    by true = record { first = SetsDistance source p.usual ∷ line ∷ []; rest = SetsDistance source unknown ∷ []; split = refl; fine = (tt, ((now, refl), tt)); small = (tt, tt) }
+    by false = one_first (Came now (Request asker name)) start host line [] (now, refl) tt
+
   hears_first : (v : Datagram) (p : Policy) → HasFirst (Came now v) start host (hears v (sees host) p).lines
   hears_first (Draw d) p = drawop_first d p
   hears_first (Session sender sent page marks echoes) p = session_first sender sent page marks echoes p
   hears_first (PageState sender page marks) p = state_first sender page marks p
   hears_first (Request asker name) p =
       let call : KeptLine = Came now (Request asker name) in
-      choose call start host (nat_eq asker host.is.number) (still (sees host) p) (performs (Hears (Request asker name)) (sees host) p)
-      (none_first call start host [] tt) (one_first call start host (Hears (Request asker name)) [] (now, refl) tt)
+      choose call start host (nat_eq asker host.is.number) (still (sees host) p) (hears_request asker name (sees host) p)
+      (none_first call start host [] tt) (request_first asker name p)
   hears_first (AskPages asker) p =
       let call : KeptLine = Came now (AskPages asker) in
       let q = after_taking_up (view_of host).now p in
@@ -228,14 +241,26 @@ drawop_begins now d k = by (holds (view_of host) d.name) (is_full (view_of host)
   by false true = (_, refl)
   by false false = (_, refl)
 
-pub request_begins : (now asker : ℕ) (name : NameValue) (k : Keeping) → nat_eq asker k.host.is.number ≡ false → (rest : List Line) × ((came now (Request asker name) (sees k.host) k.policy).lines ≡ (Ticks now ∷ []) ++ Hears (Request asker name) ∷ rest)
-request_begins now asker name k other = by (nat_eq asker k.host.is.number) other where
+pub request_begins : (now asker : ℕ) (name : NameValue) (k : Keeping) → nat_eq asker k.host.is.number ≡ false
+    → (before : List Line) × (rest : List Line) × ((came now (Request asker name) (sees k.host) k.policy).lines ≡ (Ticks now ∷ before) ++ Hears (Request asker name) ∷ rest)
+request_begins now asker name k other = by (nat_eq asker k.host.is.number) (nat_eq ((view_of host).distance source) unknown) other where
   host : Opened
   host = after_line (Ticks now) k.host
 
-  heard : Bool → Doing
-  heard b = cond b (still (sees host) k.policy) (performs (Hears (Request asker name)) (sees host) k.policy)
+  source : ℕ
+  source = cond (holds (view_of host) name) asker name.source
 
-  by : (b : Bool) → b ≡ false → (rest : List Line) × (Ticks now ∷ ((heard b).lines ++ (timed (λ (lines : List Line). sees host ((heard b).lines ++ lines)) (heard b).policy).lines) ≡ (Ticks now ∷ []) ++ Hears (Request asker name) ∷ rest)
-  by true e = absurd cc
-  by false e = (_, refl)
+  line : Line
+  line = Hears (Request asker name)
+
+  lent : Bool → Doing
+  lent lends = record { policy = k.policy; lines = cond lends (SetsDistance source k.policy.usual ∷ line ∷ SetsDistance source unknown ∷ []) (line ∷ []) }
+
+  heard : Bool → Bool → Doing
+  heard own lends = cond own (still (sees host) k.policy) (lent lends)
+
+  by : (own lends : Bool) → own ≡ false
+      → (before : List Line) × (rest : List Line) × (Ticks now ∷ ((heard own lends).lines ++ (timed (λ (lines : List Line). sees host ((heard own lends).lines ++ lines)) (heard own lends).policy).lines) ≡ (Ticks now ∷ before) ++ line ∷ rest)
+  by true lends e = absurd cc
+  by false true e = (SetsDistance source k.policy.usual ∷ [], _, refl)
+  by false false e = ([], _, refl)

@@ -1,7 +1,7 @@
 -- At each host that keeps itself time goes on, and delays are in range.
 use Rattle.wb_recovery.specs.Timing.{are_constants}
-use Rattle.std.proofs.Common.{◌≡◌, ℕ, ◌≤◌, Bool, true, false, cond, List, [], ◌∷◌, ◌∙◌, Option, Some, None, ap, arith, map, refl, subst, sym, eqb-true}
-use Rattle.std.specs.Prelude.{IfSome, nat_eq, take, ◌*◌, ◌/◌, ◌+◌}
+use Rattle.std.proofs.Common.{◌≡◌, ℕ, ◌≤◌, Bool, true, false, cond, List, [], ◌∷◌, ◌∙◌, None, ap, arith, map, refl, subst, sym, eqb-true}
+use Rattle.std.specs.Prelude.{nat_eq, take, ◌*◌, ◌/◌, ◌+◌, max, min}
 use Rattle.wb_names.specs.Values.{NameValue}
 use Rattle.wb_codec.specs.declared.datagram.Datagram.{Datagram}
 use Rattle.wb_codec.specs.declared.datagram.Datagram.TheVariants.{Draw, Session, Request, AskPages, PageState}
@@ -10,11 +10,11 @@ use Rattle.wb_member.specs.Members.{Misses}
 use Rattle.wb_member.specs.Opened.{Opened, doing, has_room_for, heard, may_ask, opened_with, present}
 use Rattle.wb_member.specs.Random.{word_of}
 use Rattle.wb_progress.specs.Keepers.{AreOrderly, farthest}
-use Rattle.wb_keeping.specs.Distances.{bounded, usual_with}
+use Rattle.wb_keeping.specs.Distances.{bounded, first_usual, unknown, usual_with}
 use Rattle.wb_keeping.specs.Kept.{Arrives, Asks, Doing, Hears, Line, Says, SetsDistance, Tunes, Stops, Ticks, still, want}
 use Rattle.wb_keeping.specs.Laws.{KeptLine, doing_of, fault_of}
 use Rattle.wb_keeping.specs.Performing.{Keeping, after_doing, after_line, after_lines, sees, view_of}
-use Rattle.wb_keeping.specs.Policy.{Policy, View, after_wanting, holds, is_full, level}
+use Rattle.wb_keeping.specs.Policy.{Policy, View, after_wanting, holds, is_full, level, is_known}
 use Rattle.wb_keeping.specs.Wanting.{is_wanted}
 use Rattle.wb_keeping.proofs.EachStep.{HoldsOfSteps, line_holds}
 use Rattle.wb_keeping.proofs.Performed.{after_both}
@@ -26,7 +26,7 @@ use Rattle.wb_keeping.proofs.EachLine.{Each, states_each, wanted_each}
 -- ---- delays in range
 
 abbrev pub IsNear : Policy → Type 0
-IsNear p = IfSome p.usual (λ u. u ≤ 1000000)
+IsNear p = p.usual ≤ 1000000
 
 abbrev IsFit : Line → Type 0
 IsFit (SetsDistance source micros) = micros ≤ farthest
@@ -60,8 +60,8 @@ fit_orderly (Says (Request asker name) ∷ lines) host fit is = fit_orderly line
 fit_orderly (Says (AskPages asker) ∷ lines) host fit is = fit_orderly lines host fit.1 is
 fit_orderly (Says (PageState sender page marks) ∷ lines) host fit is = fit_orderly lines host fit.1 is
 
-near_fits : (usual : Option ℕ) → IfSome usual (λ u. u ≤ 1000000) → (micros : ℕ) → usual ≡ Some micros → micros ≤ farthest
-near_fits usual near micros e = let le : micros ≤ 1000000 = subst (λ (o : Option ℕ). IfSome o (λ u. u ≤ 1000000)) e near in omega (arith, le)
+near_fits : (usual : ℕ) → usual ≤ 1000000 → usual ≤ farthest
+near_fits usual near = omega (arith, near)
 
 -- ---- each step
 
@@ -82,17 +82,25 @@ hears_orderly v host is = by (has_room_for v host) where
   by true = (itself (present host), tt, is)
   by false = is
 
-usual_near : (o : Option ℕ) (micros : ℕ) → IfSome o (λ u. u ≤ 1000000) → usual_with o (bounded micros) ≤ 1000000
-usual_near None micros is = omega arith
-usual_near (Some u) micros is = let b : bounded micros ≤ 1000000 = omega arith in by (bounded micros) b where
+unknown_fits : unknown ≤ farthest
+unknown_fits = omega arith
+
+bounded_near : (micros : ℕ) → bounded micros ≤ 1000000
+bounded_near micros = by (nat_eq (min (max micros 10000) 1000000) unknown) where
+  by : (b : Bool) → cond b (unknown + 1) (min (max micros 10000) 1000000) ≤ 1000000
+  by true = omega arith
+  by false = omega arith
+
+usual_near : (u micros : ℕ) → u ≤ 1000000 → usual_with u (bounded micros) ≤ 1000000
+usual_near u micros is = by (bounded micros) (bounded_near micros) where
   by : (m : ℕ) → m ≤ 1000000 → (7 * u + m) / 8 ≤ 1000000
   by m le = omega (arith, le, is)
 
 bounded_fits : (micros : ℕ) → bounded micros ≤ farthest
-bounded_fits micros = omega arith
+bounded_fits micros = let near = bounded_near micros in omega (arith, near)
 
 wants_on : (name : NameValue) (anew : Bool) (k : Keeping) → GoesOn k (want name anew (sees k.host) k.policy).lines (after_doing (want name anew) k)
-wants_on name anew k = record { at = refl; goes = λ g. by g (is_wanted (holds v name) (is_full v) anew (level v name) k.policy.owed v.now) } where
+wants_on name anew k = record { at = refl; goes = λ g. by g (is_wanted (holds v name) (is_full v) anew (is_known v name.source) (level v name) k.policy.owed v.now) } where
   v : View
   v = view_of k.host
 
@@ -101,7 +109,7 @@ wants_on name anew k = record { at = refl; goes = λ g. by g (is_wanted (holds v
 
   by : Goes k → (b : Bool) → Goes (let d : Doing = cond b wanted (still (sees k.host) k.policy) in record { host = after_lines d.lines k.host; policy = d.policy })
   by g true = record {
-    orderly = fit_orderly (lines_wanted name anew (sees k.host) k.policy) k.host (wanted_each IsFit (λ name. tt) name tt anew (sees k.host) k.policy (near_fits k.policy.usual g.near)) g.orderly;
+    orderly = fit_orderly (lines_wanted name anew (sees k.host) k.policy) k.host (wanted_each IsFit (λ name. tt) name tt anew (sees k.host) k.policy (near_fits k.policy.usual g.near) unknown_fits) g.orderly;
     near = g.near;
   }
   by g false = g
@@ -115,7 +123,7 @@ steps_go_on = record {
     turned = λ t k. changes k _ refl (λ near. near);
     answers = λ k is. record { at = refl; goes = λ g. record { orderly = fit_orderly _ k.host (states_each IsFit (view_of k.host) (λ page. tt) (take 64 (pages_of k.host.is.held))) g.orderly; near = g.near } };
     asks_pages = λ k is. record { at = refl; goes = λ g. record { orderly = g.orderly; near = g.near } };
-    reports = λ page told k is. record { at = refl; goes = λ g. record { orderly = g.orderly; near = g.near } };
+    reports = λ page until told k is. record { at = refl; goes = λ g. record { orderly = g.orderly; near = g.near } };
   };
   ticks = λ now k later. record { at = refl; goes = λ g. record { orderly = (later, tt, g.orderly); near = g.near } };
   arrives = λ d k. record { at = refl; goes = λ g. record { orderly = (itself (present k.host), tt, g.orderly); near = g.near } };
@@ -124,6 +132,8 @@ steps_go_on = record {
   stops = λ name k full. record { at = refl; goes = λ g. record { orderly = (itself (present k.host), tt, g.orderly); near = g.near } };
   tunes = λ constants k within. record { at = refl; goes = λ g. record { orderly = (itself (present k.host), within, g.orderly); near = g.near } };
   sets = λ source micros k. record { at = refl; goes = λ g. record { orderly = (itself (present k.host), bounded_fits micros, g.orderly); near = g.near } };
+  lends = λ source k. record { at = refl; goes = λ g. record { orderly = (itself (present k.host), near_fits k.policy.usual g.near, g.orderly); near = g.near } };
+  takes_back = λ source k. record { at = refl; goes = λ g. record { orderly = (itself (present k.host), unknown_fits, g.orderly); near = g.near } };
   draws = λ d k. record { at = refl; goes = λ g. record { orderly = (itself (present k.host), tt, g.orderly); near = g.near } };
   measured = λ micros k. changes k _ refl (λ near. usual_near k.policy.usual micros near);
   told = λ k. changes k _ refl (λ near. near);
@@ -139,10 +149,13 @@ opening_goes : (moments : List ℕ) (host : Opened) (now : ℕ) → present host
 opening_goes [] host now e on is = is
 opening_goes (moment ∷ moments) host now e on is = opening_goes moments (after_line (Ticks moment) host) moment refl on.1 (subst (λ (n : ℕ). n ≤ moment) (sym e) on.0, tt, is)
 
+first_near : first_usual ≤ 1000000
+first_near = omega arith
+
 pub kept_goes : (hosts : ℕ → Opening) → AreHosts hosts → (lines : List LineAt) → AreTaken hosts lines → (i : ℕ) → Goes (kept_at hosts lines i)
 kept_goes hosts are [] taken i =
     let o = hosts i in
-    record { orderly = opening_goes o.moments (opened_with o.constants o.number o.cells o.seed) 0 refl (are.moments i) tt; near = tt }
+    record { orderly = opening_goes o.moments (opened_with o.constants o.number o.cells o.seed) 0 refl (are.moments i) tt; near = first_near }
 kept_goes hosts are (e ∷ older) taken i = by (kept_goes hosts are older taken.1 i) (nat_eq e.place i) refl where
   by : Goes (kept_at hosts older i) → (b : Bool) → nat_eq e.place i ≡ b → Goes (cond b (after_doing (doing_of e.line) (kept_at hosts older i)) (kept_at hosts older i))
   by goes false other = goes

@@ -169,7 +169,7 @@ due_asked n = record {
   turned = λ t k is. asked_as k _ n refl refl is;
   answers = λ k due is. asked_as k _ n (says_after (view_of k.host) (take 64 (pages_of k.host.is.held)) k.host) refl is;
   asks_pages = λ k due is. asked_as k _ n refl refl is;
-  reports = λ page told k due is. asked_as k _ n refl refl is;
+  reports = λ page until told k due is. asked_as k _ n refl refl is;
 }
 
 -- ---- a report comes

@@ -1,11 +1,10 @@
 -- A call of a host whose board stays as it is: where no report is due, turns and tellings stay; where one is, it is made, and a name has its turn.
-use Rattle.std.proofs.Common.{◌≡◌, ℕ, ◌+◌, ◌<◌, ◌≤◌, Bool, true, false, cond, List, [], ◌∙◌, Option, Some, ap, arith, inl, inr, length, refl, subst, sym, true≢false, ⊎_elim, ◌-◌, ◌*◌}
+use Rattle.std.proofs.Common.{◌≡◌, ℕ, ◌+◌, ◌<◌, ◌≤◌, Bool, true, false, cond, List, [], ◌∙◌, Some, ap, arith, inl, inr, length, refl, subst, sym, true≢false, ⊎_elim, ◌-◌, ◌*◌}
 use Rattle.std.specs.Prelude.{◌⊎◌, Contains, max, nat_le}
 use Rattle.std.proofs.lemmas.Bool.Decides.{leb_tells}
 use Rattle.std.proofs.lemmas.List.Elements.{Contains-append_left, Contains-append_right}
 use Rattle.wb_names.specs.Values.{DrawopValue, NameValue}
 use Rattle.wb_names.specs.declared.echo.Echo.{Echo}
-use Rattle.wb_names.specs.declared.name.PageId.{PageId}
 use Rattle.wb_names.proofs.Listings.{Contains-here}
 use Rattle.wb_codec.specs.declared.datagram.Datagram.{Datagram}
 use Rattle.wb_codec.specs.declared.datagram.Datagram.TheVariants.{Session}
@@ -17,7 +16,7 @@ use Rattle.wb_keeping.specs.Fairness.{AnswersWhatIsHeld, Told, after_telling, af
 use Rattle.wb_keeping.specs.Kept.{Doing, Line, Transition, and_then, answers, asks_pages, last_heard, reports, reports_due, still, timed, turn}
 use Rattle.wb_keeping.specs.Performing.{Keeping, after_doing, after_lines, sees, sent_by_doing, sent_by_lines, view_of}
 use Rattle.wb_keeping.specs.Policy.{Policy}
-use Rattle.wb_keeping.specs.Reports.{slice_after}
+use Rattle.wb_keeping.specs.Reports.{rest_after}
 use Rattle.wb_keeping.proofs.FairTurns.{turns_are_taken}
 use Rattle.wb_keeping.proofs.Performed.{then_after, then_sent}
 use Rattle.wb_keeping.proofs.ToldMarks.{reports_tell}
@@ -154,7 +153,7 @@ module _ (m : Keeping) where
     there = to_due ∙ ap by_due is_due_now ∙ then_after reports turn q
 
     turns_r : r.policy.turns ≡ m.policy.turns
-    turns_r = (rest_leaves (slice_after q.policy.told (report_of q.host.is.held q.policy.told_page)) (sees q.host) q.policy).0 ∙ turns_q
+    turns_r = (rest_leaves (rest_after q.policy.until q.policy.told (report_of q.host.is.held q.policy.told_page)) (sees q.host) q.policy).0 ∙ turns_q
 
     held_r : r.host.is.held ≡ m.host.is.held
     held_r = rests_r.held ∙ held_q
@@ -172,8 +171,7 @@ module _ (m : Keeping) where
         let tells = reports_tell (sees q.host) q.policy in
         let t = told_of q.policy in
         let then : told_of r.policy ≡ after_telling q.host.is.held t =
-        ap (λ (page : PageId). let u : Told = record { page = page; last = r.policy.told } in u) tells.1
-        ∙ ap (λ (last : Option ℕ). let u : Told = record { page = (after_telling q.host.is.held t).page; last = last } in u) tells.2 in
+        λ i. let u : Told = record { page = tells.1 i; last = tells.2 i; until = tells.3 i } in u in
         ap (λ (x : Keeping). told_of x.policy) there ∙ (turn_tells (sees r.host) r.policy).told ∙ then
         ∙ ap (λ (h : List DrawopValue). after_telling h t) held_q ∙ ap (after_telling m.host.is.held) told_q
 
@@ -182,14 +180,14 @@ module _ (m : Keeping) where
 
     pub due_soon : (after_doing timed m).policy.reports.due ≤ present m.host + 96000000
     due_soon =
-        let soon = rest_soon (slice_after q.policy.told (report_of q.host.is.held q.policy.told_page)) (sees q.host) q.policy in
+        let soon = rest_soon (rest_after q.policy.until q.policy.told (report_of q.host.is.held q.policy.told_page)) (sees q.host) q.policy in
         let n = now_q in
         let e = due_is in
         omega (arith, soon, n, e)
 
     pub due_later : present m.host + 1000000 ≤ (after_doing timed m).policy.reports.due
     due_later =
-        let later = rest_late (slice_after q.policy.told (report_of q.host.is.held q.policy.told_page)) (sees q.host) q.policy in
+        let later = rest_late (rest_after q.policy.until q.policy.told (report_of q.host.is.held q.policy.told_page)) (sees q.host) q.policy in
         let n = now_q in
         let e = due_is in
         omega (arith, later, n, e)
@@ -259,7 +257,7 @@ module _ (m : Keeping) where
     module _ (paid : m.policy.owed ≤ present m.host) where
       owed_turn : (after_doing turn r).policy.owed ≤ present m.host + 250000
       owed_turn =
-          let e = (rest_leaves (slice_after q.policy.told (report_of q.host.is.held q.policy.told_page)) (sees q.host) q.policy).1 ∙ leaves_q.owed ∙ leaves_a.owed in
+          let e = (rest_leaves (rest_after q.policy.until q.policy.told (report_of q.host.is.held q.policy.told_page)) (sees q.host) q.policy).1 ∙ leaves_q.owed ∙ leaves_a.owed in
           let n = now_r in
           let owed : r.policy.owed ≤ present r.host = omega (arith, paid, e, n) in
           let le : (after_doing turn r).policy.owed ≤ present r.host + 250000 = turn_owed (sees r.host) r.policy owed in

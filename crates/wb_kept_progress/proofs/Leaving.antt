@@ -10,7 +10,7 @@ use Rattle.wb_gaps.specs.Answers.{pages_of}
 use Rattle.wb_gaps.specs.Holes.{hole_after}
 use Rattle.wb_gaps.specs.declared.holes.Hole.{Hole}
 use Rattle.wb_keeping.specs.Fairness.{AnswersWhatIsHeld, Told}
-use Rattle.wb_keeping.specs.Kept.{Arrives, Doing, Hears, Line, Says, Transition, and_then, answers, asks_pages, distance_in, end, hears, hears_session, hears_some, hears_state, is_begun, is_unasked, learned, measures, of_other, own_echo, own_marks, paid_for, performs, reports_rest, state_of, still, takes, takes_question, told_names, turn, turn_to, want, want_near, want_told}
+use Rattle.wb_keeping.specs.Kept.{Arrives, Doing, Hears, Line, Says, Transition, and_then, answers, asks_pages, distance_in, end, hears, hears_session, hears_some, hears_state, is_begun, is_unasked, learned, measures, of_other, own_echo, own_marks, paid_for, performs, reports_rest, state_of, still, takes, takes_question, told_names, turn, turn_to, want, want_near, want_told, hears_request}
 use Rattle.wb_keeping.specs.Performing.{Keeping, after_doing, sees}
 use Rattle.wb_keeping.specs.Policy.{Policy, View, after_answer, after_question, after_state, after_taking_up, after_turn, after_wanting, holds, in_next_round, is_asked, is_full}
 use Rattle.wb_keeping.specs.Questions.{is_due, is_to_answer}
@@ -26,7 +26,7 @@ answers_on does k old name = lines_answer_held name (does (sees k.host) k.policy
 
 -- what a policy told last
 abbrev pub told_of : Policy → Told
-told_of p = record { page = p.told_page; last = p.told }
+told_of p = record { page = p.told_page; last = p.told; until = p.until }
 
 -- ---- what is due before a report, and a report
 
@@ -194,5 +194,5 @@ pub hears_tells : (v : Datagram) → TellsNothing (hears v)
 hears_tells (Draw d) = takes_tells d
 hears_tells (Session sender sent page marks echoes) = other_tells sender (hears_session sender sent page marks echoes) (session_tells sender sent page marks echoes)
 hears_tells (PageState sender page marks) = other_tells sender (hears_state sender page marks) (state_tells sender page marks)
-hears_tells (Request asker name) = other_tells asker (performs (Hears (Request asker name))) (λ see p. same p)
+hears_tells (Request asker name) = other_tells asker (hears_request asker name) (λ see p. same p)
 hears_tells (AskPages asker) = other_tells asker takes_question question_tells

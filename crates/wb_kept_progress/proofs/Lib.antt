@@ -6,6 +6,7 @@ pub mod Turning
 pub mod Asking
 pub mod Hearing
 pub mod Coming
+pub mod Starts
 pub mod Lining
 pub mod PerLine
 pub mod Timely
@@ -45,5 +46,4 @@ pub mod Tunings
 pub mod CallsInTime
 pub mod NothingNew
 pub mod Bringing
-pub mod AtSource
 pub mod Agreeing

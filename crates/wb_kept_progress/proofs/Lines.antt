@@ -18,7 +18,7 @@ use Rattle.wb_member.specs.Opened.{Opened, accepted, asks_for, doing, events, ha
 use Rattle.wb_member.specs.Random.{word_of}
 use Rattle.wb_keeping.specs.Kept.{Arrives, Asks, Hears, Line, Says, SetsDistance, Tunes, Stops, Ticks, Transition}
 use Rattle.wb_keeping.specs.Performing.{after_line, after_lines, Keeping, after_doing, sees}
-use Rattle.wb_session.proofs.Names.{with_once}
+use Rattle.wb_laws_sessions.proofs.Once.{with_once}
 use Rattle.wb_keeping.proofs.EachLine.{DoesEach, Each, OfPolicy}
 
 pub is_false : (b : Bool) → (b ≡ true → ⊥) → b ≡ false
@@ -211,19 +211,20 @@ line_rests (Says (Request asker name)) host small = absurd small
 line_rests (Says (AskPages asker)) host small = rest host
 line_rests (Says (PageState sender page marks)) host small = rest host
 
+pub rests_then : (host next last : Opened) → Rests host next → Rests next last → Rests host last
+rests_then host next last one more = record {
+  held = more.held ∙ one.held;
+  now = more.now ∙ one.now;
+  timers = λ n held none.
+      let e = one.timers n held none in
+      more.timers n (ap (λ (h : List DrawopValue). holds h n) one.held ∙ held) (ap (λ (s : Timers). s.ask) e ∙ none) ∙ e;
+}
+
 pub lines_rest : (lines : List Line) (host : Opened) → AreSmall lines → Rests host (after_lines lines host)
 lines_rest [] host small = rest host
 lines_rest (line ∷ lines) host small =
     let next = after_line line host in
-    let one = line_rests line host small.0 in
-    let more = lines_rest lines next small.1 in
-    record {
-      held = more.held ∙ one.held;
-      now = more.now ∙ one.now;
-      timers = λ n held none.
-          let e = one.timers n held none in
-          more.timers n (ap (λ (h : List DrawopValue). holds h n) one.held ∙ held) (ap (λ (s : Timers). s.ask) e ∙ none) ∙ e;
-    }
+    rests_then host next (after_lines lines next) (line_rests line host small.0) (lines_rest lines next small.1)
 
 pub does_rest : (does : Transition) → DoesEach IsSmall does → (k : Keeping) → Rests k.host (after_doing does k).host
 does_rest does small k = lines_rest (does (sees k.host) k.policy).lines k.host (small (sees k.host) k.policy)

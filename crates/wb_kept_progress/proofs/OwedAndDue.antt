@@ -1,6 +1,6 @@
 -- What is owed is at most 16 seconds ahead of the present moment, and the next report is due within 96 seconds of it.
 use Rattle.std.proofs.Common.{◌≡◌, ℕ, ◌+◌, ◌-◌, ◌*◌, ◌≤◌, Bool, true, false, cond, List, [], ◌∷◌, ◌++◌, ap, arith, eqb-true, map, max, refl, subst, sym, ⊎_elim}
-use Rattle.std.specs.Prelude.{◌%◌, None, nat_eq, not, take}
+use Rattle.std.specs.Prelude.{◌%◌, None, nat_eq, not, take, ◌||◌}
 use Rattle.std.proofs.lemmas.Bool.{and_parts, leb-true}
 use Rattle.wb_names.specs.Values.{NameValue}
 use Rattle.wb_codec.specs.declared.datagram.Datagram.{Datagram}
@@ -11,9 +11,10 @@ use Rattle.wb_keeping.specs.Credit.{cost}
 use Rattle.wb_keeping.specs.Kept.{Doing, Hears, Line, Says, Ticks, state_of, still, want}
 use Rattle.wb_keeping.specs.Laws.{doing_of, fault_of}
 use Rattle.wb_keeping.specs.Performing.{Keeping, after_doing, after_lines, sees, view_of}
-use Rattle.wb_keeping.specs.Policy.{View, after_answer, after_wanting, holds, is_full, level}
+use Rattle.wb_keeping.specs.Policy.{View, after_answer, after_wanting, holds, is_full, level, is_known}
 use Rattle.wb_keeping.specs.Wanting.{goes_on, is_wanted}
 use Rattle.wb_keeping.specs.Words.{started, word_of}
+use Rattle.wb_keeping.proofs.Spending.{has_place}
 use Rattle.wb_keeping.proofs.EachStep.{HoldsOfSteps, doing, having, having_done, line_holds}
 use Rattle.wb_keeping.proofs.Saying.{says_after}
 use Rattle.wb_keeping.proofs.Wanted.{lines_wanted}
@@ -52,8 +53,8 @@ hears_near v k n = by (has_room_for v k.host) where
 
 wants_near : (name : NameValue) (anew : Bool) (k : Keeping) → IsNearNow k → IsNearNow (after_doing (want name anew) k)
 wants_near name anew k n = record {
-  owed = let o = by (is_wanted (holds v name) (is_full v) anew (level v name) k.policy.owed v.now) refl in let t = now in omega (arith, o, t);
-  due = let d = due_by (is_wanted (holds v name) (is_full v) anew (level v name) k.policy.owed v.now) in let t = now in let near = n.due in omega (arith, d, t, near);
+  owed = let o = by (is_wanted (holds v name) (is_full v) anew (is_known v name.source) (level v name) k.policy.owed v.now) refl in let t = now in omega (arith, o, t);
+  due = let d = due_by (is_wanted (holds v name) (is_full v) anew (is_known v name.source) (level v name) k.policy.owed v.now) in let t = now in let near = n.due in omega (arith, d, t, near);
 } where
   v : View
   v = view_of k.host
@@ -67,14 +68,15 @@ wants_near name anew k n = record {
   one_more : (owed now : ℕ) → max owed now - now ≤ 63 * cost → max owed now + cost ≤ now + 16000000
   one_more owed now le = omega (arith, le)
 
-  by : (b : Bool) → is_wanted (holds v name) (is_full v) anew (level v name) k.policy.owed v.now ≡ b
+  by : (b : Bool) → is_wanted (holds v name) (is_full v) anew (is_known v name.source) (level v name) k.policy.owed v.now ≡ b
       → (let d : Doing = cond b wanted (still (sees k.host) k.policy) in d.policy.owed) ≤ present k.host + 16000000
   by false e = n.owed
   by true e =
       let one = and_parts (not (holds v name)) _ e in
       let two = and_parts (not (is_full v)) _ one.1 in
       let three = and_parts (not (goes_on anew (level v name))) _ two.1 in
-      one_more k.policy.owed v.now (leb-true _ _ three.1)
+      let place = has_place (anew || is_known v name.source) k.policy.owed v.now three.1 in
+      one_more k.policy.owed v.now (leb-true (max k.policy.owed v.now - v.now) (63 * cost) place)
 
   due_by : (b : Bool) → (let d : Doing = cond b wanted (still (sees k.host) k.policy) in d.policy.reports.due) ≡ k.policy.reports.due
   due_by true = refl
@@ -89,7 +91,7 @@ steps_stay_near = record {
     turned = λ t k. record { near = λ n. record { owed = n.owed; due = n.due } };
     answers = λ k is. record { near = λ n. same_near k (having_done (doing (after_answer (present k.host) k.policy) (map (λ page. Says (state_of (view_of k.host) page)) (take 64 (pages_of k.host.is.held)))) k) refl refl (ap present (says_after (view_of k.host) (take 64 (pages_of k.host.is.held)) k.host)) n };
     asks_pages = λ k is. record { near = λ n. record { owed = n.owed; due = n.due } };
-    reports = λ page told k is. record { near = λ n. record { owed = n.owed; due = next_soon (present k.host) _ (word_of k.policy.words) } };
+    reports = λ page until told k is. record { near = λ n. record { owed = n.owed; due = next_soon (present k.host) _ (word_of k.policy.words) } };
   };
   ticks = λ now k later. record { near = λ n. near_then k (having (Ticks now) k) (omega arith) refl later n };
   arrives = λ d k. record { near = λ n. record { owed = n.owed; due = n.due } };
@@ -97,6 +99,8 @@ steps_stay_near = record {
   hears = λ v k. record { near = hears_near v k };
   stops = λ name k full. record { near = λ n. record { owed = n.owed; due = n.due } };
   sets = λ source micros k. record { near = λ n. record { owed = n.owed; due = n.due } };
+  lends = λ source k. record { near = λ n. record { owed = n.owed; due = n.due } };
+  takes_back = λ source k. record { near = λ n. record { owed = n.owed; due = n.due } };
   tunes = λ constants k within. record { near = λ n. record { owed = n.owed; due = n.due } };
   draws = λ d k. record { near = λ n. record { owed = n.owed; due = n.due } };
   measured = λ micros k. record { near = λ n. record { owed = n.owed; due = n.due } };

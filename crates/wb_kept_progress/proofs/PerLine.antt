@@ -28,8 +28,8 @@ use Rattle.wb_progress.specs.Repairs.{timers_at}
 use Rattle.wb_member.specs.Members.{Hears as Hearing, Misses, SetsConstants, SetsDelay, Takes, Ticks as Ticking, GivesUp}
 use Rattle.wb_member.specs.Opened.{Opened, accepted, asks_for, becomes, doing, due_count, events, has_room_for, heard, may_ask, present, word_at}
 use Rattle.wb_member.specs.Random.{word_of, words_of}
-use Rattle.wb_session.proofs.Holding.{HeldNone, none_after}
-use Rattle.wb_session.proofs.Members.{IsDrawing, draws_sent}
+use Rattle.wb_laws_sessions.proofs.Holding.{HeldNone, none_after}
+use Rattle.wb_laws_sessions.proofs.Acts.{IsDrawing, draws_sent}
 use Rattle.wb_keeping.specs.Kept.{Line, Arrives, Asks, Hears, Says, SetsDistance, Tunes, Stops, Ticks}
 use Rattle.wb_keeping.specs.Performing.{after_line, said_where, sent_by_line}
 

@@ -30,18 +30,19 @@ use Rattle.wb_progress.proofs.Repairs.{answers_are_soon, asker_asks}
 use Rattle.wb_member.specs.Judged.{is_full}
 use Rattle.wb_member.specs.Opened.{Opened, asks_for, due_count, events, heard, opened_with, present, sent_by, ticked, word_at}
 use Rattle.wb_member.specs.Random.{words_of}
-use Rattle.wb_keeping.specs.Kept.{Arrives, Doing, Hears, Ticks, and_then, came, hears, learned, performs, still, takes, ticks, timed}
+use Rattle.wb_keeping.specs.Distances.{unknown}
+use Rattle.wb_keeping.specs.Kept.{Arrives, Doing, Hears, Ticks, and_then, came, hears, learned, performs, still, takes, ticks, timed, Line, SetsDistance, hears_request}
 use Rattle.wb_keeping.specs.Laws.{Came, KeptLine, Ticked, doing_of, fault_of}
 use Rattle.wb_keeping.specs.Performing.{Keeping, after_doing, after_line, after_lines, sees, sent_by_doing, view_of}
-use Rattle.wb_keeping.specs.Policy.{is_asked}
+use Rattle.wb_keeping.specs.Policy.{holds as holds_by, is_asked}
 use Rattle.wb_keeping.specs.Refusing.{is_unknown}
 use Rattle.wb_keeping.specs.declared.kept_fault.KeptFault.TheVariants.{Host, Ours}
 use Rattle.wb_keeping.proofs.EachStep.{having}
 use Rattle.wb_keeping.proofs.Performed.{then_after, then_sent}
 use Rattle.wb_kept_progress.specs.Repairs.{AskedCanCome, IsBrought, IsLost, host_at, repair}
-use Rattle.wb_kept_progress.specs.Sessions.{AreHosts, AreTaken, LineAt, NothingIsForged, Opening, WasSent, at, kept_at, sent}
+use Rattle.wb_kept_progress.specs.Sessions.{AreHosts, AreSent, AreTaken, LineAt, Opening, WasSent, at, kept_at, sent_since}
 use Rattle.wb_kept_progress.proofs.Going.{Goes, kept_goes, line_goes}
-use Rattle.wb_kept_progress.proofs.Lines.{IsOf, Rests, is_false, lines_grow, lines_of, IsSmall, are_small, does_rest}
+use Rattle.wb_kept_progress.proofs.Lines.{IsOf, Rests, is_false, line_rests, lines_grow, lines_of, IsSmall, are_small, does_rest, rests_then}
 use Rattle.wb_keeping.proofs.EachLine.{learned_each, timed_each}
 
 -- ---- one line of a host that keeps itself
@@ -64,14 +65,42 @@ came_after now v k = then_after (performs (Ticks now)) (and_then (hears v) timed
 abbrev done : Keeping → Doing → Keeping
 done k d = record { host = after_lines d.lines k.host; policy = d.policy }
 
-pub request_rests : (now asker : ℕ) (n : NameValue) (k : Keeping) → (asker ≡ k.host.is.number → ⊥) → Rests (after_line (Hears (Request asker n)) (ticked now k.host)) (after_doing (came now (Request asker n)) k).host
-request_rests now asker n k other =
-    let v = Request asker n in
-    let m = having (Ticks now) k in
-    let g = having (Hears v) m in
-    let heard_so : after_doing (hears v) m ≡ g = ap (λ (b : Bool). done m (cond b (still (sees m.host) m.policy) (performs (Hears v) (sees m.host) m.policy))) (is_false (nat_eq asker k.host.is.number) (λ same. other (eqb-true asker k.host.is.number same))) in
-    let there : after_doing (came now v) k ≡ after_doing timed g = came_after now v k ∙ ap (after_doing timed) heard_so in
-    subst (λ (x : Keeping). Rests g.host x.host) (sym there) (does_rest timed (timed_each IsSmall are_small) g)
+-- whose distance counts for a request
+abbrev heard_source : ℕ → NameValue → Opened → ℕ
+heard_source asker n host = cond (holds_by (view_of host) n) asker n.source
+
+-- a host while the usual distance is lent to a source, where that told none
+abbrev lending_host : ℕ → ℕ → Opened → Opened
+lending_host source usual host = cond (nat_eq ((view_of host).distance source) unknown) (after_line (SetsDistance source usual) host) host
+
+pub request_rests : (now asker : ℕ) (n : NameValue) (k : Keeping) → (asker ≡ k.host.is.number → ⊥)
+    → let host = ticked now k.host in
+    Rests (after_line (Hears (Request asker n)) (lending_host (heard_source asker n host) k.policy.usual host)) (after_doing (came now (Request asker n)) k).host
+request_rests now asker n k other = subst (λ (x : Keeping). Rests (after_line line (lending_host source k.policy.usual m.host)) x.host) (sym there) (by (nat_eq ((view_of m.host).distance source) unknown)) where
+  m : Keeping
+  m = having (Ticks now) k
+
+  line : Line
+  line = Hears (Request asker n)
+
+  source : ℕ
+  source = heard_source asker n m.host
+
+  with_it : Bool → Doing
+  with_it lends = record { policy = k.policy; lines = cond lends (SetsDistance source k.policy.usual ∷ line ∷ SetsDistance source unknown ∷ []) (line ∷ []) }
+
+  heard_so : after_doing (hears (Request asker n)) m ≡ done m (with_it (nat_eq ((view_of m.host).distance source) unknown))
+  heard_so = ap (λ (b : Bool). done m (cond b (still (sees m.host) m.policy) (hears_request asker n (sees m.host) m.policy))) (is_false (nat_eq asker k.host.is.number) (λ same. other (eqb-true asker k.host.is.number same)))
+
+  there : after_doing (came now (Request asker n)) k ≡ after_doing timed (done m (with_it (nat_eq ((view_of m.host).distance source) unknown)))
+  there = came_after now (Request asker n) k ∙ ap (after_doing timed) heard_so
+
+  by : (lends : Bool) → Rests (after_line line (cond lends (after_line (SetsDistance source k.policy.usual) m.host) m.host)) (after_doing timed (done m (with_it lends))).host
+  by true =
+      let g = after_line line (after_line (SetsDistance source k.policy.usual) m.host) in
+      let last = done m (with_it true) in
+      rests_then g last.host (after_doing timed last).host (line_rests (SetsDistance source unknown) g tt) (does_rest timed (timed_each IsSmall are_small) last)
+  by false = does_rest timed (timed_each IsSmall are_small) (done m (with_it false))
 
 -- a drawop that is not held is taken into a free cell
 fresh : (cells k : ℕ) (h : List DrawopValue) (d : DrawopValue) → holds h d.name ≡ false → k + length h < cells → (place : ℕ) × (outcome_from cells k h d ≡ Fresh place)
@@ -176,11 +205,11 @@ pub is_itself : (n : ℕ) → nat_eq n n ≡ true
 is_itself n = grind (arith, nat_tests)
 
 -- two hosts, and the lines so far
-pub record Stage (hosts : ℕ → Opening) (start lines : List LineAt) (i j : ℕ) (one other : Keeping) : Type 0 where
-  pub taken : AreTaken hosts lines
-  pub unforged : NothingIsForged hosts start → NothingIsForged hosts lines
-  pub here : kept_at hosts lines i ≡ one
-  pub there : kept_at hosts lines j ≡ other
+pub record Stage (hosts : ℕ → Opening) (start newer : List LineAt) (i j : ℕ) (one other : Keeping) : Type 0 where
+  pub taken : AreTaken hosts (newer ++ start)
+  pub sent : AreSent hosts newer start
+  pub here : kept_at hosts (newer ++ start) i ≡ one
+  pub there : kept_at hosts (newer ++ start) j ≡ other
 
 module _ (hosts : ℕ → Opening) (older : List LineAt) where
   pub idle : (e : LineAt) (k : ℕ) → (e.place ≡ k → ⊥) → kept_at hosts (e ∷ older) k ≡ kept_at hosts older k
@@ -189,27 +218,31 @@ module _ (hosts : ℕ → Opening) (older : List LineAt) where
   pub moved : (i : ℕ) (line : KeptLine) → kept_at hosts (at i line ∷ older) i ≡ after_doing (doing_of line) (kept_at hosts older i)
   moved i line = ap (λ (b : Bool). cond b (after_doing (doing_of line) (kept_at hosts older i)) (kept_at hosts older i)) (is_itself i)
 
-  pub did_send : (i : ℕ) (line : KeptLine) (k : Keeping) (v : Datagram) → kept_at hosts older i ≡ k → Contains (sent_by_doing (doing_of line) k) v → Contains (sent hosts (at i line ∷ older)) v
-  did_send i line k v is c = Contains-append_left (sent_by_doing (doing_of line) (kept_at hosts older i)) (sent hosts older) v (subst (λ (m : Keeping). Contains (sent_by_doing (doing_of line) m) v) (sym is) c)
+module _ (hosts : ℕ → Opening) (newer start : List LineAt) where
+  abbrev older : List LineAt
+  older = newer ++ start
 
-  pub still_sent : (e : LineAt) (v : Datagram) → Contains (sent hosts older) v → Contains (sent hosts (e ∷ older)) v
-  still_sent e v c = Contains-append_right (sent_by_doing (doing_of e.line) (kept_at hosts older e.place)) (sent hosts older) v c
+  pub did_send : (i : ℕ) (line : KeptLine) (k : Keeping) (v : Datagram) → kept_at hosts older i ≡ k → Contains (sent_by_doing (doing_of line) k) v → Contains (sent_since hosts (at i line ∷ newer) start) v
+  did_send i line k v is c = Contains-append_left (sent_by_doing (doing_of line) (kept_at hosts older i)) (sent_since hosts newer start) v (subst (λ (m : Keeping). Contains (sent_by_doing (doing_of line) m) v) (sym is) c)
 
-  module _ (start : List LineAt) (i j : ℕ) (differ : i ≡ j → ⊥) (one other : Keeping) (s : Stage hosts start older i j one other) (line : KeptLine) (was : WasSent (sent hosts older) line) where
-    pub first_next : fault_of line one ≡ None → Stage hosts start (at i line ∷ older) i j (after_doing (doing_of line) one) other
+  pub still_sent : (e : LineAt) (v : Datagram) → Contains (sent_since hosts newer start) v → Contains (sent_since hosts (e ∷ newer) start) v
+  still_sent e v c = Contains-append_right (sent_by_doing (doing_of e.line) (kept_at hosts older e.place)) (sent_since hosts newer start) v c
+
+  module _ (i j : ℕ) (differ : i ≡ j → ⊥) (one other : Keeping) (s : Stage hosts start newer i j one other) (line : KeptLine) (was : WasSent (sent_since hosts newer start) line) where
+    pub first_next : fault_of line one ≡ None → Stage hosts start (at i line ∷ newer) i j (after_doing (doing_of line) one) other
     first_next none = record {
       taken = (subst (λ (k : Keeping). fault_of line k ≡ None) (sym s.here) none, s.taken);
-      unforged = λ unforged. (was, s.unforged unforged);
-      here = moved i line ∙ ap (after_doing (doing_of line)) s.here;
-      there = idle (at i line) j differ ∙ s.there;
+      sent = (was, s.sent);
+      here = moved hosts older i line ∙ ap (after_doing (doing_of line)) s.here;
+      there = idle hosts older (at i line) j differ ∙ s.there;
     }
 
-    pub second_next : fault_of line other ≡ None → Stage hosts start (at j line ∷ older) i j one (after_doing (doing_of line) other)
+    pub second_next : fault_of line other ≡ None → Stage hosts start (at j line ∷ newer) i j one (after_doing (doing_of line) other)
     second_next none = record {
       taken = (subst (λ (k : Keeping). fault_of line k ≡ None) (sym s.there) none, s.taken);
-      unforged = λ unforged. (was, s.unforged unforged);
-      here = idle (at j line) i (λ e. differ (sym e)) ∙ s.here;
-      there = moved j line ∙ ap (after_doing (doing_of line)) s.there;
+      sent = (was, s.sent);
+      here = idle hosts older (at j line) i (λ e. differ (sym e)) ∙ s.here;
+      there = moved hosts older j line ∙ ap (after_doing (doing_of line)) s.there;
     }
 
 -- ---- the one that holds it
@@ -310,18 +343,6 @@ module _ (o : Keeping) (fine : IsFine o) (d : DrawopValue) (held : Contains o.ho
   abbrev h3 : Opened
   h3 = ticked second o2.host
 
-  abbrev g3 : Opened
-  g3 = after_line (Hears (Request asker n)) h3
-
-  abbrev f3 : Opened
-  f3 = heard (Request asker n) h3
-
-  heard_so : g3 ≡ f3
-  heard_so = ap (λ (b : Bool). cond b f3 h3) (room (is_own h3.is.number (Request asker n))) where
-    room : (b : Bool) → (b || true) ≡ true
-    room true = refl
-    room false = refl
-
   same_h3 : timers h3 ≡ timers o2.host
   same_h3 = ticks_leave o2.host.is.number o2.host.is.constants o2.host.is.calls o2.host.is.held second (words second o2.host) n idle_2
 
@@ -334,15 +355,51 @@ module _ (o : Keeping) (fine : IsFine o) (d : DrawopValue) (held : Contains o.ho
       let e : (timers h3).quiet ≡ (timers o2.host).quiet = ap (λ (s : Timers). s.quiet) same_h3 in
       omega (arith, le, e)
 
+  -- what a host is once it heard the request
+  record Heard (host next : Opened) : Type 0 where
+    held_is : next.is.held ≡ host.is.held
+    now_is : present next ≡ present host
+    timer : AnswerTimer
+    timers_are : timers next ≡ record { ask = None; answer = Some timer; quiet = (timers host).quiet }
+
+  hears_it : (host : Opened) → present host ≡ second → host.is.held ≡ o2.host.is.held → (asker ≡ host.is.number → ⊥) → IsIdle (timers host) → (timers host).quiet ≤ second → Heard host (after_line (Hears (Request asker n)) host)
+  hears_it host now same apart idle quiet = subst (Heard host) (sym heard_so) (record {
+    held_is = refl;
+    now_is = refl;
+    timer = new_answer (constants_at host.is.number host.is.constants host.is.calls) (present host) (delay_to host.is.number host.is.calls asker) (word_at (Request asker n) host.random);
+    timers_are =
+        ap (λ (b : Bool). timers_of host.is.constants (events_of host.is.number (Hear (present host) (Request asker n) (word_at (Request asker n) host.random) b ∷ host.is.calls)) n) (ap (λ (h : List DrawopValue). holds h n) same ∙ has o2.host held_2)
+        ∙ requests_set host.is.number host.is.constants host.is.calls (present host) asker (word_at (Request asker n) host.random) n apart idle (subst (λ (t : ℕ). (timers host).quiet ≤ t) (sym now) quiet);
+  }) where
+    heard_so : after_line (Hears (Request asker n)) host ≡ heard (Request asker n) host
+    heard_so = ap (λ (b : Bool). cond b (heard (Request asker n) host) host) (room (is_own host.is.number (Request asker n))) where
+      room : (b : Bool) → (b || true) ≡ true
+      room true = refl
+      room false = refl
+
+  abbrev g3 : Opened
+  g3 = after_line (Hears (Request asker n)) (lending_host (heard_source asker n h3) o2.policy.usual h3)
+
+  heard_3 : Heard h3 g3
+  heard_3 = by (nat_eq ((view_of h3).distance (heard_source asker n h3)) unknown) where
+    lent : Opened
+    lent = after_line (SetsDistance (heard_source asker n h3) o2.policy.usual) h3
+
+    by : (b : Bool) → Heard h3 (after_line (Hears (Request asker n)) (cond b lent h3))
+    by true = let h = hears_it lent refl refl another_2 idle_h3 quiet_h3 in record { held_is = h.held_is; now_is = h.now_is; timer = h.timer; timers_are = h.timers_are }
+    by false = hears_it h3 refl refl another_2 idle_h3 quiet_h3
+
   abbrev answer : AnswerTimer
-  answer = new_answer (constants_at h3.is.number h3.is.constants h3.is.calls) second (delay_to h3.is.number h3.is.calls asker) (word_at (Request asker n) h3.random)
+  answer = heard_3.timer
 
-  set_f3 : timers f3 ≡ record { ask = None; answer = Some answer; quiet = (timers h3).quiet }
-  set_f3 = ap (λ (b : Bool). timers_of h3.is.constants (events_of h3.is.number (Hear second (Request asker n) (word_at (Request asker n) h3.random) b ∷ h3.is.calls)) n) (has o2.host held_2)
-      ∙ requests_set h3.is.number h3.is.constants h3.is.calls second asker (word_at (Request asker n) h3.random) n another_2 idle_h3 quiet_h3
+  r3 : Rests g3 o3.host
+  r3 = request_rests second asker n o2 another_2
 
-  r3 : Rests f3 o3.host
-  r3 = subst (λ (h : Opened). Rests h o3.host) heard_so (request_rests second asker n o2 another_2)
+  held_o3 : o3.host.is.held ≡ o2.host.is.held
+  held_o3 = r3.held ∙ heard_3.held_is
+
+  now_o3 : present o3.host ≡ second
+  now_o3 = r3.now ∙ heard_3.now_is
 
   pub none_3 : fault_of (Came second (Request asker n)) o2 ≡ None
   none_3 = request_in_time o2 second asker n (subst (λ (x : ℕ). x ≤ second) (sym r2.now) (itself second))
@@ -351,23 +408,25 @@ module _ (o : Keeping) (fine : IsFine o) (d : DrawopValue) (held : Contains o.ho
   fine_3 = fine_next (Came second (Request asker n)) o2 none_3 fine_2
 
   held_3 : Contains o3.host.is.held d
-  held_3 = subst (λ (h : List DrawopValue). Contains h d) (sym r3.held) held_2
+  held_3 = subst (λ (h : List DrawopValue). Contains h d) (sym held_o3) held_2
 
   timers_3 : timers o3.host ≡ record { ask = None; answer = Some answer; quiet = (timers h3).quiet }
-  timers_3 = r3.timers n (has o2.host held_2) (ap (λ (s : Timers). s.ask) set_f3) ∙ set_f3
+  timers_3 =
+      let there : holds g3.is.held n ≡ true = ap (λ (h : List DrawopValue). holds h n) heard_3.held_is ∙ has o2.host held_2 in
+      r3.timers n there (ap (λ (s : Timers). s.ask) heard_3.timers_are) ∙ heard_3.timers_are
 
   due_3 : is_answer_due third (timers o3.host).answer ≡ true
   due_3 =
       let soon = answers_are_soon o3.host.is.number o3.host.is.constants o3.host.is.calls n fine_3.constants fine_3.goes.orderly in
       let le = subst (λ (a : Option AnswerTimer). IfSome a (λ answer. answer.due ≤ present o3.host + answering_wait)) (ap (λ (s : Timers). s.answer) timers_3) soon in
-      let now : present o3.host ≡ second = r3.now in
+      let now : present o3.host ≡ second = now_o3 in
       ap (λ (s : Timers). is_answer_due third s.answer) timers_3 ∙ le_true answer.due third (omega (arith, le, now))
 
   pub none_4 : fault_of (Ticked third) o3 ≡ None
-  none_4 = tick_in_time o3 third (subst (λ (x : ℕ). x ≤ third) (sym r3.now) (up second answering_wait))
+  none_4 = tick_in_time o3 third (subst (λ (x : ℕ). x ≤ third) (sym now_o3) (up second answering_wait))
 
   pub kept_4 : (after_doing (ticks third) o3).host.is.held ≡ o.host.is.held
-  kept_4 = (tick_rests third o3).held ∙ r3.held ∙ r2.held ∙ r1.held
+  kept_4 = (tick_rests third o3).held ∙ held_o3 ∙ r2.held ∙ r1.held
 
   pub sends_it : Contains (sent_by_doing (ticks third) o3) (Draw d)
   sends_it = tick_sends third o3 (Draw d) (ticks_answer o3.host.is.number o3.host.is.constants o3.host.is.calls o3.host.is.held third d fine_3.once held_3 (ap (λ (s : Timers). s.ask) timers_3) due_3)
@@ -430,50 +489,50 @@ module _ (hosts : ℕ → Opening) (older : List LineAt) (i j : ℕ) (d : Drawop
   abbrev t3 : ℕ
   t3 = t2 + answering_wait
 
-  abbrev l1 : List LineAt
-  l1 = at i (Ticked asking) ∷ older
+  abbrev n1 : List LineAt
+  n1 = at i (Ticked asking) ∷ []
 
-  abbrev l2 : List LineAt
-  l2 = at j (Ticked t1) ∷ l1
+  abbrev n2 : List LineAt
+  n2 = at j (Ticked t1) ∷ n1
 
-  abbrev l3 : List LineAt
-  l3 = at j (Ticked t2) ∷ l2
+  abbrev n3 : List LineAt
+  n3 = at j (Ticked t2) ∷ n2
 
-  abbrev l4 : List LineAt
-  l4 = at j (Came t2 (Request me d.name)) ∷ l3
+  abbrev n4 : List LineAt
+  n4 = at j (Came t2 (Request me d.name)) ∷ n3
 
-  abbrev l5 : List LineAt
-  l5 = at j (Ticked t3) ∷ l4
+  abbrev n5 : List LineAt
+  n5 = at j (Ticked t3) ∷ n4
 
   up_to : (a b : ℕ) → a ≤ a + b
   up_to a b = omega arith
 
-  stage_0 : Stage hosts older older i j k o
-  stage_0 = record { taken = taken; unforged = λ unforged. unforged; here = refl; there = refl }
+  stage_0 : Stage hosts older [] i j k o
+  stage_0 = record { taken = taken; sent = tt; here = refl; there = refl }
 
-  stage_1 : Stage hosts older l1 i j k1 o
-  stage_1 = first_next hosts older older i j apart k o stage_0 (Ticked asking) tt (tick_in_time k asking (up_to (present k.host) asking_wait))
+  stage_1 : Stage hosts older n1 i j k1 o
+  stage_1 = first_next hosts [] older i j apart k o stage_0 (Ticked asking) tt (tick_in_time k asking (up_to (present k.host) asking_wait))
 
-  sent_1 : Contains (sent hosts l1) (Request me d.name)
-  sent_1 = did_send hosts older i (Ticked asking) k (Request me d.name) refl requests
+  sent_1 : Contains (sent_since hosts n1 older) (Request me d.name)
+  sent_1 = did_send hosts [] older i (Ticked asking) k (Request me d.name) refl requests
 
-  stage_2 : Stage hosts older l2 i j k1 p1
-  stage_2 = second_next hosts l1 older i j apart k1 o stage_1 (Ticked t1) tt (none_1 o fine_o d lost.held me numbers)
+  stage_2 : Stage hosts older n2 i j k1 p1
+  stage_2 = second_next hosts n1 older i j apart k1 o stage_1 (Ticked t1) tt (none_1 o fine_o d lost.held me numbers)
 
-  stage_3 : Stage hosts older l3 i j k1 p2
-  stage_3 = second_next hosts l2 older i j apart k1 p1 stage_2 (Ticked t2) tt (none_2 o fine_o d lost.held me numbers)
+  stage_3 : Stage hosts older n3 i j k1 p2
+  stage_3 = second_next hosts n2 older i j apart k1 p1 stage_2 (Ticked t2) tt (none_2 o fine_o d lost.held me numbers)
 
-  sent_3 : Contains (sent hosts l3) (Request me d.name)
-  sent_3 = still_sent hosts l2 (at j (Ticked t2)) (Request me d.name) (still_sent hosts l1 (at j (Ticked t1)) (Request me d.name) sent_1)
+  sent_3 : Contains (sent_since hosts n3 older) (Request me d.name)
+  sent_3 = still_sent hosts n2 older (at j (Ticked t2)) (Request me d.name) (still_sent hosts n1 older (at j (Ticked t1)) (Request me d.name) sent_1)
 
-  stage_4 : Stage hosts older l4 i j k1 p3
-  stage_4 = second_next hosts l3 older i j apart k1 p2 stage_3 (Came t2 (Request me d.name)) sent_3 (none_3 o fine_o d lost.held me numbers)
+  stage_4 : Stage hosts older n4 i j k1 p3
+  stage_4 = second_next hosts n3 older i j apart k1 p2 stage_3 (Came t2 (Request me d.name)) sent_3 (none_3 o fine_o d lost.held me numbers)
 
-  stage_5 : Stage hosts older l5 i j k1 (after_doing (ticks t3) p3)
-  stage_5 = second_next hosts l4 older i j apart k1 p3 stage_4 (Ticked t3) tt (none_4 o fine_o d lost.held me numbers)
+  stage_5 : Stage hosts older n5 i j k1 (after_doing (ticks t3) p3)
+  stage_5 = second_next hosts n4 older i j apart k1 p3 stage_4 (Ticked t3) tt (none_4 o fine_o d lost.held me numbers)
 
-  sent_5 : Contains (sent hosts l5) (Draw d)
-  sent_5 = did_send hosts l4 j (Ticked t3) p3 (Draw d) stage_4.there (sends_it o fine_o d lost.held me numbers)
+  sent_5 : Contains (sent_since hosts n5 older) (Draw d)
+  sent_5 = did_send hosts n4 older j (Ticked t3) p3 (Draw d) stage_4.there (sends_it o fine_o d lost.held me numbers)
 
   -- what it holds, and whose it is, is as before
   same_of : IsOf k.host k1.host
@@ -495,15 +554,15 @@ module _ (hosts : ℕ → Opening) (older : List LineAt) (i j : ℕ) (d : Drawop
       with_number : ℕ → Opened
       with_number m = record { is = record k.host.is { number = m }; random = k.host.random }
 
-  stage_6 : Stage hosts older (at i (Came asking (Draw d)) ∷ l5) i j (after_doing (came asking (Draw d)) k1) (after_doing (ticks t3) p3)
-  stage_6 = first_next hosts l5 older i j apart k1 (after_doing (ticks t3) p3) stage_5 (Came asking (Draw d)) sent_5 (drawop_in_time k1 asking d (subst (λ (x : ℕ). x ≤ asking) (sym rests.now) (le_itself asking)) known_1) where
+  stage_6 : Stage hosts older (at i (Came asking (Draw d)) ∷ n5) i j (after_doing (came asking (Draw d)) k1) (after_doing (ticks t3) p3)
+  stage_6 = first_next hosts n5 older i j apart k1 (after_doing (ticks t3) p3) stage_5 (Came asking (Draw d)) sent_5 (drawop_in_time k1 asking d (subst (λ (x : ℕ). x ≤ asking) (sym rests.now) (le_itself asking)) known_1) where
     le_itself : (a : ℕ) → a ≤ a
     le_itself a = omega arith
 
   pub brought : IsBrought hosts (repair i j (host_at hosts older i) (host_at hosts older j) d) older i j d
   brought = record {
     taken = stage_6.taken;
-    unforged = stage_6.unforged;
+    sent = stage_6.sent;
     held = ap (λ (m : Keeping). m.host.is.held) stage_6.here ∙ drawop_held asking d k1 lost_1 room_1 ∙ ap (λ (h : List DrawopValue). h ++ d ∷ []) rests.held;
     kept = ap (λ (m : Keeping). m.host.is.held) stage_6.there ∙ kept_4 o fine_o d lost.held me numbers;
   }

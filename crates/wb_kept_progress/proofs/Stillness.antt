@@ -324,16 +324,16 @@ module _ (hosts : ℕ → Opening) (terms : Terms) (trace newest window base : L
     }
 
     abbrev Stopped : ℕ → Type 0
-    Stopped p = ((a : AskTimer) × (timer_then hosts then_back p n ≡ Some a) × (6 ≤ a.level))
+    Stopped p = ((a : AskTimer) × (timer_then hosts then_back p n ≡ Some a) × (4 ≤ a.level))
         ⊎ ((64 ≤ length (view_of (host_then hosts then_back p)).asked) × (a : AskedName) × (oldest (view_of (host_then hosts then_back p)).asked ≡ Some a) × (a.name ≡ n))
 
     inside : (w : List Performed) → lines ≡ w ++ g.e ∷ then_back → Goal
     inside w is = ⊎_elim
-        (λ (h : (a : AskTimer) × (timer_then hosts then_back i n ≡ Some a) × (6 ≤ a.level)).
+        (λ (h : (a : AskTimer) × (timer_then hosts then_back i n ≡ Some a) × (4 ≤ a.level)).
         let same = some_timer ask h.0 (sym g.stands ∙ h.1) in
         let zero_level : h.0.level ≡ 0 = sym (ap (λ (a : AskTimer). a.level) same) ∙ new in
-        let six = h.2 in
-        absurd (omega (arith, zero_level, six)))
+        let four = h.2 in
+        absurd (omega (arith, zero_level, four)))
         (λ (h : (64 ≤ length (view_of (host_then hosts then_back i)).asked) × (a : AskedName) × (oldest (view_of (host_then hosts then_back i)).asked ≡ Some a) × (a.name ≡ n)).
         let le = behind_part in
         let late_then : called_at base + request_span terms < time_of then_back = omega (arith, le, late) in

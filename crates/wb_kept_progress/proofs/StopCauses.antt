@@ -1,7 +1,7 @@
 -- Why a host that keeps itself gives a name up.
-use Rattle.std.proofs.Common.{◌≡◌, ℕ, ◌<◌, ◌≤◌, Bool, true, false, cond, List, [], ◌∷◌, ◌++◌, ◌∙◌, Option, Some, None, ap, arith, inl, inr, is_some, length, refl, subst, sym, true≢false}
-use Rattle.std.specs.Prelude.{◌⊎◌, ◌&&◌, Contains, nat_le, not, take}
-use Rattle.std.proofs.lemmas.Bool.{and_parts, leb-false, leb-true}
+use Rattle.std.proofs.Common.{◌≡◌, ℕ, ◌<◌, ◌≤◌, Bool, true, false, cond, List, [], ◌∷◌, ◌++◌, ◌∙◌, Option, Some, None, ap, arith, inl, inr, is_some, length, refl, subst, sym, true≢false, ⊎_elim}
+use Rattle.std.specs.Prelude.{◌⊎◌, ◌&&◌, Contains, nat_le, not, take, unwrap_or, ◌||◌}
+use Rattle.std.proofs.lemmas.Bool.{and_parts, leb-false, leb-true, or_cases}
 use Rattle.wb_names.specs.Values.{NameValue}
 use Rattle.wb_gaps.specs.Answers.{pages_of}
 use Rattle.wb_recovery.specs.Events.{timers_of}
@@ -9,12 +9,11 @@ use Rattle.wb_recovery.specs.declared.timers.AskTimer.{AskTimer}
 use Rattle.wb_host.specs.GivingUp.{level as level_in}
 use Rattle.wb_member.specs.Judged.{is_full}
 use Rattle.wb_member.specs.Opened.{Opened, events}
-use Rattle.wb_keeping.specs.Credit.{has_credit}
-use Rattle.wb_keeping.specs.Kept.{Arrives, Asks, Doing, Hears, Line, Says, SetsDistance, Tunes, Stops, Ticks, room_lines, still, stops_oldest, usual_lines, want}
+use Rattle.wb_keeping.specs.Kept.{Arrives, Asks, Doing, Hears, Line, Says, SetsDistance, Tunes, Stops, Ticks, room_lines, still, stops_one, want, lending}
 use Rattle.wb_keeping.specs.Laws.{fault_of}
 use Rattle.wb_keeping.specs.Performing.{Keeping, after_line, after_lines, sees, view_of}
-use Rattle.wb_keeping.specs.Policy.{Policy, View, after_wanting, holds, level, is_full as shows_full}
-use Rattle.wb_keeping.specs.Wanting.{goes_on, is_wanted, oldest}
+use Rattle.wb_keeping.specs.Policy.{Policy, View, after_wanting, holds, level, is_full as shows_full, is_known}
+use Rattle.wb_keeping.specs.Wanting.{gives_way, goes_on, is_old, is_paid, is_wanted, oldest, way_of}
 use Rattle.wb_keeping.specs.declared.wanting.AskedName.{AskedName}
 use Rattle.wb_keeping.proofs.AskedTimers.{level_seen}
 use Rattle.wb_keeping.proofs.EachStep.{HoldsOfSteps, doing, line_holds}
@@ -23,12 +22,13 @@ use Rattle.wb_keeping.proofs.Wanted.{lines_wanted}
 use Rattle.wb_kept_progress.specs.Sessions.{AreTaken, Opening}
 use Rattle.wb_kept_progress.specs.Timed.{TimedLine, lines_of}
 use Rattle.wb_kept_progress.specs.Whole.{there}
+use Rattle.wb_kept_progress.proofs.Asking.{level_told, oldest_is_one}
 use Rattle.wb_kept_progress.proofs.CallLines.{host_before}
 use Rattle.wb_kept_progress.proofs.Coming.{has_room}
 use Rattle.wb_kept_progress.proofs.Lines.{lines_of as lines_keep, lines_grow}
 use Rattle.wb_kept_progress.proofs.Repairs.{moved}
 use Rattle.wb_kept_progress.proofs.WholeParts.{LinesHaveCalls, StopsHaveCause, does, host_then}
-use Rattle.wb_keeping.proofs.EachLine.{Each, each_both, states_each, usual_each}
+use Rattle.wb_keeping.proofs.EachLine.{Each, lent_each, states_each}
 
 -- ---- room on a board
 
@@ -44,7 +44,7 @@ room_before lines host next is room =
 -- ---- why it gives a name up
 
 abbrev HasStopCause : Opened → NameValue → Type 0
-HasStopCause host n = ((ask : AskTimer) × ((timers_of host.is.constants (events host) n).ask ≡ Some ask) × (6 ≤ ask.level))
+HasStopCause host n = ((ask : AskTimer) × ((timers_of host.is.constants (events host) n).ask ≡ Some ask) × (4 ≤ ask.level))
     ⊎ ((64 ≤ length (view_of host).asked) × (a : AskedName) × (oldest (view_of host).asked ≡ Some a) × (a.name ≡ n))
 
 abbrev IsCaused : Line → Opened → Type 0
@@ -91,54 +91,70 @@ timer_of : (o : Option AskTimer) (l : ℕ) → level_in o ≡ Some l → (ask : 
 timer_of None l e = absurd cc
 timer_of (Some a) l e = (a, refl, cc)
 
-backed_off : (host : Opened) (n : NameValue) (l : ℕ) → level (view_of host) n ≡ Some l → 6 ≤ l → HasStopCause host n
+backed_off : (host : Opened) (n : NameValue) (l : ℕ) → level (view_of host) n ≡ Some l → 4 ≤ l → HasStopCause host n
 backed_off host n l e le =
     let t = timer_of (timers_of host.is.constants (events host) n).ask l (sym (level_seen host n) ∙ e) in
-    inl (t.0, t.1, subst (λ (m : ℕ). 6 ≤ m) (sym t.2) le)
+    inl (t.0, t.1, subst (λ (m : ℕ). 4 ≤ m) (sym t.2) le)
 
-room_caused : (name : NameValue) (host : Opened) → ((l : ℕ) → level (view_of host) name ≡ Some l → 6 ≤ l) → AreCaused (room_lines name (view_of host)) host
-room_caused name host old = by (level (view_of host) name) refl (nat_le 64 (length (view_of host).asked)) refl (oldest (view_of host).asked) refl where
-  by : (o : Option ℕ) → level (view_of host) name ≡ o → (b : Bool) → nat_le 64 (length (view_of host).asked) ≡ b → (first : Option AskedName)
-      → oldest (view_of host).asked ≡ first
-      → AreCaused (cond (is_some o) (Stops name ∷ []) (cond b (stops_oldest first) [])) host
-  by (Some l) e b f first g = (backed_off host name l e (old l e), tt)
-  by None e true f None g = tt
-  by None e true f (Some a) g = (inr (leb-true _ _ f, a, g, refl), tt)
-  by None e false f first g = tt
+-- the one that gives way to another
+module _ (host : Opened) where
+  abbrev asked_here : List AskedName
+  asked_here = (view_of host).asked
 
--- one whose timer stands is asked for anew where it was backed off six times
-off_six : (held full anew : Bool) (l owed now : ℕ) → is_wanted held full anew (Some l) owed now ≡ true → 6 ≤ l
-off_six held full anew l owed now e =
+  way_cause : (a : AskedName) → oldest asked_here ≡ Some a → gives_way (length asked_here) a.level ≡ true → HasStopCause host a.name
+  way_cause a is way = ⊎_elim
+      (λ (many : nat_le 64 (length asked_here) ≡ true). inr (leb-true 64 (length asked_here) many, a, is, refl))
+      (λ (old : is_old a.level ≡ true). backed_off host a.name a.level (level_seen host a.name ∙ level_told host a (oldest_among_asked asked_here a is)) (leb-true 4 a.level old))
+      (or_cases (nat_le 64 (length asked_here)) (is_old a.level) way) where
+        oldest_among_asked : (asked : List AskedName) (a : AskedName) → oldest asked ≡ Some a → Contains asked a
+        oldest_among_asked [] a e = absurd cc
+        oldest_among_asked (b ∷ later) a e = subst (λ (x : AskedName). Contains (b ∷ later) x) (ap (λ (o : Option AskedName). unwrap_or o a) e) (oldest_is_one b later)
+
+  way_caused : (o : Option AskedName) → oldest asked_here ≡ o → AreCaused (stops_one (way_of (length asked_here) o)) host
+  way_caused None is = tt
+  way_caused (Some a) is = by (gives_way (length asked_here) a.level) refl where
+    by : (b : Bool) → gives_way (length asked_here) a.level ≡ b → AreCaused (stops_one (cond b (Some a) None)) host
+    by false e = tt
+    by true e = (way_cause a is e, tt)
+
+room_caused : (name : NameValue) (host : Opened) → ((l : ℕ) → level (view_of host) name ≡ Some l → 4 ≤ l) → AreCaused (room_lines name (view_of host)) host
+room_caused name host old = by (level (view_of host) name) refl where
+  by : (o : Option ℕ) → level (view_of host) name ≡ o → AreCaused (cond (is_some o) (Stops name ∷ []) (stops_one (way_of (length (view_of host).asked) (oldest (view_of host).asked)))) host
+  by (Some l) e = (backed_off host name l e (old l e), tt)
+  by None e = way_caused host (oldest (view_of host).asked) refl
+
+-- one whose timer stands is asked for anew where it is old
+off_old : (held full anew known : Bool) (l owed now : ℕ) → is_wanted held full anew known (Some l) owed now ≡ true → 4 ≤ l
+off_old held full anew known l owed now e =
     let may = not (goes_on anew (Some l)) in
-    let a = and_parts (not held) (not full && (may && has_credit owed now)) e in
-    let b = and_parts (not full) (may && has_credit owed now) a.1 in
-    let c = and_parts may (has_credit owed now) b.1 in
-    leb-true _ _ (by anew (nat_le 6 l) c.0) where
+    let a = and_parts (not held) (not full && (may && is_paid (anew || known) owed now)) e in
+    let b = and_parts (not full) (may && is_paid (anew || known) owed now) a.1 in
+    let c = and_parts may (is_paid (anew || known) owed now) b.1 in
+    leb-true _ _ (by anew (is_old l) c.0) where
       by : (anew late : Bool) → not (not (anew && late)) ≡ true → late ≡ true
       by true true e = refl
       by true false e = absurd (true≢false (sym e))
       by false late e = absurd (true≢false (sym e))
 
 wanted_caused : (name : NameValue) (anew : Bool) (k : Keeping) → AreCaused (want name anew (sees k.host) k.policy).lines k.host
-wanted_caused name anew k = by (is_wanted (holds v name) (shows_full v) anew (level v name) k.policy.owed v.now) refl where
+wanted_caused name anew k = by (is_wanted (holds v name) (shows_full v) anew (is_known v name.source) (level v name) k.policy.owed v.now) refl where
   v : View
   v = view_of k.host
 
   wanted : Doing
   wanted = doing (after_wanting v.now k.policy) (lines_wanted name anew (sees k.host) k.policy)
 
-  old : is_wanted (holds v name) (shows_full v) anew (level v name) k.policy.owed v.now ≡ true → (l : ℕ) → level v name ≡ Some l → 6 ≤ l
-  old e l is = off_six (holds v name) (shows_full v) anew l k.policy.owed v.now
-      (ap (λ (o : Option ℕ). is_wanted (holds v name) (shows_full v) anew o k.policy.owed v.now) (sym is) ∙ e)
+  old : is_wanted (holds v name) (shows_full v) anew (is_known v name.source) (level v name) k.policy.owed v.now ≡ true → (l : ℕ) → level v name ≡ Some l → 4 ≤ l
+  old e l is = off_old (holds v name) (shows_full v) anew (is_known v name.source) l k.policy.owed v.now
+      (ap (λ (o : Option ℕ). is_wanted (holds v name) (shows_full v) anew (is_known v name.source) o k.policy.owed v.now) (sym is) ∙ e)
 
-  by : (b : Bool) → is_wanted (holds v name) (shows_full v) anew (level v name) k.policy.owed v.now ≡ b
+  by : (b : Bool) → is_wanted (holds v name) (shows_full v) anew (is_known v name.source) (level v name) k.policy.owed v.now ≡ b
       → AreCaused (cond b wanted (still (sees k.host) k.policy)).lines k.host
   by false e = tt
   by true e =
-      let usual = usual_lines name.source (v.distance name.source) k.policy.usual in
-      caused_both (room_lines name v) (usual ++ Asks name ∷ []) k.host (room_caused name k.host (old e))
-      (unstopped (usual ++ Asks name ∷ []) (after_lines (room_lines name v) k.host)
-      (each_both StopsNothing usual (Asks name ∷ []) (usual_each StopsNothing name.source (v.distance name.source) k.policy.usual (λ micros e. tt)) (tt, tt)))
+      let last = lending name.source (v.distance name.source) k.policy.usual (Asks name) in
+      caused_both (room_lines name v) last k.host (room_caused name k.host (old e))
+      (unstopped last (after_lines (room_lines name v) k.host) (lent_each StopsNothing name.source (v.distance name.source) k.policy.usual (Asks name) tt tt tt))
 
 -- ---- all that a kept host does
 
@@ -167,7 +183,7 @@ steps_give_up = record {
     turned = λ t k. quietly k [] _ tt;
     answers = λ k is. quietly k _ _ (states_each StopsNothing (view_of k.host) (λ page. tt) (take 64 (pages_of k.host.is.held)));
     asks_pages = λ k is. quietly k _ _ (tt, tt);
-    reports = λ page told k is. quietly k _ _ (tt, tt);
+    reports = λ page until told k is. quietly k _ _ (tt, tt);
   };
   ticks = λ now k later. quietly k (Ticks now ∷ []) k.policy (tt, tt);
   arrives = λ d k. quietly k _ k.policy (tt, tt);
@@ -175,6 +191,8 @@ steps_give_up = record {
   hears = λ v k. quietly k _ k.policy (tt, tt);
   stops = λ name k full. record { at = refl; caused = λ room. absurd (true≢false (sym full ∙ room)) };
   sets = λ source micros k. quietly k _ k.policy (tt, tt);
+  lends = λ source k. quietly k _ k.policy (tt, tt);
+  takes_back = λ source k. quietly k _ k.policy (tt, tt);
   tunes = λ constants k within. quietly k _ k.policy (tt, tt);
   draws = λ d k. quietly k _ k.policy (tt, tt);
   measured = λ micros k. quietly k [] _ tt;

@@ -18,7 +18,7 @@ use Rattle.wb_progress.specs.Repairs.{timers_at}
 use Rattle.wb_progress.specs.Turns.{Accepts, AreTurns, Desk, IsHeardAt, IsOtherOrLacked, IsQuietBut, IsTurn, KeepTimeBut, Places, Terms, Turn, longest, settled_by}
 use Rattle.wb_progress.specs.Turns as turning
 use Rattle.wb_progress.proofs.Giving.{held_as}
-use Rattle.wb_session.proofs.Holding.{HeldNone}
+use Rattle.wb_laws_sessions.proofs.Holding.{HeldNone}
 use Rattle.wb_member.specs.Judged.{is_full}
 use Rattle.wb_member.specs.Opened.{Opened, accepted, asks_for, heard, opened_with, present}
 use Rattle.wb_member.specs.Random.{word_of}

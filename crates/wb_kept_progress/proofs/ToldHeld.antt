@@ -24,7 +24,7 @@ use Rattle.wb_member.specs.Opened.{Opened, becomes, has_room_for, present, sent_
 use Rattle.wb_keeping.specs.Kept.{Arrives, Asks, Hears, Line, Says, SetsDistance, Tunes, Stops, Ticks, last_heard, state_of, still, want}
 use Rattle.wb_keeping.specs.Laws.{KeptLine, doing_of, fault_of}
 use Rattle.wb_keeping.specs.Performing.{Keeping, after_doing, after_line, after_lines, said_where, sees, sent_by_doing, sent_by_line, sent_by_lines, view_of}
-use Rattle.wb_keeping.specs.Policy.{Policy, View, after_wanting, holds, is_full, level}
+use Rattle.wb_keeping.specs.Policy.{Policy, View, after_wanting, holds, is_full, level, is_known}
 use Rattle.wb_keeping.specs.Reports.{is_untold, slice_after}
 use Rattle.wb_keeping.specs.Wanting.{is_wanted}
 use Rattle.wb_keeping.proofs.EachStep.{HoldsOfSteps, doing, line_holds}
@@ -152,12 +152,12 @@ none_sent (Tunes constants ∷ lines) host v none c = none_sent lines (after_lin
 none_sent (Says w ∷ lines) host v none c = none.0
 
 want_none : (name : NameValue) (anew : Bool) (see : List Line → View) (p : Policy) → SendNothing (want name anew see p).lines
-want_none name anew see p = by (is_wanted (holds v name) (is_full v) anew (level v name) p.owed v.now) where
+want_none name anew see p = by (is_wanted (holds v name) (is_full v) anew (is_known v name.source) (level v name) p.owed v.now) where
   v : View
   v = see []
 
   by : (b : Bool) → SendNothing (cond b (doing (after_wanting v.now p) (lines_wanted name anew see p)) (still see p)).lines
-  by true = wanted_each SendsNothing (λ name. tt) name tt anew see p (λ micros e. tt)
+  by true = wanted_each SendsNothing (λ name. tt) name tt anew see p tt tt
   by false = tt
 
 -- ---- all that a kept host does
@@ -208,7 +208,7 @@ steps_tell = record {
     turned = λ t k. quietly k [] _ tt;
     answers = λ k is. by_held k _ _ (states_tell (view_of k.host) (take 64 (pages_of k.host.is.held)) k.host);
     asks_pages = λ k is. by_one k (Says (AskPages k.host.is.number)) _ (λ v c. subst (TellsHeld k.host.is.held) (one_of (AskPages k.host.is.number) v c) tt);
-    reports = λ page told k is.
+    reports = λ page until told k is.
         let report = Session k.host.is.number (present k.host) page (slice_after told (report_of k.host.is.held page)) (last_heard (view_of k.host).echoes) in
         by_one k (Says report) _ (λ v c. subst (TellsHeld k.host.is.held) (one_of report v c) (slice_held k.host.is.held page told));
   };
@@ -218,6 +218,8 @@ steps_tell = record {
   hears = λ v k. by_one k (Hears v) k.policy (hear_tells v k.host);
   stops = λ name k full. quietly k _ k.policy (tt, tt);
   sets = λ source micros k. quietly k _ k.policy (tt, tt);
+  lends = λ source k. quietly k _ k.policy (tt, tt);
+  takes_back = λ source k. quietly k _ k.policy (tt, tt);
   tunes = λ constants k within. quietly k _ k.policy (tt, tt);
   draws = λ d k. by_one k (Says (Draw d)) k.policy (draw_tells k.host.is.held d (becomes d k.host));
   measured = λ micros k. quietly k [] _ tt;

@@ -22,11 +22,11 @@ use Rattle.wb_host.specs.Keeper.{holds}
 use Rattle.wb_host.proofs.KeptCalls.{holds_not}
 use Rattle.wb_member.specs.Judged.{is_full}
 use Rattle.wb_member.specs.Opened.{Opened, asks_for, opened_with, present}
-use Rattle.wb_keeping.specs.Fairness.{AnswersWhatIsHeld, Told, after_telling, after_tellings, after_turn, after_turns, marks_in_turn, name_in_turn, page_in_turn, where_left}
+use Rattle.wb_keeping.specs.Fairness.{AnswersWhatIsHeld, Told, after_telling, after_tellings, after_turn, after_turns, left_to_tell, marks_in_turn, name_in_turn, page_in_turn, where_left}
 use Rattle.wb_keeping.specs.Kept.{Ticks, performs, ticks, timed}
-use Rattle.wb_keeping.specs.Laws.{Ticked, doing_of}
-use Rattle.wb_keeping.specs.Performing.{Keeping, after_doing, sees}
-use Rattle.wb_keeping.specs.Reports.{page_after, slice_after}
+use Rattle.wb_keeping.specs.Laws.{Added, Came, KeptLine, Ticked, Tuned, doing_of}
+use Rattle.wb_keeping.specs.Performing.{Keeping, after_doing, sees, sent_by_doing}
+use Rattle.wb_keeping.specs.Reports.{is_telling, page_after, slice_after}
 use Rattle.wb_keeping.specs.declared.turns.Turns.{Turns}
 use Rattle.wb_keeping.specs.Refusing.{is_unknown}
 use Rattle.wb_keeping.proofs.EachStep.{having}
@@ -35,7 +35,7 @@ use Rattle.wb_keeping.proofs.KeptLines.{slices_are_short}
 use Rattle.wb_keeping.proofs.Performed.{then_after}
 use Rattle.wb_keeping.proofs.WantedNames.{lines_answer_held}
 use Rattle.wb_kept_progress.specs.Repairs.{AreTicks, ComesToAsk, ComesToTell, IsBrought, IsLost, MissingCanCome, MissingIsAsked, MissingIsAskedSoon, host_at, ready_at, repair}
-use Rattle.wb_kept_progress.specs.Sessions.{AreHosts, AreTaken, LineAt, NothingIsForged, Opening, at, kept_at, sent}
+use Rattle.wb_kept_progress.specs.Sessions.{AreHosts, AreSent, AreTaken, LineAt, Opening, WasSent, at, kept_at, sent_since}
 use Rattle.wb_kept_progress.proofs.Lines.{IsOf, is_false, lines_of}
 use Rattle.wb_kept_progress.proofs.Repairs.{asked_can_come, did_send, is_itself, places_differ, tick_in_time, tick_rests}
 use Rattle.wb_kept_progress.proofs.Leaving.{answers_on, told_of}
@@ -85,14 +85,15 @@ module _ (k : Keeping) (now : ℕ) (late : k.policy.reports.due ≤ now) (paid :
 
 -- a report has few marks
 few_in_turn : (held : List DrawopValue) (t : Told) → length (marks_in_turn held t) ≤ 64
-few_in_turn held t = by rest (slices_are_short None (report_of held (page_after t.page (pages_of held)))) (slices_are_short t.last (report_of held t.page)) where
-  rest : List MarkValue
-  rest = slice_after t.last (report_of held t.page)
+few_in_turn held t = by (left_to_tell held t) (slices_are_short None (report_of held (page_after t.page (pages_of held)))) (short (is_telling t.until t.last)) where
+  short : (b : Bool) → length (cond b (slice_after t.last (report_of held t.page)) []) ≤ 64
+  short true = slices_are_short t.last (report_of held t.page)
+  short false = omega arith
 
   other : List MarkValue
   other = slice_after None (report_of held (page_after t.page (pages_of held)))
 
-  by : (marks : List MarkValue) → length other ≤ 64 → length rest ≤ 64 → length (where_left marks other rest) ≤ 64
+  by : (marks : List MarkValue) → length other ≤ 64 → length marks ≤ 64 → length (where_left marks other marks) ≤ 64
   by [] a b = a
   by (m ∷ marks) a b = b
 
@@ -140,9 +141,10 @@ module _ (hosts : ℕ → Opening) (older : List LineAt) (i : ℕ) where
       let k = behind count in
       (tick_in_time k (ready_at k) (first_of_three (present k.host) k.policy.reports.due k.policy.owed), ticks_taken count taken)
 
-  pub ticks_unforged : (count : ℕ) → NothingIsForged hosts older → NothingIsForged hosts (some_ticks count ++ older)
-  ticks_unforged zero unforged = unforged
-  ticks_unforged (suc count) unforged = (tt, ticks_unforged count unforged)
+  -- nothing comes by them
+  pub ticks_sent : (count : ℕ) → AreSent hosts (some_ticks count) older
+  ticks_sent zero = tt
+  ticks_sent (suc count) = (tt, ticks_sent count)
 
   pub others_stay : (count j : ℕ) → (i ≡ j → ⊥) → kept_at hosts (some_ticks count ++ older) j ≡ kept_at hosts older j
   others_stay zero j differ = refl
@@ -236,8 +238,8 @@ module _ (hosts : ℕ → Opening) (older : List LineAt) (i : ℕ) where
       let held = (host_at hosts older i).is.held in
       let t = after_tellings held count (told_of (kept_at hosts older i).policy) in
       let said = reporting count in
-      let there : Contains (sent hosts (some_ticks (suc count) ++ older)) (Session k.host.is.number said.moment (page_in_turn k.host.is.held (told_of k.policy)) (marks_in_turn k.host.is.held (told_of k.policy)) said.echoes) =
-      did_send hosts (some_ticks count ++ older) i (Ticked (ready_at k)) k _ refl said.sends in
+      let there : Contains (sent_since hosts (some_ticks (suc count)) older) (Session k.host.is.number said.moment (page_in_turn k.host.is.held (told_of k.policy)) (marks_in_turn k.host.is.held (told_of k.policy)) said.echoes) =
+      did_send hosts (some_ticks count) older i (Ticked (ready_at k)) k _ refl said.sends in
       record {
         ticks = are_ticks (suc count);
         taken = ticks_taken (suc count) taken;
@@ -246,7 +248,7 @@ module _ (hosts : ℕ → Opening) (older : List LineAt) (i : ℕ) where
         moment = said.moment;
         marks = marks_in_turn held t;
         echoes = said.echoes;
-        sent = subst (λ (v : Datagram). Contains (sent hosts (some_ticks (suc count) ++ older)) v)
+        sent = subst (λ (v : Datagram). Contains (sent_since hosts (some_ticks (suc count)) older) v)
             (ap (λ (me : ℕ). Session me said.moment (page_in_turn k.host.is.held (told_of k.policy)) (marks_in_turn k.host.is.held (told_of k.policy)) said.echoes) (ticks_of count).number
             ∙ ap (λ (h : List DrawopValue). Session (host_at hosts older i).is.number said.moment (page_in_turn h (told_of k.policy)) (marks_in_turn h (told_of k.policy)) said.echoes) (ticks_hold count)
             ∙ ap (λ (u : Told). Session (host_at hosts older i).is.number said.moment (page_in_turn held u) (marks_in_turn held u) said.echoes) (ticks_tell count)
@@ -364,14 +366,36 @@ not_ours n host small = by (nat_eq n.source host.is.number) where
   by true = ap (λ (b : Bool). b && not (holds host.is.held n)) less
   by false = refl
 
+-- ---- lines that follow others
+
+module _ (hosts : ℕ → Opening) (more older : List LineAt) where
+  sent_later : (newer : List LineAt) (v : Datagram) → Contains (sent_since hosts newer (more ++ older)) v → Contains (sent_since hosts (newer ++ more) older) v
+  sent_later [] v c = absurd (Contains-none v c)
+  sent_later (e ∷ newer) v c =
+      let by : List LineAt → List Datagram = λ (lines : List LineAt). sent_by_doing (doing_of e.line) (kept_at hosts lines e.place) in
+      ⊎_elim
+      (λ (now : Contains (by (newer ++ (more ++ older))) v). Contains-append_left (by ((newer ++ more) ++ older)) (sent_since hosts (newer ++ more) older) v (subst (λ (lines : List LineAt). Contains (by lines) v) (sym (append_assoc newer more older)) now))
+      (λ (before : Contains (sent_since hosts newer (more ++ older)) v). Contains-append_right (by ((newer ++ more) ++ older)) (sent_since hosts (newer ++ more) older) v (sent_later newer v before))
+      (Contains-append_cases (by (newer ++ (more ++ older))) (sent_since hosts newer (more ++ older)) v c)
+
+  was_later : (newer : List LineAt) (line : KeptLine) → WasSent (sent_since hosts newer (more ++ older)) line → WasSent (sent_since hosts (newer ++ more) older) line
+  was_later newer (Came now v) was = sent_later newer v was
+  was_later newer (Ticked now) was = tt
+  was_later newer (Added now page time op) was = tt
+  was_later newer (Tuned constants) was = tt
+
+  pub sent_both : (newer : List LineAt) → AreSent hosts newer (more ++ older) → AreSent hosts more older → AreSent hosts (newer ++ more) older
+  sent_both [] one other = other
+  sent_both (e ∷ newer) one other = (was_later newer e.line one.0, sent_both newer one.1 other)
+
 -- what lines bring that follow others, all of them bring
-pub brought_behind : (hosts : ℕ → Opening) (newer more older : List LineAt) (i j : ℕ) (d : DrawopValue) → (NothingIsForged hosts older → NothingIsForged hosts (more ++ older))
+pub brought_behind : (hosts : ℕ → Opening) (newer more older : List LineAt) (i j : ℕ) (d : DrawopValue) → AreSent hosts more older
     → (host_at hosts (more ++ older) i).is.held ≡ (host_at hosts older i).is.held → (host_at hosts (more ++ older) j).is.held ≡ (host_at hosts older j).is.held → IsBrought hosts newer (more ++ older) i j d → IsBrought hosts (newer ++ more) older i j d
-brought_behind hosts newer more older i j d unforged same_i same_j b =
+brought_behind hosts newer more older i j d sent same_i same_j b =
     let e = append_assoc newer more older in
     record {
       taken = subst (AreTaken hosts) (sym e) b.taken;
-      unforged = λ none. subst (NothingIsForged hosts) (sym e) (b.unforged (unforged none));
+      sent = sent_both hosts more older newer b.sent sent;
       held = ap (λ (lines : List LineAt). (host_at hosts lines i).is.held) e ∙ b.held ∙ ap (λ (h : List DrawopValue). h ++ d ∷ []) same_i;
       kept = ap (λ (lines : List LineAt). (host_at hosts lines j).is.held) e ∙ b.kept ∙ same_j;
     }
@@ -396,7 +420,7 @@ module _ (hosts : ℕ → Opening) (older : List LineAt) (i j : ℕ) (d : Drawop
       let asks = comes_to_ask hosts older i d.name turn.0 taken lost.lost lost.room turn.1 in
       let lines = more ++ older in (
         repair i j (host_at hosts lines i) (host_at hosts lines j) d ++ more,
-        brought_behind hosts (repair i j (host_at hosts lines i) (host_at hosts lines j) d) more older i j d (ticks_unforged hosts older i (suc turn.0)) (ticks_hold hosts older i (suc turn.0)) (ap (λ (x : Keeping). x.host.is.held) (others_stay hosts older i (suc turn.0) j (places_differ hosts older i j d lost))) (asked_can_come hosts lines i j d are asks.taken (still_lost (suc turn.0) small) asks.asked),
+        brought_behind hosts (repair i j (host_at hosts lines i) (host_at hosts lines j) d) more older i j d (ticks_sent hosts older i (suc turn.0)) (ticks_hold hosts older i (suc turn.0)) (ap (λ (x : Keeping). x.host.is.held) (others_stay hosts older i (suc turn.0) j (places_differ hosts older i j d lost))) (asked_can_come hosts lines i j d are asks.taken (still_lost (suc turn.0) small) asks.asked),
       )
 
 pub missing_can_come : MissingCanCome

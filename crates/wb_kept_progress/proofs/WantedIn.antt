@@ -165,7 +165,7 @@ costs = record {
   turned = λ t k. record { owed = omega arith; now = refl };
   answers = λ k is. record { owed = omega arith; now = ap present (says_after (view_of k.host) (take 64 (pages_of k.host.is.held)) k.host) };
   asks_pages = λ k is. record { owed = omega arith; now = refl };
-  reports = λ page told k is. record { owed = omega arith; now = refl };
+  reports = λ page until told k is. record { owed = omega arith; now = refl };
 }
 
 told_costs : (names : List NameValue) (k : Keeping) → CostsMore k (after_doing (want_told names) k)

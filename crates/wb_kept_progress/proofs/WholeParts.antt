@@ -65,11 +65,11 @@ abbrev pub AsksHaveCause : Type 0
 AsksHaveCause = (hosts : ℕ → Opening) (terms : Terms) (trace newer older : List TimedLine) (e : TimedLine) (n : NameValue) → IsTimelySession hosts terms trace → trace ≡ newer ++ e ∷ older → settled_by terms < e.time → Contains (does hosts e older) (Asks n)
     → IsHeldBySome hosts terms trace n ⊎ (HasTurn (there hosts older e.at.place) (e.time + terms.offset e.at.place) n ⊎ ((there hosts (e ∷ older) e.at.place).host.is.held ≢ (there hosts older e.at.place).host.is.held))
 
--- It was backed off six times or more, or of 64 or more that are asked for it was backed off most and is the first of these.
+-- It was backed off four times or more, or of 64 or more that are asked for it was backed off most and is the first of these.
 abbrev pub StopsHaveCause : Type 0
 StopsHaveCause = (hosts : ℕ → Opening) (terms : Terms) (trace : List TimedLine) (front : List Performed) (x : Performed) (back : List Performed) (n : NameValue) → IsTimelySession hosts terms trace → Contains terms.live x.place → terms.quiet < x.time
     → performed hosts trace ≡ front ++ x ∷ back → x.line ≡ Stops n
-    → ((ask : AskTimer) × (timer_then hosts back x.place n ≡ Some ask) × (6 ≤ ask.level))
+    → ((ask : AskTimer) × (timer_then hosts back x.place n ≡ Some ask) × (4 ≤ ask.level))
     ⊎ ((64 ≤ length (view_of (host_then hosts back x.place)).asked) × (a : AskedName) × (oldest (view_of (host_then hosts back x.place)).asked ≡ Some a) × (a.name ≡ n))
 
 -- What a call spends of the credit: something for what some live host holds, nothing, or one ask behind a report; or a drawop came that was new.

@@ -1,15 +1,13 @@
 -- What hosts that keep themselves show alike, once all of a session has come to each of them.
-use Rattle.std.specs.Prelude.{◌≡◌, ℕ, ◌<◌, ◌≤◌, List, [], ◌∷◌, ◌++◌, Contains}
+use Rattle.std.specs.Prelude.{◌≡◌, ℕ, ◌<◌, ◌≤◌, List, ◌++◌, Contains}
 use Rattle.wb_names.specs.Values.{DrawopValue}
 use Rattle.wb_names.specs.declared.name.PageId.{PageId}
-use Rattle.wb_codec.specs.declared.datagram.Datagram.TheVariants.{Draw}
 use Rattle.wb_gaps.specs.Answers.{pages_of, report_of}
 use Rattle.wb_display.specs.Canvas.{canvas_text}
 use Rattle.wb_progress.specs.Turns.{Terms}
 use Rattle.wb_member.specs.Queries.{view_of}
-use Rattle.wb_keeping.specs.Laws.{Came}
 use Rattle.wb_kept_progress.specs.Repairs.{host_at}
-use Rattle.wb_kept_progress.specs.Sessions.{LineAt, Opening, sent}
+use Rattle.wb_kept_progress.specs.Sessions.{LineAt, Opening}
 use Rattle.wb_kept_progress.specs.Timed.{TimedLine, called_at, lines_of}
 use Rattle.wb_kept_progress.specs.Whole.{AreWithin, IsTimelySession, LackAtMost, Sizes, WaitAtMost, request_span, there, whole_by}
 
@@ -18,15 +16,6 @@ use Rattle.wb_kept_progress.specs.Whole.{AreWithin, IsTimelySession, LackAtMost,
 -- the hosts at two places hold no two drawops of one name
 abbrev pub NamesMeanOneAt : (ℕ → Opening) → List LineAt → ℕ → ℕ → Type 0
 NamesMeanOneAt hosts lines i j = (d e : DrawopValue) → Contains (host_at hosts lines i).is.held d → Contains (host_at hosts lines j).is.held e → d.name ≡ e.name → d ≡ e
-
--- Each drawop that comes was sent before by one of them. Any other datagram may be forged.
-abbrev pub DrawopsWereSent : (ℕ → Opening) → List LineAt → Type 0
-DrawopsWereSent hosts [] = Unit {0}
-DrawopsWereSent hosts (e ∷ older) = ((now : ℕ) (d : DrawopValue) → e.line ≡ Came now (Draw d) → Contains (sent hosts older) (Draw d)) × DrawopsWereSent hosts older
-
--- Where no two hosts have one number, a name then means one drawop, whoever holds it.
-abbrev pub NamesMeanOne : Type 0
-NamesMeanOne = (hosts : ℕ → Opening) (lines : List LineAt) (i j : ℕ) → ((k l : ℕ) → (hosts k).number ≡ (hosts l).number → k ≡ l) → DrawopsWereSent hosts lines → NamesMeanOneAt hosts lines i j
 
 -- ---- what is shown
 

@@ -1,5 +1,6 @@
 pub mod Sessions
 pub mod Repairs
+pub mod Starts
 pub mod Timed
 pub mod Whole
 pub mod Agreement

@@ -16,7 +16,7 @@ use Rattle.wb_keeping.specs.Fairness.{slices_of, slices_on}
 use Rattle.wb_keeping.specs.Laws.{Came, Ticked}
 use Rattle.wb_keeping.specs.Performing.{Keeping}
 use Rattle.wb_keeping.specs.Refusing.{is_unknown}
-use Rattle.wb_kept_progress.specs.Sessions.{AreHosts, AreTaken, LineAt, NothingIsForged, Opening, at, kept_at, sent}
+use Rattle.wb_kept_progress.specs.Sessions.{AreHosts, AreSent, AreTaken, LineAt, Opening, at, kept_at, sent_since}
 
 abbrev pub host_at : (ℕ → Opening) → List LineAt → ℕ → Opened
 host_at hosts lines i = (kept_at hosts lines i).host
@@ -28,11 +28,11 @@ pub record IsLost (hosts : ℕ → Opening) (older : List LineAt) (i j : ℕ) (d
   pub room : is_full (host_at hosts older i) ≡ false
   pub known : is_unknown d.name (host_at hosts older i) ≡ false
 
--- No line more is refused, and none brings what was not sent. After them the one holds the drawop beside what it held, and the other
+-- No line more is refused, and each brings only what these lines sent. After them the one holds the drawop beside what it held, and the other
 -- what it held.
 pub record IsBrought (hosts : ℕ → Opening) (newer older : List LineAt) (i j : ℕ) (d : DrawopValue) : Type 0 where
   pub taken : AreTaken hosts (newer ++ older)
-  pub unforged : NothingIsForged hosts older → NothingIsForged hosts (newer ++ older)
+  pub sent : AreSent hosts newer older
   pub held : (host_at hosts (newer ++ older) i).is.held ≡ (host_at hosts older i).is.held ++ d ∷ []
   pub kept : (host_at hosts (newer ++ older) j).is.held ≡ (host_at hosts older j).is.held
 
@@ -97,10 +97,10 @@ MissingCanCome = (hosts : ℕ → Opening) (older : List LineAt) (i j : ℕ) (d 
 
 -- ---- any number that is told
 
--- No line more is refused, and none brings what was not sent. After them the host holds the drawop.
+-- No line more is refused, and each brings only what these lines sent. After them the host holds the drawop.
 pub record HasCome (hosts : ℕ → Opening) (newer older : List LineAt) (i : ℕ) (d : DrawopValue) : Type 0 where
   pub taken : AreTaken hosts (newer ++ older)
-  pub unforged : NothingIsForged hosts older → NothingIsForged hosts (newer ++ older)
+  pub sent : AreSent hosts newer older
   pub held : Contains (host_at hosts (newer ++ older) i).is.held d
 
 -- A mark of a board of S slices comes to be told: by at most S ticks of its host, and as many more as the page has slices that was told
@@ -113,7 +113,7 @@ pub record ComesToTell (hosts : ℕ → Opening) (newer older : List LineAt) (j 
   pub moment : ℕ
   pub marks : List MarkValue
   pub echoes : List Echo
-  pub sent : Contains (sent hosts (newer ++ older)) (Session (host_at hosts older j).is.number moment page marks echoes)
+  pub sent : Contains (sent_since hosts newer older) (Session (host_at hosts older j).is.number moment page marks echoes)
   pub among : Contains marks m
   pub few : length marks ≤ 64
 
@@ -121,7 +121,7 @@ abbrev pub MarksComeToBeTold : Type 0
 MarksComeToBeTold = (hosts : ℕ → Opening) (older : List LineAt) (j : ℕ) (page : PageId) (m : MarkValue) → AreTaken hosts older → Contains (pages_of (host_at hosts older j).is.held) page → Contains (report_of (host_at hosts older j).is.held page) m
     → (newer : List LineAt) × ComesToTell hosts newer older j page m × (length newer ≤ slices_of (host_at hosts older j).is.held + slices_on (host_at hosts older j).is.held (kept_at hosts older j).policy.told_page)
 
--- No loss is for ever. Whatever came in before, a drawop that one host lacks and another holds can come, where the one has two free cells and
+-- No loss is final. Whatever came in before, a drawop that one host lacks and another holds can come, where the one has two free cells and
 -- the other holds no number of its source on its page that is 2^31 or more.
 abbrev pub LostCanCome : Type 0
 LostCanCome = (hosts : ℕ → Opening) (older : List LineAt) (i j : ℕ) (d : DrawopValue) → AreHosts hosts → AreTaken hosts older → 1 ≤ d.name.seq → Contains (host_at hosts older j).is.held d → holds (host_at hosts older i) d.name ≡ false

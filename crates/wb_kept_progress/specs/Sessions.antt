@@ -64,13 +64,19 @@ abbrev pub AreTaken : (ℕ → Opening) → List LineAt → Type 0
 AreTaken hosts [] = Unit {0}
 AreTaken hosts (e ∷ older) = (fault_of e.line (kept_at hosts older e.place) ≡ None) × AreTaken hosts older
 
--- What comes was sent before by one of them.
+-- all that is sent by the newer of some lines
+abbrev pub sent_since : (ℕ → Opening) → List LineAt → List LineAt → List Datagram
+sent_since hosts [] older = []
+sent_since hosts (e ∷ newer) older = sent_by_doing (doing_of e.line) (kept_at hosts (newer ++ older) e.place) ++ sent_since hosts newer older
+
+-- What comes was sent before.
 abbrev pub WasSent : List Datagram → KeptLine → Type 0
 WasSent before (Came now v) = Contains before v
 WasSent before (Ticked now) = Unit {0}
 WasSent before (Added now page time op) = Unit {0}
 WasSent before (Tuned constants) = Unit {0}
 
-abbrev pub NothingIsForged : (ℕ → Opening) → List LineAt → Type 0
-NothingIsForged hosts [] = Unit {0}
-NothingIsForged hosts (e ∷ older) = WasSent (sent hosts older) e.line × NothingIsForged hosts older
+-- What comes by the newer lines was sent before by them: nothing that was on its way is needed.
+abbrev pub AreSent : (ℕ → Opening) → List LineAt → List LineAt → Type 0
+AreSent hosts [] older = Unit {0}
+AreSent hosts (e ∷ newer) older = WasSent (sent_since hosts newer older) e.line × AreSent hosts newer older

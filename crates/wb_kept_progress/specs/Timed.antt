@@ -1,4 +1,4 @@
--- Hosts in real time, by the lines of today that they perform. A host that keeps itself performs such lines, one after the other.
+-- Hosts in real time, by the lines that they perform. A host that keeps itself performs such lines, one after the other.
 use Rattle.std.specs.Prelude.{◌≡◌, ◌≢◌, ◌⊎◌, ℕ, ◌+◌, ◌*◌, ◌<◌, ◌≤◌, true, false, map, max, List, [], ◌∷◌, ◌++◌, Contains, IfSome, Some, nat_eq, nat_le, if◌then◌else◌}
 use Rattle.wb_names.specs.Values.{DrawopValue, NameValue}
 use Rattle.wb_codec.specs.declared.datagram.Datagram.{Datagram}

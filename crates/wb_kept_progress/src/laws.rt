@@ -1,8 +1,9 @@
 //! Laws of progress of hosts that keep themselves. Each function does nothing: its contract is a
 //! law, for proofs to cite.
 
-ghost use Rattle.wb_kept_progress.specs.Agreement.{NamesMeanOne, SessionsAgree};
-ghost use Rattle.wb_kept_progress.specs.Repairs.{AskedCanCome, LostCanCome, MarksComeToBeTold, MissingCanCome, MissingIsAsked, MissingIsAskedSoon};
+ghost use Rattle.wb_kept_progress.specs.Agreement.{SessionsAgree};
+ghost use Rattle.wb_kept_progress.specs.Repairs.{AskedCanCome, MarksComeToBeTold, MissingCanCome, MissingIsAsked, MissingIsAskedSoon};
+ghost use Rattle.wb_kept_progress.specs.Starts.{NoStateIsADeadEnd};
 ghost use Rattle.wb_kept_progress.specs.Timed.{KeptIsPerformed, KeptKeepsMoments, KeptRequestIsAnswered, KeptTimerLeadsOrIsGivenUp, RequestIsAnswered, TimerLeadsOrIsGivenUp};
 ghost use Rattle.wb_kept_progress.specs.Whole.{SessionsBecomeWhole};
 
@@ -21,12 +22,13 @@ pub fn what_is_missing_can_come()
     ensures comes { MissingCanCome }
 {}
 
-/// No loss is for ever. Each mark of a board comes to be told, by ticks of its host alone. So,
-/// whatever came in before, a drawop that one host lacks and another holds can come, by lines of
-/// the two of which none is refused, and none hands in what was not sent.
+/// No state is a dead end. Each mark of a board comes to be told, by ticks of its host alone. So,
+/// whatever came in before, and whoever started anew, a drawop that one member lacks and another
+/// holds comes by some lines, of which none is refused, and each hands in only what these lines
+/// sent.
 pub fn what_is_lost_can_come()
     ensures told { MarksComeToBeTold }
-    ensures comes { LostCanCome }
+    ensures comes { NoStateIsADeadEnd }
 {}
 
 /// Where hosts, drivers and the network keep to stated times, whatever hosts ask for, give up and
@@ -56,5 +58,4 @@ pub fn kept_hosts_perform_lines()
 pub fn sessions_become_whole()
     ensures whole { SessionsBecomeWhole }
     ensures agree { SessionsAgree }
-    ensures names { NamesMeanOne }
 {}

@@ -16,7 +16,7 @@ is_taken cut l = not (is_short l) || (l.ended || not cut)
 
 -- A handler that goes on after a line that is too long passes over the rest of it, which has fewer bytes than these in all.
 abbrev pub most_passed : ℕ
-most_passed = 2 ^ 64 + 65536
+most_passed = 2 ^ 64 + most_bytes
 
 abbrev pub is_passed : InputLine → Bool
 is_passed l = nat_lt (length l.bytes) most_passed

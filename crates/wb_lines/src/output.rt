@@ -1,6 +1,6 @@
 //! Text that waits to be written.
 ghost use Rattle.std.specs.Prelude.{◌≡◌, ◌<◌, ◌↔◌, [], ◌++◌, true, length, IsTrue, IsOk, OnOk, OnErr};
-ghost use Rattle.wb_lines.specs.Output.{Sends};
+ghost use Rattle.wb_lines.specs.Output.{Sends, most_waiting};
 
 use std::alloc::{AllocError, Global};
 use std::marker::Model;
@@ -49,7 +49,7 @@ impl Output {
 
     /// Whether so much waits that it is to be written.
     pub fn is_long(&self) -> bool
-        ensures { IsTrue result ↔ (65536 < length self.now) }
+        ensures { IsTrue result ↔ (most_waiting < length self.now) }
     {
         self.len() > MOST_WAITING
     }

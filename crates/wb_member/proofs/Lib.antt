@@ -5,4 +5,3 @@ pub mod HeardActs
 pub mod OneArrival
 pub mod NextNumbers
 pub mod SeedWords
-pub mod Unreported

@@ -3,5 +3,7 @@ pub mod Queries
 pub mod Random
 pub mod Members
 pub mod Opened
+pub mod Lines
 pub mod Holding
 pub mod Judged
+pub mod Questions

@@ -1,6 +1,6 @@
 -- A member that was opened with a seed, and what its calls do.
 use Rattle.std.specs.Prelude.{ℕ, ◌+◌, List, [], ◌∷◌, length, Bool, true, false, not, ◌||◌, Option, Some, None, nat_lt, if◌then◌else◌}
-use Rattle.wb_names.specs.Values.{NameValue, DrawopValue}
+use Rattle.wb_names.specs.Values.{NameValue, DrawopValue, greatest_number}
 use Rattle.wb_names.specs.Arrivals.{Outcome, outcome_of}
 use Rattle.wb_names.specs.Faults.{fault_unless}
 use Rattle.wb_names.specs.declared.name.PageId.{PageId}
@@ -172,9 +172,13 @@ pages_known host = known_pages host.is.number host.is.calls host.is.held
 abbrev pub last_number : PageId → Opened → ℕ
 last_number page host = known_number host.is.number host.is.calls host.is.held page host.is.number
 
--- the number of its next drawop on a page: numbers end at 4,294,967,295
+-- the number after the last, where there is one
+abbrev pub number_after : ℕ → Option ℕ
+number_after last = if nat_lt last greatest_number then Some (last + 1) else None
+
+-- the number of its next drawop on a page
 abbrev pub next_number : PageId → Opened → Option ℕ
-next_number page host = if nat_lt (last_number page host) 4294967295 then Some (last_number page host + 1) else None
+next_number page host = number_after (last_number page host)
 
 -- ---- before and after it is open
 

@@ -5,9 +5,9 @@
 //! moments are handed in; datagrams, pages and the next moment come out. It reads no line, starts
 //! no thread and has no clock. A call that is refused, also for want of memory, changes nothing.
 //!
-//! In reading order: `member` opens a member and hands it what comes in, time and questions;
-//! `batches` has others take a batch at its board; `own_board` is the board with its only desk, and
-//! `random` has the words. `specs/Members.antt` says what a member is, and `specs/Opened.antt` what
+//! In reading order: `member` opens a member and hands it what comes in and time; `questions` has
+//! what it is asked; `batches` has others take a batch at its board; `own_board` is the board with
+//! its only desk, and `random` has the words. `specs/Members.antt` says what a member is, and `specs/Opened.antt` what
 //! each call does.
 #![tactic(auto)]
 
@@ -15,7 +15,9 @@ mod batches;
 pub mod laws;
 mod member;
 mod own_board;
+mod questions;
 mod random;
 
 pub use batches::AwaitsBatch;
 pub use member::Member;
+pub use questions::{Answer, Query};

@@ -2,12 +2,13 @@
 use Rattle.std.specs.Prelude.{ℕ, ◌+◌, ◌<◌, ◌≤◌, Bool, true, Option, Some, None, List, length, nat_lt, All, AllPairs, slice_index}
 use Rattle.wb_names.specs.Values.{MarkValue}
 use Rattle.wb_names.specs.declared.echo.Echo.{Echo}
+use Rattle.wb_names.specs.declared.entries.TheConstants.{MAX_ENTRIES}
 
 -- the sources ascend, each number is at least 1, and a count of two bytes can tell how many there are
 pub record AreEntries {E : Type 0} (source : E → ℕ) (IsPositive : E → Type 0) (entries : List E) : Type 0 where
   pub ascending : AllPairs (λ a b. source a < source b) entries
   pub positive : All IsPositive entries
-  pub few : length entries ≤ 65535
+  pub few : length entries ≤ MAX_ENTRIES
 
 abbrev pub AreMarks : List MarkValue → Type 0
 AreMarks = AreEntries (λ (m : MarkValue). m.source) (λ (m : MarkValue). 1 ≤ m.high)

@@ -8,6 +8,8 @@ use Rattle.wb_names.specs.declared.fault.FieldFault.TheVariants.{SeqZero, Coordi
 use Rattle.wb_names.specs.declared.parts.Stroke.{Stroke}
 use Rattle.wb_names.specs.declared.parts.Target.{Target}
 use Rattle.wb_names.specs.declared.parts.Op.{Op}
+use Rattle.wb_names.specs.declared.shape.TheConstants.{MAX_COORDINATE}
+use Rattle.wb_names.specs.declared.text.TheConstants.Text.{MAX_LEN}
 use Rattle.wb_names.specs.declared.parts.Op.TheVariants.{Drawn, Text, Aimed}
 
 -- sequence numbers begin at 1
@@ -15,7 +17,7 @@ abbrev pub seq_fault : ℕ → Option FieldFault
 seq_fault seq = fault_unless (nat_le 1 seq) SeqZero
 
 abbrev pub is_coordinate : ℕ → Bool
-is_coordinate n = nat_le n 4095
+is_coordinate n = nat_le n MAX_COORDINATE
 
 -- a visible character of ASCII, `!` to `~`
 abbrev pub is_glyph : ℕ → Bool
@@ -25,9 +27,9 @@ is_glyph byte = nat_le 0x21 byte && nat_le byte 0x7e
 abbrev pub is_printable : ℕ → Bool
 is_printable byte = nat_le 0x20 byte && nat_le byte 0x7e
 
--- a text has 1 to 64 bytes
+-- a text has a byte at least
 abbrev pub is_text_length : ℕ → Bool
-is_text_length n = nat_le 1 n && nat_le n 64
+is_text_length n = nat_le 1 n && nat_le n MAX_LEN
 
 -- of two corners or ends, and the glyph that is drawn
 abbrev pub stroke_fault : Stroke → Option FieldFault

@@ -3,6 +3,10 @@ use Rattle.std.specs.Prelude.{ℕ}
 use Rattle.wb_names.specs.declared.name.PageId.{PageId}
 use Rattle.wb_names.specs.declared.parts.Op.{Op}
 
+-- the greatest source, creator, number of a page and sequence number: each has 32 bits
+abbrev pub greatest_number : ℕ
+greatest_number = 4294967295
+
 -- the name of a drawop
 pub record NameValue : Type 0 where
   pub source : ℕ

@@ -1,7 +1,7 @@
-//! Laws of the orders of pages and names, and of arrivals. Each function does nothing: its contract
+//! Laws of the orders of pages and names, of arrivals, and of the limits. Each function does nothing: its contract
 //! is a law, for callers to cite.
 
-ghost use Rattle.std.specs.Prelude.{◌≡◌, ℕ, List};
+ghost use Rattle.std.specs.Prelude.{◌≡◌, ◌^◌, ◌-◌, ℕ, List};
 ghost use Rattle.std.specs.Cmp.{IsTotalOrder};
 ghost use Rattle.std.specs.declared.cmp.Ordering.TheVariants.{Equal};
 ghost use Rattle.wb_names.specs.Values.{NameValue, DrawopValue};
@@ -9,6 +9,10 @@ ghost use Rattle.wb_names.specs.History.{IsHistory};
 ghost use Rattle.wb_names.specs.Arrivals.{Outcome, IsTaken, outcome_of, outcomes_of, history_after, Counts, counts_of, IsBatch};
 ghost use Rattle.wb_names.specs.Orders.{page_cmp, name_cmp};
 ghost use Rattle.wb_names.specs.declared.name.PageId.{PageId as PageValue};
+ghost use Rattle.wb_names.specs.declared.entries.TheConstants.{MAX_ENTRIES};
+ghost use Rattle.wb_names.specs.declared.moment.TheConstants.{MOMENT_LIMIT, MAX_MOMENT};
+ghost use Rattle.wb_names.specs.declared.shape.TheConstants.{MAX_COORDINATE};
+ghost use Rattle.wb_names.specs.declared.text.TheConstants.Text.{MAX_LEN};
 
 use crate::name::{Name, PageId};
 
@@ -38,4 +42,13 @@ pub fn arrivals_have_one_answer()
         IsHistory history → IsBatch cells history arrivals after n →
         (after ≡ history_after cells history arrivals) ×
         (n ≡ counts_of (outcomes_of cells history arrivals)) }
+{}
+
+/// The limits: of entries in a list, of moments in microseconds, of coordinates, and of the bytes of
+/// a text.
+pub fn limits()
+    ensures entries { MAX_ENTRIES ≡ 65535 }
+    ensures moments { (MOMENT_LIMIT ≡ 2 ^ 48) × (MAX_MOMENT ≡ 2 ^ 48 - 1) }
+    ensures coordinates { MAX_COORDINATE ≡ 4095 }
+    ensures text { MAX_LEN ≡ 64 }
 {}

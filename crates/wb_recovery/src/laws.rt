@@ -1,6 +1,9 @@
-//! Laws of the timers over any list of accepted calls. Each function does nothing: its contract is
+//! Laws of the timers over any list of accepted calls, and of their limits. Each function does nothing: its contract is
 //! a law, for proofs to cite.
 
+ghost use Rattle.std.specs.Prelude.{◌≡◌, ◌^◌, ◌-◌};
+ghost use Rattle.wb_recovery.specs.declared.fault.TheConstants.{DELAY_LIMIT, MAX_DELAY};
+ghost use Rattle.wb_recovery.specs.declared.tuning.TheConstants.{MAX_CONSTANT};
 ghost use Rattle.wb_recovery.specs.Laws.{RequestStands, AnswerStands, LevelCounts, RequestStays, AnswerStays, QuietStays, DeafStays, QuietIsNotAnswered, UnnamedHasNone};
 
 /// A request timer stands exactly if a notice was made of its name, and the name did not come
@@ -50,4 +53,10 @@ pub fn deaf_is_not_backed_off()
 /// A request of another member for what is quiet sets no answer timer.
 pub fn quiet_is_not_answered()
     ensures { QuietIsNotAnswered }
+{}
+
+/// The limits: of delays in microseconds, and of the constants of the timers.
+pub fn limits()
+    ensures delays { (DELAY_LIMIT ≡ 2 ^ 24) × (MAX_DELAY ≡ 2 ^ 24 - 1) }
+    ensures constants { MAX_CONSTANT ≡ 16 }
 {}

@@ -1,5 +1,5 @@
 -- Two hosts that differ in the order of what they hold, at most: each line prints the same there, and leads to two such hosts.
-use Rattle.std.proofs.Common.{◌≡◌, ℕ, Bool, true, false, cond, List, [], ◌∷◌, length, Option, refl, sym, ap, ap₂, filter, map, nat_lt, filter_map}
+use Rattle.std.proofs.Common.{◌≡◌, ℕ, Bool, true, false, cond, List, [], ◌∷◌, length, Option, Some, None, refl, sym, ap, ap₂, subst, filter, map, nat_lt, filter_map}
 use Rattle.wb_names.specs.Values.{NameValue, DrawopValue, MarkValue}
 use Rattle.wb_names.specs.declared.name.PageId.{PageId}
 use Rattle.wb_names.specs.declared.gap.Gap.{Gap}
@@ -15,12 +15,14 @@ use Rattle.wb_host.specs.Sessions.{echoes_of}
 use Rattle.wb_host.specs.Missing.{wanted, names_in_gaps}
 use Rattle.wb_commands.specs.declared.fault.LineFault.TheVariants as faults
 use Rattle.wb_commands.specs.declared.command.Command.{Command}
-use Rattle.wb_commands.specs.declared.command.Command.TheVariants.{Hear as HearLine, Tick, Look, Session, Show, Gaps, Report, Pages}
-use Rattle.wb_commands.specs.declared.query.Query.{Query}
-use Rattle.wb_commands.specs.declared.query.Query.TheVariants as queries
+use Rattle.wb_commands.specs.declared.command.Command.TheVariants.{Hear as HearLine, Tick, Look, Session, Question}
+use Rattle.wb_commands.specs.Answers.{answer_text}
+use Rattle.wb_host.specs.Known.{pages_heard}
+use Rattle.wb_member.specs.Questions.{Told, answer_to}
+use Rattle.wb_member.specs.declared.questions.Query.{Query}
 use Rattle.wb_member.specs.Members.{calling as told}
 use Rattle.wb_member.specs.Opened.{Opened, present, board_of, events, due_count, sent_by, wanted_of, has_room_for, words_for, word_at}
-use Rattle.wb_commands.specs.Acts.{Act, does, fails, asked, act}
+use Rattle.wb_commands.specs.Acts.{Act, does, fails, tells, asked, act}
 use Rattle.wb_member.specs.Random.{words_of, after_words}
 use Rattle.wb_commands.specs.SentLines.{sends_text, look_line}
 use Rattle.wb_script.proofs.AlikeHistories.{same_holds, same_sent, same_asks, same_gaps, same_report, same_reports, same_answer}
@@ -53,7 +55,12 @@ module _ (host : Opened) (drawops : List DrawopValue) (a : AreAlike host.is.held
   calls_alike call call' words text text' same printed = (refl, ap (λ (c : KeeperCall). calling c words other) (sym same), printed)
 
   asks : (query : Query) → DoAlike host drawops (asked query host) (asked query other)
-  asks query = (refl, refl, same_answer host.is.held drawops a (marks_heard host.is.number host.is.calls) query)
+  asks query = subst (λ (said : Told). DoAlike host drawops (asked query host) (tells other (answer_text said)))
+      (same_answer host.is.held drawops a host.is.number (marks_heard host.is.number host.is.calls) (pages_heard host.is.number host.is.calls) query)
+      (told (answer_text (answer_to query host))) where
+        told : (text : Option (List ℕ)) → DoAlike host drawops (tells host text) (tells other text)
+        told (Some text) = (refl, refl, refl)
+        told None = refl
 
   -- ---- as time goes on
 
@@ -108,10 +115,7 @@ module _ (host : Opened) (drawops : List DrawopValue) (a : AreAlike host.is.held
   )
 
   pub act_alike : (line : Command) → DoAlike host drawops (act line host) (act line other)
-  act_alike (Show page width height) = asks (queries.Canvas page width height)
-  act_alike (Gaps page) = asks (queries.Gaps page)
-  act_alike (Report page) = asks (queries.Report page)
-  act_alike Pages = asks queries.Pages
+  act_alike (Question query) = asks query
   act_alike (HearLine v) = hears v
   act_alike (Tick moment) = ticks moment
   act_alike (Look page) = looks page

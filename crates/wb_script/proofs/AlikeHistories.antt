@@ -1,17 +1,18 @@
 -- Two histories with the same drawops: what a script's lines read off them is the same.
-use Rattle.std.proofs.Common.{◌≡◌, ℕ, Bool, List, [], Option, refl, sym, ap, ◌∙◌, ⊎_elim, eqb-true, Contains, Any, IsPermutation, map, filter, nat_lt, option_map, is_eq, nat_cmp}
+use Rattle.std.proofs.Common.{◌≡◌, ℕ, Bool, List, [], Option, refl, sym, ap, ◌∙◌, ⊎_elim, eqb-true, Contains, Any, IsPermutation, ◌++◌, max, map, filter, nat_lt, option_map, is_eq, nat_cmp}
 use Rattle.std.specs.Cmp.{nat_cmp_total}
 use Rattle.std.specs.declared.cmp.Ordering.TheVariants.{Equal}
 use Rattle.std.proofs.Math.Path.{fun_ext}
 use Rattle.std.proofs.lemmas.List.Sorted.{Contains-permutation, IsPermutation-sym, list_any-IsPermutation}
 use Rattle.wb_names.specs.Values.{NameValue, DrawopValue, MarkValue}
-use Rattle.wb_names.specs.Orders.{same_name, same_page}
+use Rattle.wb_names.specs.Marks.{mark_of}
+use Rattle.wb_names.specs.Orders.{same_name, same_page, page_cmp}
 use Rattle.wb_names.specs.Arrivals.{history_after}
 use Rattle.wb_names.specs.History.{IsHeld, HoldsName, highest}
 use Rattle.wb_names.specs.declared.name.PageId.{PageId}
 use Rattle.wb_names.specs.declared.gap.Gap.{Gap}
 use Rattle.wb_names.proofs.Listings.{Contains-filter, Contains-from_filter, Any-from_map, Contains-map}
-use Rattle.wb_names.proofs.Orders.{nat_ties}
+use Rattle.wb_names.proofs.Orders.{nat_ties, page_total}
 use Rattle.wb_codec.specs.declared.datagram.Datagram.{Datagram}
 use Rattle.wb_codec.specs.declared.datagram.Datagram.TheVariants.{Draw, Request}
 use Rattle.wb_display.specs.Canvas.{canvas_text}
@@ -23,20 +24,25 @@ use Rattle.wb_gaps.proofs.MissingRanges.{gaps_of_page, only_gaps}
 use Rattle.wb_gaps.proofs.PageAnswers.{pages_of_history, only_pages}
 use Rattle.wb_gaps.proofs.Rearranged.{gaps_moved, pages_moved}
 use Rattle.wb_gaps.proofs.Reports.{greatest_held}
+use Rattle.wb_gaps.proofs.Starts.{page_is}
+use Rattle.wb_gaps.specs.Sorting.{sorted}
 use Rattle.wb_recovery.specs.declared.plan.Action.{Action}
 use Rattle.wb_recovery.specs.declared.plan.Action.TheVariants.{Ask, Answer}
 use Rattle.wb_host.specs.Keeper.{holds}
 use Rattle.wb_host.specs.Hearing.{asks_for_held}
 use Rattle.wb_host.specs.Ticks.{drawop_of, sent_for}
 use Rattle.wb_host.proofs.FoundDrawops.{found_member, found_none}
-use Rattle.wb_commands.specs.declared.query.Query.{Query}
-use Rattle.wb_commands.specs.declared.query.Query.TheVariants.{Canvas, Gaps, Report, Pages}
-use Rattle.wb_commands.specs.Answers.{gaps_text, report_text, pages_text, answer_text}
+use Rattle.wb_commands.specs.Answers.{answer_text}
+use Rattle.wb_member.specs.Opened.{number_after}
+use Rattle.wb_member.specs.Questions.{answer_by}
+use Rattle.wb_member.specs.Questions as told
+use Rattle.wb_member.specs.declared.questions.Query.{Query}
+use Rattle.wb_member.specs.declared.questions.Query.TheVariants.{Canvas, Gaps, Report, Pages, View, Known, Next}
 use Rattle.wb_member.specs.Queries.{view_of}
 use Rattle.wb_member.proofs.Queries.{view_of_page}
 use Rattle.wb_script.specs.Laws.{AnswersAreFree, PrintsAreFree}
 use Rattle.wb_script.proofs.FreeArrivals.{AreAlike, found, free_on}
-use Rattle.wb_script.proofs.Members.{Among, same_ascending}
+use Rattle.wb_script.proofs.Members.{Among, among_both, same_ascending}
 
 any_alike : (P : DrawopValue → Type 0) (one other : List DrawopValue) → IsPermutation one other → Any P one → Any P other
 any_alike P one other moved (k, d, lt, is, p) = let c = Contains-permutation one other d moved (k, lt, is) in (c.0, d, c.1, c.2, p)
@@ -44,8 +50,22 @@ any_alike P one other moved (k, d, lt, is, p) = let c = Contains-permutation one
 one_source : (m n : ℕ) → nat_cmp m n ≡ Equal → m ≡ n
 one_source m n tie = eqb-true m n (nat_ties m n ∙ ap is_eq tie)
 
+one_page : (p q : PageId) → page_cmp p q ≡ Equal → p ≡ q
+one_page p q tie = page_is p q (ap is_eq tie)
+
 abbrev source_of : DrawopValue → ℕ
 source_of d = d.name.source
+
+abbrev page_of : DrawopValue → PageId
+page_of d = d.name.page
+
+-- the page of a drawop of the one is that of one of the other
+mapped_among : (one other : List DrawopValue) → IsPermutation one other → Among (map page_of one) (map page_of other)
+mapped_among one other moved page c =
+    let from = Any-from_map page_of one page c in
+    let d : DrawopValue = from.1 in
+    let there = Contains-permutation one other d moved (from.0, from.2, from.3) in
+    Contains-map page_of other page (there.0, d, there.1, there.2, from.4)
 
 abbrev is_on : PageId → DrawopValue → Bool
 is_on page d = same_page d.name.page page
@@ -116,17 +136,28 @@ module _ (one other : List DrawopValue) (a : AreAlike one other) where
 
   -- ---- answers
 
-  pub same_answer : (marks : PageId → List MarkValue) (query : Query) → answer_text marks one query ≡ answer_text marks other query
-  same_answer marks (Canvas page width height) =
-      ap (λ (shown : List DrawopValue). canvas_text shown width height) (converges one other page (view_of one page) (view_of other page) a.moved (view_of_page one page a.once) (view_of_page other page a.again))
-  same_answer marks (Gaps page) = ap (λ (gaps : List Gap). gaps_text gaps) (same_gaps page (marks page))
-  same_answer marks (Report page) = ap (λ (m : List MarkValue). report_text m) (same_report page)
-  same_answer marks Pages = ap (λ (pages : List PageId). pages_text pages) same_pages
+  same_view : (page : PageId) → view_of one page ≡ view_of other page
+  same_view page = converges one other page (view_of one page) (view_of other page) a.moved (view_of_page one page a.once) (view_of_page other page a.again)
+
+  same_known : (heard : List PageId) → sorted page_cmp (map page_of one ++ heard) ≡ sorted page_cmp (map page_of other ++ heard)
+  same_known heard =
+      same_ascending page_total one_page (map page_of one ++ heard) (map page_of other ++ heard)
+      (among_both (map page_of one) (map page_of other) heard heard (mapped_among one other a.moved) (λ page c. c))
+      (among_both (map page_of other) (map page_of one) heard heard (mapped_among other one back) (λ page c. c))
+
+  pub same_answer : (number : ℕ) (marks : PageId → List MarkValue) (heard : List PageId) (query : Query) → answer_by number marks heard one query ≡ answer_by number marks heard other query
+  same_answer number marks heard (Canvas page width height) = ap (λ (shown : List DrawopValue). told.canvas (canvas_text shown width height)) (same_view page)
+  same_answer number marks heard (Gaps page) = ap told.gaps (same_gaps page (marks page))
+  same_answer number marks heard (Report page) = ap told.report (same_report page)
+  same_answer number marks heard Pages = ap told.pages same_pages
+  same_answer number marks heard (View page) = ap told.view (same_view page)
+  same_answer number marks heard Known = ap told.known (same_known heard)
+  same_answer number marks heard (Next page) = ap (λ (high : ℕ). told.next (number_after (max high (mark_of (marks page) number)))) (same_highest page number)
 
 -- ---- laws of what is printed
 
 pub answers_are_free : AnswersAreFree
-answers_are_free marks one other query a b moved = same_answer one other (record { once = a.once; again = b.once; moved = moved }) marks query
+answers_are_free number marks heard one other query a b moved = same_answer one other (record { once = a.once; again = b.once; moved = moved }) number marks heard query
 
 pub prints_are_free : PrintsAreFree
-prints_are_free marks cells ds es query few moved clash room = same_answer (history_after cells [] ds) (history_after cells [] es) (free_on cells cells ds es moved clash room room) marks query
+prints_are_free number marks heard cells ds es query few moved clash room = ap answer_text (same_answer (history_after cells [] ds) (history_after cells [] es) (free_on cells cells ds es moved clash room room) number marks heard query)

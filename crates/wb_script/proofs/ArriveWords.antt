@@ -18,8 +18,8 @@ use Rattle.wb_words.specs.declared.digits_fault.DigitsFault.TheVariants as digit
 use Rattle.wb_commands.specs.declared.fault.LineFault.{LineFault}
 use Rattle.wb_commands.specs.declared.fault.LineFault.TheVariants as faults
 use Rattle.wb_commands.specs.declared.command.Command.{Command}
-use Rattle.wb_commands.specs.declared.command.Command.TheVariants.{Arrive, Skip, Board, Distance, Tune, Tick, Look, Session, Show, Gaps, Report, Pages}
-use Rattle.wb_commands.specs.Parsing.{◌>>=◌, or_fault, number, none_of, one_of, two_of, four_of, page, spelled, datagram, board, arrived, heard, arrive, hear, handed_in, bytes_line, show, distance, tuning, tick, pages, page_line, command, begins_comment, line_of_words, in_words, line_of}
+use Rattle.wb_commands.specs.declared.command.Command.TheVariants.{Arrive, Skip, Board, Distance, Tune, Tick, Look, Session, Question}
+use Rattle.wb_commands.specs.Parsing.{◌>>=◌, or_fault, number, one_of, two_of, four_of, page, spelled, datagram, board, arrived, heard, arrive, hear, handed_in, bytes_line, distance, tuning, tick, question, page_line, command, begins_comment, line_of_words, in_words, line_of}
 use Rattle.wb_script.specs.Script.{Arrival, part_of}
 
 -- ---- the words of a line that ends so
@@ -75,15 +75,6 @@ no_board ws =
     none_then (number 1 8 w.2) _ (λ workers.
     none_then (number 0 (2 ^ 64 - 1) w.3) (λ seed. Ok (Board member cells workers seed)) (λ seed. tt)))))
 
-no_show : (ws : List (List ℕ)) → HandsInNone (show ws)
-unfolding show
-no_show ws =
-    none_then (or_fault faults.Words (four_of ws)) _ (λ w.
-    none_then (number 0 (2 ^ 32 - 1) w.0) _ (λ creator.
-    none_then (number 0 (2 ^ 32 - 1) w.1) _ (λ of_page.
-    none_then (number 1 200 w.2) _ (λ width.
-    none_then (number 1 100 w.3) (λ height. Ok (Show (record { creator = creator; number = of_page }) width height)) (λ height. tt)))))
-
 no_distance : (ws : List (List ℕ)) → HandsInNone (distance ws)
 unfolding distance
 no_distance ws =
@@ -112,13 +103,11 @@ none_heard v = tt
 
 no_page : (word : List ℕ) (ws : List (List ℕ)) → HandsInNone (page_line word ws)
 unfolding page_line
-no_page word ws = at (bytes_eq word (codes "look")) (bytes_eq word (codes "session")) (bytes_eq word (codes "gaps")) (bytes_eq word (codes "report")) where
-  at : (a b c e : Bool) → HandsInNone (cond a (page ws >>= (λ p. Ok (Look p))) (cond b (page ws >>= (λ p. Ok (Session p))) (cond c (page ws >>= (λ p. Ok (Gaps p))) (cond e (page ws >>= (λ p. Ok (Report p))) (Err faults.Unknown)))))
-  at true b c e = none_then (page ws) (λ p. Ok (Look p)) (λ p. tt)
-  at false true c e = none_then (page ws) (λ p. Ok (Session p)) (λ p. tt)
-  at false false true e = none_then (page ws) (λ p. Ok (Gaps p)) (λ p. tt)
-  at false false false true = none_then (page ws) (λ p. Ok (Report p)) (λ p. tt)
-  at false false false false = tt
+no_page word ws = at (bytes_eq word (codes "look")) (bytes_eq word (codes "session")) where
+  at : (a b : Bool) → HandsInNone (cond a (page ws >>= (λ p. Ok (Look p))) (cond b (page ws >>= (λ p. Ok (Session p))) (question word ws >>= (λ query. Ok (Question query)))))
+  at true b = none_then (page ws) (λ p. Ok (Look p)) (λ p. tt)
+  at false true = none_then (page ws) (λ p. Ok (Session p)) (λ p. tt)
+  at false false = none_then (question word ws) (λ query. Ok (Question query)) (λ query. tt)
 
 -- a datagram is one word of digits
 abbrev HasDigits : List (List ℕ) → Type 0
@@ -141,21 +130,19 @@ arrives_with ws then d e = at (datagram ws) refl e where
 has_digits : (word : List ℕ) (ws : List (List ℕ)) (d : DrawopValue) → command word ws ≡ Ok (Arrive d) → HasDigits ws
 unfolding command
 has_digits word ws d e =
-    at (bytes_eq word (codes "board")) (bytes_eq word (codes "arrive")) (bytes_eq word (codes "hear")) (bytes_eq word (codes "datagram")) (bytes_eq word (codes "show")) (bytes_eq word (codes "distance")) (bytes_eq word (codes "tuning")) (bytes_eq word (codes "tick")) (bytes_eq word (codes "pages")) e where
+    at (bytes_eq word (codes "board")) (bytes_eq word (codes "arrive")) (bytes_eq word (codes "hear")) (bytes_eq word (codes "datagram")) (bytes_eq word (codes "distance")) (bytes_eq word (codes "tuning")) (bytes_eq word (codes "tick")) e where
       none : (said : Result Command LineFault) → HandsInNone said → said ≡ Ok (Arrive d) → HasDigits ws
       none said is e = absurd (subst HandsInNone e is)
 
-      at : (a b c h f g t i j : Bool) → cond a (board ws) (cond b (arrive ws) (cond c (hear ws) (cond h (bytes_line ws) (cond f (show ws) (cond g (distance ws) (cond t (tuning ws) (cond i (tick ws) (cond j (pages ws) (page_line word ws))))))))) ≡ Ok (Arrive d) → HasDigits ws
-      at true b c h f g t i j e = none (board ws) (no_board ws) e
-      at false true c h f g t i j e = arrives_with ws arrived d e
-      at false false true h f g t i j e = none (hear ws) (none_then (datagram ws) heard none_heard) e
-      at false false false true f g t i j e = arrives_with ws (λ v. Ok (handed_in v)) d e
-      at false false false false true g t i j e = none (show ws) (no_show ws) e
-      at false false false false false true t i j e = none (distance ws) (no_distance ws) e
-      at false false false false false false true i j e = none (tuning ws) (no_tuning ws) e
-      at false false false false false false false true j e = none (tick ws) (no_tick ws) e
-      at false false false false false false false false true e = none (pages ws) (none_then (or_fault faults.Words (none_of ws)) (λ nothing. Ok Pages) (λ nothing. tt)) e
-      at false false false false false false false false false e = none (page_line word ws) (no_page word ws) e
+      at : (a b c h g t i : Bool) → cond a (board ws) (cond b (arrive ws) (cond c (hear ws) (cond h (bytes_line ws) (cond g (distance ws) (cond t (tuning ws) (cond i (tick ws) (page_line word ws))))))) ≡ Ok (Arrive d) → HasDigits ws
+      at true b c h g t i e = none (board ws) (no_board ws) e
+      at false true c h g t i e = arrives_with ws arrived d e
+      at false false true h g t i e = none (hear ws) (none_then (datagram ws) heard none_heard) e
+      at false false false true g t i e = arrives_with ws (λ v. Ok (handed_in v)) d e
+      at false false false false true t i e = none (distance ws) (no_distance ws) e
+      at false false false false false true i e = none (tuning ws) (no_tuning ws) e
+      at false false false false false false true e = none (tick ws) (no_tick ws) e
+      at false false false false false false false e = none (page_line word ws) (no_page word ws) e
 
 words_arrive : (word : List ℕ) (ws : List (List ℕ)) (d : DrawopValue) → line_of_words (word ∷ ws) ≡ Ok (Arrive d) → HasDigits ws
 words_arrive word ws d e = at (begins_comment word) e where

@@ -11,13 +11,16 @@ use Rattle.wb_commands.specs.declared.fault.LineFault.TheVariants as faults
 use Rattle.wb_script.specs.declared.fault.RunFault.{RunFault}
 use Rattle.wb_script.specs.declared.fault.RunFault.TheVariants as run_faults
 use Rattle.wb_commands.specs.declared.command.Command.{Command}
-use Rattle.wb_commands.specs.declared.command.Command.TheVariants.{Hear, Distance, Tune, Tick, Look, Session, Show}
+use Rattle.wb_commands.specs.declared.command.Command.TheVariants.{Hear, Distance, Tune, Tick, Look, Session, Question}
+use Rattle.wb_member.specs.Questions.{answer_to}
+use Rattle.wb_member.specs.declared.questions.Query.TheVariants.{Canvas}
+use Rattle.wb_commands.specs.Answers.{answer_text}
 use Rattle.wb_script.specs.declared.running.Summary.{Summary}
 use Rattle.wb_commands.specs.SentLines.{sends_text}
 use Rattle.wb_member.specs.Board.{Held}
 use Rattle.wb_member.specs.Opened.{Opened, present, board_of, has_room_for, heard, answered, with_constants, with_delay, ticked, sent_by, looked, reported}
 use Rattle.wb_script.specs.Hosts.{opened, taken, batch_text}
-use Rattle.wb_commands.specs.Acts.{Act, does, fails, act}
+use Rattle.wb_commands.specs.Acts.{Act, does, fails, tells, act}
 use Rattle.wb_member.specs.Holding.{board_after}
 use Rattle.wb_script.specs.Laws.{NoneClash, HasCells}
 use Rattle.wb_commands.specs.Parsing.{line_of}
@@ -71,6 +74,10 @@ act_board (Tick moment) host next printed e = at (nat_lt moment (present host)) 
   at false f = ap board_of (sym (same_host (ticked moment host) next _ printed f))
 act_board (Look page) host next printed e = ap board_of (sym (same_host (looked page host) next _ printed e))
 act_board (Session page) host next printed e = ap board_of (sym (same_host (reported page host) next _ printed e))
+act_board (Question query) host next printed e = at (answer_text (answer_to query host)) e where
+  at : (text : Option (List ℕ)) → tells host text ≡ does next printed → board_of next ≡ board_of host
+  at (Some text) f = ap board_of (sym (same_host host next text printed f))
+  at None f = absurd cc
 act_board line host next printed e = ap board_of (sym (same_host host next _ printed e))
 
 -- the same board, once a batch was taken
@@ -161,7 +168,7 @@ runs n s ds (line ∷ lines) more text sum all h e =
 -- ---- the question at the end
 
 shown_on : (n : ℕ) (k : Option ℕ) (host : Option Opened) (waiting ds : List DrawopValue) (page : PageId) (width height : ℕ) (text : List ℕ) (sum : Summary) → Leads host waiting ds
-    → proceed (n + 1) (part_step (state k host waiting) waiting (End (Acts (Show page width height)))) (λ t. outcome_from false (n + 1) t []) ≡ prints text (Ok sum)
+    → proceed (n + 1) (part_step (state k host waiting) waiting (End (Acts (Question (Canvas page width height))))) (λ t. outcome_from false (n + 1) t []) ≡ prints text (Ok sum)
     → EndsWith text (canvas_text (view_of (history_after (cells_at host 0) [] ds) page) width height)
 shown_on n k None waiting ds page width height text sum h e = absurd (err_end [] text (after_batch (state k None waiting) waiting) sum (run_faults.Line (n + 1) faults.NoBoard) e)
 shown_on n k (Some host) waiting ds page width height text sum h e =
@@ -173,7 +180,7 @@ shown_on n k (Some host) waiting ds page width height text sum h e =
           ∙ ap (λ (l : List DrawopValue). closing ++ canvas_text (view_of l page) width height) h,
     )
 
-shown_at : (n : ℕ) (s : State) (ds : List DrawopValue) (question : List ℕ) (page : PageId) (width height : ℕ) (text : List ℕ) (sum : Summary) (fits : Bool) → fit n (whole_line question) ≡ fits → line_of (strip_carriage_return question) ≡ Ok (Show page width height)
+shown_at : (n : ℕ) (s : State) (ds : List DrawopValue) (question : List ℕ) (page : PageId) (width height : ℕ) (text : List ℕ) (sum : Summary) (fits : Bool) → fit n (whole_line question) ≡ fits → line_of (strip_carriage_return question) ≡ Ok (Question (Canvas page width height))
     → Leads s.host s.waiting ds → outcome_from false n s (whole_line question ∷ []) ≡ prints text (Ok sum)
     → EndsWith text (canvas_text (view_of (history_after (cells_at s.host 0) [] ds) page) width height)
 shown_at n s ds question page width height text sum false f said h e = absurd (err_end [] text s sum run_faults.Endless (sym (too_many false n s (whole_line question) [] f) ∙ e))

@@ -16,6 +16,9 @@ pub mod Simulations
 pub mod OneWorker
 pub mod Members
 pub mod Telling
+pub mod Retold
+pub mod RetoldActs
+pub mod RetoldRuns
 pub mod Lifted
 pub mod ReorderedLines
 pub mod Reordered

@@ -1,5 +1,6 @@
 -- A keeper that was told the names of a batch in one order was told them in every order, and ascending.
 use Rattle.std.proofs.Common.{◌≡◌, ℕ, Bool, true, false, cond, List, [], ◌∷◌, refl, ap, ◌∙◌, sym, subst, arith, true≢false, Contains, IsPermutation, filter, is_eq}
+use Rattle.std.specs.Prelude.{◌↔◌}
 use Rattle.std.specs.declared.cmp.Ordering.TheVariants.{Equal}
 use Rattle.std.proofs.lemmas.List.Folds.{Any-from_list_any, list_any-from_Any}
 use Rattle.std.proofs.lemmas.List.Sorted.{IsPermutation-map, IsPermutation-sym, Contains-permutation, length_permutation}
@@ -47,7 +48,7 @@ comes_here names n c = list_any-from_Any (λ (m : NameValue). same_name m n) nam
 comes_from : (names : List NameValue) (n : NameValue) → comes names n ≡ true → Contains names n
 comes_from names n h = let a = Any-from_list_any (λ (m : NameValue). same_name m n) names h in subst (Contains names) (same_name-is a.1 n a.4) (a.0, a.2, a.3)
 
-comes_alike : (names other : List NameValue) → Among names other → Among other names → (n : NameValue) → comes names n ≡ comes other n
+pub comes_alike : (names other : List NameValue) → Among names other → Among other names → (n : NameValue) → comes names n ≡ comes other n
 comes_alike names other up down n = at (comes names n) (comes other n) refl refl where
   at : (a b : Bool) → comes names n ≡ a → comes other n ≡ b → a ≡ b
   at true false p q = absurd (true≢false (sym (comes_here other n (up n (comes_from names n p))) ∙ q))
@@ -88,6 +89,30 @@ stands_alike me t calls value now names other up down s = record {
 
 -- ---- a member that has taken a batch
 
+-- the names that a batch tells: as the script has them, and ascending, as they were taken
+abbrev SameNames : Opened → List DrawopValue → List DrawopValue → Type 0
+SameNames host batch order =
+    let p : NameValue → Bool = holds (history_after host.is.cells host.is.held order) in
+    Among (filter p (names_of batch)) (sorted name_cmp (filter p (names_of order))) × Among (sorted name_cmp (filter p (names_of order))) (filter p (names_of batch))
+
+pub names_told : (host : Opened) (batch order : List DrawopValue) → IsPermutation batch order → SameNames host batch order
+names_told host batch order moved =
+    let p : NameValue → Bool = holds (history_after host.is.cells host.is.held order) in (
+      λ n c. Contains-sorted name_total (filter p (names_of order)) (λ m k _ _ tie. one_name m k tie) n (names_moved p batch order moved n c),
+      λ n c. names_moved p order batch (IsPermutation-sym batch order moved) n (Contains-from_sorted name_cmp (filter p (names_of order)) n c),
+    )
+
+-- once a batch was taken in this order, and the keeper was told these names
+abbrev telling : Opened → List DrawopValue → List NameValue → Opened
+telling host order names = record { is = record host.is { held = history_after host.is.cells host.is.held order; calls = Arrive (present host) names ∷ host.is.calls }; random = host.random }
+
+told_others : (host : Opened) (order : List DrawopValue) (v : MemberValue) (names other : List NameValue) → Among names other → Among other names → IsOpenAt v (telling host order names) → IsOpenAt v (telling host order other)
+told_others host order v names other up down at =
+    record { board = at.board; keeper = stands_alike host.is.number host.is.constants host.is.calls v.keeper (present host) names other up down at.keeper; words = at.words }
+
+pub opens_alike : (host : Opened) (order : List DrawopValue) (v : MemberValue) (names other : List NameValue) → Among names other → Among other names → IsOpenAt v (telling host order names) ↔ IsOpenAt v (telling host order other)
+opens_alike host order v names other up down = (told_others host order v names other up down, told_others host order v other names down up)
+
 -- that was told the names as they came
 pub settles : (host : Opened) (batch order : List DrawopValue) (v : MemberValue) → IsPermutation batch order → IsOpenAt v (host_after host batch order) → IsOpenAt v (taken order host)
 settles host [] [] v moved at = record { board = at.board; keeper = at.keeper; words = at.words }
@@ -95,16 +120,8 @@ settles host [] (e ∷ es) v moved at = let long = length_permutation [] (e ∷ 
 settles host (d ∷ ds) [] v moved at = let long = length_permutation (d ∷ ds) [] moved in absurd (omega (arith, long))
 settles host (d ∷ ds) (e ∷ es) v moved at =
     let p : NameValue → Bool = holds (history_after host.is.cells host.is.held (e ∷ es)) in
-    let names : List NameValue = filter p (names_of (d ∷ ds)) in
-    let other : List NameValue = filter p (names_of (e ∷ es)) in
-    record {
-      board = at.board;
-      keeper = stands_alike host.is.number host.is.constants host.is.calls v.keeper (present host) names (sorted name_cmp other)
-          (λ n c. Contains-sorted name_total other (λ m k _ _ tie. one_name m k tie) n (names_moved p (d ∷ ds) (e ∷ es) moved n c))
-          (λ n c. names_moved p (e ∷ es) (d ∷ ds) (IsPermutation-sym (d ∷ ds) (e ∷ es) moved) n (Contains-from_sorted name_cmp other n c))
-          at.keeper;
-      words = at.words;
-    }
+    let names = names_told host (d ∷ ds) (e ∷ es) moved in
+    told_others host (e ∷ es) v (filter p (names_of (d ∷ ds))) (sorted name_cmp (filter p (names_of (e ∷ es)))) names.0 names.1 at
 
 -- One that arrives alone is told as it came.
 one_ascending : (b : Bool) (n : NameValue) → sorted name_cmp (cond b (n ∷ []) []) ≡ cond b (n ∷ []) []

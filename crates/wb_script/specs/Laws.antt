@@ -1,24 +1,29 @@
--- Laws of what a script's queries print: each is answered, and has no other answer.
-use Rattle.std.specs.Prelude.{◌≡◌, ℕ, ◌≤◌, List, [], ◌∷◌, ◌++◌, length, Contains, IsPermutation}
+-- Laws of what a script's questions print: each is answered, and has no other answer.
+use Rattle.std.specs.Prelude.{◌≡◌, ◌↔◌, ℕ, ◌≤◌, Bool, List, [], ◌∷◌, ◌++◌, length, Option, Some, Contains, IsPermutation}
 use Rattle.wb_names.specs.Values.{DrawopValue, MarkValue}
 use Rattle.wb_names.specs.History.{IsHistory}
 use Rattle.wb_names.specs.Arrivals.{history_after}
 use Rattle.wb_names.specs.declared.name.PageId.{PageId}
 use Rattle.wb_host.specs.Counts.{MAX_CELLS}
-use Rattle.wb_commands.specs.declared.query.Query.{Query}
 use Rattle.wb_commands.specs.Answers.{answer_text}
 use Rattle.wb_member.specs.Opened.{Opened, batched}
-use Rattle.wb_script.specs.Hosts.{host_after}
+use Rattle.wb_member.specs.Questions.{answer_by}
+use Rattle.wb_member.specs.declared.questions.Query.{Query}
+use Rattle.wb_lines.specs.Input.{InputLine}
+use Rattle.wb_member.specs.Holding.{MemberValue, IsOpenAt}
+use Rattle.wb_script.specs.Hosts.{taken}
+use Rattle.wb_script.specs.Script.{State, Outcome, IsOutcomeFrom}
 
 -- what a board can hold
 pub record IsBoardHistory (history : List DrawopValue) : Type 0 where
   pub once : IsHistory history
   pub few : length history ≤ MAX_CELLS
 
--- Boards that hold the same drawops, whatever the order in which they came, print the same for each question, where the same marks
--- were heard.
+-- Members that hold the same drawops, whatever the order in which they came, answer each question the same, where they have one number
+-- and heard the same.
 abbrev pub AnswersAreFree : Type 0
-AnswersAreFree = (marks : PageId → List MarkValue) (one other : List DrawopValue) (query : Query) → IsBoardHistory one → IsBoardHistory other → IsPermutation one other → answer_text marks one query ≡ answer_text marks other query
+AnswersAreFree = (number : ℕ) (marks : PageId → List MarkValue) (heard : List PageId) (one other : List DrawopValue) (query : Query) → IsBoardHistory one → IsBoardHistory other → IsPermutation one other
+    → answer_by number marks heard one query ≡ answer_by number marks heard other query
 
 -- no two of them are different drawops of one name
 abbrev pub NoneClash : List DrawopValue → Type 0
@@ -36,11 +41,26 @@ BatchesAreOne = (cells : ℕ) (held some more : List DrawopValue) → history_af
 abbrev pub ArrivalsAreFree : Type 0
 ArrivalsAreFree = (cells : ℕ) (arrivals others : List DrawopValue) → IsPermutation arrivals others → NoneClash arrivals → HasCells cells arrivals → IsPermutation (history_after cells [] arrivals) (history_after cells [] others)
 
--- So what a board then prints for a question is the same.
+-- So what is then printed for a question is the same.
 abbrev pub PrintsAreFree : Type 0
-PrintsAreFree = (marks : PageId → List MarkValue) (cells : ℕ) (arrivals others : List DrawopValue) (query : Query) → cells ≤ MAX_CELLS → IsPermutation arrivals others → NoneClash arrivals → HasCells cells arrivals
-    → answer_text marks (history_after cells [] arrivals) query ≡ answer_text marks (history_after cells [] others) query
+PrintsAreFree = (number : ℕ) (marks : PageId → List MarkValue) (heard : List PageId) (cells : ℕ) (arrivals others : List DrawopValue) (query : Query) → cells ≤ MAX_CELLS → IsPermutation arrivals others → NoneClash arrivals → HasCells cells arrivals
+    → answer_text (answer_by number marks heard (history_after cells [] arrivals) query) ≡ answer_text (answer_by number marks heard (history_after cells [] others) query)
 
--- A batch, whoever takes it in whatever order, is one act of the member that the host is.
-abbrev pub BatchesAreActs : Type 0
-BatchesAreActs = (host : Opened) (d : DrawopValue) (ds order : List DrawopValue) → host_after host (d ∷ ds) order ≡ batched (d ∷ ds) order host
+-- ---- what a batch tells the keeper
+
+-- at a host, and no arrivals wait
+abbrev pub at_host : Option ℕ → Opened → State
+at_host workers host = record { host = Some host; workers = workers; waiting = [] }
+
+-- Whatever lines follow, they have the same outcomes from both.
+abbrev pub GoOnAlike : Opened → Opened → Type 0
+GoOnAlike one other = (workers : Option ℕ) (cut : Bool) (n : ℕ) (lines : List InputLine) (o : Outcome) → IsOutcomeFrom cut n (at_host workers one) lines o ↔ IsOutcomeFrom cut n (at_host workers other) lines o
+
+-- The keeper of the one holds what that of the other does, and both print the same.
+pub record IsSameTold (one other : Opened) : Type 0 where
+  pub keeper : (v : MemberValue) → IsOpenAt v one ↔ IsOpenAt v other
+  pub outcomes : GoOnAlike one other
+
+-- A batch that is taken in some order is the act of a member that takes it so and tells its keeper the names as the script has them.
+abbrev pub BatchesAreToldAsSaid : Type 0
+BatchesAreToldAsSaid = (host : Opened) (d : DrawopValue) (ds order : List DrawopValue) → IsPermutation (d ∷ ds) order → IsSameTold (batched (d ∷ ds) order host) (taken order host)

@@ -7,7 +7,7 @@ use Rattle.wb_script.specs.declared.fault.RunFault.{RunFault}
 use Rattle.wb_script.specs.declared.fault.RunFault.TheVariants as run_faults
 use Rattle.wb_script.specs.declared.running.Summary.{Summary}
 use Rattle.wb_commands.specs.declared.command.Command.{Command}
-use Rattle.wb_commands.specs.declared.command.Command.TheVariants.{Skip, Board, Arrive, Hear, Distance, Tune, Tick, Look, Session, Show, Gaps, Report, Pages}
+use Rattle.wb_commands.specs.declared.command.Command.TheVariants.{Skip, Board, Arrive, Hear, Distance, Tune, Tick, Look, Session, Question}
 use Rattle.wb_lines.specs.Input.{InputLine, input_lines, content, most_bytes, BeginsWith}
 use Rattle.wb_member.specs.Opened.{Opened, board_of, by_host}
 use Rattle.wb_script.specs.Hosts.{opened, taken, batch_text}
@@ -75,10 +75,7 @@ part_of (Ok (Tune constants)) = End (Acts (Tune constants))
 part_of (Ok (Tick moment)) = End (Acts (Tick moment))
 part_of (Ok (Look page)) = End (Acts (Look page))
 part_of (Ok (Session page)) = End (Acts (Session page))
-part_of (Ok (Show page width height)) = End (Acts (Show page width height))
-part_of (Ok (Gaps page)) = End (Acts (Gaps page))
-part_of (Ok (Report page)) = End (Acts (Report page))
-part_of (Ok Pages) = End (Acts Pages)
+part_of (Ok (Question query)) = End (Acts (Question query))
 part_of (Err e) = End (Faulty e)
 
 abbrev pub part_in : InputLine → Part

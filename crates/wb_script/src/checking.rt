@@ -2,6 +2,7 @@
 ghost use Rattle.std.specs.Prelude.{◌≡◌, ◌≢◌, ◌≤◌, List, ℕ, true, length, IfOk, Err, Some};
 ghost use Rattle.wb_lines.specs.Driving.{Gave};
 ghost use Rattle.wb_script.specs.Checking.{Checks, CountsLines, IsCounted, fault_of};
+ghost use Rattle.wb_script.specs.Script.{most_lines};
 
 use crate::fault::RunFault;
 use crate::said::MAX_LINES;
@@ -70,7 +71,7 @@ impl Handler for Checker {
 
 /// Why a check stops, by why its driver does.
 fn fault_of(fault: DriveFault<LineFault>) -> RunFault
-    requires { IsCounted 1048576 fault }
+    requires { IsCounted most_lines fault }
     ensures { result ≡ fault_of fault }
 {
     match fault {
@@ -90,7 +91,7 @@ pub fn check<R: Source>(alloc: Global, source: &mut R) -> Result<u32, RunFault>
         × Gave (R.left source.old) (R.left source.new) (R.has_failed source.new) input
         × Checks (R.has_failed source.new) input result }
     ensures counts { CountsLines }
-    ensures few { IfOk result (λ lines. lines ≤ 1048576) }
+    ensures few { IfOk result (λ lines. lines ≤ most_lines) }
     ensures read { result ≡ Err RunFault.Read → R.has_failed source.new ≡ true }
     ensures write { result ≢ Err RunFault.Write }
 {

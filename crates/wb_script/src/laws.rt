@@ -3,7 +3,7 @@
 
 ghost use Rattle.wb_gaps.specs.Laws.{GapsOfPage, OnlyGaps, ReportOfPage, OnlyReport, PagesOfHistory, OnlyPages};
 ghost use Rattle.wb_member.specs.Queries.{ViewOfPage, OnlyView};
-ghost use Rattle.wb_script.specs.Laws.{AnswersAreFree, BatchesAreActs, BatchesAreOne, ArrivalsAreFree, PrintsAreFree};
+ghost use Rattle.wb_script.specs.Laws.{AnswersAreFree, BatchesAreToldAsSaid, BatchesAreOne, ArrivalsAreFree, PrintsAreFree};
 ghost use Rattle.wb_script.specs.Reordering.{WorkersAreOneThread, EachReorderingIsOutcome};
 ghost use Rattle.wb_script.specs.Shows.{ShowsArrivals, ShowsAreFree};
 ghost use Rattle.wb_script.specs.ScriptLaws.{RefusedStays, PrintedStays, SkippedPrintsNothing, CountsAddUp, HeldStays, OneThreadIsOutcome, OneWorkerIsOneThread, OneThreadIsFree};
@@ -41,9 +41,11 @@ pub fn arrivals_are_free()
     ensures prints { PrintsAreFree }
 {}
 
-/// A batch is one act of the member that a host is: it takes the batch in the order of its workers.
-pub fn batches_are_acts()
-    ensures { BatchesAreActs }
+/// A batch is one act of the member that a host is: it takes the batch in the order of its workers,
+/// and tells its keeper the names in the order of the script. The host of a run holds the same
+/// then, and whatever follows prints the same.
+pub fn batches_are_told_as_said()
+    ensures { BatchesAreToldAsSaid }
 {}
 
 /// A script that shows a page at its end prints the canvas of all its arrivals, of whatever

@@ -5,6 +5,7 @@ ghost use Rattle.wb_lines.specs.Driving.{Gave};
 ghost use Rattle.wb_script.specs.Checking.{IsCounted};
 ghost use Rattle.wb_script.specs.Inside.Ending.{ended_by};
 ghost use Rattle.wb_script.specs.Runs.{Runs};
+ghost use Rattle.wb_script.specs.Script.{most_lines};
 
 use crate::driving::take_lines;
 use crate::fault::RunFault;
@@ -30,7 +31,7 @@ pub struct Summary {
 
 /// Why a run stops, by why its driver does, and whether a thread was refused.
 fn ended_by(refused: bool, fault: DriveFault<LineFault>) -> RunFault
-    requires { IsCounted 1048576 fault }
+    requires { IsCounted most_lines fault }
     ensures { result ≡ ended_by refused fault }
 {
     match fault {

@@ -72,8 +72,6 @@ fn take_all<T: Threads + Wait + Sync, S: Arrivals, G: Gate + Sync>(
         arrivals,
         place.gate,
     );
-    // The number of its rows says, for the proof alone, that the desk is sound.
-    let _sound = desk.rows_left();
     match taken {
         Ok((batch, drawops)) => {
             let member = awaits.take_back(place.alloc, board, desk, &drawops)?;

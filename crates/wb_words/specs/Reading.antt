@@ -4,6 +4,7 @@ use Rattle.std.specs.Str.{bytes_eq}
 use Rattle.wb_names.specs.Values.{NameValue, DrawopValue, MarkValue}
 use Rattle.wb_names.specs.Drawing.{seq_fault, op_fault}
 use Rattle.wb_names.specs.Kinds.{kind_with}
+use Rattle.wb_names.specs.declared.entries.TheConstants.{MAX_ENTRIES}
 use Rattle.wb_names.specs.declared.shape.TheConstants.{MAX_COORDINATE}
 use Rattle.wb_names.specs.declared.name.PageId.{PageId}
 use Rattle.wb_names.specs.declared.fault.FieldFault.{FieldFault}
@@ -161,14 +162,14 @@ drawop_at ws = do
   word ← word_at 6 time.1
   op_at name time.0 word.0 word.1
 
--- ---- lists: at most 65,535 entries, each source above the one before it
+-- ---- lists: not too many entries, each source above the one before it
 
 -- entries up to a word at which they stop, of which n have been read
 unfoldable pub entries_at : {X : Type 0} → (ℕ → Option ℕ → List ℕ → Result X WrongWord) → (X → ℕ) → (List ℕ → Bool) → ℕ → ℕ → Option ℕ → List (List ℕ) → Result (List X) WrongWord
 entries_at entry_at source stops place n before [] = Ok []
 entries_at entry_at source stops place n before (w ∷ ws) =
     if stops w then Ok []
-    else (require (nat_lt n 65535) place faults.TooMany w >>= λ word.
+    else (require (nat_lt n MAX_ENTRIES) place faults.TooMany w >>= λ word.
     entry_at place before word >>= λ entry.
     entries_at entry_at source stops (place + 1) (n + 1) (Some (source entry)) ws >>= λ others.
     Ok (entry ∷ others))

@@ -1,7 +1,8 @@
 //! Lists of entries, as marks and echoes are, from words and to words.
 
-ghost use Rattle.std.specs.Prelude.{◌≡◌, ◌≤◌, ◌∷◌, ◌++◌, ℕ, Bool, true, false, List, Option, Result, None, IfOk, OnOk, option_map, map};
+ghost use Rattle.std.specs.Prelude.{◌≡◌, ◌+◌, ◌≤◌, ◌∷◌, ◌++◌, ℕ, Bool, true, false, List, Option, Result, None, IfOk, OnOk, option_map, map};
 ghost use Rattle.wb_names.specs.Ascending.{is_above as above};
+ghost use Rattle.wb_names.specs.declared.entries.TheConstants.{MAX_ENTRIES};
 ghost use Rattle.wb_words.specs.declared.fault.WrongWord.{WrongWord as WrongWordValue};
 ghost use Rattle.wb_words.specs.Words.{echo_in as echo_in_word};
 ghost use Rattle.wb_words.specs.Rests.{words_left};
@@ -127,7 +128,7 @@ pub(crate) fn entries_of<E: Worded>(
     place: u32,
     rest: Rest<'_>,
 ) -> Result<Entries<E>, WordsFault>
-    requires { place ≤ 65540 }
+    requires { place ≤ MAX_ENTRIES + 5 }
     ensures { MayGive (λ entries. entries) result
         (entries_at E.entry_at E.source E.stops place 0 None (words_left rest.entry)) }
 {

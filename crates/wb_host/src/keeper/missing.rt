@@ -20,9 +20,6 @@ use wb_gaps::Missing;
 use wb_names::{Gap, Name, PageId};
 
 impl Keeper {
-    /// The number of request timers up to which `missing` wants names.
-    pub const MOST_ASKS: usize = 64;
-
     /// The names of a page that are missing and for which no request timer stands, ascending, at
     /// most as many as bring the standing request timers to 64. A name is missing up to the
     /// greatest number of its source that the desk then has or that was heard. It reads the history

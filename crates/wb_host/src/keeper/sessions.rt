@@ -11,7 +11,7 @@ ghost use Rattle.wb_host.specs.Desks.{ReadsOn};
 ghost use Rattle.wb_host.specs.Keeper.{KeeperCall, Report};
 ghost use Rattle.wb_host.specs.Keeping.{StandsFor, Keeps};
 ghost use Rattle.wb_host.specs.KeepFaults.{moment_fault, IsKeptBy};
-ghost use Rattle.wb_host.specs.Sessions.{echoes_at, message_of};
+ghost use Rattle.wb_host.specs.Sessions.{echoes_at, echoes_of, message_of};
 ghost use Rattle.wb_host.specs.declared.keep_fault.KeepFault.TheVariants.{Memory};
 
 use crate::board::Board;
@@ -61,10 +61,14 @@ impl Keeper {
         })
     }
 
-    /// The echoes at a moment.
-    fn echoes(&self, alloc: Global, now: u64) -> Result<Echoes, AllocError>
+    /// An echo to each member whose session messages are remembered, ascending, as a session message
+    /// of this moment has them. The moment is in microseconds.
+    pub fn echoes(&self, alloc: Global, now: u64) -> Result<Echoes, AllocError>
         ensures ordered { IsStrictlySortedBy nat_cmp (keys_of self.now.heard) }
         ensures echoes { IfOk result (λ echoes. echoes ≡ echoes_at now self.now.heard) }
+        ensures value { IfOk result (λ echoes. (me : ℕ) (constants : Constants)
+            (calls : List KeeperCall) → StandsFor me constants calls self.now →
+            echoes ≡ echoes_of me calls now) }
     {
         let heard = self.heard_echoes(alloc, now)?;
         match Echoes::new(heard) {

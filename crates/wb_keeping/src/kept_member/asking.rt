@@ -1,28 +1,23 @@
 //! What a member that keeps itself asks for.
 ghost use Rattle.std.specs.Prelude.{◌≡◌, ◌≤◌, ◌<◌, ◌^◌, ◌∷◌, [], IfOk, OnErr, OnOk, IfSome, filter, length, nat_lt};
 ghost use Rattle.wb_recovery.specs.Delays.{IsDelay};
-ghost use Rattle.wb_keeping.specs.Kept.{Asks, and_then, end, ends_full, is_begun, is_unasked, learned, near_names, paid_for, performs, stops_oldest, turn, usual_lines, want, want_near, want_told};
+ghost use Rattle.wb_keeping.specs.Kept.{Asks, and_then, end, ends_full, is_begun, is_unasked, learned, near_names, paid_for, performs, stops_one, turn, want, want_near, want_told};
 ghost use Rattle.wb_recovery.specs.Events.{timers_of};
 ghost use Rattle.wb_member.specs.Opened.{events};
 ghost use Rattle.wb_keeping.specs.Performing.{DoesQuietly, IsKeptAt, Keeping, LeavesSome, asked_with, sees, view_of};
-ghost use Rattle.wb_keeping.specs.Policy.{holds, is_asked, is_full, level};
-ghost use Rattle.wb_keeping.specs.Wanting.{oldest};
-ghost use Rattle.wb_keeping.specs.Steps.{makes_room, performs_all, set_lines, turn_again, want_in};
+ghost use Rattle.wb_keeping.specs.Policy.{holds, is_asked, is_full, is_known, level};
+ghost use Rattle.wb_keeping.specs.Wanting.{giving_way};
+ghost use Rattle.wb_keeping.specs.Steps.{lends_for, lent_at, makes_room, performs_all, turn_again, want_in};
 ghost use Rattle.wb_names.specs.History.{highest};
 
 use crate::choices::near_names;
+use crate::distances::UNKNOWN;
 use crate::kept_member::KeptMember;
 use crate::turns::Turns;
-use crate::wanting::{AskedName, Candidate, oldest};
+use crate::wanting::{AskedName, Candidate, giving_way};
 use std::alloc::{AllocError, Global};
 use wb_gaps::Hole;
 use wb_names::Name;
-
-/// The most request timers that stand.
-const TIMERS: usize = 64;
-
-/// The distance to a source that told none, in microseconds.
-const FIRST_DISTANCE: u64 = 100_000;
 
 impl KeptMember {
     /// A name is wanted; its timer may start anew where somebody says that he holds it, or it has
@@ -40,29 +35,25 @@ impl KeptMember {
     {
         let now = self.member.moment();
         let candidate = self.candidate(name);
-        let usual = self.usual_to(name);
+        let lent = self.lent_to(name.source());
         if !self.policy.want(&candidate, may_start_anew, now) {
             return Ok(false);
         }
-        self.begin(alloc, name, usual)?;
+        self.begin(alloc, name, lent)?;
         Ok(true)
     }
 
-    /// It begins to ask for a name, at the usual distance, where there is one to set. Before that
-    /// there is room for its timer.
-    fn begin(&mut self, alloc: Global, name: &Name, usual: Option<u64>) -> Result<(), AllocError>
-        requires { IfSome usual IsDelay }
-        ensures does { OnOk result
-            (DoesQuietly (and_then (makes_room name.now) (and_then (performs_all
-            (set_lines name.now.source usual)) (performs (Asks name.now)))) self.old self.new) }
-        ensures left { OnErr result
-            (LeavesSome (and_then (makes_room name.now)
-            (and_then (performs_all (set_lines name.now.source usual)) (performs (Asks name.now))))
-            self.old self.new) }
+    /// It begins to ask for a name, by a distance that is lent, where there is one to lend. Before
+    /// that there is room for its timer.
+    fn begin(&mut self, alloc: Global, name: &Name, lent: Option<u64>) -> Result<(), AllocError>
+        requires { IfSome lent IsDelay }
+        ensures does { OnOk result (DoesQuietly (and_then (makes_room name.now)
+            (lends_for name.now.source lent (Asks name.now))) self.old self.new) }
+        ensures left { OnErr result (LeavesSome (and_then (makes_room name.now)
+            (lends_for name.now.source lent (Asks name.now))) self.old self.new) }
     {
         self.make_room(alloc, name)?;
-        self.set_usual(name, usual)?;
-        self.ask(alloc, name)?;
+        self.ask_by(alloc, name, lent)?;
         Ok(())
     }
 
@@ -72,14 +63,25 @@ impl KeptMember {
             result.is_held ≡ holds (view_of k.host) name.now }
         ensures full { (k : Keeping) → IsKeptAt self.now k →
             result.is_full ≡ is_full (view_of k.host) }
+        ensures known { (k : Keeping) → IsKeptAt self.now k →
+            result.is_known ≡ is_known (view_of k.host) name.now.source }
         ensures level { (k : Keeping) → IsKeptAt self.now k →
             result.level ≡ level (view_of k.host) name.now }
     {
         Candidate {
             is_held: self.member.holds(name),
             is_full: self.member.is_full(),
+            is_known: self.is_known(name.source()),
             level: self.level(name),
         }
+    }
+
+    /// Whether a source told its distance.
+    fn is_known(&self, source: u32) -> bool
+        ensures { (k : Keeping) → IsKeptAt self.now k →
+            result ≡ is_known (view_of k.host) source }
+    {
+        self.member.delay(source) != UNKNOWN
     }
 
     /// How often the timer of a name was backed off, where one stands.
@@ -97,19 +99,20 @@ impl KeptMember {
         self.level(name).is_some()
     }
 
-    /// The usual distance, where the one to the source of a name is still the first.
-    fn usual_to(&self, name: &Name) -> Option<u64>
-        ensures lines { (k : Keeping) → IsKeptAt self.now k → set_lines name.now.source result ≡
-            usual_lines name.now.source ((view_of k.host).distance name.now.source) k.policy.usual }
+    /// The usual distance, where a source told none.
+    pub(super) fn lent_to(&self, source: u32) -> Option<u64>
+        ensures lent { (k : Keeping) → IsKeptAt self.now k →
+            result ≡ lent_at ((view_of k.host).distance source) k.policy.usual }
         ensures near { IfSome result IsDelay }
     {
-        if self.member.delay(name.source()) != FIRST_DISTANCE {
-            return None;
+        if self.member.delay(source) == UNKNOWN {
+            Some(self.policy.usual())
+        } else {
+            None
         }
-        self.policy.usual()
     }
 
-    /// Stops the timer of a name that is asked for, and else the oldest timer, where 64 stand.
+    /// Stops the timer of a name that is asked for, and else the timer that gives way to another.
     fn make_room(&mut self, alloc: Global, name: &Name) -> Result<(), AllocError>
         ensures does { OnOk result (DoesQuietly (makes_room name.now) self.old self.new) }
         ensures err { OnErr result (self.new ≡ self.old) }
@@ -118,20 +121,17 @@ impl KeptMember {
             self.stop(name);
             return Ok(());
         }
-        if self.member.asks() < TIMERS {
-            return Ok(());
-        }
         let asked = self.asked(alloc)?;
-        self.stop_oldest(&asked);
+        self.stop_one(&asked);
         Ok(())
     }
 
-    /// Stops the oldest of some timers, where there is one.
-    fn stop_oldest(&mut self, asked: &[AskedName])
-        ensures { DoesQuietly (performs_all (stops_oldest (oldest asked.now))) self.old self.new }
+    /// Stops the one of some timers that gives way to another, where one does.
+    fn stop_one(&mut self, asked: &[AskedName])
+        ensures { DoesQuietly (performs_all (stops_one (giving_way asked.now))) self.old self.new }
     {
-        if let Some(oldest) = oldest(asked) {
-            self.stop(&oldest.name);
+        if let Some(old) = giving_way(asked) {
+            self.stop(&old.name);
         }
     }
 
@@ -209,7 +209,7 @@ impl KeptMember {
         near_names(alloc, name, top)
     }
 
-    /// What was asked for costs nothing.
+    /// What was asked for pays.
     fn pay(&mut self, was_asked: bool)
         ensures member { self.new.member ≡ self.old.member }
         ensures policy { self.new.policy ≡ paid_for was_asked self.old.policy }

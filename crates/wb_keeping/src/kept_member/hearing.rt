@@ -1,10 +1,9 @@
 //! What a member that keeps itself does with a datagram that came in.
-ghost use Rattle.std.specs.Prelude.{◌≡◌, ◌≤◌, ◌<◌, ◌∷◌, ◌||◌, [], ℕ, false, IfOk, OnErr, OnOk};
+ghost use Rattle.std.specs.Prelude.{◌≡◌, ◌≤◌, ◌<◌, ◌∷◌, ◌||◌, [], ℕ, IfOk, OnErr, OnOk, if◌then◌else◌};
 ghost use Rattle.wb_codec.specs.declared.datagram.Datagram.TheVariants.{PageState, Session};
-ghost use Rattle.wb_host.specs.Hearing.{asks_for_pages};
 ghost use Rattle.wb_member.specs.Holding.{outcome_in};
 ghost use Rattle.wb_member.specs.Opened.{becomes};
-ghost use Rattle.wb_keeping.specs.Kept.{Hears, hears, hears_session, hears_some, hears_state, measures, of_other, performs, takes, takes_question};
+ghost use Rattle.wb_keeping.specs.Kept.{Hears, hears, hears_request, hears_session, hears_some, hears_state, measures, of_other, performs, takes, takes_question};
 ghost use Rattle.wb_keeping.specs.Performing.{DoesQuietly, IsKeptAt, Keeping, LeavesSome, view_of};
 ghost use Rattle.wb_keeping.specs.Policy.{holds, is_full};
 ghost use Rattle.wb_keeping.specs.Refusing.{came_as};
@@ -46,7 +45,7 @@ impl KeptMember {
                 page,
                 marks,
             } => self.hears_state(alloc, *sender, *page, marks)?,
-            Datagram::Request { asker, .. } => self.hears_request(alloc, *asker, datagram)?,
+            Datagram::Request { asker, name } => self.hears_request(alloc, *asker, *name)?,
             Datagram::AskPages { asker } => self.takes_question(*asker),
         }
         Ok(None)
@@ -181,23 +180,34 @@ impl KeptMember {
         Ok(())
     }
 
-    /// A request came. Another member's is heard.
-    fn hears_request(
-        &mut self,
-        alloc: Global,
-        asker: u32,
-        request: &Datagram,
-    ) -> Result<(), AllocError>
-        requires { (me : ℕ) → asks_for_pages me request.now ≡ false }
+    /// A request came. Another member's is heard: of a name that is held by the distance to the
+    /// asker, and of another by that to its source. The usual one is lent, where that is unknown.
+    fn hears_request(&mut self, alloc: Global, asker: u32, name: Name) -> Result<(), AllocError>
         ensures does { OnOk result
-            (DoesQuietly (of_other asker (performs (Hears request.now))) self.old self.new) }
-        ensures err { OnErr result (self.new ≡ self.old) }
+            (DoesQuietly (of_other asker (hears_request asker name)) self.old self.new) }
+        ensures left { OnErr result
+            (LeavesSome (of_other asker (hears_request asker name)) self.old self.new) }
     {
         if asker == self.member.me() {
             return Ok(());
         }
-        self.hear(alloc, request)?;
+        let source = self.answered_to(asker, &name);
+        let lent = self.lent_to(source);
+        let request = Datagram::Request { asker, name };
+        self.hear_by(alloc, &request, source, lent)?;
         Ok(())
+    }
+
+    /// Whose distance counts where a name is asked for: the asker's, if it is held.
+    fn answered_to(&self, asker: u32, name: &Name) -> u32
+        ensures { (k : Keeping) → IsKeptAt self.now k → result ≡
+            (if holds (view_of k.host) name.now then asker else name.now.source) }
+    {
+        if self.member.holds(name) {
+            asker
+        } else {
+            name.source()
+        }
     }
 
     /// A member asks for pages: another one's question is taken up.

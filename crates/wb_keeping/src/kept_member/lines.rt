@@ -8,8 +8,9 @@ ghost use Rattle.wb_member.specs.Holding.{outcome_in};
 ghost use Rattle.wb_member.specs.Opened.{becomes};
 ghost use Rattle.wb_keeping.specs.Kept.{Arrives, Asks, Hears, Says, SetsDistance, Stops, Ticks, performs};
 ghost use Rattle.wb_keeping.specs.Performing.{Does, DoesQuietly, IsKeptAt, Keeping, LeavesSome};
-ghost use Rattle.wb_keeping.specs.Steps.{performs_all, set_lines};
+ghost use Rattle.wb_keeping.specs.Steps.{back_lines, lends_for, performs_all, set_lines};
 
+use crate::distances::UNKNOWN;
 use crate::kept_member::KeptMember;
 use std::alloc::{AllocError, Global};
 use wb_codec::Datagram;
@@ -95,20 +96,77 @@ impl KeptMember {
         }
     }
 
-    /// The distance to the source of a name is set to this one, where there is one.
-    pub(super) fn set_usual(&mut self, name: &Name, usual: Option<u64>) -> Result<(), AllocError>
-        requires { IfSome usual IsDelay }
+    /// A distance is lent to a source, where there is one to lend.
+    pub(super) fn lend(&mut self, source: u32, lent: Option<u64>) -> Result<(), AllocError>
+        requires { IfSome lent IsDelay }
         ensures does { OnOk result
-            (DoesQuietly (performs_all (set_lines name.now.source usual)) self.old self.new) }
+            (DoesQuietly (performs_all (set_lines source lent)) self.old self.new) }
         ensures err { OnErr result (self.new ≡ self.old) }
     {
-        match usual {
+        match lent {
             Some(micros) => {
-                self.set_distance(name.source(), micros)?;
+                self.set_distance(source, micros)?;
                 Ok(())
             }
             None => Ok(()),
         }
+    }
+
+    /// It is taken back: the source is unknown again.
+    pub(super) fn take_back(&mut self, source: u32, lent: Option<u64>) -> Result<(), AllocError>
+        ensures does { OnOk result
+            (DoesQuietly (performs_all (back_lines source lent)) self.old self.new) }
+        ensures err { OnErr result (self.new ≡ self.old) }
+    {
+        match lent {
+            Some(_micros) => {
+                self.set_distance(source, UNKNOWN)?;
+                Ok(())
+            }
+            None => Ok(()),
+        }
+    }
+
+    /// It begins to ask for a name, to whose source this distance is lent, where there is one.
+    pub(super) fn ask_by(
+        &mut self,
+        alloc: Global,
+        name: &Name,
+        lent: Option<u64>,
+    ) -> Result<(), AllocError>
+        requires { IfSome lent IsDelay }
+        ensures does { OnOk result
+            (DoesQuietly (lends_for name.now.source lent (Asks name.now)) self.old self.new) }
+        ensures left { OnErr result
+            (LeavesSome (lends_for name.now.source lent (Asks name.now)) self.old self.new) }
+    {
+        let source = name.source();
+        self.lend(source, lent)?;
+        self.ask(alloc, name)?;
+        self.take_back(source, lent)?;
+        Ok(())
+    }
+
+    /// A datagram is heard that is no question for pages, while this distance is lent to a source,
+    /// where there is one.
+    pub(super) fn hear_by(
+        &mut self,
+        alloc: Global,
+        datagram: &Datagram,
+        source: u32,
+        lent: Option<u64>,
+    ) -> Result<(), AllocError>
+        requires request { (me : ℕ) → asks_for_pages me datagram.now ≡ false }
+        requires lent { IfSome lent IsDelay }
+        ensures does { OnOk result
+            (DoesQuietly (lends_for source lent (Hears datagram.now)) self.old self.new) }
+        ensures left { OnErr result
+            (LeavesSome (lends_for source lent (Hears datagram.now)) self.old self.new) }
+    {
+        self.lend(source, lent)?;
+        self.hear(alloc, datagram)?;
+        self.take_back(source, lent)?;
+        Ok(())
     }
 
     /// A drawop of its own is taken, and then sent, unless its name means another one or the board

@@ -1,11 +1,11 @@
 //! What a member that keeps itself tells others as time goes on.
 ghost use Rattle.std.specs.Prelude.{◌≡◌, ◌≤◌, ◌<◌, ◌+◌, ◌*◌, ◌++◌, ◌∷◌, [], IfOk, OnErr, OnOk, length, map, take};
 ghost use Rattle.wb_gaps.specs.Answers.{pages_of, report_of};
-ghost use Rattle.wb_keeping.specs.Kept.{answers, asks_pages, reports, reports_due, reports_page, state_of, still, timed};
+ghost use Rattle.wb_keeping.specs.Kept.{answers, asks_pages, reports, reports_due, reports_next, reports_page, state_of, still, timed};
 ghost use Rattle.wb_keeping.specs.Performing.{Does, DoesQuietly, IsKeptAt, Keeping, LeavesSome, view_of};
-ghost use Rattle.wb_keeping.specs.Reports.{slice_after};
+ghost use Rattle.wb_keeping.specs.Reports.{page_after, rest_after, slice_after};
 
-use crate::choices::{last_heard, last_source, slice_of};
+use crate::choices::{last_heard, last_source, slice_of, until_in};
 use crate::kept_member::KeptMember;
 use crate::kept_member::lines::send;
 use crate::reports::{members, page_after};
@@ -108,35 +108,83 @@ impl KeptMember {
         Ok(())
     }
 
-    /// It reports the rest of the page that was told last, or the next page.
+    /// It reports the rest of the page that is told, or the next page.
     fn reports(&mut self, alloc: Global, sent: &mut Vec<Datagram>) -> Result<(), AllocError>
         ensures does { OnOk result (Does reports self.old self.new sent.old.items sent.new.items) }
         ensures left { OnErr result (LeavesSome reports self.old self.new) }
     {
-        let (told_page, told) = self.policy.told();
-        let rest = self.slice(alloc, told_page, told)?;
-        if !rest.as_slice().is_empty() {
-            self.reports_page(alloc, sent, told_page, rest)?;
+        let told = self.policy.told();
+        let until = self.policy.until();
+        let rest = self.rest(alloc)?;
+        if rest.as_slice().is_empty() {
+            self.reports_next(alloc, sent)?;
             return Ok(());
         }
-        let pages = self.member.pages(alloc)?;
-        let page = page_after(told_page, &pages);
-        let first = self.slice(alloc, page, None)?;
-        self.reports_page(alloc, sent, page, first)?;
+        self.reports_page(alloc, sent, told.0, until, rest)?;
         Ok(())
     }
 
-    /// It reports these marks of a page.
+    /// The next marks of the page that is told: none where its telling has ended.
+    fn rest(&mut self, alloc: Global) -> Result<Marks, AllocError>
+        ensures same { self.new ≡ self.old }
+        ensures rest { IfOk result (λ rest. (k : Keeping) → IsKeptAt self.old k →
+            rest ≡ rest_after k.policy.until k.policy.told
+            (report_of k.host.is.held k.policy.told_page)) }
+    {
+        if !self.policy.is_telling() {
+            return Ok(Marks::from_ascending(Vec::new(alloc)));
+        }
+        let (page, told) = self.policy.told();
+        self.slice(alloc, page, told)
+    }
+
+    /// The telling of the next page begins.
+    fn reports_next(&mut self, alloc: Global, sent: &mut Vec<Datagram>) -> Result<(), AllocError>
+        ensures does { OnOk result
+            (Does reports_next self.old self.new sent.old.items sent.new.items) }
+        ensures left { OnErr result (LeavesSome reports_next self.old self.new) }
+    {
+        let page = self.next_page(alloc)?;
+        let report = self.report(alloc, page)?;
+        let until = until_in(report.as_slice());
+        let first = slice_of(alloc, None, &report)?;
+        self.reports_page(alloc, sent, page, until, first)?;
+        Ok(())
+    }
+
+    /// The greatest number of each source that is held of a page.
+    fn report(&mut self, alloc: Global, page: PageId) -> Result<Marks, AllocError>
+        ensures same { self.new ≡ self.old }
+        ensures report { IfOk result (λ marks. (k : Keeping) → IsKeptAt self.old k →
+            marks ≡ report_of k.host.is.held page) }
+    {
+        self.member.report(alloc, page)
+    }
+
+    /// The next page in the cycle of the pages.
+    fn next_page(&mut self, alloc: Global) -> Result<PageId, AllocError>
+        ensures same { self.new ≡ self.old }
+        ensures next { IfOk result (λ page. (k : Keeping) → IsKeptAt self.old k →
+            page ≡ page_after k.policy.told_page (pages_of k.host.is.held)) }
+    {
+        let told = self.policy.told();
+        let pages = self.member.pages(alloc)?;
+        Ok(page_after(told.0, &pages))
+    }
+
+    /// It reports these marks of a page, whose telling ends at a source.
     fn reports_page(
         &mut self,
         alloc: Global,
         sent: &mut Vec<Datagram>,
         page: PageId,
+        until: u32,
         marks: Marks,
     ) -> Result<(), AllocError>
         ensures does { OnOk result
-            (Does (reports_page page marks) self.old self.new sent.old.items sent.new.items) }
-        ensures left { OnErr result (LeavesSome (reports_page page marks) self.old self.new) }
+            (Does (reports_page page until marks) self.old self.new sent.old.items
+            sent.new.items) }
+        ensures left { OnErr result (LeavesSome (reports_page page until marks) self.old self.new) }
     {
         let all = self.heard(alloc)?;
         let echoes = last_heard(alloc, &all)?;
@@ -144,7 +192,7 @@ impl KeptMember {
         let last = last_source(marks.as_slice());
         let now = self.member.moment();
         let others = members(all.as_slice());
-        self.policy.reported(now, page, last, others, bytes);
+        self.policy.reported(now, page, last, until, others, bytes);
         let report = Datagram::Session {
             sender: self.member.me(),
             sent: now,

@@ -1,7 +1,6 @@
 //! What a member shows to who judges for it: when it is to ask, and for what. None of it changes
 //! the member.
 ghost use Rattle.std.specs.Prelude.{◌≡◌, ◌<◌, ◌≤◌, ◌^◌, length, IfOk, IfSome};
-ghost use Rattle.wb_names.specs.Ascending.{AreEchoes};
 ghost use Rattle.wb_recovery.specs.Delays.{IsDelay};
 ghost use Rattle.wb_host.specs.Counts.{MAX_CELLS};
 ghost use Rattle.wb_member.specs.Holding.{IsOpenAt};
@@ -10,7 +9,6 @@ ghost use Rattle.wb_member.specs.Opened.{Opened};
 
 use crate::member::Member;
 use std::alloc::{AllocError, Global};
-use wb_codec::Datagram;
 use wb_gaps::Hole;
 use wb_names::{Drawop, Echoes, Name, PageId};
 
@@ -69,23 +67,11 @@ impl Member {
     }
 
     /// An echo to each sender that is remembered, ascending: those of its next session message.
-    pub fn echoes(&mut self, alloc: Global) -> Result<Echoes, AllocError>
-        ensures same { (host : Opened) → IsOpenAt self.old host → IsOpenAt self.new host }
-        ensures echoes { IfOk result (λ all. (host : Opened) → IsOpenAt self.old host →
+    pub fn echoes(&self, alloc: Global) -> Result<Echoes, AllocError>
+        ensures { IfOk result (λ all. (host : Opened) → IsOpenAt self.now host →
             all ≡ echoes host) }
     {
-        let page = PageId {
-            creator: 0,
-            number: 0,
-        };
-        match self.board.session(alloc, &mut self.keeper, page)? {
-            Datagram::Session {
-                marks: _marks,
-                echoes,
-                ..
-            } => Ok(echoes),
-            _ => Ok(Echoes::from_ascending(Vec::new(alloc))),
-        }
+        self.keeper.echoes(alloc, self.keeper.moment())
     }
 
     /// The greatest number of a source on a page that is held, or 0.

@@ -13,7 +13,7 @@ use Rattle.wb_keeping.specs.Reports.{members_in}
 use Rattle.wb_keeping.proofs.kept_member.KeptMember.reports_page.Goals as goal
 
 pub returns-clause-does : goal.returns-clause-does
-returns-clause-does c = does_seen (reports_page c.args.page c.args.marks) (λ k at.
+returns-clause-does c = does_seen (reports_page c.args.page c.args.until c.args.marks) (λ k at.
     let v = view_of k.host in
     let same : IsKeptAt c.heard.new.self k = ((c.heard.ensures.same.sends []).at k at).1 in
     let inside = at_inside k c.self.view_is same in
@@ -24,17 +24,17 @@ returns-clause-does c = does_seen (reports_page c.args.page c.args.marks) (λ k 
     let last : c.last_source-last.result ≡ last_source None c.args.marks = c.last_source-last.ensures ∙ ap (last_source None) c.as_slice.ensures.entries in
     let others : c.members-others.result ≡ members_in v.echoes = c.members-others.ensures.members ∙ ap members_in (c.as_slice-2.ensures.entries ∙ all) in
     let bytes : c.report_bytes-bytes.result ≡ 32 + 8 * length c.args.marks + 20 * length (last_heard v.echoes) = c.report_bytes-bytes.ensures.bytes ∙ ap (λ (es : List Echo). 32 + 8 * length c.args.marks + 20 * length es) echoes in (
-      reports_page c.args.page c.args.marks (sees k.host) k.policy,
+      reports_page c.args.page c.args.until c.args.marks (sees k.host) k.policy,
       refl,
       c.in_ok-send.ensures ∙ ap (λ (d : Datagram). c.args.sent.now.items ++ d ∷ []) (λ i. Session (me i) (now i) c.args.page c.args.marks (echoes i)),
-      record { member = inside.member; policy = c.reported.ensures.after ∙ (λ i. after_report (now i) c.args.page (last i) (others i) (bytes i) (inside.policy i)) },
+      record { member = inside.member; policy = c.reported.ensures.after ∙ (λ i. after_report (now i) c.args.page (last i) c.args.until (others i) (bytes i) (inside.policy i)) },
     ))
 
 pub returns-in_err-all-clause-left : goal.returns-in_err-all-clause-left
-returns-in_err-all-clause-left c = on_err _ (left_still (reports_page c.args.page c.args.marks) c.heard.ensures.same refl)
+returns-in_err-all-clause-left c = on_err _ (left_still (reports_page c.args.page c.args.until c.args.marks) c.heard.ensures.same refl)
 
 pub returns-in_err-echoes-clause-left : goal.returns-in_err-echoes-clause-left
-returns-in_err-echoes-clause-left c = on_err _ (left_still (reports_page c.args.page c.args.marks) c.heard.ensures.same refl)
+returns-in_err-echoes-clause-left c = on_err _ (left_still (reports_page c.args.page c.args.until c.args.marks) c.heard.ensures.same refl)
 
 pub returns-in_err-send-clause-left : goal.returns-in_err-send-clause-left
-returns-in_err-send-clause-left c = on_err _ (left_still (reports_page c.args.page c.args.marks) c.heard.ensures.same (ap (λ (v : KeptValue). v.member) c.self.view_is))
+returns-in_err-send-clause-left c = on_err _ (left_still (reports_page c.args.page c.args.until c.args.marks) c.heard.ensures.same (ap (λ (v : KeptValue). v.member) c.self.view_is))

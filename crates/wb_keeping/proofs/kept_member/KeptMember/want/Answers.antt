@@ -1,10 +1,11 @@
-use Rattle.std.proofs.Common.{◌≡◌, ℕ, List, [], ◌∷◌, ◌++◌, ◌∙◌, ap, sym}
-use Rattle.wb_keeping.specs.Kept.{Line, Asks, Doing, Transition, performs, and_then, room_lines, usual_lines, want}
+use Rattle.std.proofs.Common.{◌≡◌, ℕ, List, ◌++◌, ◌∙◌, ap, sym}
+use Rattle.wb_keeping.specs.Kept.{Line, Asks, Doing, Transition, and_then, room_lines, want}
 use Rattle.wb_keeping.specs.Performing.{IsKeptAt, Keeping, KeptValue, sees, view_of}
-use Rattle.wb_keeping.specs.Policy.{Policy, after_wanting, holds, is_full, level}
-use Rattle.wb_keeping.specs.Steps.{performs_all, makes_room, set_lines}
+use Rattle.wb_keeping.specs.Policy.{Policy, after_wanting, holds, is_full, is_known, level}
+use Rattle.wb_keeping.specs.Steps.{lends_for, lent_at, makes_room}
 use Rattle.wb_keeping.proofs.Performed.{at_inside, quiet_by}
 use Rattle.wb_keeping.proofs.LeftSome.{on_err, left_by}
+use Rattle.wb_keeping.proofs.Lending.{lends_as}
 use Rattle.wb_keeping.proofs.Wanted as wanted
 use Rattle.wb_member.specs.Opened.{present}
 use Rattle.wb_keeping.proofs.kept_member.KeptMember.want.Goals as goal
@@ -14,7 +15,7 @@ use Rattle.wb_keeping.proofs.kept_member.KeptMember.want.Goals.{After-begin}
 abbrev asking : After-begin → Transition
 asking c =
     let n = c.args.name.now in
-    and_then (makes_room n) (and_then (performs_all (set_lines n.source c.usual_to-usual.result)) (performs (Asks n)))
+    and_then (makes_room n) (lends_for n.source c.lent_to-lent.result (Asks n))
 
 begins : (c : After-begin) (k : Keeping) → IsKeptAt c.args.self.now k
     → want c.args.name.now c.args.may_start_anew (sees k.host) k.policy ≡ asking c (sees k.host) (after_wanting (present k.host) k.policy)
@@ -24,13 +25,13 @@ begins c k at =
     let seen = c.candidate-candidate.result in
     let inside = at_inside k c.self.view_is at in
     let now : c.moment-now.result ≡ present k.host = c.moment-now.ensures.moment k.host inside.member in
-    let same = wanted.same_wanted seen.is_held (holds (view_of k.host) n) seen.is_full (is_full (view_of k.host)) anew seen.level (level (view_of k.host) n) c.self.inside.policy.owed k.policy.owed c.moment-now.result (present k.host)
-    (c.candidate-candidate.ensures.held k at) (c.candidate-candidate.ensures.full k at) (c.candidate-candidate.ensures.level k at)
+    let same = wanted.same_wanted seen.is_held (holds (view_of k.host) n) seen.is_full (is_full (view_of k.host)) anew seen.is_known (is_known (view_of k.host) n.source) seen.level (level (view_of k.host) n) c.self.inside.policy.owed k.policy.owed c.moment-now.result (present k.host)
+    (c.candidate-candidate.ensures.held k at) (c.candidate-candidate.ensures.full k at) (c.candidate-candidate.ensures.known k at) (c.candidate-candidate.ensures.level k at)
     (ap (λ (p : Policy). p.owed) inside.policy) now in
-    let usual : set_lines n.source c.usual_to-usual.result ≡ usual_lines n.source ((view_of k.host).distance n.source) k.policy.usual = c.usual_to-usual.ensures.lines k at in
     wanted.is_asked_for n anew (sees k.host) k.policy (sym same ∙ sym c.if-not-want.ensures.wanted)
-    ∙ ap (λ (ls : List Line). let d : Doing = record { policy = after_wanting (present k.host) k.policy; lines = room_lines n (view_of k.host) ++ (ls ++ Asks n ∷ []) } in d)
-    (sym usual)
+    ∙ ap (λ (ls : List Line). let d : Doing = record { policy = after_wanting (present k.host) k.policy; lines = room_lines n (view_of k.host) ++ ls } in d)
+    (sym (lends_as n.source ((view_of k.host).distance n.source) k.policy.usual (Asks n) c.lent_to-lent.result
+    (c.lent_to-lent.ensures.lent k at ∙ ap (λ (s : ℕ). lent_at ((view_of k.host).distance s) k.policy.usual) c.source.ensures)))
 
 spends : (c : After-begin) (k : Keeping) → IsKeptAt c.args.self.now k
     → after_wanting c.moment-now.result c.self.inside.policy ≡ after_wanting (present k.host) k.policy

@@ -1,0 +1,210 @@
+-- Lines of honest drivers are honest steps.
+use Rattle.std.proofs.Common.{◌≡◌, ◌⊎◌, ℕ, Bool, true, false, cond, List, [], ◌∷◌, Option, Some, None, Result, Ok, Err, ap, eqb-true, inl, inr, refl, subst, sym, ◌∙◌}
+use Rattle.std.specs.Prelude.{Contains, IfOk, nat_eq}
+use Rattle.wb_names.specs.Values.{DrawopValue}
+use Rattle.wb_codec.specs.declared.datagram.Datagram.TheVariants as datagrams
+use Rattle.wb_recovery.specs.declared.tuning.Tuning.{Tuning}
+use Rattle.wb_lines.specs.Input.{InputLine}
+use Rattle.wb_lines.specs.Taking.{met}
+use Rattle.wb_words.specs.declared.adding.Adding.{Adding}
+use Rattle.wb_member.specs.Lines.{Asks, Hears, Says, SetsDistance, Stops, Ticks, Tunes}
+use Rattle.wb_member.specs.Opened.{Opened}
+use Rattle.wb_keeping.specs.Kept.{Transition, adds, came, ticks}
+use Rattle.wb_keeping.specs.Performing.{Keeping, sees}
+use Rattle.wb_keeping.specs.Refusing.{add_fault, came_fault, tick_fault}
+use Rattle.wb_keeping.specs.declared.kept_fault.KeptFault.{KeptFault}
+use Rattle.wb_commands.specs.declared.command.Command.{Command}
+use Rattle.wb_commands.specs.declared.command.Command.TheVariants as lines
+use Rattle.wb_dialog.specs.declared.fault.Refusal.{Refusal}
+use Rattle.wb_dialog.specs.declared.fault.Refusal.TheVariants as refusals
+use Rattle.wb_dialog.specs.declared.line.DriverLine.{DriverLine}
+use Rattle.wb_dialog.specs.declared.line.DriverLine.TheVariants.{Script, Say, Ask, Stop, Keep, Came, Add}
+use Rattle.wb_dialog.specs.Dialog.{goes_out, refuses, says_line}
+use Rattle.wb_dialog.specs.Hosting.{Host, Driven, Kept, Reply, prints, denies, as_driven, kept_does, kept_reply, reply, reply_to, seed_after}
+use Rattle.wb_laws_sessions.specs.Drawn.{AreHonest, IsAbove, WasHeld, drawn_at}
+use Rattle.wb_laws_sessions.specs.Sessions.{Deed, Looks, Performs, Reports, Step, host_at, steps_then}
+use Rattle.wb_laws_sessions.proofs.Honest.{IsPlain, arrival_is_honest, drawing_is_honest, opening_is_honest, plain_is_honest}
+use Rattle.wb_laws_sessions.proofs.Several.{number_at}
+use Rattle.wb_laws_kept.proofs.Honest.{adds_honest, came_given, lines_honest, ticks_given}
+use Rattle.wb_laws_hosts.specs.Drivers.{HonestReportsTellShows, IsHeldOrNext, IsHonestLine, KnowsItsOwn, LinesAreHonestSteps}
+use Rattle.wb_laws_hosts.specs.Texts.{Event, EventAt, HaveNumbers, IsMemberAt, Starts, Takes, deeds_by, deeds_doing, deeds_driven, deeds_first, deeds_kept, deeds_of_event, deeds_said, hosting_at, steps_of_texts}
+use Rattle.wb_laws_hosts.proofs.Agreeing.{reports_tell_shows}
+use Rattle.wb_laws_hosts.proofs.DriverLines as drivers
+use Rattle.wb_laws_hosts.proofs.DriverLines.{met_fits}
+use Rattle.wb_laws_hosts.proofs.TextSessions.{texts_are_sessions}
+
+-- a line hands in a drawop
+abbrev HandsInBy : DriverLine → DrawopValue → Type 0
+HandsInBy line d = (line ≡ Script (lines.Arrive d)) ⊎ ((now : ℕ) × (line ≡ Came now (datagrams.Draw d)))
+
+module _ (numbers : ℕ → ℕ) (place : ℕ) (older : List Step) (honest : AreHonest numbers older) where
+  abbrev Goes : List Deed → Type 0
+  Goes deeds = AreHonest numbers (steps_then 0 place deeds older)
+
+  abbrev at : Deed → Step
+  at deed = record { time = 0; place = place; deed = deed }
+
+  by_reply : (r : Reply) (deeds : List Deed) → Goes deeds → Goes (deeds_by r deeds)
+  by_reply (prints next text) deeds goes = goes
+  by_reply (denies e) deeds goes = honest
+
+  plain : (deed : Deed) → IsPlain deed → Goes (deed ∷ [])
+  plain deed is = (plain_is_honest numbers older (at deed) is, honest)
+
+  -- ---- before a board is open
+
+  opens : (tuning : Tuning) (line : DriverLine) → drivers.Fits line → Goes (deeds_first tuning line)
+  opens tuning (Script line) fit = script line fit where
+    script : (line : Command) → drivers.Fits (Script line) → Goes (deeds_first tuning (Script line))
+    script (lines.Board member cells workers seed) fit = (opening_is_honest numbers older 0 place tuning cells seed fit.1, honest)
+    script lines.Skip fit = honest
+    script (lines.Arrive d) fit = honest
+    script (lines.Hear v) fit = honest
+    script (lines.Distance source micros) fit = honest
+    script (lines.Tune constants) fit = honest
+    script (lines.Tick now) fit = honest
+    script (lines.Look page) fit = honest
+    script (lines.Session page) fit = honest
+    script (lines.Question query) fit = honest
+  opens tuning (Say v) fit = honest
+  opens tuning (Ask name) fit = honest
+  opens tuning (Stop name) fit = honest
+  opens tuning (Keep rate listen) fit = honest
+  opens tuning (Came now v) fit = honest
+  opens tuning (Add a) fit = honest
+
+  module _ (line : DriverLine) (fit : drivers.Fits line) (comes : (d : DrawopValue) → HandsInBy line d → WasHeld numbers older d) where
+    -- ---- at a host that its driver drives
+
+    module _ (tuning : Tuning) (host : Opened) (seed : Option ℕ) (there : host ≡ host_at numbers older place) (says : (d : DrawopValue) → line ≡ Say (datagrams.Draw d) → IsHeldOrNext (drawn_at numbers older place) (Some (Driven host seed)) d) where
+      abbrev Does : DriverLine → Type 0
+      Does said = Goes (deeds_by (reply_to tuning (Some (Driven host seed)) said) (deeds_driven said))
+
+      one : (said : DriverLine) → Goes (deeds_driven said) → Does said
+      one said goes = by_reply (reply_to tuning (Some (Driven host seed)) said) (deeds_driven said) goes
+
+      script : (said : Command) → line ≡ Script said → Does (Script said)
+      script (lines.Arrive d) is = one (Script (lines.Arrive d)) (arrival_is_honest numbers older 0 place d (comes d (inl is)), honest)
+      script (lines.Hear v) is = one (Script (lines.Hear v)) (plain (Performs (Hears v)) tt)
+      script (lines.Distance source micros) is = one (Script (lines.Distance source micros)) (plain (Performs (SetsDistance source micros)) tt)
+      script (lines.Tune constants) is = one (Script (lines.Tune constants)) (plain (Performs (Tunes constants)) tt)
+      script (lines.Tick now) is = one (Script (lines.Tick now)) (plain (Performs (Ticks now)) tt)
+      script (lines.Look page) is = one (Script (lines.Look page)) (plain (Looks page) tt)
+      script (lines.Session page) is = one (Script (lines.Session page)) (plain (Reports page) tt)
+      script (lines.Board member cells workers cell_seed) is = one (Script (lines.Board member cells workers cell_seed)) honest
+      script (lines.Question query) is = one (Script (lines.Question query)) honest
+      script lines.Skip is = one (Script lines.Skip) honest
+
+      drawing : (d : DrawopValue) → line ≡ Say (datagrams.Draw d) → Does (Say (datagrams.Draw d))
+      drawing d is = by (nat_eq d.name.source host.is.number) refl where
+        in_range : drivers.Fits (Say (datagrams.Draw d))
+        in_range = subst drivers.Fits is fit
+
+        new : Contains (host_at numbers older place).is.held d ⊎ IsAbove (drawn_at numbers older place) d.name
+        new = subst (λ (h : Opened). IsHeldOrNext (drawn_at numbers older place) (Some (Driven h seed)) d) there (says d is)
+
+        by : (b : Bool) → nat_eq d.name.source host.is.number ≡ b
+            → Goes (deeds_by (as_driven (seed_after (Say (datagrams.Draw d)) seed) (cond b (goes_out (datagrams.Draw d) host) (refuses refusals.Member))) (Performs (Says (datagrams.Draw d)) ∷ []))
+        by true own = (
+          drawing_is_honest numbers older 0 place d
+              (eqb-true d.name.source host.is.number own ∙ ap (λ (h : Opened). h.is.number) there ∙ number_at numbers older place) in_range.name.positive new,
+          honest,
+        )
+        by false own = honest
+
+      driven : (said : DriverLine) → line ≡ said → Does said
+      driven (Script said) is = script said is
+      driven (Say (datagrams.Draw d)) is = drawing d is
+      driven (Say (datagrams.Session sender sent page marks echoes)) is = one (Say (datagrams.Session sender sent page marks echoes)) (plain (Performs (Says (datagrams.Session sender sent page marks echoes))) tt)
+      driven (Say (datagrams.Request asker name)) is = one (Say (datagrams.Request asker name)) (plain (Performs (Says (datagrams.Request asker name))) tt)
+      driven (Say (datagrams.AskPages asker)) is = one (Say (datagrams.AskPages asker)) (plain (Performs (Says (datagrams.AskPages asker))) tt)
+      driven (Say (datagrams.PageState sender page marks)) is = one (Say (datagrams.PageState sender page marks)) (plain (Performs (Says (datagrams.PageState sender page marks))) tt)
+      driven (Ask name) is = one (Ask name) (plain (Performs (Asks name)) tt)
+      driven (Stop name) is = one (Stop name) (plain (Performs (Stops name)) tt)
+      driven (Keep rate listen) is = one (Keep rate listen) honest
+      driven (Came now v) is = one (Came now v) honest
+      driven (Add a) is = one (Add a) honest
+
+    -- ---- at one that keeps itself
+
+    module _ (k : Keeping) (there : host_at numbers older place ≡ k.host) (knows : (a : Adding) → line ≡ Add a → KnowsItsOwn (drawn_at numbers older place) (Some (Kept k)) a.page) where
+      unless_denied : (fault : Option KeptFault) (doing : Transition) (text : List ℕ) → Goes (deeds_doing doing k) → Goes (deeds_by (kept_does fault doing text k) (deeds_doing doing k))
+      unless_denied (Some fault) doing text goes = honest
+      unless_denied None doing text goes = goes
+
+      asked : (r : Reply) → Goes (deeds_by r [])
+      asked r = by_reply r [] honest
+
+      kept_script : (said : Command) → Goes (deeds_by (kept_reply (Script said) k) (deeds_kept (Script said) k))
+      kept_script (lines.Tick now) = unless_denied (tick_fault now k) (ticks now) []
+          (lines_honest numbers 0 place (λ d. ⊥) (ticks now (sees k.host) k.policy).lines older honest (λ d is. absurd is) (ticks_given (λ d. ⊥) now (sees k.host) k.policy))
+      kept_script (lines.Tune constants) = plain (Performs (Tunes constants)) tt
+      kept_script (lines.Question query) = asked (kept_reply (Script (lines.Question query)) k)
+      kept_script lines.Skip = honest
+      kept_script (lines.Arrive d) = honest
+      kept_script (lines.Board member cells workers seed) = honest
+      kept_script (lines.Hear v) = honest
+      kept_script (lines.Distance source micros) = honest
+      kept_script (lines.Look page) = honest
+      kept_script (lines.Session page) = honest
+
+      kept : (said : DriverLine) → line ≡ said → Goes (deeds_by (kept_reply said k) (deeds_kept said k))
+      kept (Script said) is = kept_script said
+      kept (Came now v) is = unless_denied (came_fault now v k) (came now v) _
+          (lines_honest numbers 0 place (λ d. v ≡ datagrams.Draw d) (came now v (sees k.host) k.policy).lines older honest
+          (λ d same. comes d (inr (now, is ∙ ap (Came now) same))) (came_given (λ d. v ≡ datagrams.Draw d) now v (λ d same. same) (sees k.host) k.policy))
+      kept (Add a) is = unless_denied (add_fault a.moment a.page a.time a.op k) (adds a.moment a.page a.time a.op) _
+          (adds_honest numbers 0 place older honest k there a.page (knows a is) a.moment a.time a.op k.policy)
+      kept (Say v) is = honest
+      kept (Ask name) is = honest
+      kept (Stop name) is = honest
+      kept (Keep rate listen) is = honest
+
+  -- ---- one line
+
+  module _ (tuning : Tuning) (said : Result DriverLine Refusal) where
+    line_goes : (s : Option Host) → IsMemberAt (host_at numbers older place) s
+        → ((line : DriverLine) (d : DrawopValue) → said ≡ Ok line → HandsInBy line d → WasHeld numbers older d)
+        → ((d : DrawopValue) → said ≡ Ok (Say (datagrams.Draw d)) → IsHeldOrNext (drawn_at numbers older place) s d)
+        → ((a : Adding) → said ≡ Ok (Add a) → KnowsItsOwn (drawn_at numbers older place) s a.page)
+        → (read : Result DriverLine Refusal) → said ≡ read → IfOk read drivers.Fits → Goes (deeds_by (reply tuning s read) (deeds_said tuning s read))
+    line_goes s is comes says knows (Err e) same fits = by_reply (reply tuning s (Err e)) [] honest
+    line_goes None is comes says knows (Ok line) same fits = by_reply (reply tuning None (Ok line)) (deeds_first tuning line) (opens tuning line fits)
+    line_goes (Some (Driven host seed)) is comes says knows (Ok line) same fits =
+        driven line fits (λ d hands. comes line d same hands) tuning host seed is (λ d e. says d (same ∙ ap (λ (l : DriverLine). ok l) e)) line refl
+      where
+        ok : DriverLine → Result DriverLine Refusal
+        ok l = Ok l
+    line_goes (Some (Kept k)) is comes says knows (Ok line) same fits = kept_line line same fits where
+      ok : DriverLine → Result DriverLine Refusal
+      ok l = Ok l
+
+      kept_line : (line : DriverLine) → said ≡ Ok line → drivers.Fits line → Goes (deeds_by (reply tuning (Some (Kept k)) (Ok line)) (deeds_said tuning (Some (Kept k)) (Ok line)))
+      kept_line (Keep rate listen) same fits = honest
+      kept_line (Script l) same fits = kept (Script l) fits (λ d hands. comes (Script l) d same hands) k (sym is) (λ a e. knows a (same ∙ ap ok e)) (Script l) refl
+      kept_line (Say v) same fits = honest
+      kept_line (Ask name) same fits = honest
+      kept_line (Stop name) same fits = honest
+      kept_line (Came now v) same fits = kept (Came now v) fits (λ d hands. comes (Came now v) d same hands) k (sym is) (λ a e. knows a (same ∙ ap ok e)) (Came now v) refl
+      kept_line (Add a) same fits = kept (Add a) fits (λ d hands. comes (Add a) d same hands) k (sym is) (λ x e. knows x (same ∙ ap ok e)) (Add a) refl
+
+event_goes : (numbers : ℕ → ℕ) (older : List EventAt) (place : ℕ) → HaveNumbers numbers older → AreHonest numbers (steps_of_texts older) → (event : Event)
+    → ((line : InputLine) → event ≡ Takes line → IsHonestLine numbers older place line) → AreHonest numbers (steps_then 0 place (deeds_of_event event (hosting_at older place)) (steps_of_texts older))
+event_goes numbers older place numbered honest (Starts tuning) lines_are = honest
+event_goes numbers older place numbered honest (Takes line) lines_are =
+    let s = hosting_at older place in
+    let said = says_line (met line) in
+    let is = lines_are line refl in
+    line_goes numbers place (steps_of_texts older) honest s.tuning said s.host (texts_are_sessions numbers older numbered place)
+    (λ l d same hands. is.comes d (handed said l d same hands)) is.says is.adds said refl (met_fits (met line))
+  where
+    handed : (said : Result DriverLine Refusal) (l : DriverLine) (d : DrawopValue) → said ≡ Ok l → HandsInBy l d → (said ≡ Ok (Script (lines.Arrive d))) ⊎ ((now : ℕ) × (said ≡ Ok (Came now (datagrams.Draw d))))
+    handed said l d same (inl e) = inl (same ∙ ap (λ (x : DriverLine). let r : Result DriverLine Refusal = Ok x in r) e)
+    handed said l d same (inr (now, e)) = inr (now, same ∙ ap (λ (x : DriverLine). let r : Result DriverLine Refusal = Ok x in r) e)
+
+pub lines_are_honest_steps : LinesAreHonestSteps
+lines_are_honest_steps numbers [] numbered are = tt
+lines_are_honest_steps numbers (e ∷ older) numbered are = event_goes numbers older e.place numbered.1 (lines_are_honest_steps numbers older numbered.1 are.1) e.event are.0
+
+pub honest_reports_tell_shows : HonestReportsTellShows
+honest_reports_tell_shows numbers events apart numbered are = reports_tell_shows numbers events apart numbered (lines_are_honest_steps numbers events numbered are)

@@ -1,0 +1,213 @@
+-- What one line makes of a host, and what is printed for it, as the deeds of a member.
+use Rattle.std.proofs.Common.{◌≡◌, ℕ, Bool, true, false, cond, List, [], ◌∷◌, ◌++◌, Option, Some, None, Result, Ok, Err, append-nil, ap, refl, sym, subst, ◌∙◌, nat_lt}
+use Rattle.std.specs.Prelude.{nat_eq, unwrap_or}
+use Rattle.wb_names.specs.Arrivals.{Outcome, Fresh, Known as KnownDrawop, Clashed, Left}
+use Rattle.wb_names.specs.Values.{DrawopValue}
+use Rattle.wb_codec.specs.declared.datagram.Datagram.{Datagram}
+use Rattle.wb_codec.specs.declared.datagram.Datagram.TheVariants as datagrams
+use Rattle.wb_recovery.specs.declared.tuning.Tuning.{Tuning}
+use Rattle.wb_member.specs.Lines.{Line, Tunes, said_where}
+use Rattle.wb_member.specs.Opened.{Opened, answered as answers, becomes, has_room_for, heard, message, present, sent_by, ticked}
+use Rattle.wb_member.specs.Questions.{answer_to}
+use Rattle.wb_keeping.specs.Kept.{Transition, adds, came, performs, ticks}
+use Rattle.wb_keeping.specs.Performing.{Keeping, sees}
+use Rattle.wb_keeping.specs.Refusing.{add_fault, came_as, came_fault, drawn_as, tick_fault}
+use Rattle.wb_keeping.specs.declared.kept_fault.KeptFault.{KeptFault}
+use Rattle.wb_commands.specs.Acts.{does, fails, tells}
+use Rattle.wb_commands.specs.Answers.{answer_text}
+use Rattle.wb_commands.specs.SentLines.{send_line, sends_text}
+use Rattle.wb_commands.specs.declared.command.Command.{Command}
+use Rattle.wb_commands.specs.declared.command.Command.TheVariants as lines
+use Rattle.wb_commands.specs.declared.fault.LineFault.TheVariants as faults
+use Rattle.wb_dialog.specs.declared.fault.Refusal.{Refusal}
+use Rattle.wb_dialog.specs.declared.fault.Refusal.TheVariants as refusals
+use Rattle.wb_dialog.specs.declared.line.DriverLine.{DriverLine}
+use Rattle.wb_dialog.specs.declared.line.DriverLine.TheVariants.{Script, Say, Ask, Stop, Keep, Came, Add}
+use Rattle.wb_dialog.specs.Dialog.{Answer, answer_at, answered, goes_out, refuses, said_text, speaker}
+use Rattle.wb_dialog.specs.Hosting.{Host, Driven, Kept, Reply, prints, denies, as_driven, begins, came_text, host_after, kept_does, kept_reply, kept_shows, reply, reply_to, seed_after, unsent_text}
+use Rattle.wb_laws_sessions.specs.Sessions.{Deed, Opens, after_deeds, sent_by_deeds}
+use Rattle.wb_laws_sessions.proofs.Several.{after_performed, sent_performed}
+use Rattle.wb_laws_hosts.specs.Texts.{IsMemberAt, IsOf, deeds_by, deeds_doing, deeds_driven, deeds_kept, deeds_of, deeds_said}
+use Rattle.wb_laws_hosts.specs.Telling.{told_driven, told_kept, told_of, told_said, told_saying}
+
+-- the member that a host is
+abbrev pub member_in : Host → Opened
+member_in (Driven host seed) = host
+member_in (Kept k) = k.host
+
+-- It leads to the member after these deeds, and prints what they send, and then what is told; or it is refused.
+abbrev pub LedTo : Opened → List Datagram → Reply → List ℕ → Type 0
+LedTo later sent (prints next text) told = IsMemberAt later next × (text ≡ sends_text sent ++ told)
+LedTo later sent (denies e) told = Unit {0}
+
+abbrev pub Led : Opened → Reply → List Deed → List ℕ → Type 0
+Led host r deeds told = LedTo (after_deeds deeds host) (sent_by_deeds deeds host) r told
+
+-- one deed sends these, and nothing is told behind them
+alone : (sent : List Datagram) → sends_text sent ≡ sends_text (sent ++ []) ++ []
+alone sent = sym (append-nil (sends_text (sent ++ [])) ∙ ap sends_text (append-nil sent))
+
+one : (v : Datagram) → send_line v ≡ sends_text (v ∷ []) ++ []
+one v = sym (append-nil (sends_text (v ∷ [])) ∙ append-nil (send_line v))
+
+-- ---- at a host that its driver drives
+
+module _ (host : Opened) (seed : Option ℕ) where
+  abbrev Leads : Answer → List Deed → List ℕ → Type 0
+  Leads a deeds told = Led host (as_driven seed a) deeds told
+
+  hears : (v : Datagram) → Leads (answer_at (Script (lines.Hear v)) host) (deeds_driven (Script (lines.Hear v))) []
+  hears v = by (has_room_for v host) where
+    by : (b : Bool) → LedTo (cond b (heard v host) host) (cond b (answers v host) [] ++ []) (as_driven seed (answered (cond b (does (heard v host) (sends_text (answers v host))) (fails faults.TooMany)))) []
+    by true = (refl, alone (answers v host))
+    by false = tt
+
+  ticks_on : (now : ℕ) → Leads (answer_at (Script (lines.Tick now)) host) (deeds_driven (Script (lines.Tick now))) []
+  ticks_on now = at (nat_lt now (present host)) where
+    at : (b : Bool) → Leads (answered (cond b (fails faults.BackInTime) (does (ticked now host) (sends_text (sent_by now host))))) (deeds_driven (Script (lines.Tick now))) []
+    at true = tt
+    at false = (refl, alone (sent_by now host))
+
+  tells_it : (text : Option (List ℕ)) → Leads (answered (tells host text)) [] (unwrap_or text [])
+  tells_it (Some text) = (refl, refl)
+  tells_it None = tt
+
+  script_led : (line : Command) → Leads (answer_at (Script line) host) (deeds_driven (Script line)) (told_driven (Script line) host)
+  script_led (lines.Arrive d) = (refl, refl)
+  script_led (lines.Board member cells workers seed) = tt
+  script_led (lines.Hear v) = hears v
+  script_led (lines.Distance source micros) = (refl, refl)
+  script_led (lines.Tune constants) = (refl, refl)
+  script_led (lines.Tick now) = ticks_on now
+  script_led (lines.Look page) = (refl, refl)
+  script_led (lines.Session page) = (refl, alone (message page host ∷ []))
+  script_led (lines.Question query) = tells_it (answer_text (answer_to query host))
+  script_led lines.Skip = (refl, refl)
+
+  said_led : (d : DrawopValue) (o : Outcome) → said_text d o ≡ sends_text (said_where d o ++ []) ++ unsent_text o
+  said_led d (Fresh place) = one (datagrams.Draw d)
+  said_led d (KnownDrawop place) = one (datagrams.Draw d)
+  said_led d (Clashed place) = refl
+  said_led d Left = refl
+
+  goes_led : (v : Datagram) → Leads (goes_out v host) (deeds_driven (Say v)) (told_saying v host)
+  goes_led (datagrams.Draw d) = (refl, said_led d (becomes d host))
+  goes_led (datagrams.Session sender sent page marks echoes) = (refl, one (datagrams.Session sender sent page marks echoes))
+  goes_led (datagrams.Request asker name) = (refl, one (datagrams.Request asker name))
+  goes_led (datagrams.AskPages asker) = (refl, one (datagrams.AskPages asker))
+  goes_led (datagrams.PageState sender page marks) = (refl, one (datagrams.PageState sender page marks))
+
+  says_led : (v : Datagram) → Leads (answer_at (Say v) host) (deeds_driven (Say v)) (told_driven (Say v) host)
+  says_led v = from (nat_eq (speaker v) host.is.number) where
+    from : (mine : Bool) → Leads (cond mine (goes_out v host) (refuses refusals.Member)) (deeds_driven (Say v)) (told_saying v host)
+    from true = goes_led v
+    from false = tt
+
+  driven_led : (line : DriverLine) → Leads (answer_at line host) (deeds_driven line) (told_driven line host)
+  driven_led (Script line) = script_led line
+  driven_led (Say v) = says_led v
+  driven_led (Ask name) = (refl, refl)
+  driven_led (Stop name) = (refl, refl)
+  driven_led (Keep rate listen) = tt
+  driven_led (Came now v) = tt
+  driven_led (Add adding) = tt
+
+-- ---- at one that keeps itself
+
+module _ (k : Keeping) where
+  does_led : (fault : Option KeptFault) (doing : Transition) (text : List ℕ) → Led k.host (kept_does fault doing text k) (deeds_doing doing k) text
+  does_led (Some fault) doing text = tt
+  does_led None doing text =
+      let performed : List Line = (doing (sees k.host) k.policy).lines in
+      (sym (after_performed performed k.host), ap (λ (sent : List Datagram). sends_text sent ++ text) (sym (sent_performed performed k.host)))
+
+  shows_led : (text : Option (List ℕ)) → Led k.host (kept_shows k (answered (tells k.host text))) [] (unwrap_or text [])
+  shows_led (Some text) = (refl, refl)
+  shows_led None = tt
+
+  kept_script_led : (line : Command) → Led k.host (kept_reply (Script line) k) (deeds_kept (Script line) k) (told_kept (Script line) k)
+  kept_script_led (lines.Tick now) = does_led (tick_fault now k) (ticks now) []
+  kept_script_led (lines.Tune constants) = does_led None (performs (Tunes constants)) []
+  kept_script_led (lines.Question query) = shows_led (answer_text (answer_to query k.host))
+  kept_script_led lines.Skip = (refl, refl)
+  kept_script_led (lines.Arrive d) = tt
+  kept_script_led (lines.Board member cells workers seed) = tt
+  kept_script_led (lines.Hear v) = tt
+  kept_script_led (lines.Distance source micros) = tt
+  kept_script_led (lines.Look page) = tt
+  kept_script_led (lines.Session page) = tt
+
+  kept_led : (line : DriverLine) → Led k.host (kept_reply line k) (deeds_kept line k) (told_kept line k)
+  kept_led (Script line) = kept_script_led line
+  kept_led (Came now v) = does_led (came_fault now v k) (came now v) (came_text v (came_as v k.host))
+  kept_led (Add a) = does_led (add_fault a.moment a.page a.time a.op k) (adds a.moment a.page a.time a.op) (unsent_text (drawn_as a.page a.time a.op k.host))
+  kept_led (Say v) = tt
+  kept_led (Ask name) = tt
+  kept_led (Stop name) = tt
+  kept_led (Keep rate listen) = tt
+
+-- ---- at a host of either kind
+
+begins_led : (rate listen : ℕ) (host : Opened) (seed : Option ℕ) → Led host (begins rate listen host seed) [] []
+begins_led rate listen host None = tt
+begins_led rate listen host (Some seed) = (refl, refl)
+
+open_led : (tuning : Tuning) (h : Host) (line : DriverLine) → Led (member_in h) (reply_to tuning (Some h) line) (deeds_of tuning (Some h) line) (told_of (Some h) line)
+open_led tuning (Driven host seed) (Keep rate listen) = begins_led rate listen host seed
+open_led tuning (Driven host seed) (Script line) = driven_led host (seed_after (Script line) seed) (Script line)
+open_led tuning (Driven host seed) (Say v) = driven_led host (seed_after (Say v) seed) (Say v)
+open_led tuning (Driven host seed) (Ask name) = driven_led host (seed_after (Ask name) seed) (Ask name)
+open_led tuning (Driven host seed) (Stop name) = driven_led host (seed_after (Stop name) seed) (Stop name)
+open_led tuning (Driven host seed) (Came now v) = tt
+open_led tuning (Driven host seed) (Add adding) = tt
+open_led tuning (Kept k) (Keep rate listen) = tt
+open_led tuning (Kept k) (Script line) = kept_led k (Script line)
+open_led tuning (Kept k) (Say v) = kept_led k (Say v)
+open_led tuning (Kept k) (Ask name) = kept_led k (Ask name)
+open_led tuning (Kept k) (Stop name) = kept_led k (Stop name)
+open_led tuning (Kept k) (Came now v) = kept_led k (Came now v)
+open_led tuning (Kept k) (Add adding) = kept_led k (Add adding)
+
+-- before a board is open: it is of the member whose number it has
+first_led : (tuning : Tuning) (member : Opened) (line : DriverLine) → IsOf member.is.number None (Ok line) → Led member (reply_to tuning None line) (deeds_of tuning None line) []
+first_led tuning member (Script (lines.Board number cells workers seed)) is = (ap (λ (n : ℕ). opened_as n) is, refl) where
+  opened_as : ℕ → Opened
+  opened_as n = after_deeds (Opens tuning cells seed ∷ []) (record { is = record member.is { number = n }; random = member.random })
+first_led tuning member (Script lines.Skip) is = (tt, refl)
+first_led tuning member (Script (lines.Arrive d)) is = tt
+first_led tuning member (Script (lines.Hear v)) is = tt
+first_led tuning member (Script (lines.Distance source micros)) is = tt
+first_led tuning member (Script (lines.Tune constants)) is = tt
+first_led tuning member (Script (lines.Tick now)) is = tt
+first_led tuning member (Script (lines.Look page)) is = tt
+first_led tuning member (Script (lines.Session page)) is = tt
+first_led tuning member (Script (lines.Question query)) is = tt
+first_led tuning member (Say v) is = tt
+first_led tuning member (Ask name) is = tt
+first_led tuning member (Stop name) is = tt
+first_led tuning member (Keep rate listen) is = tt
+first_led tuning member (Came now v) is = tt
+first_led tuning member (Add adding) is = tt
+
+pub said_led_at : (tuning : Tuning) (h : Host) (said : Result DriverLine Refusal) → Led (member_in h) (reply tuning (Some h) said) (deeds_said tuning (Some h) said) (told_said (Some h) said)
+said_led_at tuning h (Ok line) = open_led tuning h line
+said_led_at tuning h (Err e) = tt
+
+pub first_led_at : (tuning : Tuning) (member : Opened) (said : Result DriverLine Refusal) → IsOf member.is.number None said → Led member (reply tuning None said) (deeds_said tuning None said) []
+first_led_at tuning member (Ok line) is = first_led tuning member line is
+first_led_at tuning member (Err e) is = tt
+
+-- ---- what is there after a line, and what was printed
+
+pub led_after : (s : Option Host) (member : Opened) (r : Reply) (deeds : List Deed) (told : List ℕ) → IsMemberAt member s → Led member r deeds told → IsMemberAt (after_deeds (deeds_by r deeds) member) (host_after s r)
+led_after s member (prints next text) deeds told is led = led.0
+led_after s member (denies e) deeds told is led = is
+
+pub line_after : (tuning : Tuning) (s : Option Host) (member : Opened) (said : Result DriverLine Refusal) → IsOf member.is.number s said → IsMemberAt member s → IsMemberAt (after_deeds (deeds_by (reply tuning s said) (deeds_said tuning s said)) member) (host_after s (reply tuning s said))
+line_after tuning None member said of is = led_after None member (reply tuning None said) (deeds_said tuning None said) [] is (first_led_at tuning member said of)
+line_after tuning (Some (Driven host seed)) member said of is =
+    let h : Host = Driven host seed in
+    led_after (Some h) member (reply tuning (Some h) said) (deeds_said tuning (Some h) said) (told_said (Some h) said) is (subst (λ (m : Opened). Led m (reply tuning (Some h) said) (deeds_said tuning (Some h) said) (told_said (Some h) said)) is (said_led_at tuning h said))
+line_after tuning (Some (Kept k)) member said of is =
+    let h : Host = Kept k in
+    led_after (Some h) member (reply tuning (Some h) said) (deeds_said tuning (Some h) said) (told_said (Some h) said) is (subst (λ (m : Opened). Led m (reply tuning (Some h) said) (deeds_said tuning (Some h) said) (told_said (Some h) said)) is (said_led_at tuning h said))

@@ -1,0 +1,193 @@
+-- No line of what a host prints begins as a line does that closes a block, but those of a canvas.
+use Rattle.std.proofs.Common.{◌≡◌, ℕ, Bool, true, false, List, [], ◌∷◌, ◌++◌, Option, Some, None, Ok, length, refl, sym, subst, arith, flat_map, codes, decimal}
+use Rattle.std.specs.Prelude.{◌≢◌, Contains, filter, nat_eq, not, unwrap_or, if◌then◌else◌}
+use Rattle.std.specs.Option.{option_map}
+use Rattle.std.specs.List.{list_all}
+use Rattle.std.proofs.lemmas.Bool.{and_parts}
+use Rattle.std.proofs.lemmas.List.Elements.{All-contains, All-head, All-tail}
+use Rattle.wb_names.specs.Values.{DrawopValue, MarkValue}
+use Rattle.wb_names.specs.Arrivals.{Counts, Outcome, counts_of}
+use Rattle.wb_names.specs.Orders.{display_cmp}
+use Rattle.wb_names.specs.Kinds.{op_kind, every_kind}
+use Rattle.wb_names.specs.declared.parts.OpKind.{OpKind}
+use Rattle.wb_names.specs.declared.parts.Op.{Op}
+use Rattle.wb_names.specs.declared.parts.Op.TheVariants.{Drawn, Text, Aimed}
+use Rattle.wb_names.specs.declared.gap.Gap.{Gap}
+use Rattle.wb_names.specs.declared.name.PageId.{PageId}
+use Rattle.wb_names.proofs.Listings.{Contains-from_filter}
+use Rattle.wb_display.specs.Display.{is_shown}
+use Rattle.wb_gaps.proofs.Sorting.{Contains-from_sorted}
+use Rattle.wb_codec.specs.declared.datagram.Datagram.{Datagram}
+use Rattle.wb_codec.specs.Spelling.{spelling}
+use Rattle.wb_words.specs.Words.{words, is_special}
+use Rattle.wb_words.specs.Spelling.{escaped, field_words, kind_word, name_words, op_words, page_word, quoted, stroke_words, tailed, target_words}
+use Rattle.wb_words.proofs.Appending.{joined_tailed, tailed_words}
+use Rattle.wb_lines.specs.Ahead.{NoLineFeed}
+use Rattle.wb_lines.proofs.LineBytes.{NoLineFeed-append}
+use Rattle.wb_member.specs.Queries.{view_of}
+use Rattle.wb_member.specs.Opened.{Opened, next_number, shown}
+use Rattle.wb_member.specs.declared.questions.Query.{Query}
+use Rattle.wb_member.specs.declared.questions.Query.TheVariants.{Canvas, Gaps, Report, Pages, View, Known, Next}
+use Rattle.wb_commands.specs.declared.command.Command.TheVariants.{Question}
+use Rattle.wb_dialog.specs.declared.line.DriverLine.TheVariants.{Script}
+use Rattle.wb_commands.specs.Answers.{batch_line, pair_line, gap_line, mark_line, page_line, gaps_text, known_text, next_line, pages_text, report_text, view_text, words_line}
+use Rattle.wb_commands.specs.SentLines.{digits_of, send_line, sends_text, look_line}
+use Rattle.wb_dialog.specs.Dialog.{ask_line, batch_of, stop_line}
+use Rattle.wb_laws_hosts.proofs.BoardRanges.{all_from}
+use Rattle.wb_laws_hosts.specs.Closings.{IsOneLine, AreOneLine, IsNoShow}
+use Rattle.wb_laws_hosts.specs.Telling.{answered}
+use Rattle.wb_laws_hosts.proofs.PlainLines.{Line, ends, behind, number_free, number_opens, hex_free, Plain, none, both, one, opening, each}
+
+-- ---- words
+
+free_of : (word : List ℕ) → list_all (λ (b : ℕ). not (nat_eq b 10)) word ≡ true → NoLineFeed word
+free_of [] e = tt
+free_of (b ∷ word) e =
+    let p = and_parts (not (nat_eq b 10)) (list_all (λ (c : ℕ). not (nat_eq c 10)) word) e in
+    (feed b p.0, free_of word p.1) where
+      feed : (b : ℕ) → not (nat_eq b 10) ≡ true → b ≢ 10
+      feed b e = λ (is : b ≡ 10). let bad : not (nat_eq 10 10) ≡ true = subst (λ (c : ℕ). not (nat_eq c 10) ≡ true) is e in absurd cc
+
+-- a word and a line behind it
+said : (word x : List ℕ) → list_all (λ (b : ℕ). not (nat_eq b 10)) word ≡ true → Line x → Line (word ++ x)
+said word x free line = behind word x (free_of word free) line
+
+number : (n : ℕ) (x : List ℕ) → Line x → Line (decimal n ++ x)
+number n x line = behind (decimal n) x (number_free n) line
+
+last : (n : ℕ) → Line (decimal n ++ codes "\n")
+last n = number n (codes "\n") ends
+
+next : (n : ℕ) (x : List ℕ) → Line x → Line (decimal n ++ (codes " " ++ x))
+next n x line = number n (codes " " ++ x) (said (codes " ") x refl line)
+
+-- ---- lines
+
+pub batch : (n : Counts) → Plain (batch_line n)
+batch n = opening (batch_line n) (said (codes "batch ") _ refl (next n.fresh _ (next n.again _ (next n.clash _ (last n.left))))) refl
+
+pub outcome : (o : Outcome) → Plain (batch_of o)
+outcome o = batch (counts_of (o ∷ []))
+
+pair : (a b : ℕ) → Plain (pair_line a b)
+pair a b = one (pair_line a b) (next a _ (last b)) (number_opens a 32 (decimal b ++ codes "\n") (λ (e : 32 ≡ 111). absurd cc) (λ (e : 32 ≡ 114). absurd cc))
+
+gap : (g : Gap) → Plain (gap_line g)
+gap g = one (gap_line g) (next g.source _ (next g.first _ (last g.last))) (number_opens g.source 32 (decimal g.first ++ (codes " " ++ (decimal g.last ++ codes "\n"))) (λ (e : 32 ≡ 111). absurd cc) (λ (e : 32 ≡ 114). absurd cc))
+
+pub send : (v : Datagram) → Plain (send_line v)
+send v = opening (send_line v) (said (codes "send ") _ refl (behind (digits_of v) (codes "\n") (hex_free (spelling v)) ends)) refl
+
+pub sends : (vs : List Datagram) → Plain (sends_text vs)
+sends vs = each send_line vs send
+
+pub look : (n : ℕ) → Plain (look_line n)
+look n = opening (look_line n) (said (codes "look ") _ refl (last n)) refl
+
+numbered : (n : ℕ) → Plain (next_line n)
+numbered n = opening (next_line n) (said (codes "next ") _ refl (last n)) refl
+
+pub asks : (begun : Bool) → Plain (ask_line begun)
+asks true = opening (codes "ask 1\n") (said (codes "ask 1") (codes "\n") refl ends) refl
+asks false = opening (codes "ask 0\n") (said (codes "ask 0") (codes "\n") refl ends) refl
+
+pub stops : (asked : Bool) → Plain (stop_line asked)
+stops true = opening (codes "stop 1\n") (said (codes "stop 1") (codes "\n") refl ends) refl
+stops false = opening (codes "stop 0\n") (said (codes "stop 0") (codes "\n") refl ends) refl
+
+-- ---- lists
+
+gaps : (gs : List Gap) → Plain (gaps_text gs)
+gaps gs = both _ (flat_map gap_line gs) (opening _ (said (codes "gaps ") _ refl (last (length gs))) refl) (each gap_line gs gap)
+
+report : (marks : List MarkValue) → Plain (report_text marks)
+report marks = both _ (flat_map mark_line marks) (opening _ (said (codes "report ") _ refl (last (length marks))) refl) (each mark_line marks (λ (m : MarkValue). pair m.source m.high))
+
+pages_lines : (pages : List PageId) → Plain (flat_map page_line pages)
+pages_lines pages = each page_line pages (λ (p : PageId). pair p.creator p.number)
+
+pages : (ps : List PageId) → Plain (pages_text ps)
+pages ps = both _ (flat_map page_line ps) (opening _ (said (codes "pages ") _ refl (last (length ps))) refl) (pages_lines ps)
+
+known : (ps : List PageId) → Plain (known_text ps)
+known ps = both _ (flat_map page_line ps) (opening _ (said (codes "known ") _ refl (last (length ps))) refl) (pages_lines ps)
+
+-- ---- drawops in words
+
+abbrev AreFree : List (List ℕ) → Type 0
+AreFree [] = Unit {0}
+AreFree (w ∷ ws) = NoLineFeed w × AreFree ws
+
+byte : (b : ℕ) → b ≢ 10 → NoLineFeed (b ∷ [])
+byte b h = (h, tt)
+
+space : ◌≢◌ {A = ℕ} 32 10
+space = omega arith
+
+tails : (ws : List (List ℕ)) → AreFree ws → NoLineFeed (tailed ws)
+tails [] h = tt
+tails (w ∷ ws) h = (space, NoLineFeed-append w (tailed ws) h.0 (tails ws h.1))
+
+before : (ws more : List (List ℕ)) → AreFree ws → NoLineFeed (tailed more) → NoLineFeed (tailed (ws ++ more))
+before [] more h q = q
+before (w ∷ ws) more h q = (space, NoLineFeed-append w (tailed (ws ++ more)) h.0 (before ws more h.1 q))
+
+escapes : (text : List ℕ) → NoLineFeed text → NoLineFeed (flat_map escaped text)
+escapes [] h = tt
+escapes (b ∷ text) h = NoLineFeed-append (escaped b) (flat_map escaped text) (at (is_special b)) (escapes text h.1) where
+  at : (special : Bool) → NoLineFeed (if special then 92 ∷ b ∷ [] else b ∷ [])
+  at true = (omega arith, (h.0, tt))
+  at false = (h.0, tt)
+
+quotes : (text : List ℕ) → NoLineFeed text → NoLineFeed (32 ∷ quoted text)
+quotes text h = (space, (omega arith, NoLineFeed-append (flat_map escaped text) (34 ∷ []) (escapes text h) (byte 34 (omega arith))))
+
+kind : (k : OpKind) → NoLineFeed (kind_word k)
+kind k = free_of (kind_word k) (every_kind (λ (it : OpKind). list_all (λ (b : ℕ). not (nat_eq b 10)) (kind_word it)) refl k)
+
+fields : (op : Op) → IsOneLine op → NoLineFeed (tailed (field_words op))
+fields (Drawn figure s) h = tails (stroke_words s) (number_free s.x0, (number_free s.y0, (number_free s.x1, (number_free s.y1, (byte s.glyph h, tt)))))
+fields (Text x y text) h = before (decimal x ∷ decimal y ∷ []) (words (quoted text)) (number_free x, (number_free y, tt)) (subst NoLineFeed (sym (tailed_words (quoted text))) (quotes text h))
+fields (Aimed change t) h = tails (target_words t) (number_free t.source, (number_free t.seq, tt))
+
+page_free : (p : PageId) → NoLineFeed (page_word p)
+page_free p = NoLineFeed-append (decimal p.creator) (47 ∷ decimal p.number) (number_free p.creator) (omega arith, number_free p.number)
+
+-- the words behind the first
+abbrev behind_draw : DrawopValue → List (List ℕ)
+behind_draw d = name_words d.name (decimal d.time ∷ op_words d.op)
+
+behind_free : (d : DrawopValue) → IsOneLine d.op → NoLineFeed (tailed (behind_draw d))
+behind_free d h = before (decimal d.name.source ∷ page_word d.name.page ∷ decimal d.name.seq ∷ decimal d.time ∷ kind_word (op_kind d.op) ∷ []) (field_words d.op)
+    (number_free d.name.source, (page_free d.name.page, (number_free d.name.seq, (number_free d.time, (kind (op_kind d.op), tt))))) (fields d.op h)
+
+in_words : (d : DrawopValue) → IsOneLine d.op → Plain (words_line d)
+in_words d h = subst (λ (line : List ℕ). Plain (line ++ codes "\n")) (sym (joined_tailed (codes "draw") (behind_draw d)))
+    (opening _ (behind (codes "draw" ++ tailed (behind_draw d)) (codes "\n") (NoLineFeed-append (codes "draw") (tailed (behind_draw d)) (free_of (codes "draw") refl) (behind_free d h)) ends) refl)
+
+in_lines : (ds : List DrawopValue) → AreOneLine ds → Plain (flat_map words_line ds)
+in_lines [] h = none
+in_lines (d ∷ ds) h = both (words_line d) (flat_map words_line ds) (in_words d (All-head (λ (e : DrawopValue). IsOneLine e.op) d ds h)) (in_lines ds (All-tail (λ (e : DrawopValue). IsOneLine e.op) d ds h))
+
+seen : (host : Opened) (page : PageId) → AreOneLine host.is.held → (d : DrawopValue) → Contains (view_of host.is.held page) d → IsOneLine d.op
+unfolding view_of
+seen host page held d c = All-contains (λ (e : DrawopValue). IsOneLine e.op) host.is.held d held (Contains-from_filter (is_shown host.is.held page) host.is.held d (Contains-from_sorted display_cmp (filter (is_shown host.is.held page) host.is.held) d c)).0
+
+view : (host : Opened) (page : PageId) → AreOneLine host.is.held → Plain (view_text (shown page host))
+view host page held = both _ (flat_map words_line (shown page host)) (opening _ (said (codes "view ") _ refl (last (length (shown page host)))) refl)
+    (in_lines (shown page host) (all_from (λ (e : DrawopValue). IsOneLine e.op) (shown page host) (seen host page held)))
+
+-- ---- answers
+
+-- each but that of a canvas
+pub answer : (query : Query) (host : Opened) → AreOneLine host.is.held → IsNoShow (Ok (Script (Question query))) → Plain (answered query host)
+answer (Canvas page width height) host held shows = absurd shows
+answer (Gaps page) host held shows = gaps _
+answer (Report page) host held shows = report _
+answer Pages host held shows = pages _
+answer (View page) host held shows = view host page held
+answer Known host held shows = known _
+answer (Next page) host held shows = from (next_number page host) where
+  from : (o : Option ℕ) → Plain (unwrap_or (option_map next_line o) [])
+  from None = none
+  from (Some n) = numbered n

@@ -1,0 +1,5 @@
+pub mod Openings
+pub mod Sessions
+pub mod Restarts
+pub mod Listening
+pub mod Examples

@@ -1,0 +1,14 @@
+pub mod Outcomes
+pub mod Once
+pub mod Room
+pub mod Names
+pub mod Sharing
+pub mod Deeds
+pub mod Drawn
+pub mod Sending
+pub mod Several
+pub mod Acts
+pub mod Holding
+pub mod Agreeing
+pub mod Honest
+pub mod Examples

@@ -1,5 +1,0 @@
-use Rattle.wb_session_hosts.proofs.Sent.{sent_was_said, held_was_said, sent_once}
-use Rattle.wb_session_hosts.proofs.laws.repairs_are_what_was_said.Goals as goal
-
-pub returns : goal.returns
-returns c = record { said = sent_was_said; held = held_was_said; once = sent_once }

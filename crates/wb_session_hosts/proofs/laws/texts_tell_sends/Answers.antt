@@ -1,5 +1,0 @@
-use Rattle.wb_session_hosts.proofs.Telling.{texts_tell_sends}
-use Rattle.wb_session_hosts.proofs.laws.texts_tell_sends.Goals as goal
-
-pub returns : goal.returns
-returns c = texts_tell_sends
