@@ -2,17 +2,19 @@
 from it."""
 from __future__ import annotations
 
+import contextlib
 import secrets
 import time
-from typing import Callable, Dict, List, Optional, Sequence, Tuple
+from typing import Callable, Dict, Iterator, List, Optional, Sequence, Set, Tuple
 
-from wbhost import Block, Host, HostEnded
+from wbhost import LINES, Block, Host, HostEnded
 
 from .clock import SECOND, Clock
-from .held import held_of
+from .held import Held, held_of
 from .options import Options
-from .record import FIRST_LINE, NoRoom, Record, comment, write_record
-from .views import Drawop, Page, Report, page_text
+from .record import FIRST_LINE, MOST_MOMENT, Act, NoRoom, Record, RecordFault, comment, write_record
+from .views import Drawop, Name, Page, Report, page_text
+from .waiting import Waiting
 from .words import Words
 
 # is told each drawop that the host took in
@@ -25,6 +27,10 @@ COLUMNS, ROWS = 200, 100
 # listens to its record alone, which may have a mark of its own.
 LISTENING = 6 * SECOND
 LEAST_LISTENING = 1
+
+# The clock of each start begins above the record, anywhere in one part in so many of the moments that are left, at one that nobody
+# guesses: who echoes a moment of ours has heard it. However often a record is started, moments are left.
+LEAD_PART = 512
 
 # a line for which a record has room has room for any drawing of ours, with its moment
 ROOM = "#" + 255 * "-"
@@ -60,27 +66,53 @@ class Board:
         self.unkept: List[str] = []  # lines that the record has no room for yet
         self.is_broken = False  # the record could not be written
         self.own_marks: Dict[Page, int] = {}  # marks of our number, that were heard while the host listened
+        self.strange: Set[Name] = set()  # what of the record's drawops no member gave
 
     def open(self, me: int) -> None:
         """Starts the host: with what the record has, or with a new board. It listens where the number may have drawn what the record lacks."""
         may_have_drawn = not self.record.is_ended() if self.record.size else me == self.options.me
-        head = [FIRST_LINE, "board %d %d 1 %d" % (me, self.options.cells, secrets.randbits(64))] if self.record.size == 0 else []
-        self.record.add(*head, comment("started"))
-        self.cells = int((self.record.first() or "").split()[2])
-        self.tell_held(self.start(LISTENING if may_have_drawn else 0))
+        if self.record.size == 0:
+            self.record.add(FIRST_LINE, "board %d %d 1 %d" % (me, self.options.cells, secrets.randbits(64)))
+        waiting = Waiting("takes in what its record has")
+        given = self.start(LISTENING if may_have_drawn else 0, waiting, 0.0 if self.options.replay else secrets.SystemRandom().random() / LEAD_PART)
+        try:
+            self.tell_held(given, waiting)
+            self.record.add(comment("started"))
+        except BaseException:
+            self.close()
+            raise
+        waiting.end()
         self.clock = Clock(self.moment + 1, self.options.speed)
 
-    def start(self, listening: int = 0) -> List[Tuple[str, Block]]:
-        """Starts a host that keeps itself, and gives it the datagrams of the record, each with its block. A record that is shown
-        has a host that keeps nothing."""
-        held = held_of(self.program, [*self.record.acts(), *self.unkept])
-        self.me = int(held.board.split()[1])
+    def start(self, listening: int = 0, waiting: Optional[Waiting] = None, lead: float = 0.0) -> List[Tuple[str, Block]]:
+        """Starts a host that keeps itself, after this part of the moments that the record leaves, and gives it the datagrams of the record, each
+        with its block. A record that is shown has a host that keeps nothing."""
+        held = held_of(self.program, [*self.record.acts(), *map(Act, self.unkept)])
+        self.me, self.cells = map(int, held.board.split()[1:3])
         self.host = Host(self.program, "--tuning", self.options.tuning())
-        self.moment, self.kept_moment = max(self.moment, held.moment), held.moment
+        try:
+            self.begin(held, listening, lead)
+            return [each for some in self.parts(held.datagrams, waiting, 0) for each in zip(some, self.ask(["came %d %s" % (self.moment, digits) for digits in some]))]
+        except BaseException:
+            self.host.end()
+            raise
+
+    def begin(self, held: Held, listening: int, lead: float) -> None:
+        """Gives a new host its board. RecordFault if it can't have that one."""
+        self.moment, self.kept_moment = max(self.moment, held.moment + int(lead * (MOST_MOMENT - held.moment))), held.moment
         self.ready_at = self.moment + max(LEAST_LISTENING, listening)
         keep = "keep %d %d" % (self.options.rate, self.ready_at - self.moment)
-        self.ask([held.board] if self.options.replay else [held.board, "tick %d" % self.moment, keep])
-        return list(zip(held.datagrams, self.ask(["came %d %s" % (self.moment, digits) for digits in held.datagrams])))
+        self.strange = held.strange
+        begun = self.ask([held.board] if self.options.replay else [held.board, "tick %d" % self.moment, keep])
+        if any(block.fault is not None for block in begun):
+            raise RecordFault("%s: no host can have its board: %s" % (self.record.path, held.board))
+
+    def parts(self, many: List[str], waiting: Optional[Waiting], half: int) -> Iterator[List[str]]:
+        """Some at a time, and how far the first or the second half of a start is with them."""
+        for at in range(0, len(many), LINES):
+            if waiting:
+                waiting.tell(half * len(many) + at, 2 * len(many))
+            yield many[at:at + LINES]
 
     def ask(self, lines: Sequence[str]) -> List[Block]:
         """The blocks of lines. HostEnded where the host ended."""
@@ -95,12 +127,12 @@ class Board:
         """The present moment, above that of each line that was told."""
         return max(self.clock.now(), self.moment + 1)
 
-    def tell_held(self, given: List[Tuple[str, Block]]) -> None:
+    def tell_held(self, given: List[Tuple[str, Block]], waiting: Waiting) -> None:
         """Tells the drawops that a host was given at its start."""
-        digits = [each for each, block in given if block.lines[-1:] == NEW]
-        for each, told in zip(digits, self.words.all(digits)):
-            if told.words is not None:
-                self.listener(Drawop(told.words, each))
+        for some in self.parts([each for each, block in given if block.lines[-1:] == NEW], waiting, 1):
+            for each, told in zip(some, self.words.all(some)):
+                if told.words is not None:
+                    self.listener(Drawop(told.words, each))
 
     def start_again(self) -> None:
         """Starts a host in the place of one that ended or said nothing for too long."""
@@ -111,8 +143,16 @@ class Board:
             raise BoardFault("the host ended %d times within a minute" % MOST_STARTS)
         self.start(self.ready_at - self.moment)
 
+    def begin_again(self) -> None:
+        """Goes on by a new host, which has what the record has, and asks at once, without the waits that have grown."""
+        self.host.end()
+        try:
+            self.start(self.ready_at - self.moment)
+        except HostEnded:
+            self.start_again()
+
     def change_over(self, program: str) -> None:
-        """Goes on by another build of the program, from the record. HostEnded where that one ended, and the one before goes on."""
+        """Goes on by a new host, of this program, from the record. HostEnded if that one ended, and the program before goes on."""
         before, self.program = self.program, program
         self.host.end()
         try:
@@ -140,18 +180,19 @@ class Board:
         now = self.now()
         return self.tell_all(["came %d %s" % (now, digits) for digits in many])
 
-    def take(self, drawops: Sequence[Drawop]) -> List[Block]:
-        """Gives the host drawops of others. Those that are new are kept and told."""
+    def take(self, drawops: Sequence[Drawop], is_strange: bool = False) -> List[Block]:
+        """Gives the host drawops of others. Those that are new are kept and told: in words if no member gave them, as the record has it."""
         blocks = self.came([drawop.digits for drawop in drawops])
         new = [drawop for drawop, block in zip(drawops, blocks) if block.lines[-1:] == NEW]
-        self.keep(["datagram " + drawop.digits for drawop in new])
+        self.keep([drawop.words if is_strange else "datagram " + drawop.digits for drawop in new])
         for drawop in new:
             self.listener(drawop)
         return blocks
 
     def draw(self, page: Page, time_of_day: int, operation: str) -> Tuple[Block, Optional[Drawop]]:
         """Has the host draw, which gives a drawing its number and its time. The record has room for it before. NoRoom where it has none.
-        What it repairs besides, of ours on that page, has lesser numbers."""
+        What it repairs besides, of ours on that page, has lesser numbers. If nobody says it in words, the record can't have it: then a host starts
+        that has not drawn it, or the next start would use its number again."""
         self.keep([])
         self.reserve()
         try:
@@ -164,6 +205,7 @@ class Board:
         digits = max(own, key=lambda each: each[NUMBER])
         words = self.words.of(digits).words or self.words.all([digits])[0].words
         if words is None:
+            self.begin_again()
             raise HostEnded("wb words ended")
         drawop = Drawop(words, digits)
         self.keep(["say " + words])
@@ -195,7 +237,7 @@ class Board:
         page, own = report.page, report.marks.get(self.me, 0)
         if self.moment < self.ready_at and own > max(top, self.own_marks.get(page, 0)):
             self.own_marks[page] = own
-            self.keep(["page-state %d %s %d=%d" % (report.sender, page_text(page), self.me, own)])
+            self.keep(["page-state %d %s %d=%d" % (report.speaker, page_text(page), self.me, own)])
 
     def write(self, lines: List[str]) -> None:
         self.is_broken = True
@@ -210,18 +252,31 @@ class Board:
         except NoRoom:
             self.is_broken = True
 
-    def renumber(self, me: int, path: Optional[str], held: List[Drawop]) -> None:
-        """Goes on under another number, with a record of its own and with all that was held."""
+    def renumber(self, me: int, path: Optional[str], held: List[Drawop], strange: Set[Name]) -> None:
+        """Goes on under another number, with a record of its own and with all that was held; what of it no member gave is told. NoRoom,
+        RecordFault or OSError if there is no room for that record: then all stays as it is."""
         head = [FIRST_LINE, "board %d %d 1 %d" % (me, self.cells, secrets.randbits(64))]
-        lines = [*head, "tick %d" % self.moment, *("datagram " + drawop.digits for drawop in held)]
-        record = write_record(path, lines)
-        if path != self.record.path:
-            self.record.remove()
+        lines = [*head, "tick %d" % self.moment, *(drawop.words if drawop.name in strange else "datagram " + drawop.digits for drawop in held)]
+        before, self.record = self.record, write_record(path, lines)
+        self.unkept, self.ready_at = [], self.moment
+        if path == before.path:
+            before.close()
         else:
-            self.record.close()
-        self.record, self.unkept = record, []
+            with contextlib.suppress(OSError):  # a folder that lets nothing go keeps a record that nobody has
+                before.remove()
+        self.begin_again()
+
+    def end(self) -> None:
+        """The member ends as it should. Unless a line found no room, nothing is lost."""
+        self.keep([])
+        if not self.unkept:
+            self.record.end()
+        self.close()
+
+    def close(self) -> None:
+        """Nothing of it stays behind."""
         self.host.end()
-        self.start()
+        self.record.close()
 
     # ---- questions
 

@@ -1,9 +1,14 @@
-"""The clock of a session: moments in microseconds that never go back."""
+"""The clock of a session: moments in microseconds that never go back; and the time of day."""
 from __future__ import annotations
 
 import time
 
 SECOND = 1_000_000
+
+
+def wall() -> int:
+    """The time of day of this machine, in microseconds, by which drawings lie upon one another."""
+    return time.time_ns() // 1000
 
 
 class Clock:

@@ -14,10 +14,12 @@ class Sheet:
     def __init__(self) -> None:
         self.drawops: Dict[Name, Drawop] = {}
         self.tops: Dict[int, int] = {}  # the greatest number of each source
+        self.counts: Dict[int, int] = {}  # how many of each source
         self.shown: List[Drawop] = []
         self.keys: List[Key] = []
         self.hidden: Dict[Name, Drawop] = {}
         self.decided: Dict[Tuple[int, int], Drawop] = {}  # the latest delete or restore of each number of a source
+        self.last = 0  # how many drawops were held on all pages when the last came
         self.changed: Dict[Name, Drawop] = {}  # drawings that came, went or came again since the last time it was told
 
     def add(self, drawop: Drawop) -> bool:
@@ -27,6 +29,7 @@ class Sheet:
             return False
         self.drawops[drawop.name] = drawop
         self.tops[source] = max(seq, self.tops.get(source, 0))
+        self.counts[source] = 1 + self.counts.get(source, 0)
         if drawop.is_drawing():
             self.place(drawop)
         else:
@@ -70,21 +73,25 @@ class Sheet:
 
 
 class Drawn:
-    """All pages, and how many drawops of each source there are."""
+    """All pages, and how many drawops there are."""
 
     def __init__(self) -> None:
         self.pages: Dict[Page, Sheet] = {}
         self.total = 0
-        self.by_source: Dict[int, int] = {}
 
     def add(self, drawop: Drawop) -> None:
-        if self.sheet(drawop.name[1]).add(drawop):
+        sheet = self.pages.setdefault(drawop.name[1], Sheet())
+        if sheet.add(drawop):
             self.total += 1
-            self.by_source[drawop.name[0]] = 1 + self.by_source.get(drawop.name[0], 0)
+            sheet.last = self.total
 
     def sheet(self, page: Page) -> Sheet:
-        """A page, which is remembered from now on."""
-        return self.pages.setdefault(page, Sheet())
+        """A page. One that has nothing is not remembered, however many are looked at."""
+        return self.pages.get(page) or Sheet()
+
+    def replace(self, page: Page, lines: List[str]) -> None:
+        """Shows of a page what the host's view has."""
+        self.pages.setdefault(page, Sheet()).replace(lines)
 
     def holds(self, name: Name) -> bool:
         return name[1] in self.pages and name in self.pages[name[1]].drawops
@@ -92,6 +99,10 @@ class Drawn:
     def top(self, page: Page, source: int) -> int:
         """The greatest number of a source that is held of a page; 0 where none is."""
         return self.pages[page].tops.get(source, 0) if page in self.pages else 0
+
+    def lacking(self, page: Page, source: int, high: int) -> int:
+        """How many numbers of a source are lacking at least, if it has so many."""
+        return max(0, high - (self.pages[page].counts.get(source, 0) if page in self.pages else 0))
 
     def count(self, page: Page) -> int:
         return len(self.pages[page].drawops) if page in self.pages else 0

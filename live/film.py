@@ -76,10 +76,14 @@ def times_of(lines: Sequence[str]) -> List[int]:
 
 def drawops_of(film: Film, words: Words) -> List[Tuple[int, Drawop]]:
     """The drawops of a record, each with its moment."""
-    said = [(time, line[4:]) for time, line in zip(film.times, film.lines) if line.startswith("say draw ")]
+    said = [(time, line[line.index("draw "):]) for time, line in zip(film.times, film.lines) if line.startswith(("say draw ", "draw "))]
     came = [(time, line[9:]) for time, line in zip(film.times, film.lines) if line.startswith("datagram ")]
     told = [(time, each.words) for (time, _), each in zip(came, words.all([digits for _, digits in came]))]
-    return sorted([(time, Drawop(text)) for time, text in said + told if text and text.startswith("draw ")], key=lambda each: each[0])
+    first: Dict[str, int] = {}  # what a stranger gave stands there again once it is a member's
+    for time, text in sorted(said + told, key=lambda each: each[0]):
+        if text and text.startswith("draw "):
+            first.setdefault(text, time)
+    return [(time, Drawop(text)) for text, time in first.items()]
 
 
 def scenes_of(film: Film, words: Words) -> Dict[str, Any]:

@@ -6,6 +6,7 @@ import copy
 import secrets
 import threading
 import time
+from collections import Counter
 from concurrent.futures import TimeoutError as TooLate
 from typing import Dict, List, Optional
 
@@ -18,42 +19,78 @@ from .events import Events
 from .judging import Judging
 from .member import Member
 from .proving import Stage
-from .record import NoRoom, Record
+from .record import NoRoom, Record, RecordFault
 from .state import random_number
 
-# seconds without a browser after which a member makes room for another, and that a member of this program may take to answer
+# Seconds after which a member makes room for another: without a window, if none ever looked, and, though one looks on, if nothing was asked.
+# And those that a member of this program may take to answer.
 AWAY = 60.0
+NEVER_LOOKED = 10.0
+IDLE = 600.0
 PATIENCE = 10.0
 
+# windows that look at one member at a time
+MOST_WINDOWS = 8
+
+# new members of one address: so many at once, and then one in each pause, in seconds
+MOST_NEW = 32
+NEW_PAUSE = 2.0
+
 # what ends a member, and no other
-FAULTS = (BoardFault, HostEnded, NoRoom, OSError)
+FAULTS = (BoardFault, HostEnded, NoRoom, OSError, RecordFault)
 
 # seconds that all members together may take to end
 FAREWELL = 5.0
 
 
-class Guest:
-    """The member of a browser, by the cookie that it was given. Its record vanishes with it: the member that keeps the board has all."""
+class NoPlace(Exception):
+    """There is no place for the member of one more browser, and why."""
 
-    def __init__(self, keeper: Member, hub: Hub) -> None:
+
+class Guest:
+    """The member of a browser, by the cookie that it was given, and the address that it came from. Its record vanishes with it: the
+    member that keeps the board has all."""
+
+    def __init__(self, keeper: Member, hub: Hub, address: str) -> None:
         self.cookie = secrets.token_hex(16)
+        self.address = address
         self.events = Events()
-        self.watchers = 0
+        self.counting = threading.Lock()
+        self.windows = 0
+        self.has_looked = False
         self.seen_at = time.monotonic()
         options = copy.copy(keeper.options)
         carrier = Worse(hub.place(), options)
-        self.member = Member(options, keeper.board.program, Record(None), carrier, self.events, random_number(), keeper.words)
+        record = Record(None)
+        try:
+            self.member = Member(options, keeper.board.program, record, carrier, self.events, random_number(), keeper.words)
+        except BaseException:
+            record.close()
+            raise
         self.member.judge(Judging(self.member))
         self.member.streams = keeper.streams
         self.member.stage = keeper.stage
 
-    def watch(self, by: int) -> None:
-        """So many windows more, or fewer, look at it."""
-        self.watchers += by
-        self.seen_at = time.monotonic()
+    def look(self) -> int:
+        """One window more looks at it: how many do now. 0 if that were too many."""
+        with self.counting:
+            if self.windows >= MOST_WINDOWS:
+                return 0
+            self.windows += 1
+            self.has_looked = True
+            return self.windows
+
+    def look_away(self) -> None:
+        with self.counting:
+            self.windows -= 1
+            self.seen_at = time.monotonic()
 
     def is_away(self) -> bool:
-        return not self.watchers and time.monotonic() - self.seen_at > AWAY
+        return not self.windows and self.is_quiet(AWAY if self.has_looked else NEVER_LOOKED)
+
+    def is_quiet(self, seconds: float) -> bool:
+        """It has asked for nothing for so long."""
+        return time.monotonic() - self.seen_at > seconds
 
 
 class Guests:
@@ -65,21 +102,28 @@ class Guests:
         self.most = keeper.options.guests
         self.changed = threading.Lock()
         self.guests: Dict[str, Guest] = {}
+        self.paid: Dict[str, float] = {}  # new members of an address are paid for up to then
         self.threads: List[threading.Thread] = []
 
     def find(self, cookie: str) -> Optional[Guest]:
-        return self.guests.get(cookie)
+        """The member of a browser, which asks for something."""
+        guest = self.guests.get(cookie)
+        if guest:
+            guest.seen_at = time.monotonic()
+        return guest
 
-    def begin(self) -> Optional[Guest]:
-        """A member for one more browser, or None where there is no room: the one whose browser is away for longest makes room for it."""
+    def begin(self, address: str) -> Guest:
+        """A member for one more browser. NoPlace if others need all, or if that address had too many new ones."""
         with self.changed:
-            if len(self.guests) >= self.most and not self.make_room():
-                return None
+            if not self.admits(address):
+                raise NoPlace("too many browsers came from your address: open the page anew in a minute")
+            if len(self.guests) >= self.most and not self.make_room(address):
+                raise NoPlace("%d browsers have members here, and there is no room for more" % self.most)
             try:
-                guest = Guest(self.keeper, self.hub)
+                guest = Guest(self.keeper, self.hub, address)
             except FAULTS as fault:
                 self.keeper.alarms.warn("a member for one more browser can't be started: %s" % fault)
-                return None
+                raise NoPlace("a member can't be started here now") from fault
             self.guests[guest.cookie] = guest
             thread = threading.Thread(target=self.run, args=(guest,), daemon=True)
             self.threads = [each for each in self.threads if each.is_alive()] + [thread]
@@ -87,20 +131,39 @@ class Guests:
         self.hand_over(guest)
         return guest
 
-    def make_room(self) -> bool:
-        away = sorted((guest for guest in self.guests.values() if guest.is_away()), key=lambda guest: guest.seen_at)
-        if away:
-            self.guests.pop(away[0].cookie).member.end()
-        return bool(away)
+    def admits(self, address: str) -> bool:
+        """Whether an address may have a new member now."""
+        now = time.monotonic()
+        self.paid = {each: until for each, until in self.paid.items() if until > now}
+        paid = self.paid.get(address, now)
+        if paid - now > (MOST_NEW - 1) * NEW_PAUSE:
+            return False
+        self.paid[address] = paid + NEW_PAUSE
+        return True
+
+    def make_room(self, address: str) -> bool:
+        """Whether a place has become free for a browser from there: the one goes that asked for nothing for longest, of those that are away;
+        if none is, of a crowd; and if there is none, of those that do nothing for long."""
+        guests = list(self.guests.values())
+        leaving = [guest for guest in guests if guest.is_away()] or self.crowd(address) or [guest for guest in guests if guest.is_quiet(IDLE)]
+        if leaving:
+            self.guests.pop(min(leaving, key=lambda guest: guest.seen_at).cookie).member.end()
+        return bool(leaving)
+
+    def crowd(self, address: str) -> List[Guest]:
+        """The members of the address that has most, if a newcomer's would still have fewer."""
+        counts = Counter(guest.address for guest in self.guests.values())
+        most, count = counts.most_common(1)[0]
+        return [guest for guest in self.guests.values() if guest.address == most] if count > counts[address] + 1 else []
 
     def hand_over(self, guest: Guest) -> None:
         """Gives a new member all that is held, so that it has to ask for nothing. Where that takes too long, it asks."""
         keeper = self.keeper
         try:
-            held = keeper.people.call(lambda: [bytes.fromhex(drawop.digits) for drawop in keeper.drawn.all()]).result(PATIENCE)
+            held = keeper.people.call(keeper.judging.given).result(PATIENCE)
         except TooLate:
             return
-        guest.member.people.call(guest.member.judging.take_stream, held)
+        guest.member.people.call(guest.member.judging.take_over, *held)
 
     def run(self, guest: Guest) -> None:
         """The thread of a member. One whose host can't be started again is gone; the others go on."""

@@ -2,9 +2,10 @@
 from __future__ import annotations
 
 import subprocess
-from typing import Iterable, List, NamedTuple
+from typing import Dict, Iterable, List, NamedTuple, Optional, Sequence, Set
 
-from .record import RecordFault
+from .record import Act, RecordFault
+from .views import Name, name_in
 
 # what of a datagram in words changes what is held, or the next number
 WORDS = ("draw ", "page-state ", "session-message ")
@@ -12,31 +13,59 @@ HEX = ("datagram ", "arrive ", "hear ")
 
 
 class Held(NamedTuple):
-    """The line of a board, a moment, and datagrams in hexadecimal."""
+    """The line of a board, a moment, datagrams in hexadecimal, and which drawops of these no member gave."""
 
     board: str
     moment: int
     datagrams: List[str]
+    strange: Set[Name]
 
 
-def held_of(program: str, acts: Iterable[str]) -> Held:
-    """Of the lines of a record. What a drawing of ours is as a datagram, `wb hex` says."""
+def held_of(program: str, acts: Iterable[Act]) -> Held:
+    """Of the lines of a record. What a drawop in words is as a datagram, `wb hex` says. One that no member gave is in words, and once more in
+    hexadecimal if a member came to be known that gave it."""
     board, *lines = acts
-    if any(line.startswith("keep ") for line in lines):
-        raise RecordFault("the record is another driver's, whose host kept itself: it stays as it is")
-    lines = [line[4:] if line.startswith("say ") else line for line in lines]
-    told = iter(digits_of(program, [line for line in lines if line.startswith(WORDS)]))
-    lines = [next(told) if line.startswith(WORDS) else line for line in lines]
+    for line in lines:
+        if line.startswith("keep "):
+            raise line.fault("another driver's host kept itself by it: the record stays as it is")
+    told = iter(digits_of(program, said_in(lines)))
+    datagrams: List[str] = []
+    strange: Dict[str, Optional[Name]] = {}
+    for line, said in [(line, next(told) if words_in(line) else str(line)) for line in lines]:
+        if said.startswith(HEX):
+            digits = said.split(" ")[1]
+            datagrams.append(digits)
+            strange[digits] = name_in(line) if line.startswith("draw ") else None
     moments = [int(line[5:]) for line in lines if line.startswith("tick ")]
-    return Held(board, max(moments, default=0), [line.split(" ")[1] for line in lines if line.startswith(HEX)])
+    return Held(board, max(moments, default=0), datagrams, {name for name in strange.values() if name})
 
 
-def digits_of(program: str, lines: List[str]) -> List[str]:
-    """Datagrams in words, each with its digits, or a comment where it is none."""
+def words_in(line: str) -> str:
+    """The datagram that a line says in words; empty if it says none."""
+    words = line[4:] if line.startswith("say ") else line
+    return words if words.startswith(WORDS) else ""
+
+
+def said_in(lines: Iterable[Act]) -> List[Act]:
+    return [line for line in lines if words_in(line)]
+
+
+def checked(program: str, acts: Iterable[Act]) -> List[Act]:
+    """The lines of a record, each datagram of which is one."""
+    lines = list(acts)
+    digits_of(program, said_in(lines))
+    return lines
+
+
+def digits_of(program: str, lines: Sequence[Act]) -> List[str]:
+    """The digits of lines that say datagrams. RecordFault at one that says none."""
     if not lines:
         return []
-    given = "".join(line + "\n" for line in lines)
+    given = "".join(words_in(line) + "\n" for line in lines)
     told = subprocess.run([program, "hex", "--keep-going"], input=given, stdout=subprocess.PIPE, encoding="latin-1", check=False).stdout.split("\n")[:-1]
     if len(told) != len(lines):
         raise RecordFault("the record can't be read: wb hex ended")
+    for line, digits in zip(lines, told):
+        if not digits.startswith(HEX):
+            raise line.fault("it says no datagram (%s)" % digits.split(": ", 1)[-1])
     return told

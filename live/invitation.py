@@ -9,7 +9,7 @@ from argparse import ArgumentTypeError
 from typing import TYPE_CHECKING, Dict, Optional, Tuple
 from urllib.parse import parse_qsl, quote, unquote, urlencode, urlsplit
 
-from .carriers.mqtt import PORTS, Broker, Login
+from .carriers.mqtt import MOST_NAME, PORTS, Broker, Login, is_name
 from .keys import key_bytes
 
 if TYPE_CHECKING:
@@ -40,8 +40,8 @@ def session_in(text: str) -> str:
 
 
 def login_in(name: str, password: str) -> Login:
-    if not name or NO_NAME.search(name):
-        raise InvitationFault("the name for a broker has no slash, plus, hash or colon")
+    if not is_name(name) or NO_NAME.search(name):
+        raise InvitationFault("the name for a broker has 1 to %d letters that can be shown, and no slash, plus, hash or colon" % MOST_NAME)
     return Login(name, password)
 
 

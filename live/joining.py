@@ -1,28 +1,40 @@
 """All drawops of one member at once, over TCP beside its UDP port: so a newcomer need not ask for each."""
 from __future__ import annotations
 
+import contextlib
+import itertools
+import os
 import socket
 import threading
 import time
-from typing import TYPE_CHECKING, Dict, Iterator, List, Optional
+from collections import Counter
+from concurrent.futures import TimeoutError as TooLate
+from typing import TYPE_CHECKING, Iterator, NamedTuple, Optional
 
-from .carriers.carrier import MOST_BYTES
+from .carriers.carrier import MOST_BYTES, Origin
 from .carriers.sealed import NONCE, TAG, Seal
 from .carriers.udp import UdpCarrier
-from .heard import Other
 from .options import Address
+from .people import Refused
 
 if TYPE_CHECKING:
     from .member import Member
 
-# who lacks fewer asks for each
-LEAST_LACKING = 500
+# how a stream breaks off: by the network, or since a member ends or its host does. Any other exception is a fault of this program
+BROKEN = (OSError, TooLate, Refused)
 
-# bytes and seconds of a stream, seconds without a byte, and between two streams that one member asks for
+# bytes and seconds of a stream, and seconds without a byte and until the question
 MOST_STREAM = 16 << 20
 LONGEST = 60.0
 SILENCE = 5.0
-PAUSE = 10.0
+QUESTION_TIME = 1.0
+
+# seconds until the next stream is accepted, if this machine has no room for one now
+NEXT_TRY = 0.1
+
+# A stream that brings much brings what is asked for by name too: nothing is asked for so long after it brought so many that were new. What brings
+# less holds no request back, so a member that lies has to give drawops, for which the board has room.
+PAUSE, MANY = 2.0, 100
 
 # streams that a member gives at a time, and datagrams that are taken in at a time
 MOST_GIVEN = 4
@@ -38,37 +50,82 @@ HEAD = 8
 LENGTH = 4
 MOST_PIECE = 1 << 20
 
+# bytes of a number that either side draws anew for each stream under a key
+FRESH = 16
 
-class Streams:
+
+class Streams(NamedTuple):
     """Where streams are given and asked for: beside a carrier by UDP. Under a key they are sealed as its datagrams are."""
 
-    def __init__(self, udp: UdpCarrier, seal: Optional[Seal]) -> None:
-        self.udp = udp
+    udp: UdpCarrier
+    seal: Optional[Seal]
+
+
+class Talk:
+    """One stream. Under a key the giver says a fresh number first, and the asker one of its own with the question. Both go with all that is sealed
+    from then on, so nothing that was sealed for another stream opens."""
+
+    def __init__(self, stream: socket.socket, seal: Optional[Seal]) -> None:
+        self.stream = stream
         self.seal = seal
+        self.fresh = b""
 
-    def write(self, stream: socket.socket, data: bytes) -> None:
-        closed = self.seal.close(data) if self.seal else data
-        stream.sendall(len(closed).to_bytes(LENGTH, "big") + closed if self.seal else closed)
-
-    def read(self, stream: socket.socket) -> bytes:
-        """What comes next; nothing at the end, and where a piece does not open."""
-        if not self.seal:
-            return stream.recv(PIECE)
-        size = int.from_bytes(stream.recv(LENGTH, socket.MSG_WAITALL), "big")
-        return self.seal.open(stream.recv(size, socket.MSG_WAITALL)) or b"" if 0 < size <= MOST_PIECE + NONCE + TAG else b""
-
-    def is_asked(self, stream: socket.socket) -> bool:
-        """Whether the other side asks for a stream, and has the key where there is one."""
+    def ask(self, end: float) -> None:
         if self.seal:
-            return self.read(stream) == QUESTION
-        return stream.recv(len(QUESTION), socket.MSG_WAITALL) == QUESTION
+            self.fresh = all_of(self.stream, FRESH, end)
+            ours = os.urandom(FRESH)
+            self.write(ours + QUESTION)
+            self.fresh += ours
+        else:
+            self.stream.sendall(QUESTION)
+
+    def is_asked(self, end: float) -> bool:
+        """Whether the other side asks for a stream until then, and has the key if there is one."""
+        if not self.seal:
+            return all_of(self.stream, len(QUESTION), end) == QUESTION
+        self.fresh = os.urandom(FRESH)
+        self.stream.sendall(self.fresh)
+        said = self.read(end)
+        self.fresh += said[:FRESH]
+        return said[FRESH:] == QUESTION
+
+    def write(self, data: bytes) -> None:
+        closed = self.seal.close(data, self.fresh) if self.seal else data
+        self.stream.sendall(len(closed).to_bytes(LENGTH, "big") + closed if self.seal else closed)
+
+    def read(self, end: float) -> bytes:
+        """What comes next; nothing at the end, and if a piece does not open. TimeoutError after `end`."""
+        if not self.seal:
+            return part_of(self.stream, PIECE, end)
+        size = int.from_bytes(all_of(self.stream, LENGTH, end), "big")
+        return self.seal.open(all_of(self.stream, size, end), self.fresh) or b"" if 0 < size <= MOST_PIECE + NONCE + TAG else b""
 
 
-def datagrams_of(streams: Streams, stream: socket.socket, end: float) -> Iterator[bytes]:
+def part_of(stream: socket.socket, most: int, end: float) -> bytes:
+    """What comes next, as a network cuts it; nothing at the end. TimeoutError after a silence, and after `end`."""
+    left = min(SILENCE, end - time.monotonic())
+    if left <= 0:
+        raise TimeoutError
+    stream.settimeout(left)
+    return stream.recv(most)
+
+
+def all_of(stream: socket.socket, size: int, end: float) -> bytes:
+    """So many bytes, in as many parts as they come; fewer only at the end."""
+    data = bytearray()
+    while len(data) < size:
+        part = part_of(stream, min(PIECE, size - len(data)), end)
+        if not part:
+            break
+        data += part
+    return bytes(data)
+
+
+def datagrams_of(talk: Talk, end: float) -> Iterator[bytes]:
     """The datagrams of a stream: each tells its length. It ends at the first that is none."""
     data, total = b"", 0
     while total < MOST_STREAM and time.monotonic() < end:
-        part = streams.read(stream)
+        part = talk.read(end)
         data, total = data + part, total + len(part)
         at = 0
         while len(data) - at >= HEAD:
@@ -85,58 +142,50 @@ def datagrams_of(streams: Streams, stream: socket.socket, end: float) -> Iterato
 
 
 class Joining:
-    """What a member that lacks much asks for: one stream at a time, of the nearest member that is heard."""
+    """What a member that lacks much takes: one stream at a time, of the member that its judge names."""
 
     def __init__(self, member: Member) -> None:
         self.member = member
         self.is_busy = False
         self.is_ended = False
-        self.next_at = 0.0
-        self.tried: Dict[int, float] = {}  # members whose stream brought nothing new, and when
+        self.coming_until = 0.0
 
-    def consider(self, lacking: int, present: Dict[int, Other], sender: int) -> None:
-        """A member reported so many numbers that are missing here."""
-        now = time.monotonic()
-        streams = self.member.streams
-        if lacking < LEAST_LACKING or self.is_busy or now < self.next_at or streams is None:
-            return
-        # only members whose echo was heard have a distance; before there is one, the member that reported
-        near = sorted((other.distance, number) for number, other in present.items() if other.distance is not None and self.may_try(number, now))
-        number = near[0][1] if near else sender
-        other = present.get(number)
-        address = other.origin.address if other else None
-        if address is None or not self.may_try(number, now) or not streams.udp.is_there(address):
+    def took(self, new: int) -> None:
+        """So many drawops of a stream were new."""
+        if new >= MANY:
+            self.coming_until = time.monotonic() + PAUSE
+
+    def is_coming(self) -> bool:
+        """Whether a stream brings much."""
+        return self.is_busy and time.monotonic() < self.coming_until
+
+    def fetch(self, origin: Origin) -> None:
+        """Takes a stream of the member that speaks from there, if it may be had."""
+        streams, address = self.member.streams, origin.address
+        if self.is_busy or streams is None or address is None or not streams.udp.is_there(address):
             return
         self.is_busy = True
-        threading.Thread(target=self.join, args=(streams, number, address), daemon=True).start()
+        threading.Thread(target=self.join, args=(streams, origin, address), daemon=True).start()
 
-    def may_try(self, number: int, now: float) -> bool:
-        return now - self.tried.get(number, -LONGEST) >= LONGEST
-
-    def join(self, streams: Streams, number: int, address: Address) -> None:
+    def join(self, streams: Streams, origin: Origin, address: Address) -> None:
         """Takes in a stream, as fast as the member's thread does."""
-        taken = 0
         try:
-            with socket.create_connection(address, timeout=SILENCE) as stream:
-                streams.write(stream, QUESTION)
-                some: List[bytes] = []
-                for datagram in datagrams_of(streams, stream, time.monotonic() + LONGEST):
-                    some.append(datagram)
-                    if len(some) >= SOME:
-                        taken, some = taken + self.hand_in(some), []
-                taken += self.hand_in(some)
-        except Exception:  # a stream that breaks off is nobody's fault: what is missing is asked for
-            pass
-        if not taken:
-            self.tried[number] = time.monotonic()
-        self.next_at = time.monotonic() + PAUSE
-        self.is_busy = False
+            with streams.udp.stream_to(address, SILENCE) as stream:
+                talk, end = Talk(stream, streams.seal), time.monotonic() + LONGEST
+                talk.ask(end)
+                self.take_all(datagrams_of(talk, end), origin)
+        except BROKEN:
+            pass  # what is missing is asked for
+        finally:
+            self.is_busy = False
 
-    def hand_in(self, some: List[bytes]) -> int:
-        """How many of these were new."""
-        if not some or self.is_ended:
-            return 0
-        return int(self.member.people.call(self.member.judging.take_stream, some).result(LONGEST))
+    def take_all(self, datagrams: Iterator[bytes], origin: Origin) -> None:
+        """Has the member take them in, some at a time, and few at first, so that it shows soon whether the stream brings much."""
+        for size in itertools.chain([MANY], itertools.repeat(SOME)):
+            some = list(itertools.islice(datagrams, size))
+            if not some or self.is_ended:
+                return
+            self.member.people.call(self.member.judging.take_stream, some, origin).result(LONGEST)
 
     def end(self) -> None:
         self.is_ended = True
@@ -148,45 +197,56 @@ class Offer:
     def __init__(self, member: Member, streams: Streams) -> None:
         self.member = member
         self.streams = streams
-        self.given = threading.Semaphore(MOST_GIVEN)
+        self.changed = threading.Lock()
+        self.given: "Counter[str]" = Counter()  # how many streams each host has
         self.socket: Optional[socket.socket] = None
+        self.is_ended = False
 
     def begin(self) -> None:
-        """Listens beside the UDP port. Where that port is taken, nothing is offered."""
-        listening = socket.socket(socket.AF_INET, socket.SOCK_STREAM)
+        """Listens beside the UDP port. If that port is taken, nothing is offered."""
         try:
-            listening.setsockopt(socket.SOL_SOCKET, socket.SO_REUSEADDR, 1)
-            listening.bind(self.streams.udp.place())
-            listening.listen(MOST_GIVEN)
+            self.socket = self.streams.udp.listen_beside(MOST_GIVEN)
         except OSError:
-            listening.close()
             return
-        self.socket = listening
-        threading.Thread(target=self.accept, args=(listening,), daemon=True).start()
+        threading.Thread(target=self.accept, args=(self.socket,), daemon=True).start()
 
     def accept(self, listening: socket.socket) -> None:
-        while True:
+        while not self.is_ended:
             try:
                 stream, address = listening.accept()
-            except OSError:
-                return
-            if self.streams.udp.may_ask(address) and self.given.acquire(blocking=False):
-                threading.Thread(target=self.give, args=(stream,), daemon=True).start()
+            except OSError:  # too many files are open, or who asked has gone
+                time.sleep(NEXT_TRY)
+                continue
+            if self.streams.udp.may_ask(address) and self.take_place(address[0]):
+                threading.Thread(target=self.give, args=(stream, address[0]), daemon=True).start()
             else:
                 stream.close()
 
-    def give(self, stream: socket.socket) -> None:
+    def take_place(self, host: str) -> bool:
+        """Whether there is room for one more stream, to that host."""
+        with self.changed:
+            has_room = sum(self.given.values()) < MOST_GIVEN and self.given[host] < self.streams.udp.streams_of_host
+            self.given[host] += has_room
+            return has_room
+
+    def give_back(self, host: str) -> None:
+        with self.changed:
+            self.given[host] -= 1
+            self.given += Counter()  # forgets who has none
+
+    def give(self, stream: socket.socket, host: str) -> None:
         try:
             with stream:
-                stream.settimeout(SILENCE)
-                if self.streams.is_asked(stream):
-                    self.send_all(stream)
-        except Exception:  # who asked has gone, or this member ends
-            pass
+                talk = Talk(stream, self.streams.seal)
+                if talk.is_asked(time.monotonic() + QUESTION_TIME):
+                    stream.settimeout(SILENCE)
+                    self.send_all(talk)
+        except BROKEN:
+            pass  # who asked has gone, or this member ends
         finally:
-            self.given.release()
+            self.give_back(host)
 
-    def send_all(self, stream: socket.socket) -> None:
+    def send_all(self, talk: Talk) -> None:
         """By page, source and number, so that nothing seems to be missing on the way."""
         end = time.monotonic() + LONGEST
         held = self.member.people.call(lambda: list(self.member.drawn.all())).result(LONGEST)
@@ -194,9 +254,12 @@ class Offer:
         for start in range(0, len(held), SOME):
             if time.monotonic() > end:
                 return
-            self.streams.write(stream, bytes.fromhex("".join(drawop.digits for drawop in held[start:start + SOME])))
+            talk.write(bytes.fromhex("".join(drawop.digits for drawop in held[start:start + SOME])))
 
     def end(self) -> None:
+        self.is_ended = True
         if self.socket:
+            with contextlib.suppress(OSError):
+                self.socket.shutdown(socket.SHUT_RDWR)  # else its thread waits on
             self.socket.close()
 

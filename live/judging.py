@@ -1,33 +1,45 @@
-"""What a member judges beside its host, which has no clock of the day, knows no places and remembers no reports of its own: some kinds of
-datagrams are not handed in, and nothing is drawn under a number that somebody else has. docs/DECISIONS.md says why these are not the
-host's; all else is, and what people are told stands in telling.py."""
+"""What a member does by the words of its judge (judge.py), which alone says what is handed to the host: here are the facts that it asks
+for, what is done then, and how people are told. docs/DECISIONS.md says why this is not the host's."""
 from __future__ import annotations
 
-from typing import TYPE_CHECKING, Any, Callable, Dict, List, Optional, Sequence, Tuple
+from typing import TYPE_CHECKING, Any, Callable, Dict, List, Optional, Sequence, Set, Tuple
 
-from .board import CLASH, NEW
-from .clock import SECOND
-from .heard import Heard
+from .board import NEW
+from .carriers.carrier import Origin
+from .clock import SECOND, wall
 from .inbox import Arrival
 from .joining import Joining
-from .room import Room
-from .speakers import Speakers
-from .times import MINUTE, Future, Times
-from .views import Drawop, Report, kind_of, report_of, speaker_of
-from .words import Told as Said
+from .judge import Facts, Judge, Other, Verdict
+from .views import Datagram, Drawop, Name, Question, Report, datagram_of
+from .wire import with_echo
 
 if TYPE_CHECKING:
-    from wbhost import Block
-
     from .member import Member
 
-# how a session message begins, and reports of ours that are known again
-SESSION = "57420102"
-MOST_OWN = 256
+# how a session message and a request begin, and where a session message has its moment
+SESSION, REQUEST, SENT = "57420102", "57420103", slice(24, 40)
 
-# While its host listens, a member believes marks of its own number that are so far above what it holds, as many as a board has room for.
-# Any above is forged.
-MOST_LOST = 65_536
+# marks of a report of which note is taken, as many as a host tells
+MARKS = 64
+
+# A member that was not heard for so long is shown no more, and for so many intervals between two reports, since of many members each
+# speaks more seldom than that; and an interval at most.
+GONE_AFTER, GONE_AFTER_INTERVALS, MOST_INTERVAL = 60 * SECOND, 3, 64 * SECOND
+
+# why a datagram is not handed in, for people
+WHYS = {
+    "own": "our own number", "speaks": "speaks for another", "crowd": "too many new members", "mark": "a mark of ours",
+    "stranger": "a stranger asks for what is not held", "flood": "too many questions of strangers", "again": "a stranger repeats what is held",
+    "ahead": "ahead of the clock", "full": "the board is full", "share": "over a stranger's share", "pages": "strangers are on too many pages, or too many numbers",
+}
+
+# what people are warned of; that another has our number is told as long as it is so
+WARNINGS = {
+    "speaks": "{origin} speaks for member {number}, which is another's number: that is not heeded",
+    "mark": "a report tells of a drawing of ours that we did not make",
+    "full": "the board is full: new drawings are not kept",
+    "share": "{origin} has not answered us, and draws more than its share: the rest is not kept",
+}
 
 
 class Judging:
@@ -35,166 +47,157 @@ class Judging:
 
     def __init__(self, member: Member) -> None:
         self.member = member
-        self.heard = Heard()
-        self.times = Times()
-        self.future = Future()
-        self.room = Room(member)
         self.joining = Joining(member)
-        self.speakers = Speakers(member.me, member.options.login)
-        self.own_reports: Dict[str, None] = {}
-        self.has_twin = False  # somebody else has our number: nothing is drawn until this member has another
-
-    # ---- when to do what
+        self.patience = GONE_AFTER
+        options, board = member.options, member.board
+        # under a key nobody is a stranger for long, and what came before is replayed from outside
+        self.judge = Judge(member.me, board.cells, board.now(), wall(), options.login.name if options.login else None, 0 if options.key else None)
+        for name in board.strange:
+            self.judge.remember(name)
 
     def plan(self) -> List[Tuple[int, Callable[[], Any]]]:
         """What is to be done, each with its moment."""
         board = self.member.board
         plan: List[Tuple[int, Callable[[], Any]]] = [] if board.due is None else [(board.due, self.member.tick)]
-        if not self.member.is_ready:
-            plan.append((board.ready_at, self.member.people.begin))
-        coming = self.future.next()
-        if coming is not None:
-            ahead = coming - MINUTE - self.now()
-            plan.append((0 if ahead <= 0 else board.clock.now() + min(ahead, 3600 * SECOND), self.take_due))
-        return plan
-
-    def now(self) -> int:
-        """The time of day of the session, by the clocks of members that have answered us."""
-        present = self.heard.present(self.member.board.clock.now())
-        return self.times.now(number for number, other in present.items() if other.distance is not None)
+        return plan if self.member.is_ready else [*plan, (board.ready_at, self.member.people.begin)]
 
     # ---- what comes in
 
     def arrive(self, arrivals: Sequence[Arrival]) -> None:
-        """Datagrams came in."""
-        digits = [arrival.data.hex() for arrival in arrivals]
-        for arrival, each, told in zip(arrivals, digits, self.member.words.all(digits)):
-            self.arrive_one(arrival, each, told)
-
-    def arrive_one(self, arrival: Arrival, digits: str, told: Said) -> None:
-        """Draws the conclusions from a datagram, tells what became of it, and sends what the host sends then."""
+        """Datagrams came in. It is told what became of each, and what the host sends then is sent."""
         member = self.member
-        entry = member.wire.came(arrival, told.words)
-        sent: List[str] = []
-        if not arrival.is_lost:
-            entry["refused"] = told.fault if told.words is None else self.heed(told.words, digits, arrival, sent)
-        member.wire.tell(entry)
-        member.send_all(sent)
+        self.judge.tell_time(member.board.now(), wall())
+        digits = [arrival.data.hex() for arrival in arrivals]
+        for arrival, each, told in zip(arrivals, digits, member.words.all(digits)):
+            entry = member.wire.came(arrival, told.words)
+            sent: List[str] = []
+            if not arrival.is_lost:
+                entry["refused"] = told.fault if told.words is None else self.heed(datagram_of(told.words, each), each, arrival.origin, sent)
+            member.wire.tell(entry)
+            member.send_all(sent)
 
-    def heed(self, words: str, digits: str, arrival: Arrival, sent: List[str]) -> Optional[str]:
-        """Hands a datagram to the host, unless it is refused. Why it changes nothing, where it is so. What the host sends is put behind
+    def heed(self, datagram: Datagram, digits: str, origin: Origin, sent: List[str]) -> Optional[str]:
+        """Hands a datagram to the host, unless the judge refuses it, and tells why it changes nothing. What the host sends is put behind
         what is sent."""
-        if kind_of(words) == "draw":
-            return self.heed_drawop(Drawop(words, digits), sent)
-        member, report, is_ours = self.member, report_of(words), speaker_of(words) == self.member.me
-        fault = self.refusal_of(speaker_of(words), report, arrival)
-        if fault is not None:
-            return fault
-        if is_ours and report is not None and report.is_session and digits not in self.own_reports:
-            self.has_twin = True
-        block = member.board.came([digits])[0]
+        verdict = self.verdict(datagram, origin)
+        if verdict.why is not None:
+            return WHYS[verdict.why]
+        if isinstance(datagram, Drawop):
+            return self.take([datagram], origin, sent)
+        block = self.member.board.came([digits])[0]
         sent += block.sent()
-        if report is not None and not is_ours and block.fault is None:
-            self.heed_report(report, arrival)
+        if isinstance(datagram, Report) and block.fault is None:
+            self.notice(datagram, origin)
+        if verdict.fetch:
+            self.joining.fetch(verdict.fetch)
         return block.fault
 
-    def refusal_of(self, speaker: int, report: Optional[Report], arrival: Arrival) -> Optional[str]:
-        """Why a datagram that is no drawop is not handed to the host."""
-        member = self.member
-        if self.speakers.is_forged(speaker, arrival.origin):
-            member.alarms.warn("%s speaks for member %d, which is another's number: that is not heeded" % (arrival.origin.text, speaker))
-            return "speaks for another"
-        if report is None or speaker == member.me:
-            return None
-        self.heard.hear(speaker, arrival.origin, member.board.clock.now())
-        if speaker not in self.heard.others:
-            return "too many members"
-        own, top = report.marks.get(member.me, 0), member.drawn.top(report.page, member.me)
-        if own > top + (0 if member.is_ready else MOST_LOST):
-            member.alarms.warn("a report tells of a drawing of ours that we did not make")
-        return "a mark of ours" if not member.is_ready and own > top + MOST_LOST else None
+    def verdict(self, datagram: Datagram, origin: Origin, taken: int = 0) -> Verdict:
+        """What the judge says, beside so many drawops that are about to be handed in. What it says besides is done."""
+        board, drawn = self.member.board, self.member.drawn
+        verdict = self.judge.judge(origin, datagram, self.facts(datagram, taken))
+        board.keep(["datagram " + drawn.pages[name[1]].drawops[name].digits for name in verdict.became])
+        what, _, number = (verdict.warn or "").partition(" ")
+        if what in WARNINGS:
+            self.member.alarms.warn(WARNINGS[what].format(origin=origin.text, number=number))
+        return verdict
 
-    def heed_report(self, report: Report, arrival: Arrival) -> None:
-        """Draws the conclusions from a report of another, which the host has heard."""
-        member, now = self.member, self.member.board.moment
-        other = self.heard.others[report.sender]
+    def facts(self, datagram: Datagram, taken: int) -> Facts:
+        member, drawn, now = self.member, self.member.drawn, self.member.board.now()
+        held, listens = drawn.total + taken, not member.is_ready
+        if isinstance(datagram, Question):
+            return Facts(now, held, listens, holds=datagram.name is not None and drawn.holds(datagram.name))
+        if isinstance(datagram, Drawop):
+            return Facts(now, held, listens, holds=drawn.holds(datagram.name), top=drawn.top(datagram.name[1], member.me))
+        marks = list(datagram.marks.items())[:MARKS]
+        lacking = sum(drawn.lacking(datagram.page, source, high) for source, high in marks if source != member.me)
+        return Facts(now, held, listens, top=drawn.top(datagram.page, member.me), lacking=lacking)
+
+    def notice(self, report: Report, origin: Origin) -> None:
+        """Draws the conclusions from a report that the host has heard."""
+        member, other = self.member, self.judge.others[report.speaker]
         if report.is_session:
-            member.wire.learn(arrival.origin, report.sender)
-            told = report.distance(member.me, now)
-            other.distance = other.distance if told is None else told
-        if other.distance is not None:
-            self.room.vouch(report)
+            member.wire.learn(origin, report.speaker)
+        if other.answered is not None:
+            member.telling.notice(report, MARKS)
         member.board.keep_mark(report, member.drawn.top(report.page, member.me))
-        self.joining.consider(member.telling.notice(report), self.heard.present(now), report.sender)
 
     # ---- drawops
 
-    def heed_drawop(self, drawop: Drawop, sent: List[str]) -> Optional[str]:
-        fault = self.refusal(drawop)
-        return self.take([drawop], sent) if fault is None else fault
-
-    def refusal(self, drawop: Drawop) -> Optional[str]:
-        """Why a drawop is not handed to the host, or not yet."""
-        if self.member.drawn.holds(drawop.name):
-            return None
-        self.times.learn(drawop.name[0], drawop.time)
-        if drawop.time > self.now() + MINUTE:
-            self.future.put(drawop)
-            return "ahead of the clock"
-        fault = self.room.fault(drawop)
-        if fault is not None:
-            self.member.alarms.warn("%s: drawings of member %d are not kept" % (fault, drawop.name[0]))
-        return fault
-
-    def take(self, drawops: Sequence[Drawop], sent: List[str]) -> Optional[str]:
-        """Gives the host drawops, and draws the conclusions. Why it refused the last."""
-        fault = None
-        tops = [self.member.drawn.top(drawop.name[1], self.member.me) for drawop in drawops]
-        for drawop, top, block in zip(drawops, tops, self.member.board.take(drawops)):
+    def take(self, drawops: Sequence[Drawop], origin: Origin, sent: List[str]) -> Optional[str]:
+        """Gives the host drawops of one origin. Why it refused the last."""
+        fault, now = None, self.member.board.now()
+        for drawop, block in zip(drawops, self.member.board.take(drawops, not self.judge.is_known(origin, now))):
             sent += block.sent()
             fault = block.fault
-            self.conclude(drawop, top, block)
+            if block.lines[-1:] == NEW:
+                self.judge.took(origin, drawop.name, now)
+            self.member.telling.notice_batch(drawop.name, block.lines[-1:])
         return fault
 
-    def take_stream(self, datagrams: List[bytes]) -> int:
-        """Takes in the drawops of a stream. How many were new."""
+    def take_stream(self, datagrams: List[bytes], origin: Origin) -> None:
+        """Takes in the drawops of a stream from there, each judged as any other."""
+        member, before = self.member, self.member.drawn.total
         digits = [datagram.hex() for datagram in datagrams]
-        drawops = [Drawop(told.words, each) for each, told in zip(digits, self.member.words.all(digits)) if told.words and kind_of(told.words) == "draw"]
-        now, before = self.now() + MINUTE, self.member.drawn.total
+        drawops = [datagram_of(told.words, each) for each, told in zip(digits, member.words.all(digits)) if told.words]
+        new = [drawop for drawop in drawops if isinstance(drawop, Drawop) and not member.drawn.holds(drawop.name)]
+        # a stranger's share is used up one by one
+        is_known = self.judge.is_known(origin, member.board.now())
         sent: List[str] = []
-        self.take([drawop for drawop in drawops
-                   if not self.member.drawn.holds(drawop.name) and drawop.time <= now and not (self.room.is_full() and drawop.is_drawing())], sent)
-        self.member.send_all(sent)
-        return self.member.drawn.total - before
+        for some in [new] if is_known else [[drawop] for drawop in new]:
+            taken: List[Drawop] = []
+            for drawop in some:
+                taken += [drawop] if self.verdict(drawop, origin, len(taken)).why is None else []
+            self.take(taken, origin, sent)
+        self.joining.took(member.drawn.total - before)
+        member.send_all(sent)
 
-    def take_due(self) -> None:
-        """The drawops whose time has come."""
-        sent: List[str] = []
-        for drawop in self.future.due(self.now()):
-            self.heed_drawop(drawop, sent)
-        self.member.send_all(sent)
+    # ---- from one member of this program to another
 
-    def conclude(self, drawop: Drawop, own_top: int, block: Block) -> None:
-        """What the host's answer to a drawop tells. One of our number that is new, or another than ours, is of who has our number too."""
-        member, batch = self.member, block.lines[-1:]
-        if drawop.name[0] == member.me and (batch == CLASH or (batch == NEW and member.is_ready and drawop.name[2] > own_top)):
-            self.has_twin = True
-        member.telling.notice_batch(drawop.name, batch)
+    def given(self) -> Tuple[List[Drawop], Set[Name]]:
+        """All that is held, and what of it no known origin gave."""
+        return list(self.member.drawn.all()), set(self.judge.strange.origins)
+
+    def take_over(self, drawops: List[Drawop], strange: Set[Name]) -> None:
+        """Takes in what another member of this program holds."""
+        for is_strange in (False, True):
+            some = [drawop for drawop in drawops if (drawop.name in strange) == is_strange and not self.member.drawn.holds(drawop.name)]
+            for drawop, block in zip(some, self.member.board.take(some, is_strange)):
+                if is_strange and block.lines[-1:] == NEW:
+                    self.judge.remember(drawop.name)
 
     # ---- what is sent
 
-    def went(self, digits: str) -> None:
-        """A datagram of ours goes out. A report of ours that comes back is nobody else's."""
-        if digits.startswith(SESSION):
-            self.own_reports[digits] = None
-            if len(self.own_reports) > MOST_OWN:
-                del self.own_reports[next(iter(self.own_reports))]
-            self.heard.spoke(len(digits) // 2, self.member.options.rate, self.member.board.clock.now())
-            self.member.telling.notice_room(self.room.is_full())
+    def outgoing(self, digits: str) -> Optional[str]:
+        """What goes out for a datagram of the host, if anything: no request while a stream brings what it asks for, and a report of ours echoes
+        the last one under our number that is not ours."""
+        if digits.startswith(REQUEST) and self.joining.is_coming():
+            return None
+        if not digits.startswith(SESSION):
+            return digits
+        now, member = self.member.board.now(), self.member
+        self.judge.reported(int(digits[SENT], 16))
+        interval = min(MOST_INTERVAL, (len(self.present()) + 1) * (len(digits) // 2) * SECOND // member.options.rate)
+        self.patience = max(GONE_AFTER, GONE_AFTER_INTERVALS * interval)
+        member.telling.notice_room(self.judge.is_full(member.drawn.total))
+        echo = self.judge.own_echo(now)
+        return digits if echo is None else with_echo(digits, member.me, *echo)
 
-    def fault_of_drawing(self) -> Optional[str]:
-        """Why nothing can be drawn now."""
-        return "another member has our number: take a new one" if self.has_twin else None
+    def fault_of_drawing(self, is_drawing: bool) -> Optional[str]:
+        """Why it can't be drawn now."""
+        fault = self.judge.fault_of_adding(is_drawing, self.member.drawn.total)
+        return "another member has our number: take a new one" if fault == "twin" else fault
+
+    # ---- who is there
+
+    def present(self) -> Dict[int, Other]:
+        """The members that were heard lately."""
+        now = self.member.board.clock.now()
+        return {number: other for number, other in self.judge.others.items() if now - other.at < self.patience}
+
+    def leave(self, origin: Origin) -> None:
+        """The network says that who spoke from there is gone."""
+        self.judge.leave(origin)
 
     def end(self) -> None:
         self.joining.end()

@@ -4,6 +4,7 @@ from __future__ import annotations
 import signal
 import sys
 import webbrowser
+from contextlib import ExitStack
 from typing import List, Optional, Tuple
 
 from wbhost import HostEnded, NoProgram
@@ -15,6 +16,7 @@ from .carriers.opening import open_network
 from .carriers.worse import Worse
 from .events import Events
 from .guests import Guests
+from .held import checked
 from .invitation import InvitationFault, code_of, write_invitation
 from .joining import Offer, Streams
 from .judging import Judging
@@ -33,9 +35,15 @@ from .words import SharedWords
 FAULTS = (BoardFault, HostEnded, InvitationFault, KeyFault, NetworkFault, NoProgram, NoRoom, OSError, RecordFault)
 
 
+PLAIN = (
+    "wb-live: the page goes over the network by plain HTTP: who can read there has its key, and draws. docs/LIVE.md, Over TLS, has three lines "
+    "that seal it"
+)
+
+
 def replay(options: Options, program: str, events: Events, path: str) -> Member:
     """A record that is shown: it is read alone."""
-    lines = read_played(path)
+    lines = iter(checked(program, read_played(path)))
     words = next(lines).split()
     options.cells = int(words[2])
     member = Member(options, program, Record(None), Nobody("a replay of %s" % path), events, int(words[1]))
@@ -43,30 +51,39 @@ def replay(options: Options, program: str, events: Events, path: str) -> Member:
     return member
 
 
-def make_member(options: Options, events: Events) -> Tuple[Member, Optional[Guests]]:
+def make_member(options: Options, events: Events, held: ExitStack) -> Tuple[Member, Optional[Guests]]:
     """The member of the network, or of a record that is shown; and those of browsers, where each has its own."""
     guests: Optional[Guests] = None
     program, is_proved = find_now()
     if options.replay:
         member = replay(options, program, events, options.replay)
+        held.callback(member.close)
     else:
-        member, guests = join(options, program, events)
+        member, guests = join(options, program, events, held)
     member.stage = Stage(program, is_proved, is_beside=not options.replay, build=build_of(program))
     return member, guests
 
 
-def join(options: Options, program: str, events: Events) -> Tuple[Member, Optional[Guests]]:
+def join(options: Options, program: str, events: Events, held: ExitStack) -> Tuple[Member, Optional[Guests]]:
     """The member of the network, and those of browsers, where each has its own."""
     record, me = open_record(options)
+    held.callback(record.close)
     carrier, udp, seal = open_network(options, me)
     hub = Hub(carrier) if options.guests else None
+    held.callback(hub.end if hub else carrier.end)
     words = SharedWords(program) if hub else None
     member = Member(options, program, record, Worse(hub.place() if hub else carrier, options), events, me, words)
+    held.callback(member.close)
     member.judge(Judging(member))
     if udp:
         member.streams = Streams(udp, seal)
-        Offer(member, member.streams).begin()
-    return member, Guests(member, hub) if hub else None
+        offer = Offer(member, member.streams)
+        held.callback(offer.end)
+        offer.begin()
+    guests = Guests(member, hub) if hub else None
+    if guests:
+        held.callback(guests.end)
+    return member, guests
 
 
 def invite(options: Options) -> None:
@@ -77,6 +94,19 @@ def invite(options: Options) -> None:
         print(code_of(line), end="")
     if not options.key:
         print("wb-live: this session has no key: whoever is on its network can read and draw", file=sys.stderr)
+
+
+def tell_pages(options: Options, web: Web) -> None:
+    """Prints the addresses of the page. The last is the one for others: where other machines reach it, it is shown as a picture too, for people that
+    look on."""
+    for url in web.urls:
+        print("page %s" % url, flush=True)
+    if options.web and options.web[2] and sys.stdout.isatty():
+        print(code_of(web.urls[-1]), end="", flush=True)
+    if not web.is_of_this_machine:
+        print(PLAIN, file=sys.stderr)
+    if options.open:
+        webbrowser.open(web.urls[-1])
 
 
 def prove_beside(member: Member, guests: Optional[Guests], is_told: bool) -> Optional[Proof]:
@@ -96,37 +126,30 @@ def prove_beside(member: Member, guests: Optional[Guests], is_told: bool) -> Opt
 
 
 def hold(options: Options) -> None:
-    """Holds the session until it is ended."""
-    events = Events()
-    member, guests = make_member(options, events)
-    web: Optional[Web] = open_web(options, member, events, guests) if options.web else None
-    for number in (signal.SIGINT, signal.SIGTERM, signal.SIGHUP):
-        signal.signal(number, lambda *_: member.end())
-    print(notice_of(member), flush=True)
-    print("member %d, %s" % (member.me, member.network.where), flush=True)
-    if web:
-        web.begin()
-        for url in web.urls:
-            print("page %s" % url, flush=True)
-        if options.open:
-            webbrowser.open(web.urls[-1])
-    terminal = Terminal(member, events) if options.terminal and sys.stdin.isatty() and sys.stdout.isatty() else None
-    if terminal:
-        terminal.begin()
-    proof = prove_beside(member, guests, terminal is None)
-    try:
-        member.run()
-    finally:
-        if proof:
-            proof.end()
-            if sys.stderr.isatty():
-                print(file=sys.stderr)  # behind the bar, which renews its line
-        events.end()
+    """Holds the session until it is ended. What it holds is closed in any case, what was begun last first."""
+    with ExitStack() as held:
+        events = Events()
+        member, guests = make_member(options, events, held)
+        web: Optional[Web] = open_web(options, member, events, guests) if options.web else None
+        for number in (signal.SIGINT, signal.SIGTERM, signal.SIGHUP):
+            signal.signal(number, lambda *_: member.end())
+        print(notice_of(member), flush=True)
+        print("member %d, %s" % (member.me, member.network.where), flush=True)
+        if web:
+            web.begin()
+            held.callback(web.following.end)
+            tell_pages(options, web)
+        terminal = Terminal(member, events) if options.terminal and sys.stdin.isatty() and sys.stdout.isatty() else None
         if terminal:
-            terminal.end()
-        if guests:
-            guests.end()
-            guests.hub.end()
+            held.callback(terminal.end)
+            terminal.begin()
+        held.callback(events.end)
+        proof = prove_beside(member, guests, terminal is None)
+        if proof:
+            if sys.stderr.isatty():
+                held.callback(print, file=sys.stderr)  # a line after the bar, which renews its own
+            held.callback(proof.end)
+        member.run()
 
 
 def main(words: List[str]) -> int:

@@ -4,6 +4,8 @@ from __future__ import annotations
 
 import os
 import time
+from contextlib import ExitStack
+from functools import partial
 from typing import Any, Dict, Optional, Sequence, Union
 
 from wbhost import Block, HostEnded
@@ -65,7 +67,14 @@ class Member:
     # ---- the loop
 
     def run(self) -> None:
-        """Goes on until it is ended."""
+        """Goes on until it is ended. Whatever ends it, nothing of it stays behind."""
+        try:
+            self.go_on()
+            self.board.end()
+        finally:
+            self.close()
+
+    def go_on(self) -> None:
         self.presence = Presence(self.me, self.telling.events)
         self.inbox.aside = self.hear_aside
         self.inbox.back = self.begin_again
@@ -75,14 +84,13 @@ class Member:
                 self.turn()
             except HostEnded:
                 self.telling.is_changed = True
-        self.close()
 
     def hear_aside(self, data: bytes, origin: Origin) -> None:
         """A datagram that no host hears of, on the carrier's thread: where somebody points, or that he who spoke from there is gone."""
         if not data.startswith(GONE):
             self.presence.hear(data)
         elif data[len(GONE):] == origin.text.encode():
-            self.inbox.call(lambda: self.judging.heard.leave(origin))
+            self.inbox.call(partial(self.judging.leave, origin))
 
     def turn(self) -> None:
         calls, arrivals = self.inbox.take(self.seconds_to_wait())
@@ -110,12 +118,10 @@ class Member:
                 do()
 
     def close(self) -> None:
-        self.people.end()
-        self.judging.end()
-        self.network.end()
-        self.board.host.end()
-        self.words.end()
-        self.board.record.end()
+        """Ends each thing that it holds, also if another can't be ended."""
+        with ExitStack() as held:
+            for end in (self.board.close, self.words.end, self.network.end, self.judging.end, self.people.end):
+                held.callback(end)
 
     def end(self) -> None:
         """Ends its thread."""
@@ -139,10 +145,7 @@ class Member:
 
     def begin_again(self) -> None:
         """The network was gone and is back: a host that starts from the record asks at once, without the waits that have grown."""
-        try:
-            self.board.change_over(self.board.program)
-        except HostEnded:
-            pass
+        self.board.begin_again()
 
     def tell(self, line: str) -> Block:
         """The block of a line, after its datagrams were sent."""
@@ -159,8 +162,12 @@ class Member:
             self.send(digits)
 
     def send(self, digits: str) -> None:
+        outgoing = self.judging.outgoing(digits)
+        if outgoing is not None:
+            self.send_out(outgoing)
+
+    def send_out(self, digits: str) -> None:
         data = bytes.fromhex(digits)
-        self.judging.went(digits)
         self.wire.went(self.words.of(digits).words)
         if len(data) > MOST_BYTES:
             self.alarms.warn("a datagram of over %d bytes can't be sent" % MOST_BYTES)
@@ -189,7 +196,7 @@ class Member:
 
     def renumber(self, me: int) -> None:
         """Goes on under another number, with all that is held."""
-        self.board.renumber(me, new_path(self.board.record.path, self.me, me), list(self.drawn.all()))
+        self.board.renumber(me, new_path(self.board.record.path, self.me, me), *self.judging.given())
         self.me = me
         self.presence.renumber(me)
         self.judging.end()

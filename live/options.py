@@ -3,7 +3,7 @@ from __future__ import annotations
 
 import argparse
 import re
-from typing import Any, Callable, Dict, List, Optional, Tuple
+from typing import Any, Callable, Dict, List, Optional, Tuple, Union
 
 from .carriers.mqtt import Broker, Login
 from .carriers.udp import PORTS
@@ -64,7 +64,7 @@ class Options(argparse.Namespace):
     teach: bool
     speed: float
 
-    def worse(self) -> dict:
+    def worse(self) -> Dict[str, Union[float, bool]]:
         """How the network is made worse on purpose, where datagrams come in."""
         return {"lose": self.lose, "delay": self.delay, "twice": self.twice, "mix": self.mix}
 
@@ -78,7 +78,7 @@ class Options(argparse.Namespace):
 def address(text: str) -> Address:
     """HOST:PORT."""
     host, colon, port = text.rpartition(":")
-    if not colon or not host or not port.isdigit() or int(port) > 65_535:
+    if not colon or not host or not re.fullmatch("[0-9]{1,5}", port) or int(port) > 65_535:
         raise argparse.ArgumentTypeError("%r is not HOST:PORT" % text)
     return host, int(port)
 

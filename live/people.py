@@ -7,9 +7,10 @@ from typing import TYPE_CHECKING, Any, Callable, Dict, List, Tuple
 
 from wbhost import HostEnded
 
-from .record import NoRoom
+from .clock import wall
+from .record import NoRoom, RecordFault
 from .state import random_number
-from .views import Page, page_text
+from .views import AIMED, Page, page_of, page_text
 
 if TYPE_CHECKING:
     from .member import Member
@@ -25,6 +26,10 @@ MOST_WAITING = 1_024
 # numbers of pages
 MOST_PAGE = 2**32 - 1
 
+# the page of names, titles and the chat; what is drawn elsewhere leaves it, and deletes and restores, one part in so many of the cells
+WORDS = page_of("0/0")
+KEPT = 16
+
 
 class Refused(Exception):
     """A drawing or a page is refused, and why."""
@@ -33,25 +38,25 @@ class Refused(Exception):
 class People:
     def __init__(self, member: Member) -> None:
         self.member = member
-        self.draws: List[Tuple[Future, Page, str]] = []
+        self.draws: List[Tuple[Future[Any], Page, str]] = []
 
     # ---- from other threads
 
-    def call(self, what: Callable[..., Any], *arguments: Any) -> Future:
+    def call(self, what: Callable[..., Any], *arguments: Any) -> Future[Any]:
         """Has the member's thread do it."""
-        future: Future = Future()
+        future: Future[Any] = Future()
         self.member.inbox.call(lambda: self.do(future, what, *arguments))
         return future
 
-    def draw(self, page: Page, operation: str) -> Future:
+    def draw(self, page: Page, operation: str) -> Future[Any]:
         """Has an operation drawn, such as `line 0 0 4 4 *`, as soon as the member may draw."""
-        future: Future = Future()
+        future: Future[Any] = Future()
         self.member.inbox.call(lambda: self.draw_or_wait(future, page, operation))
         return future
 
     # ---- on the member's thread
 
-    def do(self, future: Future, what: Callable[..., Any], *arguments: Any) -> None:
+    def do(self, future: Future[Any], what: Callable[..., Any], *arguments: Any) -> None:
         try:
             future.set_result(what(*arguments))
         except NoRoom as fault:
@@ -59,7 +64,7 @@ class People:
         except (Refused, HostEnded) as fault:
             future.set_exception(fault if isinstance(fault, Refused) else Refused("busy"))
 
-    def draw_or_wait(self, future: Future, page: Page, operation: str) -> None:
+    def draw_or_wait(self, future: Future[Any], page: Page, operation: str) -> None:
         if self.member.is_ready:
             self.do(future, self.draw_now, page, operation)
         elif len(self.draws) < MOST_WAITING:
@@ -75,21 +80,22 @@ class People:
             self.do(future, self.draw_now, page, operation)
 
     def end(self) -> None:
-        for future, _, _ in self.draws:
+        draws, self.draws = self.draws, []
+        for future, _, _ in draws:
             future.set_exception(Refused("ended"))
 
     def draw_now(self, page: Page, operation: str) -> Dict[str, Any]:
         """Accepts a drawop of ours and sends it. Whether it is one, the host says."""
         member = self.member
         kind = operation.split(" ", 1)[0]
+        if page != WORDS and kind in ("line", "frame", "text") and member.drawn.total >= member.board.cells - member.board.cells // KEPT:
+            raise Refused("full")
         if kind not in OPERATIONS or not all(" " <= c <= "~" for c in operation):
             raise Refused("unknown")
-        fault = member.judging.fault_of_drawing()
+        fault = member.judging.fault_of_drawing(kind not in AIMED)
         if fault is not None:
             raise Refused(fault)
-        if member.judging.room.is_full() and kind not in ("delete", "restore"):
-            raise Refused("full")
-        block, drawop = member.board.draw(page, member.judging.now(), operation)
+        block, drawop = member.board.draw(page, wall(), operation)
         member.send_all(block.sent())
         if block.fault is not None:
             raise Refused(re.sub("(?<=^word )[0-9]+", lambda place: str(int(place[0]) - WORDS_BEFORE), block.fault))
@@ -123,7 +129,10 @@ class People:
 
     def renumber(self) -> Dict[str, Any]:
         """Takes a new number, with a record of its own and all that is held."""
-        self.member.renumber(random_number())
+        try:
+            self.member.renumber(random_number())
+        except (NoRoom, RecordFault, OSError) as fault:
+            raise Refused("no new number: its record can't be written (%s)" % fault) from fault
         return {"me": self.member.me}
 
     def worsen(self, changes: Dict[str, Any]) -> Dict[str, Any]:

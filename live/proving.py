@@ -2,6 +2,7 @@
 done, the member changes over to the proved program."""
 from __future__ import annotations
 
+import contextlib
 import os
 import subprocess
 import sys
@@ -10,7 +11,7 @@ from dataclasses import dataclass
 from pathlib import Path
 from typing import Any, Callable, Dict, List, Tuple
 
-from wbhost import LAUNCHER, find_program
+from wbhost import LAUNCHER, prove_program
 
 # seconds between two looks at how far the proof is
 PAUSE = 0.5
@@ -33,7 +34,7 @@ def find_now() -> Tuple[str, bool]:
     word, _, path = found.stdout.decode().strip().partition(" ")
     if found.returncode != 0 or word not in ("proved", "unproved"):
         # another toolchain may have no such build: then a start waits for the proof
-        return find_program(), True
+        return prove_program(), True
     return path, word == "proved"
 
 
@@ -155,10 +156,11 @@ class Teller:
         if stage.text() != self.told[0]:
             self.write("wb-live: %s" % stage.text())
         if stage.progress() and self.renews:
-            print("\r\x1b[K%.110s" % ("wb-live: %s %s" % (stage.bar(), stage.progress())), end="", file=sys.stderr, flush=True)
+            self.write("%.110s" % ("wb-live: %s %s" % (stage.bar(), stage.progress())), "")
         elif stage.progress() and (stage.text(), stage.crates) != self.told:
             self.write("wb-live: %s" % stage.progress())
         self.told = stage.text(), stage.crates
 
-    def write(self, line: str) -> None:
-        print(("\r\x1b[K" if self.renews else "") + line, file=sys.stderr, flush=True)
+    def write(self, line: str, end: str = "\n") -> None:
+        with contextlib.suppress(OSError):  # nobody may read it any more, and the session goes on
+            print(("\r\x1b[K" if self.renews else "") + line, end=end, file=sys.stderr, flush=True)

@@ -4,10 +4,12 @@ It has the line of the board, each drawop that was new, with the moment at which
 that were heard at its start. Questions, what was refused, and what others asked for change nothing that is held: they are not there."""
 from __future__ import annotations
 
+import contextlib
 import errno
 import fcntl
 import os
 import re
+import stat
 import tempfile
 import time
 from typing import Iterator, List, Optional
@@ -32,8 +34,37 @@ HEAD = re.compile(rb"(?:#[^\n]*\n)*board [0-9]{1,10} [0-9]{1,5} [0-9] [0-9]{1,20
 MOST_HEAD = 65_536
 
 
+# The moments of a host are below 2^48 microseconds. A record has a day left until then, or it would start and draw nothing
+MOST_MOMENT = 2**48 - 86_400 * 10**6
+
+# the lines whose form is known here: a moment, and a datagram by its digits
+MOMENT = re.compile("tick ([0-9]{1,15})")
+DIGITS = re.compile("(?:datagram|arrive|hear) (?:[0-9a-fA-F]{2})+")
+
+# letters of a line that can't be read which are told
+TOLD = 40
+
+
 class RecordFault(Exception):
-    """The file is no record, or another member has it."""
+    """The file is no record, a line of it is none, or another member has it."""
+
+
+class Act(str):
+    """A line of a record that changes a host, and where it stands."""
+
+    place = "the record"
+
+    def fault(self, why: str) -> RecordFault:
+        """By which a file that has this line is refused."""
+        return RecordFault("%s: %s: %r%s" % (self.place, why, str(self)[:TOLD], " .." if len(self) > TOLD else ""))
+
+    def check(self) -> None:
+        """RecordFault if it is none of those whose form is known."""
+        moment = MOMENT.fullmatch(self)
+        if self.startswith("tick ") and not (moment and int(moment[1]) < MOST_MOMENT):
+            raise self.fault("it is no moment of a board that goes on")
+        if self.startswith(("datagram ", "arrive ", "hear ")) and not DIGITS.fullmatch(self):
+            raise self.fault("it has no pairs of digits")
 
 
 class NoRoom(Exception):
@@ -58,12 +89,17 @@ def lines_of(file: int) -> Iterator[str]:
         yield from (line.rstrip(b"\r\n").decode("latin-1") for line in reader if line.endswith(b"\n"))
 
 
-def acts_of(file: int) -> Iterator[str]:
-    """The lines that change a host, from the first."""
-    return (line for line in lines_of(file) if line and not line.startswith(QUERIES))
+def acts_of(file: int, path: Optional[str]) -> Iterator[Act]:
+    """The lines that change a host, from the first. RecordFault at one that is none."""
+    for number, line in enumerate(lines_of(file), 1):
+        if line and not line.startswith(QUERIES):
+            act = Act(line)
+            act.place = "%s, line %d" % (path or "the record", number)
+            act.check()
+            yield act
 
 
-def read_played(path: str) -> Iterator[str]:
+def read_played(path: str) -> Iterator[Act]:
     """The lines that change a host, of a record that is shown and not touched."""
     try:
         file = os.open(path, os.O_RDONLY)
@@ -72,7 +108,7 @@ def read_played(path: str) -> Iterator[str]:
     try:
         if check_head(file, path):
             raise RecordFault("%s is empty" % path)
-        yield from acts_of(file)
+        yield from acts_of(file, path)
     finally:
         os.close(file)
 
@@ -93,10 +129,13 @@ class Record:
             os.unlink(name)
             return file
         try:
-            file = os.open(path, os.O_RDWR | os.O_CREAT, 0o600)
+            file = os.open(path, os.O_RDWR | os.O_CREAT | os.O_NOFOLLOW | os.O_NONBLOCK, 0o600)
         except OSError as fault:
-            raise RecordFault("%s can't be written: %s" % (path, fault.strerror)) from fault
+            why = "it is a link, and none is followed" if fault.errno == errno.ELOOP else fault.strerror
+            raise RecordFault("%s can't be written: %s" % (path, why)) from fault
         try:
+            if not stat.S_ISREG(os.fstat(file).st_mode):
+                raise RecordFault("%s is no file" % path)
             fcntl.flock(file, fcntl.LOCK_EX | fcntl.LOCK_NB)
             check_head(file, path)
         except OSError as fault:
@@ -118,8 +157,8 @@ class Record:
             os.ftruncate(self.file, start + end)
         return start + end
 
-    def acts(self) -> Iterator[str]:
-        return acts_of(self.file)
+    def acts(self) -> Iterator[Act]:
+        return acts_of(self.file, self.path)
 
     def text(self) -> bytes:
         """All of the file."""
@@ -164,10 +203,14 @@ class Record:
             self.is_synced = True
 
     def remove(self) -> None:
-        """Closes it, and it is no more."""
-        if self.path is not None:
-            os.unlink(self.path)
-        self.close()
+        """Closes it, and it is no more. OSError if its folder does not let it go."""
+        try:
+            if self.path is not None:
+                os.unlink(self.path)
+        except FileNotFoundError:
+            pass
+        finally:
+            self.close()
 
     def end(self) -> None:
         """Closes it, and says that nothing was lost."""
@@ -178,11 +221,15 @@ class Record:
         self.close()
 
     def close(self) -> None:
+        """Closes it, if it is open."""
+        if self.file < 0:
+            return
         try:
             self.sync()
         except NoRoom:
             pass
         os.close(self.file)
+        self.file = -1
 
 
 def comment(text: str) -> str:
@@ -193,6 +240,9 @@ def comment(text: str) -> str:
 def write_record(path: Optional[str], lines: List[str]) -> Record:
     """A record of these lines in a file that is whole before it stands under its name. What stood there is no more."""
     made = path and "%s.%d.new" % (path, os.getpid())
+    if made:
+        with contextlib.suppress(FileNotFoundError):
+            os.unlink(made)  # of a process that had our number, and ended in the middle
     record = Record(made or None)
     try:
         record.add(*lines)

@@ -9,9 +9,8 @@ from .carriers.carrier import Origin
 from .clock import SECOND
 from .drawn import Drawn
 from .film import Film, scenes_of
-from .heard import Heard
 from .inbox import Arrival
-from .times import wall
+from .judge import Judge
 from .views import Drawop
 
 if TYPE_CHECKING:
@@ -31,8 +30,7 @@ class Playing:
         self.member = member
         self.film = Film(list(lines), member.board.clock.now)
         self.tell_at = 0
-        self.heard = Heard()
-        self.has_twin = False
+        self.judge = Judge(member.me, member.board.cells, 0, 0)  # to which nothing comes
         member.telling.events.tell("scenes", scenes_of(self.film, member.words))
 
     def plan(self) -> List[Tuple[int, Callable[[], Any]]]:
@@ -85,6 +83,9 @@ class Playing:
         member, word = self.member, line.split(" ", 1)[0]
         if word == "datagram" and len(line) % 2:
             self.arrive([Arrival(bytes.fromhex(line[9:]), Origin("record"))])
+        elif word == "draw":
+            if member.board.tell(line).lines == NEW:
+                member.hold(Drawop(line))
         elif line.startswith("say draw "):
             for digits in member.tell(line).sent():
                 member.hold(Drawop(line[4:], digits))
@@ -100,14 +101,16 @@ class Playing:
                 member.hold(Drawop(told.words, digits))
             member.wire.tell({**member.wire.came(arrival, told.words), "refused": block.fault})
 
-    def now(self) -> int:
-        return wall()
+    def outgoing(self, digits: str) -> Optional[str]:
+        """Nothing is sent otherwise than the host says it."""
+        return digits
 
-    def went(self, digits: str) -> None:
-        """Nothing is sent."""
-
-    def fault_of_drawing(self) -> Optional[str]:
+    def fault_of_drawing(self, _is_drawing: bool) -> Optional[str]:
         return "a replay draws nothing"
+
+    def present(self) -> Dict[int, Any]:
+        """Nobody is there."""
+        return {}
 
     def end(self) -> None:
         """There is nothing to end."""

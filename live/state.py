@@ -2,8 +2,10 @@
 member. A start goes on with the one that was used last and that no other member has."""
 from __future__ import annotations
 
+import errno
 import os
 import secrets
+import stat
 from pathlib import Path
 from typing import Iterator, Tuple
 
@@ -40,17 +42,41 @@ def folder_of(options: Options) -> Path:
     state = Path(named) if named.startswith("/") else Path.home() / ".local" / "state"
     folder = state / "wb" / session_name(options).replace("/", "_")
     try:
-        folder.mkdir(mode=0o700, parents=True, exist_ok=True)
+        state.mkdir(parents=True, exist_ok=True)
+        for each in (folder.parent, folder):
+            make_private(each)
     except OSError as fault:
         raise RecordFault("no record can be kept in %s (%s): --record FILE names another place" % (folder, fault.strerror)) from fault
     return folder
 
 
+def make_private(folder: Path) -> None:
+    """Makes a folder that is its owner's alone, or makes one so that is there. OSError if it is a link, or somebody else's."""
+    if folder.is_symlink():
+        raise OSError(errno.ELOOP, "%s is a link, and none is followed" % folder.name)
+    folder.mkdir(mode=0o700, exist_ok=True)
+    opened = os.open(folder, os.O_RDONLY | os.O_DIRECTORY | os.O_NOFOLLOW)
+    try:
+        if stat.S_IMODE(os.fstat(opened).st_mode) & 0o077:
+            os.fchmod(opened, 0o700)
+    finally:
+        os.close(opened)
+
+
+def used_at(entry: "os.DirEntry[str]") -> float:
+    """When a file was used last; 0 if it is no more."""
+    try:
+        return entry.stat(follow_symlinks=False).st_mtime
+    except OSError:
+        return 0.0
+
+
 def free(folder: Path) -> Iterator[Record]:
-    """The records of a session that no other member has, each open, the one used last first."""
-    for path in sorted(folder.glob("*.wb"), key=lambda path: path.stat().st_mtime, reverse=True):
+    """The records of a session that no other member has, each open, the one used last first. A link is none."""
+    files = [entry for entry in os.scandir(folder) if entry.name.endswith(".wb") and entry.is_file(follow_symlinks=False)]
+    for entry in sorted(files, key=used_at, reverse=True):
         try:
-            yield Record(str(path))
+            yield Record(entry.path)
         except RecordFault:
             continue
 
@@ -70,7 +96,7 @@ def first_free(options: Options) -> Tuple[Record, int]:
     folder = folder_of(options)
     for record in free(folder):
         if not options.forget:
-            os.utime(record.path or "")
+            os.utime(record.file)
             return record, 0
         record.remove()
         break

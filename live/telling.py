@@ -3,13 +3,13 @@ from __future__ import annotations
 
 import os
 import time
-from typing import TYPE_CHECKING, Any, Dict, List, Set
+from typing import TYPE_CHECKING, Any, Dict, List, Set, Tuple
 
 from .board import CLASH, COLUMNS, FULL, NEW
 from .clock import SECOND
-from .drawn import Sheet
+from .drawn import Drawn, Sheet
 from .events import Events, Whole
-from .heard import GONE_AFTER, Told
+from .judge import Other
 from .views import Name, Page, Report, page_text
 
 if TYPE_CHECKING:
@@ -33,8 +33,11 @@ CHECK_PART = 50
 MOST_PAGES = 1_000
 MOST_MEMBERS = 500
 
-# marks of a report that are taken note of, as many as a host tells
-MARKS = 64
+# names that are told by marks alone, of which the oldest go first
+MOST_TOLD = 512
+
+# for so long it is said that a page has caught up
+CAUGHT_UP = 60 * SECOND
 
 # the percentage of taken cells from which on the board is said to become full
 NEARLY_FULL = 80
@@ -44,6 +47,30 @@ def notice_of(member: Member) -> str:
     if not member.stage.is_proved:
         return member.stage.text()
     return NOTICE.replace("which is proved", "the program that WB_PROGRAM names") if os.environ.get("WB_PROGRAM") else NOTICE
+
+
+class Told:
+    """Names that members reported and that are not held: what is missing beside the gaps."""
+
+    def __init__(self) -> None:
+        self.names: Dict[Name, None] = {}
+
+    def tell(self, name: Name) -> None:
+        self.names.pop(name, None)
+        self.names[name] = None
+        if len(self.names) > MOST_TOLD:
+            del self.names[next(iter(self.names))]
+
+    def come(self, name: Name) -> None:
+        """It is held from now on."""
+        self.names.pop(name, None)
+
+    def pages(self) -> List[Page]:
+        return [page for _, page, _ in self.names]
+
+    def missing(self, page: Page, drawn: Drawn) -> int:
+        """How many names of a page are missing: those in its gaps, and those above."""
+        return drawn.missing(page) + sum(1 for source, on, seq in self.names if on == page and seq > drawn.top(page, source))
 
 
 class Telling:
@@ -98,7 +125,7 @@ class Telling:
         self.events.tell("hello", {
             "me": member.me, "mode": member.network.where, "notice": notice_of(member), "program": member.board.program,
             "teach": options.teach, "worsen": options.worse(), "cells": member.board.cells, "ready": member.is_ready,
-            "twin": member.judging.has_twin, "broken": member.board.is_broken, "proof": member.stage.told(),
+            "twin": member.judging.judge.has_twin, "broken": member.board.is_broken, "proof": member.stage.told(),
         })
 
     # ---- the page
@@ -147,27 +174,24 @@ class Telling:
         sheet, lines = self.member.drawn.sheet(self.member.page), self.member.board.view(self.member.page)
         if [drawop.words for drawop in sheet.shown] != lines:
             self.differences += 1
-            sheet.replace(lines)
+            self.member.drawn.replace(self.member.page, lines)
             self.page, self.is_changed = None, True
         self.check_at = time.monotonic() + CHECK_PART * (time.monotonic() - began)
 
     # ---- what is noticed of what comes in, for people alone
 
-    def notice(self, report: Report) -> int:
-        """What a report tells that is not held. How many numbers are lacking up to its marks."""
-        drawn, lacking = self.member.drawn, 0
-        for source, high in list(report.marks.items())[:MARKS]:
-            if source != self.member.me and not drawn.holds((source, report.page, high)):
-                lacking += max(0, high - drawn.top(report.page, source))
+    def notice(self, report: Report, most: int) -> None:
+        """What a member reports that is not held, by so many of its marks at most."""
+        for source, high in list(report.marks.items())[:most]:
+            if source != self.member.me and not self.member.drawn.holds((source, report.page, high)):
                 self.told.tell((source, report.page, high))
-        return lacking
 
     def notice_batch(self, name: Name, batch: List[str]) -> None:
         """What the host has answered to a drawop."""
         alarms, source = self.member.alarms, name[0]
         if batch == NEW:
             self.told.come(name)
-        elif batch == CLASH and source != self.member.me:
+        elif batch == CLASH:
             alarms.warn("two members draw with number %d: what they drew differs from member to member" % source)
         elif batch == FULL:
             alarms.warn("the board is full: new drawops are not kept")
@@ -183,27 +207,40 @@ class Telling:
     # ---- what stands beside it
 
     def tell_pages(self) -> None:
-        member = self.member
-        pages = sorted({*member.drawn.drawn_pages(), *self.told.pages(), member.page})
-        told = [{"page": page_text(page), "drawn": member.drawn.count(page)} for page in pages[:MOST_PAGES]]
-        self.events.tell("pages", {"page": page_text(member.page), "pages": told})
+        told = [{"page": page_text(page), "drawn": self.member.drawn.count(page)} for page in self.pages()]
+        self.events.tell("pages", {"page": page_text(self.member.page), "pages": told})
+
+    def pages(self) -> List[Page]:
+        """As many as are told: the page in view, and those of members before those of strangers alone. They stand by their numbers, since one
+        turns through them."""
+        order = self.member.judging.judge.order_of(self.member.drawn.pages)
+        strange = set(self.member.judging.judge.pages_of_strangers(self.member.drawn.pages))
+        members = [page for page in order if page not in strange]
+        told = dict.fromkeys([self.member.page, *members, *self.told.pages(), *order])
+        return sorted(list(told)[:MOST_PAGES], key=lambda page: (page in strange, page))
 
     def tell_members(self) -> None:
+        """Those first that have answered us."""
         now = self.member.board.clock.now()
-        told = [{
+
+        def rank(each: Tuple[int, Other]) -> Tuple[bool, int]:
+            return each[1].answered is None, each[0]
+
+        told: List[Dict[str, Any]] = [{
             "member": number, "distance": None if other.distance is None else other.distance / 1000,
             "heard": round((now - other.at) / SECOND, 1),
-        } for number, other in sorted(self.member.judging.heard.present(now).items())]
-        self.events.tell("members", {"me": self.member.me, "members": told[:MOST_MEMBERS]})
+        } for number, other in sorted(self.member.judging.present().items(), key=rank)[:MOST_MEMBERS]]
+        self.events.tell("members", {"me": self.member.me, "members": sorted(told, key=lambda each: int(each["member"]))})
 
     def tell_health(self) -> None:
         member, page = self.member, self.member.page
         missing = self.told.missing(page, member.drawn)
+        now = member.board.clock.now()
         if missing:
-            self.missing.add(page)
+            self.missing = {page, *self.missing} if len(self.missing) < MOST_TOLD else {page}
         elif page in self.missing:
             self.missing.remove(page)
-            self.caught_up[page] = member.board.clock.now()
+            self.caught_up = {page: now, **{each: at for each, at in self.caught_up.items() if now - at < CAUGHT_UP}}
         counts = dict(member.wire.counts, dropped=member.inbox.dropped, foreign=member.inbox.foreign, starts=1 + len(member.board.ends), differences=self.differences)
         self.events.tell("health", {
             "page": page_text(page), "phrase": self.phrase(missing), "missing": missing, "warnings": self.warnings(), "counts": counts,
@@ -213,7 +250,7 @@ class Telling:
         """What lasts stands behind what goes."""
         member = self.member
         lasting = [
-            (member.judging.has_twin, "another member has our number %d: nothing is drawn until this member has a new one" % member.me),
+            (member.judging.judge.has_twin, "another member has our number %d: nothing is drawn until this member has a new one" % member.me),
             (member.board.is_broken, "the record can't be written: nothing is drawn until there is room"),
             (bool(member.inbox.trouble), member.inbox.trouble),
         ]
@@ -224,6 +261,6 @@ class Telling:
         if missing:
             return "%d missing" % missing
         now, at = self.member.board.clock.now(), self.caught_up.get(self.member.page)
-        if at is not None and now - at < GONE_AFTER:
+        if at is not None and now - at < CAUGHT_UP:
             return "caught up %d s ago" % ((now - at) // SECOND)
-        return "whole" if self.member.judging.heard.present(now) else "whole; nobody else is heard"
+        return "whole" if self.member.judging.present() else "whole; nobody else is heard"

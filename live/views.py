@@ -3,7 +3,7 @@ from __future__ import annotations
 
 import json
 import re
-from typing import Any, Dict, Optional, Tuple
+from typing import Any, Dict, Optional, Tuple, Union
 
 # of a page: its creator and its number
 Page = Tuple[int, int]
@@ -45,6 +45,10 @@ class Drawop:
         self.json: Optional[str] = None
 
     @property
+    def speaker(self) -> int:
+        return self.name[0]
+
+    @property
     def key(self) -> Key:
         return self.time, self.name[0], self.name[2]
 
@@ -78,11 +82,6 @@ class Drawop:
         return self.json
 
 
-def kind_of(words: str) -> str:
-    """The kind of a datagram: its first word."""
-    return words.split(" ", 1)[0]
-
-
 def speaker_of(words: str) -> int:
     """The source, sender or asker of a datagram."""
     return int(words.split(" ", 2)[1])
@@ -99,12 +98,12 @@ def name_in(words: str) -> Optional[Name]:
 
 
 class Report:
-    """What a session message or a page state tells: the page, the greatest number of each source, and whom the sender heard."""
+    """What a session message or a page state tells: the page, the greatest number of each source, and whom the speaker heard."""
 
     def __init__(self, words: str) -> None:
-        kind, sender, *rest = words.split(" ")
+        kind, speaker, *rest = words.split(" ")
         self.is_session = kind == "session-message"
-        self.sender = int(sender)
+        self.speaker = int(speaker)
         self.sent = int(rest.pop(0)) if self.is_session else 0
         self.page = page_of(rest.pop(0))
         self.marks: Dict[int, int] = {}
@@ -118,11 +117,21 @@ class Report:
                 source, _, high = word.partition("=")
                 self.marks[int(source)] = int(high)
 
-    def distance(self, me: int, now: int) -> Optional[int]:
-        """The microseconds to the sender, by its echo of ours, where it has one."""
-        sent, held = self.echoes.get(me, (now + 1, 0))
-        return (now - sent - held) // 2 if held <= now - sent < 2**25 else None
+
+class Question:
+    """A request for a drawop, or a question for pages, which has no name."""
+
+    def __init__(self, words: str) -> None:
+        self.speaker = speaker_of(words)
+        self.name = name_in(words)
 
 
-def report_of(words: str) -> Optional[Report]:
-    return Report(words) if kind_of(words) in ("session-message", "page-state") else None
+Datagram = Union[Drawop, Report, Question]
+
+
+def datagram_of(words: str, digits: str = "") -> Datagram:
+    """A datagram by its words."""
+    kind = words.split(" ", 1)[0]
+    if kind == "draw":
+        return Drawop(words, digits)
+    return Report(words) if kind in ("session-message", "page-state") else Question(words)

@@ -9,15 +9,17 @@ import socket
 import threading
 import time
 from concurrent.futures import TimeoutError as TooLate
+from contextlib import ExitStack
 from http.server import BaseHTTPRequestHandler, ThreadingHTTPServer
 from pathlib import Path
-from typing import Any, Callable, Dict, List, Optional, Tuple
+from typing import Any, Callable, Dict, List, Optional, Set, Tuple
 from urllib.parse import parse_qs, urlsplit
 
 from .connections import Connections
 from .events import Events, Watcher, compact
 from .film import SPEEDS
-from .guests import Guest, Guests
+from .following import CannotFollow, Following
+from .guests import Guest, Guests, NoPlace
 from .member import Member
 from .options import Address, Options
 from .people import Refused
@@ -50,6 +52,9 @@ Ranges = Dict[str, Optional[Tuple[float, float]]]
 FILM: Ranges = {"at": (0, 2**53), "speed": SPEEDS, "stopped": None}
 WORSE: Ranges = {"lose": (0, 1), "twice": (0, 1), "delay": (0, 5000), "mix": None}
 
+# the port that an address of a page has if it names none
+USUAL_PORTS = {"http": ":80", "https": ":443"}
+
 # by which a browser is known again that has a member of its own
 COOKIE = "wb"
 
@@ -69,12 +74,28 @@ HEADERS = {
 }
 
 
+def spellings(origins: List[str]) -> Set[str]:
+    """How a browser, or another program, writes these addresses of pages: a browser leaves the usual port out."""
+    with_ports = {origin if re.search(":[0-9]+$", origin) else origin + USUAL_PORTS[urlsplit(origin).scheme] for origin in origins}
+    return with_ports | {re.sub(USUAL_PORTS[urlsplit(origin).scheme] + "$", "", origin) for origin in with_ports}
+
+
 class Fault(Exception):
     """A request is refused, by a status of HTTP and a text."""
 
     def __init__(self, status: int, text: str) -> None:
         super().__init__(text)
         self.status = status
+
+
+def own_address() -> str:
+    """The address of this machine on its network: that of the interface by which it would send elsewhere. Nothing is sent."""
+    with socket.socket(socket.AF_INET, socket.SOCK_DGRAM) as probe:
+        try:
+            probe.connect(("192.0.2.1", 9))
+            return str(probe.getsockname()[0])
+        except OSError:
+            return "127.0.0.1"
 
 
 def page_files() -> Dict[str, Tuple[str, bytes]]:
@@ -93,16 +114,18 @@ class Web(ThreadingHTTPServer):
         super().__init__(address, Handler)
         host, port = address[0], self.server_address[1]
         self.is_everywhere = host in ("0.0.0.0", "::")
+        self.is_of_this_machine = str(self.server_address[0]).startswith("127.")
         names = [host, "localhost"] if host == "127.0.0.1" else [host]
         # what a browser calls this server: by its own address, or by those of the words, as a proxy hands them on
-        self.hosts = {"%s:%d" % (name, port) for name in names} | {urlsplit(origin).netloc for origin in options.origin}
-        self.origins = {"http://%s:%d" % (name, port) for name in names} | set(options.origin)
+        self.origins = spellings(["http://%s:%d" % (name, port) for name in names] + options.origin)
+        self.is_behind = bool(options.origin)  # a proxy
         self.token = secrets.token_hex(16)
-        here = "http://%s:%d" % ("127.0.0.1" if self.is_everywhere else host, port)
+        here = "http://%s:%d" % (own_address() if self.is_everywhere else host, port)
         self.urls = ["%s/%s/" % (origin, self.token) for origin in [here, *options.origin]]
         self.member = member
         self.events = events
         self.guests = guests
+        self.following = Following(options)
         self.streams = threading.Semaphore(MOST_STREAMS)
         self.page = (PAGE / "index.html").read_text().replace("__TOKEN__", self.token).encode()
         self.files = page_files()
@@ -163,6 +186,8 @@ class Handler(BaseHTTPRequestHandler):
         paths: Dict[str, Callable[[], None]] = {"/draw": self.draw, "/page": self.turn, "/number": self.renumber, "/point": self.point}
         if self.server.member.options.replay:
             paths["/film"] = self.film
+        else:
+            paths["/next"] = self.go_on
         if self.server.member.options.teach:
             paths["/worsen"] = self.worsen
         self.answer(paths)
@@ -186,11 +211,10 @@ class Handler(BaseHTTPRequestHandler):
     def check_origin(self) -> None:
         """Only our own page asks, by a name of ours: no page of another site, and none under another name. Where the server is at each
         address of the machine, that at which it was reached is its name too."""
-        hosts, origins = self.server.hosts, self.server.origins
+        origins = self.server.origins
         if self.server.is_everywhere:
-            here = "%s:%d" % self.connection.getsockname()[:2]
-            hosts, origins = hosts | {here}, origins | {"http://" + here}
-        if self.headers.get_all("Host", []) not in [[host] for host in hosts]:
+            origins = origins | spellings(["http://%s:%d" % self.connection.getsockname()[:2]])
+        if self.headers.get_all("Host", []) not in [[urlsplit(origin).netloc] for origin in origins]:
             raise Fault(403, "host")
         origin = self.headers.get("Origin")
         if origin is not None and origin not in origins:
@@ -204,12 +228,19 @@ class Handler(BaseHTTPRequestHandler):
         """Finds the member of this browser by its cookie. Who opens the page gets one."""
         guest = guests.find(cookie_in(self.headers.get("Cookie", "")))
         if guest is None and may_begin:
-            guest = guests.begin()
-            if guest is None:
-                raise Fault(503, "%d browsers have members here, and there is no room for more" % guests.most)
+            try:
+                guest = guests.begin(self.address())
+            except NoPlace as fault:
+                raise Fault(503, str(fault)) from fault
         if guest is None:
             raise Fault(403, "open the page anew: this browser has no member here")
         self.guest, self.member, self.events = guest, guest.member, guest.events
+
+    def address(self) -> str:
+        """From where a browser comes: behind a proxy of this machine, from where the proxy says."""
+        told: List[str] = self.headers.get_all("X-Forwarded-For") or []
+        here = str(self.client_address[0])
+        return told[-1].rpartition(",")[2].strip() if told and self.server.is_behind and here.startswith("127.") else here
 
     # ---- what is served
 
@@ -253,29 +284,29 @@ class Handler(BaseHTTPRequestHandler):
         key = self.headers.get("Sec-WebSocket-Key")
         if self.headers.get("Upgrade", "").lower() != "websocket" or not is_key(key):
             raise Fault(426, "a WebSocket")
-        if not self.server.streams.acquire(blocking=False):
-            raise Fault(503, "too many streams")
-        try:
+        with ExitStack() as held:
+            self.take_place(held)
+            self.close_connection = True
             self.protocol_version = "HTTP/1.1"
             self.send_response(101)
             for name, value in (("Upgrade", "websocket"), ("Connection", "Upgrade"), ("Sec-WebSocket-Accept", acceptance(key or ""))):
                 self.send_header(name, value)
             self.end_headers()
             self.connection.setsockopt(socket.IPPROTO_TCP, socket.TCP_NODELAY, 1)
-            self.watch()
-        finally:
-            self.close_connection = True
-            self.server.streams.release()
-
-    def watch(self) -> None:
-        """A window looks on, for as long as it does."""
-        if self.guest is None:
-            return self.stream(Watcher(self.events))
-        self.guest.watch(1)
-        try:
             self.stream(Watcher(self.events))
-        finally:
-            self.guest.watch(-1)
+
+    def take_place(self, held: ExitStack) -> None:
+        """A place for a stream while it lasts. The first window of a browser with a member has one in any case, so that nobody else's windows
+        lock it out."""
+        windows = self.guest.look() if self.guest else 2
+        if not windows:
+            raise Fault(503, "too many windows of one browser")
+        if self.guest:
+            held.callback(self.guest.look_away)
+        if windows > 1:
+            if not self.server.streams.acquire(blocking=False):
+                raise Fault(503, "too many streams")
+            held.callback(self.server.streams.release)
 
     def stream(self, watcher: Watcher) -> None:
         """Sends what is told until the other side or the program ends."""
@@ -351,6 +382,17 @@ class Handler(BaseHTTPRequestHandler):
     def film(self) -> None:
         member, changes = self.member, self.changes(FILM)
         self.give(member.people.call(lambda: member.judging.change(**changes)))
+
+    def go_on(self) -> None:
+        """Begins or joins the session in which the board goes on, and gives the address of its page."""
+        body = self.body()
+        if list(body) != ["session"] or not isinstance(body["session"], str):
+            raise Fault(400, "fields")
+        try:
+            address = self.server.following.go_on(body["session"], urlsplit("//" + self.headers.get("Host", "")).hostname or "")
+        except CannotFollow as fault:
+            raise Fault(422, str(fault)) from None
+        self.send_json(200, {"ok": True, "address": address})
 
     def renumber(self) -> None:
         body, people = self.body(), self.member.people

@@ -2,14 +2,15 @@
 is, and end. Of members, their numbers and drawings it knows nothing."""
 from __future__ import annotations
 
-from dataclasses import dataclass
+from dataclasses import dataclass, field
 from typing import TYPE_CHECKING, Optional, Protocol
 
 if TYPE_CHECKING:
     from ..options import Address
 
-# the longest datagram that UDP carries
+# the longest datagram that UDP carries, and by how much a sealed one is longer than a plain one
 MOST_BYTES = 65_507
+SEALED = 45
 
 
 class NetworkFault(Exception):
@@ -18,11 +19,18 @@ class NetworkFault(Exception):
 
 @dataclass(frozen=True)
 class Origin:
-    """Where a datagram came from. Two that differ are two senders. Where it is kept, the network lets nobody else send from there."""
+    """Where a datagram came from. Two that differ are two senders. Where it is kept, the network lets nobody else send from there; under a
+    key one start of a member has one tag, wherever it sends from."""
 
     text: str
     is_kept: bool = False
-    address: Optional[Address] = None  # of UDP, beside which a stream may be had
+    address: Optional[Address] = field(default=None, compare=False)  # of UDP, beside which a stream may be had
+    tag: str = ""
+
+    @property
+    def owner(self) -> Optional[str]:
+        """The name of who alone sends from there, if the network keeps names."""
+        return self.text if self.is_kept else None
 
 
 class Taker(Protocol):

@@ -11,7 +11,7 @@ from types import ModuleType
 from typing import Any, NamedTuple, Optional
 
 from ..packages import module_of
-from .carrier import MOST_BYTES, NetworkFault, Origin, Taker
+from .carrier import MOST_BYTES, SEALED, NetworkFault, Origin, Taker
 
 # seconds between two signs of life, from a loss to the next try at most, and that the first connection may take
 KEEP_ALIVE = 30
@@ -19,9 +19,13 @@ MOST_PAUSE = 5
 PATIENCE = 20
 FAREWELL = 1.0
 
-# bytes of a packet that the broker may send, and datagrams that wait for the network
+# bytes of a packet that the broker may send, and of a frame of its WebSocket; and datagrams that wait for the network
 MOST_PACKET = 1 << 17
+MOST_FRAME = 4 * MOST_PACKET
 MOST_WAITING = 1_024
+
+# letters of a name at a broker, which people see
+MOST_NAME = 128
 
 # the ports of the ways to a broker
 PORTS = {"mqtt": 1883, "mqtts": 8883, "ws": 80, "wss": 443}
@@ -35,6 +39,11 @@ REFUSALS = {
     135: "the name or the password is wrong, or it does not allow it", 136: "it is not available", 137: "it is busy",
     138: "this name is banned",
 }
+
+
+def is_name(text: str) -> bool:
+    """Whether people may be shown it: no sign in it moves a cursor or turns the writing round, and it is not long."""
+    return 0 < len(text) <= MOST_NAME and text.isprintable()
 
 
 class Login(NamedTuple):
@@ -161,9 +170,13 @@ class MqttCarrier:
             self.inbox.tell("the broker %s %s" % (self.room.broker.host, trouble) if trouble else "")
 
     def heard(self, _client: Any, _data: Any, message: Any) -> None:
-        if self.inbox and len(message.payload) <= MOST_BYTES + 28:
-            name = message.topic.rpartition("/")[2]
+        if not self.inbox:
+            return
+        name = message.topic.rpartition("/")[2]
+        if is_name(name) and len(message.payload) <= MOST_BYTES + SEALED:
             self.inbox.arrive(bytes(message.payload), Origin(name, is_kept=self.room.login is not None))
+        else:
+            self.inbox.miss()
 
     def published(self, _client: Any, _data: Any, _number: int) -> None:
         with self.counting:
@@ -205,6 +218,13 @@ def lasting(mqtt: ModuleType) -> Any:
                     return int(super().loop_forever(*words, **named))
                 except Exception:
                     self.lose()
+
+        def _sock_recv(self, size: int) -> bytes:
+            """What comes next. Of a packet that is longer than we agreed to nothing is read, nor more of a frame of a WebSocket than some
+            packets have: the connection counts as lost."""
+            if size > MOST_PACKET or len(getattr(self.socket(), "_readbuffer", b"")) > MOST_FRAME:
+                raise ConnectionAbortedError("too long a packet")
+            return bytes(super()._sock_recv(size))
 
         def lose(self) -> None:
             """What is closed counts as lost, and the next turn connects again, after the pause of one that failed."""

@@ -24,8 +24,8 @@ def open_broker(options: Options, me: int, seal: Optional[Seal]) -> MqttCarrier:
     """A member speaks under the name by which the broker knows it; where it asks for none, under its number."""
     assert options.broker is not None
     name = options.login.name if options.login else "%d" % me
-    will = GONE + name.encode()
-    return MqttCarrier(Room(options.broker, options.session, name, options.login, options.ca), seal.close(will) if seal else will)
+    will = seal.will() if seal else GONE + name.encode()
+    return MqttCarrier(Room(options.broker, options.session, name, options.login, options.ca), will)
 
 
 def open_network(options: Options, me: int) -> Tuple[Carrier, Optional[UdpCarrier], Optional[Seal]]:

@@ -4,9 +4,9 @@ from __future__ import annotations
 import socket
 import threading
 import time
-from typing import TYPE_CHECKING, Dict, List, Tuple
+from typing import TYPE_CHECKING, Dict, List, Optional, Tuple
 
-from .carrier import MOST_BYTES, NetworkFault, Origin, Taker
+from .carrier import MOST_BYTES, SEALED, NetworkFault, Origin, Taker
 
 if TYPE_CHECKING:
     from ..options import Address
@@ -14,12 +14,14 @@ if TYPE_CHECKING:
 # ports of this machine at which members are
 PORTS = 32
 
-# bytes that the system keeps for us, and what a sealed datagram is longer than a plain one
+# bytes that the system keeps for us
 WAITING_BYTES = 1 << 20
-SEALED = 28
 
 # datagrams of ours that are told apart when a group brings them back
 MOST_RECENT = 64
+
+# hosts of a group that are remembered, since a stream is given to those alone that were heard; of more, the one heard least lately goes
+MOST_HOSTS = 1_024
 
 
 def udp() -> socket.socket:
@@ -28,6 +30,10 @@ def udp() -> socket.socket:
 
 class UdpCarrier:
     """A socket that a thread reads, one that sends, and to whom."""
+
+    # how far streams go, in hops, if not everywhere; and how many one host may have at a time
+    hops: Optional[int] = None
+    streams_of_host = 1
 
     def __init__(self, where: str, bound: socket.socket, sender: socket.socket, targets: List[Address]) -> None:
         self.where = where
@@ -73,7 +79,38 @@ class UdpCarrier:
 
     def place(self) -> Address:
         """Where a stream is asked for: the address that datagrams of ours come from."""
-        return self.sender.getsockname()
+        place: Address = self.sender.getsockname()
+        return place
+
+    def tcp(self) -> socket.socket:
+        made = socket.socket(socket.AF_INET, socket.SOCK_STREAM)
+        if self.hops is not None:
+            made.setsockopt(socket.IPPROTO_IP, socket.IP_TTL, self.hops)
+        return made
+
+    def listen_beside(self, waiting: int) -> socket.socket:
+        """A socket that listens where a stream is asked for. OSError if another has that port."""
+        listening = self.tcp()
+        try:
+            listening.setsockopt(socket.SOL_SOCKET, socket.SO_REUSEADDR, 1)
+            listening.bind(self.place())
+            listening.listen(waiting)
+        except OSError:
+            listening.close()
+            raise
+        return listening
+
+    def stream_to(self, address: Address, seconds: float) -> socket.socket:
+        """A stream to the member there, from where it hears us. OSError if there is none within so many seconds."""
+        stream = self.tcp()
+        try:
+            stream.settimeout(seconds)
+            stream.bind((self.place()[0], 0))
+            stream.connect(address)
+        except OSError:
+            stream.close()
+            raise
+        return stream
 
     def is_there(self, address: Address) -> bool:
         """Whether a member may be at an address: where it is known who there can be, nobody else is spoken to."""
@@ -86,6 +123,8 @@ class UdpCarrier:
 
 class Ports(UdpCarrier):
     """The first port of this machine that is free, and to all others. Its number is nobody's: a member's number is not that of its port."""
+
+    streams_of_host = PORTS  # all members are at one host
 
     def __init__(self, first: int) -> None:
         ports = list(range(first, first + PORTS))
@@ -105,7 +144,10 @@ class Ports(UdpCarrier):
 
 
 class Group(UdpCarrier):
-    """A multicast group, one hop wide, on an interface. It brings back what is sent, which is known again."""
+    """A multicast group, one hop wide, on an interface. It brings back what is sent, which is known again. Streams go no farther, and to
+    hosts alone that were heard in the group."""
+
+    hops = 1
 
     def __init__(self, group: Address, interface: str) -> None:
         bound, sender = udp(), udp()
@@ -124,10 +166,17 @@ class Group(UdpCarrier):
         super().__init__("the group %s:%d" % group, bound, sender, [group])
         self.recent: Dict[bytes, None] = {}
         self.own_port = sender.getsockname()[1]
+        self.hosts: Dict[str, None] = {}  # the one heard last at the end
 
     def takes(self, data: bytes, address: Address) -> bool:
         """It is none of ours that the group brings back."""
-        return data not in self.recent or address[1] != self.own_port
+        if data in self.recent and address[1] == self.own_port:
+            return False
+        self.hosts.pop(address[0], None)
+        self.hosts[address[0]] = None
+        if len(self.hosts) > MOST_HOSTS:
+            del self.hosts[next(iter(self.hosts))]
+        return True
 
     def send(self, data: bytes) -> bool:
         self.recent[data] = None
@@ -140,7 +189,7 @@ class Group(UdpCarrier):
         return True
 
     def may_ask(self, address: Address) -> bool:
-        return True
+        return address[0] in self.hosts
 
 
 class Peers(UdpCarrier):

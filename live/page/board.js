@@ -2,35 +2,43 @@
 import { nameOf } from './cells.js';
 import { listenToClipboard } from './clipboard.js';
 import { $, say, tell } from './dom.js';
+import { Faces } from './faces.js';
 import { Files } from './files.js';
 import { FilmBar } from './film.js';
-import { Hand } from './hand.js';
+import { Hand, middleOf } from './hand.js';
+import { itemAt } from './inkfind.js';
+import { reachOf } from './eraser.js';
+import { keysOf } from './keymap.js';
 import { Keys } from './keys.js';
 import { Layout } from './layout.js';
-import { showHealth, showHidden, showMembers, showWorse } from './members.js';
+import { kindOf, showHealth, showHidden, showMembers, showWorse } from './members.js';
 import { NOTES, Notes } from './notes.js';
 import { Painter } from './painter.js';
 import { showPages } from './pages.js';
 import { makePalette } from './palette.js';
+import { Pen } from './pen.js';
 import { showPeople } from './people.js';
 import { Pointing } from './pointing.js';
 import { Presence } from './presence.js';
+import { showProof } from './proof.js';
 import { Session } from './session.js';
+import { Sight } from './sight.js';
+import { Side } from './side.js';
+import { State } from './state.js';
 import { Steps } from './steps.js';
-import { TOOLS } from './tools.js';
+import { Style } from './style.js';
 import { Typing } from './typing.js';
 import { View } from './view.js';
+import { Welcome } from './welcome.js';
 import { Wire } from './wire.js';
 
 /** @typedef {import('./types.js').Member} Member */
 /** @typedef {import('./types.js').Drawing} Drawing */
+/** @typedef {import('./session.js').Taken} Taken */
 /** @typedef {import('./cells.js').Cell} Cell */
 
 /** So many drawings that come at once are no more marked one by one. */
 const MANY = 200;
-
-/** For so many milliseconds it is told that the member has changed over to the proved program. */
-const CHANGED_FOR = 60_000;
 
 export class Board {
   /** @param {Member} member */
@@ -40,27 +48,27 @@ export class Board {
     this.view = new View($('sheet'), (size) => this.painter.measure(size));
     this.layout = new Layout();
     this.steps = new Steps(this.session);
-    this.hand = new Hand(this.session, this.layout, this.steps);
+    this.ink = this.painter.ink;
+    this.notes = new Notes(this.session);
+    this.style = new Style(this);
+    this.pen = new Pen(this);
+    this.hand = new Hand(this);
     this.painter.parts = this;
-    this.typing = new Typing(this.session, this.view, this.painter, this.steps);
+    this.typing = new Typing(this);
     this.pointing = new Pointing(this.view, this.hand);
     this.wire = new Wire(this.session);
-    this.notes = new Notes(this.session);
     this.files = new Files(this);
     this.presence = new Presence(this);
     this.film = new FilmBar(this.session, this.painter);
+    this.sight = new Sight(this);
+    this.faces = new Faces(this);
+    this.side = new Side(this);
+    this.state = new State(this);
+    this.welcome = new Welcome(this);
     this.openPalette = makePalette((glyph) => this.hand.setGlyph(glyph));
-    this.hand.beginText = (cell) => this.typing.begin(cell);
-    this.hand.changed = () => this.change();
-    this.view.onMove(() => this.moved());
     this.hasTurned = false;
-  }
-
-  /** Another part of the page is in view. */
-  moved() {
-    const told = `${Math.floor(this.view.columns)} columns`;
-    if ($('fit').textContent !== told) $('fit').textContent = told;
-    this.painter.soon();
+    /** The colours that members have chosen, as they were painted last. */
+    this.coloured = '';
   }
 
   /** Something that is seen has changed. */
@@ -70,72 +78,79 @@ export class Board {
     this.presence.soon();
   }
 
+  // ---- what is under the hand
+
   /** What a cell shows, in words.
    * @param {Cell} cell */
   describe(cell) {
-    const drawing = this.hand.tool === 'restore' ? this.layout.hiddenAt(cell) : this.layout.drawingAt(cell), place = `${cell.x}, ${cell.y}`;
-    if (!drawing) return place;
-    return `${place}   ${drawing.op} by ${this.session.who(drawing.source)}, number ${drawing.seq}, ${when(drawing.time)}`;
+    const { session, layout, ink } = this, place = `${cell.x}, ${cell.y}`;
+    if (this.painter.isInk) {
+      const item = itemAt(ink.items, middleOf(cell), reachOf(this.view));
+      return item ? `${place}   ${kindOf(item.drawings[0])} by ${session.who(item.source)}` : place;
+    }
+    const drawing = this.hand.tool === 'restore' ? layout.hiddenAt(cell) : layout.drawingAt(cell);
+    return drawing ? `${place}   ${drawing.op} by ${session.who(drawing.source)}, number ${drawing.seq}, ${when(drawing.time)}` : place;
+  }
+
+  /** What stands at the foot: of ink who drew what is pointed at; of cells what is there, and how large it is that is begun. */
+  under() {
+    const { hand, ink, session } = this, cell = hand.at(), { gesture, point } = hand;
+    if (this.painter.isInk) {
+      const item = point && !gesture ? itemAt(ink.items, point, reachOf(this.view)) : undefined;
+      return item ? `${session.who(item.source)}, ${when(item.drawings[0].time)}` : '';
+    }
+    const size = gesture ? `   ${Math.abs(gesture.to.x - gesture.from.x) + 1} by ${Math.abs(gesture.to.y - gesture.from.y) + 1}` : '';
+    return cell ? this.describe(cell) + size : session.titleOf(session.board.page);
   }
 
   showUnder() {
-    const cell = this.hand.at(), { gesture } = this.hand;
-    const size = gesture ? `   ${Math.abs(gesture.to.x - gesture.from.x) + 1} by ${Math.abs(gesture.to.y - gesture.from.y) + 1}` : '';
-    const told = cell ? this.describe(cell) + size : `Page ${this.session.board.page}`;
+    const told = this.under();
     if ($('under').textContent !== told) $('under').textContent = told;
   }
 
+  // ---- what the member tells
+
   /** @param {import('./types.js').Hello} hello */
   takeHello(hello) {
-    document.title = `wb: member ${hello.me}`;
     $('notice').textContent = `${hello.notice} You are member ${hello.me}; ${hello.mode}.`;
-    this.takeProof(hello.proof);
+    showProof(hello.proof);
   }
 
-  /** Tells that the program is not proved yet, and how far the proof is; and, for a time, that it was done.
-   * @param {import('./types.js').Proof | undefined} proof */
-  takeProof(proof) {
-    const line = $('proof'), [bar, done, text] = /** @type {[HTMLProgressElement, HTMLElement, HTMLElement]} */ (/** @type {unknown} */ (line.children));
-    if (proof?.proved && proof.text && text.textContent !== proof.text) setTimeout(() => { line.hidden = true; }, CHANGED_FOR);
-    else if (!proof || proof.proved) return;
-    line.hidden = false;
-    line.classList.toggle('proved', proof.proved);
-    bar.hidden = !proof.progress;
-    bar.max = proof.many || 1;
-    bar.value = proof.crates;
-    if (done.textContent !== proof.progress) done.textContent = proof.progress;
-    if (text.textContent !== proof.text) text.textContent = proof.text;
-  }
-
-  /** @param {import('./types.js').Board} board @param {import('./types.js').Board} before */
-  takeBoard(board, before) {
-    if (board.page !== before.page) this.painter.forget();
-    this.layout.take(board);
-    if (board.page === before.page) this.tellChange(board, before);
-    else this.changePage(board);
-    $('hint').hidden = this.session.names.size > 0;
-    $('text').textContent = board.rows.join('\n');
+  /** @param {import('./types.js').Board} board @param {Taken} taken */
+  takeBoard(board, taken) {
+    if (taken.isTurned) this.painter.cells.forget();
+    this.layout.take(board, taken);
+    this.ink.take(taken);
+    if (taken.isTurned) this.changePage(board);
+    else this.tellChange(taken);
+    $('hint').hidden = this.session.shown.size + this.session.erased.size > 0;
+    this.showText();
     this.change();
   }
 
-  /** What others did is marked, and told.
-   * @param {import('./types.js').Board} board @param {import('./types.js').Board} before */
-  tellChange(board, before) {
-    const known = new Set([...before.drawops, ...before.hidden].map(nameOf)), gone = before.drawops.length - board.drawops.length;
-    const drawn = board.drawops.filter((drawing) => !known.has(nameOf(drawing)) && drawing.source !== this.session.hello.me);
-    if (drawn.length < MANY) drawn.forEach((drawing) => this.painter.mark(drawing));
-    if (drawn.length === 1) say(`${this.session.who(drawn[0].source)} drew ${told(drawn[0])}`);
-    else if (drawn.length) say(`${drawn.length} drawings came`);
-    else if (gone > 0) say(gone === 1 ? 'a drawing was hidden' : `${gone} drawings were hidden`);
+  /** The page as text, for who listens: its rows, and the letters of its inks. */
+  showText() {
+    const letters = [...this.ink.lettered].filter(({ kind }) => kind !== 'text').map((item) => item.letters), text = [...this.session.board.rows, ...letters].join('\n');
+    if ($('text').textContent !== text) $('text').textContent = text;
   }
 
-  /** Drops what was in hand on the page before, and shows the new one from its corner.
+  /** What others did is marked, and told.
+   * @param {Taken} taken */
+  tellChange({ gone, added }) {
+    const { hello: { me } } = this.session, drawn = added.filter(({ source }) => source !== me), many = gone.length - added.length;
+    if (drawn.length < MANY && !this.painter.isInk) drawn.forEach((drawing) => this.painter.cells.mark(drawing));
+    if (drawn.length === 1) say(`${this.session.who(drawn[0].source)} drew ${told(drawn[0])}`);
+    else if (drawn.length) say(`${drawn.length} drawings came`);
+    else if (many > 0) say(many === 1 ? 'a drawing was erased' : `${many} drawings were erased`);
+  }
+
+  /** Drops what was in hand on the page before, and shows all of the new one.
    * @param {import('./types.js').Board} board */
   changePage(board) {
     this.hand.gesture = null;
-    this.view.goTo(0, 0);
+    this.sight.begin();
     this.leaveNotes(board.page);
-    say(`page ${board.page}, ${board.drawops.length} drawings`);
+    say(`${this.session.titleOf(board.page)}, ${board.drawops.length} drawings`);
   }
 
   /** The reserved page is turned to by wish alone: a newcomer may hear of it before any other.
@@ -145,84 +160,92 @@ export class Board {
     this.session.goToPage(this.session.leaves()[0]?.page ?? '1/1');
   }
 
-  /** @param {boolean} is */
-  takeLink(is) {
-    if (!is) say('wb-live does not answer');
-  }
-
-  /** What each key does.
-   * @returns {Record<string, () => void>} */
-  keys() {
-    const { hand, view, session, painter } = this;
-    const tools = Object.entries(TOOLS).map(([name, { key }]) => [key, () => hand.choose(name)]);
-    const larger = () => view.setSize(view.wide + 1, this.focus());
-    return { ...Object.fromEntries(tools), d: () => hand.choose('erase'), g: this.openPalette, '[': () => session.turn(-1), ']': () => session.turn(1),
-      n: () => session.goToPage(null), o: () => this.files.showAll(), '?': () => $('keys').showModal(), '+': larger, '=': larger,
-      '-': () => view.setSize(view.wide - 1, this.focus()), 0: () => view.fit(), c: () => painter.tint(!painter.isTinted) };
-  }
-
-  /** The point that stays where it is when the page becomes larger: what is pointed at, or the middle. */
-  focus() {
-    const { view, hand } = this, cell = hand.at();
-    if (!cell || !view.has(cell.x, cell.y)) return { x: view.width / 2, y: view.height / 2 };
-    return { x: view.pixelX(cell.x) + view.wide / 2, y: view.pixelY(cell.y) + view.high / 2 };
-  }
+  // ---- what the hand wishes
 
   /** Where something is pasted: at what is pointed at, or near the corner.
    * @returns {Cell} */
   place() {
-    return this.hand.at() ?? { x: Math.floor(this.view.left) + 2, y: Math.floor(this.view.top) + 2 };
+    return this.hand.at() ?? { x: Math.max(0, Math.floor(this.view.left)) + 2, y: Math.max(0, Math.floor(this.view.top)) + 2 };
+  }
+
+  undo() {
+    if (!this.pen.undo()) this.steps.undo();
+  }
+
+  /** Erases all that the page shows, as one step. */
+  clear() {
+    const drawops = [...this.session.board.drawops];
+    if (!drawops.length || !confirm(`Clear the page for everyone? It takes ${drawops.length} drawings of room; Undo brings all back.`)) return;
+    this.hand.change([], drawops);
+  }
+
+  /** A double click edits the letters under it.
+   * @param {MouseEvent} event */
+  edit(event) {
+    if (!this.painter.isInk || event.target instanceof HTMLTextAreaElement || !['select', 'text'].includes(this.hand.tool)) return;
+    const item = itemAt(this.ink.items, this.view.pointAt(event), reachOf(this.view));
+    if (item && ['t', 'n', 'r', 'o', 'd'].includes(item.kind)) this.typing.edit(item);
   }
 
   /** Has the buttons, the keys and the system's wishes heard. */
   listen() {
-    const keys = this.keys(), undo = () => this.steps.undo(), redo = () => this.steps.redo();
+    const keys = keysOf(this), undo = () => this.undo(), redo = () => this.steps.redo(), menu = ['clear', 'restore-tool', 'help', 'entitle'];
     /** @type {Record<string, () => void>} */
-    const clicks = { glyph: keys.g, undo, redo, back: keys['['], forth: keys[']'], new: keys.n, help: keys['?'], all: keys.o, file: () => $('files').showModal(),
-      smaller: keys['-'],
-      larger: keys['+'], fit: keys[0], fold: () => $('fold').setAttribute('aria-expanded', String($('side').classList.toggle('open'))) };
+    const clicks = { glyph: this.openPalette, undo, redo, back: keys['['], forth: keys[']'], new: () => this.session.goToPage(null), help: keys['?'],
+      all: () => this.files.showAll(), file: () => $('files').showModal(), smaller: keys['-'], larger: keys['+'], clear: () => this.clear() };
+    menu.forEach((id) => $(id).addEventListener('click', () => $('files').close()));
     for (const [id, act] of Object.entries(clicks)) $(id).addEventListener('click', () => act());
     for (const button of document.querySelectorAll('[data-tool]')) {
       button.addEventListener('click', () => this.hand.choose(/** @type {any} */ (button).dataset.tool));
     }
-    // who clicked goes on at the sheet; who came by keys stays where he is
-    document.querySelector('header')?.addEventListener('click', (event) => {
-      if (event.detail && !document.querySelector('dialog[open]') && /** @type {HTMLElement} */ (event.target).closest('button')) this.view.sheet.focus();
-    });
+    // who clicked goes on at the sheet; who came by keys stays where he is. The row of style is made anew by a click in it, so this comes first
+    document.addEventListener('click', (event) => {
+      const is = /** @type {HTMLElement} */ (event.target).closest?.('[data-tool], .pages button, #style button, #foot button:not(#state)');
+      if (event.detail && is && !document.querySelector('dialog[open]')) this.focusSheet();
+    }, true);
+    this.view.sheet.addEventListener('dblclick', (event) => this.edit(event));
     listenToClipboard(this.hand, () => this.place());
     new Keys(this.view, this.hand, this.pointing, { keys, undo, redo, describe: (cell) => this.describe(cell) });
-    addEventListener('beforeprint', () => this.fitPrint());
+    addEventListener('beforeprint', () => this.sight.fitPrint());
     this.painter.night.addEventListener('change', () => this.changeColours());
     new ResizeObserver(() => this.view.resize()).observe($('sheet'));
+  }
+
+  focusSheet() {
+    this.view.sheet.focus(/** @type {FocusOptions} */ ({ preventScroll: true, focusVisible: false }));
+  }
+
+  /** Where somebody has chosen another colour, all is painted anew.
+   * @param {Map<number, number>} colours */
+  takeColours(colours) {
+    const told = JSON.stringify([...colours]);
+    if (told !== this.coloured) this.painter.repaint();
+    this.coloured = told;
   }
 
   /** It has become day or night: all that has the colour of a member is shown anew. */
   changeColours() {
     this.painter.readColours();
-    this.painter.soon();
     this.session.emit('notes', this.notes.told);
     this.film.paint();
-  }
-
-  /** Makes the text that is printed as wide as the paper. */
-  fitPrint() {
-    const longest = Math.max(40, ...this.session.board.rows.map((row) => row.length));
-    $('text').style.fontSize = `${Math.min(12, 820 / longest)}pt`;
+    this.style.show();
   }
 
   begin() {
     const { session } = this;
     session.on('hello', (hello) => this.takeHello(hello));
-    session.on('board', (board, before) => this.takeBoard(board, before));
-    session.on('link', (is) => this.takeLink(is));
+    session.on('board', (board, taken) => this.takeBoard(board, taken));
+    session.on('link', (is) => is || say('Offline: what you draw is not sent'));
     session.on('ghosts', () => this.painter.soon());
+    session.on('notes', ({ colours }) => this.takeColours(colours));
     session.on('fault', tell);
-    showPeople(session, this.notes, this.painter);
-    for (const show of [showPages, showMembers, showHealth, showHidden, showWorse]) show(session, this.painter);
+    this.ink.changed = () => { this.sight.show(); this.showText(); };
+    for (const show of [showPeople, showMembers, showHealth, showHidden, showWorse]) show(this);
+    showPages(session);
     this.listen();
     this.hand.choose('pen');
     this.view.fit();
-    this.view.sheet.focus(/** @type {FocusOptions} */ ({ preventScroll: true, focusVisible: false }));
+    this.focusSheet();
     session.begin();
   }
 }
@@ -230,7 +253,9 @@ export class Board {
 /** A drawing in words, for those who listen.
  * @param {Drawing} drawing */
 function told(drawing) {
-  return drawing.op === 'text' ? `a text at ${drawing.x}, ${drawing.y}: ${drawing.text}` : `a ${drawing.op} at ${drawing.x0}, ${drawing.y0}`;
+  const kind = kindOf(drawing);
+  if (drawing.op === 'text') return kind.startsWith('“') ? `a text: ${kind}` : `a ${kind}`;
+  return `a ${drawing.op} at ${drawing.x0}, ${drawing.y0}`;
 }
 
 /** When a drawing was made; what is no time of these years is told as it is.

@@ -1,6 +1,8 @@
 /** Copy, cut and paste. What is copied is text: a line for each drawing, in the words that a host reads, so it can go anywhere. */
 import { SIDE, spell } from './cells.js';
 import { say, tell } from './dom.js';
+import { CELL_HIGH, CELL_WIDE } from './inksigns.js';
+import { placed, writeWords } from './inkwriting.js';
 import { MOST_AT_ONCE, plainOf, writing } from './shapes.js';
 
 /** @typedef {import('./types.js').Shape} Shape */
@@ -24,11 +26,15 @@ export function shapeOf(line) {
   return { op, x0, y0, x1, y1, glyph };
 }
 
-/** The shapes of a text: drawings in words where each line is one, and else the lines themselves, written from a cell on.
- * @type {(text: string, at: { x: number, y: number }) => { shapes: Shape[], lost: string[] }} */
-export function shapesOf(text, at) {
+/** The shapes of a text: drawings in words where each line is one; else the lines themselves, written from a cell on, or as ink with a look.
+ * @type {(text: string, at: { x: number, y: number }, look?: import('./style.js').Look) => { shapes: Shape[], lost: string[] }} */
+export function shapesOf(text, at, look) {
   const shapes = text.trim().split(/\r?\n/).map(shapeOf);
   if (shapes.every((shape) => shape !== null)) return { shapes: /** @type {Shape[]} */ (shapes), lost: [] };
+  if (look) {
+    const letters = text.replace(/\r\n?/g, '\n').replace(/\t/g, '    ').trimEnd(), corner = { x: at.x * CELL_WIDE, y: at.y * CELL_HIGH };
+    return { shapes: writeWords({ colour: look.colour, width: look.size }, look.font, corner, letters).map((each) => placed(each, 0)), lost: [] };
+  }
   const { plain, lost } = plainOf(text);
   return { shapes: writing(plain, at), lost };
 }
@@ -36,7 +42,7 @@ export function shapesOf(text, at) {
 /** Draws what a text holds at a cell, as far as it goes, and tells what could not be.
  * @param {Hand} hand @param {string} text @param {{ x: number, y: number }} at */
 export function insert(hand, text, at) {
-  const { shapes, lost } = shapesOf(text, at);
+  const { painter, style } = hand.parts, { shapes, lost } = shapesOf(text, at, painter.isInk ? style.look : undefined);
   if (shapes.length > MOST_AT_ONCE) return tell(`Not drawn: ${shapes.length} drawings at once are too many, ${MOST_AT_ONCE} are the most.`);
   if (!shapes.length) return tell('There is no text to draw.');
   if (lost.length) tell(`Drawn without ${lost.slice(0, 8).join(' ')}: a text has letters, digits and signs of ASCII only.`);

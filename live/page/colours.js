@@ -1,7 +1,7 @@
 /** A colour for each member, by its number alone. All are as light as one another, so that each can be read on the page's grounds. */
 
 /** Lightness and strength of the colours, by day and by night. */
-const DAY = { light: 0.46, strength: 0.15 }, NIGHT = { light: 0.82, strength: 0.11 };
+const BY_DAY = { light: 0.46, strength: 0.15 }, BY_NIGHT = { light: 0.82, strength: 0.11 };
 
 /** Numbers that follow one another are so many degrees apart: the golden angle, by which no two of a few are near. */
 const APART = 137.50776;
@@ -26,7 +26,7 @@ export const hueOf = (member) => (member * APART) % 360;
 /** The colour of a member, as `#rrggbb`.
  * @type {(member: number, isNight: boolean) => string} */
 export function colourOf(member, isNight) {
-  const { light, strength } = isNight ? NIGHT : DAY;
+  const { light, strength } = isNight ? BY_NIGHT : BY_DAY;
   let parts = [0, 0, 0];
   for (let part = strength; part >= 0; part -= 0.01) {
     parts = partsOf(light, part, hueOf(member));
@@ -34,3 +34,16 @@ export function colourOf(member, isNight) {
   }
   return `#${parts.map((value) => Math.round(255 * Math.min(1, Math.max(0, value))).toString(16).padStart(2, '0')).join('')}`;
 }
+
+/** The colours of ink, by day and by night: ink, red, orange, yellow, green, teal, blue, violet, grey. */
+export const DAY = ['#1d2433', '#d3302f', '#c45a00', '#c98a00', '#14803c', '#0a7d7d', '#1d5fd6', '#7138d8', '#667085'];
+export const NIGHT = ['#eef1f6', '#ff8f87', '#ffb066', '#ffd95a', '#76dd9f', '#62d9d6', '#8ab6ff', '#c8aaff', '#a8b0bd'];
+
+/** The same of the highlighter, of notes, and of what is tinted. */
+export const BRIGHT = ['#9aa4b5', '#ff6b62', '#ff9f43', '#ffd60a', '#4cd07d', '#35d0cc', '#5b9dff', '#a67bff', '#b6bcc8'];
+
+/** What they are called; the tenth is the colour of the member that drew. */
+export const COLOURS = ['black', 'red', 'orange', 'yellow', 'green', 'teal', 'blue', 'violet', 'grey', 'my own colour'];
+
+/** The order in which they are offered, and in which members get one. */
+export const OFFERED = [0, 6, 1, 4, 2, 3, 5, 7, 8], FOR_MEMBERS = [6, 1, 4, 2, 7, 5, 3, 8];

@@ -59,6 +59,12 @@ export class HttpMember {
     return this.ask('film', change);
   }
 
+  /** Begins or joins a session beside this one.
+   * @param {string} session */
+  next(session) {
+    return this.ask('next', { session });
+  }
+
   /** Takes a new number. */
   renumber() {
     return this.post('number', { new: true });

@@ -1,5 +1,7 @@
-/** A page as text, as SVG, and all pages as one HTML file: texts that are made of cells alone. */
+/** A page as text, as SVG, and all pages as one HTML file: texts that are made of cells alone, and of the letters of ink. */
 import { boxAbout } from './cells.js';
+import { inkOf } from './ink.js';
+import { itemsOf } from './inkitems.js';
 import { Layout } from './layout.js';
 
 /** @typedef {import('./types.js').Board} Board */
@@ -22,7 +24,7 @@ export function extentOf({ drawops }) {
  * @type {(board: Board) => Layout} */
 export function laidOut(board) {
   const layout = new Layout();
-  layout.take(board);
+  layout.take(board, { isTurned: true, gone: [], added: board.drawops });
   return layout;
 }
 
@@ -42,18 +44,30 @@ export function runsOf(layout, { left, top, columns, rows }) {
 }
 
 /** The rows of a page, without spaces at their ends.
- * @type {(board: Board) => string} */
-export function textOf(board) {
+ * @type {(board: Board) => string[]} */
+function rowsOf(board) {
   const extent = extentOf(board);
   /** @type {string[]} */
   const rows = Array(extent.rows).fill('');
   for (const { x, y, text } of runsOf(laidOut(board), extent)) rows[y - extent.top] = rows[y - extent.top].padEnd(x - extent.left) + text;
-  return `${rows.join('\n')}\n`;
+  return rows;
 }
 
-/** A text as it stands in HTML and SVG.
+/** The letters of ink, from the top of the page to its end.
+ * @type {(inks: import('./types.js').Drawing[]) => string[]} */
+const lettersOf = (inks) => itemsOf(inks).filter(({ letters }) => letters).sort(({ points: [a] }, { points: [b] }) => a.y - b.y || a.x - b.x).map(({ letters }) => letters);
+
+/** A page as text: its rows, and below them the letters of its ink.
+ * @type {(board: Board) => string} */
+export function textOf(board) {
+  const inks = board.drawops.filter(inkOf), plain = inks.length ? board.drawops.filter((drawing) => !inkOf(drawing)) : board.drawops, letters = lettersOf(inks);
+  const rows = plain.length || !letters.length ? rowsOf({ ...board, drawops: plain }) : [];
+  return [...rows, ...(rows.length && letters.length ? [''] : []), ...letters, ''].join('\n');
+}
+
+/** A text as it stands in HTML and SVG. Two codes that are no letters would make the whole no XML.
  * @type {(text: string) => string} */
-export const escaped = (text) => text.replace(/[&<>"]/g, (sign) => `&#${sign.charCodeAt(0)};`);
+export const escaped = (text) => text.replace(/[\ufffe\uffff]/g, '\ufffd').replace(/[&<>"]/g, (sign) => `&#${sign.charCodeAt(0)};`);
 
 /** A page as SVG, its letters as text.
  * @type {(board: Board, tintOf: (source: number) => string, paper: string, title: string) => string} */

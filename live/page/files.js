@@ -2,6 +2,10 @@
 import { insert } from './clipboard.js';
 import { $, make, tell } from './dom.js';
 import { extentOf, htmlOf, laidOut, runsOf, svgOf, textOf } from './exports.js';
+import { itemsOf } from './inkitems.js';
+import { boxAboutAll, inOrder } from './inkpaint.js';
+import { CELL_WIDE } from './inksigns.js';
+import { svgOfInk } from './inksvg.js';
 import { NOTES } from './notes.js';
 
 /** @typedef {import('./types.js').Board} Board */
@@ -10,8 +14,11 @@ import { NOTES } from './notes.js';
 /** Points of a cell in a picture, and the points of a side that browsers can paint. */
 const WIDE = 9, HIGH = 17, MOST_SIDE = 16_000, MOST_AREA = 64_000_000;
 
-/** The cells of a page at a glance, and points of each. */
-const GLANCE = { columns: 120, rows: 60, wide: 1.5, high: 2 };
+/** Of a picture of ink: points of a cell, the points of a side at most, and those about it. */
+const INK = { wide: 20, most: 8_000, about: 20 };
+
+/** The cells of a page at a glance, and points of each; and of ink the points of it all. */
+const GLANCE = { columns: 120, rows: 60, wide: 1.5, high: 2 }, GLANCE_OF_INK = { width: 416, height: 260 };
 
 /** Bytes of a text that is opened. */
 const MOST_BYTES = 1_000_000;
@@ -35,14 +42,14 @@ export class Files {
 
   /** @param {string} page */
   titleOf(page) {
-    const title = this.board.session.titles.get(page);
-    return title ? `Page ${page}: ${title}` : `Page ${page}`;
+    return this.board.session.titleOf(page);
   }
 
   /** @param {Board} board */
   svg(board) {
-    const { painter } = this.board;
-    return svgOf(board, (source) => (source < 0 ? painter.colours.ink : painter.tintOf(source)), painter.colours.paper, this.titleOf(board.page));
+    const { painter } = this.board, title = this.titleOf(board.page);
+    if (painter.isInk) return svgOfInk(itemsOf(board.drawops), painter.ink.paints, painter.colours, title);
+    return svgOf(board, (source) => (source < 0 ? painter.colours.ink : painter.tintOf(source)), painter.colours.paper, title);
   }
 
   /** Hands a file to the user.
@@ -53,29 +60,59 @@ export class Files {
     setTimeout(() => URL.revokeObjectURL(address), 60_000);
   }
 
-  savePng() {
-    const extent = extentOf(this.shown), canvas = document.createElement('canvas'), { painter } = this.board;
-    [canvas.width, canvas.height] = [extent.columns * WIDE, extent.rows * HIGH];
-    if (Math.max(canvas.width, canvas.height) > MOST_SIDE || canvas.width * canvas.height > MOST_AREA) {
-      return tell('The page is too large for one PNG: save it as SVG.');
-    }
+  /** A canvas with the paper's colour.
+   * @param {HTMLCanvasElement} canvas @param {number} width @param {number} height */
+  sheetOf(canvas, width, height) {
+    Object.assign(canvas, { width, height });
     const brush = /** @type {CanvasRenderingContext2D} */ (canvas.getContext('2d'));
-    brush.fillStyle = painter.colours.paper;
-    brush.fillRect(0, 0, canvas.width, canvas.height);
+    brush.fillStyle = this.board.painter.colours.paper;
+    brush.fillRect(0, 0, width, height);
+    return brush;
+  }
+
+  /** Paints a page as ink in the middle of a canvas, as large as it fits but no larger than so many points a cell.
+   * @param {CanvasRenderingContext2D} brush @param {Board} board @param {number} most */
+  paintInk(brush, board, most) {
+    const items = itemsOf(board.drawops), box = boxAboutAll(items), { width, height } = brush.canvas;
+    if (!box) return;
+    const { x0, y0, x1, y1 } = box, scale = Math.min(most / CELL_WIDE, (width - INK.about) / (x1 - x0), (height - INK.about) / (y1 - y0));
+    brush.setTransform(scale, 0, 0, scale, width / 2 - ((x0 + x1) / 2) * scale, height / 2 - ((y0 + y1) / 2) * scale);
+    inOrder(items).forEach((item) => this.board.painter.ink.paints.paint(brush, item, { wide: scale * CELL_WIDE }));
+  }
+
+  savePng() {
+    const canvas = document.createElement('canvas');
+    if (this.board.painter.isInk) this.pngOfInk(canvas);
+    else if (!this.pngOfCells(canvas)) return tell('The page is too large for one PNG: save it as SVG.');
+    canvas.toBlob((blob) => blob && this.save('png', 'image/png', blob));
+    return undefined;
+  }
+
+  /** @param {HTMLCanvasElement} canvas */
+  pngOfInk(canvas) {
+    const { x0, y0, x1, y1 } = boxAboutAll(this.board.ink.items) ?? { x0: 0, y0: 0, x1: 10 * CELL_WIDE, y1: 8 * CELL_WIDE };
+    const scale = Math.min(INK.wide / CELL_WIDE, INK.most / (x1 - x0), INK.most / (y1 - y0)), side = (/** @type {number} */ units) => Math.ceil(units * scale) + 2 * INK.about;
+    this.paintInk(this.sheetOf(canvas, side(x1 - x0), side(y1 - y0)), this.shown, INK.wide);
+  }
+
+  /** Whether the page was not too large.
+   * @param {HTMLCanvasElement} canvas */
+  pngOfCells(canvas) {
+    const extent = extentOf(this.shown), [width, height] = [extent.columns * WIDE, extent.rows * HIGH], { painter, layout } = this.board;
+    if (Math.max(width, height) > MOST_SIDE || width * height > MOST_AREA) return false;
+    const brush = this.sheetOf(canvas, width, height);
     painter.setFont(brush, 15);
-    for (const { x, y, source, text } of runsOf(this.board.layout, extent)) {
+    for (const { x, y, source, text } of runsOf(layout, extent)) {
       brush.fillStyle = source < 0 ? painter.colours.ink : painter.tintOf(source);
       [...text].forEach((glyph, i) => brush.fillText(glyph, (x - extent.left + i + 0.5) * WIDE, (y - extent.top + 0.5) * HIGH));
     }
-    canvas.toBlob((blob) => blob && this.save('png', 'image/png', blob));
-    return undefined;
+    return true;
   }
 
   /** The pages that can be read, as they are shown now, but for the reserved one. */
   async boards() {
     const { session } = this.board, { member } = session;
-    const names = session.pages.map(({ page }) => page).filter((page) => page !== NOTES);
-    const boards = await Promise.all(names.map((page) => (page === this.shown.page ? this.shown : member.read?.(page) ?? null)));
+    const boards = await Promise.all(session.leaves().map(({ page }) => (page === this.shown.page ? this.shown : member.read?.(page) ?? null)));
     return /** @type {Board[]} */ (boards.filter((board) => board !== null));
   }
 
@@ -96,7 +133,7 @@ export class Files {
     $('opened').value = '';
     if (!file) return;
     if (file.size > MOST_BYTES) tell(`A text of over ${MOST_BYTES / 1000} kilobytes is not opened.`);
-    else if (/^(image|audio|video)\//.test(file.type)) tell('A page has no pictures: lines, frames and texts only.');
+    else if (/^(image|audio|video)\//.test(file.type)) tell('A page has no pictures: strokes, shapes and letters only.');
     else insert(this.board.hand, await file.text(), this.board.place());
   }
 
@@ -111,12 +148,9 @@ export class Files {
   /** A small picture of a page, which turns to it.
    * @param {Board} board */
   glance(board) {
-    const button = make('button'), canvas = make('canvas'), { painter, session } = this.board, brush = canvas.getContext('2d');
-    Object.assign(canvas, { width: GLANCE.columns * GLANCE.wide, height: GLANCE.rows * GLANCE.high });
-    for (const { x, y, source, text } of runsOf(laidOut(board), { left: 0, top: 0, columns: GLANCE.columns, rows: GLANCE.rows })) {
-      brush.fillStyle = source < 0 ? painter.colours.ink : painter.tintOf(source);
-      brush.fillRect(x * GLANCE.wide, y * GLANCE.high, text.length * GLANCE.wide, GLANCE.high - 0.5);
-    }
+    const button = make('button'), canvas = make('canvas'), { painter, session } = this.board;
+    if (painter.isInk) this.paintInk(this.sheetOf(canvas, GLANCE_OF_INK.width, GLANCE_OF_INK.height), board, 10);
+    else this.paintCells(canvas, board);
     button.append(canvas, make('span', this.titleOf(board.page)));
     button.setAttribute('aria-current', String(board.page === session.board.page));
     button.addEventListener('click', () => {
@@ -124,5 +158,14 @@ export class Files {
       session.goToPage(board.page);
     });
     return button;
+  }
+
+  /** @param {HTMLCanvasElement} canvas @param {Board} board */
+  paintCells(canvas, board) {
+    const { painter } = this.board, { columns, rows, wide, high } = GLANCE, brush = this.sheetOf(canvas, columns * wide, rows * high);
+    for (const { x, y, source, text } of runsOf(laidOut(board), { left: 0, top: 0, columns, rows })) {
+      brush.fillStyle = source < 0 ? painter.colours.ink : painter.tintOf(source);
+      brush.fillRect(x * wide, y * high, text.length * wide, high - 0.5);
+    }
   }
 }

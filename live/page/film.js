@@ -46,6 +46,7 @@ export class FilmBar {
     const { scene, count } = sceneAt(this.scenes, film.at), slider = $('film-at');
     this.film = film;
     $('film').hidden = false;
+    document.body.dataset.film = '';
     slider.max = film.last;
     if (!this.timer) slider.value = film.at;
     $('film-stop').textContent = film.stopped ? 'Play' : 'Stop';

@@ -1,38 +1,61 @@
 /** What the user has in hand: the tool, the glyph, what is begun, what is selected, and where the pointer is. */
-import { boxAbout, kept, nameOf, shifted } from './cells.js';
+import { boxAbout, kept, nameOf, orderOf, shifted } from './cells.js';
 import { $, say, tell } from './dom.js';
+import { inkOf } from './ink.js';
+import { CELL_HIGH, CELL_WIDE } from './inksigns.js';
+import { INK_TOOLS, carriedAll } from './inktools.js';
+import { placed } from './inkwriting.js';
 import { MOST_AT_ONCE } from './shapes.js';
 import { TOOLS } from './tools.js';
 
 /** @typedef {import('./cells.js').Cell} Cell */
+/** @typedef {import('./ink.js').Point} Point */
 /** @typedef {import('./types.js').Shape} Shape */
 /** @typedef {import('./types.js').Drawing} Drawing */
 /** @typedef {import('./tools.js').Gesture} Gesture */
+/** @typedef {import('./inkitems.js').Item} Item */
+
+/** The middle of a cell, in units.
+ * @type {(cell: Cell) => Point} */
+export const middleOf = ({ x, y }) => ({ x: (x + 0.5) * CELL_WIDE, y: (y + 0.5) * CELL_HIGH });
+
+/** How a gesture begins or goes on: with Shift, and by a pen that tells its pressure.
+ * @typedef {{ isShifted?: boolean, isPressed?: boolean }} How */
 
 export class Hand {
-  /** @param {import('./session.js').Session} session @param {import('./layout.js').Layout} layout @param {import('./steps.js').Steps} steps */
-  constructor(session, layout, steps) {
-    this.session = session;
-    this.layout = layout;
-    this.steps = steps;
-    this.tool = 'line';
+  /** @param {import('./board.js').Board} board */
+  constructor(board) {
+    this.parts = board;
+    this.session = board.session;
+    this.layout = board.layout;
+    this.steps = board.steps;
+    this.tool = 'pen';
     this.glyph = '*';
     /** @type {Gesture | null} */
     this.gesture = null;
-    /** The cell under the mouse.
+    /** The cell under the mouse, and the point there.
      * @type {Cell | null} */
     this.pointer = null;
+    /** @type {Point | null} */
+    this.point = null;
     this.cursor = { x: 2, y: 2, on: false };
     /** The names of the drawings that are selected.
      * @type {Set<string>} */
     this.selection = new Set();
-    /** Called where something of it has changed.
-     * @type {() => void} */
-    this.changed = () => {};
-    /** Called to let a text be typed at a cell.
-     * @type {(cell: Cell) => void} */
-    this.beginText = () => {};
-    session.on('board', (board, before) => board.page !== before.page && this.selection.clear());
+    /** The number of the place that an ink was given last. */
+    this.place = 0;
+    this.session.on('board', (_, { isTurned }) => isTurned && this.selection.clear());
+  }
+
+  /** Something of it has changed. */
+  changed() {
+    this.parts.change();
+  }
+
+  /** What a tool does, on ink or on cells.
+   * @param {string} name */
+  toolOf(name) {
+    return (this.parts.painter.isInk && INK_TOOLS[name]) || TOOLS[name] || TOOLS.select;
   }
 
   /** The cell that is meant, by whatever it is pointed at.
@@ -41,17 +64,24 @@ export class Hand {
     return this.gesture?.to ?? this.pointer ?? (this.cursor.on ? this.cursor : null);
   }
 
+  /** An ink as a drawing, at a place of the page that no other has, as far as there are.
+   * @param {string} text @returns {Shape} */
+  placed(text) {
+    this.place = Math.max(this.place, this.session.shown.size + this.session.erased.size) + 1;
+    return placed(text, this.place);
+  }
+
   /** The shapes that would be drawn now.
    * @returns {Shape[]} */
   ghosts() {
-    return (this.gesture && TOOLS[this.gesture.tool].shapes?.(this.gesture, this)) ?? [];
+    return (this.gesture && this.toolOf(this.gesture.tool).shapes?.(this.gesture, this)) ?? [];
   }
 
   /** The drawings that would be deleted now.
    * @returns {Drawing[]} */
   doomed() {
-    const at = this.at(), gesture = this.gesture ?? (at && { tool: this.tool, from: at, to: at, path: [at], began: 0, isMove: false });
-    return (gesture && TOOLS[gesture.tool].doomed?.(gesture, this)) ?? [];
+    const at = this.at(), gesture = this.gesture ?? (at && this.gestureAt(at));
+    return (gesture && this.toolOf(gesture.tool).doomed?.(gesture, this)) ?? [];
   }
 
   /** The rectangle of a selection that is begun. */
@@ -63,17 +93,28 @@ export class Hand {
   /** The drawings that are selected, in the order of painting.
    * @returns {Drawing[]} */
   selected() {
-    return this.selection.size ? this.session.board.drawops.filter((drawing) => this.selection.has(nameOf(drawing))) : [];
+    const found = [...this.selection].map((name) => this.session.shown.get(name)).filter((drawing) => drawing !== undefined);
+    return /** @type {Drawing[]} */ (found).sort(orderOf);
+  }
+
+  /** The items of which drawings are selected.
+   * @returns {Item[]} */
+  chosenItems() {
+    const { kept } = this.parts.ink, found = this.selected().map(({ source, seq }) => kept.itemOf(source, seq)).filter((item) => item !== undefined);
+    return [...new Set(/** @type {Item[]} */ (found))];
   }
 
   /** @param {string} tool */
   choose(tool) {
+    this.parts.pen.flush();
     this.tool = tool;
     this.gesture = null;
     this.selection.clear();
     for (const button of document.querySelectorAll('[data-tool]')) {
       button.setAttribute('aria-pressed', String(/** @type {HTMLElement} */ (button).dataset.tool === tool));
     }
+    document.body.dataset.hand = tool;
+    this.parts.style.show();
     say(`${tool} chosen`);
     this.changed();
   }
@@ -83,22 +124,34 @@ export class Hand {
     this.glyph = $('glyph').textContent = glyph;
   }
 
-  /** @param {Cell} cell @param {boolean} [isMore] whether it is added to a selection */
-  begin(cell, isMore = false) {
-    this.gesture = { tool: this.tool, from: cell, to: cell, path: [cell], began: performance.now(), isMove: false };
-    TOOLS[this.tool].begin?.(this.gesture, this, isMore);
+  /** @param {Cell} cell @param {Point} [point] @returns {Gesture} */
+  gestureAt(cell, point = middleOf(cell)) {
+    return { tool: this.tool, from: cell, to: cell, path: [cell], points: [point], began: performance.now(), isMove: false, isShifted: false };
+  }
+
+  /** @param {Cell} cell @param {Point} [point] @param {How} [how] with Shift it is added to a selection */
+  begin(cell, point, how = {}) {
+    this.parts.sight.stay();
+    this.gesture = Object.assign(this.gestureAt(cell, point), { isShifted: Boolean(how.isShifted) });
+    this.toolOf(this.tool).begin?.(this.gesture, this, how);
     this.changed();
   }
 
-  /** @param {Cell | null | undefined} cell */
-  move(cell) {
-    const { gesture } = this, last = gesture?.path.at(-1);
-    if (gesture && cell) gesture.to = cell;
-    if (gesture && cell && (last?.x !== cell.x || last?.y !== cell.y)) gesture.path.push(cell);
+  /** @param {Cell | null | undefined} cell @param {Point[]} [points] on the way to it @param {How} [how] */
+  move(cell, points = cell ? [middleOf(cell)] : [], how = {}) {
+    const { gesture } = this, last = gesture?.path[gesture.path.length - 1];
+    if (gesture && cell) {
+      gesture.isShifted = Boolean(how.isShifted);
+      this.toolOf(gesture.tool).move?.(gesture, this, points);
+      gesture.points.push(...points);
+      gesture.to = cell;
+      if (last?.x !== cell.x || last?.y !== cell.y) gesture.path.push(cell);
+    }
     this.changed();
   }
 
   drop() {
+    if (this.gesture) this.toolOf(this.gesture.tool).drop?.(this);
     this.gesture = null;
     this.changed();
   }
@@ -108,10 +161,9 @@ export class Hand {
     const { gesture } = this;
     if (!gesture) return;
     gesture.ended = performance.now();
-    const tool = TOOLS[gesture.tool], shapes = this.ghosts(), doomed = this.doomed();
-    this.drop();
+    const tool = this.toolOf(gesture.tool), shapes = this.ghosts(), doomed = this.doomed();
+    this.gesture = null;
     if (tool.finish) tool.finish(gesture, this);
-    else if (shapes.length + doomed.length > MOST_AT_ONCE) tell(`Not drawn: over ${MOST_AT_ONCE} drawings at once.`);
     else this.change(shapes, doomed);
     this.changed();
   }
@@ -119,8 +171,10 @@ export class Hand {
   /** One step that draws and then deletes, so that nothing is lost on the way.
    * @param {Shape[]} shapes @param {Drawing[]} doomed */
   change(shapes, doomed) {
+    if (shapes.length + doomed.length === 0) return null;
+    if (shapes.length > MOST_AT_ONCE) return tell(`Not drawn: over ${MOST_AT_ONCE} drawings at once.`), null;
     const step = this.steps.begin();
-    shapes.forEach((shape) => step.draw(shape));
+    shapes.forEach((shape) => step.draw(shape.op === 'text' && inkOf(shape) ? this.placed(shape.text) : shape));
     doomed.forEach((drawing) => step.hide(drawing));
     return step;
   }
@@ -128,12 +182,10 @@ export class Hand {
   /** Draws shapes in the place of drawings, and selects them.
    * @param {Drawing[]} old @param {Shape[]} shapes */
   async replace(old, shapes) {
-    if (shapes.length > MOST_AT_ONCE) return tell(`Not drawn: over ${MOST_AT_ONCE} drawings at once.`);
     const step = this.change(shapes, old);
     this.selection.clear();
-    if (this.tool === 'select') (await step.names()).forEach((name) => this.selection.add(name));
+    if (step && this.tool === 'select') (await step.names()).forEach((name) => this.selection.add(name));
     this.changed();
-    return undefined;
   }
 
   /** @param {Cell} cell */
@@ -146,18 +198,18 @@ export class Hand {
   deleteSelected() {
     const doomed = this.selected();
     this.selection.clear();
-    if (doomed.length) this.change([], doomed);
+    this.change([], doomed);
     this.changed();
   }
 
   selectAll() {
     this.choose('select');
-    this.session.board.drawops.forEach((drawing) => this.selection.add(nameOf(drawing)));
+    [...this.session.shown.keys()].forEach((name) => this.selection.add(name));
     this.tellSelection();
   }
 
   tellSelection() {
-    const count = this.selected().length;
+    const count = this.parts.painter.isInk ? this.chosenItems().length : this.selected().length;
     say(count === 1 ? 'one drawing selected' : `${count} drawings selected`);
     this.changed();
   }
@@ -166,8 +218,9 @@ export class Hand {
    * @param {Shape[]} shapes @param {Cell} cell */
   put(shapes, cell) {
     if (!shapes.length) return undefined;
-    const { x0, y0 } = boxAbout(shapes), [dx, dy] = kept(shapes, cell.x - x0, cell.y - y0);
     this.choose('select');
+    if (shapes.some((shape) => inkOf(shape))) return this.replace([], carriedAll(shapes, middleOf(cell)));
+    const { x0, y0 } = boxAbout(shapes), [dx, dy] = kept(shapes, cell.x - x0, cell.y - y0);
     return this.replace([], shapes.map((shape) => shifted(shape, dx, dy)));
   }
 }

@@ -1,7 +1,6 @@
 /** The keyboard: a cursor on the sheet, and a key for each tool. */
 import { SIDE, clamp } from './cells.js';
 import { $, say } from './dom.js';
-import { TOOLS } from './tools.js';
 
 /** @typedef {import('./hand.js').Hand} Hand */
 
@@ -52,9 +51,10 @@ export class Keys {
     return true;
   }
 
-  /** @param {string} key */
+  /** A key that chooses something; whether it meant something. Single letters may be switched off.
+   * @param {string} key */
   letterKey(key) {
-    if (!this.areLetters || !this.acts.keys[key]) return false;
+    if (!this.acts.keys[key] || (key.length === 1 && !this.areLetters)) return false;
     this.acts.keys[key]();
     return true;
   }
@@ -82,7 +82,7 @@ export class Keys {
   moveCursor([dx, dy], isFar) {
     const { cursor } = this.hand, by = cursor.on ? (isFar ? 10 : 1) : 0;
     Object.assign(cursor, { on: true, x: clamp(cursor.x + dx * by, 0, SIDE - 1), y: clamp(cursor.y + dy * by, 0, SIDE - 1) });
-    this.hand.pointer = null;
+    [this.hand.pointer, this.hand.point] = [null, null];
     this.view.reveal(cursor);
     this.hand.move({ x: cursor.x, y: cursor.y });
     say(this.acts.describe(cursor));
@@ -94,7 +94,7 @@ export class Keys {
     const { hand } = this;
     hand.cursor.on = true;
     if (hand.gesture) return hand.finish();
-    hand.begin({ x: hand.cursor.x, y: hand.cursor.y }, isMore);
-    return TOOLS[hand.tool].isShort ? hand.finish() : say(`${hand.tool} begun`);
+    hand.begin({ x: hand.cursor.x, y: hand.cursor.y }, undefined, { isShifted: isMore });
+    return hand.toolOf(hand.tool).isShort ? hand.finish() : say(`${hand.tool} begun`);
   }
 }

@@ -1,9 +1,13 @@
-/** What lies on top in each cell of the page, kept by tiles, so that a change costs what it covers and a move of the view nothing. */
-import { SIDE, boxOf, cover, covers, nameOf } from './cells.js';
+/** What lies on top in each cell of the page, by tiles. A tile is laid out when it is looked at: from the newest drawing down, until it is
+ * full, and a few milliseconds at a time. So a change costs what it touches of the tiles that are laid out, and no drawing is gone over
+ * beyond them. */
+import { SIDE, cover, touches } from './cells.js';
 
 /** @typedef {import('./types.js').Drawing} Drawing */
 /** @typedef {import('./types.js').Board} Board */
+/** @typedef {import('./session.js').Taken} Taken */
 /** @typedef {import('./cells.js').Cell} Cell */
+/** @typedef {import('./cells.js').Box} Box */
 
 /** A tile has so many columns, and as many rows. */
 export const TILE = 32;
@@ -14,15 +18,11 @@ const ACROSS = SIDE / TILE;
 /** The part of a page that the host paints itself. */
 export const PAINTED = { columns: 200, rows: 100 };
 
-/** For each cell of a tile the drawing on top, by its place in `Layout.known` and 0 for none, and the glyph. A tile whose cells
- * change has another version. */
-class Tile {
-  constructor() {
-    this.tops = new Uint32Array(TILE * TILE);
-    this.marks = new Uint8Array(TILE * TILE);
-    this.version = 0;
-  }
-}
+/** Tiles that stay laid out, and drawings of one change that are looked at one by one: for more, all tiles are laid out anew. */
+const MOST_TILES = 600, MANY = 64;
+
+/** Milliseconds for which a tile is laid out when it is asked what is in a cell, and drawings between two looks at the clock. */
+const PATIENCE = 4, AT_ONCE = 32;
 
 const SPACE = 0x20;
 
@@ -34,19 +34,76 @@ export const tileKey = (x, y) => Math.floor(y / TILE) * ACROSS + Math.floor(x / 
  * @type {(x: number, y: number) => number} */
 const placeOf = (x, y) => (y % TILE) * TILE + (x % TILE);
 
+let stamps = 0;
+
+/** A number that no version has had.
+ * @type {() => number} */
+const stamp = () => (stamps += 1);
+
+/** For each cell of a tile the drawing on top, and its glyph. A tile whose cells change has another version. */
+class Tile {
+  /** @param {number} left @param {number} top its first column and row */
+  constructor(left, top) {
+    /** @type {Box} */
+    this.box = { x0: left, y0: top, x1: left + TILE - 1, y1: top + TILE - 1 };
+    /** @type {(Drawing | undefined)[]} */
+    this.tops = [];
+    this.marks = new Uint8Array(TILE * TILE);
+    this.version = stamp();
+    /** How many drawings, the oldest, are still to be laid out under the others; null where it is to be begun.
+     * @type {number | null} */
+    this.left = null;
+    this.free = 0;
+  }
+
+  get isLaid() {
+    return this.left === 0;
+  }
+
+  /** Lays it out, from the newest drawing down to where it is full; or goes on with that.
+   * @param {Drawing[]} drawops in the order of painting @param {number} end a time, when it stops until the next call */
+  lay(drawops, end) {
+    const { tops, marks, box } = this;
+    let left = this.left ?? this.begin(drawops.length);
+    for (; left > 0 && this.free > 0 && (left % AT_ONCE || performance.now() < end); left -= 1) {
+      const drawing = drawops[left - 1];
+      cover(drawing, (x, y, mark) => {
+        const place = placeOf(x, y);
+        if (marks[place]) return;
+        [tops[place], marks[place]] = [drawing, mark.charCodeAt(0)];
+        this.free -= 1;
+      }, box);
+    }
+    this.left = this.free > 0 ? left : 0;
+  }
+
+  /** @param {number} many drawings */
+  begin(many) {
+    this.free = TILE * TILE;
+    this.tops.length = 0;
+    this.marks.fill(0);
+    return many;
+  }
+
+  /** Puts a drawing on top.
+   * @param {Drawing} drawing */
+  put(drawing) {
+    if (!touches(drawing, this.box)) return;
+    this.version = stamp();
+    cover(drawing, (x, y, mark) => { [this.tops[placeOf(x, y)], this.marks[placeOf(x, y)]] = [drawing, mark.charCodeAt(0)]; }, this.box);
+  }
+
+  /** Its cells are others: it is laid out anew when it is looked at. */
+  spoil() {
+    this.left = null;
+    this.version = stamp();
+  }
+}
+
 export class Layout {
-  page = '';
-
-  /** @type {Map<number, Tile>} */
+  /** Those that were looked at, the latest last.
+   * @type {Map<number, Tile>} */
   tiles = new Map();
-
-  /** Each drawing that was shown, from place 1 on.
-   * @type {(Drawing | undefined)[]} */
-  known = [undefined];
-
-  /** The places of the drawings by their names.
-   * @type {Map<string, number>} */
-  places = new Map();
 
   /** @type {Drawing[]} */
   drawops = [];
@@ -57,103 +114,50 @@ export class Layout {
   /** @type {string[]} */
   rows = [];
 
-  /** Begins another page.
-   * @param {string} page */
-  clear(page) {
-    this.page = page;
-    this.tiles.clear();
-    this.known = [undefined];
-    this.places.clear();
-    this.drawops = [];
-    this.rows = [];
+  /** Takes what the page shows now, and what became of it. Tiles without a change stay as they are.
+   * @param {Board} board @param {Taken} taken */
+  take({ drawops, hidden, rows }, { isTurned, gone, added }) {
+    const areLast = added.every((drawing, i) => drawops[drawops.length - added.length + i] === drawing), before = this.rows;
+    Object.assign(this, { drawops, hidden, rows });
+    if (isTurned) this.tiles.clear();
+    else if (gone.length + added.length > MANY) this.tiles.forEach((tile) => tile.spoil());
+    else this.tiles.forEach((tile) => change(tile, areLast ? gone : [...gone, ...added], areLast ? added : []));
+    this.takeRows(before);
   }
 
-  /** Takes what the page shows now. Tiles without a change stay as they are.
-   * @param {Board} board */
-  take(board) {
-    if (board.page !== this.page) this.clear(board.page);
-    const before = this.drawops, { drawops } = board;
-    const had = new Set(before.map(nameOf)), has = new Set(drawops.map(nameOf));
-    const gone = before.filter((drawing) => !has.has(nameOf(drawing)));
-    const added = drawops.filter((drawing) => !had.has(nameOf(drawing)));
-    drawops.forEach((drawing) => this.know(drawing));
-    const areLast = added.length === 0 || added[0] === drawops[drawops.length - added.length];
-    this.drawops = drawops;
-    this.hidden = board.hidden;
-    this.repaint(new Set([...gone, ...(areLast ? [] : added)].flatMap(tilesOf)));
-    if (areLast) added.forEach((drawing) => this.put(drawing, null));
-    this.takeRows(board.rows);
-  }
-
-  /** Gives a drawing a place, or its newest form the place that it has.
-   * @param {Drawing} drawing */
-  know(drawing) {
-    const name = nameOf(drawing), place = this.places.get(name) ?? this.known.length;
-    this.places.set(name, place);
-    this.known[place] = drawing;
-  }
-
-  /** Paints these tiles anew, from the first drawing to the last.
-   * @param {Set<number>} stale */
-  repaint(stale) {
-    for (const key of stale) {
-      const tile = this.tile(key);
-      tile.tops.fill(0);
-      tile.marks.fill(0);
-      tile.version += 1;
-    }
-    if (stale.size) this.drawops.filter((drawing) => isNear(drawing, stale)).forEach((drawing) => this.put(drawing, stale));
-  }
-
-  /** Puts a drawing on top, in these tiles or in all.
-   * @param {Drawing} drawing @param {Set<number> | null} only */
-  put(drawing, only) {
-    const place = this.places.get(nameOf(drawing)) ?? 0;
-    let last = -1, tile = /** @type {Tile | null} */ (null);
-    cover(drawing, (x, y, mark) => {
-      const key = tileKey(x, y);
-      if (key !== last) {
-        tile = only && !only.has(key) ? null : this.tile(key);
-        if (tile) tile.version += 1;
-        last = key;
-      }
-      if (!tile || x >= SIDE) return;
-      tile.tops[placeOf(x, y)] = place;
-      tile.marks[placeOf(x, y)] = mark.charCodeAt(0);
-    });
-  }
-
-  /** @param {number} key @returns {Tile} */
-  tile(key) {
-    const tile = this.tiles.get(key) ?? new Tile();
-    this.tiles.set(key, tile);
-    return tile;
-  }
-
-  /** Takes the rows that the host painted. Where they changed, the tiles have another version.
-   * @param {string[]} rows */
-  takeRows(rows) {
-    for (let y = 0; y < Math.max(rows.length, this.rows.length); y += 1) {
-      const was = this.rows[y] ?? '', is = rows[y] ?? '';
+  /** Where the rows changed that the host painted, the tiles have another version.
+   * @param {string[]} before */
+  takeRows(before) {
+    for (let y = 0; y < Math.max(before.length, this.rows.length); y += 1) {
+      const was = before[y] ?? '', is = this.rows[y] ?? '';
       if (was === is) continue;
       for (let x = 0; x < Math.max(was.length, is.length); x += TILE) {
-        if (was.slice(x, x + TILE) !== is.slice(x, x + TILE)) this.tile(tileKey(x, y)).version += 1;
+        const tile = this.tiles.get(tileKey(x, y));
+        if (tile && was.slice(x, x + TILE) !== is.slice(x, x + TILE)) tile.version = stamp();
       }
     }
-    this.rows = rows;
+  }
+
+  /** The tile of a cell, laid out as far as there is time.
+   * @param {number} x @param {number} y @param {number} [end] the time when it stops, if it is not done @returns {Tile} */
+  tileAt(x, y, end = Infinity) {
+    const key = tileKey(x, y), tile = this.tiles.get(key) ?? new Tile(x - (x % TILE), y - (y % TILE));
+    if (!this.tiles.has(key) && this.tiles.size >= MOST_TILES) this.tiles.delete(/** @type {number} */ (this.tiles.keys().next().value));
+    this.tiles.set(key, tile);
+    if (!tile.isLaid) tile.lay(this.drawops, end);
+    return tile;
   }
 
   /** The drawing on top in a cell.
    * @param {Cell | null} [cell] @returns {Drawing | undefined} */
   drawingAt(cell) {
-    const tile = cell && this.tiles.get(tileKey(cell.x, cell.y));
-    return tile ? this.known[tile.tops[placeOf(cell.x, cell.y)]] : undefined;
+    return cell ? this.tileAt(cell.x, cell.y, performance.now() + PATIENCE).tops[placeOf(cell.x, cell.y)] : undefined;
   }
 
   /** The glyph of a cell, by this page's own painting.
    * @param {number} x @param {number} y */
   markAt(x, y) {
-    const code = this.tiles.get(tileKey(x, y))?.marks[placeOf(x, y)];
+    const code = this.tileAt(x, y).marks[placeOf(x, y)];
     return code ? String.fromCharCode(code) : ' ';
   }
 
@@ -164,39 +168,26 @@ export class Layout {
   }
 
   /** Shows each glyph of a tile: its column and row there, its code, and its source, or -1 where nobody is known to have drawn it.
-   * @param {number} left @param {number} top @param {(x: number, y: number, code: number, source: number) => void} see */
-  eachGlyph(left, top, see) {
-    const tile = this.tiles.get(tileKey(left, top));
-    for (let i = 0; tile && i < TILE * TILE; i += 1) {
-      const [x, y] = [i % TILE, Math.floor(i / TILE)], isPainted = left + x < PAINTED.columns && top + y < PAINTED.rows;
-      const code = isPainted ? this.rows[top + y]?.charCodeAt(left + x) || SPACE : tile.marks[i] || SPACE;
-      if (code !== SPACE) see(x, y, code, this.known[tile.tops[i]]?.source ?? -1);
+   * @param {Tile} tile @param {(x: number, y: number, code: number, source: number) => void} see */
+  eachGlyph({ box: { x0, y0 }, tops, marks }, see) {
+    for (let i = 0; i < TILE * TILE; i += 1) {
+      const [x, y] = [i % TILE, Math.floor(i / TILE)], isPainted = x0 + x < PAINTED.columns && y0 + y < PAINTED.rows;
+      const code = isPainted ? this.rows[y0 + y]?.charCodeAt(x0 + x) || SPACE : marks[i] || SPACE;
+      if (code !== SPACE) see(x, y, code, tops[i]?.source ?? -1);
     }
   }
 
   /** The last hidden drawing that covers a cell.
    * @param {Cell | null} [cell] */
   hiddenAt(cell) {
-    return cell ? this.hidden.findLast((drawing) => covers(drawing, cell)) : undefined;
+    return cell ? this.hidden.findLast((drawing) => touches(drawing, { x0: cell.x, y0: cell.y, x1: cell.x, y1: cell.y })) : undefined;
   }
 }
 
-/** The keys of the tiles that a drawing covers a cell of.
- * @param {Drawing} drawing */
-function tilesOf(drawing) {
-  /** @type {Set<number>} */
-  const keys = new Set();
-  cover(drawing, (x, y) => keys.add(tileKey(x, y)));
-  return [...keys];
-}
-
-/** Whether the box about a drawing meets one of these tiles.
- * @param {Drawing} drawing @param {Set<number>} keys */
-function isNear(drawing, keys) {
-  const { x0, y0, x1, y1 } = boxOf(drawing), tile = (/** @type {number} */ n) => Math.floor(n / TILE);
-  for (const key of keys) {
-    const column = key % ACROSS, row = Math.floor(key / ACROSS);
-    if (column >= tile(x0) && column <= tile(x1) && row >= tile(y0) && row <= tile(y1)) return true;
-  }
-  return false;
+/** A tile after a change: what is on top of all others is put there, and of the rest one that touches it has it laid out anew. So has any
+ * of the rest while it is not laid out, since the drawings that are left are others.
+ * @type {(tile: Tile, others: Drawing[], last: Drawing[]) => void} */
+function change(tile, others, last) {
+  if (others.length && (!tile.isLaid || others.some((drawing) => touches(drawing, tile.box)))) tile.spoil();
+  else if (tile.left !== null) last.forEach((drawing) => tile.put(drawing));
 }

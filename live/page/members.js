@@ -1,11 +1,12 @@
-/** Who is there, how well the page is, and what was hidden: the parts of the side but for the wire. */
+/** The parts of the panel: who is there, what was erased, how the network is, and how it is worsened. */
 import { $, make } from './dom.js';
+import { inkOf, isStroke } from './ink.js';
 import { initialsOf } from './notes.js';
 
-/** @typedef {import('./session.js').Session} Session */
+/** @typedef {import('./board.js').Board} Board */
 /** @typedef {import('./types.js').Other} Other */
 
-/** Members, hidden drawings and warnings that are listed. */
+/** Members, erased drawings and warnings that are listed. */
 const MOST_MEMBERS = 64, MOST_HIDDEN = 50, MOST_WARNINGS = 3;
 
 /** @param {number} seconds */
@@ -14,51 +15,57 @@ export function ago(seconds) {
   return seconds < 120 ? `${Math.floor(seconds)} s ago` : `${Math.floor(seconds / 60)} min ago`;
 }
 
-/** @param {Session} session @param {import('./painter.js').Painter} painter */
-export function showMembers(session, painter) {
-  /** @type {Other[]} */
-  let members = [];
-  let heardAt = 0;
-
+/** @param {Board} board */
+export function showMembers({ session, painter, presence, faces }) {
+  /** Where a member is, in words.
+   * @param {Other} other @param {string} heard */
+  const whereOf = ({ member }, heard) => {
+    const page = presence.pageOf(member);
+    if (member === session.hello.me) return 'you';
+    return page ? `on ${session.titleOf(page)}` : heard === 'now' ? 'here' : `heard ${heard}`;
+  };
+  /** @param {number} member */
+  const follower = (member) => {
+    const button = make('button', faces.followed === member ? 'Following' : 'Follow');
+    button.setAttribute('aria-pressed', String(faces.followed === member));
+    button.addEventListener('click', () => faces.follow(member));
+    return button;
+  };
   /** @param {Other} other */
-  const row = ({ member, distance, heard }) => {
-    const line = make('li'), isMe = member === session.hello.me, passed = (performance.now() - heardAt) / 1000, name = session.called.get(member);
-    const told = [name ? `${name}, ${member}` : String(member), ...(isMe ? ['you'] : [])].join(', ');
-    line.append(badge(painter, initialsOf(name, member), member), make('span', told),
-      make('small', isMe || distance == null ? '' : `${distance < 10 ? distance.toFixed(1) : Math.round(distance)} ms`),
-      make('small', isMe || heard == null ? '' : ago(heard + passed)));
+  const row = (other) => {
+    const { member, distance, heard } = other, line = make('li'), words = make('div'), isMe = member === session.hello.me;
+    const seen = heard == null ? '' : ago(heard + (performance.now() - faces.heardAt) / 1000);
+    words.append(make('b', session.nameOf(member)), make('small', whereOf(other, seen)));
+    line.title = `member ${member}${isMe || distance == null ? '' : `, ${distance < 10 ? distance.toFixed(1) : Math.round(distance)} ms away, heard ${seen}`}`;
+    line.append(badge(painter, initialsOf(session.called.get(member), member), member), words, ...(isMe ? [] : [follower(member)]));
     return line;
   };
   const show = () => {
-    const more = members.length > MOST_MEMBERS ? [make('li', `and ${members.length - MOST_MEMBERS} more`)] : [];
-    $('members').replaceChildren(...members.slice(0, MOST_MEMBERS).map(row), ...more);
+    const { members } = faces, more = members.length > MOST_MEMBERS ? [make('li', `and ${members.length - MOST_MEMBERS} more`)] : [];
+    if (!$('members').matches(':hover, :focus-within')) $('members').replaceChildren(...members.slice(0, MOST_MEMBERS).map(row), ...more);
   };
-  session.on('members', (news) => {
-    [members, heardAt] = [news.members, performance.now()];
-    if (!members.some(({ member }) => member === session.hello.me)) members.unshift({ member: session.hello.me });
-    show();
-  });
-  session.on('notes', show);
-  setInterval(show, 1000);
+  for (const name of ['members', 'notes', 'followed']) session.on(name, show);
+  setInterval(() => $('side').hidden || show(), 1000);
 }
 
 /** The initials of a member, in its colour.
  * @param {import('./painter.js').Painter} painter @param {string} initials @param {number} member */
 export function badge(painter, initials, member) {
-  const mark = make('i', initials);
-  mark.style.background = painter.tintOf(member);
+  const mark = make('i', initials, 'face');
+  mark.style.setProperty('--c', painter.tintOf(member));
   mark.setAttribute('aria-hidden', 'true');
   return mark;
 }
 
 /** @param {string} kind @param {string} phrase */
 function setHealth(kind, phrase) {
-  $('phrase').className = $('fold').className = kind;
+  $('phrase').className = kind;
   if ($('phrase').textContent !== phrase) $('phrase').textContent = phrase;
 }
 
-/** @param {Session} session */
-export function showHealth(session) {
+/** What the network does, as the member tells it.
+ * @param {Board} board */
+export function showHealth({ session }) {
   session.on('health', ({ phrase, missing, warnings, counts }) => {
     const more = [['lost', 'lost on purpose'], ['twice', 'twice on purpose'], ['refused', 'refused'], ['dropped', 'dropped'], ['foreign', 'sealed by no key of ours']]
       .map(([name, what]) => (counts[name] ? `, ${counts[name]} ${what}` : '')).join('');
@@ -72,13 +79,24 @@ export function showHealth(session) {
   $('renumber').addEventListener('click', () => session.member.renumber?.());
 }
 
-/** @param {Session} session */
-export function showHidden(session) {
+/** What a drawing is, in a word or by its letters.
+ * @param {import('./types.js').Drawing} drawing */
+export function kindOf(drawing) {
+  const ink = inkOf(drawing), letters = ink ? ink.letters : drawing.op === 'text' ? drawing.text : '';
+  if (letters) return `“${letters.slice(0, 16)}”`;
+  if (!ink) return drawing.op;
+  return ink.kind === 'h' ? 'highlighter' : isStroke(ink.kind) ? 'writing' : 'shape';
+}
+
+/** What was erased, and can be restored.
+ * @param {Board} board */
+export function showHidden({ session }) {
   /** @param {import('./types.js').Drawing} drawing */
   const row = (drawing) => {
-    const line = make('li'), button = make('button', 'Restore'), what = drawing.op === 'text' ? `“${drawing.text.slice(0, 16)}”` : drawing.op;
+    const line = make('li'), button = make('button', 'Restore');
     button.addEventListener('click', () => session.restore(drawing));
-    line.append(make('span', `${what} by ${session.who(drawing.source)}, number ${drawing.seq}`), button);
+    line.append(make('span', `${kindOf(drawing)}, ${session.who(drawing.source)}`), button);
+    line.title = `number ${drawing.seq} of member ${drawing.source}`;
     return line;
   };
   session.on('board', ({ hidden }) => {
@@ -88,8 +106,8 @@ export function showHidden(session) {
 }
 
 /** Losses on purpose.
- * @param {Session} session */
-export function showWorse(session) {
+ * @param {Board} board */
+export function showWorse({ session }) {
   /** @type {HTMLInputElement[]} */
   const inputs = [...$('worsen').querySelectorAll('input')];
   /** @param {string} name */

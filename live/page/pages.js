@@ -7,11 +7,8 @@ const MOST = 500;
 /** @param {import('./session.js').Session} session */
 export function showPages(session) {
   const show = () => {
-    const { board, titles } = session, leaves = session.leaves(), at = leaves.findIndex(({ page }) => page === board.page);
-    const options = leaves.slice(0, MOST).map(({ page, drawn }) => {
-      const told = `${titles.get(page) || 'page'} ${page}${drawn ? ` (${drawn})` : ''}`;
-      return Object.assign(make('option', told), { value: page });
-    });
+    const { board } = session, leaves = session.leaves(), at = leaves.findIndex(({ page }) => page === board.page);
+    const options = leaves.slice(0, MOST).map(({ page, drawn }) => Object.assign(make('option', session.titleOf(page)), { value: page, title: `${page}, ${drawn} drawings` }));
     $('pages').replaceChildren(...options);
     $('pages').value = board.page;
     $('back').disabled = at <= 0;
@@ -19,6 +16,6 @@ export function showPages(session) {
   };
   session.on('pages', show);
   session.on('notes', show);
-  session.on('board', (board, before) => board.page !== before.page && show());
+  session.on('board', (_, { isTurned }) => isTurned && show());
   $('pages').addEventListener('change', () => session.goToPage($('pages').value));
 }

@@ -18,12 +18,17 @@ export class Pointing {
     this.isSpaced = false;
     /** Whether there is a stylus here: then fingers, and the palm of the hand, move the sheet and draw nothing. */
     this.hasStylus = false;
+    /** Whether the pen that is down tells how hard it is pressed. */
+    this.isPressed = false;
     const { sheet } = view;
     sheet.addEventListener('pointerdown', (event) => this.down(event));
     sheet.addEventListener('pointermove', (event) => this.move(event));
     sheet.addEventListener('pointerup', (event) => this.up(event));
     sheet.addEventListener('pointercancel', (event) => this.cancel(event));
-    sheet.addEventListener('pointerleave', () => { hand.pointer = null; hand.move(hand.gesture?.to); });
+    sheet.addEventListener('pointerleave', () => {
+      [hand.pointer, hand.point] = [null, null];
+      hand.changed();
+    });
     sheet.addEventListener('wheel', (event) => this.wheel(event), { passive: false });
   }
 
@@ -32,6 +37,13 @@ export class Pointing {
   space(is) {
     this.isSpaced = is;
     this.view.sheet.classList.toggle('grab', is);
+  }
+
+  /** The points of the page that a movement went over.
+   * @param {PointerEvent} event @returns {import('./ink.js').Point[]} */
+  pointsOf(event) {
+    const events = event.getCoalescedEvents?.() ?? [];
+    return (events.length ? events : [event]).map((each) => ({ ...this.view.pointAt(each), ...(this.isPressed ? { pressure: each.pressure } : {}) }));
   }
 
   isStylusDown() {
@@ -46,6 +58,7 @@ export class Pointing {
 
   startPan() {
     const { view } = this, middle = this.middle(), box = view.sheet.getBoundingClientRect();
+    this.hand.parts.sight.stay();
     this.hand.drop();
     this.pan = { ...middle, wide: view.wide,
       over: { x: view.left + (middle.x - box.left) / view.wide, y: view.top + (middle.y - box.top) / view.high } };
@@ -72,8 +85,11 @@ export class Pointing {
     this.fingers.set(event.pointerId, event);
     hand.cursor.on = false;
     hand.pointer = view.cellAt(event);
-    if (this.fingers.size > 1 || this.isSpaced || event.button === 1 || (isTouch && this.hasStylus)) this.startPan();
-    else hand.begin(hand.pointer, event.shiftKey);
+    hand.point = view.pointAt(event);
+    // a pen that is pressed as hard everywhere tells nothing of it
+    this.isPressed = event.pointerType === 'pen' && event.pressure > 0 && event.pressure !== 0.5;
+    if (this.fingers.size > 1 || this.isSpaced || hand.tool === 'hand' || event.button === 1 || (isTouch && this.hasStylus)) this.startPan();
+    else hand.begin(hand.pointer, this.pointsOf(event)[0], { isShifted: event.shiftKey, isPressed: this.isPressed });
   }
 
   /** @param {PointerEvent} event */
@@ -81,16 +97,18 @@ export class Pointing {
     const { view, hand } = this, isDown = this.fingers.has(event.pointerId);
     if (isDown) this.fingers.set(event.pointerId, event);
     else if (this.fingers.size) return;
-    hand.pointer = event.pointerType === 'touch' && !hand.gesture ? null : view.cellAt(event);
+    const isHover = event.pointerType === 'touch' && !hand.gesture;
+    [hand.pointer, hand.point] = isHover ? [null, null] : [view.cellAt(event), view.pointAt(event)];
     if (this.pan) this.movePan();
-    else hand.move(hand.pointer);
+    else if (hand.gesture) hand.move(hand.pointer, this.pointsOf(event), { isShifted: event.shiftKey });
+    else hand.changed();
   }
 
   /** @param {PointerEvent} event */
   up(event) {
     const { hand } = this;
     if (!this.fingers.delete(event.pointerId)) return;
-    if (event.pointerType === 'touch') hand.pointer = null;
+    if (event.pointerType === 'touch') [hand.pointer, hand.point] = [null, null];
     if (!this.pan) {
       if (hand.gesture) hand.finish();
       return;
@@ -109,9 +127,10 @@ export class Pointing {
   /** @param {WheelEvent} event */
   wheel(event) {
     event.preventDefault();
+    this.hand.parts.sight.stay();
     const { view } = this, unit = event.deltaMode ? 1 : 1 / view.high, box = view.sheet.getBoundingClientRect();
     const [across, down] = event.shiftKey ? [event.deltaY, 0] : [event.deltaX, event.deltaY];
-    if (event.ctrlKey) view.setSize(view.wide - Math.sign(event.deltaY), { x: event.clientX - box.left, y: event.clientY - box.top });
+    if (event.ctrlKey) view.zoom(-event.deltaY * (event.deltaMode ? 0.2 : 0.01), { x: event.clientX - box.left, y: event.clientY - box.top });
     else view.goTo(view.left + across * unit * 2, view.top + down * unit);
   }
 }

@@ -93,17 +93,17 @@ class Step {
 
   /** @param {Shape} shape */
   draw(shape) {
-    this.keep(this.session.draw(shape), true, null);
+    this.keep(this.session.draw(shape, this.page), true, null);
   }
 
   /** @param {Name} drawing */
   hide(drawing) {
-    this.keep(this.session.hide(drawing), false, drawing);
+    this.keep(this.session.hide(drawing, this.page), false, drawing);
   }
 
   /** @param {Name} drawing */
   restore(drawing) {
-    this.keep(this.session.restore(drawing), true, drawing);
+    this.keep(this.session.restore(drawing, this.page), true, drawing);
   }
 
   /** Keeps a deed once the member has taken it.

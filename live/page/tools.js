@@ -6,13 +6,16 @@ import { arrow, between, filled, stroke } from './shapes.js';
 /** @typedef {import('./types.js').Shape} Shape */
 /** @typedef {import('./types.js').Drawing} Drawing */
 /** @typedef {import('./hand.js').Hand} Hand */
-/** What is begun: its two ends, the way between them, how long it took, and for a selection whether it is moved.
- * @typedef {{ tool: string, from: Cell, to: Cell, path: Cell[], began: number, ended?: number, isMove: boolean }} Gesture */
+/** What is begun: its two ends and the way between them, in cells, and the same way by points; how long it took; whether Shift is held;
+ * for a selection whether it is moved, and by which corner it is made larger or smaller; for the eraser what it has touched.
+ * @typedef {{ tool: string, from: Cell, to: Cell, path: Cell[], points: import('./ink.js').Point[], began: number, ended?: number, isMove: boolean,
+ *   isShifted: boolean, grip?: import('./resizing.js').Grip, touched?: import('./eraser.js').Touched }} Gesture */
 
-/** `key` chooses the tool. With `isShort` it needs no second end. `shapes` are those that are drawn when it is let go, and
- * `doomed` those that are deleted; `finish` does both unless a tool has its own.
- * @typedef {{ key: string, isShort?: boolean, shapes?: (gesture: Gesture, hand: Hand) => Shape[], doomed?: (gesture: Gesture, hand: Hand) => Drawing[],
- *   begin?: (gesture: Gesture, hand: Hand, isMore: boolean) => void, finish?: (gesture: Gesture, hand: Hand) => void }} Tool */
+/** With `isShort` a tool needs no second end. `shapes` are those that are drawn when it is let go, and `doomed` those that are deleted;
+ * `finish` does both unless a tool has its own. `move` is given the points of the way before the gesture has them.
+ * @typedef {{ isShort?: boolean, shapes?: (gesture: Gesture, hand: Hand) => Shape[], doomed?: (gesture: Gesture, hand: Hand) => Drawing[],
+ *   begin?: (gesture: Gesture, hand: Hand, how: import('./hand.js').How) => void, finish?: (gesture: Gesture, hand: Hand) => void,
+ *   move?: (gesture: Gesture, hand: Hand, points: import('./ink.js').Point[]) => void, drop?: (hand: Hand) => void }} Tool */
 
 /** @type {(op: 'line' | 'frame') => (gesture: Gesture, hand: Hand) => Shape[]} */
 const simple = (op) => ({ from, to }, { glyph }) => [{ op, x0: from.x, y0: from.y, x1: to.x, y1: to.y, glyph }];
@@ -44,12 +47,12 @@ function moved({ from, to, isMove }, hand) {
 }
 
 /** Takes what is under the hand, with what was drawn in the same step; or begins a rectangle.
- * @type {(gesture: Gesture, hand: Hand, isMore: boolean) => void} */
-function take(gesture, hand, isMore) {
+ * @type {(gesture: Gesture, hand: Hand, how: { isShifted?: boolean }) => void} */
+function take(gesture, hand, { isShifted }) {
   const drawing = hand.layout.drawingAt(gesture.from), isTaken = drawing && hand.selection.has(nameOf(drawing));
-  if (!isTaken && !isMore) hand.selection.clear();
+  if (!isTaken && !isShifted) hand.selection.clear();
   if (drawing && !isTaken) hand.steps.groupOf(drawing).forEach((name) => hand.selection.add(name));
-  else if (drawing && isMore) hand.steps.groupOf(drawing).forEach((name) => hand.selection.delete(name));
+  else if (drawing && isShifted) hand.steps.groupOf(drawing).forEach((name) => hand.selection.delete(name));
   gesture.isMove = Boolean(drawing);
 }
 
@@ -64,13 +67,13 @@ function endTaking(gesture, hand) {
 
 /** @type {Record<string, Tool>} */
 export const TOOLS = {
-  select: { key: 's', begin: take, shapes: moved, finish: endTaking },
-  pen: { key: 'p', shapes: ({ path, began, ended = performance.now() }, { glyph }) => stroke(path, ended - began, glyph) },
-  line: { key: 'l', shapes: simple('line') },
-  arrow: { key: 'a', shapes: ({ from, to }, { glyph }) => arrow(from, to, glyph) },
-  frame: { key: 'f', shapes: simple('frame') },
-  block: { key: 'b', shapes: ({ from, to }, { glyph }) => filled(from, to, glyph) },
-  text: { key: 't', isShort: true, finish: ({ to }, hand) => hand.beginText(to) },
-  erase: { key: 'e', doomed: touched },
-  restore: { key: 'r', isShort: true, finish: ({ to }, hand) => hand.restoreAt(to) },
+  select: { begin: take, shapes: moved, finish: endTaking },
+  pen: { shapes: ({ path, began, ended = performance.now() }, { glyph }) => stroke(path, ended - began, glyph) },
+  line: { shapes: simple('line') },
+  arrow: { shapes: ({ from, to }, { glyph }) => arrow(from, to, glyph) },
+  frame: { shapes: simple('frame') },
+  block: { shapes: ({ from, to }, { glyph }) => filled(from, to, glyph) },
+  text: { isShort: true, finish: ({ to }, hand) => hand.parts.typing.begin(to) },
+  erase: { doomed: touched },
+  restore: { isShort: true, finish: ({ to }, hand) => hand.restoreAt(to) },
 };

@@ -9,7 +9,8 @@
 
 /** @typedef {{ lose: number, delay: number, twice: number, mix: boolean }} Worse */
 /** Which member this is, and what it says of itself.
- * @typedef {{ me: number, mode: string, notice: string, ready: boolean, teach: boolean, twin?: boolean, worsen?: Worse, proof?: Proof }} Hello
+ * @typedef {{ me: number, mode: string, notice: string, ready: boolean, teach: boolean, cells?: number, twin?: boolean, worsen?: Worse,
+ *   proof?: Proof }} Hello
  * @typedef {{ proved: boolean, text: string, progress: string, crates: number, many: number }} Proof   of the program that the member runs by */
 /** The page in view: what it shows in the order of painting, what was deleted, and its rows as the host painted them.
  * @typedef {{ page: string, drawops: Drawing[], hidden: Drawing[], rows: string[] }} Board */
@@ -34,8 +35,8 @@
 /** Who drew what when in a replay: the millisecond, the source, the operation, and whether it was lost at first.
  * @typedef {[number, number, string, boolean]} Scene */
 
-/** What a member says to something that it was asked: a drawing's name, or why not.
- * @typedef {{ ok: boolean, fault?: string, source?: number, seq?: number }} Answer */
+/** What a member says to something that it was asked: a drawing's name, the address of a board, or why not.
+ * @typedef {{ ok: boolean, fault?: string, source?: number, seq?: number, address?: string }} Answer */
 
 /** What a board needs of the member behind it, over HTTP or in a worker of the page. `subscribe` is called once; from then on
  * `hear` is given each state as it changes, by its name: `hello`, `board`, `pages`, `members`, `health` and `wire`, with the
@@ -52,6 +53,7 @@
  * @property {(page: string, cell: [number, number] | null, begun: string[]) => Promise<Answer>} [point]   tells others where one points, and
  *   what is begun; they hear it as the state `presence`, which has `others`
  * @property {(change: { at?: number, speed?: number, stopped?: boolean }) => Promise<Answer>} [film]   jumps, goes faster, stops or goes on,
- *   where the states `scenes` and `film` are told */
+ *   where the states `scenes` and `film` are told
+ * @property {(session: string) => Promise<Answer>} [next]   begins or joins the session of this name, and gives the address of its page */
 
 export {};

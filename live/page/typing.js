@@ -1,76 +1,167 @@
-/** A text is typed on the sheet, where it will stand: one line or many. */
+/** Letters are typed on the sheet, where they will stand: on cells one line or many of ASCII, and as ink letters of all languages, by themselves
+ * or in a shape. */
 import { SIDE } from './cells.js';
 import { $, tell } from './dom.js';
+import { isClosed } from './ink.js';
+import { IN_SHAPES, LEADING, fontOf, linesOf, standOf, widthOf } from './inkfonts.js';
+import { CELL_WIDE, PAGE_HIGH, SIZES } from './inksigns.js';
+import { placed, writeLink, writeShape, writeWords } from './inkwriting.js';
 import { plainOf, writing } from './shapes.js';
 
 /** @typedef {import('./cells.js').Cell} Cell */
+/** @typedef {import('./ink.js').Point} Point */
+/** @typedef {import('./inkitems.js').Item} Item */
+/** Letters of ink that are typed: how they look, their point or the corners of their shape, what stood there, and the drawings that it was.
+ * @typedef {{ kind: string, colour: number, width: number, flag: number, points: Point[], was: string, old: import('./types.js').Drawing[] }} Letters */
+/** What is typed on a page: from a cell on, or letters of ink.
+ * @typedef {{ page: string, cell: Cell } | { page: string, letters: Letters }} Typed */
 
 export class Typing {
-  /** @param {import('./session.js').Session} session @param {import('./view.js').View} view @param {import('./painter.js').Painter} painter
-   * @param {import('./steps.js').Steps} steps */
-  constructor(session, view, painter, steps) {
-    this.session = session;
-    this.view = view;
-    this.painter = painter;
-    this.steps = steps;
+  /** @param {import('./board.js').Board} board */
+  constructor(board) {
+    this.board = board;
     /** @type {HTMLTextAreaElement} */
     this.box = $('typing');
-    /** @type {(Cell & { page: string }) | null} */
-    this.at = null;
+    /** @type {Typed | null} */
+    this.typed = null;
     this.box.addEventListener('input', () => this.check());
     this.box.addEventListener('blur', () => this.end(true));
     this.box.addEventListener('keydown', (event) => this.key(event));
-    view.onMove(() => this.place());
-    session.on('board', (board, before) => board.page !== before.page && this.end(false));
+    board.view.onMove(() => this.place());
+    board.session.on('board', (_, { isTurned }) => isTurned && this.end(false));
   }
 
-  place() {
-    if (!this.at) return;
-    const { view, box } = this, rows = box.value.split('\n'), longest = Math.max(...rows.map((row) => row.length));
-    Object.assign(box.style, { left: `${view.pixelX(this.at.x)}px`, top: `${view.pixelY(this.at.y)}px`, height: `${rows.length * view.high}px`,
-      width: `${Math.max(2, longest + 1) * view.wide}px`, font: `${view.size}px/${view.high}px ${this.painter.font}` });
-  }
+  // ---- what is begun
 
-  /** @param {Cell} cell */
+  /** A text from a cell on.
+   * @param {Cell} cell */
   begin(cell) {
-    this.at = { ...cell, page: this.session.board.page };
-    this.box.value = '';
+    this.open({ page: this.board.session.board.page, cell }, '');
+  }
+
+  /** Letters by themselves, their first line about a point.
+   * @param {Point} at */
+  beginLetters(at) {
+    const { colour, size, font } = this.board.style.look, point = { x: at.x, y: Math.max(0, at.y - (SIZES[size] * LEADING) / 2) };
+    this.openLetters({ kind: 't', colour, width: size, flag: font, points: [point], was: '', old: [] });
+  }
+
+  /** A note that is written at once.
+   * @param {Point} from @param {Point} to */
+  beginNote(from, to) {
+    this.openLetters({ kind: 'n', colour: this.board.style.look.bright, width: IN_SHAPES, flag: 1, points: [from, to], was: '', old: [] });
+  }
+
+  /** The letters of an item that is there, or of a shape that has none.
+   * @param {Item} item */
+  edit({ kind, colour, width, flag, points: [a, b], letters, drawings }) {
+    const points = isClosed(kind) ? [{ x: Math.min(a.x, b.x), y: Math.min(a.y, b.y) }, { x: Math.max(a.x, b.x), y: Math.max(a.y, b.y) }] : [a];
+    this.openLetters({ kind, colour, width, flag, points, was: letters, old: drawings });
+  }
+
+  /** @param {Letters} letters */
+  openLetters(letters) {
+    this.open({ page: this.board.session.board.page, letters }, letters.was);
+  }
+
+  /** @param {Typed} typed @param {string} text */
+  open(typed, text) {
+    this.end(true);
+    this.typed = typed;
+    this.box.value = text;
+    this.box.className = 'letters' in typed ? (isClosed(typed.letters.kind) ? 'shape' : 'ink') : '';
+    this.box.removeAttribute('style');
     this.box.hidden = false;
     this.place();
     this.box.focus({ preventScroll: true });
   }
 
+  // ---- where it stands
+
+  place() {
+    const { typed } = this;
+    if (typed && 'letters' in typed) this.placeLetters(typed.letters);
+    else if (typed) this.placeText(typed.cell);
+  }
+
+  /** @param {Cell} cell */
+  placeText({ x, y }) {
+    const { box, board: { view, painter } } = this, rows = box.value.split('\n'), longest = Math.max(...rows.map((row) => row.length));
+    Object.assign(box.style, { left: `${view.pixelX(x)}px`, top: `${view.pixelY(y)}px`, height: `${rows.length * view.high}px`,
+      width: `${Math.max(2, longest + 1) * view.wide}px`, font: `${view.size}px/${view.high}px ${painter.font}` });
+  }
+
+  /** @param {Letters} letters */
+  placeLetters(letters) {
+    const { box, board: { view, style } } = this, { kind, colour, points: [from, to] } = letters, scale = view.wide / CELL_WIDE, [left, top] = view.corner();
+    const item = this.itemOf(letters), { font, size } = standOf(item), high = size * LEADING * scale, rows = box.value.split('\n').length;
+    const isNote = kind === 'n', tall = to ? (to.y - from.y) * scale : rows * high + 2, wide = Math.max(...box.value.split('\n').map((row) => widthOf(row, font, size))) + size;
+    Object.assign(box.style, { left: `${from.x * scale - left}px`, top: `${from.y * scale - top}px`, width: `${(to ? to.x - from.x : wide) * scale}px`, height: `${tall}px`,
+      font: fontOf(font, size * scale).replace('px', `px/${high}px`), color: isNote ? 'var(--ink)' : style.tintOf(colour),
+      textAlign: to && !isNote ? 'center' : 'left', background: isNote ? `color-mix(in srgb, ${style.brightOf(colour)} 42%, var(--paper))` : 'transparent',
+      padding: isNote ? `${(60 - size * 0.14) * scale}px ${55 * scale}px` : to ? `${Math.max(0, (tall - rows * high) / 2)}px 0 0` : '0' });
+  }
+
+  /** What is typed as an item that is not drawn yet.
+   * @param {Letters} letters @returns {Item} */
+  itemOf({ kind, colour, width, flag, points }) {
+    return { kind, colour, width, flag, points, letters: this.box.value || ' ', source: this.board.session.hello.me, drawings: [] };
+  }
+
+  /** The lower right corner of a note, so low that its letters are in it.
+   * @param {Letters} letters */
+  cornerOf(letters) {
+    const { points: [from, to] } = letters, item = this.itemOf(letters), { size, y } = standOf(item);
+    return { x: to.x, y: Math.min(PAGE_HIGH - 1, Math.max(to.y, y + linesOf(item).length * size * LEADING + (y - from.y))) };
+  }
+
+  // ---- what becomes of it
+
   /** @param {boolean} sends whether what was typed is drawn */
   end(sends) {
-    const { at, box } = this;
-    this.at = null;
+    const { typed, box, board: { session, hand } } = this;
+    this.typed = null;
     box.hidden = true;
-    const shapes = at && sends && at.page === this.session.board.page ? writing(plainOf(box.value).plain, at) : [];
-    if (shapes.length) this.steps.draw(shapes);
+    if (!typed || !sends || typed.page !== session.board.page) return;
+    if ('letters' in typed) this.drawLetters(typed.letters);
+    else hand.change(writing(plainOf(box.value).plain, typed.cell), []);
   }
 
-  /** Says at once which letters there are not. They stay until Enter shows what would be drawn in their place. */
+  /** Draws what was typed as ink, in the place of what stood there. An address alone becomes a link.
+   * @param {Letters} letters */
+  drawLetters({ kind, colour, width, flag, points, was, old }) {
+    const text = this.box.value.trimEnd(), look = { colour, width }, [at] = points, link = kind === 't' ? writeLink(look, at, text.trim()) : null;
+    if (old.length && text === was.trimEnd()) return;
+    const shape = kind === 'n' ? [at, this.cornerOf({ kind, colour, width, flag, points, was, old })] : points;
+    const texts = link ? [link] : isClosed(kind) ? writeShape(kind, look, flag, shape, text) : writeWords(look, flag, at, text);
+    this.board.hand.change(texts.map((each) => placed(each, 0)), old);
+  }
+
+  /** Says at once which letters cells don't have. They stay until Enter shows what would be drawn in their place. */
   check() {
-    const { lost } = plainOf(this.box.value), { at } = this, isWide = at && this.box.value.split('\n').some((row) => at.x + row.length > SIDE);
-    this.box.classList.toggle('lost', lost.length > 0);
-    if (lost.length) tell(`${lost.slice(0, 8).join(' ')} cannot be drawn: a text has letters, digits and signs of ASCII only.`);
-    else if (isWide) tell('The page ends here: what goes over its edge is not drawn.');
+    const { typed, box } = this, { lost } = plainOf(box.value);
     this.place();
+    if (!typed || 'letters' in typed) return;
+    box.classList.toggle('lost', lost.length > 0);
+    if (lost.length) tell(`${lost.slice(0, 8).join(' ')} cannot be drawn: a text of cells has letters, digits and signs of ASCII only.`);
+    else if (box.value.split('\n').some((row) => typed.cell.x + row.length > SIDE)) tell('The page ends here: what goes over its edge is not drawn.');
   }
 
-  /** @param {KeyboardEvent} event */
+  /** Enter draws, and Shift and Enter begin a new line; in a note Enter does that, and Control and Enter draw. Escape drops a text, and keeps a note.
+   * @param {KeyboardEvent} event */
   key(event) {
     event.stopPropagation();
-    const isEnter = event.key === 'Enter' && !event.shiftKey, { plain, lost } = plainOf(this.box.value);
+    const { typed, box } = this, isInk = typed && 'letters' in typed, isNote = isInk && typed.letters.kind === 'n', { plain, lost } = plainOf(box.value);
+    const isEnter = event.key === 'Enter' && (isNote ? event.ctrlKey || event.metaKey : !event.shiftKey);
     if (event.isComposing || (!isEnter && event.key !== 'Escape')) return;
     event.preventDefault();
-    if (isEnter && lost.length) {
-      this.box.value = plain;
+    if (isEnter && !isInk && lost.length) {
+      box.value = plain;
       this.check();
       tell('This is what can be drawn. Enter draws it.');
       return;
     }
-    this.end(isEnter);
-    this.view.sheet.focus(/** @type {FocusOptions} */ ({ preventScroll: true, focusVisible: false }));
+    this.end(isEnter || Boolean(isNote));
+    this.board.view.sheet.focus(/** @type {FocusOptions} */ ({ preventScroll: true, focusVisible: false }));
   }
 }

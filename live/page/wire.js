@@ -52,8 +52,8 @@ export class Wire {
 
   /** @param {Entry} entry @param {boolean} isFirst whether it came before this page looked on */
   add(entry, isFirst) {
-    const { board, names } = this.session, [source, page, seq] = (entry.name ?? '').split(' ');
-    entry.held = !isFirst && entry.kind === 'request' && page === board.page && names.has(`${source} ${seq}`);
+    const { board } = this.session, [source, page, seq] = (entry.name ?? '').split(' ');
+    entry.held = !isFirst && entry.kind === 'request' && page === board.page && this.session.has(`${source} ${seq}`);
     // what is asked for again is repaired again: the last request counts
     if (entry.answers != null) entry.answers = this.entries.findLast(({ kind, name }) => kind === 'request' && name === entry.name)?.id ?? entry.answers;
     this.entries.push(entry);
@@ -82,6 +82,7 @@ export class Wire {
   }
 
   show() {
+    clearTimeout(this.timer);
     this.timer = 0;
     const { entries } = this, kinds = $('filter').value, box = $('wire'), list = make('ul');
     const byId = new Map(entries.map((entry) => [entry.id, entry])), asked = new Set(entries.map(({ answers }) => answers));

@@ -2,6 +2,7 @@
  * it. `live/board.py` once more. */
 import { heldOf } from './held.js';
 import { HostEnded } from './host.js';
+import { readDatagram, unhex } from './datagram.js';
 import { FIRST_LINE, actsOf } from './record.js';
 import { drawopOf, pageNumbers, pageWords } from './views.js';
 
@@ -17,7 +18,11 @@ export const COLUMNS = 200, ROWS = 100;
 
 /** A number that may have drawn before listens for so many microseconds: a crash of the machine may have taken the end of its record. Any
  * other listens to its record alone, which may have a mark of its own. */
-const LISTENING = 3_000_000, LEAST_LISTENING = 1;
+const LISTENING = 6_000_000, LEAST_LISTENING = 1;
+
+/** Moments are below this, and the clock of a start begins anywhere in one part in so many of those that are left: who echoes a moment of ours has
+ * heard it, and has not guessed it. */
+const MOMENTS = 2 ** 48, LEAD_PART = 512;
 
 /** A host that is started so often within a minute, in milliseconds, is not started again. */
 const MOST_STARTS = 4, MINUTE = 60_000;
@@ -42,14 +47,15 @@ export class NoRoom extends Error {}
 
 export class Board {
   /** @param {import('./host.js').Program} program @param {import('./record.js').Record} record @param {Start} options
-   * @param {(digits: string[]) => Promise<(string | null)[]>} words says datagrams in words
    * @param {(drawop: Drawop) => void} hold is told each drawop that the host took in */
-  constructor(program, record, options, words, hold) {
+  constructor(program, record, options, hold) {
     this.program = program;
     this.record = record;
     this.options = options;
-    this.words = words;
     this.hold = hold;
+    /** Names of what strangers drew, by the record.
+     * @type {string[]} */
+    this.strange = [];
     /** @type {import('./host.js').Host | null} */
     this.host = null;
     this.me = 0;
@@ -74,7 +80,7 @@ export class Board {
   async open(me) {
     if (!actsOf(await this.record.lines()).length) this.record.add(FIRST_LINE, boardLine(me, this.options.cells));
     this.record.note('started');
-    await this.start(this.options.mayHaveDrawn ? LISTENING : 0);
+    await this.start(this.options.mayHaveDrawn ? LISTENING : 0, chance() / LEAD_PART);
     // above every moment of the record
     this.base = this.moment + 1 - performance.now() * 1_000;
   }
@@ -89,27 +95,23 @@ export class Board {
   }
 
   /** Starts a host that keeps itself, and gives it the datagrams of the record. What it sends meanwhile nobody waits for.
-   * @param {number} listening for how many microseconds nothing is drawn */
-  async start(listening) {
-    const { board, moment, datagrams } = await heldOf(this.program, actsOf(await this.record.lines()));
-    const host = await this.program.start('host', '--tuning', this.options.tuning), now = Math.max(this.moment, moment);
+   * @param {number} listening for how many microseconds nothing is drawn
+   * @param {number} [lead] which part of the moments that are left is passed over */
+  async start(listening, lead = 0) {
+    const { board, moment, datagrams, strange } = await heldOf(this.program, actsOf(await this.record.lines()));
+    const host = await this.program.start('host', '--tuning', this.options.tuning), now = Math.max(this.moment, moment + Math.floor(lead * (MOMENTS - moment)));
     this.readyAt = now + Math.max(LEAST_LISTENING, listening);
     const begun = [board, `tick ${now}`, `keep ${this.options.rate} ${this.readyAt - now}`];
     (await host.askAll(begun)).forEach((block, i) => this.heed(begun[i], block));
     for (let at = 0; at < datagrams.length; at += AT_ONCE) {
       const part = datagrams.slice(at, at + AT_ONCE), lines = part.map((digits) => `came ${now} ${digits}`), blocks = await host.askAll(lines);
       lines.forEach((line, i) => this.heed(line, blocks[i]));
-      await this.tellHeld(part.filter((_, i) => blocks[i].lines.at(-1) === NEW));
+      part.filter((_, i) => blocks[i].lines.at(-1) === NEW).forEach((digits) => this.hold(drawopIn(digits)));
     }
     this.host = host;
+    this.strange = strange;
     [this.me, this.cells] = board.split(' ').slice(1, 3).map(Number);
     this.keptMoment = moment;
-  }
-
-  /** Tells the drawops that a host was given at its start.
-   * @param {string[]} digits */
-  async tellHeld(digits) {
-    (await this.words(digits)).forEach((words, i) => { if (words !== null) this.hold(drawopOf(words, digits[i])); });
   }
 
   /** Remembers what a block says of time.
@@ -164,12 +166,12 @@ export class Board {
     return this.tell(`came ${this.now()} ${digits}`);
   }
 
-  /** Gives the host a drawop of another. One that is new is kept and told.
-   * @param {Drawop} drawop */
-  async take(drawop) {
+  /** Gives the host a drawop that came in. One that is new is kept and told.
+   * @param {Drawop} drawop @param {boolean} isStrange no member gave it */
+  async take(drawop, isStrange) {
     const block = await this.came(drawop.digits);
     if (block.lines.at(-1) === NEW) {
-      this.keep(`datagram ${drawop.digits}`);
+      this.keep(lineOf(drawop, isStrange));
       this.hold(drawop);
     }
     return block;
@@ -184,13 +186,12 @@ export class Board {
     const block = await this.tell(`add ${this.now()} ${time} ${page} ${operation}`), name = digitsOfName(this.me, page, seq);
     const digits = block.sent().find((each) => DRAWOPS.includes(each.slice(0, 8)) && each.slice(16, 48) === name);
     if (digits === undefined) return { block, drawop: null };
-    const [words] = await this.words([digits]);
-    if (words === null || !await this.record.keep(this.withTick(`say ${words}`))) {
+    const drawop = drawopIn(digits);
+    if (!await this.record.keep(this.withTick(`say ${drawop.words}`))) {
       await this.beginAgain();
-      throw words === null ? new HostEnded('wb words ended') : new NoRoom(this.record.fault);
+      throw new NoRoom(this.record.fault);
     }
     this.keptMoment = this.moment;
-    const drawop = drawopOf(words, digits);
     this.hold(drawop);
     return { block, drawop };
   }
@@ -217,10 +218,10 @@ export class Board {
   }
 
   /** Goes on under another number, with a record of its own and with all that was held.
-   * @param {number} me @param {import('./record.js').Record} record @param {Drawop[]} held */
-  async renumber(me, record, held) {
+   * @param {number} me @param {import('./record.js').Record} record @param {Drawop[]} held @param {Map<string, string>} strange names of what strangers drew */
+  async renumber(me, record, held, strange) {
     const old = this.record;
-    if (!await record.keep([FIRST_LINE, boardLine(me, this.cells), `tick ${this.moment}`, ...held.map(({ digits }) => `datagram ${digits}`)])) {
+    if (!await record.keep([FIRST_LINE, boardLine(me, this.cells), `tick ${this.moment}`, ...held.map((drawop) => lineOf(drawop, strange.has(drawop.name)))])) {
       throw new NoRoom(record.fault);
     }
     this.record = record;
@@ -252,6 +253,17 @@ export class Board {
     return { seq: fault === null ? Number(lines[0].split(' ')[1]) : 0, lacks: fault };
   }
 }
+
+/** The drawop of a datagram that the host holds or made.
+ * @param {string} digits */
+const drawopIn = (digits) => drawopOf(readDatagram(unhex(digits))?.words ?? '', digits);
+
+/** How a record has a drawop that is not ours: a member's by its bytes, a stranger's by its words.
+ * @param {Drawop} drawop @param {boolean} isStrange */
+export const lineOf = ({ digits, words }, isStrange) => (isStrange ? words : `datagram ${digits}`);
+
+/** A number from 0 to 1 that nobody guesses. */
+const chance = () => Number(BigInt.asUintN(53, crypto.getRandomValues(new BigUint64Array(1))[0])) / 2 ** 53;
 
 /** @param {number} me @param {number} cells */
 const boardLine = (me, cells) => `board ${me} ${cells} 1 ${crypto.getRandomValues(new BigUint64Array(1))[0]}`;

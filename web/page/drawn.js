@@ -26,6 +26,7 @@ export class Sheet {
     /** Drawings that came, went or came again since the last time it was told.
      * @type {Map<string, Drawop>} */
     this.changed = new Map();
+    this.last = 0; // how many drawops were held on all pages when the last one came
   }
 
   /** Whether it is new.
@@ -88,34 +89,46 @@ export class Sheet {
   }
 }
 
-/** All pages, and how many drawops of each source there are. */
+/** All pages that have drawops, and how many drawops of each source there are. */
 export class Drawn {
   constructor() {
     /** @type {Map<string, Sheet>} */
     this.pages = new Map();
     this.total = 0;
-    /** @type {Map<number, number>} */
-    this.bySource = new Map();
   }
 
   /** @param {Drawop} drawop */
   add(drawop) {
-    if (!this.sheet(drawop.page).add(drawop)) return;
+    const sheet = this.sheet(drawop.page);
+    this.pages.set(drawop.page, sheet);
+    if (!sheet.add(drawop)) return;
     this.total += 1;
-    this.bySource.set(drawop.source, 1 + (this.bySource.get(drawop.source) ?? 0));
+    sheet.last = this.total;
   }
 
-  /** A page, which is remembered from now on.
+  /** A page. One that has nothing is not remembered, however many are looked at.
    * @param {string} page */
   sheet(page) {
-    const sheet = this.pages.get(page) ?? new Sheet();
+    return this.pages.get(page) ?? new Sheet();
+  }
+
+  /** Shows of a page what the host's view has.
+   * @param {string} page @param {Drawop[]} view */
+  replace(page, view) {
+    const sheet = this.sheet(page);
+    sheet.replace(view);
     this.pages.set(page, sheet);
-    return sheet;
   }
 
   /** @param {string} page @param {string} name */
   holds(page, name) {
     return this.pages.get(page)?.drawops.has(name) ?? false;
+  }
+
+  /** A drawop by its name.
+   * @param {string} name */
+  find(name) {
+    return this.pages.get(name.split(' ')[1])?.drawops.get(name) ?? null;
   }
 
   /** The greatest number of a source that is held of a page; 0 where none is.
@@ -131,7 +144,23 @@ export class Drawn {
 
   /** The pages that have drawops. */
   drawnPages() {
-    return [...this.pages].filter(([, { drawops }]) => drawops.size).map(([page]) => page);
+    return [...this.pages].filter(([, { drawops }]) => drawops.size);
+  }
+
+  /** The pages that have drawops: first those with drawops of ours, then those with drawops of members, and then those of strangers alone. Of each
+   * kind the one comes first on which was drawn last.
+   * @param {number} me @param {Map<string, string>} strange the names of what strangers drew
+   * @returns {{ page: string, isStrange: boolean }[]} */
+  inOrder(me, strange) {
+    /** @type {Map<string, number>} */
+    const strangers = new Map();
+    for (const name of strange.keys()) {
+      const [, page] = name.split(' ');
+      strangers.set(page, 1 + (strangers.get(page) ?? 0));
+    }
+    const ranked = this.drawnPages().map(([page, { tops, drawops, last }]) => (
+      { page, last, rank: tops.has(me) ? 0 : drawops.size > (strangers.get(page) ?? 0) ? 1 : 2 }));
+    return ranked.sort((one, other) => one.rank - other.rank || other.last - one.last).map(({ page, rank }) => ({ page, isStrange: rank === 2 }));
   }
 
   /** How many numbers of a page are missing below the greatest that is held of each source.

@@ -3,8 +3,10 @@
 /** The pace: so many datagrams a second, and so many bytes; what waits; and seconds that may be saved up. */
 const PACE = 2_000, PACE_BYTES = 1 << 20, MOST_WAITING = 2_048, SAVED = 0.05;
 
-/** A datagram that came in, from where, where the transport tells that, and what was done to it. `due` is in milliseconds of this page.
- * @typedef {{ bytes: Uint8Array, place: string, due: number, isLost: boolean, isSecond: boolean }} Arrival */
+/** @typedef {import('./judge.js').Origin} Origin */
+
+/** A datagram that came in, from where, and what was done to it. `due` is in milliseconds of this page.
+ * @typedef {{ bytes: Uint8Array, origin: Origin, due: number, isLost: boolean, isSecond: boolean }} Arrival */
 
 export class Inbox {
   constructor() {
@@ -21,13 +23,13 @@ export class Inbox {
   }
 
   /** A datagram came in: it is lost, delayed or doubled on purpose.
-   * @param {Uint8Array} bytes @param {string} [place] */
-  take(bytes, place = '') {
+   * @param {Uint8Array} bytes @param {Origin} origin */
+  take(bytes, origin) {
     const { lose, twice } = this.worse, now = performance.now();
-    if (Math.random() < lose) this.put({ bytes, place, due: now, isLost: true, isSecond: false });
+    if (Math.random() < lose) this.put({ bytes, origin, due: now, isLost: true, isSecond: false });
     else {
-      this.put({ bytes, place, due: now + this.delay(), isLost: false, isSecond: false });
-      if (Math.random() < twice) this.put({ bytes, place, due: now + this.delay(), isLost: false, isSecond: true });
+      this.put({ bytes, origin, due: now + this.delay(), isLost: false, isSecond: false });
+      if (Math.random() < twice) this.put({ bytes, origin, due: now + this.delay(), isLost: false, isSecond: true });
     }
     this.wake();
   }

@@ -1,21 +1,37 @@
-/** What a member judges beside its host, which has no clock of the day, knows no places and remembers no reports of its own: four kinds
- * of datagrams are not handed in, and nothing is drawn under a number that somebody else has. docs/DECISIONS.md says why these are not the
- * host's; all else is, and what people are told stands in telling.js. `live/judging.py` once more. */
-import { CLASH, NEW } from './board.js';
-import { Heard, SECOND } from './heard.js';
-import { Room } from './room.js';
-import { Future, MINUTE, Times } from './times.js';
-import { distanceOf, drawopOf, kindOf, reportOf, speakerOf } from './views.js';
+/** What stands between a member and its judge (judge.js): what the host holds is told to it, and what it decides is done. What people are told
+ * stands here and in telling.js. docs/DECISIONS.md says why a host does not judge so by itself. */
+import { NEW, lineOf } from './board.js';
+import { readDatagram, withEcho } from './datagram.js';
+import { Judge } from './judge.js';
+import { drawopOf } from './views.js';
 
-/** @typedef {import('./views.js').Drawop} Drawop */
-/** @typedef {import('./views.js').Report} Report */
+/** @typedef {import('./datagram.js').Datagram} Datagram */
+/** @typedef {import('./judge.js').Origin} Origin */
 
-/** How a session message begins, and reports of ours that are known again. */
-const SESSION = '57420102', MOST_OWN = 256;
+/** Why a datagram is not handed in, for people, by the judge's word. */
+const WHY = /** @type {Record<string, string>} */ ({
+  again: 'a copy that a stranger sent', ahead: 'ahead of the clock', crowd: 'too many new members', flood: 'too many questions of strangers',
+  full: 'the board is full', mark: 'a mark of ours', own: 'under our number', share: 'over the share of strangers', speaks: 'under the number of another',
+  pages: 'strangers are on too many pages, or too many numbers', stranger: 'a stranger asks for what is not held',
+});
 
-/** While its host listens, a member believes marks of its own number that are so far above what it holds, as many as a board has room for.
- * Any above is forged. */
-export const MOST_LOST = 65_536;
+/** What people are warned of, by the judge's word, and the datagram's speaker.
+ * @type {Record<string, (speaker: number) => string>} */
+const WARNINGS = {
+  full: (speaker) => `the board is full: drawings of member ${speaker} are not kept`,
+  mark: () => 'a report tells of a drawing of ours that we did not make',
+  share: (speaker) => `strangers have their share of the board: drawings of member ${speaker} are not kept`,
+  speaks: (speaker) => `somebody else speaks under the number of member ${speaker}: that is not heeded`,
+};
+
+const SECOND = 1_000_000;
+
+/** A member that was not heard for so long is no more told to be here, and for so many reports of its own: the mean from one to the next is between
+ * these, as hosts have it that keep themselves. */
+const GONE_AFTER = 60 * SECOND, GONE_AFTER_REPORTS = 3, LEAST_INTERVAL = 2 * SECOND, MOST_INTERVAL = 64 * SECOND;
+
+/** The time of day of this machine, in microseconds. */
+const wall = () => Date.now() * 1_000;
 
 /** What stands on the member's side of its judging.
  * @typedef {object} Judged
@@ -26,143 +42,138 @@ export const MOST_LOST = 65_536;
  * @property {import('./wire.js').Wire} wire
  * @property {import('./board.js').Board} board
  * @property {import('./telling.js').Telling} telling
+ * @property {import('./transports.js').Transport} transport
  * @property {() => Promise<void>} tick   the host does what is due
- * @property {(digits: string) => Promise<void>} send
  * @property {() => Promise<void>} begin   from now on it may draw */
 
 export class Judging {
   /** @param {Judged} member */
   constructor(member) {
+    const { me, board, transport: { here, strangers } } = member;
     this.member = member;
-    this.heard = new Heard();
-    this.times = new Times();
-    this.future = new Future();
-    this.room = new Room(member.me, () => member.drawn, () => member.board.cells);
-    /** @type {Set<string>} */
-    this.ownReports = new Set();
-    this.hasTwin = false; // somebody else has our number: nothing is drawn until this member has another
+    this.judge = new Judge({ me, cells: board.cells, now: board.moment, wall: wall(), here, strangers });
+    for (const name of board.strange) this.judge.remember(name);
+    this.patience = GONE_AFTER;
   }
 
-  // ---- when to do what
+  get hasTwin() {
+    return this.judge.hasTwin;
+  }
 
   /** What is to be done, each with its moment.
    * @returns {[number, () => Promise<void>][]} */
   plan() {
-    const { member, member: { board } } = this, coming = this.future.next();
+    const { member, member: { board } } = this;
     /** @type {[number, () => Promise<void>][]} */
     const plan = board.due === null ? [] : [[board.due, () => member.tick()]];
-    if (!member.isReady) plan.push([board.readyAt, () => member.begin()]);
-    if (coming !== null) {
-      const ahead = coming - MINUTE - this.now();
-      plan.push([ahead <= 0 ? 0 : board.now() + Math.min(ahead, 3_600 * SECOND), () => this.takeDue()]);
-    }
-    return plan;
+    return member.isReady ? plan : [...plan, [board.readyAt, () => member.begin()]];
   }
 
-  /** The time of day of the session, by the clocks of members that have answered us. */
-  now() {
-    return this.times.now(this.heard.answering(this.member.board.now()));
+  /** The time of day: people may set the clock of a machine at any moment.
+   * @param {number} now */
+  timeOfDay(now) {
+    this.judge.tellTime(now, wall());
+    return this.judge.timeOfDay(now);
+  }
+
+  /** The members that were heard lately.
+   * @param {number} now */
+  present(now) {
+    return [...this.judge.others].filter(([, { at }]) => now - at < this.patience);
   }
 
   // ---- what comes in
 
-  /** Hands a datagram to the host, unless it is refused. Why it changes nothing, where it is so.
-   * @param {string} words @param {string} digits @param {string} place @param {string[]} sent gets what the host sends
+  /** Hands a datagram to the host, or drops it. Why it changes nothing, where it is so.
+   * @param {Datagram} datagram @param {string} digits @param {Origin} origin @param {string[]} sent gets what the host sends
    * @returns {Promise<string | null>} */
-  async heed(words, digits, place, sent) {
-    if (kindOf(words) === 'draw') return this.heedDrawop(drawopOf(words, digits), sent);
-    const { member } = this, isOurs = speakerOf(words) === member.me, report = reportOf(words);
-    if (isOurs) this.hasTwin ||= report !== null && report.isSession && !this.ownReports.has(digits);
-    else if (report) {
-      const fault = this.refusalOfReport(report, place);
-      if (fault !== null) return fault;
-    }
-    const block = await member.board.came(digits);
+  async heed(datagram, digits, origin, sent) {
+    const { member: { board, wire }, judge } = this, now = board.now(), before = judge.strange;
+    judge.tellTime(now, wall());
+    const { why, warn } = judge.judge(origin, datagram, this.facts(datagram, now));
+    if (warn !== null) this.warn(warn, datagram.speaker);
+    if (judge.strange !== before) this.keepAnew(before);
+    if (why !== null) return WHY[why];
+    if (datagram.kind === 'draw') return this.take(drawopOf(datagram.words, digits), origin, now, sent);
+    if (datagram.kind === 'session-message') wire.learn(origin.place, datagram.speaker);
+    const block = await board.came(digits);
     sent.push(...block.sent());
-    if (report && !isOurs && block.fault === null) this.heedReport(report, place);
+    if (block.fault === null && datagram.marks.length) this.heedReport(datagram);
     return block.fault;
   }
 
-  /** Why a session message or a page state of another is not handed to the host.
-   * @param {Report} report @param {string} place @returns {string | null} */
-  refusalOfReport(report, place) {
-    const { member } = this, { sender, page, marks } = report, own = marks.get(member.me) ?? 0, top = member.drawn.top(page, member.me);
-    this.heard.hear(sender, place, member.board.now());
-    if (!this.heard.others.has(sender)) return 'too many members';
-    if (own > top + (member.isReady ? 0 : MOST_LOST)) member.alarms.warn('a report tells of a drawing of ours that we did not make');
-    return !member.isReady && own > top + MOST_LOST ? 'a mark of ours' : null;
+  /** Warns people. That there is a twin telling.js tells as long as there is.
+   * @param {string} warn @param {number} speaker */
+  warn(warn, speaker) {
+    const [word] = warn.split(' ', 1);
+    if (word !== 'twin') this.member.alarms.warn(WARNINGS[word](speaker));
+  }
+
+  /** What the host says of itself and of a datagram.
+   * @param {Datagram} datagram @param {number} now @returns {import('./judge.js').Facts} */
+  facts({ page, name }, now) {
+    const { me, drawn, isReady } = this.member;
+    return { now, held: drawn.total, listens: !isReady, holds: drawn.holds(page, name), top: drawn.top(page, me) };
+  }
+
+  /** What its origin gave is a member's from now on, also in the record.
+   * @param {Map<string, string>} before the names of what strangers gave until now */
+  keepAnew(before) {
+    const { board, drawn } = this.member;
+    for (const name of before.keys()) {
+      const drawop = this.judge.strange.has(name) ? null : drawn.find(name);
+      if (drawop) board.keep(lineOf(drawop, false));
+    }
   }
 
   /** Draws the conclusions from a report of another, which the host has heard.
-   * @param {Report} report @param {string} place */
-  heedReport(report, place) {
-    const { member, member: { board, drawn } } = this, { sender, page, marks } = report;
-    const other = /** @type {import('./heard.js').Other} */ (this.heard.others.get(sender));
-    if (report.isSession) {
-      member.wire.learn(place, sender);
-      other.distance = distanceOf(report, member.me, board.moment) ?? other.distance;
-    }
-    if (other.distance !== null) this.room.vouch(report);
-    board.keepMark(sender, page, marks.get(member.me) ?? 0, drawn.top(page, member.me));
-    member.telling.notice(report);
+   * @param {Datagram} report */
+  heedReport({ speaker, page, marks }) {
+    const { me, board, drawn, telling } = this.member, [, own] = marks.find(([source]) => source === me) ?? [me, 0];
+    board.keepMark(speaker, page, own, drawn.top(page, me));
+    const answered = this.judge.others.get(speaker)?.answered ?? null;
+    if (answered !== null) telling.notice(page, marks);
   }
 
-  // ---- drawops
-
-  /** @param {Drawop} drawop @param {string[]} sent */
-  async heedDrawop(drawop, sent) {
-    const fault = this.refusal(drawop);
-    return fault === null ? this.take(drawop, sent) : fault;
-  }
-
-  /** Why a drawop is not handed to the host, or not yet.
-   * @param {Drawop} drawop @returns {string | null} */
-  refusal(drawop) {
-    if (this.member.drawn.holds(drawop.page, drawop.name)) return null;
-    this.times.learn(drawop.source, drawop.time);
-    if (drawop.time > this.now() + MINUTE) {
-      this.future.put(drawop);
-      return 'ahead of the clock';
-    }
-    const fault = this.room.fault(drawop);
-    if (fault !== null) this.member.alarms.warn(`${fault}: drawings of member ${drawop.source} are not kept`);
-    return fault;
-  }
-
-  /** Gives the host a drawop. Why it was refused. One of our number that is new, or another than ours, is of who has our number too.
-   * @param {Drawop} drawop @param {string[]} sent */
-  async take(drawop, sent) {
-    const { member } = this, { page, source, seq } = drawop, top = member.drawn.top(page, member.me);
-    const block = await member.board.take(drawop), batch = block.lines.at(-1);
+  /** Gives the host a drawop. Why it refused it.
+   * @param {import('./views.js').Drawop} drawop @param {Origin} origin @param {number} now @param {string[]} sent */
+  async take(drawop, origin, now, sent) {
+    const { board, telling } = this.member, block = await board.take(drawop, !this.judge.isKnown(origin, now)), batch = block.lines.at(-1);
     sent.push(...block.sent());
-    if (source === member.me) this.hasTwin ||= batch === CLASH || (batch === NEW && member.isReady && seq > top);
-    member.telling.noticeBatch(drawop, batch);
+    if (batch === NEW) this.judge.took(origin, drawop.name, now);
+    telling.noticeBatch(drawop, batch);
     return block.fault;
-  }
-
-  /** The drawops whose time has come. */
-  async takeDue() {
-    /** @type {string[]} */
-    const sent = [];
-    for (const drawop of this.future.due(this.now())) await this.heedDrawop(drawop, sent);
-    for (const digits of sent) await this.member.send(digits);
   }
 
   // ---- what is sent
 
-  /** A datagram of ours goes out. A report of ours that comes back is nobody else's.
-   * @param {string} digits */
-  went(digits) {
-    if (!digits.startsWith(SESSION)) return;
-    const { board, telling } = this.member;
-    this.ownReports.add(digits);
-    if (this.ownReports.size > MOST_OWN) this.ownReports.delete([...this.ownReports][0]);
-    this.heard.spoke(digits.length / 2, board.options.rate, board.now());
-    telling.noticeRoom(this.room.isFull());
+  /** A datagram of ours as it goes out, and its bytes. A report has our own echo, and nobody knows its moment who did not hear it.
+   * @param {Uint8Array} bytes */
+  leaving(bytes) {
+    const { judge, member: { board, telling } } = this, datagram = readDatagram(bytes);
+    if (datagram?.kind !== 'session-message') return { bytes, datagram };
+    judge.reported(datagram.sent);
+    this.patience = Math.max(GONE_AFTER, GONE_AFTER_REPORTS * this.interval(bytes.length));
+    telling.noticeRoom(this.isFull());
+    const echo = judge.ownEcho(board.moment), made = echo ? withEcho(bytes, datagram, echo) : bytes;
+    return { bytes: made, datagram: echo ? readDatagram(made) : datagram };
   }
 
-  /** Why nothing can be drawn now. */
-  faultOfDrawing() {
-    return this.hasTwin ? 'another member has our number: take a new one' : null;
+  /** The mean from one report of a member to the next, where all are as long as ours.
+   * @param {number} size */
+  interval(size) {
+    const { board } = this.member, members = this.present(board.moment).length + 1;
+    return Math.min(MOST_INTERVAL, Math.max(LEAST_INTERVAL, (members * size * SECOND) / board.options.rate));
+  }
+
+  isFull() {
+    return this.judge.isFull(this.member.drawn.total);
+  }
+
+  /** Why nothing can be drawn now.
+   * @param {boolean} isDrawing it is no delete and no restore */
+  faultOfDrawing(isDrawing) {
+    const fault = this.judge.faultOfAdding(isDrawing, this.member.drawn.total);
+    return fault === 'twin' ? 'another member has our number: take a new one' : fault;
   }
 }

@@ -2,6 +2,7 @@
  * beside its host stands in judging.js, what people do in people.js, and what it tells the board in telling.js. */
 import { Alarms } from './alarms.js';
 import { Board } from './board.js';
+import { hex, readDatagram, unhex } from './datagram.js';
 import { Drawn } from './drawn.js';
 import { HostEnded } from './host.js';
 import { Judging } from './judging.js';
@@ -9,7 +10,6 @@ import { People } from './people.js';
 import { Presence, isAside, readGone } from './presence.js';
 import { Telling } from './telling.js';
 import { Wire } from './wire.js';
-import { Words } from './words.js';
 
 /** The page of names, titles and the chat, which is not turned to by itself (docs/WORDS.md). */
 const NOTES = '0/0';
@@ -25,9 +25,6 @@ const MOST_BYTES = 65_507;
 
 /** What a member is begun with: what its page says of it, and how its board starts.
  * @typedef {{ notice: string, teach: boolean, start: import('./board.js').Start }} Options */
-
-const hex = (/** @type {Uint8Array} */ bytes) => Array.from(bytes, (byte) => byte.toString(16).padStart(2, '0')).join('');
-const unhex = (/** @type {string} */ digits) => Uint8Array.from(digits.match(/../g) ?? [], (two) => parseInt(two, 16));
 
 export class Member {
   /** @param {import('./host.js').Program} program @param {import('./record.js').Record} record @param {number} me
@@ -47,11 +44,10 @@ export class Member {
     this.drawn = new Drawn();
     this.wire = new Wire();
     this.alarms = new Alarms();
-    this.words = new Words(program);
     this.people = new People(this);
     this.presence = new Presence((news) => post('presence', news));
     this.telling = new Telling(this, post);
-    this.board = new Board(program, record, options.start, async (digits) => (await this.words.of(digits)).map(({ words }) => words), (drawop) => this.hold(drawop));
+    this.board = new Board(program, record, options.start, (drawop) => this.hold(drawop));
     this.judging = /** @type {Judging} */ (/** @type {unknown} */ (null));
     this.wake = () => { this.isAwake = true; };
     inbox.wake = () => this.wake();
@@ -122,12 +118,15 @@ export class Member {
   // ---- what comes in
 
   /** A datagram has come in: what no host hears of does not wait.
-   * @param {Uint8Array} bytes @param {string} place */
-  take(bytes, place) {
+   * @param {Uint8Array} bytes @param {import('./judge.js').Origin} origin */
+  take(bytes, origin) {
     const gone = readGone(bytes);
-    if (!isAside(bytes)) this.inbox.take(bytes, place);
+    if (!isAside(bytes)) this.inbox.take(bytes, origin);
     else if (gone === null) this.presence.hear(bytes, this.me);
-    else if (place && place.endsWith(`/${gone}`)) this.judging?.heard.leave(place);
+    else {
+      const left = this.transport.goneBy(gone, origin);
+      if (left) this.judging?.judge.leave(left);
+    }
   }
 
   // ---- the host
@@ -148,9 +147,9 @@ export class Member {
 
   /** @param {string} digits */
   async send(digits) {
-    this.judging.went(digits);
-    this.wire.went((await this.words.of([digits]))[0].words);
-    if (digits.length <= 2 * MOST_BYTES) this.transport.send(unhex(digits));
+    const { bytes, datagram } = this.judging.leaving(unhex(digits));
+    this.wire.went(datagram);
+    if (bytes.length <= MOST_BYTES) this.transport.send(bytes);
     else this.alarms.warn(`a datagram of over ${MOST_BYTES} bytes can't be sent`);
   }
 
@@ -166,12 +165,13 @@ export class Member {
   /** Hands on a datagram that came in, tells what became of it, and sends what the host sends then.
    * @param {import('./inbox.js').Arrival} arrival */
   async arrive(arrival) {
-    const digits = hex(arrival.bytes), { words, fault } = (await this.words.of([digits]))[0];
+    const { bytes, origin, isLost } = arrival, datagram = readDatagram(bytes);
     /** @type {string[]} */
     const sent = [];
-    let refused = fault;
-    if (!arrival.isLost && words !== null) refused = await this.judging.heed(words, digits, arrival.place, sent);
-    this.wire.came(words, arrival, arrival.isLost ? null : refused);
+    /** @type {string | null} */
+    let refused = null;
+    if (!isLost) refused = datagram ? await this.judging.heed(datagram, hex(bytes), origin, sent) : 'no datagram';
+    this.wire.came(datagram, arrival, refused);
     for (const answer of sent) await this.send(answer);
   }
 
@@ -194,7 +194,7 @@ export class Member {
   /** Goes on under another number, with all that is held.
    * @param {number} me @param {import('./record.js').Record} record that of the number */
   async renumber(me, record) {
-    await this.board.renumber(me, record, this.drawn.all());
+    await this.board.renumber(me, record, this.drawn.all(), this.judging.judge.strange);
     this.me = me;
     this.judging = new Judging(this);
     this.telling.isChanged = true;

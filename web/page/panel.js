@@ -41,17 +41,22 @@ export class Panel {
     this.told = make('p', '', 'told');
     this.dialog.append(...this.carrying(), ...this.keeping(), ...this.proving(), this.closing());
     document.body.append(this.dialog);
-    const open = button('Invite', () => this.dialog.showModal());
+    const open = button('Invite others', () => this.dialog.showModal());
     open.id = 'invite';
-    $('help').before(open);
+    $('my-name').after(open);
   }
 
-  /** While no datagram is carried, the health of the page is nobody's: the board's own dot would stay green.
+  /** While no datagram is carried, the health of the page is nobody's.
    * @param {{ carried: boolean, phrase: string }} health */
   take({ carried, phrase }) {
-    if (carried) return;
-    $('phrase').className = $('fold').className = 'lost';
-    $('phrase').textContent = phrase;
+    if (!carried) this.tellLost(phrase);
+  }
+
+  /** @param {string} phrase */
+  tellLost(phrase) {
+    $('phrase').className = 'lost';
+    $('state').className = 'island lost';
+    $('phrase').textContent = $('state').querySelector('span').textContent = phrase;
   }
 
   /** Who can draw here, and how others come to. */
@@ -69,7 +74,7 @@ export class Panel {
 
   keeping() {
     return [make('h2', 'What is kept'), make('p', 'This browser keeps a record of what was drawn, so that a reload, or a start without a network, '
-      + 'shows the board again. Others have their own. File, Save the record, gives it as a file.')];
+      + 'shows the board again. Others have their own. The menu gives it as a file: The record.')];
   }
 
   proving() {
@@ -116,8 +121,7 @@ export class Panel {
   /** The member has ended, and does not come again by itself.
    * @param {string} fault */
   broke(fault) {
-    $('phrase').className = $('fold').className = 'lost';
-    $('phrase').textContent = `stopped: ${fault}`;
+    this.tellLost(`stopped: ${fault}`);
     tell(`The board has stopped: ${fault}`);
   }
 }

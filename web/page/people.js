@@ -13,6 +13,9 @@ const MOST_WAITING = 1_024;
 /** Numbers of pages. */
 const MOST_PAGE = 2 ** 32 - 1;
 
+/** The page of names, titles and the chat; what is drawn elsewhere leaves it, and deletes and restores, one part in so many of the cells. */
+const WORDS = '0/0', KEPT = 16;
+
 /** A drawing or a page is refused, and why. */
 export class Refused extends Error {}
 
@@ -59,11 +62,11 @@ export class People {
   /** Accepts a drawop of ours and sends it. Whether it is one, the host says.
    * @param {string} page @param {string} operation */
   async drawNow(page, operation) {
-    const { member } = this, { judging, board } = member, [kind] = operation.split(' ', 1);
+    const { member } = this, { judging, board } = member, [kind] = operation.split(' ', 1), isFull = member.drawn.total >= board.cells - Math.floor(board.cells / KEPT);
+    if (isFull && page !== WORDS && ['line', 'frame', 'text'].includes(kind)) throw new Refused('full');
     if (!OPERATIONS.includes(kind) || !/^[ -~]*$/.test(operation)) throw new Refused('unknown');
-    const fault = judging.faultOfDrawing();
+    const fault = judging.faultOfDrawing(!['delete', 'restore'].includes(kind));
     if (fault !== null) throw new Refused(fault);
-    if (judging.room.isFull() && !['delete', 'restore'].includes(kind)) throw new Refused('full');
     const { seq, lacks } = await board.nextNumber(page);
     if (lacks !== null) throw new Refused(lacks);
     const { block, drawop } = await this.hostDraws(page, seq, operation);
@@ -77,7 +80,7 @@ export class People {
   async hostDraws(page, seq, operation) {
     const { board, judging } = this.member;
     try {
-      return await board.draw(page, seq, judging.now(), operation);
+      return await board.draw(page, seq, judging.timeOfDay(board.now()), operation);
     } catch (fault) {
       throw fault instanceof NoRoom ? new Refused(`${fault.message}: nothing is drawn until there is room`) : fault;
     }
@@ -94,7 +97,7 @@ export class People {
   newPage() {
     const { me, page, drawn, telling } = this.member, ours = (/** @type {string} */ one) => one.startsWith(`${me}/`);
     if (ours(page) && !drawn.count(page)) return page;
-    const used = new Set([...drawn.drawnPages(), ...telling.told.pages(), page].filter(ours).map((one) => Number(one.split('/')[1])));
+    const used = new Set([...drawn.drawnPages().map(([one]) => one), ...telling.told.pages(), page].filter(ours).map((one) => Number(one.split('/')[1])));
     let number = 1;
     while (used.has(number)) number += 1;
     return `${me}/${Math.min(number, MOST_PAGE)}`;

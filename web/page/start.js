@@ -2,7 +2,7 @@
 import { openBoard } from '../../live/page/board.js';
 import { tell } from '../../live/page/dom.js';
 import { BUILT } from './built.js';
-import { readInvitation } from './invitation.js';
+import { readInvitation, writeInvitation } from './invitation.js';
 import { Panel } from './panel.js';
 import { WorkerMember } from './worker_member.js';
 
@@ -16,7 +16,9 @@ const placeOf = ({ session, broker }) => `wb ${location.pathname} ${broker} ${se
 function begin() {
   const invitation = readInvitation(location.hash), place = placeOf(invitation), kept = sessionStorage.getItem(place);
   const folder = new URL('.', document.baseURI).href;
-  const member = new WorkerMember({ folder, invitation, me: kept === null ? null : Number(kept), notice: NOTICE });
+  const worker = new WorkerMember({ folder, invitation, me: kept === null ? null : Number(kept), notice: NOTICE });
+  // a board that goes on is a session of another name, which the same broker carries under the same key
+  const member = Object.assign(worker, { next: async (/** @type {string} */ session) => ({ ok: true, address: writeInvitation({ ...invitation, session }) }) });
   const board = openBoard(member), panel = new Panel(invitation, BUILT);
   board.session.on('begun', ({ me, module }) => {
     sessionStorage.setItem(place, String(me));

@@ -2,7 +2,7 @@
  * once more. */
 import { CLASH, COLUMNS, FULL, NEW } from './board.js';
 import { Sheet } from './drawn.js';
-import { GONE_AFTER, SECOND, Told } from './heard.js';
+import { Told } from './told.js';
 import { fieldsOf, orderOfPages } from './views.js';
 
 /** @typedef {import('./views.js').Drawop} Drawop */
@@ -17,6 +17,9 @@ const MEMBERS_PAUSE = 500, PAGES_PAUSE = 100;
 const CHECK_PAUSE = 2_000, CHECK_PART = 50;
 
 const MOST_PAGES = 1_000, MOST_MEMBERS = 500;
+
+/** Microseconds of a second, and for how many it is told that a page has caught up. */
+const SECOND = 1_000_000, CAUGHT_UP = 60 * SECOND;
 
 /** Marks of a report that are taken note of, as many as a host tells. */
 const MARKS = 64;
@@ -92,7 +95,7 @@ export class Telling {
 
   /** The whole of another page, and of the same what changed since. */
   async tellBoard() {
-    const { page, drawn, board } = this.member, sheet = drawn.sheet(page), rows = await board.canvas(page), { changed } = sheet;
+    const { page, drawn, board } = this.member, rows = await board.canvas(page), sheet = drawn.sheet(page), { changed } = sheet;
     sheet.changed = new Map();
     if (this.page !== page) {
       this.post('board', this.whole(page, sheet, rows));
@@ -130,11 +133,11 @@ export class Telling {
 
   /** Compares what is told with the host's view; what differs is told anew, as the host has it. */
   async check() {
-    const began = performance.now(), { page, drawn, board } = this.member, sheet = drawn.sheet(page), view = await board.view(page);
+    const began = performance.now(), { page, drawn, board } = this.member, view = await board.view(page), sheet = drawn.sheet(page);
     this.isChecked = true;
     if (!sheet.agrees(view)) {
       this.differences += 1;
-      sheet.replace(view);
+      drawn.replace(page, view);
       [this.page, this.isChanged] = ['', true];
     }
     this.checkAt = performance.now() + CHECK_PART * (performance.now() - began);
@@ -142,11 +145,11 @@ export class Telling {
 
   // ---- what is noticed of what comes in, for people alone
 
-  /** What a report tells that is not held.
-   * @param {import('./views.js').Report} report */
-  notice({ page, marks }) {
+  /** What a report of a member tells that is not held.
+   * @param {string} page @param {[number, number][]} marks */
+  notice(page, marks) {
     const { me, drawn } = this.member;
-    for (const [source, seq] of [...marks].slice(0, MARKS)) {
+    for (const [source, seq] of marks.slice(0, MARKS)) {
       if (source !== me && !drawn.holds(page, `${source} ${page} ${seq}`)) this.told.tell({ source, page, seq });
     }
   }
@@ -154,9 +157,9 @@ export class Telling {
   /** What the host has answered to a drawop.
    * @param {Drawop} drawop @param {string | undefined} batch */
   noticeBatch(drawop, batch) {
-    const { me, alarms } = this.member, { source } = drawop;
+    const { alarms } = this.member, { source } = drawop;
     if (batch === NEW) this.told.come(drawop);
-    else if (batch === CLASH && source !== me) alarms.warn(`two members draw with number ${source}: what they drew differs from member to member`);
+    else if (batch === CLASH) alarms.warn(`two members draw with number ${source}: what they drew differs from member to member`);
     else if (batch === FULL) alarms.warn('the board is full: new drawops are not kept');
   }
 
@@ -170,14 +173,23 @@ export class Telling {
 
   // ---- what stands beside it
 
+  /** The pages that are listed, in the order of their numbers, since one turns through them; those of strangers alone stand at the end. */
+  listed() {
+    const { me, page, drawn, judging: { judge } } = this.member, inOrder = drawn.inOrder(me, judge.strange), strange = inOrder.filter(({ isStrange }) => isStrange);
+    const ours = [page, ...inOrder.filter(({ isStrange }) => !isStrange).map((one) => one.page), ...this.told.pages()];
+    const chosen = [...new Set([...ours, ...strange.map((one) => one.page)])].slice(0, MOST_PAGES), last = new Set(strange.map((one) => one.page));
+    last.delete(page);
+    return chosen.sort((one, other) => Number(last.has(one)) - Number(last.has(other)) || orderOfPages(one, other));
+  }
+
   tellPages() {
-    const { page, drawn } = this.member, pages = [...new Set([...drawn.drawnPages(), ...this.told.pages(), page])].sort(orderOfPages).slice(0, MOST_PAGES);
-    this.post('pages', { page, pages: pages.map((one) => ({ page: one, drawn: drawn.count(one) })) });
+    const { page, drawn } = this.member;
+    this.post('pages', { page, pages: this.listed().map((one) => ({ page: one, drawn: drawn.count(one) })) });
   }
 
   tellMembers() {
     const { me, judging, board } = this.member, now = board.now();
-    const told = [...judging.heard.present(now)].sort(([one], [other]) => one - other).map(([member, { at, distance }]) => (
+    const told = judging.present(now).sort(([one], [other]) => one - other).map(([member, { at, distance }]) => (
       { member, distance: distance === null ? null : distance / 1_000, heard: Math.round((now - at) / 100_000) / 10 }));
     this.post('members', { me, members: told.slice(0, MOST_MEMBERS) });
   }
@@ -203,8 +215,8 @@ export class Telling {
    * @param {number} missing */
   phrase(missing) {
     if (missing) return `${missing} missing`;
-    const now = this.member.board.now(), passed = now - (this.caughtUp.get(this.member.page) ?? -GONE_AFTER);
-    if (passed < GONE_AFTER) return `caught up ${Math.floor(passed / SECOND)} s ago`;
-    return this.member.judging.heard.present(now).size ? 'whole' : 'whole; nobody else is heard';
+    const now = this.member.board.now(), passed = now - (this.caughtUp.get(this.member.page) ?? -CAUGHT_UP);
+    if (passed < CAUGHT_UP) return `caught up ${Math.floor(passed / SECOND)} s ago`;
+    return this.member.judging.present(now).length ? 'whole' : 'whole; nobody else is heard';
   }
 }

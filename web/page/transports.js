@@ -1,22 +1,32 @@
 /** What carries datagrams between members: the tabs of one browser, or a topic of an MQTT broker. They may lose, repeat and
  * reorder them, so nothing is sent twice here. */
 
-/** Is given the bytes that come from others, and from where, where that is told.
- * @typedef {(bytes: Uint8Array, place: string) => void} Take */
+/** @typedef {import('./judge.js').Origin} Origin */
+
+/** Is given the bytes that come from others, and from where.
+ * @typedef {(bytes: Uint8Array, origin: Origin) => void} Take */
 
 /** What a member needs of a transport. Each is given, as it begins, what takes the bytes.
  * @typedef {object} Transport
  * @property {(bytes: Uint8Array) => void} send   to all others
  * @property {() => void} end
+ * @property {string | null} here   the owner of our own origin, if the network keeps it
+ * @property {number | null} strangers   how many drawops of strangers a member takes; null for as many as it likes
+ * @property {(told: string, origin: Origin) => Origin | null} goneBy   who is gone by what a last will tells that came from an origin
  * @property {string} where   where it is, for people
  * @property {string} state   empty while it carries, and else what is the matter */
+
+/** A tab does not say which one it is, so all of them are one origin. */
+const TABS = { place: '', owner: null };
 
 /** The tabs of one browser that have this page open, by a channel of the browser's own. */
 export class Tabs {
   /** @param {string} session @param {Take} take */
   constructor(session, take) {
     this.channel = new BroadcastChannel(`wb ${session}`);
-    this.channel.onmessage = ({ data }) => { if (data instanceof Uint8Array) take(data, ''); };
+    this.channel.onmessage = ({ data }) => { if (data instanceof Uint8Array) take(data, TABS); };
+    this.here = null;
+    this.strangers = null;
     this.where = `the tabs of this browser, session ${session}`;
     this.state = '';
   }
@@ -24,6 +34,11 @@ export class Tabs {
   /** @param {Uint8Array} bytes */
   send(bytes) {
     this.channel.postMessage(bytes);
+  }
+
+  /** No tab has a last will. */
+  goneBy() {
+    return null;
   }
 
   end() {
@@ -56,6 +71,9 @@ const FIRST_PAUSE = 500, MOST_PAUSE = 30_000;
 /** Bytes that may wait for the network, and the bytes of the greatest packet that is taken. */
 const MOST_WAITING = 1 << 20, MOST_PACKET = 1 << 18;
 
+/** Letters of a name at a broker that is heeded, and those that nobody can be shown: they move a cursor, or turn the writing round. */
+const MOST_NAME = 128, NOT_SHOWN = /[\p{C}\p{Zl}\p{Zp}]|(?! )\p{Zs}/u;
+
 /** What is told of a broker that is gone, or that sends what no broker should. */
 const GONE = 'the broker does not answer';
 
@@ -63,6 +81,10 @@ const GONE = 'the broker does not answer';
 const REFUSALS = ['', 'it knows no MQTT 3.1.1', 'it does not take this name', 'it is not available', 'the name or the password is wrong', 'it does not allow it'];
 
 const encoder = new TextEncoder(), decoder = new TextDecoder(), latin = new TextDecoder('latin1');
+
+/** Whether people may be shown a name.
+ * @param {string} name */
+const isName = (name) => name !== '' && [...name].length <= MOST_NAME && !NOT_SHOWN.test(name);
 
 /** A text of MQTT: its length in two bytes, and its bytes.
  * @param {string} words @returns {number[]} */
@@ -127,16 +149,21 @@ export class Broker {
   /** @param {string} address with a name and a password where the broker asks for them
    * @param {string} session @param {string} name under which this member speaks
    * @param {Uint8Array} will what the broker tells the others when this member is gone
-   * @param {Take} take @param {() => void} back is called where it was gone and carries again */
-  constructor(address, session, name, will, take, back) {
+   * @param {Take} take @param {() => void} back is called where it was gone and carries again
+   * @param {() => Promise<Uint8Array>} [nextWill] makes another will for each connection after the first */
+  constructor(address, session, name, will, take, back, nextWill = async () => will) {
     const url = new URL(address);
     this.login = [url.username, url.password].map(decodeURIComponent);
     [url.username, url.password, url.hash] = ['', '', ''];
     this.address = url.href;
     this.client = `wb-${crypto.getRandomValues(new BigUint64Array(1))[0].toString(36)}`;
-    this.topics = `wb/${session}/+`;
-    this.own = `wb/${session}/${name}`;
+    this.session = `wb/${session}/`;
+    this.own = this.session + name;
+    // a broker that asks for a name lets each write under its own alone
+    this.here = this.login[0] ? name : null;
+    this.strangers = null;
     this.will = will;
+    this.nextWill = nextWill;
     this.take = take;
     this.back = back;
     this.where = `the broker ${url.host}, session ${session}`;
@@ -170,9 +197,11 @@ export class Broker {
 
   /** The packet that begins: who connects, and what is to be told when it is gone. */
   greeting() {
+    const { will } = this;
+    this.nextWill().then((next) => { this.will = next; });
     const [name, password] = this.login, flags = WITH_WILL | (name ? WITH_NAME : 0) | (name && password ? WITH_PASSWORD : 0);
     const login = [name, password].filter((words, i) => words && (!i || name)).map(text);
-    return packet(CONNECT, text('MQTT'), [4, flags, 0, KEEP_ALIVE], text(this.client), text(this.own), [this.will.length >> 8, this.will.length & 255], this.will, ...login);
+    return packet(CONNECT, text('MQTT'), [4, flags, 0, KEEP_ALIVE], text(this.client), text(this.own), [will.length >> 8, will.length & 255], will, ...login);
   }
 
   /** Gives a sign of life. A broker that has given none for long is gone, though its connection may seem to stand; and one that does not let
@@ -239,7 +268,7 @@ export class Broker {
    * @param {number} reason */
   begin(reason) {
     if (reason) this.lose(`refused by the broker: ${REFUSALS[reason] ?? reason}`);
-    else this.put(packet(SUBSCRIBE, [0, 1], text(this.topics), [0]));
+    else this.put(packet(SUBSCRIBE, [0, 1], text(`${this.session}+`), [0]));
   }
 
   /** From now on it carries, for the first time or again, where the broker lets us hear the session.
@@ -264,9 +293,20 @@ export class Broker {
     const behind = 2 + ((body[0] << 8) | body[1]), topic = decoder.decode(body.subarray(2, behind)), quality = kind & 6;
     if (!(behind <= body.length)) throw new RangeError('a topic that is cut off');
     // what a broker keeps for those who come later is no datagram
-    if (kind & 1) return;
+    if (kind & 1 || !isName(topic.slice(topic.lastIndexOf('/') + 1))) return;
     const bytes = body.slice(behind + (quality ? 2 : 0));
-    if (topic !== this.own || !this.recent.has(latin.decode(bytes))) this.take(bytes, topic);
+    if (topic !== this.own || !this.recent.has(latin.decode(bytes))) this.take(bytes, this.originOf(topic));
+  }
+
+  /** @param {string} topic @returns {Origin} */
+  originOf(topic) {
+    return { place: topic, owner: this.here === null ? null : topic.slice(this.session.length) };
+  }
+
+  /** A will tells the name under which it comes.
+   * @param {string} name @param {Origin} origin */
+  goneBy(name, origin) {
+    return origin.place === this.session + name ? origin : null;
   }
 
   /** Hands bytes to the network, where it carries and not too many wait.

@@ -1,4 +1,4 @@
-/** What words say: the fields of drawops, and of other datagrams what a member or a view goes by. */
+/** What the words of drawops say, as the host and a view have them; and names and pages in words. */
 
 /** @typedef {import('../../live/page/types.js').Drawing} Drawing */
 
@@ -7,10 +7,6 @@
 
 /** The name of a drawop.
  * @typedef {{ source: number, page: string, seq: number }} Name */
-
-/** What a session message or a page state tells: the page, the greatest number of each source, and of whom the sender heard: the moment that
- * was told, and how long ago.
- * @typedef {{ isSession: boolean, sender: number, page: string, marks: Map<number, number>, echoes: Map<number, [number, number]> }} Report */
 
 /** The drawop of the words `draw SOURCE PAGE SEQ TIME ..`, as the program spells them.
  * @param {string} words @param {string} [digits] @returns {Drawop} */
@@ -42,45 +38,6 @@ export function fieldsOf({ source, seq, operation, words }) {
  * @param {string} quoted */
 function unquoted(quoted) {
   return quoted.slice(1, -1).replace(/\\(.)/g, '$1');
-}
-
-/** The source, sender or asker of a datagram.
- * @param {string} words */
-export const speakerOf = (words) => Number(words.split(' ', 2)[1]);
-
-/** The kind of a datagram.
- * @param {string} words */
-export const kindOf = (words) => words.split(' ', 1)[0];
-
-/** The name of a drawop, or the one that a request asks for.
- * @param {string} words @returns {string | null} */
-export function nameIn(words) {
-  const parts = words.split(' ', 5);
-  if (parts[0] === 'draw') return parts.slice(1, 4).join(' ');
-  return parts[0] === 'request' ? parts.slice(2, 5).join(' ') : null;
-}
-
-/** The report of a session message or a page state; null of another datagram.
- * @param {string} words @returns {Report | null} */
-export function reportOf(words) {
-  const [kind, sender, ...rest] = words.split(' '), isSession = kind === 'session-message';
-  if (!isSession && kind !== 'page-state') return null;
-  if (isSession) rest.shift(); // the sender's moment
-  /** @type {Report} */
-  const report = { isSession, sender: Number(sender), page: String(rest.shift()), marks: new Map(), echoes: new Map() };
-  for (const word of rest) {
-    const [member, told, held] = word.split(/[@+=]/).map(Number);
-    if (word.includes('@')) report.echoes.set(member, [told, held]);
-    else report.marks.set(member, told);
-  }
-  return report;
-}
-
-/** The microseconds to the sender of a report, by its echo of ours, where it has one.
- * @param {Report} report @param {number} me @param {number} now @returns {number | null} */
-export function distanceOf({ echoes }, me, now) {
-  const [sent, held] = echoes.get(me) ?? [now + 1, 0], passed = now - sent;
-  return held <= passed && passed < 2 ** 25 ? Math.floor((passed - held) / 2) : null;
 }
 
 /** The words of a page for a line: `C N`.

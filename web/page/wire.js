@@ -1,13 +1,13 @@
 /** The datagrams as they go by, in words, and which request a repair answers: `live/wire.py` once more. */
-import { kindOf, nameIn, speakerOf } from './views.js';
-
 /** @typedef {import('../../live/page/types.js').Entry} Entry */
 
 /** Characters of a datagram that are told, requests that are remembered, and entries that wait to be told. */
 const MOST_CHARACTERS = 400, MOST_REMEMBERED = 1_024, MOST_ENTRIES = 600;
 
+/** @typedef {import('./datagram.js').Datagram} Datagram */
+
 /** What came in: from where, and what was done to it on purpose.
- * @typedef {{ place: string, isLost: boolean, isSecond: boolean }} Came */
+ * @typedef {{ origin: import('./judge.js').Origin, isLost: boolean, isSecond: boolean }} Came */
 
 export class Wire {
   constructor() {
@@ -32,31 +32,31 @@ export class Wire {
     this.places.set(place, member);
   }
 
-  /** @param {'in' | 'out'} way @param {string | null} words @param {string} [place] @returns {Entry} */
-  entry(way, words, place = '') {
+  /** @param {'in' | 'out'} way @param {Datagram | null} datagram @param {string} [place] @returns {Entry} */
+  entry(way, datagram, place = '') {
     this.last += 1;
-    const text = words ?? '', name = nameIn(text), kind = kindOf(text) || 'bad';
+    const { kind, words, speaker, name } = datagram ?? { kind: 'bad', words: '', speaker: null, name: '' };
     return {
       id: this.last, at: Math.round(performance.now() - this.began) / 1000, way, kind,
-      words: text.length > MOST_CHARACTERS ? `${text.slice(0, MOST_CHARACTERS)} ..` : text,
-      member: text ? speakerOf(text) : null, name, answers: kind === 'draw' && name ? this.requests.get(name) ?? null : null,
+      words: words.length > MOST_CHARACTERS ? `${words.slice(0, MOST_CHARACTERS)} ..` : words,
+      member: speaker, name: name || null, answers: kind === 'draw' ? this.requests.get(name) ?? null : null,
       lost: false, twice: false, refused: null, by: this.places.get(place) ?? null,
     };
   }
 
   /** A datagram came in, and what became of it.
-   * @param {string | null} words @param {Came} arrival @param {string | null} refused */
-  came(words, { place, isLost, isSecond }, refused) {
+   * @param {Datagram | null} datagram @param {Came} arrival @param {string | null} refused */
+  came(datagram, { origin: { place }, isLost, isSecond }, refused) {
     this.counts.in += 1;
     this.counts.lost += Number(isLost);
     this.counts.twice += Number(isSecond);
-    this.tell({ ...this.entry('in', words, place), lost: isLost, twice: isSecond, refused });
+    this.tell({ ...this.entry('in', datagram, place), lost: isLost, twice: isSecond, refused });
   }
 
   /** A datagram went out.
-   * @param {string | null} words */
-  went(words) {
-    const entry = this.entry('out', words);
+   * @param {Datagram | null} datagram */
+  went(datagram) {
+    const entry = this.entry('out', datagram);
     this.counts.out += 1;
     this.counts.requests += Number(entry.kind === 'request');
     this.counts.repairs += Number(entry.answers !== null);

@@ -66,10 +66,11 @@ async function identityOf({ session, broker, key }) {
  * @param {() => void} back is called where it was gone and carries again
  * @returns {Promise<import('./member.js').Carrier>} */
 async function openTransport({ session, broker, key }, me, take, back) {
-  const seal = key ? await Seal.of(key, session) : null, sealed = seal && new Sealed(seal, take);
-  const hand = sealed ? (/** @type {Uint8Array} */ bytes, /** @type {string} */ place) => sealed.take(bytes, place) : take;
-  const name = broker ? nameAt(broker, me) : '', gone = writeGone(name);
-  const under = broker ? new Broker(broker, session, name, seal ? await seal.close(gone) : gone, hand, back) : new Tabs(session, hand);
+  const sealed = key ? new Sealed(await Seal.of(key, session), take) : null, name = broker ? nameAt(broker, me) : '';
+  /** @type {import('./transports.js').Take} */
+  const hand = sealed ? (bytes, origin) => sealed.take(bytes, origin) : take;
+  const will = async () => (sealed ? sealed.will() : writeGone(name));
+  const under = broker ? new Broker(broker, session, name, await will(), hand, back, will) : new Tabs(session, hand);
   if (!sealed) return under;
   sealed.under = under;
   return sealed;
@@ -104,7 +105,7 @@ async function begin({ folder, invitation, me: wished, notice }) {
   const [program, database] = await Promise.all([
     Program.load(new URL(folder), more.wide === undefined ? undefined : more.wide === '1'), openDatabase().catch(() => null)]);
   const { me, isKept, later } = await findNumber(database, identity, wished), inbox = new Inbox();
-  const transport = await openTransport(invitation, me, (bytes, place) => member?.take(bytes, place), () => member?.beginAgain());
+  const transport = await openTransport(invitation, me, (bytes, origin) => member?.take(bytes, origin), () => member?.beginAgain());
   inbox.worse = worseOf(more);
   const options = { notice, teach: more.teach === '1', start: startOf(invitation, isKept) };
   member = new Member(program, new Lines(database, identity, me), me, inbox, transport, options, post);

@@ -1,5 +1,0 @@
-// what browsers have, and Debian's tsc does not know yet
-interface Array<T> {
-  findLast(predicate: (value: T, index: number) => unknown): T | undefined;
-  findLastIndex(predicate: (value: T, index: number) => unknown): number;
-}
