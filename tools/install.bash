@@ -17,9 +17,9 @@ put() {
     say "installed $3"
 }
 
-# the files of wb-live: modules of Python, and its page
+# the files of wb-live: modules of Python, the package that speaks to hosts, and its page
 live_files() {
-    cd "$top" && find wb-live wbhost.py live ! -type d ! -path 'live/test*' ! -name '*.pyc' -print0
+    cd "$top" && find wb-live wbhost.py python/wb live ! -type d ! -name '*.pyc' -print0
 }
 
 # The folder that wb-live runs from, in which the installed program stands for ./wb. It replaces what stands there only when it is
@@ -39,6 +39,7 @@ install_below() {
     put 644 "$parts/wb.bash" "$place/share/bash-completion/completions/wb"
     put 644 "$parts/wb.bash" "$place/share/bash-completion/completions/wb-live"
     put 644 "$parts/LICENCE" "$place/share/doc/wb/LICENCE"
+    tell_version >"$kept/version" && put 644 "$kept/version" "$place/share/doc/wb/BUILT"
     put_live "$place/share/wb"
     ln -sfn ../share/wb/wb-live "$place/bin/wb-live" || fail "$place/bin/wb-live can't be written"
     say "installed $place/bin/wb-live"

@@ -42,7 +42,7 @@ digest_of_sources() {
     (
         cd "$top" || exit 1
         needed_lines
-        # names of crates have no spaces
+        # shellcheck disable=SC2046 # names of crates have no spaces
         find $(source_folders) ! -type d -print0 | LC_ALL=C sort -z | xargs -0 sha256sum
     ) | sha256sum | cut -d ' ' -f 1
 }
@@ -86,6 +86,7 @@ begin_build() {
 
 # whether a source was changed since: then the program may be of what stands there or of what stood there
 has_changed_since() {
+    # shellcheck disable=SC2046 # names of crates have no spaces
     [ -n "$(cd "$top" && find crates.txt $(source_folders) -newercm "$kept/started" | head -n 1)" ]
 }
 

@@ -151,7 +151,10 @@ class HostMember:
         if last:
             self.due = None if last == b"ok never" else self.clock.when(int(last[3:]))
         self.given = []
-        self.sent += self.tuner.goes(sent) if self.tuner else sent
+        if self.tuner:
+            self.sent += self.tuner.goes(sent)
+        else:
+            self.sent += sent
 
     def printed(self, line: bytes) -> list[bytes]:
         """What a line printed, its closing line too."""

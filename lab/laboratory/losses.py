@@ -90,7 +90,8 @@ class Share:
             return []
         if self.share >= 1:
             return list(range(len(way)))
-        places, at = [], -1
+        places: list[int] = []
+        at = -1
         while True:  # the number of links that are passed over before the next loss
             at += 1 + int(math.log(1 - self.chance.random()) / math.log(1 - self.share))
             if at >= len(way):

@@ -127,7 +127,8 @@ class Drawing:
         xs = sorted({point.x for point in points})
         ys = [y for point in points for y in (point.y, point.low, point.high) if y is not None and math.isfinite(y)]
         if panel.words:
-            self.across, self.from_x, self.to_x = list(range(len(panel.words))), -0.5, len(panel.words) - 0.5
+            self.across: Sequence[float] = range(len(panel.words))
+            self.from_x, self.to_x = -0.5, len(panel.words) - 0.5
         elif panel.log_x:
             self.across = xs if len(xs) <= 8 else log_ticks(xs[0], xs[-1])
             self.from_x, self.to_x = math.log10(min(xs[0], self.across[0])), math.log10(max(xs[-1], self.across[-1]))

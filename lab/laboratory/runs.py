@@ -135,7 +135,7 @@ def make_plan(settings: Settings) -> Plan:
     first_leaving = first_late - settings.leaving
     first_coming = first_leaving - settings.coming
     gone = micros(settings.gone)
-    away = {member: ((0, micros(settings.join) or half),) for member in range(first_late, settings.members + 1)}
+    away: dict[int, tuple[tuple[int, int], ...]] = {member: ((0, micros(settings.join) or half),) for member in range(first_late, settings.members + 1)}
     away.update({member: ((half, until + 1),) for member in range(first_leaving, first_late)})
     for place, member in enumerate(range(first_coming, first_leaving)):
         begin = start + place * gone // max(1, settings.coming)

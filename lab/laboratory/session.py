@@ -133,7 +133,8 @@ class Session:
     def first_moment(self) -> int | None:
         while self.due and not self.is_listed(*self.due[0]):
             heapq.heappop(self.due)
-        return min((heap[0][0] for heap in (self.events, self.due) if heap), default=None)
+        moments = [*(event[0] for event in self.events[:1]), *(moment for moment, _ in self.due[:1])]
+        return min(moments, default=None)
 
     def list_due(self, number: int) -> None:
         """Puts a member that is there on the list of those with a timer."""

@@ -3,7 +3,7 @@ _wb() {
     local word=${COMP_WORDS[COMP_CWORD]} first=${COMP_WORDS[1]} words=''
     if [ "$COMP_CWORD" = 1 ]; then
         words='run check hex words host help --help --version'
-        case ${COMP_WORDS[0]} in */*) words="$words --try --where --now --page --install" ;; esac
+        case ${COMP_WORDS[0]} in */*) words="$words --try --where --now --page --version --install" ;; esac
     else
         case $first in
             run) words='--workers --help' ;;
@@ -13,15 +13,15 @@ _wb() {
             help) words='run check hex words host' ;;
         esac
     fi
-    COMPREPLY=($(compgen -W "$words" -- "$word"))
+    mapfile -t COMPREPLY < <(compgen -W "$words" -- "$word")
 }
 _wb_live() {
     local word=${COMP_WORDS[COMP_CWORD]} before=${COMP_WORDS[COMP_CWORD - 1]}
     case $before in
-        --record | --replay | --key | --new-key | --ca | --password-file) COMPREPLY=($(compgen -f -- "$word")) ;;
-        *) COMPREPLY=($(compgen -W '--help --lan --broker --password-file --ca --interface --listen --peer --ports --me --rate
+        --record | --replay | --key | --new-key | --ca | --password-file) mapfile -t COMPREPLY < <(compgen -f -- "$word") ;;
+        *) mapfile -t COMPREPLY < <(compgen -W '--help --lan --broker --password-file --ca --interface --listen --peer --ports --me --rate
             --session --key --new-key --invite --page --web --guests --origin --no-web --terminal --no-terminal --open --record
-            --forget --replay --cells --lose --delay --twice --mix --teach --speed' -- "$word")) ;;
+            --forget --replay --cells --lose --delay --twice --mix --teach --speed' -- "$word") ;;
     esac
 }
 complete -F _wb wb ./wb

@@ -81,8 +81,8 @@ class Measured:
     def draws(self, what: str, which: Which = every, scale: float = 1) -> list[float]:
         """The mean of each run over its losses, for the runs that have one. A `what` that is joined by a plus is a sum."""
         means = []
-        for run in self.runs:
-            values = [value for row in run.rows if which(row) and (value := value_of(row, what)) is not None]
+        for one in self.runs:
+            values = [value for row in one.rows if which(row) and (value := value_of(row, what)) is not None]
             if values:
                 means.append(scale * sum(values) / len(values))
         return means

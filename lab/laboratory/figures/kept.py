@@ -186,7 +186,7 @@ def moments(scale: Scale) -> Figure:
 def whole_after(totals: Record, name: str) -> float:
     """From the moment at which members come, or are together again at 80 s, until the last of them is whole."""
     if name.startswith("a minute"):
-        return max(0.0, totals["last_whole"] - 80)
+        return max(0.0, float(totals["last_whole"]) - 80)
     return max(totals["seconds_from_coming"], default=0.0)
 
 

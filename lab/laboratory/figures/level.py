@@ -125,7 +125,7 @@ def compared(loss: str, adapting: Record, fixed: Record) -> str:
 def search_told(distance: int, records: list[Record], ours: Record) -> str:
     """Which of the constants that were tried wait least, of those with few requests and repairs."""
     few = [r for r in records if all(r[what] + r[f"{what}_95"] <= FEW for what in ("requests", "repairs"))]
-    least = min(few, key=lambda r: r["seconds"], default=None)
+    least = min(few, key=lambda r: float(r["seconds"]), default=None)
     told = "none of" if least is None else f"{least['tuning'].replace(' ', ',')} waits least, {waits(least)}, of"
     return f"""at {distance} ms {told} {len(records)}; that of wb-live, {ours['tuning'].replace(' ', ',')}, waits {waits(ours)} with
         {sure(ours, 'requests')} requests and {sure(ours, 'repairs')} repairs"""

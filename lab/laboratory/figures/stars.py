@@ -45,7 +45,7 @@ def star_requests(scale: Scale) -> Figure:
         }
 
     def section(records: list[Record]) -> str:
-        shown = max((r for r in records if r["c2"] == 4), key=lambda r: r["group"])
+        shown = max((r for r in records if r["c2"] == 4), key=lambda r: int(r["group"]))
         within, waits = (sum(holds(r, a, b) for r in records) for a, b in (("requests", "exact"), ("first_request", "published_first")))
         return "\n\n".join([
             picture("star-requests", "Star: requests beside C2", f"""The requests are those of the exact mean: for {shown['group']} members and C2
@@ -75,7 +75,7 @@ def star_repairs(scale: Scale) -> Figure:
         return {"star-repairs": by_group("Star: repairs for a loss on one member's link", records, "D2", "repairs", columns)}
 
     def section(records: list[Record]) -> str:
-        shown = max((r for r in records if r["d2"] == 4), key=lambda r: r["group"])
+        shown = max((r for r in records if r["d2"] == 4), key=lambda r: int(r["group"]))
         all_of_them = [r for r in records if r["d2"] == 1]
         return picture("star-repairs", "Star: repairs beside D2", f"""Repairs follow the same formula: {sure(shown, 'repairs')} for
             {shown['group']} members and D2 of 4, exactly {number(shown['exact'])}. The intervals of {sum(holds(r, 'repairs', 'exact') for r in records)}

@@ -2,6 +2,7 @@
 from __future__ import annotations
 
 import math
+from dataclasses import replace
 
 from laboratory.figures.cases import Case, Figure, Measured, Record, Scale, medians, series
 from laboratory.figures.words import number, picture, sure
@@ -87,13 +88,13 @@ def chains(scale: Scale) -> Figure:
     def section(records: list[Record]) -> str:
         short = [r for r in records if r["tuning"] == "2 2 1 1"]
         far = [r for r in records if r["tuning"] == "16 1 16 1"]
-        most = max(short, key=lambda r: r["requests"])
+        most = max(short, key=lambda r: float(r["requests"]))
         ones = all(r["requests"] == r["repairs"] == 1 for r in far)
         return picture("chain", "Chain: requests and repairs", f"""With 16,1,16,1 there {'is one request and one repair for each loss' if ones else
             'is more than one request or repair for some loss'}, at each hop, as without chance. With 2,2,1,1 chance adds some: the most are
-            {sure(most, 'requests')} requests, {most['hop']} hops from the source, and {sure(max(short, key=lambda r: r['repairs']), 'repairs')} repairs.
+            {sure(most, 'requests')} requests, {most['hop']} hops from the source, and {sure(max(short, key=lambda r: float(r['repairs'])), 'repairs')} repairs.
             Each point is of {2 * scale.runs} losses.""")
 
     base = Settings(shape="chain", members=scale.chain, loss=f"link:{links}", draws=4 * len(hops), who="timers")
-    cases = {tuning: Case(Settings(**{**vars(base), "tuning": tuning}), scale.runs) for tuning in tunings}
+    cases = {tuning: Case(replace(base, tuning=tuning), scale.runs) for tuning in tunings}
     return Figure("chain", cases, table, plots, section)

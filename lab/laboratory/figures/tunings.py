@@ -64,7 +64,7 @@ def tunings(network: str, scale: Scale) -> Figure:
     def section(records: list[Record]) -> str:
         cells = table_of(("Members", "Constants", "Requests, where all lack it", "Repairs, where one does", "Seconds, mean of both", "Datagrams, of both", "beside 2,2,1,1"),
                          records, row_of)
-        best = [min((r for r in records if r["group"] == group), key=lambda r: r["datagrams"] * r["seconds"]) for group in scale.classes]
+        best = [min((r for r in records if r["group"] == group), key=lambda r: float(r["datagrams"] * r["seconds"])) for group in scale.classes]
         told = ", ".join(f"{r['constants'].replace(' ', ',')} for {r['group']}" for r in best)
         text = picture(f"tunings-{network}", f"Constants, {words}", f"""A point is the mean of both losses. The least product of wait and datagrams
             have {told}. The last column says by how much the datagrams differ from those of 2,2,1,1 with the same seeds; an interval that leaves out

@@ -1,12 +1,16 @@
 """What is seen in a figure, in words of its table, so that no number on the page is older than the runs."""
 from __future__ import annotations
 
+import re
 import textwrap
 from collections.abc import Callable, Sequence
 
 from laboratory.figures.cases import Record
 
 WIDTH = 140
+
+# a table of more lines than this stands in a file of its own, beside the plots
+MOST_LINES = 8
 
 
 def number(value: float | None) -> str:
@@ -27,7 +31,7 @@ def sure(record: Record, column: str) -> str:
 
 def holds(record: Record, column: str, other: str) -> bool:
     """Whether the interval of a mean holds the value of a formula."""
-    return abs(record[column] - record[other]) <= record[f"{column}_95"] + 1e-9
+    return bool(abs(record[column] - record[other]) <= record[f"{column}_95"] + 1e-9)
 
 
 def paragraph(text: str) -> str:
@@ -42,6 +46,20 @@ def picture(name: str, alt: str, text: str) -> str:
 def table(heads: Sequence[str], records: Sequence[Record], cells: Callable[[Record], Sequence[str]]) -> str:
     lines = ["| " + " | ".join(heads) + " |", "|" + "---|" * len(heads)]
     return "\n".join([*lines, *("| " + " | ".join(cells(record)) + " |" for record in records)])
+
+
+def apart(name: str, section: str) -> tuple[str, str]:
+    """A section whose long tables are links to a page of their own, and that page, which is empty if there are none."""
+    found: list[str] = []
+
+    def moved(match: re.Match[str]) -> str:
+        if match[0].count("\n") <= MOST_LINES:
+            return match[0]
+        found.append(match[0].strip())
+        return f"[Its table](laboratory/{name}.md).\n" if len(found) == 1 else ""
+
+    short = re.sub(r"(?:^\|.*(?:\n|$))+", moved, section + "\n", flags=re.MULTILINE)
+    return short.rstrip("\n"), f"# {name}\n\n" + "\n\n".join(found) + "\n" if found else ""
 
 
 def put(page: str, name: str, section: str) -> str:

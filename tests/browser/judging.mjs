@@ -1,0 +1,200 @@
+// Tests what stands between a member and its judge: what of the host it is told, and what comes of what it decides. The member is none. What the
+// judge decides the table of cases says (table.mjs).
+import { Alarms } from '../../web/page/alarms.js';
+import { Board } from '../../web/page/board.js';
+import { hex, readDatagram, unhex } from '../../web/page/datagram.js';
+import { Drawn } from '../../web/page/drawn.js';
+import { Block } from '../../web/page/host.js';
+import { Judging } from '../../web/page/judging.js';
+import { Telling } from '../../web/page/telling.js';
+import { MOST_TOLD, Told } from '../../web/page/told.js';
+import { drawopOf } from '../../web/page/views.js';
+import { Wire } from '../../web/page/wire.js';
+import { judge } from '../judge.mjs';
+import { datagramOf } from './table.mjs';
+
+const SECOND = 1_000_000, DAY = 86_400 * SECOND;
+
+// ---- what is missing
+
+export function testTold() {
+  const told = new Told(), drawn = new Drawn();
+  for (const seq of [1, 4]) drawn.add(drawopOf(drawing(7, seq)));
+  for (const [source, page, seq] of [[7, '7/1', 3], [7, '7/1', 9], [8, '7/1', 2], [8, '7/2', 2]]) told.tell({ source, page, seq });
+  judge('a number of a gap counts once', told.missing('7/1', drawn), 4);
+  told.come({ source: 7, page: '7/1', seq: 9 });
+  judge('what came is missing no more', [told.missing('7/1', drawn), told.missing('7/2', drawn)], [3, 1]);
+  judge('pages of which nothing is held are told', told.pages().includes('7/2'), true);
+  for (let number = 0; number < 5_000; number += 1) told.tell({ source: 1, page: `9/${number}`, seq: 5 });
+  judge('what is told is bounded', told.names.size, MOST_TOLD);
+}
+
+// ---- judging
+
+/** A member that remembers what came to its host, and whose host takes each drawop. */
+function memberOf(more = {}) {
+  const came = [], kept = [], ticks = [], { strange = [], strangers = null, here = null, cells = 1_000 } = more;
+  const member = { me: 1, page: '7/1', isReady: true, drawn: new Drawn(), alarms: new Alarms(), wire: new Wire(), transport: { here, strangers }, came, kept, ticks, ...more };
+  member.tick = async () => { ticks.push(member.board.moment); };
+  member.begin = async () => { member.isReady = true; };
+  member.board = { moment: 0, readyAt: 0, due: null, cells, strange, now: () => member.board.moment, keep: (line) => kept.push(line),
+    options: { rate: 4_000 }, me: 1, ownMarks: new Map(), keepMark: Board.prototype.keepMark, hold: (drawop) => member.drawn.add(drawop), take: Board.prototype.take,
+    came: async (digits) => {
+      came.push(digits);
+      return new Block(['send 00ff', ...(digits.startsWith('draw') ? ['batch 1 0 0 0'] : [])], 'ok never');
+    } };
+  member.telling = new Telling(member, (name, news) => { member[name] = news; });
+  member.judging = new Judging(member);
+  return member;
+}
+
+const heed = ({ judging }, words, place = 'x', sent = []) => judging.heed(datagramOf(words), words, { place, owner: null }, sent);
+const drawing = (source, seq, time = 5) => `draw ${source} 7/1 ${seq} ${time} line 0 0 1 1 *`;
+const REPORT = '5742010200000018000000010000000000000005000000070000000100000000'; // session-message 1 5 7/1
+
+/** A member answers our report from a place. */
+async function meet(member, number = 9, place = 'x', more = '') {
+  member.judging.leaving(unhex(REPORT));
+  member.board.moment = Math.max(member.board.moment, 25);
+  return heed(member, `session-message ${number} 77 7/1${more} 1@5+10`, place);
+}
+
+async function testHost() {
+  const member = memberOf(), sent = [];
+  await meet(member, 9, 'x', ' 7=3');
+  for (const words of ['page-state 9 7/1 7=3', 'request 9 7 7/1 2', 'ask-pages 9', drawing(7, 2)]) await heed(member, words, 'x', sent);
+  judge('all that a member sends comes to the host', member.came.map((words) => words.slice(0, 3)), ['ses', 'pag', 'req', 'ask', 'dra']);
+  judge('and what the host sends goes out', sent, ['00ff', '00ff', '00ff', '00ff']);
+  judge('what is told is missing, and what is below', member.telling.told.missing('7/1', member.drawn), 2);
+  await heed(member, drawing(7, 3));
+  judge('until it comes', member.telling.told.missing('7/1', member.drawn), 1);
+  judge('what comes under our number does not', [await heed(member, 'request 1 7 7/1 2'), member.came.length], ['under our number', 6]);
+  const present = (now) => member.judging.present(now).map(([number, { distance }]) => [number, distance]);
+  judge('members that are here, for a minute', [present(25), present(60 * SECOND), present(61 * SECOND)], [[[9, 5]], [[9, 5]], []]);
+  member.board.due = 50;
+  const [[moment, act]] = member.judging.plan();
+  await act();
+  judge('it ticks when the host says', [moment, member.judging.plan().length, member.ticks.length], [50, 1, 1]);
+}
+
+/** What no member gave is in the record by its words, until a member turns out to be who gave it. */
+async function testRecord() {
+  const member = memberOf();
+  await heed(member, drawing(7, 1), 'b');
+  judge('what a stranger gave', member.kept, [drawing(7, 1)]);
+  await meet(member, 7, 'b');
+  judge('is a member\u2019s once he answers, by its bytes', member.kept.slice(1), [`datagram ${drawing(7, 1)}`]);
+  await heed(member, drawing(7, 2), 'b');
+  await heed(member, drawing(8, 1), 'y');
+  judge('what comes later is written as it is then', member.kept.slice(2), [`datagram ${drawing(7, 2)}`, drawing(8, 1)]);
+  const again = memberOf({ strange: ['8 7/1 1'], strangers: 1 });
+  judge('what the record has of strangers takes of their share', await heed(again, drawing(9, 1), 'z'), 'over the share of strangers');
+}
+
+/** A member is gone after a minute, or, where many speak seldom, after three reports. */
+async function testPatience() {
+  const member = memberOf(), { judging } = member;
+  for (let number = 2; number < 51; number += 1) await heed(member, `session-message ${number} 77 7/1`, `p${number}`);
+  const report = new Uint8Array(Buffer.from(`57420102${(992).toString(16).padStart(8, '0')}${REPORT.slice(16, 56)}0079${'0000000100000001'.repeat(121)}0000`, 'hex'));
+  judging.leaving(report);
+  judge('of fifty each speaks once in 12.5 s', [report.length, readDatagram(report).marks.length, judging.patience], [1_000, 121, 60 * SECOND]);
+  member.board.options.rate = 400;
+  judging.leaving(report);
+  judge('or, where reports have a tenth, once in 64', judging.patience, 192 * SECOND);
+}
+
+async function testNotice() {
+  const member = memberOf();
+  await heed(member, 'session-message 9 77 7/1 7=3');
+  judge('what a stranger reports is not missing', member.telling.told.missing('7/1', member.drawn), 0);
+  await meet(member, 9, 'x', ' 7=3');
+  judge('and what a member reports is', member.telling.told.missing('7/1', member.drawn), 1);
+}
+
+async function testOwnMarks() {
+  const member = memberOf({ isReady: false });
+  member.board.readyAt = SECOND;
+  judge('who listens begins later', member.judging.plan()[0][0], SECOND);
+  await heed(member, 'page-state 9 7/1 1=5');
+  await heed(member, 'page-state 8 7/1 1=5', 'y');
+  judge('a mark of our own number is kept, once', [member.came.length, member.kept], [2, ['page-state 9 7/1 1=5']]);
+  judge('none that is too great', [await heed(member, 'page-state 9 7/1 1=65537'), await heed(member, 'page-state 9 7/1 1=65536')], ['a mark of ours', null]);
+  judge('is kept', member.kept.length, 2);
+  await member.judging.plan()[0][1]();
+  member.board.moment = SECOND;
+  await heed(member, 'page-state 9 7/1 1=70000');
+  judge('after it none changes anything, and it is told', [member.isReady, member.kept.length, member.came.length, member.alarms.told()],
+    [true, 2, 4, ['a report tells of a drawing of ours that we did not make']]);
+}
+
+/** Two members of one number, who hear each other and nobody else: each report echoes the other's. */
+async function testTwins() {
+  const one = memberOf(), other = memberOf(), reports = [5, 6, 7].map((sent) => REPORT.replace('0000000000000005', `000000000000000${sent}`));
+  const leaves = (member, digits) => {
+    const { bytes, datagram } = member.judging.leaving(unhex(digits));
+    judge('what is told of a report is what goes out', datagram.words, readDatagram(bytes).words);
+    return bytes;
+  };
+  const hears = (member, bytes) => member.judging.heed(readDatagram(bytes), hex(bytes), { place: 'y', owner: null }, []);
+  const first = leaves(one, reports[0]);
+  judge('a report of ours goes out as it is', hex(first), reports[0]);
+  judge('one that comes back shows no twin', [await hears(one, first), one.judging.hasTwin, hex(leaves(one, reports[0]))], ['under our number', false, reports[0]]);
+  [one.board.moment, other.board.moment] = [100, 100];
+  await hears(other, first);
+  const second = leaves(other, reports[1]);
+  judge('one that is not ours is echoed', readDatagram(second).words, 'session-message 1 6 7/1 1@5+0');
+  await hears(one, second);
+  judge('who finds a moment of his own there has a twin', [one.judging.faultOfDrawing(true), one.judging.faultOfDrawing(false), other.judging.faultOfDrawing(true)],
+    [...Array(2).fill('another member has our number: take a new one'), null]);
+  await hears(other, leaves(one, reports[2]));
+  judge('and so has the other', other.judging.hasTwin, true);
+  const replayed = memberOf();
+  replayed.judging.leaving(unhex(reports[2]));
+  for (const bytes of [first, second, unhex(reports[1])]) await hears(replayed, bytes);
+  judge('reports of an earlier start show none', replayed.judging.hasTwin, false);
+  await hears(replayed, unhex('574201010000002200000001000000070000000100000001000000000000000a0100000001000400012a'));
+  judge('nor does a drawing of ours that we did not make', replayed.judging.faultOfDrawing(true), null);
+}
+
+async function testRoom() {
+  const member = memberOf();
+  for (let seq = 1; seq <= 70; seq += 1) await heed(member, drawing(7, seq));
+  judge('strangers have their share of the cells', [member.drawn.total, member.alarms.told()], [16, ['strangers have their share of the board: drawings of member 7 are not kept']]);
+  await meet(member);
+  for (let seq = 100; member.drawn.total < 969; seq += 1) await heed(member, drawing(7, seq));
+  judge('a full board takes no drawing, and a delete alone', [await heed(member, drawing(7, 2_000)), await heed(member, 'draw 7 7/1 2001 5 delete 7 1')], ['the board is full', null]);
+  judge('nor do we draw', [member.judging.faultOfDrawing(true), member.judging.faultOfDrawing(false)], ['full', null]);
+  member.judging.leaving(unhex(REPORT));
+  judge('and it is told', member.alarms.told().at(-1), 'the board is full: 970 of 1000 cells; deletes and restores alone have room');
+  const sealed = memberOf({ strangers: 0 });
+  judge('under a key a stranger has no share, and nobody is warned of newcomers', [await heed(sealed, drawing(7, 1)), sealed.alarms.told()], ['over the share of strangers', []]);
+}
+
+/** Nobody moves our time, and what is drawn ahead of it is taken of members alone, a day at most. */
+async function testTime() {
+  const member = memberOf(), now = Date.now() * 1_000, isNear = () => Math.abs(member.judging.timeOfDay(25) - Date.now() * 1_000) < SECOND;
+  await meet(member);
+  for (const [number, ahead] of [[8, 86_000], [9, 86_000]]) await heed(member, drawing(number, 1, now + ahead * SECOND));
+  judge('members that draw ahead are believed, and our time is ours', [member.drawn.total, isNear()], [2, true]);
+  judge('none a day ahead, and no stranger two minutes', [await heed(member, drawing(9, 2, now + DAY + 60 * SECOND)), await heed(member, drawing(8, 2, now + 120 * SECOND), 'z')],
+    ['ahead of the clock', 'ahead of the clock']);
+}
+
+/** Pages of members are listed before any of strangers, however many these are: of a record, since no more than sixteen come. */
+async function testPages() {
+  const names = Array.from({ length: 1_499 }, (_, i) => `900 0/${i + 1} 1`), member = memberOf({ cells: 65_535, strange: names });
+  await meet(member);
+  for (const name of names) member.drawn.add(drawopOf(`draw ${name} 5 line 0 0 1 1 *`));
+  judge('strangers open no more', await heed(member, 'draw 900 0/1500 1 5 line 0 0 1 1 *', 's'), 'strangers are on too many pages, or too many numbers');
+  await heed(member, 'draw 9 9/2 1 5 line 0 0 1 1 *');
+  member.drawn.add(drawopOf('draw 1 5/1 1 5 line 0 0 1 1 *'));
+  member.telling.told.tell({ source: 9, page: '6/1', seq: 1 });
+  member.telling.tellPages();
+  const { page, pages } = member.pages;
+  judge('the page in view, ours, and those of members and of which they tell', [page, pages.slice(0, 4).map((one) => one.page)], ['7/1', ['5/1', '6/1', '7/1', '9/2']]);
+  judge('then those of strangers that were drawn on last', [pages.length, pages[4].page, pages.at(-1)], [1_000, '0/504', { page: '0/1499', drawn: 1 }]);
+}
+
+export async function testJudging() {
+  for (const test of [testHost, testRecord, testPatience, testNotice, testOwnMarks, testTwins, testRoom, testTime, testPages]) await test();
+}

@@ -1,0 +1,110 @@
+"""Beside the native program: the module, which prints the same bytes for the same lines, and what the page reads by itself of a datagram."""
+from __future__ import annotations
+
+import json
+import os
+import random
+import re
+import subprocess
+import sys
+from pathlib import Path
+
+from ..node import find_node
+from ..host.program import TOP, program
+from ..facts import Facts
+from ..host import faults
+from ..host.scripts import Writer
+from ..host.sessions import Session, spoiled
+
+HERE = Path(__file__).resolve().parent
+
+LINES = 10_000
+SPOILED = 1_000
+READ = 5_000
+PATIENCE = 300
+
+# the files of tests/host that a module can pass: others need threads, or ends of a process. Lines that are refused stand in a conversation,
+# since a start of Node for each takes minutes
+FILES = [f"tests/host/test_{name}.py" for name in ("lines", "sessions", "records", "documents")]
+
+
+def conversations() -> list[str]:
+    """Conversations of over 10,000 lines in all: sessions and records at random, lines that are spoiled, and each line that is refused."""
+    made = [Session(random.Random(seed)).conversation()[0] for seed in range(100, 121)]
+    made += ["".join(line + "\n" for line in Writer(seed).script(120)) for seed in range(1, 9)]
+    first, *lines = Session(random.Random(99)).conversation()[0].encode().splitlines()
+    numbers = random.Random(59)
+    spoilt = [spoiled(numbers, numbers.choice(lines)).replace(b"\n", b"").decode("latin-1") for _ in range(SPOILED)]
+    # the page's lines are of ASCII
+    made.append("".join(line + "\n" for line in [first.decode(), *spoilt] if line.isascii()))
+    refused = [line for line in {**faults.mistyped(), **faults.no_datagrams(), **faults.wrong_words()} if line.isascii()]
+    made.append(faults.BEFORE + "".join(f"{line}\n" for line in refused) + faults.AFTER)
+    return made
+
+
+def native(program: str, given: str) -> str:
+    return subprocess.run([program, "host"], input=given.encode(), stdout=subprocess.PIPE, timeout=PATIENCE, check=True).stdout.decode("latin-1")
+
+
+def by_module(node: str, module: Path, given: str) -> tuple[str, dict[str, float]]:
+    """What the module prints where it is asked line by line, as the page asks it, and what that took."""
+    ran = subprocess.run([node, str(HERE / "ask.mjs"), str(module), "host"], input=given.encode(), capture_output=True,
+                         timeout=PATIENCE, check=False)
+    if ran.returncode:
+        return ran.stderr.decode(), {}
+    return ran.stdout.decode("latin-1"), json.loads(ran.stderr)
+
+
+def check_lines(facts: Facts, program: str, node: str, module: Path) -> None:
+    count, took, differ = 0, [], []
+    for given in conversations():
+        printed, figures = by_module(node, module, given)
+        count += given.count("\n")
+        took.append(figures.get("line", 0.0))
+        if printed != native(program, given):
+            differ.append(given[:200])
+    facts.holds("over 10,000 lines are asked", count >= LINES, count)
+    facts("the module prints what the native program prints", differ, [])
+    print(f"{count} lines by the native program and by the module: the same bytes; {sorted(took)[len(took) // 2]:.0f} microseconds a line in the median of {len(took)} conversations")
+
+
+def spoilt(numbers: random.Random, digits: str) -> str:
+    """A datagram with a byte that is another one, or that is cut off, or goes on."""
+    data, at = bytearray.fromhex(digits), numbers.randrange(len(digits) // 2)
+    if numbers.random() < 0.7:
+        data[at] = numbers.randrange(256)
+        return data.hex()
+    return data[:at].hex() if numbers.random() < 0.5 else data.hex() + "00"
+
+
+def check_reading(facts: Facts, program: str, node: str) -> None:
+    """What the page reads of a datagram is what `wb words` says. Of what is none, numbers out of their range and the order of sources are for the host."""
+    numbers = random.Random(61)
+    found = sorted({digits for given in conversations() for digits in re.findall("5742(?:[0-9a-f]{2})+", given + native(program, given))})
+    chosen = [*numbers.sample(found, min(len(found), READ)), *(spoilt(numbers, numbers.choice(found)) for _ in range(READ))]
+    given = "".join("send %s\n" % digits for digits in chosen)
+    said = subprocess.run([program, "words", "--keep-going"], input=given, stdout=subprocess.PIPE, text=True, timeout=PATIENCE, check=False).stdout.splitlines()
+    read = subprocess.run([node, str(HERE / "reading.mjs")], input="".join(it + "\n" for it in chosen), stdout=subprocess.PIPE, text=True,
+                          timeout=PATIENCE, check=True).stdout.splitlines()
+    facts("each datagram is said, and read", [len(said), len(read)], [len(chosen)] * 2)
+    datagrams = [(one, other) for one, other in zip(said, read) if one.startswith("send ")]
+    facts("over a thousand datagrams are compared, and as many that are none", (len(datagrams) > 1_000, len(said) - len(datagrams) > 1_000), (True, True))
+    facts("the page reads what the program says", [pair for pair in datagrams if pair[0][5:] != pair[1]], [])
+    none = [(one, other) for one, other in zip(said, read) if one.startswith("# ")]
+    facts("what is none but for its fields it does not read", [pair for pair in none if pair[1] != "none" and not re.search("datagram [789]$", pair[0])], [])
+    print(f"{len(datagrams)} datagrams read as the program says them, and {len(none)} that are none")
+
+
+def test_what_is_read(facts: Facts) -> None:
+    check_reading(facts, program(), find_node())
+
+
+def test_lines_by_the_module(facts: Facts, module: Path) -> None:
+    check_lines(facts, program(), find_node(), module)
+
+
+def test_host_by_the_module(module: Path) -> None:
+    """tests/host with the module in place of the program."""
+    environment = {**os.environ, "WB_PROGRAM": str(HERE / "module.sh"), "WB_MODULE": str(module)}
+    ran = subprocess.run([sys.executable, "-B", "-m", "pytest", "-q", *FILES], cwd=TOP, stdout=subprocess.PIPE, text=True, timeout=900, check=False, env=environment)
+    assert ran.returncode == 0, ran.stdout[-4000:]

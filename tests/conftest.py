@@ -1,0 +1,81 @@
+"""What all tests share: options, and facts that are gathered where one flow shows many."""
+
+from __future__ import annotations
+
+import os
+import random
+import sys
+from collections.abc import Generator, Iterator
+from typing import Any
+
+import pytest
+
+from .facts import Facts
+from .seeds import first_seed
+
+sys.dont_write_bytecode = True
+
+@pytest.fixture
+def facts() -> Iterator[Facts]:
+    gathered = Facts()
+    yield gathered
+    assert gathered.count, "no fact was looked at"
+
+
+@pytest.hookimpl(hookwrapper=True)  # type: ignore[misc]
+def pytest_runtest_makereport(item: pytest.Item) -> Generator[None, Any, None]:
+    """A test whose facts were not all as wanted has failed."""
+    outcome = yield
+    report = outcome.get_result()
+    gathered = getattr(item, "funcargs", {}).get("facts")
+    if report.when == "call" and gathered and gathered.wrong:
+        wrong = "\n".join(f"- {line}" for line in gathered.wrong)
+        before = f"{report.longreprtext}\n" if report.failed else ""
+        report.outcome, report.longrepr = "failed", f"{before}{len(gathered.wrong)} of {gathered.count} facts are wrong:\n{wrong}"
+
+
+def pytest_addoption(parser: pytest.Parser) -> None:
+    parser.addoption("--fresh", action="store_true", help="random tests take new seeds, which are told")
+    parser.addoption("--build-page", action="store_true", help="the page of ./wb --page is built if that is due")
+    parser.addoption("--prove", action="store_true", help="proves the example of embedding, too")
+    parser.addoption("--tried", metavar="LOG", help="what tests/try-edits printed")
+    parser.addoption("--keep", metavar="FILE", help="the program of tests/value_cases, which is built if it is not there")
+
+
+def pytest_configure(config: pytest.Config) -> None:
+    config.addinivalue_line("markers", "measures: judges by the clock, and is skipped unless WB_MEASURE is set")
+    config.addinivalue_line("markers", "timeout(seconds): of a test that takes longer than others may, for pytest-timeout")
+    config.addinivalue_line("markers", "inside: runs in a network of its own, where a test of its file has it run")
+    if config.getoption("--fresh"):
+        os.environ.setdefault("WB_FRESH", str(random.randrange(100, 2**31)))
+
+
+def pytest_report_header() -> str:
+    return f"random tests begin at seed {first_seed()}"
+
+
+# folders whose tests share what a file starts, so that one process has all of a file
+BY_FILE = ("live", "page", "browser")
+
+
+# before xdist reads the groups
+@pytest.hookimpl(tryfirst=True)  # type: ignore[misc]
+def pytest_collection_modifyitems(config: pytest.Config, items: list[pytest.Item]) -> None:
+    if not os.environ.get("WB_INSIDE"):
+        inside = [item for item in items if item.get_closest_marker("inside")]
+        config.hook.pytest_deselected(items=inside)
+        items[:] = [item for item in items if item not in inside]
+    for item in items:
+        if item.path.parent.name in BY_FILE:
+            item.add_marker(pytest.mark.xdist_group(item.path.stem))
+    if not os.environ.get("WB_MEASURE"):
+        for item in items:
+            if item.get_closest_marker("measures"):
+                item.add_marker(pytest.mark.skip(reason="it judges by the clock, where WB_MEASURE is set"))
+
+
+def pytest_terminal_summary(terminalreporter: Any) -> None:
+    """What tests measured and printed is told, though they passed."""
+    for report in terminalreporter.getreports("passed"):
+        if report.when == "call" and report.capstdout:
+            terminalreporter.write_line(report.capstdout.rstrip("\n"))

@@ -1,0 +1,720 @@
+"""A host that keeps itself: its lines, with values worked out here, each refusal, and lines at random beside `policy`."""
+
+from __future__ import annotations
+
+import os
+import random
+from collections.abc import Callable, Iterator
+from pathlib import Path
+
+import pytest
+
+from ..seeds import seeds
+from . import datagrams
+from .conversations import parted
+from .datagrams import Echo, Mark, Page, Words, drawn, drawop, session
+from .model import Drawop, Name
+from .policy import AskPages, Datagram, Kept, Message, Refused, Request, State, digits_of
+from .program import Dialog, host
+from .sessions import ME, MEMBERS, Session
+
+PAGE = (7, 1)
+FORGED = 2**31
+SEED = 41
+LINES = 400
+TEN_MINUTES = 600_000_000
+CROWD = 60_000
+timers = Words(SEED)
+TIMERS = [timers.next() for _ in range(80)]
+policy = Words(SEED, 55)
+DRAWN = [policy.next() for _ in range(12)]
+STARS = drawop(7, PAGE, 1, 10, datagrams.line(0, 1, 4, 1, "*"))
+OURS = drawop(1, PAGE, 1, 11, datagrams.text(0, 0, "hi"))
+
+
+def asked_at(now: int, word: int, delay: int = 20_000, level: int = 0) -> int:
+    """When a request timer is due that is set, or backed off to a level, with a word of the timers' stream."""
+    return drawn(now, delay, TIMERS[word], 2, 2, level)
+
+
+# a host of this seed that keeps itself from 0 on: when it first reports, when it asks for pages, and when it asks again
+REPORT = DRAWN[0] % 1_000_001
+QUESTION = DRAWN[1] % 200_001
+AGAIN = QUESTION + 500_000 + DRAWN[2] % 1_000_001
+THIRD = AGAIN + 1_000_000 + DRAWN[3] % 2_000_001
+ANSWER = DRAWN[2] % 500_001
+assert ANSWER < QUESTION < AGAIN < REPORT < THIRD
+
+
+def kept(listen: int = 0, cells: int = 100, rate: int = 4000) -> str:
+    return f"""> board 1 {cells} 1 {SEED}
+ok never
+> keep {rate} {listen}
+ok {QUESTION}
+"""
+
+
+def questions() -> str:
+    return f"""> tick {QUESTION}
+send {datagrams.ask_pages(1)}
+ok {AGAIN}
+> tick {AGAIN}
+send {datagrams.ask_pages(1)}
+ok {REPORT}
+"""
+
+
+def report(now: int, page: Page, marks: list[Mark], echoes: list[Echo]) -> str:
+    return session(1, now, page, marks, echoes)
+
+
+def dot(source: int, page: Page, seq: int, time: int = 1) -> str:
+    return drawop(source, page, seq, time, datagrams.line(0, 0, 0, 0, "x"))
+
+
+STROKE = datagrams.line(0, 0, 4, 0, "*")
+NEAR = [asked_at(100, word) for word in (0, 1)]
+
+DRAWING = {
+    "it draws": f"""
+{kept()}> add 500 11 7/1 text 0 0 "hi"
+send {OURS}
+ok {QUESTION}
+> add 500 5 7/1 delete 1 1
+send {drawop(1, PAGE, 2, 12, datagrams.delete(1, 1))}
+ok {QUESTION}
+> add 501 13 6/9 line 0 0 4 0 *
+send {drawop(1, (6, 9), 1, 13, STROKE)}
+ok {QUESTION}
+> next 7 1
+next 3
+ok {QUESTION}
+> view 7 1
+view 0
+ok {QUESTION}
+> report 7 1
+report 1
+1 2
+ok {QUESTION}
+> pages
+pages 2
+6 9
+7 1
+ok {QUESTION}
+> known
+known 2
+6 9
+7 1
+ok {QUESTION}
+> gaps 7 1
+gaps 0
+ok {QUESTION}
+> show 6 9 5 1
+*****
+ok {QUESTION}
+>
+ok {QUESTION}
+> # nothing
+ok {QUESTION}
+""",
+    "a drawing comes after all that is near, and not after what is two days ahead": f"""
+{kept()}> came 0 {dot(7, PAGE, 1, 172_800_000_010)}
+batch 1 0 0 0
+ok {QUESTION}
+> add 0 10 7/1 line 0 0 4 0 *
+send {drawop(1, PAGE, 1, 10, STROKE)}
+ok {QUESTION}
+> add 0 11 7/1 line 0 0 4 0 *
+send {drawop(1, PAGE, 2, 172_800_000_011, STROKE)}
+ok {QUESTION}
+> add 0 18446744073709551615 7/1 line 0 0 4 0 *
+send {drawop(1, PAGE, 3, 2**64 - 1, STROKE)}
+ok {QUESTION}
+> add 0 18446744073709551615 7/1 line 0 0 4 0 *
+send {drawop(1, PAGE, 4, 2**64 - 1, STROKE)}
+ok {QUESTION}
+""",
+    "while it listens, numbers of ours are believed below 2^31": f"""
+{kept(listen=300)}> came 10 {session(9, 50, PAGE, [(1, FORGED)], [])}
+ok {QUESTION}
+> came 10 {datagrams.page_state(9, PAGE, [(1, FORGED - 2)])}
+ok {asked_at(10, 0)}
+> add 299 0 7/1 line 0 0 4 0 *
+refused listening
+> add 300 0 7/1 line 0 0 4 0 *
+send {drawop(1, PAGE, FORGED - 1, 0, STROKE)}
+ok {asked_at(10, 0)}
+> add 300 0 7/1 line 0 0 4 0 *
+send {drawop(1, PAGE, FORGED, 1, STROKE)}
+ok {asked_at(10, 0)}
+> came 300 {drawop(1, PAGE, FORGED, 1, STROKE)}
+batch 0 1 0 0
+ok {asked_at(10, 0)}
+> came 300 {drawop(1, PAGE, FORGED + 1, 1, STROKE)}
+refused ours
+> came 300 {session(9, 50, PAGE, [(1, FORGED + 1)], [])}
+ok {asked_at(10, 0)}
+> next 7 1
+next {FORGED + 1}
+ok {asked_at(10, 0)}
+""",
+    "a full board asks for nothing": f"""
+{kept(cells=2)}> came 0 {dot(7, PAGE, 3)}
+batch 1 0 0 0
+ok {min(asked_at(0, 0), asked_at(0, 1))}
+> add 0 5 7/1 line 0 0 4 0 *
+send {drawop(1, PAGE, 1, 5, STROKE)}
+ok {QUESTION}
+> add 0 5 7/1 line 0 0 4 0 *
+batch 0 0 0 1
+ok {QUESTION}
+> came 0 {STARS}
+batch 0 0 0 1
+ok {QUESTION}
+> came 0 {dot(7, PAGE, 3)}
+batch 0 1 0 0
+ok {QUESTION}
+> came 0 {session(9, 50, PAGE, [(7, 9)], [])}
+ok {QUESTION}
+{questions()}""",
+}
+
+TELLING = {
+    "it asks for pages ever more rarely, and reports": f"""
+{kept()}> tick {QUESTION - 1}
+ok {QUESTION}
+{questions()}> tick {REPORT}
+send {report(REPORT, (0, 0), [], [])}
+ok {min(THIRD, REPORT + 1_000_000 + DRAWN[4] % 2_000_001)}
+""",
+    "a report has its marks and echoes, and the more members the rarer": f"""
+{kept(rate=40)}> came 9 {session(9, 50, PAGE, [], [])}
+ok {QUESTION}
+> came 11 {session(8, 7, PAGE, [], [])}
+ok {QUESTION}
+> came 11 {STARS}
+batch 1 0 0 0
+ok {QUESTION}
+{questions()}> tick {REPORT}
+send {report(REPORT, PAGE, [(7, 1)], [(8, 7, REPORT - 11), (9, 50, REPORT - 9)])}
+ok {min(THIRD, REPORT + 3_000_000 + DRAWN[4] % 6_000_001)}
+""",
+    "a question for pages is answered once": f"""
+{kept()}> came 0 {datagrams.ask_pages(9)}
+ok {QUESTION}
+> came 0 {STARS}
+batch 1 0 0 0
+ok {QUESTION}
+> came 0 {datagrams.ask_pages(1)}
+ok {QUESTION}
+> came 0 {datagrams.ask_pages(9)}
+ok {min(QUESTION, ANSWER)}
+> came 1 {datagrams.ask_pages(8)}
+ok {min(QUESTION, ANSWER)}
+> tick {ANSWER}
+send {datagrams.page_state(1, PAGE, [(7, 1)])}
+ok {QUESTION}
+> came {ANSWER + 1} {datagrams.ask_pages(9)}
+ok {QUESTION}
+""",
+    "and by nobody who heard an answer": f"""
+{kept()}> came 0 {STARS}
+batch 1 0 0 0
+ok {QUESTION}
+> came 0 {datagrams.ask_pages(9)}
+ok {min(QUESTION, ANSWER)}
+> came 5 {datagrams.page_state(9, PAGE, [(7, 1)])}
+ok {REPORT}
+> came 1000004 {datagrams.ask_pages(9)}
+send {report(1_000_004, PAGE, [(7, 1)], [])}
+ok {1_000_004 + 1_000_000 + DRAWN[3] % 2_000_001}
+> came 1000005 {datagrams.ask_pages(9)}
+ok {1_000_005 + DRAWN[4] % 500_001}
+""",
+    "it keeps itself from the present moment on": f"""
+> board 1 100 1 {SEED}
+ok never
+> tick 5000
+ok never
+> keep 1000000 4294967295
+ok {5000 + QUESTION}
+> add 4294972294 0 7/1 line 0 0 4 0 *
+refused listening
+""",
+    "no line tells the last moments": f"""
+{kept()}> tick {2**48 - 1}
+send {datagrams.ask_pages(1)}
+send {report(2**48 - 1, (0, 0), [], [])}
+ok never
+""",
+}
+
+ASKING = {
+    "the neighbours of what came are asked for": f"""
+{kept()}> came 100 {dot(7, PAGE, 3)}
+batch 1 0 0 0
+ok {min(NEAR)}
+> came 100 {dot(7, PAGE, 3)}
+batch 0 1 0 0
+ok {min(NEAR)}
+> came 100 {dot(7, PAGE, 3, 2)}
+batch 0 0 1 0
+ok {min(NEAR)}
+> tick {max(NEAR)}
+send {datagrams.request(1, 7, PAGE, 1)}
+send {datagrams.request(1, 7, PAGE, 2)}
+send {datagrams.ask_pages(1)}
+ok {min(asked_at(max(NEAR), word, level=1) for word in (2, 3))}
+""",
+    "what a report tells is asked for, and no number of ours is heard of": f"""
+{kept()}> came 9 {session(9, 50, PAGE, [(1, 5), (7, 2)], [])}
+ok {min(asked_at(9, 0), asked_at(9, 1))}
+> known
+known 0
+ok {min(asked_at(9, 0), asked_at(9, 1))}
+> next 7 1
+next 1
+ok {min(asked_at(9, 0), asked_at(9, 1))}
+> came 9000 {dot(1, PAGE, 5)}
+batch 1 0 0 0
+ok {min(QUESTION, asked_at(9, 1), *(asked_at(9000, word) for word in (2, 3, 4, 5)))}
+> next 7 1
+next 6
+ok {min(QUESTION, asked_at(9, 1), *(asked_at(9000, word) for word in (2, 3, 4, 5)))}
+""",
+    "what names us as its sender is no news": f"""
+{kept()}> came 0 {session(1, 50, PAGE, [(7, 2)], [])}
+ok {QUESTION}
+> came 0 {datagrams.page_state(1, PAGE, [(7, 2)])}
+ok {QUESTION}
+> came 0 {datagrams.request(1, 7, PAGE, 1)}
+ok {QUESTION}
+> came 0 {datagrams.ask_pages(1)}
+ok {QUESTION}
+{questions()}""",
+    "a session message tells a distance, which is bounded, and the usual one": f"""
+{kept()}> came 50 {session(7, 9, PAGE, [(7, 1)], [(1, 10, 20)])}
+ok {asked_at(50, 0, 10_000)}
+> came 60 {session(9, 9, PAGE, [(8, 1)], [])}
+ok {min(asked_at(50, 0, 10_000), asked_at(60, 1, 18_750))}
+""",
+    "its timers are given other constants": f"""
+{kept()}> tuning 3 16 1 11
+ok {QUESTION}
+> came 0 {STARS}
+batch 1 0 0 0
+ok {QUESTION}
+> came 0 {datagrams.request(9, 7, PAGE, 1)}
+ok {min(QUESTION, drawn(0, 20_000, TIMERS[0], 1, 11))}
+> tick {QUESTION}
+send {datagrams.ask_pages(1)}
+ok {drawn(0, 20_000, TIMERS[0], 1, 11)}
+> keep 4000 0
+refused kept
+""",
+    "a request is answered as by any host": f"""
+{kept()}> came 0 {STARS}
+batch 1 0 0 0
+ok {QUESTION}
+> came 0 {datagrams.request(9, 7, PAGE, 1)}
+ok {drawn(0, 20_000, TIMERS[0], 1, 1)}
+> tick {drawn(0, 20_000, TIMERS[0], 1, 1)}
+send {STARS}
+ok {QUESTION}
+> tick {QUESTION}
+send {datagrams.ask_pages(1)}
+ok {AGAIN}
+""",
+    "the usual distance is lent for one line, and not set": f"""
+{kept()}> came 0 {STARS}
+batch 1 0 0 0
+ok {QUESTION}
+> came 0 {dot(7, PAGE, 2)}
+batch 1 0 0 0
+ok {QUESTION}
+> came 0 {datagrams.request(9, 7, PAGE, 1)}
+ok {drawn(0, 20_000, TIMERS[0], 1, 1)}
+> tick {drawn(0, 20_000, TIMERS[0], 1, 1)}
+send {STARS}
+ok {QUESTION}
+> came 40000 {session(8, 9, PAGE, [], [(1, 1000, 0)])}
+ok {QUESTION}
+> came 40000 {datagrams.request(9, 7, PAGE, 2)}
+ok {QUESTION}
+> tick {QUESTION}
+send {datagrams.ask_pages(1)}
+ok {drawn(40_000, (7 * 20_000 + 19_500) // 8, TIMERS[1], 1, 1)}
+""",
+}
+
+# what a host that keeps itself takes no more
+ACTING = [
+    f"arrive {STARS}",
+    f"datagram {STARS}",
+    "draw 7 7/1 1 10 line 0 1 4 1 *",
+    f"hear {datagrams.ask_pages(9)}",
+    f"datagram {datagrams.ask_pages(9)}",
+    "request 9 7 7/1 1",
+    "session-message 9 50 7/1 7=9",
+    "page-state 9 7/1 7=9",
+    "ask-pages 9",
+    "say ask-pages 1",
+    "say ask-pages 2",
+    "say draw 1 7/1 1 11 line 0 0 4 0 *",
+    "look 7 1",
+    "ask 7 1 7 1",
+    "stop 7 1 7 1",
+    "session 7 1",
+    "distance 7 5",
+    "keep 4000 0",
+]
+
+# lines and their faults, as they are read
+MISTYPED = {
+    "keep": "words",
+    "keep 4000": "words",
+    "keep 4000 0 0": "words",
+    "keep 0 0": "number",
+    "keep 1000001 0": "number",
+    "keep 4000 4294967296": "number",
+    "keep x 0": "number",
+    "came": "words",
+    "came 5": "words",
+    "came 5 00 00": "words",
+    "came 281474976710656 00": "number",
+    "came -1 zz": "number",
+    "came 5 zz": "hex",
+    "came 5 574": "hex",
+    "came 5 5742": "datagram 1",
+    "add": "words",
+    " add 1 2 7/1 line 0 0 4 0 *": "words",
+    "add  1 2 7/1 line 0 0 4 0 *": "word 1: number",
+    "add x 2 7/1 line 0 0 4 0 *": "word 1: number",
+    "add 281474976710656 2 7/1 line 0 0 4 0 *": "word 1: number",
+    "add 1": "word 2: missing",
+    "add 1 18446744073709551616 7/1 line 0 0 4 0 *": "word 2: number",
+    "add 1 2": "word 3: missing",
+    "add 1 2 7 line 0 0 4 0 *": "word 3: page",
+    "add 1 2 7/1": "word 4: missing",
+    "add 1 2 7/1 circle 0 0 4 0 *": "word 4: operation",
+    "add 1 2 7/1 line 4096 0 4 0 *": "word 5: number",
+    "add 1 2 7/1 line 0 0 4": "word 8: missing",
+    "add 1 2 7/1 line 0 0 4 0 **": "word 9: glyph",
+    "add 1 2 7/1 line 0 0 4 0 \x7f": "word 9: glyph outside ! to ~",
+    "add 1 2 7/1 line 0 0 4 0 * ": "word 10: one too many",
+    'add 1 2 7/1 text 0 0 "a': "word 7: text",
+    'add 1 2 7/1 text 0 0 ""': "word 7: text of 0 or over 64 bytes",
+    "add 1 2 7/1 delete 7 0": "word 6: target sequence number 0",
+    "add 1 2 7/1 restore 7 1 1": "word 7: one too many",
+}
+
+
+@pytest.mark.parametrize("conversation", [pytest.param(it, id=name) for table in (DRAWING, TELLING, ASKING) for name, it in table.items()])
+def test_kept(conversation: str) -> None:
+    given, printed = parted(conversation)
+    assert host(given) == printed
+
+
+def test_refused() -> None:
+    """Each refusal, and that what is refused changes nothing, the time too."""
+    before = f'board 1 16 1 {SEED}\nkeep 4000 0\nadd 900 11 7/1 text 0 0 "hi"\ncame 1000 {STARS}\n'
+    after = f"show 7 1 5 2\nadd 1000 0 7/1 line 0 0 4 0 *\ntick {REPORT}\nknown\nnext 7 1\n"
+    want = host(before + after).splitlines(keepends=True)
+    kept_refusals = {line: "kept" for line in ACTING}
+    kept_refusals |= {
+        "board 1 16 1 42": "second board",
+        "tick 999": "back in time",
+        f"came 999 {STARS}": "back in time",
+        f"came 999 {drawop(1, PAGE, FORGED, 1, datagrams.line(0, 0, 0, 0, 'x'))}": "back in time",
+        "add 999 0 7/1 line 0 0 4 0 *": "back in time",
+        "add 999 0 7/1 delete 1 2": "back in time",
+        f"came 1000 {drawop(1, PAGE, FORGED, 1, datagrams.line(0, 0, 0, 0, 'x'))}": "ours",
+        f"came 1000 {drawop(1, PAGE, 2**32 - 1, 1, datagrams.line(0, 0, 0, 0, 'x'))}": "ours",
+        "add 2000 0 7/1 delete 1 2": "word 6: target is the drawop itself",
+        "add 2000 0 7/1 restore 1 2": "word 6: target is the drawop itself",
+    }
+    for line, fault in (kept_refusals | MISTYPED).items():
+        printed = host(f"{before}{line}\n{after}").splitlines(keepends=True)
+        assert printed == [*want[:6], f"refused {fault}\n", *want[6:]], f"a kept host refuses {line[:40]!r}"
+
+
+def test_kept_or_not() -> None:
+    """When a host may begin to keep itself, and what is refused where it does not."""
+    opened = f"board 1 16 1 {SEED}\n"
+    drawing = "add 5 0 7/1 line 0 0 4 0 *"
+    for line in ["keep 4000 0", f"came 5 {STARS}", drawing]:
+        assert host(f"{line}\n{opened}") == "refused no board\nok never\n", f"no board: {line[:10]}"
+    for line in [f"came 5 {STARS}", drawing, f"came 0 {datagrams.ask_pages(1)}"]:
+        assert host(f"{opened}{line}\ntick 5\n") == "ok never\nrefused not kept\nok never\n", f"not kept: {line[:10]}"
+    for line, fault in MISTYPED.items():
+        assert host(f"{line}\n") == f"refused {fault}\n", f"as it is read: {line[:30]!r}"
+    for line in ACTING[:-1]:
+        printed = host(f"{opened}{line}\nkeep 4000 0\n").splitlines()
+        refused = [said for said in printed if said.startswith("refused")]
+        wanted = ["refused member"] if line == "say ask-pages 2" else ["refused too late"]
+        assert refused == wanted, f"too late behind {line[:20]!r}"
+    asked = "tick 0\nshow 7 1 5 1\nview 7 1\ngaps 7 1\nreport 7 1\npages\nknown\nnext 7 1\n# and so on\n\nfly\ntick 0\n"
+    printed = host(f"{opened}{asked}keep 4000 0\nkeep 4000 0\n").splitlines()
+    assert printed[-2:] == [f"ok {QUESTION}", "refused kept"], "not too late behind questions"
+
+
+class KeptSession(Session):
+    """Lines at random at a host that keeps itself, and what it is to print for each."""
+
+    def __init__(self, numbers: random.Random) -> None:
+        super().__init__(numbers)
+        self.listen = self.random.choice([0, 300_000, 4_000_000])
+        self.kept = Kept(self.model, self.random.choice([40, 4000, 1_000_000]), self.listen, Words(self.seed, 55))
+        self.lines = [self.come, self.come, self.come, self.come, self.draw, self.on, self.on, self.asking]
+
+    def any_drawop(self) -> Drawop:
+        made = self.drawop()
+        if self.below(40) == 0:
+            return Drawop(Name(ME, self.page(), FORGED + self.below(3)), 5, datagrams.text(0, 0, "x"), 'text 0 0 "x"')
+        return made
+
+    def datagram(self) -> Datagram:
+        sender, page, marks = self.random.choice(MEMBERS), self.page(), self.marks()
+        if self.below(9) == 0:
+            marks = [(ME if source == ME else source, self.random.choice([high, FORGED - 5, FORGED, 2**32 - 1])) for source, high in marks]
+        kind = self.below(9)
+        if kind < 4:
+            return self.any_drawop()
+        if kind < 6:
+            ago = self.below(400_000)
+            echoes: list[Echo] = [(ME, max(0, self.model.now - ago), self.below(ago + 5))] if self.below(2) else []
+            return Message(sender, self.below(10**9), page, marks, echoes)
+        if kind == 6:
+            return State(sender, page, marks)
+        if kind == 7:
+            held = list(self.model.held)
+            return Request(sender, self.random.choice(held) if held and self.below(2) else self.name())
+        return AskPages(sender)
+
+    def moment(self) -> int:
+        if self.below(3) == 0:
+            return max(self.model.now, self.kept.due() - self.below(2))
+        return self.model.now + self.below(self.random.choice([2_000, 150_000, 2_000_000]))
+
+    def come(self) -> tuple[str, str]:
+        now, datagram = self.moment(), self.datagram()
+        return f"came {now} {digits_of(datagram)}", self.answered(lambda: self.kept.came(now, datagram))
+
+    def draw(self) -> tuple[str, str]:
+        now, time, page = self.moment(), self.below(40), self.page()
+        operation, told = self.operation()
+        line = f"add {now} {time} {page[0]}/{page[1]} {told}"
+        return line, self.answered(lambda: self.kept.add(now, time, page, operation, told))
+
+    def on(self) -> tuple[str, str]:
+        now = self.moment() - (self.below(30) == 0)
+        return f"tick {max(0, now)}", self.answered(lambda: self.kept.tick(max(0, now)))
+
+    def asking(self) -> tuple[str, str]:
+        page = self.page()
+        word = self.random.choice(["gaps", "report", "next", "view"])
+        return f"{word} {page[0]} {page[1]}", getattr(self.model, word)(page) + f"ok {self.kept.due()}\n"
+
+    def answered(self, does: Callable[[], str]) -> str:
+        try:
+            return does() + f"ok {self.kept.due()}\n"
+        except Refused as fault:
+            return f"refused {fault}\n"
+
+    def conversation(self, count: int = LINES) -> tuple[str, str]:
+        given = f"board {ME} {self.cells} 1 {self.seed}\nkeep {self.kept.rate} {self.listen}\n"
+        printed = f"ok never\nok {self.kept.due()}\n"
+        for _ in range(count):
+            line, block = self.random.choice(self.lines)()
+            given += f"{line}\n"
+            printed += block
+        return given, printed
+
+
+def test_seldom() -> None:
+    """A name of a far hole is not asked for anew in ten minutes, and is requested 15 times: the bound that is proved is reached."""
+    dialog = Dialog()
+    pages = [(7, number) for number in range(1, 61)]
+    for line in (f"board {ME} 100 1 {SEED}", "keep 1 0", "tuning 1 1 1 1", f"came 1000 {session(9, 50, PAGE, [], [(ME, 500, 500)])}"):
+        block = dialog.ask(line)
+    for page in pages:
+        block = dialog.ask(f"came 1000 {dot(9, page, 2)}")
+    wanted = f"send {datagrams.request(ME, 9, pages[-1], 1)}"
+    moments: list[int] = []
+    moment = 1000
+    while not moments or moment <= moments[0] + TEN_MINUTES:
+        moment = int(block.splitlines()[-1].removeprefix("ok "))
+        block = dialog.ask(f"tick {moment}")
+        moments += [moment] * block.splitlines().count(wanted)
+    dialog.end()
+    assert sum(at <= moments[0] + TEN_MINUTES for at in moments) == 15, "requests for one name in ten minutes"
+
+
+def test_old() -> None:
+    """A request timer is old once it was backed off four times: then, and not before, it is given up where another name is asked for."""
+    old, other = f"send {datagrams.request(ME, 8, PAGE, 5)}", f"send {datagrams.request(ME, 9, PAGE, 3)}"
+    for times in 3, 4:
+        dialog = Dialog()
+        for line in f"board {ME} 100 1 {SEED}", "keep 1 0", f"came 0 {session(9, 50, PAGE, [(8, 5)], [])}":
+            block = dialog.ask(line)
+        sent = 0
+        while sent < times:
+            moment = int(block.splitlines()[-1].removeprefix("ok "))
+            block = dialog.ask(f"tick {moment}")
+            sent += block.splitlines().count(old)
+        block = dialog.ask(f"came {moment} {session(9, 50, PAGE, [(9, 3)], [])}")
+        requests = {old: 0, other: 0}
+        while moment < 100_000_000:
+            moment = int(block.splitlines()[-1].removeprefix("ok "))
+            block = dialog.ask(f"tick {moment}")
+            requests = {wanted: count + block.splitlines().count(wanted) for wanted, count in requests.items()}
+        dialog.end()
+        assert requests[other] > 0, f"the other name is asked for, {times} times"
+        assert (requests[old] > 0) == (times < 4), f"the name that was asked for {times} times is asked for on"
+
+
+def memory_of(dialog: Dialog) -> int:
+    """The kilobytes that a host has."""
+    lines = Path(f"/proc/{dialog.child.pid}/status").read_text(encoding="ascii").splitlines()
+    return next(int(line.split()[1]) for line in lines if line.startswith("VmRSS:"))
+
+
+def test_askers() -> None:
+    """Forged requests, each of another asker: a distance is lent to each for a line, and none is kept."""
+    dialog = Dialog()
+    for line in f"board {ME} 100 1 {SEED}", "keep 4000 0", f"came 0 {STARS}":
+        dialog.ask(line)
+    taken: list[int] = []
+    for first in 10_000, 20_000:
+        for asker in range(first, first + 10_000):
+            dialog.ask(f"came 1 {datagrams.request(asker, 7, PAGE, 1)}")
+        taken.append(memory_of(dialog))
+    dialog.end()
+    assert taken[1] - taken[0] < 100, "10,000 askers that are forged take no memory"
+
+
+def test_starving() -> None:
+    """One forged drawop a second, of ever greater sources on one page, for nine minutes: reports tell the other pages all the same. The telling
+    of the page ends after as many reports as it had slices when it began."""
+    dialog = Dialog()
+    for line in f"board {ME} 1000 1 {SEED}", "keep 4000 0", f"came 0 {dot(9, (7, 2), 1)}", f"came 0 {dot(9, (7, 3), 1)}":
+        block = dialog.ask(line)
+    told: list[tuple[str, int]] = []
+    for second in range(1, 541):
+        moment = int(block.splitlines()[-1].removeprefix("ok "))
+        while moment < second * 1_000_000:
+            block = dialog.ask(f"tick {moment}")
+            told += [(line[45:61], second) for line in block.splitlines() if line.startswith("send 57420102")]
+            moment = int(block.splitlines()[-1].removeprefix("ok "))
+        block = dialog.ask(f"came {second}000000 {dot(100 + second, PAGE, 1)}")
+    dialog.end()
+    pages = {page: f"{page[0]:08x}{page[1]:08x}" for page in (PAGE, (7, 2), (7, 3))}
+    others = sum(page != pages[PAGE] for page, _ in told)
+    assert (len(told) > 200, others > 80) == (True, True), "of reports beside forged drawops, so many tell other pages"
+    longest, run = 0, 0
+    for page, second in told:
+        run = run + 1 if page == pages[PAGE] else 0
+        longest = max(longest, run - (second + 63) // 64)
+    assert longest <= 0, "a telling takes no more reports than its page has slices"
+
+
+def test_credit() -> None:
+    """How many names are asked for at once, by how many requests go out once their timers are due."""
+    neighbours = f"came 50 {dot(7, PAGE, 70)}\n"
+    known = f"came 50 {session(7, 9, PAGE, [], [(ME, 10, 20)])}\n"
+    told = f"came 50 {session(9, 50, (7, 2), [(source, 1) for source in range(100, 164)], [])}\n"
+    cases = {
+        "48 neighbours of a source that told no distance": (neighbours, 48),
+        "64 neighbours of one that told its distance": (known + neighbours, 64),
+        "16 more that are told": (neighbours + told, 64),
+        "64 that are told, and no neighbours": (told + neighbours, 64),
+    }
+    for title, (lines, want) in cases.items():
+        said = host(f"board {ME} 1000 1 {SEED}\nkeep 4000 0\n{lines}tick 90000\n").splitlines()
+        assert sum(line.startswith("send 57420103") for line in said) == want, f"asked for at once: {title}"
+    others = f"came 50 {session(9, 50, (7, 3), [(source, 1) for source in range(200, 210)], [])}\n"
+    said = host(f"board {ME} 1000 1 {SEED}\nkeep 4000 0\n{told}came 50 {dot(100, (7, 2), 1)}\n{others}tick 90000\n").splitlines()
+    names = [f"send {datagrams.request(ME, source, (7, 3), 1)}" for source in range(200, 210)]
+    assert [name for name in names if name in said] == names[:2], "what came pays for two names"
+
+
+def test_holes() -> None:
+    """Sixty forged drawops a second, each of another source and behind a number that nobody holds: what a member reports meanwhile is asked for
+    all the same, since neighbours of sources that told no distance leave sixteen places of the credit."""
+    dialog = Dialog()
+    for line in f"board {ME} 10000 1 {SEED}", "keep 4000 0":
+        block = dialog.ask(line)
+    requested: set[str] = set()
+    for count in range(30 * 60):
+        now = 1_000_000 + count * 16_000
+        moment = int(block.splitlines()[-1].removeprefix("ok "))
+        while moment < now:
+            block = dialog.ask(f"tick {moment}")
+            requested |= set(block.splitlines())
+            moment = int(block.splitlines()[-1].removeprefix("ok "))
+        told = session(9, count, PAGE, [(9, 1 + count // 60)], [])
+        block = dialog.ask(f"came {now} {dot(1000 + count, PAGE, 2) if count % 60 else told}")
+    dialog.end()
+    names = [f"send {datagrams.request(ME, 9, PAGE, number)}" for number in range(1, 30)]
+    assert not [name for name in names if name not in requested], "beside forged drawops with holes what is reported is asked for"
+
+
+def heard_by(count: int, together: int) -> Iterator[tuple[str, list[tuple[int, int]]]]:
+    """Senders in three orders, each with the moment at which it is heard: so many at a moment."""
+    rising = list(range(2, count + 2))
+    orders = {"rising": rising, "falling": rising[::-1], "mixed": random.Random(count).sample(rising, count)}
+    for name, senders in orders.items():
+        yield name, [(sender, place // together) for place, sender in enumerate(senders)]
+
+
+def hearing(heard: list[tuple[int, int]]) -> str:
+    """The lines of a host that keeps itself and hears these senders at these moments."""
+    came = [f"came {at} {session(sender, sender, PAGE, [], [])}\n" for sender, at in heard]
+    return f"board 1 100 1 {SEED}\nkeep 4000 0\n" + "".join(came)
+
+
+def test_echoes() -> None:
+    """A report echoes the 32 senders that were heard last; of those heard at one moment, those with the least numbers."""
+    for count in 31, 32, 33, 400:
+        for together in 1, 3, count:
+            for name, heard in heard_by(count, together):
+                last = sorted(heard, key=lambda one: (-one[1], one[0]))[:32]
+                echoes: list[Echo] = [(sender, sender, REPORT - at) for sender, at in sorted(last)]
+                said = host(hearing(heard) + f"tick {REPORT}\n").splitlines()[-2]
+                wanted = f"send {report(REPORT, (0, 0), [], echoes)}"
+                assert said == wanted, f"echoes of {count} senders, {name}, {together} at once"
+
+
+def least_time(given: str) -> float:
+    """The least of three times of processor that a host takes for these lines, in seconds. Other work beside it counts little."""
+    times: list[float] = []
+    for _ in range(3):
+        before = os.times()
+        host(given)
+        times.append(os.times().children_user - before.children_user)
+    return min(times)
+
+
+def test_crowd() -> None:
+    """However many senders are forged, a report takes no longer than a few times what it took to hear them."""
+    _, heard = next(heard_by(CROWD, 100))
+    lines = hearing(heard)
+    told = least_time(lines + f"tick {REPORT}\n")
+    assert told < 5 * least_time(lines), f"a report beside {CROWD} senders holds nobody up"
+
+
+@pytest.mark.parametrize("seed", seeds(16))
+def test_random(seed: int) -> None:
+    given, printed = KeptSession(random.Random(seed)).conversation()
+    assert first_difference(given, host(given), printed) == ""
+
+
+def first_difference(given: str, said: str, wanted: str) -> str:
+    """The first line that is printed otherwise than wanted, or nothing."""
+    if said == wanted:
+        return ""
+    for number, (one, other) in enumerate(zip(said.splitlines() + [""], wanted.splitlines() + [""])):
+        if one != other:
+            block = sum(line.startswith(("ok ", "refused ")) for line in wanted.splitlines()[:number])
+            return f"block {block} of {given.splitlines()[block][:60]}: {one[:90]} for {other[:90]}"
+    return "longer"

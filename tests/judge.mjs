@@ -1,0 +1,24 @@
+// What all tests under Node share.
+import assert from 'node:assert/strict';
+
+const plain = (value) => (value === undefined ? undefined : JSON.parse(JSON.stringify(value)));
+
+/** A fact: what was found has to be what was wanted, as far as JSON tells them apart. */
+export function judge(name, found, wanted) {
+  try {
+    assert.deepEqual(plain(found), plain(wanted));
+  } catch (fault) {
+    fault.message = `${name}: ${fault.message}`;
+    throw fault;
+  }
+}
+
+/** The message of the fault that an act ends with. */
+export function fault(act) {
+  try {
+    act();
+    return 'none';
+  } catch (it) {
+    return it.message;
+  }
+}

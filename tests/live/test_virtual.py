@@ -1,0 +1,337 @@
+"""Sessions in virtual time: members as the program has them, without threads, sockets and pages, so that minutes of many members take seconds.
+It tells how soon members know each other, what is lost until then, and what strangers come to have.
+
+    python3 -m tests.live.test_virtual [MEMBERS ..]     so many members that join at once"""
+from __future__ import annotations
+
+import heapq
+import itertools
+import os
+import random
+import sys
+import tempfile
+from collections import Counter
+from pathlib import Path
+from typing import Any, Dict, List, NamedTuple, Optional, Tuple
+from unittest import mock
+
+from live.carriers.carrier import Origin
+from live.clock import SECOND
+from live.events import Events
+from live.inbox import Arrival
+from live.judge import LEAST_SHARE, OF_ORIGIN, STRANGE_PAGES, STRANGERS
+from live.judging import Judging
+from live.member import Member
+from live.options import read_options
+from live.record import Record
+from live.views import Datagram
+from live.words import SharedWords
+from ..facts import Facts
+from .test_hostile import drawn, session
+from .members import program
+
+WALL = 1_764_000_000 * SECOND
+PAGE = (1, 1)
+
+# one datagram in so many is lost, and each takes so many microseconds
+LOSS, DELAY = 0.05, 2_000
+
+# drawings of those that join, a few in each second from the first
+DRAWINGS, PAUSE = 12, 2 * SECOND
+
+CELLS = 4_096
+
+
+class Due(NamedTuple):
+    """A datagram that comes to a member."""
+
+    at: int
+    serial: int
+    member: "Virtual"
+    origin: Origin
+    data: bytes
+
+
+class Counting(Judging):
+    """Counts why datagrams were not handed in, and takes no streams, but says of whom it would have."""
+
+    def __init__(self, member: Member) -> None:
+        super().__init__(member)
+        self.dropped: "Counter[str]" = Counter()
+        self.fetched: List[Origin] = []
+        self.joining.fetch = self.fetched.append  # type: ignore[assignment]
+
+    def heed(self, datagram: Datagram, digits: str, origin: Origin, sent: List[str]) -> Optional[str]:
+        why = super().heed(datagram, digits, origin, sent)
+        self.dropped.update([why] if why else [])
+        return why
+
+
+class Virtual:
+    """A member, its clock, and its place in the network. The clock of each start begins somewhere."""
+
+    def __init__(self, world: "World", number: int, record: Optional[str]) -> None:
+        self.world, self.number = world, number
+        self.origin = Origin("m%d" % number)
+        self.sent: "Counter[str]" = Counter()
+        options = read_options(["--cells", str(CELLS)])
+        self.member = Member(options, os.environ["WB_PROGRAM"], Record(record), self, Events(), number, world.words)
+        self.base = self.member.board.moment + world.chance.randrange(2**32) - world.now
+        self.member.board.clock = self  # type: ignore[assignment]
+        self.judging = Counting(self.member)
+        self.member.judge(self.judging)
+
+    # ---- the clock
+
+    def now(self) -> int:
+        return self.base + self.world.now
+
+    def due(self) -> int:
+        """When the member has something to do, in the time of the session."""
+        return max(self.world.now, min((moment for moment, _ in self.judging.plan()), default=2**63) - self.base)
+
+    # ---- the carrier
+
+    where = "a network in virtual time"
+
+    def begin(self, inbox: Any) -> None:
+        """Nothing arrives by itself."""
+
+    def send(self, data: bytes) -> bool:
+        self.sent["draw" if data[3] == 1 else "request" if data[3] == 3 else "other"] += 1
+        for other in self.world.members:
+            if other is not self and self.world.chance.random() >= self.world.loss:
+                self.world.put(self.world.now + DELAY, other, self.origin, data)
+        return True
+
+    # ---- what is asked of it
+
+    def draw(self, row: int) -> None:
+        self.member.people.draw(PAGE, "line 0 %d 9 %d *" % (row, row))
+        for call in self.member.inbox.take(0)[0]:
+            call()
+
+    def held(self) -> int:
+        return self.member.drawn.total
+
+    def knows(self, other: "Virtual") -> bool:
+        return self.judging.judge.is_known(other.origin, self.now())
+
+    def end(self) -> None:
+        self.member.board.close()
+
+
+class World:
+    """The members, the network between them, and the time."""
+
+    def __init__(self, seed: int) -> None:
+        self.now = 0
+        self.chance = random.Random(seed)
+        self.members: List[Virtual] = []
+        self.queue: List[Due] = []
+        self.loss = LOSS
+        self.serials = itertools.count()
+        self.words = SharedWords(os.environ["WB_PROGRAM"])
+
+    def __enter__(self) -> "World":
+        self.patch = mock.patch.multiple("live.judging", wall=self.wall), mock.patch.multiple("live.people", wall=self.wall)
+        for patch in self.patch:
+            patch.start()
+        return self
+
+    def __exit__(self, *fault: Any) -> None:
+        for patch in self.patch:
+            patch.stop()
+        for member in self.members:
+            member.end()
+        self.words.child.end()
+
+    def wall(self) -> int:
+        return WALL + self.now
+
+    def join(self, number: int, record: Optional[str] = None) -> Virtual:
+        self.members.append(Virtual(self, number, record))
+        return self.members[-1]
+
+    def put(self, at: int, member: Virtual, origin: Origin, data: bytes) -> None:
+        heapq.heappush(self.queue, Due(at, next(self.serials), member, origin, data))
+
+    def run(self, seconds: float) -> None:
+        end = self.now + int(seconds * SECOND)
+        while True:
+            first = min(self.members, key=Virtual.due)
+            due, comes = first.due(), self.queue[0].at if self.queue else end + 1
+            self.now = min(due, max(comes, self.now), end)
+            if min(due, comes) > end:
+                return
+            if due <= comes:
+                first.member.pass_time()
+            else:
+                arrival = heapq.heappop(self.queue)
+                arrival.member.judging.arrive([Arrival(arrival.data, arrival.origin)])
+
+    def pairs(self) -> float:
+        """Which part of all pairs know each other, one of the other."""
+        known = [one.knows(other) for one in self.members for other in self.members if one is not other]
+        return sum(known) / len(known)
+
+
+# ---- what is measured
+
+
+class Joined(NamedTuple):
+    """The part of pairs that know each other after so many seconds; what was sent in the first 30; and when all drawings had come."""
+
+    pairs: Dict[int, float]
+    requests: int
+    drawops: int
+    whole: Optional[int]
+
+
+def join_at_once(count: int, moments: Tuple[int, ...] = (10, 30, 40, 60, 90), longest: int = 120) -> Joined:
+    """So many members begin at once, and one after another draws."""
+    with World(count) as world:
+        members = [world.join(number) for number in range(1, count + 1)]
+        pairs: Dict[int, float] = {}
+        whole, sent = None, [0, 0]
+        for second in range(1, longest + 1):
+            if second % (PAUSE // SECOND) == 1 and second // (PAUSE // SECOND) < DRAWINGS:
+                members[second * 7 % count].draw(second)
+            world.run(1)
+            if second in moments:
+                pairs[second] = world.pairs()
+            if second == 30:
+                sent = [sum(member.sent[kind] for member in members) for kind in ("request", "draw")]
+            if whole is None and all(member.held() == DRAWINGS for member in members):
+                whole = second
+            if whole and second >= max(moments):
+                break
+        return Joined(pairs, sent[0], sent[1], whole)
+
+
+def beside_a_stranger(count: int) -> Tuple[List[int], List[int], "Counter[str]"]:
+    """Members draw while a stranger draws, reports and speaks under their numbers: what each holds of members, and of the stranger; and why
+    what members sent was dropped after a minute."""
+    with World(count) as world:
+        members = [world.join(number) for number in range(1, count + 1)]
+        world.run(60)
+        early = [Counter(member.judging.dropped) for member in members]
+        eve = Origin("eve")
+        for second in range(60):
+            for member in members:
+                member.draw(second % 90)
+                for turn in range(20):
+                    world.put(world.now + 50_000 * turn, member, eve, drawn(900, 1 + 20 * second + turn, world.wall(), 99, b"e", (9, 9)))
+                world.put(world.now, member, eve, session(members[0].number, 5, (9, 9), {900: 1_200}))
+            world.run(1)
+        world.run(30)
+        held = [sum(drawop.name[0] <= count for drawop in member.member.drawn.all()) for member in members]
+        dropped: "Counter[str]" = Counter()
+        for member, before in zip(members, early):
+            dropped += member.judging.dropped - before
+        return held, [member.held() - own for member, own in zip(members, held)], dropped
+
+
+class Told(NamedTuple):
+    """After how many seconds a drawing was there that was lost, and how many pages strangers have."""
+
+    there: Optional[int]
+    pages: int
+
+
+def beside_forged_pages(forged: int, longest: int = 240) -> Told:
+    """Strangers begin so many pages with two members. Then one of these draws, and the other has to be told of it."""
+    with World(forged) as world:
+        members = [world.join(1), world.join(2)]
+        world.run(20)
+        for number in range(forged):
+            for member in members:
+                world.put(world.now + 2_000 * number, member, Origin("eve%d" % (number % 9)), drawn(900, 1, world.wall(), 99, b"e", (0, number + 1)))
+        world.run(10)
+        world.loss = 1.0
+        members[0].draw(1)
+        world.loss = LOSS
+        drawn_on = len(members[1].member.drawn.drawn_pages())
+        for second in range(1, longest + 1):
+            world.run(1)
+            if members[1].member.drawn.holds((1, PAGE, 1)):
+                return Told(second, drawn_on)
+        return Told(None, drawn_on)
+
+
+class Departed(NamedTuple):
+    """After how many seconds newcomers had a board whose sources have all left, what each dropped, and how often each would have taken a stream."""
+
+    whole: Optional[int]
+    dropped: List[Dict[str, int]]
+    fetched: List[int]
+
+
+def among_departed(drawops: int, newcomers: int, pages: int = 4, longest: int = 120) -> Departed:
+    """One member has the record of that board, and so many others come."""
+    with tempfile.TemporaryDirectory() as folder, World(drawops) as world:
+        path = Path(folder) / "full.wb"
+        digits = [drawn(100 + n % 12, 1 + n // 12, WALL - n, n % 90, b"*", (100 + n % pages, 1)).hex() for n in range(drawops)]
+        path.write_text("board 1 %d 1 42\ntick 5\n" % CELLS + "".join("datagram %s\n" % each for each in digits))
+        world.join(1, str(path))
+        members = [world.join(number) for number in range(2, newcomers + 2)]
+        whole = None
+        for second in range(1, longest + 1):
+            world.run(1)
+            if all(member.held() == drawops for member in members):
+                whole = second
+                break
+        return Departed(whole, [dict(member.judging.dropped) for member in members], [len(member.judging.fetched) for member in members])
+
+
+def tell(count: int, joined: Joined) -> None:
+    known = ", ".join("%d s: %.0f %%" % (second, 100 * part) for second, part in joined.pairs.items())
+    print("%d members join at once: pairs that know each other after %s; in 30 s %d requests and %d drawings and repairs for %d drawings; all came after %s s" % (
+        count, known, joined.requests, joined.drawops, DRAWINGS, joined.whole))
+
+
+# ---- tests
+
+
+def test_joining(facts: Facts) -> None:
+    joined = join_at_once(12)
+    tell(12, joined)
+    facts("of 12 that join at once all know each other within 30 s", joined.pairs[30], 1.0)
+    facts("and all have all drawings", joined.whole is not None, True)
+
+
+def test_strangers(facts: Facts) -> None:
+    most = CELLS // STRANGERS, max(LEAST_SHARE, CELLS // OF_ORIGIN)
+    for count in (2, 3):
+        held, strange, dropped = beside_a_stranger(count)
+        print("%d members beside a stranger: of 1,200 drawops of it they hold %s; of each other's %s; dropped of all %s" % (count, strange, held, dict(dropped)))
+        facts("beside a stranger %d members have all of each other's" % count, held, [60 * count] * count)
+        facts("and of it at most its share, and what the others repaired", [each <= min(count * most[1], most[0]) for each in strange], [True] * count)
+
+
+def test_pages(facts: Facts) -> None:
+    """A host tells its pages in turn, so what is lost beside many pages is told late: strangers begin few."""
+    told = beside_forged_pages(250)
+    print("beside 250 pages that strangers begin, of which %d are kept, a lost drawing is there after %s s" % told[::-1])
+    facts("strangers have few pages", told.pages <= STRANGE_PAGES, True)
+    facts("and a drawing that was lost beside them is told", told.there is not None, True)
+
+
+def test_departed(facts: Facts) -> None:
+    told = among_departed(900, 2)
+    print("900 drawops of 12 sources that have left: two newcomers have them after %s s; they dropped %s" % (told.whole, told.dropped))
+    facts("newcomers have what was drawn by who has left", told.whole is not None, True)
+    told = among_departed(900, 2, pages=1)
+    facts("of a page of which they lack 500 they would have taken a stream", [each > 0 for each in told.fetched], [True, True])
+
+
+def main(words: List[str]) -> None:
+    program()
+    for count in map(int, words or ["20", "40", "48"]):
+        tell(count, join_at_once(count))
+    for drawops in (300, 900):
+        print("%d drawops of 12 sources that have left: two newcomers have them after %s s; they dropped %s; streams %s" % (drawops, *among_departed(drawops, 2)))
+
+
+if __name__ == "__main__":
+    main(sys.argv[1:])

@@ -1,0 +1,31 @@
+"""Tests that Node's own runner runs."""
+
+from __future__ import annotations
+
+import os
+import shutil
+import subprocess
+from pathlib import Path
+
+import pytest
+
+LONGEST = 300  # seconds
+
+
+def find_node() -> str:
+    """Node, or the test is skipped."""
+    found = shutil.which("node") or shutil.which("nodejs")
+    if not found:
+        pytest.skip("there is no node here (apt-get install nodejs)")
+    return found
+
+
+def run_tests(file: Path, **environment: str) -> None:
+    """Runs the tests of a file, and ends what timers of theirs would keep alive."""
+    node = find_node()
+    known = subprocess.run([node, "--help"], stdout=subprocess.PIPE, text=True, check=True).stdout
+    if "--test-force-exit" not in known:
+        pytest.skip("this needs Node 20.14 or later")
+    ran = subprocess.run([node, "--test", "--test-force-exit", file], env={**os.environ, **environment}, stdin=subprocess.DEVNULL, stdout=subprocess.PIPE,
+                         stderr=subprocess.STDOUT, text=True, timeout=LONGEST, check=False)
+    assert ran.returncode == 0, ran.stdout[-20_000:]

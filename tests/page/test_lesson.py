@@ -1,0 +1,15 @@
+"""A lesson in two browsers, of which each loses a third of all datagrams."""
+
+from __future__ import annotations
+
+import os
+from pathlib import Path
+
+from ..live.browser import Browser
+from .lesson import test_lesson as hold
+from .sheets import Tally
+
+
+def test_whole(tally: Tally, browser: Browser, tmp_path: Path) -> None:
+    hold(tally, browser, tmp_path, 26_096 + os.getpid() % 250 * 128)
+    tally.judge("no fault in a page, and none of its policy", not browser.faults, "; ".join(browser.faults))

@@ -1,0 +1,183 @@
+"""A session of hosts that keep themselves, in time that a list of events stands for, whose drivers and network keep to stated times.
+
+The terms are those of docs/PROGRESS.md, in microseconds. Until `QUIET` members draw and may join, what they send may be lost, and some datagrams are
+forged. From then on what one sends comes to each other within `DELIVERY`, now and then twice. Each host is called at the latest
+`LATE` behind its DUE, and is told the time and an offset of its own.
+"""
+
+from __future__ import annotations
+
+import heapq
+import itertools
+import random
+from collections import Counter
+from typing import Callable, NamedTuple
+
+from ..host.program import Dialog
+from .timely import DRAWOP, REQUEST, kind, name
+
+QUIET, DELIVERY, LATE = 3_000_000, 50_000, 10_000
+REPORTING = 1  # nothing is asked of reports
+FAR = 100_000  # no delay is greater: the one of a source that told none; an echo tells half of what it took both ways
+ASKING, ANSWERING = 4, 2  # delays that a request waits at first, and an answer, by the constants 2,2,1,1
+SETTLED = QUIET + DELIVERY
+REPAIRING = ANSWERING * FAR + 2 * DELIVERY + LATE + LATE
+KNOWN = SETTLED + DELIVERY + max(REPORTING, 3 * FAR)
+IS_NEW = "batch 1 0 0 0"
+
+Loses = Callable[["TimelyKept", int, str], bool]
+
+
+class Sizes(NamedTuple):
+    """How much boards hold: slices of marks with those of one page more, holes, and numbers of the longest hole."""
+
+    slices: int
+    holes: int
+    numbers: int
+
+
+def report_span() -> int:
+    return 96_000_000 + LATE
+
+
+def request_span() -> int:
+    return ASKING * FAR + LATE
+
+
+def step(sizes: Sizes, most: int) -> int:
+    """For so long nothing new comes at most, while something is lacked that another holds."""
+    reports = sizes.slices + 2 * sizes.numbers * sizes.holes + 1
+    return 21_000_000 + request_span() + reports * report_span() + DELIVERY + most * request_span() + REPAIRING
+
+
+def whole_by(sizes: Sizes, wait: int, most: int) -> int:
+    """The time by which all hold all: no request timer waits for longer at `KNOWN`, and all together lack no more."""
+    return KNOWN + wait + REPAIRING + (most + 1) * step(sizes, most)
+
+
+def rows_of(held: set[str]) -> dict[str, list[int]]:
+    """The numbers that are held of each source on each page, ascending."""
+    rows: dict[str, list[int]] = {}
+    for told in sorted(held):
+        rows.setdefault(told[:24], []).append(int(told[24:], 16))
+    return rows
+
+
+def holes_of(numbers: list[int]) -> list[tuple[int, int]]:
+    """The greatest ranges of numbers that are missing below the top."""
+    return [(low + 1, high - 1) for low, high in zip([0, *numbers], numbers) if high - low > 1]
+
+
+def sizes_of(held: set[str]) -> Sizes:
+    rows = rows_of(held)
+    slices = [-(-count // 64) for count in Counter(row[8:] for row in rows).values()]
+    lengths = [last + 1 - first for numbers in rows.values() for first, last in holes_of(numbers)]
+    return Sizes(sum(slices) + max(slices, default=1), len(lengths), max(lengths, default=0))
+
+
+class TimelyKept:
+    """Members 1, 2, .. at their hosts, and the lines that are on their way. Others may join."""
+
+    def __init__(self, members: int, cells: int, seed: int, loses: Loses) -> None:
+        self.random = random.Random(seed)
+        self.loses = loses
+        self.cells, self.seed = cells, seed
+        self.hosts: dict[int, Dialog] = {}
+        self.now = 0
+        self.offset: dict[int, int] = {}
+        self.due: dict[int, int] = {}
+        self.called_by: dict[int, int] = {}
+        self.latest = 0
+        self.events: list[tuple[int, int, int, str, str]] = []
+        self.order = itertools.count()
+        self.requests: list[str] = []
+        self.held: dict[int, set[str]] = {member: set() for member in range(1, members + 1)}
+        self.sizes = sizes_of(set())
+        self.refused: list[str] = []
+        for member in self.held:
+            self.open(member)
+            self.offset[member] = self.due[member]
+
+    def open(self, member: int) -> None:
+        """Opens the host of a member, whose clock is ahead of the time of the session, and calls it at once."""
+        dialog = self.hosts[member] = Dialog()
+        dialog.ask(f"board {member} {self.cells} 1 {self.seed * 100 + member}")
+        self.due[member] = int(dialog.ask("keep 4000 0").split()[1])
+        self.called_by[member] = self.now + self.random.randrange(LATE + 1)
+
+    def join(self, time: int) -> None:
+        """The host of one more member is opened at this time."""
+        member = len(self.held) + 1
+        self.held[member] = set()
+        self.offset[member] = self.random.randrange(2**40)
+        self.put(time, member, "join", "")
+
+    def tell(self, member: int, word: str, rest: str = "") -> list[str]:
+        """The block of a line that tells the moment, without the line that closes it; what it sends goes to the others. Whenever one is handed in behind
+        the quiet time, no host is to be behind its DUE by more than `LATE`."""
+        if self.now > QUIET:
+            self.latest = max(self.latest, *(self.now + self.offset[other] - due for other, due in self.due.items()))
+        *block, closing = self.hosts[member].ask(f"{word} {self.now + self.offset[member]}{rest}").splitlines()
+        if not closing.startswith("ok "):
+            self.refused.append(closing)
+            return []
+        self.due[member] = int(closing.removeprefix("ok "))
+        self.called_by[member] = max(self.now, self.due[member] - self.offset[member] + self.random.randrange(LATE + 1))
+        for told in block:
+            if told.startswith("send "):
+                self.send(member, told.removeprefix("send "))
+        return block
+
+    def put(self, time: int, member: int, word: str, rest: str) -> None:
+        heapq.heappush(self.events, (time, next(self.order), member, word, rest))
+
+    def send(self, sender: int, datagram: str) -> None:
+        """What is sent before the quiet time may be lost. Then it comes to each, at times twice."""
+        if kind(datagram) == DRAWOP:
+            self.holds(sender, name(datagram))
+        if kind(datagram) == REQUEST:
+            self.requests.append(name(datagram))
+        for member in self.hosts:
+            if member != sender and not (self.now <= QUIET and self.loses(self, member, datagram)):
+                for _ in range(self.random.choices((1, 2), (4, 1))[0]):
+                    self.put(self.now + self.random.randrange(DELIVERY + 1), member, "came", f" {datagram}")
+
+    def holds(self, member: int, told: str) -> None:
+        if told not in self.held[member]:
+            self.held[member].add(told)
+            self.sizes = Sizes(*(max(pair) for pair in zip(self.sizes, sizes_of(self.held[member]))))
+
+    def draw(self, time: int, member: int, page: str, number: int) -> None:
+        self.put(time, member, "add", f" {time} {page} line 0 {number % 8} 4 {number % 5} *")
+
+    def step(self) -> None:
+        """The next line that comes to a host, or the tick of one that has something to do, or a host that is opened."""
+        time, member = min((time, member) for member, time in self.called_by.items())
+        if not self.events or time <= self.events[0][0]:
+            self.now = time
+            self.tell(member, "tick")
+            return
+        self.now, _, member, word, rest = heapq.heappop(self.events)
+        if word == "join":
+            self.open(member)
+            return
+        if IS_NEW in self.tell(member, word, rest) and word == "came":
+            self.holds(member, name(rest.strip()))
+
+    def run_until(self, time: int) -> None:
+        """Every line and every tick up to a time."""
+        while min([*self.called_by.values(), *(event[0] for event in self.events[:1])]) <= time:
+            self.step()
+
+    def run_until_all_hold(self, every: set[str], last: int) -> None:
+        """Goes on until each holds all of these, or the time has come."""
+        while self.now < last and not all(every <= held for held in self.held.values()):
+            self.step()
+
+    def wait(self, every: set[str]) -> int:
+        """No request timer for one of these waits for longer: each request that was sent for a name doubled its waits once."""
+        backed_off = max(Counter(asked for asked in self.requests if asked in every).values(), default=0)
+        return ASKING * FAR << backed_off
+
+    def shows(self, member: int, word: str, page: tuple[int, int]) -> list[str]:
+        return self.hosts[member].ask(f"{word} {page[0]} {page[1]}").splitlines()[:-1]
