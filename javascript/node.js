@@ -1,0 +1,155 @@
+/** For Node: the module from its file, and a member over UDP. */
+import { createSocket } from 'node:dgram';
+import { EventEmitter } from 'node:events';
+import { readFile } from 'node:fs/promises';
+import { isWide } from './host.js';
+import { Host, Program } from './wb.js';
+
+/** Where the module may be: in the package, and where a checkout builds it. */
+const FOLDERS = [new URL('./', import.meta.url), new URL('../out/modules/', import.meta.url)];
+
+/** Reads the module that suits this Node.
+ * @param {URL | string} [file] else that of the package @param {boolean} [wide] whether it is the one with a memory of 64 bits */
+export async function load(file, wide = file === undefined && isWide()) {
+  const name = wide ? 'wb.wasm' : 'wb-any.wasm';
+  for (const each of file === undefined ? FOLDERS.map((folder) => new URL(name, folder)) : [file]) {
+    const bytes = await readFile(each).catch(() => null);
+    if (bytes) return new Program(await WebAssembly.compile(bytes), wide);
+  }
+  throw new Error(`there is no ${file ?? name}: in a checkout, ./wb --page builds it`);
+}
+
+/** @typedef {{ address: string, port: number }} Address */
+
+/** Where a member hears and sends: a multicast group, as 239.192.17.1 and 8017; or an address of its own, and those of others.
+ * @typedef {object} Place
+ * @property {Address} [group]
+ * @property {string} [interface]
+ * @property {Address} [bind]
+ * @property {Address[]} [to] */
+
+/** A host that has a socket and a clock: it hands in what comes, ticks when something is due, and sends what is answered. It tells `change` with
+ * the page that something new was drawn on, and `fault` once it has broken off. Datagrams are neither signed nor sealed: whoever is on the network
+ * can read and draw. */
+export class Member extends EventEmitter {
+  /** @param {Host} host @param {Address[]} to */
+  constructor(host, to) {
+    super();
+    this.host = host;
+    this.to = to;
+    this.began = process.hrtime.bigint();
+    this.socket = createSocket({ type: 'udp4', reuseAddr: true });
+    this.socket.on('error', (fault) => this.breakOff(fault));
+    this.socket.on('message', (datagram) => this.take(datagram));
+    this.isOver = false;
+    /** @type {NodeJS.Timeout | undefined} */
+    this.timer = undefined;
+    /** @type {Promise<unknown>} */
+    this.last = Promise.resolve();
+  }
+
+  /** Opens a member, by its number or with a host of its own.
+   * @param {number | Host} member @param {Place & Partial<import('./wb.js').Opening>} place */
+  static async open(member, { group, interface: on = '0.0.0.0', bind = { address: '0.0.0.0', port: 0 }, to = [], program, ...opening }) {
+    const host = member instanceof Host ? member : await Host.open(member, { program: program ?? await load(), ...opening });
+    const made = new Member(host, group ? [group] : to), socket = made.socket;
+    await new Promise((/** @type {(value: void) => void} */ done, fail) => {
+      socket.once('error', fail);
+      socket.bind(group ? group.port : bind.port, group ? group.address : bind.address, done);
+    });
+    if (group) {
+      socket.addMembership(group.address, on);
+      socket.setMulticastInterface(on);
+      socket.setMulticastTTL(1);
+    }
+    made.wait();
+    return made;
+  }
+
+  /** The moment: microseconds since the start, which never go back. */
+  now() {
+    return Number((process.hrtime.bigint() - this.began) / 1000n);
+  }
+
+  /** Where this member hears. */
+  address() {
+    return this.socket.address();
+  }
+
+  /** Does something in its turn, at its own moment; before it, what is due.
+   * @template T @param {(now: number) => Promise<T>} task @returns {Promise<T>} */
+  inTurn(task) {
+    const done = this.last.then(async () => {
+      const { due } = this.host;
+      if (due !== null && this.now() >= due) this.obey(await this.host.tick(this.now()));
+      return task(this.now());
+    });
+    this.last = done.catch(() => {});
+    return done;
+  }
+
+  /** Draws, as `line 0 0 4 0 *`, and sends it to all others. Refused where the host does not take it.
+   * @param {string} page @param {string} operation */
+  draw(page, operation) {
+    return this.inTurn(async (now) => {
+      const answer = await this.host.add(now, BigInt(Date.now()) * 1000n, page, operation);
+      this.obey(answer);
+      if (answer.became !== 'full') this.emit('change', page);
+      return answer;
+    });
+  }
+
+  /** @param {Uint8Array} datagram */
+  take(datagram) {
+    this.inTurn(async (now) => {
+      const answer = await this.host.came(now, datagram);
+      this.obey(answer);
+      if (answer.became === 'new') this.emit('change', pageIn(datagram));
+    }).catch((fault) => this.breakOff(fault));
+  }
+
+  /** @param {import('./wb.js').Answer} answer */
+  obey(answer) {
+    if (this.isOver) return;
+    for (const datagram of answer.send) {
+      // one that does not arrive is lost, as any may be
+      for (const { address, port } of this.to) this.socket.send(datagram, port, address, () => {});
+    }
+    this.wait();
+  }
+
+  /** Sets the timer to what is due next. */
+  wait() {
+    clearTimeout(this.timer);
+    const { due } = this.host;
+    if (due === null || this.isOver) return;
+    const milliseconds = Math.min(Math.max(0, (due - this.now()) / 1000), 2 ** 31 - 1);
+    this.timer = setTimeout(() => {
+      this.inTurn(async () => this.wait()).catch((fault) => this.breakOff(fault));
+    }, milliseconds);
+  }
+
+  /** The host has ended, or the socket.
+   * @param {Error} fault */
+  breakOff(fault) {
+    if (this.isOver) return;
+    this.end();
+    this.emit('fault', fault);
+  }
+
+  /** Ends it: the socket is closed, and the host is let go. */
+  end() {
+    if (this.isOver) return;
+    this.isOver = true;
+    clearTimeout(this.timer);
+    this.socket.close();
+    this.host.end();
+  }
+}
+
+/** The page of a datagram that has a drawop: behind the head of 8 bytes stand its source and its page.
+ * @param {Uint8Array} datagram */
+function pageIn(datagram) {
+  const view = new DataView(datagram.buffer, datagram.byteOffset);
+  return `${view.getUint32(12)}/${view.getUint32(16)}`;
+}

@@ -1,0 +1,48 @@
+#!/usr/bin/env python3
+"""Lays the package for Node and browsers: `pack.py FOLDER MODULES` writes FOLDER/wb-VERSION.tgz, which `npm install FILE` takes, of this folder, of the
+page's host.js, and of the modules that ./wb --page builds. The same to the bit from any folder."""
+from __future__ import annotations
+
+import gzip
+import json
+import sys
+import tarfile
+from io import BytesIO
+from pathlib import Path
+from typing import Dict
+
+HERE = Path(__file__).resolve().parent
+HOST = HERE.parent / "web" / "page" / "host.js"
+
+FILES = ("README.md", "host.d.ts", "node.d.ts", "node.js", "package.json", "wb.d.ts", "wb.js")
+MODULES = ("wb-any.wasm", "wb.wasm")
+
+
+def contents(modules: Path) -> Dict[str, bytes]:
+    """The files of the package, by their names."""
+    found = {name: (HERE / name).read_bytes() for name in FILES}
+    found.update({name: (modules / name).read_bytes() for name in MODULES})
+    return {**found, "host.js": HOST.read_bytes()}
+
+
+def write_archive(path: Path, files: Dict[str, bytes], top: str, mode: int = 0o644) -> None:
+    """An archive of files whose moments, owners and order are always the same."""
+    made = BytesIO()
+    with tarfile.open(fileobj=made, mode="w", format=tarfile.USTAR_FORMAT) as archive:
+        for name in sorted(files):
+            entry = tarfile.TarInfo("%s/%s" % (top, name))
+            entry.size, entry.mode = len(files[name]), mode
+            archive.addfile(entry, BytesIO(files[name]))
+    with open(path, "wb") as file, gzip.GzipFile("", "wb", 9, file, mtime=0) as packed:
+        packed.write(made.getvalue())
+
+
+def write_package(folder: Path, modules: Path) -> Path:
+    version = json.loads((HERE / "package.json").read_text())["version"]
+    path = folder / ("wb-%s.tgz" % version)
+    write_archive(path, contents(modules), "package")
+    return path
+
+
+if __name__ == "__main__":
+    print(write_package(Path(sys.argv[1]), Path(sys.argv[2])))

@@ -1,0 +1,89 @@
+// units.mjs MODULE: the package over a module. The last line is 'N passed, M failed'.
+import { Host, HostEnded, Refused } from '../wb.js';
+import { Member, load } from '../node.js';
+
+let passed = 0, failed = 0;
+
+const told = (value) => JSON.stringify(value, (_, each) => (typeof each === 'bigint' ? `${each}n` : each instanceof Map ? [...each] : each));
+
+function judge(name, found, wanted) {
+  if (told(found) === told(wanted)) passed += 1;
+  else {
+    failed += 1;
+    console.log(`test ${name}: ${told(found)}, not ${told(wanted)}`);
+  }
+}
+
+async function raised(call) {
+  try {
+    await call();
+  } catch (fault) {
+    return fault.constructor.name;
+  }
+  return 'nothing';
+}
+
+const program = await load(process.argv[2]);
+
+// hosts
+const one = await Host.open(1, { program, seed: 42n }), two = await Host.open(2, { program, seed: 43n, listen: 1000 });
+judge('a host has something to do', one.due, 34_890);
+const drawn = await one.add(1000, 5, '1/1', 'line 0 0 4 0 *');
+judge('a drawing is sent', drawn.send.map((datagram) => datagram.length), [42]);
+judge('one that comes in is new', (await two.came(500, drawn.send[0])).became, 'new');
+judge('and then known', (await two.came(600, drawn.send[0])).became, 'again');
+judge('it is shown', await two.show('1/1', 6, 1), ['***** ']);
+judge('and told', await two.view('1/1'), [{ source: 1, page: '1/1', number: 1, time: 5n, operation: 'line 0 0 4 0 *' }]);
+const { due } = two;
+judge('what is no datagram is refused, and what is due is as it was', await two.came(700, new Uint8Array([87, 66])), { send: [], due, became: null, refused: 'datagram 1' });
+judge('so is a drawing while it listens', await raised(() => two.add(800, 5, '1/1', 'line 0 0 4 0 +')), 'Refused');
+judge('after which it is known too', two.due, due);
+judge('time goes on', await raised(() => two.tick(10)), 'Refused');
+judge('questions', [await two.report('1/1'), await two.gaps('1/1'), await two.pages(), await two.known(), await two.nextNumber('1/1')], [[[1, 1]], [], ['1/1'], ['1/1'], 1]);
+await two.add(2000, 6, '1/1', 'text 0 0 "ok 7"');
+judge('a row that looks like a closing line is a row', (await two.show('1/1', 4, 2))[0], 'ok 7');
+judge('a line has no line feed in it', await raised(() => two.add(3000, 7, '1/1', 'line 0 0 4 0 *\n')), 'Refused');
+const many = await Promise.all([1, 2, 3].map((at) => one.add(2000 + at, 5 + at, '1/1', `line 0 ${at} 4 ${at} *`)));
+judge('calls that overlap are done in their order', many.map((answer) => answer.send.length), [1, 1, 1]);
+const full = await Host.open(3, { program, cells: 1 });
+await full.add(1, 1, '1/1', 'line 0 0 4 0 *');
+judge('a full board', (await full.add(2, 2, '1/1', 'line 0 0 4 0 *')).became, 'full');
+full.end();
+judge('a host that is gone is said', await raised(() => full.tick(9)), HostEnded.name);
+judge('and a board that none can have', await raised(() => Host.open(3, { program, cells: 0 })), Refused.name);
+one.end();
+two.end();
+
+// three members over UDP that lose a third
+const here = { address: '127.0.0.1', port: 0 };
+const members = await Promise.all([1, 2, 3].map((number) => Member.open(number, { program, bind: here })));
+let state = 7;
+for (const member of members) {
+  member.to = members.filter((other) => other !== member).map((other) => other.address());
+  const take = member.take.bind(member);
+  member.take = (datagram) => {
+    state = (state * 1_103_515_245 + 12_345) % 2 ** 31;
+    if (state / 2 ** 31 >= 0.33) take(datagram);
+  };
+}
+const whole = Promise.all(members.map((member) => new Promise((done, fail) => {
+  member.on('fault', fail);
+  member.on('change', async () => {
+    if ((await member.host.view('1/1')).length === 12) done();
+  });
+})));
+for (let at = 0; at < 12; at += 1) await members[at % 3].draw('1/1', `line 0 ${at} 9 ${at} *`);
+const late = setTimeout(() => process.exit(1), 60_000);
+await whole;
+clearTimeout(late);
+const views = await Promise.all(members.map((member) => member.host.view('1/1')));
+judge('three members over UDP that lose a third show one page', views.map((view) => told(view) === told(views[0])), [true, true, true]);
+members[0].host.end();
+const ended = new Promise((done) => members[0].on('fault', (fault) => done(fault.constructor.name)));
+members[0].take(new Uint8Array([87, 66]));
+members[0].inTurn((now) => members[0].host.came(now, new Uint8Array([87, 66]))).catch((fault) => members[0].breakOff(fault));
+judge('a member whose host has ended says so', await ended, 'HostEnded');
+for (const member of members) member.end();
+
+console.log(`${passed} passed, ${failed} failed`);
+process.exit(failed ? 1 : 0);

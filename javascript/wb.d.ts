@@ -1,0 +1,115 @@
+/** A call that is the program's own was refused. It changed nothing. */
+export class Refused extends Error {
+}
+/** A member that keeps itself: it asks for what it lacks, reports, repairs, and answers who asks. Moments are microseconds below 2^48 that never
+ * go back; begin near 0. Calls are done in their order, one at a time. */
+export class Host {
+    /** Opens one. `member` is its number, which no other member of the session has.
+     * @param {number} member @param {Opening} opening */
+    static open(member: number, { program, cells, seed, rate, listen }: Opening): Promise<Host>;
+    /** @param {number} member @param {Lines} lines */
+    constructor(member: number, lines: Lines);
+    member: number;
+    /** @type {Lines | null} */
+    lines: Lines | null;
+    /** The moment at which to call `tick` next.
+     * @type {number | null} */
+    due: number | null;
+    /** @type {Promise<unknown>} */
+    last: Promise<unknown>;
+    /** The block of a line, behind the calls before.
+     * @param {string} line @returns {Promise<Block>} */
+    ask(line: string): Promise<Block>;
+    /** @param {string} line */
+    must(line: string): Promise<Block>;
+    /** @param {Block} block @returns {Answer} */
+    answer(block: Block): Answer;
+    /** A datagram came in. One that is none, or that no host takes, is refused in the answer, and is no fault of this program.
+     * @param {number} now @param {Uint8Array} datagram */
+    came(now: number, datagram: Uint8Array): Promise<Answer>;
+    /** Time is `now`: to be called when the clock comes to `due`, and before more is handed in then.
+     * @param {number} now */
+    tick(now: number): Promise<Answer>;
+    /** The user draws, as `line 0 0 4 0 *`, `text 0 1 "hello"` or `delete 7 1`. Where two drawops cover one cell, the one with the greater time is
+     * seen: use the microseconds of the time of day.
+     * @param {number} now @param {number | bigint} time @param {string} page as `1/1` @param {string} operation */
+    add(now: number, time: number | bigint, page: string, operation: string): Promise<Answer>;
+    /** Gives the timers other constants, 1 to 16 each.
+     * @param {number} c1 @param {number} c2 @param {number} d1 @param {number} d2 */
+    tune(c1: number, c2: number, d1: number, d2: number): Promise<void>;
+    /** The rows of the page's canvas, 1 to 200 wide and 1 to 100 high.
+     * @param {string} page @param {number} width @param {number} height */
+    show(page: string, width: number, height: number): Promise<string[]>;
+    /** What the page shows, in the order of painting.
+     * @param {string} page @returns {Promise<Drawop[]>} */
+    view(page: string): Promise<Drawop[]>;
+    /** What is missing of the page.
+     * @param {string} page @returns {Promise<Gap[]>} */
+    gaps(page: string): Promise<Gap[]>;
+    /** Of each source, the greatest number that is held of the page.
+     * @param {string} page @returns {Promise<Map<number, number>>} */
+    report(page: string): Promise<Map<number, number>>;
+    /** The pages that have drawops. */
+    pages(): Promise<string[]>;
+    /** The pages that have drawops, or were heard of. */
+    known(): Promise<string[]>;
+    /** The number that our next drawop on the page will have.
+     * @param {string} page */
+    nextNumber(page: string): Promise<number>;
+    /** Lets the host go, with its memory. */
+    end(): void;
+}
+/**
+ * What became of a drawop that was handed in.
+ */
+export type Became = 'new' | 'again' | 'clash' | 'full';
+/**
+ * What a call came to: datagrams to be sent to all others, the moment at which to call `tick` next, and what became of a drawop. Where a
+ * datagram was refused, why: then nothing has changed.
+ */
+export type Answer = {
+    send: Uint8Array[];
+    due: number | null;
+    became: Became | null;
+    refused: string | null;
+};
+/**
+ * A drawop as a page shows it. Its operation is in words, as `line 0 0 4 0 *`.
+ */
+export type Drawop = {
+    source: number;
+    /**
+     * as `1/1`: its creator and its number
+     */
+    page: string;
+    number: number;
+    time: bigint;
+    operation: string;
+};
+/**
+ * Numbers of a source that are missing, from the first to the last.
+ */
+export type Gap = {
+    source: number;
+    first: number;
+    last: number;
+};
+/**
+ * How a host is opened. `cells` is the room of its board, `rate` the bytes a second that the reports of all members may take, and `listen` the
+ * microseconds for which it only listens: 0 for a new number, 6,000,000 for one that may have drawn before.
+ */
+export type Opening = {
+    /**
+     * the module, as `Program.load` or `load` of node.js gives it
+     */
+    program: Program;
+    cells?: number | undefined;
+    seed?: bigint | undefined;
+    rate?: number | undefined;
+    listen?: number | undefined;
+};
+import { HostEnded } from "./host.js";
+import { Program } from "./host.js";
+import { Host as Lines } from "./host.js";
+import { Block } from "./host.js";
+export { HostEnded, Program };
