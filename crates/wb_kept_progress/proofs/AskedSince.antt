@@ -1,9 +1,8 @@
 -- A request timer that was not backed off was set by a line that asks for its name, and is due soon behind that.
-use Rattle.std.proofs.Common.{◌≡◌, ℕ, ◌+◌, ◌*◌, ◌≤◌, Bool, true, false, cond, List, [], ◌∷◌, ◌++◌, ◌∙◌, Option, Some, None, ap, arith, eqb-true, inl, inr, refl, subst, sym, ⊎_elim}
+use Rattle.std.proofs.Common.{◌≡◌, ℕ, ◌+◌, ◌*◌, ◌≤◌, Bool, true, false, cond, List, [], ◌∷◌, ◌++◌, ◌∙◌, Option, Some, ap, arith, eqb-true, inl, inr, refl, subst, sym, ⊎_elim}
 use Rattle.std.specs.Prelude.{◌⊎◌, Contains, nat_eq}
 use Rattle.std.proofs.Math.Nat.{mul-le-mul_right}
 use Rattle.wb_names.specs.Values.{NameValue}
-use Rattle.wb_names.proofs.Listings.{Contains-cases, Contains-none}
 use Rattle.wb_recovery.specs.Events.{constants_after, timers_of}
 use Rattle.wb_recovery.specs.declared.timers.AskTimer.{AskTimer}
 use Rattle.wb_recovery.specs.declared.tuning.Tuning.{Tuning}
@@ -21,6 +20,8 @@ use Rattle.wb_kept_progress.specs.Timed.{AreInOrder, IsTimely, Performed, Start,
 use Rattle.wb_kept_progress.proofs.Lines.{line_of}
 use Rattle.wb_kept_progress.proofs.PerLine.{IsMade, line_did}
 use Rattle.wb_kept_progress.proofs.Timely.{clock, order_of, split_part}
+use Rattle.wb_laws_sessions.proofs.Sending.{one_of}
+use Rattle.std.proofs.lemmas.Option.{none-some}
 
 -- ---- one line
 
@@ -44,10 +45,8 @@ module _ (line : Line) (host : Opened) (far : ℕ) (bound : Tuning) (n : NameVal
   missed : (call : KeeperCall) (ask : AskTimer) → IsMade host line call → (m : Misses n call) → ask.due ≤ moment_at (call ∷ []) + wait → (line ≡ Asks n) × (ask.due ≤ present host + wait)
   missed call ask made m due =
       let is : IsMade host line (Miss m.now m.names m.words) = subst (IsMade host line) m.is made in
-      let same : is.0 ≡ n = one is.0 n (subst (λ (names : List NameValue). Contains names n) is.2 m.named) in
-      (is.1 ∙ ap Asks same, subst (λ (now : ℕ). ask.due ≤ now + wait) (ap (λ (c : KeeperCall). moment_at (c ∷ [])) m.is ∙ is.3) due) where
-        one : (a b : NameValue) → Contains (a ∷ []) b → a ≡ b
-        one a b c = ⊎_elim (λ (e : a ≡ b). e) (λ (none : Contains [] b). absurd (Contains-none b none)) (Contains-cases a b [] c)
+      let same : is.0 ≡ n = one_of is.0 n (subst (λ (names : List NameValue). Contains names n) is.2 m.named) in
+      (is.1 ∙ ap Asks same, subst (λ (now : ℕ). ask.due ≤ now + wait) (ap (λ (c : KeeperCall). moment_at (c ∷ [])) m.is ∙ is.3) due)
 
   -- it stood before the line, or the line asks for the name
   pub line_asked : (ask : AskTimer) → (timers_of next.is.constants (events next) n).ask ≡ Some ask → ask.level ≡ 0 → ((timers_of host.is.constants (events host) n).ask ≡ Some ask) ⊎ ((line ≡ Asks n) × (ask.due ≤ present host + wait))
@@ -75,11 +74,8 @@ module _ (hosts : ℕ → Start) (terms : Terms) (trace : List Performed) (timel
     pub line : x.line ≡ Asks n
     pub due : ask.due ≤ x.time + terms.offset i + terms.asking * terms.far
 
-  none_some : (ask : AskTimer) → ◌≡◌ {A = Option AskTimer} None (Some ask) → ⊥
-  none_some ask e = cc
-
   pub was_asked : (front back : List Performed) (i : ℕ) (n : NameValue) (ask : AskTimer) → trace ≡ front ++ back → Contains terms.live i → (timers_after hosts back i n).ask ≡ Some ask → ask.level ≡ 0 → WasAsked back i n ask
-  was_asked front [] i n ask split live stands level = absurd (none_some ask stands)
+  was_asked front [] i n ask split live stands level = absurd (none-some ask stands)
   was_asked front (e ∷ older) i n ask split live stands level = from (nat_eq e.place i) refl stands (λ stood. was_asked (front ++ e ∷ []) older i n ask part live stood level) where
     part : trace ≡ (front ++ e ∷ []) ++ older
     part = split_part hosts terms trace timely front older e split

@@ -3,7 +3,7 @@ use Rattle.wb_progress.specs.Keepers.{constants_at}
 use Rattle.std.proofs.Common.{◌≡◌, ℕ, suc, ◌+◌, ◌-◌, ◌*◌, ◌≤◌, Bool, true, false, cond, List, [], ◌∷◌, ◌∙◌, Option, Some, None, ap, arith, inl, inr, length, map, refl, subst, sym, true≢false, ⊎_elim}
 use Rattle.std.specs.Prelude.{◌⊎◌, ◌||◌, Contains, is_none, is_some, max, nat_eq, nat_le, nat_lt, not, unwrap_or}
 use Rattle.std.specs.List.{cons_option, fold}
-use Rattle.std.proofs.lemmas.Bool.{and_parts, leb-true, ltb-false, ltb-true, or_cases}
+use Rattle.std.proofs.lemmas.Bool.{and_parts, leb-true, ltb-false, ltb-true, or_cases, false_from_ne_true, le-leb, not-true}
 use Rattle.wb_names.specs.Orders.{same_name}
 use Rattle.wb_names.specs.Values.{DrawopValue, NameValue}
 use Rattle.wb_names.proofs.Listings.{Contains-cases, Contains-here, Contains-none, Contains-there}
@@ -33,19 +33,16 @@ use Rattle.wb_keeping.proofs.Performed.{after_both, then_after}
 use Rattle.wb_keeping.proofs.StandingTimers.{as_many}
 use Rattle.wb_keeping.proofs.Wanted.{lines_wanted, lending_parts, lent_first, taken_back}
 use Rattle.wb_keeping.proofs.WantedNames.{lines_answer_held, wanted_is_asked, AreSettings, IsSetting}
-use Rattle.wb_progress.proofs.OneCall.{le_true}
 use Rattle.wb_keeping.proofs.Spending.{has_place}
-use Rattle.wb_kept_progress.proofs.Lines.{is_false, lines_of, lines_rest, IsSmall, are_small}
+use Rattle.wb_kept_progress.proofs.Lines.{lines_of, lines_rest, IsSmall, are_small}
 use Rattle.wb_keeping.proofs.EachLine.{want_each, room_each, wanted_each}
+use Rattle.std.proofs.lemmas.Option.{none-some}
 
 -- ---- how often a timer was backed off, once a line was performed
 
 -- the request timer of a name was set, and not backed off since
 abbrev pub IsNew : Opened → NameValue → Type 0
 IsNew host n = level host n ≡ Some 0
-
-pub none_new : ◌≡◌ {A = Option ℕ} None (Some 0) → ⊥
-none_new e = true≢false (sym (ap is_some e))
 
 -- a timer that is stopped is not new; any other is as it was
 stop_leaves : (name n : NameValue) (host : Opened) → same_name name n ≡ false → level (after_line (Stops name) host) n ≡ level host n
@@ -79,7 +76,7 @@ quiet_leave [] n host quiet new = new
 quiet_leave (Stops name ∷ lines) n host quiet new = by (quiet_leave lines n (after_line (Stops name) host) quiet.1 new) (same_name name n) refl where
   by : IsNew (after_line (Stops name) host) n → (b : Bool) → same_name name n ≡ b → IsNew host n
   by there false other = sym (stop_leaves name n host other) ∙ there
-  by there true same = absurd (none_new (sym (subst (λ (m : NameValue). level (after_line (Stops name) host) m ≡ None) (same_name-is name n same) (stop_ends name host)) ∙ there))
+  by there true same = absurd (none-some 0 (sym (subst (λ (m : NameValue). level (after_line (Stops name) host) m ≡ None) (same_name-is name n same) (stop_ends name host)) ∙ there))
 quiet_leave (SetsDistance source micros ∷ lines) n host quiet new = quiet_leave lines n (after_line (SetsDistance source micros) host) quiet.1 new
 quiet_leave (Tunes constants ∷ lines) n host quiet new = quiet_leave lines n (after_line (Tunes constants) host) quiet.1 new
 quiet_leave (Asks name ∷ lines) n host quiet new = absurd quiet.0
@@ -347,7 +344,7 @@ module _ (name : NameValue) (anew : Bool) (k : Keeping) where
         under owed now n le p = omega (arith, le, p)
 
       another : goes_on anew (level_by v name) ≡ false → same_name name n ≡ false
-      another idle = is_false (same_name name n) (λ same.
+      another idle = false_from_ne_true (same_name name n) (λ same.
           let l : level_by v name ≡ Some 0 = level_seen k.host name ∙ subst (λ (m : NameValue). level k.host m ≡ Some 0) (sym (same_name-is name n same)) new in
           true≢false (on anew ∙ sym (ap (goes_on anew) l) ∙ idle)) where
             on : (b : Bool) → true ≡ goes_on b (Some 0)
@@ -370,7 +367,7 @@ module _ (name : NameValue) (anew : Bool) (k : Keeping) where
         way : (a : AskedName) (later : List AskedName) → v.asked ≡ a ∷ later → (b : Bool) → gives_way (length (a ∷ later)) (fold older a later).level ≡ b
             → IsNew (after_lines (stops_one (cond b (Some (fold older a later)) None)) k.host) n
         way a later is false e = new
-        way a later is true e = stop_leaves (fold older a later).name n k.host (is_false (same_name (fold older a later).name n) (λ same.
+        way a later is true e = stop_leaves (fold older a later).name n k.host (false_from_ne_true (same_name (fold older a later).name n) (λ same.
             not_new a later is e (subst (λ (m : NameValue). level k.host m ≡ Some 0) (sym (same_name-is (fold older a later).name n same)) new))) ∙ new
 
         by : (a : Bool) → (asked : List AskedName) → v.asked ≡ asked → IsNew (after_lines (cond a (Stops name ∷ []) (stops_one (giving_way asked))) k.host) n
@@ -384,13 +381,10 @@ module _ (name : NameValue) (anew : Bool) (k : Keeping) where
           let one_part = and_parts (not (holds v name)) _ e in
           let two_part = and_parts (not (is_full v)) _ one_part.1 in
           let three_part = and_parts (not (goes_on anew (level_by v name))) _ two_part.1 in
-          let idle = flipped (goes_on anew (level_by v name)) three_part.0 in
+          let idle = not-true (goes_on anew (level_by v name)) three_part.0 in
           let other = another idle in
           let kept = room_keeps other (few (has_place (anew || is_known v name.source) k.policy.owed (present k.host) three_part.1)) in
-          levels_there n ∙ asks_leaves name n two other ∙ lent_levels name.source (v.distance name.source) k.policy.usual n one ∙ kept where
-            flipped : (b : Bool) → not b ≡ true → b ≡ false
-            flipped true e = absurd (true≢false (sym e))
-            flipped false e = refl
+          levels_there n ∙ asks_leaves name n two other ∙ lent_levels name.source (v.distance name.source) k.policy.usual n one ∙ kept
 
   none_two : (n : NameValue) → HasNone k.host n → HasNone two n
   none_two n none = quiet_none usual n one usual_sets (quiet_none first n k.host room_sets none)
@@ -478,7 +472,7 @@ passes name k n used other may =
 is_taken : (k : Keeping) (n : NameValue) (used : ℕ) → used ≤ 63 → MayBeAsked k n used → IsAskedAnew (after_doing (want n true) k) n
 is_taken k n used few may =
     let more = then_are_new n true k may.names may.are in
-    let credit : has_credit k.policy.owed (present k.host) ≡ true = le_true _ _ (within k.policy.owed (present k.host) used few may.paid) in
+    let credit : has_credit k.policy.owed (present k.host) ≡ true = le-leb _ _ (within k.policy.owed (present k.host) used few may.paid) in
     record { names = more.0; are = more.1; new = set_anew n true k may.none (wanted_is_asked n true k may.answers may.lacks may.room credit) } where
       within : (owed now used : ℕ) → used ≤ 63 → owed ≤ now + used * cost → max owed now - now ≤ 63 * cost
       within owed now used few le = omega (arith, few, le)

@@ -1,7 +1,7 @@
 -- Behind a line by which a host asks for a name its timer stands.
 use Rattle.std.proofs.Common.{◌≡◌, Bool, true, false, cond, List, [], ◌∷◌, ◌++◌, ◌∙◌, None, ap, append_assoc, refl, subst, sym, ⊎_elim}
 use Rattle.std.specs.Prelude.{Contains, not, take, nat_eq}
-use Rattle.std.proofs.lemmas.Bool.{and_parts}
+use Rattle.std.proofs.lemmas.Bool.{and_parts, not-true}
 use Rattle.std.proofs.lemmas.List.Elements.{Contains-append_cases}
 use Rattle.wb_names.specs.Values.{NameValue}
 use Rattle.wb_names.proofs.Listings.{Contains-cases, Contains-none}
@@ -111,10 +111,6 @@ wants_stand name anew k = record { at = refl; stand = λ answers_held n c. by an
       (Contains-append_cases usual (Asks name ∷ back) (Asks n) rest))
       (Contains-append_cases first (usual ++ Asks name ∷ back) (Asks n) c)
 
-  flipped : (b : Bool) → not b ≡ true → b ≡ false
-  flipped true e = sym e
-  flipped false e = refl
-
   -- what takes a distance back leaves the timers
   asks_back : (host : Opened) → asks_for name (after_lines back host) ≡ asks_for name host
   asks_back host = by (nat_eq (v.distance name.source) unknown) where
@@ -140,7 +136,7 @@ wants_stand name anew k = record { at = refl; stand = λ answers_held n c. by an
       ∙ ap (λ (ls : List Line). asks_for name (after_lines ls k.host)) (sym whole)
       ∙ ap (λ (d : Doing). asks_for name (after_lines d.lines k.host)) (sym (is_asked_for name anew (sees k.host) k.policy e))
       ∙ stands_asked (after_doing (want name anew) k).host name
-      (wanted_is_asked name anew k answers_held (flipped (holds v name) one.0) (flipped (is_full v) two.0) three.1)
+      (wanted_is_asked name anew k answers_held (not-true (holds v name) one.0) (not-true (is_full v) two.0) three.1)
 
   by : AnswersWhatIsHeld k.host → (n : NameValue) (b : Bool) → is_wanted (holds v name) (is_full v) anew (is_known v name.source) (level v name) k.policy.owed v.now ≡ b
       → Contains (so b).lines (Asks n) → Stands (so b).lines k.host n

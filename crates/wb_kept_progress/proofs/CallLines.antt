@@ -14,8 +14,8 @@ use Rattle.wb_kept_progress.proofs.CallParts.{host_is}
 use Rattle.wb_kept_progress.proofs.KeptInTime.{at_place, front_of, then_both, then_front}
 use Rattle.wb_kept_progress.proofs.Performed.{after_all}
 use Rattle.wb_kept_progress.proofs.Repairs.{is_itself}
-use Rattle.wb_kept_progress.proofs.Timely.{tails}
 use Rattle.wb_kept_progress.proofs.WholeParts.{IsOfCall, LinesHaveCalls, does}
+use Rattle.wb_progress.proofs.Parts.{heads, tails, nil_ends}
 
 -- ---- lists that end in others
 
@@ -24,9 +24,6 @@ Ends whole part = (front : List Performed) × (whole ≡ front ++ part)
 
 pub ends_both : (one other part : List Performed) → Ends one other → Ends other part → Ends one part
 ends_both one other part a b = (a.0 ++ b.0, a.1 ∙ ap (λ (t : List Performed). a.0 ++ t) b.1 ∙ sym (append_assoc a.0 b.0 part))
-
-heads : (a b : Performed) (x y : List Performed) → a ∷ x ≡ b ∷ y → a ≡ b
-heads a b x y same = cc
 
 -- ---- the call of a line
 
@@ -60,10 +57,6 @@ among time place (line ∷ lines) older front x back same = ⊎_elim
     inl (record { before = line ∷ a.before; later = a.later; split = ap (λ (ls : List Line). line ∷ ls) a.split; place_is = a.place_is; time_is = a.time_is; back_is = a.back_is }))
     (λ (w : Ends (at_place time place line ∷ older) (x ∷ back)). newest time place line lines older w.0 x back w.1)
     (among time place lines (at_place time place line ∷ older) front x back same)
-
-pub nil_ends : (front : List Performed) (x : Performed) (back : List Performed) → ◌≡◌ {A = List Performed} [] (front ++ x ∷ back) → ⊥
-nil_ends [] x back same = cc
-nil_ends (y ∷ front) x back same = cc
 
 pub lines_have_calls : LinesHaveCalls
 lines_have_calls hosts [] front x back same = absurd (nil_ends front x back same)

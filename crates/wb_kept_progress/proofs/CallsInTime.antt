@@ -15,13 +15,13 @@ use Rattle.wb_keeping.specs.Kept.{Line, Arrives, Hears, Says, Ticks, Tunes}
 use Rattle.wb_keeping.specs.Laws.{KeptLine, doing_of}
 use Rattle.wb_keeping.specs.Performing.{Keeping, after_line, after_lines, sees, sent_by_line}
 use Rattle.wb_kept_progress.specs.Sessions.{Opening}
-use Rattle.wb_kept_progress.specs.Timed.{AreNotOverdue, ComesTo, IsQuietLine, IsTold, Performed, Start, TellTimes, TimedLine, WasSent, host_after, performed, performed_then, lines_of as lines_of_calls, sends, start_of, time_of, timers_after}
+use Rattle.wb_kept_progress.specs.Timed.{AreNotOverdue, ComesTo, IsQuietLine, Performed, Start, TellTimes, TimedLine, WasSent, host_after, performed, performed_then, lines_of as lines_of_calls, sends, start_of, time_of, timers_after}
 use Rattle.wb_kept_progress.specs.Whole.{IsHandedIn, IsTimelySession, WasSentBy, sends_then, there}
 use Rattle.wb_kept_progress.proofs.CallLines.{Ends, call_ends, ends_both, host_amid, host_apart, host_before, line_stands, lines_have_calls, sent_in}
 use Rattle.wb_kept_progress.proofs.CallParts.{host_is, lines_order}
 use Rattle.wb_kept_progress.proofs.FirstLines.{AreLinesOf, IsLineOf, drawop_begins, lines_of_call, one_of_lines, request_begins}
 use Rattle.wb_kept_progress.proofs.KeptInTime.{at_place, front_of, sent_by_one, then_front, time_is}
-use Rattle.wb_kept_progress.proofs.Lines.{is_false, lines_of}
+use Rattle.wb_kept_progress.proofs.Lines.{lines_of}
 use Rattle.wb_kept_progress.proofs.Performed.{kept_keeps_moments}
 use Rattle.wb_kept_progress.proofs.PerLine.{asks}
 use Rattle.wb_kept_progress.proofs.Repairs.{moved}
@@ -30,11 +30,8 @@ use Rattle.wb_kept_progress.proofs.Timely.{none_held, of_start}
 use Rattle.wb_kept_progress.proofs.TimersAhead.{AreAhead, ahead_amid, ahead_in_time, due_in_time}
 use Rattle.wb_kept_progress.proofs.Tunings.{constants_of, line_tuned}
 use Rattle.wb_kept_progress.proofs.WholeParts.{IsOfCall, PerformedIsTimely, does}
-
--- a call tells the moment of its time
-tells_at : (terms : Terms) (newer older : List TimedLine) (e : TimedLine) → TellTimes terms (newer ++ e ∷ older) → IsTold (e.time + terms.offset e.at.place) e.at.line
-tells_at terms [] older e tells = tells.0
-tells_at terms (x ∷ newer) older e tells = tells_at terms newer older e tells.1
+use Rattle.std.proofs.lemmas.Bool.{false_from_ne_true}
+use Rattle.wb_kept_progress.proofs.WindowParts.{told_in}
 
 module _ (hosts : ℕ → Opening) (terms : Terms) (trace : List TimedLine) (s : IsTimelySession hosts terms trace) where
   abbrev starts : ℕ → Start
@@ -137,7 +134,7 @@ module _ (hosts : ℕ → Opening) (terms : Terms) (trace : List TimedLine) (s :
                 (asks before (none_held starts back x.place) asker m x.line sent)
 
             apart : (calls : List TimedLine) (place : ℕ) → place ≡ j → nat_eq asker (there hosts calls place).host.is.number ≡ false
-            apart calls place here = is_false (nat_eq asker (there hosts calls place).host.is.number) (λ same.
+            apart calls place here = false_from_ne_true (nat_eq asker (there hosts calls place).host.is.number) (λ same.
                 other (s.distinct x.place j (sym own ∙ eqb-true asker (there hosts calls place).host.is.number same ∙ number_is calls place ∙ ap (λ (i : ℕ). (hosts i).number) here)))
 
     -- ---- what comes was sent
@@ -186,7 +183,7 @@ module _ (hosts : ℕ → Opening) (terms : Terms) (trace : List TimedLine) (s :
               → (let host = after_lines lines k.host in AreNotOverdue (timers_of host.is.constants (events host) m) (c.e.time + terms.offset c.e.at.place) terms.late)
           amid here [] split = due_in_time k m (c.e.time + terms.offset c.e.at.place) terms.late (s.soon c.newer c.older c.e c.e.at.place c.split here (late_call terms.quiet late))
           amid here (first ∷ lines) split =
-              let h = ahead_amid c.e.at.line k (c.e.time + terms.offset c.e.at.place) first lines c.later x.line (tells_at terms c.newer c.older c.e (subst (TellTimes terms) c.split s.times)) split in
+              let h = ahead_amid c.e.at.line k (c.e.time + terms.offset c.e.at.place) first lines c.later x.line (told_in terms c.newer c.older c.e (subst (TellTimes terms) c.split s.times)) split in
               let host = after_lines (first ∷ lines) k.host in
               let timers = timers_of host.is.constants (events host) m in
               ahead_in_time timers (c.e.time + terms.offset c.e.at.place) terms.late (subst (λ (t : ℕ). AreAhead t timers) h.now (h.ahead m))

@@ -27,10 +27,10 @@ use Rattle.wb_keeping.proofs.ToldMarks.{each_mark_is_told}
 use Rattle.wb_kept_progress.specs.Repairs.{ComesToTell, HasCome, IsBrought, IsLost, LostCanCome, MarksComeToBeTold, host_at, repair}
 use Rattle.wb_kept_progress.specs.Sessions.{AreHosts, AreSent, AreTaken, LineAt, Opening, at, kept_at}
 use Rattle.wb_kept_progress.proofs.Hearing.{report_asks, report_holds}
-use Rattle.wb_kept_progress.proofs.Lines.{is_false}
 use Rattle.wb_kept_progress.proofs.Repairs.{asked_can_come, fine_at, idle, is_itself, moved, of_opening, places_differ, session_in_time}
 use Rattle.wb_kept_progress.proofs.Turning.{answers_at, brought_behind, by_turn, comes_to_tell, count_of, in_map, not_ours, others_stay, sent_both, some_ticks, ticks_sent}
 use Rattle.wb_kept_progress.proofs.Leaving.{told_of}
+use Rattle.std.proofs.lemmas.Bool.{false_from_ne_true}
 
 -- ---- marks
 
@@ -105,7 +105,7 @@ holds_one_more (x ∷ held) d n = by (same_name x.name n) (holds_one_more held d
   by false e = e
 
 pub has_room : (host : Opened) → length host.is.held < host.is.cells → is_full host ≡ false
-has_room host lt = is_false (nat_le host.is.cells (length host.is.held)) (λ e. let le = leb-true host.is.cells (length host.is.held) e in omega (arith, le, lt))
+has_room host lt = false_from_ne_true (nat_le host.is.cells (length host.is.held)) (λ e. let le = leb-true host.is.cells (length host.is.held) e in omega (arith, le, lt))
 
 module _ (hosts : ℕ → Opening) (are : AreHosts hosts) where
   -- the board of a host has as many cells as ever
@@ -184,7 +184,7 @@ module _ (hosts : ℕ → Opening) (are : AreHosts hosts) where
     among : Contains (told_names k.host.is.number n.page told.marks) n
     among =
         let p : MarkValue → Bool = λ m. not (nat_eq m.source k.host.is.number && nat_le 2147483648 m.high) in
-        let low : nat_le 2147483648 mark.high ≡ false = is_false (nat_le 2147483648 mark.high) (λ e. let le = leb-true 2147483648 mark.high e in omega (arith, le, small, is_top)) in
+        let low : nat_le 2147483648 mark.high ≡ false = false_from_ne_true (nat_le 2147483648 mark.high) (λ e. let le = leb-true 2147483648 mark.high e in omega (arith, le, small, is_top)) in
         let passes : p mark ≡ true = ap (λ (b : Bool). not (nat_eq n.source k.host.is.number && b)) low ∙ never (nat_eq n.source k.host.is.number) in
         let there = in_map (λ (m : MarkValue). name_of n.page m.source m.high) (filter p told.marks) mark (Contains-filter p told.marks mark told.among passes) in
         subst (λ (s : ℕ). Contains (told_names k.host.is.number n.page told.marks) (name_of n.page n.source s)) (sym is_top) there where
@@ -310,7 +310,7 @@ module _ (hosts : ℕ → Opening) (are : AreHosts hosts) where
       b = first.1
 
       other_name : same_name t.name d.name ≡ false
-      other_name = is_false (same_name t.name d.name) (λ same. differ (sym (ap (λ (n : NameValue). n.seq) (same_name-is t.name d.name same)) ∙ seq_of))
+      other_name = false_from_ne_true (same_name t.name d.name) (λ same. differ (sym (ap (λ (n : NameValue). n.seq) (same_name-is t.name d.name same)) ∙ seq_of))
 
       lost_then : IsLost hosts (more ++ older) i j d
       lost_then = record {

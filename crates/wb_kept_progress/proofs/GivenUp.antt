@@ -14,11 +14,9 @@ use Rattle.wb_progress.proofs.Leading.{timer_leads_or_is_given_up as keeper_lead
 use Rattle.wb_kept_progress.specs.Timed.{IsGivenUp, Performed, RequestIsAnswered, Start, TimerLeadsOrIsGivenUp, time_of, timers_after}
 use Rattle.wb_kept_progress.proofs.Lining.{IsPart, IsTurnOf, line_of_turn, part_of, time_is, turn_of, turns_of, turns_over}
 use Rattle.wb_kept_progress.proofs.Timely.{answerable, holding, joined, keep_time, made, places, timers_here}
+use Rattle.wb_progress.proofs.Parts.{tails}
 
 -- ---- parts of a trace are told by their lengths
-
-tails : (a b : Performed) (x y : List Performed) → a ∷ x ≡ b ∷ y → x ≡ y
-tails a b x y same = cc
 
 longer : (newer older : List Performed) → length older ≤ length (newer ++ older)
 longer newer older = let l = length-append newer older in omega (arith, l)

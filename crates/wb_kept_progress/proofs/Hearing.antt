@@ -1,7 +1,6 @@
 -- Who hears a report of a number that it lacks asks for it.
-use Rattle.std.proofs.Common.{◌≡◌, ℕ, suc, ◌+◌, ◌*◌, ◌^◌, ◌<◌, ◌≤◌, Bool, true, false, cond, List, [], ◌∷◌, ◌∙◌, Option, Some, None, ap, arith, eqb-true, length, map, refl, subst, sym, true≢false}
+use Rattle.std.proofs.Common.{◌≡◌, ℕ, suc, ◌+◌, ◌*◌, ◌≤◌, Bool, true, false, cond, List, [], ◌∷◌, ◌∙◌, Option, Some, None, ap, arith, eqb-true, length, map, refl, subst, sym, true≢false}
 use Rattle.std.specs.Prelude.{◌&&◌, Contains, IfSome, filter, is_some, max, min, nat_eq, nat_le, nat_lt, not, take, unwrap_or}
-use Rattle.std.proofs.Math.Nat.{mul-le-mul, pow-le-pow_right}
 use Rattle.std.proofs.lemmas.List.Sums.{count_by-le-length, length-filter}
 use Rattle.wb_names.specs.History.{name_of}
 use Rattle.wb_names.specs.Values.{MarkValue, NameValue}
@@ -25,7 +24,7 @@ use Rattle.wb_progress.specs.Bounds.{IsAskNear}
 use Rattle.wb_progress.specs.Keepers.{farthest, greatest_constants}
 use Rattle.wb_progress.specs.Repairs.{asking_wait}
 use Rattle.wb_progress.proofs.KeeperBounds.{keepers_are_bounded}
-use Rattle.wb_progress.proofs.OneCall.{le_true, not_standing}
+use Rattle.wb_progress.proofs.OneCall.{not_standing}
 use Rattle.wb_member.specs.Judged.{is_full, level}
 use Rattle.wb_member.specs.Opened.{Opened, asks_for, due_count, events, has_room_for, heard, present, ticked}
 use Rattle.wb_member.specs.Random.{words_of}
@@ -39,29 +38,24 @@ use Rattle.wb_keeping.proofs.EachStep.{having, HoldsOfDue, having_done, timed_ho
 use Rattle.wb_keeping.proofs.Performed.{then_after}
 use Rattle.wb_keeping.proofs.StandingTimers.{keeps}
 use Rattle.wb_keeping.proofs.WantedNames.{lines_answer_held}
-use Rattle.wb_kept_progress.proofs.Asking.{IsAskedAnew, IsNew, MayBeAsked, none_new, stays_asked, told_is_asked}
-use Rattle.wb_kept_progress.proofs.Lines.{is_false, IsSmall, are_small, does_rest}
+use Rattle.wb_kept_progress.proofs.Asking.{IsAskedAnew, IsNew, MayBeAsked, stays_asked, told_is_asked}
+use Rattle.wb_kept_progress.proofs.Lines.{IsSmall, are_small, does_rest}
 use Rattle.wb_kept_progress.proofs.Repairs.{IsFine, came_after}
 use Rattle.wb_keeping.proofs.EachLine.{measures_each, timed_each, told_each}
 use Rattle.wb_keeping.proofs.Saying.{says_after}
+use Rattle.std.proofs.lemmas.Bool.{false_from_ne_true, le-leb}
+use Rattle.wb_progress.proofs.Repairs.{asking_bound}
+use Rattle.std.proofs.lemmas.Option.{none-some}
 
 -- ---- behind a long wait no timer is new
 
 itself : (n : ℕ) → n ≤ n
 itself n = omega arith
 
-longest : (level c delay : ℕ) → level ≤ 16 → c ≤ 32 → delay ≤ farthest → 2 ^ level * c * delay ≤ 2 ^ 45
-longest level c delay l x d =
-    let two : 0 < 2 = omega arith in
-    let p : 2 ^ level ≤ 2 ^ 16 = pow-le-pow_right two l in
-    let q : 2 ^ level * c ≤ 2 ^ 16 * 32 = mul-le-mul p x in
-    let r : delay ≤ 2 ^ 24 = omega arith in
-    mul-le-mul q r
-
 -- a timer that fired was backed off
 fired_is_old : (t : Tuning) (now word : ℕ) (o : Option AskTimer) → IfSome o (λ a. a.due ≤ now) → level_in (fired_ask t now word o) ≡ Some 0 → ⊥
-fired_is_old t now word None due new = none_new new
-fired_is_old t now word (Some a) due new = by (nat_le a.due now) (le_true a.due now due) new where
+fired_is_old t now word None due new = none-some 0 new
+fired_is_old t now word (Some a) due new = by (nat_le a.due now) (le-leb a.due now due) new where
   zero_of : (n : ℕ) → Some n ≡ Some 0 → n ≡ 0
   zero_of n e = ap (λ (o : Option ℕ). unwrap_or o 0) e
 
@@ -78,7 +72,7 @@ module _ (k : Keeping) (fine : IsFine k) (now : ℕ) (late : present k.host + as
     from : (o : Option AskTimer) → IfSome o (IsAskNear greatest_constants farthest (present k.host)) → IfSome o (λ a. a.due ≤ now)
     from None near = tt
     from (Some a) near =
-        let b = longest a.level 32 a.delay near.level (itself 32) near.delay in
+        let b = asking_bound a.level 32 a.delay near.level (itself 32) near.delay in
         let due = near.due in
         omega (arith, b, due, late)
 
@@ -109,7 +103,7 @@ module _ (k : Keeping) (fine : IsFine k) (now : ℕ) (late : present k.host + as
     fired = ap (λ (s : Timers). level_in (fired_ask c now word s.ask)) (sym then) ∙ new
 
     by : (b : Bool) → is_received received n ≡ b → ⊥
-    by true e = none_new (sym (ap (λ (o : Option AskTimer). level_in (fired_ask c now word o)) (not_standing (got_each now n s received) (received_stops now n s received e)).ask) ∙ fired)
+    by true e = none-some 0 (sym (ap (λ (o : Option AskTimer). level_in (fired_ask c now word o)) (not_standing (got_each now n s received) (received_stops now n s received e)).ask) ∙ fired)
     by false e = fired_is_old c now word s.ask (all_due n) (ap (λ (s : Timers). level_in (fired_ask c now word s.ask)) (sym (not_received now n s received e)) ∙ fired)
 
 no_level : (o : Option AskTimer) → is_some o ≡ false → level_in o ≡ None
@@ -117,7 +111,7 @@ no_level None e = refl
 no_level (Some a) e = absurd (true≢false e)
 
 some_level : (o : Option AskTimer) → level_in o ≡ Some 0 → is_some o ≡ true
-some_level None e = absurd (none_new e)
+some_level None e = absurd (none-some 0 e)
 some_level (Some a) e = refl
 
 -- ---- it hears who reports, and how far away that is
@@ -210,7 +204,7 @@ module _ (k : Keeping) (fine : IsFine k) (answering : AnswersWhatIsHeld k.host) 
   may = record {
     names = [];
     are = record { all = λ x new. absurd (none_is_new k fine now late x new); paid = nothing now k.policy.owed };
-    none = no_level (timers_of m.host.is.constants (events m.host) n).ask (is_false (is_some (timers_of m.host.is.constants (events m.host) n).ask) (λ stands. true≢false (sym (keeps (Ticks now) k.host refl n stands) ∙ none)));
+    none = no_level (timers_of m.host.is.constants (events m.host) n).ask (false_from_ne_true (is_some (timers_of m.host.is.constants (events m.host) n).ask) (λ stands. true≢false (sym (keeps (Ticks now) k.host refl n stands) ∙ none)));
     lacks = lacks;
     room = room;
     answers = λ x. lines_answer_held x (Ticks now ∷ []) k.host (answering x);
@@ -233,7 +227,7 @@ module _ (k : Keeping) (fine : IsFine k) (answering : AnswersWhatIsHeld k.host) 
 
   heard_so : after_doing (hears (Session sender sent page marks echoes)) m ≡ three
   heard_so =
-      ap (λ (b : Bool). having_done (cond b (still (sees m.host) m.policy) (hears_session sender sent page marks echoes (sees m.host) m.policy)) m) (is_false (nat_eq sender k.host.is.number) (λ same. other (eqb-true sender k.host.is.number same)))
+      ap (λ (b : Bool). having_done (cond b (still (sees m.host) m.policy) (hears_session sender sent page marks echoes (sees m.host) m.policy)) m) (false_from_ne_true (nat_eq sender k.host.is.number) (λ same. other (eqb-true sender k.host.is.number same)))
       ∙ then_after first (and_then second third) m
       ∙ then_after second third one
 

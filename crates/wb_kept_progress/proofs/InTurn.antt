@@ -20,12 +20,12 @@ use Rattle.wb_keeping.specs.Reports.{rest_after}
 use Rattle.wb_keeping.proofs.FairTurns.{turns_are_taken}
 use Rattle.wb_keeping.proofs.Performed.{then_after, then_sent}
 use Rattle.wb_keeping.proofs.ToldMarks.{reports_tell}
-use Rattle.wb_progress.proofs.OneCall.{le_true}
-use Rattle.wb_kept_progress.proofs.Lines.{IsOf, Rests, is_false, lines_of, IsSmall, are_small, does_rest}
+use Rattle.wb_kept_progress.proofs.Lines.{IsOf, Rests, lines_of, IsSmall, are_small, does_rest}
 use Rattle.wb_kept_progress.proofs.WantedIn.{IsAskedIn, IsAskedInCall, LacksCredit, IsWantedIn, MayBeWanted, turn_wants, wanted_later, IsAskedThen, asked_at_end, turn_owed, same_may}
 use Rattle.wb_keeping.proofs.EachLine.{answers_each, asks_pages_each, reports_each, turn_each}
 use Rattle.wb_kept_progress.proofs.Leaving.{Leaves, answers_leave, asks_leave, rest_late, rest_leaves, rest_soon, told_of, turn_tells}
 use Rattle.wb_keeping.specs.Credit.{cost, has_credit}
+use Rattle.std.proofs.lemmas.Bool.{false_from_ne_true, le-leb}
 
 -- ---- what a policy tells and whose turn it is
 
@@ -130,7 +130,7 @@ module _ (m : Keeping) where
   -- no report is due
   module _ (early : present m.host < m.policy.reports.due) where
     not_due : nat_le q.policy.reports.due (present q.host) ≡ false
-    not_due = is_false (nat_le q.policy.reports.due (present q.host)) (λ e. ⊎_elim
+    not_due = false_from_ne_true (nat_le q.policy.reports.due (present q.host)) (λ e. ⊎_elim
         (λ (yes : (nat_le q.policy.reports.due (present q.host) ≡ true) × (q.policy.reports.due ≤ present q.host)). let le = yes.1 in let d = due_q in let n = now_q in absurd (omega (arith, early, le, d, n)))
         (λ (no : (nat_le q.policy.reports.due (present q.host) ≡ false) × (present q.host < q.policy.reports.due)). true≢false (sym e ∙ no.0))
         (leb_tells q.policy.reports.due (present q.host)))
@@ -147,7 +147,7 @@ module _ (m : Keeping) where
   -- a report is due
   module _ (late : m.policy.reports.due ≤ present m.host) where
     is_due_now : nat_le q.policy.reports.due (present q.host) ≡ true
-    is_due_now = le_true q.policy.reports.due (present q.host) (let d = due_q in let n = now_q in omega (arith, late, d, n))
+    is_due_now = le-leb q.policy.reports.due (present q.host) (let d = due_q in let n = now_q in omega (arith, late, d, n))
 
     pub there : after_doing timed m ≡ after_doing turn r
     there = to_due ∙ ap by_due is_due_now ∙ then_after reports turn q
@@ -276,7 +276,7 @@ module _ (m : Keeping) where
           (λ (without : LacksCredit x). absurd (true≢false (sym (has_credit_then x.policy.owed (present x.host) (present m.host) owed_turn now) ∙ without)))
           (asked_r n may in_turn) where
             has_credit_then : (owed now then : ℕ) → owed ≤ then + 250000 → now ≡ then → has_credit owed now ≡ true
-            has_credit_then owed now then le e = le_true (max owed now - now) (63 * cost) (omega (arith, le, e))
+            has_credit_then owed now then le e = le-leb (max owed now - now) (63 * cost) (omega (arith, le, e))
 
 -- ---- the whole call
 

@@ -1,7 +1,7 @@
 -- What a live host lacks is wanted in time: the greatest number of its source is told to it, or its hole has its turn.
 use Rattle.std.proofs.Common.{◌≡◌, ℕ, suc, ◌+◌, ◌-◌, ◌*◌, ◌^◌, ◌<◌, ◌≤◌, Bool, true, false, List, [], ◌∷◌, ◌++◌, ◌∙◌, Some, ap, append_assoc, arith, eqb-true, length, mul-le-mul, refl, subst, sym, true≢false}
 use Rattle.std.specs.Prelude.{◌⊎◌, ◌&&◌, Contains, filter, nat_eq, nat_le, not}
-use Rattle.std.proofs.lemmas.Bool.{leb-true}
+use Rattle.std.proofs.lemmas.Bool.{leb-true, false_from_ne_true}
 use Rattle.wb_names.specs.History.{IsHeld, highest, name_of}
 use Rattle.wb_names.specs.Values.{DrawopValue, MarkValue, NameValue}
 use Rattle.wb_names.specs.declared.name.PageId.{PageId}
@@ -28,7 +28,6 @@ use Rattle.wb_kept_progress.specs.Timed.{IsTold, TimedLine, called_at, host_afte
 use Rattle.wb_kept_progress.specs.Whole.{AreCalledInOrder, AreWithin, IsHandedIn, IsHeldBySome, IsTimelySession, Sizes, report_span, there}
 use Rattle.wb_kept_progress.proofs.CallParts.{calls_end, lacked_until}
 use Rattle.wb_kept_progress.proofs.Coming.{below_top, missing_below, page_there, top_held, top_told}
-use Rattle.wb_kept_progress.proofs.Lines.{is_false}
 use Rattle.wb_kept_progress.proofs.NextReports.{IsBehind, IsCut, Reports, before_is, first, held_there, is_behind, ordered, quiet_before, quiet_behind, report_behind, room_there, split_there, start, still_older, still_there, tells_there, told_there, turns_there, window_there}
 use Rattle.wb_kept_progress.proofs.Repairs.{is_itself, of_opening}
 use Rattle.wb_kept_progress.proofs.StillCalls.{came_now}
@@ -38,6 +37,7 @@ use Rattle.wb_kept_progress.proofs.WantedIn.{IsAskedInCall, LacksCredit}
 use Rattle.wb_kept_progress.proofs.WantingCalls.{wanting_in_call}
 use Rattle.wb_kept_progress.proofs.WholeParts.{HeldWasHeld, IsStill, IsWanting, LackIsWanted}
 use Rattle.wb_kept_progress.proofs.Leaving.{told_of}
+use Rattle.wb_progress.proofs.Parts.{tails}
 
 -- ---- spans
 
@@ -63,9 +63,7 @@ within (x ∷ newest) front [] between rest call order split lt =
     let time : x.time ≡ call.time = ap (λ (y : TimedLine). y.time) same in
     absurd (omega (arith, end, lt, time))
 within (x ∷ newest) front (y ∷ later) between rest call order split lt =
-    within newest front later between rest call order.1 (tail x y (newest ++ front) (later ++ call ∷ between) split) lt where
-      tail : (x y : TimedLine) (a b : List TimedLine) → x ∷ a ≡ y ∷ b → a ≡ b
-      tail x y a b e = cc
+    within newest front later between rest call order.1 (tails x y (newest ++ front) (later ++ call ∷ between) split) lt
 
 module _ (was_held : HeldWasHeld) (hosts : ℕ → Opening) (terms : Terms) (trace newest window base : List TimedLine) (sizes : Sizes)
     (s : IsTimelySession hosts terms trace) (small : AreWithin hosts terms trace sizes) (still : IsStill hosts terms trace newest window base)
@@ -236,7 +234,7 @@ module _ (was_held : HeldWasHeld) (hosts : ℕ → Opening) (terms : Terms) (tra
         never false = refl
 
         low : nat_le 2147483648 mark.high ≡ false
-        low = is_false (nat_le 2147483648 mark.high) (λ e. let le = leb-true 2147483648 mark.high e in omega (arith, le, top_small))
+        low = false_from_ne_true (nat_le 2147483648 mark.high) (λ e. let le = leb-true 2147483648 mark.high e in omega (arith, le, top_small))
 
         passes : p mark ≡ true
         passes = ap (λ (b : Bool). not (nat_eq d.name.source me && b)) low ∙ never (nat_eq d.name.source me)

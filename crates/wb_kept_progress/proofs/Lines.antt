@@ -20,10 +20,7 @@ use Rattle.wb_keeping.specs.Kept.{Arrives, Asks, Hears, Line, Says, SetsDistance
 use Rattle.wb_keeping.specs.Performing.{after_line, after_lines, Keeping, after_doing, sees}
 use Rattle.wb_laws_sessions.proofs.Once.{with_once}
 use Rattle.wb_keeping.proofs.EachLine.{DoesEach, Each, OfPolicy}
-
-pub is_false : (b : Bool) → (b ≡ true → ⊥) → b ≡ false
-is_false true f = absurd (f refl)
-is_false false f = refl
+use Rattle.std.proofs.lemmas.Bool.{false_from_ne_true}
 
 -- ---- any lines
 
@@ -170,7 +167,7 @@ rest host = record { held = refl; now = refl; timers = λ n held none. refl }
 
 -- another name than one that is held
 another : (host : Opened) (name n : NameValue) → may_ask name host ≡ true → holds host.is.held n ≡ true → same_name name n ≡ false
-another host name n may held = is_false (same_name name n) (λ same.
+another host name n may held = false_from_ne_true (same_name name n) (λ same.
     let e : holds host.is.held name ≡ true = subst (λ (m : NameValue). holds host.is.held m ≡ true) (sym (same_name-is name n same)) held in
     true≢false (sym may ∙ ap (λ (b : Bool). not (b || timed host name)) e)) where
       timed : Opened → NameValue → Bool
@@ -193,7 +190,7 @@ stops_rest : (name : NameValue) (host : Opened) → Rests host (after_line (Stop
 stops_rest name host = record { held = refl; now = refl; timers = λ n held none. by n none (asks_for name host) refl } where
   by : (n : NameValue) → (timers_of host.is.constants (events host) n).ask ≡ None → (b : Bool) → asks_for name host ≡ b → timers_of host.is.constants (given_up (present host) name b (events host)) n ≡ timers_of host.is.constants (events host) n
   by n none false e = refl
-  by n none true e = ap (λ (b : Bool). cond b (got (present host) 0 (timers_of host.is.constants (events host) n)) (timers_of host.is.constants (events host) n)) (is_false (same_name name n) (λ same.
+  by n none true e = ap (λ (b : Bool). cond b (got (present host) 0 (timers_of host.is.constants (events host) n)) (timers_of host.is.constants (events host) n)) (false_from_ne_true (same_name name n) (λ same.
       let asked : is_some (timers_of host.is.constants (events host) n).ask ≡ true = subst (λ (m : NameValue). asks_for m host ≡ true) (same_name-is name n same) e in
       true≢false (sym asked ∙ ap is_some none)))
 

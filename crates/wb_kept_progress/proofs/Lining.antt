@@ -6,6 +6,7 @@ use Rattle.wb_progress.specs.Turns as turning
 use Rattle.wb_member.specs.Opened.{Opened}
 use Rattle.wb_keeping.specs.Performing.{after_line}
 use Rattle.wb_kept_progress.specs.Timed.{AreInOrder, Performed, Start, host_after, sends, time_of, until}
+use Rattle.wb_progress.proofs.Parts.{heads, tails, nil_ends}
 
 abbrev pub desk_of : Opened → Desk
 desk_of host = record { calls = host.is.calls; held = host.is.held }
@@ -40,18 +41,9 @@ module _ (hosts : ℕ → Start) where
     pub newer_is : newer ≡ turns_over hosts front back
     pub part_is : part ≡ turns_of hosts back
 
-  nil_cons : (e : Turn) (x : List Turn) → ◌≡◌ {A = List Turn} [] (e ∷ x) → ⊥
-  nil_cons e x same = cc
-
-  heads : (a b : Turn) (x y : List Turn) → a ∷ x ≡ b ∷ y → a ≡ b
-  heads a b x y same = cc
-
-  tails : (a b : Turn) (x y : List Turn) → a ∷ x ≡ b ∷ y → x ≡ y
-  tails a b x y same = cc
-
   pub part_of : (trace : List Performed) (newer part : List Turn) → turns_of hosts trace ≡ newer ++ part → IsPart trace newer part
   part_of trace [] part same = record { front = []; back = trace; split = refl; newer_is = refl; part_is = sym same }
-  part_of [] (x ∷ newer) part same = absurd (nil_cons x (newer ++ part) same)
+  part_of [] (x ∷ newer) part same = absurd (nil_ends [] x (newer ++ part) same)
   part_of (e ∷ older) (x ∷ newer) part same =
       let r = part_of older newer part (tails _ x _ (newer ++ part) same) in
       record {
@@ -78,7 +70,7 @@ module _ (hosts : ℕ → Start) where
     r = part_of trace newer (x ∷ older) same
 
     from : (back : List Performed) → r.back ≡ back → IsTurnOf trace newer x older
-    from [] is = absurd (nil_cons x older (sym (r.part_is ∙ ap (turns_of hosts) is)))
+    from [] is = absurd (nil_ends [] x older (sym (r.part_is ∙ ap (turns_of hosts) is)))
     from (e ∷ back) is =
         let both = r.part_is ∙ ap (turns_of hosts) is in
         record {

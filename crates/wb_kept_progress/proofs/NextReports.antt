@@ -19,6 +19,7 @@ use Rattle.wb_kept_progress.proofs.StillCalls.{IsTuning, still_call}
 use Rattle.wb_kept_progress.proofs.Turning.{answers_at}
 use Rattle.wb_kept_progress.proofs.WholeParts.{IsStill}
 use Rattle.wb_kept_progress.proofs.Leaving.{told_of}
+use Rattle.wb_progress.proofs.Parts.{nil_ends}
 
 -- ---- parts of a window
 
@@ -170,14 +171,10 @@ pub record IsCut (window base : List TimedLine) (from : ℕ) : Type 0 where
   pub until : called_at (grown ++ base) ≤ from
   pub behind : (a b : List TimedLine) (y : TimedLine) → front ≡ a ++ y ∷ b → from < y.time
 
-no_call : (a b : List TimedLine) (y : TimedLine) → [] ≡ a ++ y ∷ b → ⊥
-no_call [] b y e = absurd cc
-no_call (x ∷ a) b y e = absurd cc
-
 pub cut : (window base : List TimedLine) (from : ℕ) → called_at base ≤ from → IsCut window base from
-cut [] base from le = record { front = []; grown = []; split = refl; until = le; behind = λ a b y e. absurd (no_call a b y e) }
+cut [] base from le = record { front = []; grown = []; split = refl; until = le; behind = λ a b y e. absurd (nil_ends a y b e) }
 cut (e ∷ window) base from le = ⊎_elim
-    (λ yes. let l = yes.1 in record { front = []; grown = e ∷ window; split = refl; until = l; behind = λ a b y e. absurd (no_call a b y e) })
+    (λ yes. let l = yes.1 in record { front = []; grown = e ∷ window; split = refl; until = l; behind = λ a b y e. absurd (nil_ends a y b e) })
     (λ no.
     let rest = cut window base from le in
     record { front = e ∷ rest.front; grown = rest.grown; split = ap (λ (t : List TimedLine). e ∷ t) rest.split; until = rest.until; behind = λ a b y is. later rest.front rest.behind no.1 a b y is })

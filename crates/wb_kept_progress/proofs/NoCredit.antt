@@ -6,7 +6,6 @@ use Rattle.std.proofs.lemmas.Bool.Decides.{leb_tells}
 use Rattle.wb_names.specs.Values.{NameValue}
 use Rattle.wb_progress.specs.InTime.{known_from, repairing}
 use Rattle.wb_progress.specs.Turns.{Terms, settled_by}
-use Rattle.wb_progress.proofs.OneCall.{le_true}
 use Rattle.wb_member.specs.Opened.{present}
 use Rattle.wb_keeping.specs.Credit.{cost, has_credit, spent}
 use Rattle.wb_keeping.specs.Kept.{Asks}
@@ -25,6 +24,7 @@ use Rattle.wb_kept_progress.proofs.StillCalls.{IsTuning}
 use Rattle.wb_kept_progress.proofs.Turning.{answers_at}
 use Rattle.wb_kept_progress.proofs.WantingCalls.{asking_in_call}
 use Rattle.wb_kept_progress.proofs.WholeParts.{CreditIsSpent, IsAsking, IsStill, NoCreditIsAsked, does}
+use Rattle.std.proofs.lemmas.Bool.{le-leb}
 
 -- ---- what is owed at moments up to one, from 21 seconds before it on
 
@@ -43,7 +43,7 @@ covered_report : (owed owes due later now then last : ℕ) → owes ≤ max owed
 covered_report owed owes due later now then last le due_then next after before covered = omega (arith, le, due_then, next, after, before, covered)
 
 covered_last : (owed due last : ℕ) → 21000000 ≤ last → IsCovered owed due last last → has_credit owed last ≡ true
-covered_last owed due last long covered = le_true (max owed last - last) (63 * cost) (omega (arith, long, covered))
+covered_last owed due last long covered = le-leb (max owed last - last) (63 * cost) (omega (arith, long, covered))
 
 -- ---- in a window in which what is held stays
 

@@ -1,26 +1,25 @@
 -- Nothing new comes to live places: what one of them holds, one of them held once what was on its way had arrived.
 use Rattle.std.proofs.Common.{◌≡◌, ◌⊎◌, ℕ, ◌<◌, ◌≤◌, Bool, true, false, cond, List, [], ◌∷◌, ◌++◌, ◌∙◌, ap, append_assoc, arith, inl, inr, refl, subst, sym, true≢false, ⊎_elim}
 use Rattle.std.specs.Prelude.{Contains, nat_eq, nat_le}
-use Rattle.std.proofs.lemmas.Bool.{cases_lt}
+use Rattle.std.proofs.lemmas.Bool.{cases_lt, le-leb}
 use Rattle.wb_names.specs.Values.{DrawopValue, NameValue}
 use Rattle.wb_codec.specs.declared.datagram.Datagram.TheVariants.{Draw}
 use Rattle.wb_host.proofs.KeptCalls.{holds_from}
 use Rattle.wb_progress.specs.Turns.{Terms, settled_by}
 use Rattle.wb_progress.proofs.Giving.{held_as}
-use Rattle.wb_progress.proofs.OneCall.{le_true}
 use Rattle.wb_member.specs.Judged.{holds}
 use Rattle.wb_member.specs.Opened.{Opened}
 use Rattle.wb_keeping.specs.Kept.{Arrives, Line, Says}
 use Rattle.wb_keeping.specs.Performing.{after_line}
 use Rattle.wb_kept_progress.specs.Timed.{IsAnswerable, IsTimely, Performed, Start, WasSent, host_after, performed, start_of, until}
 use Rattle.wb_kept_progress.proofs.Bringing.{line_brings}
-use Rattle.wb_kept_progress.proofs.CallLines.{nil_ends}
 use Rattle.wb_kept_progress.proofs.CallParts.{host_is}
 use Rattle.wb_kept_progress.proofs.CallsInTime.{performed_is_timely}
 use Rattle.wb_kept_progress.proofs.KeptInTime.{front_of}
 use Rattle.wb_kept_progress.proofs.PerLine.{draws}
-use Rattle.wb_kept_progress.proofs.Timely.{held_later, tails}
+use Rattle.wb_kept_progress.proofs.Timely.{held_later}
 use Rattle.wb_kept_progress.proofs.WholeParts.{HeldWasHeld}
+use Rattle.wb_progress.proofs.Parts.{tails, nil_ends}
 
 -- ---- one line
 
@@ -40,7 +39,7 @@ line_new line host n e =
 
 -- a part that ends in time is within the part up to the time
 up_to : (s : ℕ) (newer older : List Performed) (e : Performed) → e.time ≤ s → (more : List Performed) × (until s (newer ++ e ∷ older) ≡ more ++ e ∷ older)
-up_to s [] older e le = ([], ap (λ (b : Bool). cond b (e ∷ older) (until s older)) (le_true e.time s le))
+up_to s [] older e le = ([], ap (λ (b : Bool). cond b (e ∷ older) (until s older)) (le-leb e.time s le))
 up_to s (x ∷ newer) older e le = from (up_to s newer older e le) (nat_le x.time s) where
   from : (more : List Performed) × (until s (newer ++ e ∷ older) ≡ more ++ e ∷ older) → (b : Bool) → (more : List Performed) × (cond b (x ∷ (newer ++ e ∷ older)) (until s (newer ++ e ∷ older)) ≡ more ++ e ∷ older)
   from rest true = (x ∷ newer, refl)

@@ -5,7 +5,7 @@ use Rattle.std.specs.Option.{option_map}
 use Rattle.std.proofs.lemmas.List.Elements.{All-cons, All-nil, Contains-append_cases}
 use Rattle.wb_names.specs.Arrivals.{Outcome, Fresh, Known, Clashed, Left}
 use Rattle.wb_names.specs.Values.{DrawopValue, NameValue}
-use Rattle.wb_names.proofs.Listings.{Any-from_map, Contains-cases, Contains-from_filter, Contains-here, Contains-none}
+use Rattle.wb_names.proofs.Listings.{Any-from_map, Contains-from_filter, Contains-here, Contains-none}
 use Rattle.wb_codec.specs.declared.datagram.Datagram.{Datagram}
 use Rattle.wb_codec.specs.declared.datagram.Datagram.TheVariants.{Draw, Session, Request, AskPages, PageState}
 use Rattle.wb_gaps.specs.Answers.{reports_of}
@@ -32,6 +32,8 @@ use Rattle.wb_laws_sessions.proofs.Holding.{HeldNone, none_after}
 use Rattle.wb_laws_sessions.proofs.Acts.{IsDrawing, draws_sent}
 use Rattle.wb_keeping.specs.Kept.{Line, Arrives, Asks, Hears, Says, SetsDistance, Tunes, Stops, Ticks}
 use Rattle.wb_keeping.specs.Performing.{after_line, said_where, sent_by_line}
+use Rattle.wb_laws_sessions.proofs.Sending.{one_of, no_answer}
+use Rattle.std.proofs.lemmas.Option.{same_Some}
 
 -- ---- the call of a line
 
@@ -134,9 +136,6 @@ line_none (Says (PageState sender page marks)) host none = none
 
 -- ---- what it sends
 
-pub one_of : (a b : Datagram) → Contains (a ∷ []) b → a ≡ b
-one_of a b c = ⊎_elim (λ (e : a ≡ b). e) (λ (d : Contains [] b). absurd (Contains-none b d)) (Contains-cases a b [] c)
-
 no_answer_asks : (me : ℕ) (held : List DrawopValue) (v : Datagram) (asker : ℕ) (n : NameValue) → Contains (answers_to me held v) (Request asker n) → ⊥
 no_answer_asks me held v asker n c = from (asks_for_pages me v) c where
   other : (r : PageReport) → PageState me r.page r.marks ≡ Request asker n → ⊥
@@ -146,21 +145,12 @@ no_answer_asks me held v asker n c = from (asks_for_pages me v) c where
   from true c = let r = Any-from_map (λ (r : PageReport). PageState me r.page r.marks) (reports_of held) (Request asker n) c in other r.1 r.4
   from false c = Contains-none (Request asker n) c
 
-no_answer_draws : (me : ℕ) (held : List DrawopValue) (v : Datagram) (d : DrawopValue) → Contains (answers_to me held v) (Draw d) → ⊥
-no_answer_draws me held v d c = from (asks_for_pages me v) c where
-  other : (r : PageReport) → PageState me r.page r.marks ≡ Draw d → ⊥
-  other r e = cc
-
-  from : (b : Bool) → Contains (cond b (page_states me held) []) (Draw d) → ⊥
-  from true c = let r = Any-from_map (λ (r : PageReport). PageState me r.page r.marks) (reports_of held) (Draw d) c in other r.1 r.4
-  from false c = Contains-none (Draw d) c
-
 pub draws : (line : Line) (host : Opened) (d : DrawopValue) → Contains (sent_by_line line host) (Draw d) → Contains host.is.held d ⊎ ((e : DrawopValue) × (line ≡ Says (Draw e)))
 draws (Ticks now) host d c = ⊎_elim (λ (h : Contains host.is.held d). inl h) (λ (n : IsDrawing (Ticking now []) host.is d). absurd n) (draws_sent (Ticking now []) host.is d c)
 draws (Arrives x) host d c = absurd (Contains-none (Draw d) c)
 draws (Hears v) host d c = by (has_room_for v host) c where
   by : (b : Bool) → Contains (cond b (answers_to host.is.number host.is.held v) []) (Draw d) → Contains host.is.held d ⊎ ((e : DrawopValue) × (Hears v ≡ Says (Draw e)))
-  by true c = absurd (no_answer_draws host.is.number host.is.held v d c)
+  by true c = absurd (no_answer host.is.number host.is.held v d c)
   by false c = absurd (Contains-none (Draw d) c)
 draws (Asks name) host d c = absurd (Contains-none (Draw d) c)
 draws (Stops name) host d c = absurd (Contains-none (Draw d) c)
@@ -226,12 +216,9 @@ module _ (host : Opened) (lacking : HeldNone host.is) (asker : ℕ) (n : NameVal
             let due = Contains-from_filter (λ m. is_ask_due now (timers_of host.is.constants then_events m).ask) (names_of then_events) n (asks_in _ _ d) in
             absurd (not_due now (timers_of host.is.constants then_events n).ask (still_none (lacking n h)) due.1)
 
-        some_is : (a b : Datagram) → Some a ≡ Some b → a ≡ b
-        some_is a b e = cc
-
         from : (action : Action) → Contains (map Ask (due_asks (names_of then_events) (timers_of host.is.constants then_events) now) ++ map Answer (due_answers (names_of then_events) (timers_of host.is.constants then_events) now)) action → sent_for host.is.number host.is.held action ≡ Some (Request asker n) → Goal
         from (Ask m) d e =
-            let is = asked m (some_is _ _ e) in
+            let is = asked m (same_Some _ _ e) in
             (sym is.0, lost (subst (λ (k : NameValue). Contains (map Ask (due_asks (names_of then_events) (timers_of host.is.constants then_events) now) ++ map Answer (due_answers (names_of then_events) (timers_of host.is.constants then_events) now)) (Ask k)) is.1 d) (holds host.is.held n) refl)
         from (Answer m) d e = absurd (none (drawop_of host.is.held m) e) where
           none : (o : Option DrawopValue) → option_map {T = DrawopValue} {U = Datagram} Draw o ≡ Some (Request asker n) → ⊥

@@ -1,8 +1,8 @@
 -- The lines of a repair, one after another.
 use Rattle.wb_progress.specs.Keepers.{constants_at}
 use Rattle.std.proofs.Common.{◌≡◌, ℕ, ◌+◌, ◌<◌, ◌≤◌, Bool, true, false, cond, List, [], ◌∷◌, ◌++◌, ◌∙◌, Option, Some, None, ap, arith, eqb-true, length, map, refl, subst, sym, true≢false}
-use Rattle.std.specs.Prelude.{Contains, IfSome, nat_eq, nat_le, nat_lt, not, ◌||◌}
-use Rattle.std.proofs.lemmas.Bool.{leb-false}
+use Rattle.std.specs.Prelude.{Contains, IfSome, nat_eq, nat_le, not, ◌||◌}
+use Rattle.std.proofs.lemmas.Bool.{leb-false, false_from_ne_true, le-leb, lt-ltb}
 use Rattle.std.proofs.lemmas.Bool.Decides.{nat_tests}
 use Rattle.std.proofs.lemmas.List.Elements.{Contains-append_left, Contains-append_right}
 use Rattle.wb_names.specs.Arrivals.{Fresh, Known, Clashed, Left, history_with, outcome_from}
@@ -25,7 +25,7 @@ use Rattle.wb_host.specs.declared.keep_fault.KeepFault.TheVariants.{BackInTime}
 use Rattle.wb_host.proofs.KeptCalls.{holds_from}
 use Rattle.wb_progress.specs.Repairs.{IsIdle, answering_wait, asking_wait, quiet_wait}
 use Rattle.wb_progress.proofs.KeeperBounds.{keepers_are_bounded}
-use Rattle.wb_progress.proofs.OneCall.{le_true, requests_set, ticks_answer, ticks_clear, ticks_leave}
+use Rattle.wb_progress.proofs.OneCall.{requests_set, ticks_answer, ticks_clear, ticks_leave}
 use Rattle.wb_progress.proofs.Repairs.{answers_are_soon, asker_asks}
 use Rattle.wb_member.specs.Judged.{is_full}
 use Rattle.wb_member.specs.Opened.{Opened, asks_for, due_count, events, heard, opened_with, present, sent_by, ticked, word_at}
@@ -42,7 +42,7 @@ use Rattle.wb_keeping.proofs.Performed.{then_after, then_sent}
 use Rattle.wb_kept_progress.specs.Repairs.{AskedCanCome, IsBrought, IsLost, host_at, repair}
 use Rattle.wb_kept_progress.specs.Sessions.{AreHosts, AreSent, AreTaken, LineAt, Opening, WasSent, at, kept_at, sent_since}
 use Rattle.wb_kept_progress.proofs.Going.{Goes, kept_goes, line_goes}
-use Rattle.wb_kept_progress.proofs.Lines.{IsOf, Rests, is_false, line_rests, lines_grow, lines_of, IsSmall, are_small, does_rest, rests_then}
+use Rattle.wb_kept_progress.proofs.Lines.{IsOf, Rests, line_rests, lines_grow, lines_of, IsSmall, are_small, does_rest, rests_then}
 use Rattle.wb_keeping.proofs.EachLine.{learned_each, timed_each}
 
 -- ---- one line of a host that keeps itself
@@ -90,7 +90,7 @@ request_rests now asker n k other = subst (λ (x : Keeping). Rests (after_line l
   with_it lends = record { policy = k.policy; lines = cond lends (SetsDistance source k.policy.usual ∷ line ∷ SetsDistance source unknown ∷ []) (line ∷ []) }
 
   heard_so : after_doing (hears (Request asker n)) m ≡ done m (with_it (nat_eq ((view_of m.host).distance source) unknown))
-  heard_so = ap (λ (b : Bool). done m (cond b (still (sees m.host) m.policy) (hears_request asker n (sees m.host) m.policy))) (is_false (nat_eq asker k.host.is.number) (λ same. other (eqb-true asker k.host.is.number same)))
+  heard_so = ap (λ (b : Bool). done m (cond b (still (sees m.host) m.policy) (hears_request asker n (sees m.host) m.policy))) (false_from_ne_true (nat_eq asker k.host.is.number) (λ same. other (eqb-true asker k.host.is.number same)))
 
   there : after_doing (came now (Request asker n)) k ≡ after_doing timed (done m (with_it (nat_eq ((view_of m.host).distance source) unknown)))
   there = came_after now (Request asker n) k ∙ ap (after_doing timed) heard_so
@@ -102,11 +102,9 @@ request_rests now asker n k other = subst (λ (x : Keeping). Rests (after_line l
       rests_then g last.host (after_doing timed last).host (line_rests (SetsDistance source unknown) g tt) (does_rest timed (timed_each IsSmall are_small) last)
   by false = does_rest timed (timed_each IsSmall are_small) (done m (with_it false))
 
--- a drawop that is not held is taken into a free cell
+-- a drawop that is not held is taken into a lt-ltb cell
 fresh : (cells k : ℕ) (h : List DrawopValue) (d : DrawopValue) → holds h d.name ≡ false → k + length h < cells → (place : ℕ) × (outcome_from cells k h d ≡ Fresh place)
-fresh cells k [] d lost room = (k, ap (λ (b : Bool). cond b (Fresh k) Left) (free k cells (omega arith))) where
-  free : (a b : ℕ) → a < b → nat_lt a b ≡ true
-  free a b lt = grind (arith, nat_tests)
+fresh cells k [] d lost room = (k, ap (λ (b : Bool). cond b (Fresh k) Left) (lt-ltb k cells (omega arith)))
 fresh cells k (x ∷ h) d lost room = from (fresh cells (k + 1) h d) (same_name x.name d.name) lost where
   from : (holds h d.name ≡ false → k + 1 + length h < cells → (place : ℕ) × (outcome_from cells (k + 1) h d ≡ Fresh place)) → (b : Bool) → (b || holds h d.name) ≡ false → (place : ℕ) × (cond b (cond (same_drawop x d) (Known k) (Clashed k)) (outcome_from cells (k + 1) h d) ≡ Fresh place)
   from rest true e = absurd (true≢false e)
@@ -137,17 +135,17 @@ drawop_held now d k lost room =
 -- ---- no line is refused
 
 pub tick_in_time : (k : Keeping) (now : ℕ) → present k.host ≤ now → fault_of (Ticked now) k ≡ None
-tick_in_time k now le = ap (λ (b : Bool). first_of (fault_unless b (Host BackInTime) ∷ [])) (le_true (present k.host) now le)
+tick_in_time k now le = ap (λ (b : Bool). first_of (fault_unless b (Host BackInTime) ∷ [])) (le-leb (present k.host) now le)
 
 request_in_time : (k : Keeping) (now asker : ℕ) (n : NameValue) → present k.host ≤ now → fault_of (Came now (Request asker n)) k ≡ None
-request_in_time k now asker n le = ap (λ (b : Bool). first_of (fault_unless b (Host BackInTime) ∷ fault_unless true Ours ∷ [])) (le_true (present k.host) now le)
+request_in_time k now asker n le = ap (λ (b : Bool). first_of (fault_unless b (Host BackInTime) ∷ fault_unless true Ours ∷ [])) (le-leb (present k.host) now le)
 
 pub session_in_time : (k : Keeping) (now sender sent : ℕ) (page : PageId) (marks : List MarkValue) (echoes : List Echo) → present k.host ≤ now → fault_of (Came now (Session sender sent page marks echoes)) k ≡ None
-session_in_time k now sender sent page marks echoes le = ap (λ (b : Bool). first_of (fault_unless b (Host BackInTime) ∷ fault_unless true Ours ∷ [])) (le_true (present k.host) now le)
+session_in_time k now sender sent page marks echoes le = ap (λ (b : Bool). first_of (fault_unless b (Host BackInTime) ∷ fault_unless true Ours ∷ [])) (le-leb (present k.host) now le)
 
 drawop_in_time : (k : Keeping) (now : ℕ) (d : DrawopValue) → present k.host ≤ now → is_unknown d.name k.host ≡ false → fault_of (Came now (Draw d)) k ≡ None
 drawop_in_time k now d le known =
-    ap (λ (b : Bool). first_of (fault_unless b (Host BackInTime) ∷ fault_unless (not (is_unknown d.name k.host)) Ours ∷ [])) (le_true (present k.host) now le)
+    ap (λ (b : Bool). first_of (fault_unless b (Host BackInTime) ∷ fault_unless (not (is_unknown d.name k.host)) Ours ∷ [])) (le-leb (present k.host) now le)
     ∙ ap (λ (b : Bool). first_of (None ∷ fault_unless (not b) Ours ∷ [])) known
 
 -- ---- a host after lines
@@ -213,7 +211,7 @@ pub record Stage (hosts : ℕ → Opening) (start newer : List LineAt) (i j : �
 
 module _ (hosts : ℕ → Opening) (older : List LineAt) where
   pub idle : (e : LineAt) (k : ℕ) → (e.place ≡ k → ⊥) → kept_at hosts (e ∷ older) k ≡ kept_at hosts older k
-  idle e k other = ap (λ (b : Bool). cond b (after_doing (doing_of e.line) (kept_at hosts older k)) (kept_at hosts older k)) (is_false (nat_eq e.place k) (λ h. other (eqb-true e.place k h)))
+  idle e k other = ap (λ (b : Bool). cond b (after_doing (doing_of e.line) (kept_at hosts older k)) (kept_at hosts older k)) (false_from_ne_true (nat_eq e.place k) (λ h. other (eqb-true e.place k h)))
 
   pub moved : (i : ℕ) (line : KeptLine) → kept_at hosts (at i line ∷ older) i ≡ after_doing (doing_of line) (kept_at hosts older i)
   moved i line = ap (λ (b : Bool). cond b (after_doing (doing_of line) (kept_at hosts older i)) (kept_at hosts older i)) (is_itself i)
@@ -420,7 +418,7 @@ module _ (o : Keeping) (fine : IsFine o) (d : DrawopValue) (held : Contains o.ho
       let soon = answers_are_soon o3.host.is.number o3.host.is.constants o3.host.is.calls n fine_3.constants fine_3.goes.orderly in
       let le = subst (λ (a : Option AnswerTimer). IfSome a (λ answer. answer.due ≤ present o3.host + answering_wait)) (ap (λ (s : Timers). s.answer) timers_3) soon in
       let now : present o3.host ≡ second = now_o3 in
-      ap (λ (s : Timers). is_answer_due third s.answer) timers_3 ∙ le_true answer.due third (omega (arith, le, now))
+      ap (λ (s : Timers). is_answer_due third s.answer) timers_3 ∙ le-leb answer.due third (omega (arith, le, now))
 
   pub none_4 : fault_of (Ticked third) o3 ≡ None
   none_4 = tick_in_time o3 third (subst (λ (x : ℕ). x ≤ third) (sym now_o3) (up second answering_wait))

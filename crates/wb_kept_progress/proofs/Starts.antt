@@ -18,8 +18,8 @@ use Rattle.wb_kept_progress.specs.Sessions as hosts
 use Rattle.wb_kept_progress.specs.Starts.{AreSent, HasCome, NoStateIsADeadEnd, calls_of, sent_since}
 use Rattle.wb_kept_progress.specs.Repairs as repairs
 use Rattle.wb_kept_progress.proofs.Coming.{lost_can_come}
-use Rattle.wb_kept_progress.proofs.Lines.{is_false}
 use Rattle.wb_kept_progress.proofs.Repairs.{is_itself}
+use Rattle.std.proofs.lemmas.Bool.{false_from_ne_true}
 
 -- ---- the last opening of each member, and the lines since then
 
@@ -86,7 +86,7 @@ module _ (numbers : ℕ → ℕ) where
     all_left q differ [] = refl
     all_left q differ (e ∷ lines) = by (all_left q differ lines) (nat_eq e.place p) refl where
       by : hosts.kept_at h (without p lines) q ≡ hosts.kept_at h lines q → (b : Bool) → nat_eq e.place p ≡ b → hosts.kept_at h (cond b (without p lines) (e ∷ without p lines)) q ≡ hosts.kept_at h (e ∷ lines) q
-      by rest true is = rest ∙ sym (other_place h e lines q (is_false (nat_eq e.place q) (λ same. differ (sym (eqb-true e.place p is) ∙ eqb-true e.place q same))))
+      by rest true is = rest ∙ sym (other_place h e lines q (false_from_ne_true (nat_eq e.place q) (λ same. differ (sym (eqb-true e.place p is) ∙ eqb-true e.place q same))))
       by rest false unlike = ap (λ (k : Keeping). cond (nat_eq e.place q) (after_doing (doing_of e.line) k) k) rest
 
     given_here : (given : List KeptLine) (lines : List LineAt) → hosts.kept_at h (onto p given lines) p ≡ after_kept given (hosts.kept_at h lines p)
@@ -95,7 +95,7 @@ module _ (numbers : ℕ → ℕ) where
 
     given_elsewhere : (q : ℕ) → (p ≡ q → ⊥) → (given : List KeptLine) (lines : List LineAt) → hosts.kept_at h (onto p given lines) q ≡ hosts.kept_at h lines q
     given_elsewhere q differ [] lines = refl
-    given_elsewhere q differ (line ∷ given) lines = given_elsewhere q differ given (at p line ∷ lines) ∙ other_place h (at p line) lines q (is_false (nat_eq p q) (λ same. differ (eqb-true p q same)))
+    given_elsewhere q differ (line ∷ given) lines = given_elsewhere q differ given (at p line ∷ lines) ∙ other_place h (at p line) lines q (false_from_ne_true (nat_eq p q) (λ same. differ (eqb-true p q same)))
 
     -- ---- no line is refused
 
@@ -130,7 +130,7 @@ module _ (numbers : ℕ → ℕ) where
     stays line q = ap (with_number (numbers q)) (same_either (nat_eq p q) (opening_at older q))
 
     other_stays : (call : Call) (q : ℕ) → (p ≡ q → ⊥) → now call q ≡ hosts_of numbers older q
-    other_stays call q differ = ap (λ (b : Bool). with_number (numbers q) (cond b (opening_by call (opening_at older q)) (opening_at older q))) (is_false (nat_eq p q) (λ same. differ (eqb-true p q same)))
+    other_stays call q differ = ap (λ (b : Bool). with_number (numbers q) (cond b (opening_by call (opening_at older q)) (opening_at older q))) (false_from_ne_true (nat_eq p q) (λ same. differ (eqb-true p q same)))
 
     begins_here : (o : Opening) (given : List Datagram) → now (Begins o given) p ≡ with_number (numbers p) o
     begins_here o given = ap (λ (b : Bool). with_number (numbers p) (cond b o (opening_at older p))) (is_itself p)

@@ -3,8 +3,7 @@
 use Rattle.std.proofs.Common.{◌≡◌, ℕ, zero, suc, ◌+◌, ◌-◌, ◌*◌, ◌<◌, ◌≤◌, Bool, true, false, List, [], ◌∷◌, ◌++◌, ◌∙◌, Option, Some, None, ap, append_assoc, arith, inl, inr, length, max, refl, subst, sym, true≢false, ⊎_elim}
 use Rattle.std.specs.Prelude.{◌⊎◌, ◌≢◌, Contains, IfSome, nat_le}
 use Rattle.std.specs.Ordering.{ordering_reverse}
-use Rattle.std.specs.declared.cmp.Ordering.{Ordering}
-use Rattle.std.specs.declared.cmp.Ordering.TheVariants.{Less, Greater}
+use Rattle.std.specs.declared.cmp.Ordering.TheVariants.{Less}
 use Rattle.std.proofs.lemmas.Bool.{leb-false, leb-true}
 use Rattle.std.proofs.lemmas.List.Elements.{Contains-append_right}
 use Rattle.wb_names.specs.Orders.{name_cmp}
@@ -15,7 +14,7 @@ use Rattle.wb_recovery.specs.declared.timers.AskTimer.{AskTimer}
 use Rattle.wb_recovery.specs.declared.tuning.Tuning.{Tuning}
 use Rattle.wb_progress.specs.InTime.{known_from, repairing}
 use Rattle.wb_progress.specs.Turns.{Terms, settled_by}
-use Rattle.wb_progress.proofs.NamesApart.{most_are}
+use Rattle.wb_progress.proofs.NamesApart.{most_are, less_greater}
 use Rattle.wb_member.specs.Judged.{holds, level}
 use Rattle.wb_member.specs.Opened.{Opened}
 use Rattle.wb_host.specs.Keeper.{holds as history_holds}
@@ -36,18 +35,13 @@ use Rattle.wb_kept_progress.proofs.TurnsHad.{AreOrdinary, Had, had}
 use Rattle.wb_kept_progress.proofs.WholeParts.{AsksHaveCause, HasTurn, Holds, IsOfCall, IsStill, LinesHaveCalls, PerformedIsTimely, StillnessEnds, StopsHaveCause, TimersAreYoung, does, host_then, timer_then}
 use Rattle.wb_kept_progress.proofs.WindowParts.{IsInWindow, in_window, line_by, told_in, two_parts}
 use Rattle.wb_kept_progress.proofs.YoungestAsked.{Others, new_level, new_timer, others}
+use Rattle.std.proofs.lemmas.Option.{same_Some}
 
 -- what a call asks for that only changes constants
 tunes_only : (constants : Tuning) (n : NameValue) → Contains (Tunes constants ∷ []) (Asks n) → ⊥
 tunes_only constants n c = ⊎_elim (λ (e : Tunes constants ≡ Asks n). other e) (λ (none : Contains [] (Asks n)). Contains-none (Asks n) none) (Contains-cases (Tunes constants) (Asks n) [] c) where
   other : Tunes constants ≡ Asks n → ⊥
   other e = cc
-
-some_timer : (a b : AskTimer) → Some a ≡ Some b → a ≡ b
-some_timer a b e = cc
-
-less_greater : ◌≡◌ {A = Ordering} Less Greater → ⊥
-less_greater e = cc
 
 none_below : (n : NameValue) → name_cmp n n ≡ Less → ⊥
 none_below n e = less_greater (sym e ∙ name_total.antisymm n n ∙ ap ordering_reverse e)
@@ -330,7 +324,7 @@ module _ (hosts : ℕ → Opening) (terms : Terms) (trace newest window base : L
     inside : (w : List Performed) → lines ≡ w ++ g.e ∷ then_back → Goal
     inside w is = ⊎_elim
         (λ (h : (a : AskTimer) × (timer_then hosts then_back i n ≡ Some a) × (4 ≤ a.level)).
-        let same = some_timer ask h.0 (sym g.stands ∙ h.1) in
+        let same = same_Some ask h.0 (sym g.stands ∙ h.1) in
         let zero_level : h.0.level ≡ 0 = sym (ap (λ (a : AskTimer). a.level) same) ∙ new in
         let four = h.2 in
         absurd (omega (arith, zero_level, four)))

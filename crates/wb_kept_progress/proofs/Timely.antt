@@ -29,6 +29,7 @@ use Rattle.wb_kept_progress.proofs.Lines.{IsOf, line_grows, line_of, same_member
 use Rattle.wb_kept_progress.proofs.Lining.{by_line, by_part, desk_is, desk_of, order_is, over_join, time_is, turn_of, turns_join, turns_of, turns_over, until_is}
 use Rattle.wb_kept_progress.proofs.PerLine.{IsMade, asks, draws, is_made, line_did, line_moment, line_none}
 use Rattle.wb_kept_progress.proofs.Repairs.{taken_in}
+use Rattle.wb_progress.proofs.Parts.{tails}
 
 module _ (hosts : ℕ → Start) where
   abbrev pub places : Places
@@ -92,9 +93,6 @@ before_end (e ∷ newer) older order = let rest = before_end newer older order.1
 pub order_of : (newer older : List Performed) → AreInOrder (newer ++ older) → AreInOrder older
 order_of [] older order = order
 order_of (e ∷ newer) older order = order_of newer older order.1
-
-pub tails : (a b : Performed) (x y : List Performed) → a ∷ x ≡ b ∷ y → x ≡ y
-tails a b x y same = cc
 
 -- a part that ends earlier than another is within it
 pub in_past : (newer later front base : List Performed) → newer ++ later ≡ front ++ base → AreInOrder (newer ++ later) → time_of base < time_of later → (middle : List Performed) × (later ≡ middle ++ base)

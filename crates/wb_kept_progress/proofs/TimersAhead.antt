@@ -30,6 +30,7 @@ use Rattle.wb_keeping.specs.Policy.{next_moment}
 use Rattle.wb_kept_progress.specs.Timed.{AreNotOverdue, IsTold}
 use Rattle.wb_kept_progress.proofs.Performed.{AreNoTicks, Begins, IsNoTick, adds_begin, came_begins, ticks_begin}
 use Rattle.wb_kept_progress.proofs.PerLine.{line_moment}
+use Rattle.wb_progress.proofs.Parts.{heads, tails, nil_ends}
 
 -- ---- the timers of a name
 
@@ -172,21 +173,11 @@ front_none : (one other : List Line) → AreNoTicks (one ++ other) → AreNoTick
 front_none [] other none = tt
 front_none (line ∷ one) other none = (none.0, front_none one other none.1)
 
-first_is : (a b : Line) (x y : List Line) → a ∷ x ≡ b ∷ y → a ≡ b
-first_is a b x y same = cc
-
-rest_is : (a b : Line) (x y : List Line) → a ∷ x ≡ b ∷ y → x ≡ y
-rest_is a b x y same = cc
-
-nil_cons : (before later : List Line) (x : Line) → ◌≡◌ {A = List Line} [] (before ++ x ∷ later) → ⊥
-nil_cons [] later x same = cc
-nil_cons (first ∷ before) later x same = cc
-
 begun_ahead : (now : ℕ) (d : Doing) (host : Opened) (first : Line) (before later : List Line) (x : Line) → Begins now d → d.lines ≡ first ∷ (before ++ x ∷ later) → IsAheadAt now (after_lines (first ∷ before) host)
 begun_ahead now d host first before later x b split =
     let same = sym b.is ∙ split in
-    let none = front_none before (x ∷ later) (subst AreNoTicks (rest_is (Ticks now) first b.rest (before ++ x ∷ later) same) b.none) in
-    subst (λ (line : Line). IsAheadAt now (after_lines before (after_line line host))) (first_is (Ticks now) first b.rest (before ++ x ∷ later) same)
+    let none = front_none before (x ∷ later) (subst AreNoTicks (tails (Ticks now) first b.rest (before ++ x ∷ later) same) b.none) in
+    subst (λ (line : Line). IsAheadAt now (after_lines before (after_line line host))) (heads (Ticks now) first b.rest (before ++ x ∷ later) same)
     (lines_ahead before now (after_line (Ticks now) host) none (record { now = refl; ahead = tick_ahead now host }))
 
 -- behind the first line of a call that tells a moment
@@ -197,7 +188,7 @@ ahead_amid (Ticked now) k moment first before later x told split =
     subst (λ (m : ℕ). IsAheadAt m (after_lines (first ∷ before) k.host)) told (begun_ahead now _ k.host first before later x (ticks_begin now (sees k.host) k.policy) split)
 ahead_amid (Added now page time op) k moment first before later x told split =
     subst (λ (m : ℕ). IsAheadAt m (after_lines (first ∷ before) k.host)) told (begun_ahead now _ k.host first before later x (adds_begin now page time op (sees k.host) k.policy) split)
-ahead_amid (Tuned constants) k moment first before later x told split = absurd (nil_cons before later x (rest_is (Tunes constants) first [] (before ++ x ∷ later) split))
+ahead_amid (Tuned constants) k moment first before later x told split = absurd (nil_ends before x later (tails (Tunes constants) first [] (before ++ x ∷ later) split))
 
 -- ---- what is overdue
 

@@ -11,9 +11,10 @@ use Rattle.wb_keeping.specs.Kept.{Doing, Hears, Ticks, Transition, and_then, cam
 use Rattle.wb_keeping.specs.Performing.{Keeping, after_doing, after_lines, sees}
 use Rattle.wb_keeping.proofs.EachStep.{having}
 use Rattle.wb_keeping.proofs.Performed.{then_after}
-use Rattle.wb_kept_progress.proofs.Lines.{is_false, IsSmall, are_small, does_rest}
+use Rattle.wb_kept_progress.proofs.Lines.{IsSmall, are_small, does_rest}
 use Rattle.wb_kept_progress.proofs.WantedIn.{IsAskedIn, IsAskedInCall, LacksCredit, IsWantedIn, MayBeWanted, asked_behind_tick, timed_costs, told_is_wanted, wanted_behind, wanted_later, same_may}
 use Rattle.wb_keeping.proofs.EachLine.{measures_each}
+use Rattle.std.proofs.lemmas.Bool.{false_from_ne_true}
 
 hearing_holds : (v : Datagram) (k : Keeping) → (after_doing (performs (Hears v)) k).host.is.held ≡ k.host.is.held
 hearing_holds v k = by (has_room_for v k.host) where
@@ -62,7 +63,7 @@ module _ (k : Keeping) (now sender sent : ℕ) (page : PageId) (marks : List Mar
       (wanted_later n second third one (told_is_wanted (told_names k.host.is.number page marks) n two told may_two))
 
   of_another : nat_eq sender k.host.is.number ≡ false
-  of_another = is_false (nat_eq sender k.host.is.number) (λ same. other (eqb-true sender k.host.is.number same))
+  of_another = false_from_ne_true (nat_eq sender k.host.is.number) (λ same. other (eqb-true sender k.host.is.number same))
 
   abbrev by_sender : Bool → Doing
   by_sender b = cond b (still (sees t.host) t.policy) (hears_session sender sent page marks echoes (sees t.host) t.policy)

@@ -31,8 +31,9 @@ use Rattle.wb_keeping.proofs.EachStep.{HoldsOfSteps, doing, line_holds}
 use Rattle.wb_keeping.proofs.Performed.{after_both, sent_by_both}
 use Rattle.wb_keeping.proofs.Wanted.{lines_wanted}
 use Rattle.wb_kept_progress.proofs.Lines.{lines_grow}
-use Rattle.wb_kept_progress.proofs.PerLine.{one_of}
 use Rattle.wb_keeping.proofs.EachLine.{Each, wanted_each}
+use Rattle.wb_laws_sessions.proofs.Sending.{one_of}
+use Rattle.std.proofs.lemmas.Option.{same_Some, none-some}
 
 -- each mark of a page is of a number that is held
 abbrev pub AreHeld : List DrawopValue → PageId → List MarkValue → Type 0
@@ -83,19 +84,11 @@ slice_held held page told m c =
 
 -- as time goes on, requests and drawops alone
 action_tells : (me : ℕ) (history held : List DrawopValue) (action : Action) (v : Datagram) → sent_for me history action ≡ Some v → TellsHeld held v
-action_tells me history held (Ask name) v e = subst (TellsHeld held) (some_is (Request me name) v e) tt where
-  some_is : (a b : Datagram) → Some a ≡ Some b → a ≡ b
-  some_is a b e = cc
+action_tells me history held (Ask name) v e = subst (TellsHeld held) (same_Some (Request me name) v e) tt
 action_tells me history held (Answer name) v e = by (drawop_of history name) e where
-  some_is : (a b : Datagram) → Some a ≡ Some b → a ≡ b
-  some_is a b e = cc
-
-  none_is : (b : Datagram) → None ≡ Some b → ⊥
-  none_is b e = cc
-
   by : (o : Option DrawopValue) → option_map {T = DrawopValue} {U = Datagram} Draw o ≡ Some v → TellsHeld held v
-  by None e = absurd (none_is v e)
-  by (Some d) e = subst (TellsHeld held) (some_is (Draw d) v e) tt
+  by None e = absurd (none-some v e)
+  by (Some d) e = subst (TellsHeld held) (same_Some (Draw d) v e) tt
 
 tick_tells : (now : ℕ) (host : Opened) (v : Datagram) → Contains (sent_by now host) v → TellsHeld host.is.held v
 tick_tells now host v c = let r = sent_from (sent_for host.is.number host.is.held) _ v c in action_tells host.is.number host.is.held host.is.held r.0 v r.2

@@ -2,7 +2,7 @@
 use Rattle.std.proofs.Common.{◌≡◌, ℕ, zero, suc, ◌+◌, ◌*◌, ◌<◌, ◌≤◌, Bool, true, false, cond, List, [], ◌∷◌, ◌++◌, ◌∙◌, Some, None, ap, arith, append_assoc, eqb-true, inl, inr, length, map, refl, subst, sym, true≢false, ⊎_elim}
 use Rattle.std.specs.Prelude.{◌⊎◌, ◌&&◌, Contains, max, nat_eq, nat_le, not}
 use Rattle.std.specs.List.{flat_map}
-use Rattle.std.proofs.lemmas.Bool.{leb-true}
+use Rattle.std.proofs.lemmas.Bool.{leb-true, false_from_ne_true}
 use Rattle.std.proofs.lemmas.List.Elements.{Contains-append_cases, Contains-append_left, Contains-append_right}
 use Rattle.wb_names.specs.History.{IsHeld, highest, name_of}
 use Rattle.wb_names.specs.Values.{DrawopValue, MarkValue, NameValue}
@@ -36,7 +36,7 @@ use Rattle.wb_keeping.proofs.Performed.{then_after}
 use Rattle.wb_keeping.proofs.WantedNames.{lines_answer_held}
 use Rattle.wb_kept_progress.specs.Repairs.{AreTicks, ComesToAsk, ComesToTell, IsBrought, IsLost, MissingCanCome, MissingIsAsked, MissingIsAskedSoon, host_at, ready_at, repair}
 use Rattle.wb_kept_progress.specs.Sessions.{AreHosts, AreSent, AreTaken, LineAt, Opening, WasSent, at, kept_at, sent_since}
-use Rattle.wb_kept_progress.proofs.Lines.{IsOf, is_false, lines_of}
+use Rattle.wb_kept_progress.proofs.Lines.{IsOf, lines_of}
 use Rattle.wb_kept_progress.proofs.Repairs.{asked_can_come, did_send, is_itself, places_differ, tick_in_time, tick_rests}
 use Rattle.wb_kept_progress.proofs.Leaving.{answers_on, told_of}
 use Rattle.wb_kept_progress.proofs.InTurn.{IsReporting, due_asks, due_owed, is_reporting}
@@ -149,10 +149,8 @@ module _ (hosts : ℕ → Opening) (older : List LineAt) (i : ℕ) where
   pub others_stay : (count j : ℕ) → (i ≡ j → ⊥) → kept_at hosts (some_ticks count ++ older) j ≡ kept_at hosts older j
   others_stay zero j differ = refl
   others_stay (suc count) j differ =
-      ap (λ (b : Bool). cond b (after_doing (ticks (ready_at (behind count))) (kept_at hosts (some_ticks count ++ older) j)) (kept_at hosts (some_ticks count ++ older) j)) (is_false (nat_eq i j) (λ e. differ (nat_is i j e)))
-      ∙ others_stay count j differ where
-        nat_is : (a b : ℕ) → nat_eq a b ≡ true → a ≡ b
-        nat_is a b e = eqb-true a b e
+      ap (λ (b : Bool). cond b (after_doing (ticks (ready_at (behind count))) (kept_at hosts (some_ticks count ++ older) j)) (kept_at hosts (some_ticks count ++ older) j)) (false_from_ne_true (nat_eq i j) (λ e. differ (eqb-true i j e)))
+      ∙ others_stay count j differ
 
   pub ticks_hold : (count : ℕ) → (behind count).host.is.held ≡ (host_at hosts older i).is.held
   ticks_hold zero = refl
@@ -360,7 +358,7 @@ missing_is_asked hosts older i n are taken missing small room =
 pub not_ours : (n : NameValue) (host : Opened) → n.seq < 2147483648 → is_unknown n host ≡ false
 not_ours n host small = by (nat_eq n.source host.is.number) where
   less : nat_le 2147483648 n.seq ≡ false
-  less = is_false (nat_le 2147483648 n.seq) (λ e. let le = leb-true 2147483648 n.seq e in omega (arith, le, small))
+  less = false_from_ne_true (nat_le 2147483648 n.seq) (λ e. let le = leb-true 2147483648 n.seq e in omega (arith, le, small))
 
   by : (b : Bool) → (b && (nat_le 2147483648 n.seq && not (holds host.is.held n))) ≡ false
   by true = ap (λ (b : Bool). b && not (holds host.is.held n)) less

@@ -13,6 +13,7 @@ use Rattle.wb_kept_progress.specs.Timed.{IsTold, TimedLine}
 use Rattle.wb_kept_progress.specs.Whole.{there}
 use Rattle.wb_kept_progress.proofs.ReportsApart.{DrawsNothing, IsDueThen, IsTuned, call_due}
 use Rattle.wb_kept_progress.proofs.WholeParts.{HasTurn}
+use Rattle.wb_progress.proofs.Parts.{heads, tails, nil_ends}
 
 -- a name that has its turn, and others
 abbrev with_turn : Option NameValue → List NameValue → List NameValue
@@ -46,19 +47,6 @@ fewer : (from some all bound : ℕ) → some ≤ all → from + all * 1000000 �
 fewer from some all bound le is = omega (arith, le, is)
 
 -- ---- the names that have their turn at a host in some calls
-
-heads : (a b : TimedLine) (x y : List TimedLine) → a ∷ x ≡ b ∷ y → a ≡ b
-heads a b x y same = cc
-
-tails : (a b : TimedLine) (x y : List TimedLine) → a ∷ x ≡ b ∷ y → x ≡ y
-tails a b x y same = cc
-
-nil_cons : (e : TimedLine) (x : List TimedLine) → ◌≡◌ {A = List TimedLine} [] (e ∷ x) → ⊥
-nil_cons e x same = cc
-
-no_part : (newer older : List TimedLine) (e : TimedLine) → ◌≡◌ {A = List TimedLine} [] (newer ++ e ∷ older) → ⊥
-no_part [] older e same = nil_cons e older same
-no_part (x ∷ newer) older e same = nil_cons x (newer ++ e ∷ older) same
 
 -- each call tells its moment, and nothing is drawn
 abbrev pub AreOrdinary : Terms → List TimedLine → Type 0
@@ -155,7 +143,7 @@ module _ (hosts : ℕ → Opening) (terms : Terms) (i : ℕ) (base : List TimedL
           le_same a b e = omega (arith, e)
 
   pub had : from ≤ by → (part : List TimedLine) → AreOrdinary terms part → Had part (at_i part)
-  had le [] ordinary = record { names = []; all = λ newer older e n split. absurd (no_part newer older e split); spaced = omega arith; few = omega (arith, le) }
+  had le [] ordinary = record { names = []; all = λ newer older e n split. absurd (nil_ends newer e older split); spaced = omega arith; few = omega (arith, le) }
   had le (e ∷ part) ordinary = by_place (nat_eq e.at.place i) refl (had le part ordinary.1) where
     by_place : (b : Bool) → nat_eq e.at.place i ≡ b → Had part (at_i part) → Had (e ∷ part) (cond b (after_doing (doing_of e.at.line) (at_i part)) (at_i part))
     by_place true same h = one_call e part (subst (λ (p : ℕ). IsTold (e.time + terms.offset p) e.at.line) (eqb-true e.at.place i same) ordinary.0.0) ordinary.0.1 h

@@ -1,8 +1,8 @@
 -- A name that is wanted has a timer behind some lines of what is done, or there is no credit behind all of it.
 use Rattle.std.proofs.Common.{◌≡◌, ℕ, ◌+◌, ◌-◌, ◌*◌, ◌≤◌, Bool, true, false, cond, List, [], ◌∷◌, ◌++◌, ◌∙◌, Option, Some, None, ap, append-nil, append_assoc, arith, inl, inr, length, refl, subst, sym, true≢false, ⊎_elim}
-use Rattle.std.specs.Prelude.{◌⊎◌, Contains, is_some, max, nat_le, unwrap_or, take}
+use Rattle.std.specs.Prelude.{◌⊎◌, Contains, max, nat_le, take}
 use Rattle.std.specs.Option.{option_map, option_or}
-use Rattle.std.proofs.lemmas.Bool.{leb-true}
+use Rattle.std.proofs.lemmas.Bool.{leb-true, false_from_ne_true, le-leb}
 use Rattle.wb_names.specs.Values.{DrawopValue, NameValue}
 use Rattle.wb_names.proofs.Listings.{Contains-cases, Contains-none}
 use Rattle.wb_gaps.specs.Answers.{pages_of}
@@ -22,11 +22,11 @@ use Rattle.wb_keeping.proofs.Performed.{after_both, seen_then, then_after}
 use Rattle.wb_keeping.proofs.StandingTimers.{stands_asked}
 use Rattle.wb_keeping.proofs.Wanted.{is_wanted_here, lines_wanted}
 use Rattle.wb_keeping.proofs.WantedNames.{wanted_is_asked}
-use Rattle.wb_progress.proofs.OneCall.{le_true}
-use Rattle.wb_kept_progress.proofs.Lines.{is_false, lines_of, IsSmall, are_small, does_rest}
+use Rattle.wb_kept_progress.proofs.Lines.{lines_of, IsSmall, are_small, does_rest}
 use Rattle.wb_keeping.proofs.EachLine.{want_each}
 use Rattle.wb_kept_progress.proofs.Leaving.{answers_on}
 use Rattle.wb_keeping.proofs.Saying.{says_after}
+use Rattle.std.proofs.lemmas.Option.{same_Some, none-some}
 
 -- ---- timers within what is done
 
@@ -115,9 +115,9 @@ pub costs_both : (k m n : Keeping) → CostsMore k m → CostsMore m n → Costs
 costs_both k m n one other = record { owed = let a = one.owed in let b = other.owed in omega (arith, a, b); now = other.now ∙ one.now }
 
 no_credit_then : (owed owes now : ℕ) → owed ≤ owes → has_credit owed now ≡ false → has_credit owes now ≡ false
-no_credit_then owed owes now le none = is_false (has_credit owes now) (λ e.
+no_credit_then owed owes now le none = false_from_ne_true (has_credit owes now) (λ e.
     let few = leb-true (max owes now - now) (63 * cost) e in
-    true≢false (sym (le_true (max owed now - now) (63 * cost) (omega (arith, few, le))) ∙ none))
+    true≢false (sym (le-leb (max owed now - now) (63 * cost) (omega (arith, few, le))) ∙ none))
 
 pub stays_without : (k m : Keeping) → CostsMore k m → LacksCredit k → LacksCredit m
 stays_without k m costs without =
@@ -228,9 +228,6 @@ told_is_wanted (name ∷ names) n k among may = ⊎_elim
 
 -- ---- a turn
 
-some_name : (a b : NameValue) → Some a ≡ Some b → a ≡ b
-some_name a b e = ap (λ (o : Option NameValue). unwrap_or o a) e
-
 module _ (n : NameValue) (r : Keeping) (may : MayBeWanted r n) where
   -- the same from another policy of it on
   from_turns : (m : Keeping) (name : NameValue) → m.host ≡ r.host → name ≡ n → IsAskedThen n (after_doing (want name true) m)
@@ -245,14 +242,12 @@ module _ (n : NameValue) (r : Keeping) (may : MayBeWanted r n) where
       → IsAskedThen n (after_doing (turn_to next first) r)
   to_it (Some h) first e =
       let name = name_in r.policy.turns.round h in
-      from_turns (with_policy (after_turn h r.policy) r) name refl (some_name name n e)
+      from_turns (with_policy (after_turn h r.policy) r) name refl (same_Some name n e)
   to_it None (Some h) e =
       let q = in_next_round r.policy in
       let name = name_in q.turns.round h in
-      from_turns (with_policy (after_turn h q) r) name refl (some_name name n e)
-  to_it None None e = absurd (none_some n e) where
-    none_some : (n : NameValue) → None ≡ Some n → ⊥
-    none_some n e = true≢false (sym (ap is_some e))
+      from_turns (with_policy (after_turn h q) r) name refl (same_Some name n e)
+  to_it None None e = absurd (none-some n e)
 
   pub turn_wants : name_in_turn r.host.is.held r.policy.turns ≡ Some n → IsAskedThen n (after_doing turn r)
   turn_wants e =

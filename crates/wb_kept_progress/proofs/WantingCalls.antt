@@ -1,6 +1,6 @@
 -- A call in which a name is wanted: a timer stands behind some of its lines, or it has no credit.
-use Rattle.std.proofs.Common.{◌≡◌, ℕ, ◌+◌, ◌<◌, ◌≤◌, true, List, [], ◌∷◌, ◌++◌, ◌∙◌, Option, Some, None, ap, append_assoc, eqb-true, inl, inr, refl, subst, sym, true≢false, ⊎_elim}
-use Rattle.std.specs.Prelude.{◌⊎◌, is_some, nat_eq}
+use Rattle.std.proofs.Common.{◌≡◌, ℕ, ◌+◌, ◌<◌, ◌≤◌, true, List, [], ◌∷◌, ◌++◌, ◌∙◌, Some, ap, append_assoc, eqb-true, inl, inr, subst, sym, ⊎_elim}
+use Rattle.std.specs.Prelude.{◌⊎◌, nat_eq}
 use Rattle.wb_names.specs.Values.{NameValue}
 use Rattle.wb_recovery.specs.declared.timers.AskTimer.{AskTimer}
 use Rattle.wb_progress.specs.Turns.{Terms}
@@ -18,10 +18,7 @@ use Rattle.wb_kept_progress.proofs.NextReports.{there_here}
 use Rattle.wb_kept_progress.proofs.Performed.{after_all}
 use Rattle.wb_kept_progress.proofs.WantedIn.{IsAskedInCall, LacksCredit}
 use Rattle.wb_kept_progress.proofs.WholeParts.{HasNoCredit, IsAsking, IsWanting, does, timer_then}
-
-some_timer : (o : Option AskTimer) → is_some o ≡ true → (a : AskTimer) × (o ≡ Some a)
-some_timer None e = absurd (true≢false (sym e))
-some_timer (Some a) e = (a, refl)
+use Rattle.wb_progress.proofs.Rounds.{the_ask}
 
 module _ (hosts : ℕ → Opening) (terms : Terms) (trace : List TimedLine) (opened : (i : ℕ) → (hosts i).moments ≡ []) (i : ℕ) (n : NameValue)
     (held : IsHeldBySome hosts terms trace n) where
@@ -67,7 +64,7 @@ module _ (hosts : ℕ → Opening) (terms : Terms) (trace : List TimedLine) (ope
         ∙ ap (after_lines (a.first ∷ a.before)) (host_is hosts opened older i)
 
     timer : (ask : AskTimer) × (timer_then hosts back i n ≡ Some ask)
-    timer = some_timer (timer_then hosts back i n) (ap (asks_for n) there_is ∙ a.stands)
+    timer = the_ask (timer_then hosts back i n) (ap (asks_for n) there_is ∙ a.stands)
 
   -- so a name that is wanted in a call is asked for, or there is no credit
   pub wanting_in_call : (window base front grown older : List TimedLine) (e : TimedLine) (from by : ℕ) → window ≡ front ++ e ∷ grown → older ≡ grown ++ base

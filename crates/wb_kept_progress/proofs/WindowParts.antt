@@ -7,14 +7,9 @@ use Rattle.wb_kept_progress.specs.Timed.{AreInOrder, IsTold, Performed, TellTime
 use Rattle.wb_kept_progress.specs.Whole.{AreCalledInOrder}
 use Rattle.wb_kept_progress.proofs.CallParts.{calls_end}
 use Rattle.wb_kept_progress.proofs.Timely.{before_end}
+use Rattle.wb_progress.proofs.Parts.{heads, tails}
 
 -- ---- calls
-
-heads : (a b : TimedLine) (x y : List TimedLine) → a ∷ x ≡ b ∷ y → a ≡ b
-heads a b x y same = cc
-
-tails : (a b : TimedLine) (x y : List TimedLine) → a ∷ x ≡ b ∷ y → x ≡ y
-tails a b x y same = cc
 
 -- a part that ends earlier than another is within it
 calls_past : (newer later front base : List TimedLine) → newer ++ later ≡ front ++ base → AreCalledInOrder (newer ++ later) → called_at base < called_at later → (middle : List TimedLine) × (later ≡ middle ++ base)
@@ -55,14 +50,11 @@ told_in terms (x ∷ newer) older e tells = told_in terms newer older e tells.1
 
 -- ---- lines that were performed
 
-later_tails : (a b : Performed) (x y : List Performed) → a ∷ x ≡ b ∷ y → x ≡ y
-later_tails a b x y same = cc
-
 -- of two parts of a trace one is within the other
 pub two_parts : (a b c d : List Performed) → a ++ b ≡ c ++ d → ((m : List Performed) × (d ≡ m ++ b)) ⊎ ((m : List Performed) × (b ≡ m ++ d))
 two_parts [] b c d same = inr (c, same)
 two_parts (x ∷ a) b [] d same = inl (x ∷ a, sym same)
-two_parts (x ∷ a) b (y ∷ c) d same = two_parts a b c d (later_tails x y (a ++ b) (c ++ d) same)
+two_parts (x ∷ a) b (y ∷ c) d same = two_parts a b c d (tails x y (a ++ b) (c ++ d) same)
 
 -- a line of a part comes no later than its end
 pub line_by : (back newer older : List Performed) (x : Performed) → AreInOrder back → back ≡ newer ++ x ∷ older → x.time ≤ time_of back

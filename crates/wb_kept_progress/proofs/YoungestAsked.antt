@@ -1,6 +1,6 @@
 -- Where the timer that was backed off most was not backed off, none was, and it is that of the least name.
-use Rattle.std.proofs.Common.{◌≡◌, ℕ, suc, ◌≤◌, Bool, true, false, cond, List, [], ◌∷◌, ◌∙◌, Option, Some, None, ap, arith, length, map, refl, subst, sym}
-use Rattle.std.specs.Prelude.{Contains, is_some, nat_lt, unwrap_or}
+use Rattle.std.proofs.Common.{◌≡◌, suc, ◌≤◌, Bool, true, false, cond, List, [], ◌∷◌, ◌∙◌, Option, Some, None, ap, arith, length, map, refl, subst, sym}
+use Rattle.std.specs.Prelude.{Contains, is_some, nat_lt}
 use Rattle.std.specs.List.{fold}
 use Rattle.std.specs.List.Sorted.{IsStrictlySortedBy}
 use Rattle.std.specs.declared.cmp.Ordering.TheVariants.{Less}
@@ -24,6 +24,7 @@ use Rattle.wb_keeping.specs.Wanting.{older, oldest}
 use Rattle.wb_keeping.specs.declared.wanting.AskedName.{AskedName}
 use Rattle.wb_keeping.proofs.AskedTimers.{named}
 use Rattle.wb_kept_progress.proofs.Asking.{from_names, level_told, oldest_is_one, oldest_most, same_zero}
+use Rattle.std.proofs.lemmas.Option.{same_Some, none-some}
 
 -- the first is the oldest where none of those behind it was backed off more
 first_stays : (a : AskedName) (later : List AskedName) → ((b : AskedName) → Contains later b → b.level ≤ a.level) → fold older a later ≡ a
@@ -32,9 +33,6 @@ first_stays a (b ∷ later) few = ap (λ (x : AskedName). fold older x later) (s
   stays : (t : Bool) → nat_lt a.level b.level ≡ t → cond t b a ≡ a
   stays false e = refl
   stays true e = let lt = ltb-true a.level b.level e in let le = few b (Contains-here b later) in absurd (omega (arith, lt, le))
-
-some_one : (a b : AskedName) → Some a ≡ Some b → a ≡ b
-some_one a b e = ap (λ (o : Option AskedName). unwrap_or o a) e
 
 -- The timer of each other name that is asked for was not backed off either, and these names are greater.
 pub record Others (host : Opened) (n : NameValue) : Type 0 where
@@ -71,24 +69,18 @@ module _ (host : Opened) (n : NameValue) (new : level host n ≡ Some 0) where
         mapped [] = refl
         mapped (x ∷ asked) = ap suc (mapped asked)
 
-  none_one : (a : AskedName) → ◌≡◌ {A = Option AskedName} None (Some a) → ⊥
-  none_one a e = cc
-
   -- where it is the oldest of those that are asked for
   pub others : (a : AskedName) → oldest (view_of host).asked ≡ Some a → a.name ≡ n → Others host n
   others a is named_so = from (view_of host).asked refl is where
     from : (asked : List AskedName) → (view_of host).asked ≡ asked → oldest asked ≡ Some a → Others host n
-    from [] e o = absurd (none_one a o)
-    from (first ∷ later) e o = others_of first later a e (some_one (fold older first later) a o) named_so
+    from [] e o = absurd (none-some a o)
+    from (first ∷ later) e o = others_of first later a e (same_Some (fold older first later) a o) named_so
 
 -- ---- levels and timers
 
-no_level : (level : ℕ) → ◌≡◌ {A = Option ℕ} None (Some level) → ⊥
-no_level level e = cc
-
 -- a timer that was not backed off
 pub new_timer : (o : Option AskTimer) → level_in o ≡ Some 0 → (ask : AskTimer) × (o ≡ Some ask) × (ask.level ≡ 0)
-new_timer None e = absurd (no_level 0 e)
+new_timer None e = absurd (none-some 0 e)
 new_timer (Some ask) e = (ask, refl, same_zero ask.level e)
 
 pub new_level : (o : Option AskTimer) (ask : AskTimer) → o ≡ Some ask → ask.level ≡ 0 → level_in o ≡ Some 0

@@ -1,7 +1,7 @@
 -- What is told of a board is in range where its drawops are.
 use Rattle.std.proofs.Common.{◌≡◌, ◌<◌, ◌≤◌, ◌^◌, ℕ, Bool, true, false, max, List, [], ◌∷◌, length, refl, sym, subst, arith, ◌⊎◌, inl, inr, ⊎_elim, ltb-true, eqb-true}
-use Rattle.std.specs.Prelude.{All, Contains, IsTrue, map, nat_eq, nat_lt, if◌then◌else◌}
-use Rattle.std.proofs.lemmas.List.Elements.{All-nil, All-head, All-tail, All-map, All-weaker, All-contains, All-contains_itself}
+use Rattle.std.specs.Prelude.{All, IsTrue, map, nat_eq, nat_lt, if◌then◌else◌}
+use Rattle.std.proofs.lemmas.List.Elements.{All-nil, All-head, All-tail, All-map, All-weaker, All-contains}
 use Rattle.wb_names.specs.Values.{DrawopValue, MarkValue}
 use Rattle.wb_names.specs.History.{is_of, highest}
 use Rattle.wb_names.specs.Orders.{same_page, page_cmp}
@@ -16,10 +16,7 @@ use Rattle.wb_gaps.specs.declared.page_reports.PageReport.{PageReport}
 use Rattle.wb_gaps.proofs.PageAnswers.{report_of_page}
 use Rattle.wb_gaps.proofs.Sorting.{Contains-from_sorted}
 use Rattle.wb_host.specs.Hearing.{asks_for_pages, page_states, answers_to}
-
--- what holds of each member
-pub all_from : {X : Type 0} (P : X → Type 0) (xs : List X) → ((x : X) → Contains xs x → P x) → All P xs
-all_from P xs f = All-weaker (Contains xs) P f xs (All-contains_itself xs)
+use Rattle.wb_laws_sessions.proofs.Holding.{all_from}
 
 -- ---- one number of a source
 

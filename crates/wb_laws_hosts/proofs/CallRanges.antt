@@ -27,7 +27,8 @@ use Rattle.wb_host.specs.KeeperLaws.{AreOrderly}
 use Rattle.wb_host.specs.Missing.{IsWanted, wanted_of}
 use Rattle.wb_host.proofs.FirstWanted.{first_are_wanted}
 use Rattle.wb_host.proofs.MergedNumbers.{merged_are_greatest}
-use Rattle.wb_laws_hosts.proofs.BoardRanges.{all_from, IsSmall, small_max, highest_small}
+use Rattle.wb_laws_hosts.proofs.BoardRanges.{IsSmall, small_max, highest_small}
+use Rattle.wb_laws_sessions.proofs.Holding.{all_from}
 
 -- what a call carries is in range
 abbrev pub Fits : KeeperCall → Type 0

@@ -33,8 +33,10 @@ use Rattle.wb_host.specs.Ticks.{drawop_of, sent_for, stopped_after, sent_by_tick
 use Rattle.wb_host.specs.declared.keeper.Heard.{Heard}
 use Rattle.wb_host.proofs.FirstSenders.{first_senders_are_echoed}
 use Rattle.wb_host.proofs.MessageValue.{message_is_session}
-use Rattle.wb_laws_hosts.proofs.BoardRanges.{all_from, report_fits}
+use Rattle.wb_laws_hosts.proofs.BoardRanges.{report_fits}
 use Rattle.wb_laws_hosts.proofs.CallRanges.{Fits, names_fit}
+use Rattle.std.proofs.lemmas.Option.{same_Some}
+use Rattle.wb_laws_sessions.proofs.Holding.{all_from}
 
 -- ---- how many echoes there are
 
@@ -60,13 +62,10 @@ few_senders me (call ∷ calls) = from (session_heard me call) (senders_of me ca
 abbrev IsHeard : ℕ → Heard → Type 0
 IsHeard source h = (source < 2 ^ 32) × (h.sent < 2 ^ 64)
 
-pair_is : {A B : Type 0} (p q : A × B) → Some p ≡ Some q → p ≡ q
-pair_is p q e = cc
-
 session_fits : (now : ℕ) (v : Datagram) → IsDatagram v → (source : ℕ) (h : Heard) → session_in now v ≡ Some (source, h) → IsHeard source h
 session_fits now (datagrams.Session sender sent page marks echoes) fit source h e =
     let told : Heard = record { sent = sent; at = now } in
-    let same = pair_is (sender, told) (source, h) e in
+    let same = same_Some {A = ℕ × Heard} (sender, told) (source, h) e in
     (subst (λ (n : ℕ). n < 2 ^ 32) (ap (λ p. p.0) same) fit.sender-fits, subst (λ (n : ℕ). n < 2 ^ 64) (ap (λ p. p.1.sent) same) fit.sent-fits)
 session_fits now (datagrams.Draw d) fit source h e = absurd cc
 session_fits now (datagrams.Request asker name) fit source h e = absurd cc

@@ -33,10 +33,10 @@ use Rattle.wb_dialog.specs.declared.line.DriverLine.TheVariants.{Script}
 use Rattle.wb_commands.specs.Answers.{batch_line, pair_line, gap_line, mark_line, page_line, gaps_text, known_text, next_line, pages_text, report_text, view_text, words_line}
 use Rattle.wb_commands.specs.SentLines.{digits_of, send_line, sends_text, look_line}
 use Rattle.wb_dialog.specs.Dialog.{ask_line, batch_of, stop_line}
-use Rattle.wb_laws_hosts.proofs.BoardRanges.{all_from}
 use Rattle.wb_laws_hosts.specs.Closings.{IsOneLine, AreOneLine, IsNoShow}
 use Rattle.wb_laws_hosts.specs.Telling.{answered}
 use Rattle.wb_laws_hosts.proofs.PlainLines.{Line, ends, behind, number_free, number_opens, hex_free, Plain, none, both, one, opening, each}
+use Rattle.wb_laws_sessions.proofs.Holding.{all_from}
 
 -- ---- words
 

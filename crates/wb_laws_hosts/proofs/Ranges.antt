@@ -35,12 +35,12 @@ use Rattle.wb_laws_hosts.specs.Closings.{HoldsLines}
 use Rattle.wb_laws_hosts.specs.Laws.{BoardsAreInRange, IsOpenHost}
 use Rattle.wb_laws_hosts.specs.Texts.{Event, EventAt, IsMemberAt, Starts, Takes, deeds_at, deeds_by, deeds_doing, deeds_driven, deeds_first, deeds_kept, deeds_of, deeds_said, hosting_after_event, hosting_at}
 use Rattle.wb_laws_hosts.specs.Telling.{told_said}
-use Rattle.wb_laws_hosts.proofs.BoardRanges.{all_from}
 use Rattle.wb_laws_hosts.proofs.DriverLines as drivers
 use Rattle.wb_laws_hosts.proofs.DriverLines.{met_fits}
 use Rattle.wb_laws_hosts.proofs.AddedLines.{IsAdding}
 use Rattle.wb_laws_hosts.proofs.Lines.{led_after, member_in, said_led_at}
 use Rattle.wb_laws_hosts.proofs.OneLines.{board_lines}
+use Rattle.wb_laws_sessions.proofs.Holding.{all_from}
 
 -- ---- what a deed brings onto a board
 

@@ -8,6 +8,7 @@ use Rattle.wb_names.specs.Values.{MarkValue}
 use Rattle.wb_names.specs.declared.gap.Gap.{Gap}
 use Rattle.wb_words.proofs.Splitting.{decimal_lacks}
 use Rattle.wb_commands.specs.Answers.{gap_line, gaps_text, pair_line, report_text}
+use Rattle.wb_progress.proofs.Parts.{heads, tails}
 
 -- ---- a text up to a byte
 
@@ -20,22 +21,16 @@ first_lacks mark b text l = l 0 b (omega arith)
 rest_lacks : (mark b : ℕ) (text : List ℕ) → Lacks mark (b ∷ text) → Lacks mark text
 rest_lacks mark b text l = λ k d lt. l (suc k) d (omega arith)
 
-head_is : (a b : ℕ) (xs ys : List ℕ) → a ∷ xs ≡ b ∷ ys → a ≡ b
-head_is a b xs ys e = cc
-
-tail_is : (a b : ℕ) (xs ys : List ℕ) → a ∷ xs ≡ b ∷ ys → xs ≡ ys
-tail_is a b xs ys e = cc
-
 not_itself : (mark : ℕ) → nat_eq mark mark ≡ false → ⊥
 not_itself mark e = grind (arith, nat_tests)
 
 parted_once : (mark : ℕ) (xs ys a b : List ℕ) → Lacks mark xs → Lacks mark ys → xs ++ mark ∷ a ≡ ys ++ mark ∷ b → (xs ≡ ys) × (a ≡ b)
-parted_once mark [] [] a b l r e = (refl, tail_is mark mark a b e)
-parted_once mark [] (y ∷ ys) a b l r e = absurd (not_itself mark (subst (λ (n : ℕ). nat_eq n mark ≡ false) (sym (head_is mark y a (ys ++ mark ∷ b) e)) (first_lacks mark y ys r)))
-parted_once mark (x ∷ xs) [] a b l r e = absurd (not_itself mark (subst (λ (n : ℕ). nat_eq n mark ≡ false) (head_is x mark (xs ++ mark ∷ a) b e) (first_lacks mark x xs l)))
+parted_once mark [] [] a b l r e = (refl, tails mark mark a b e)
+parted_once mark [] (y ∷ ys) a b l r e = absurd (not_itself mark (subst (λ (n : ℕ). nat_eq n mark ≡ false) (sym (heads mark y a (ys ++ mark ∷ b) e)) (first_lacks mark y ys r)))
+parted_once mark (x ∷ xs) [] a b l r e = absurd (not_itself mark (subst (λ (n : ℕ). nat_eq n mark ≡ false) (heads x mark (xs ++ mark ∷ a) b e) (first_lacks mark x xs l)))
 parted_once mark (x ∷ xs) (y ∷ ys) a b l r e =
-    let more = parted_once mark xs ys a b (rest_lacks mark x xs l) (rest_lacks mark y ys r) (tail_is x y (xs ++ mark ∷ a) (ys ++ mark ∷ b) e) in
-    (ap (λ (n : ℕ). n ∷ xs) (head_is x y (xs ++ mark ∷ a) (ys ++ mark ∷ b) e) ∙ ap (λ (t : List ℕ). y ∷ t) more.0, more.1)
+    let more = parted_once mark xs ys a b (rest_lacks mark x xs l) (rest_lacks mark y ys r) (tails x y (xs ++ mark ∷ a) (ys ++ mark ∷ b) e) in
+    (ap (λ (n : ℕ). n ∷ xs) (heads x y (xs ++ mark ∷ a) (ys ++ mark ∷ b) e) ∙ ap (λ (t : List ℕ). y ∷ t) more.0, more.1)
 
 number_once : (mark m n : ℕ) (a b : List ℕ) → Lacks mark (decimal m) → Lacks mark (decimal n) → m < 2 ^ 64 → n < 2 ^ 64 → decimal m ++ mark ∷ a ≡ decimal n ++ mark ∷ b → (m ≡ n) × (a ≡ b)
 number_once mark m n a b l r small few e = let p = parted_once mark (decimal m) (decimal n) a b l r e in (decimal_injective m n small few p.0, p.1)

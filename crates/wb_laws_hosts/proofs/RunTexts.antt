@@ -26,6 +26,7 @@ use Rattle.wb_dialog.proofs.DrivenHosts.{AreGiven, blocks_given}
 use Rattle.wb_script.proofs.Telling.{taken_alone}
 use Rattle.wb_laws_hosts.proofs.LoneArrivals.{Waits, step_waits, Batches, HasOne, has_batch, Fits, fits_all, fits_after, none_before, alone_is_one_order}
 use Rattle.wb_dialog.proofs.ScriptLines.{script_lines_are_read}
+use Rattle.std.proofs.lemmas.Bool.{or_right}
 
 -- what the end of the present batch prints
 abbrev closing : Board → List ℕ
@@ -150,10 +151,6 @@ step_agrees cut n s line lines (refused t text e) rest taken alike on = refused_
 and_right : (a b : Bool) → (a && b) ≡ true → b ≡ true
 and_right true b e = e
 and_right false b e = absurd cc
-
-or_right : (a b : Bool) → b ≡ true → (a || b) ≡ true
-or_right true b e = refl
-or_right false b e = e
 
 neither : (short complete : Bool) → short ≡ true → complete ≡ false → (not short || complete) ≡ false
 neither true complete is off = off

@@ -19,12 +19,12 @@ use Rattle.wb_words.specs.declared.fault.WrongWord.{WrongWord}
 use Rattle.wb_words.specs.declared.digits_fault.DigitsFault.TheVariants as digit_faults
 use Rattle.wb_lines.specs.Words.{words, is_digit, number_after, number_of, unhex}
 use Rattle.wb_recovery.specs.Timing.{are_constants, is_constant}
-use Rattle.wb_progress.proofs.OneCall.{le_true}
 use Rattle.wb_commands.specs.Parsing.{◌>>=◌, or_fault, number, one_of, two_of, four_of, board, distance, tuning, tick, page, question, spelled, datagram, arrived, heard, arrive, hear, handed_in, bytes_line, page_line, command, begins_comment, line_of_words, in_words, line_of}
 use Rattle.wb_commands.specs.declared.fault.LineFault.{LineFault}
 use Rattle.wb_commands.specs.declared.fault.LineFault.TheVariants as faults
 use Rattle.wb_commands.specs.declared.command.Command.{Command}
 use Rattle.wb_commands.specs.declared.command.Command.TheVariants as lines
+use Rattle.std.proofs.lemmas.Bool.{le-leb, and_from}
 
 -- ---- steps
 
@@ -151,9 +151,6 @@ pub record Asks (P : Datagram → Type 0) (line : List ℕ) : Type 0 where
   pub in_words : IfOk (reading_words line) P
   pub in_bytes : (word : List ℕ) (arguments : List (List ℕ)) → words line ≡ word ∷ arguments → IfOk (datagram arguments) P
 
-both : (a b : Bool) → a ≡ true → b ≡ true → (a && b) ≡ true
-both a b e f = ap (λ (c : Bool). c && b) e ∙ f
-
 module _ (P : Datagram → Type 0) where
   abbrev Has : Command → Type 0
   Has line = Carries P line
@@ -181,7 +178,7 @@ module _ (P : Datagram → Type 0) where
       let a = m.1 in omega arith)))
 
   constant_fits : (n : ℕ) → IsWithin 1 16 n → is_constant n ≡ true
-  constant_fits n fit = both (nat_le 1 n) (nat_le n 16) (le_true 1 n fit.0) (le_true n 16 fit.1)
+  constant_fits n fit = and_from (nat_le 1 n) (nat_le n 16) (le-leb 1 n fit.0) (le-leb n 16 fit.1)
 
   tuning_fits : (arguments : List (List ℕ)) → IfOk (tuning arguments) Has
   unfolding tuning
@@ -190,7 +187,7 @@ module _ (P : Datagram → Type 0) where
       bound (IsWithin 1 16) Has (number 1 16 ws.1) _ (number_fits 1 16 ws.1) (λ c2 two.
       bound (IsWithin 1 16) Has (number 1 16 ws.2) _ (number_fits 1 16 ws.2) (λ d1 three.
       bound (IsWithin 1 16) Has (number 1 16 ws.3) _ (number_fits 1 16 ws.3) (λ d2 four.
-      both _ (is_constant d2) (both _ (is_constant d1) (both (is_constant c1) (is_constant c2) (constant_fits c1 one) (constant_fits c2 two)) (constant_fits d1 three)) (constant_fits d2 four))))))
+      and_from _ (is_constant d2) (and_from _ (is_constant d1) (and_from (is_constant c1) (is_constant c2) (constant_fits c1 one) (constant_fits c2 two)) (constant_fits d1 three)) (constant_fits d2 four))))))
 
   arrived_fits : (v : Datagram) → P v → IfOk (arrived v) Has
   arrived_fits (datagrams.Draw d) fit = fit

@@ -17,6 +17,7 @@ use Rattle.wb_laws_sessions.specs.Drawn.{WasHeld, drawn_at}
 use Rattle.wb_laws_kept.specs.Examples.{Forgets, Listens, Restarts, after_first, again, at, cut_off, deletes, first, forgotten, listening, numbers, once, opening, page, restarted, second, third, told, twice}
 use Rattle.wb_laws_kept.specs.Restarts.{IsWholeRecord, KnowTheirOwn, KnowsItsOwn, RecordsAreWhole}
 use Rattle.wb_laws_kept.specs.Sessions.{AreTaken, Begins, Call, CallAt, DrawopsWereHeld, Handed, WereHeld, kept_at, steps_of}
+use Rattle.wb_laws_sessions.proofs.Sending.{one_of}
 
 is_opening : (seed moment : ℕ) → IsOpening (opening seed moment)
 is_opening seed moment = record { moments = (omega arith, tt); in_range = refl; small = omega arith }
@@ -36,9 +37,6 @@ held_first = refl
 all_drawn : drawn_at numbers (steps_of numbers restarted) 0 ≡ second ∷ first ∷ []
 unfolding started word_of after_word words.started words.word_of words.after_word report_of gaps_of pages_of
 all_drawn = refl
-
-one_drawop : (d x : DrawopValue) → Contains (d ∷ []) x → d ≡ x
-one_drawop d x c = ⊎_elim (λ (e : d ≡ x). e) (λ (n : Contains [] x). absurd (Contains-none x n)) (Contains-cases d x [] c)
 
 one_given : (d x : DrawopValue) → Contains (Draw d ∷ []) (Draw x) → d ≡ x
 one_given d x c = ⊎_elim (λ (e : Draw d ≡ Draw x). same e) (λ (n : Contains [] (Draw x)). absurd (Contains-none (Draw x) n)) (Contains-cases (Draw d) (Draw x) [] c) where
@@ -93,7 +91,7 @@ nothing_whole = record { own = λ d c. absurd (Contains-none d c); few = omega a
 
 first_whole : IsWholeRecord numbers once 0 (opening 2 7) (Draw first ∷ [])
 first_whole = record {
-  own = λ d c. subst (λ (x : DrawopValue). Contains (Draw first ∷ []) (Draw x)) (one_drawop first d (subst (λ (ds : List DrawopValue). Contains ds d) drawn_first c)) (Contains-here (Draw first) []);
+  own = λ d c. subst (λ (x : DrawopValue). Contains (Draw first ∷ []) (Draw x)) (one_of first d (subst (λ (ds : List DrawopValue). Contains ds d) drawn_first c)) (Contains-here (Draw first) []);
   few = omega arith;
 }
 
@@ -177,7 +175,7 @@ module _ (older : List CallAt) where
   known_by call knows now drawn_on time op e = subst Knows e knows
 
 two_drawn : (a b x : DrawopValue) → Contains (a ∷ b ∷ []) x → (a ≡ x) ⊎ (b ≡ x)
-two_drawn a b x c = ⊎_elim (λ (e : a ≡ x). inl e) (λ (r : Contains (b ∷ []) x). inr (one_drawop b x r)) (Contains-cases a x (b ∷ []) c)
+two_drawn a b x c = ⊎_elim (λ (e : a ≡ x). inl e) (λ (r : Contains (b ∷ []) x). inr (one_of b x r)) (Contains-cases a x (b ∷ []) c)
 
 below_2 : (n : ℕ) → n ≡ 2 → (1 ≤ n) × (2 ≤ n)
 below_2 n e = (omega (arith, e), omega (arith, e))
@@ -194,7 +192,7 @@ cut_knows d c here =
     (two_drawn after_first first d (subst (λ (ds : List DrawopValue). Contains ds d) cut_drawn c))
 
 once_knows : KnowsItsOwn numbers once 0 page
-once_knows d c here = subst (λ (x : DrawopValue). x.name.seq ≤ last_number page (kept_at numbers once 0).host) (one_drawop first d (subst (λ (ds : List DrawopValue). Contains ds d) drawn_first c)) (below_1 (last_number page (kept_at numbers once 0).host) once_last)
+once_knows d c here = subst (λ (x : DrawopValue). x.name.seq ≤ last_number page (kept_at numbers once 0).host) (one_of first d (subst (λ (ds : List DrawopValue). Contains ds d) drawn_first c)) (below_1 (last_number page (kept_at numbers once 0).host) once_last)
 
 told_know : KnowTheirOwn numbers told
 told_know = (

@@ -52,6 +52,8 @@ use Rattle.wb_laws_kept.proofs.Agreeing.{steps_split}
 use Rattle.wb_laws_kept.proofs.Honest.{kept_are_honest}
 use Rattle.wb_laws_kept.proofs.Restarting.{line_grows}
 use Rattle.wb_laws_kept.proofs.Steps.{deeds_of_call, kept_is_session}
+use Rattle.wb_laws_sessions.proofs.Sending.{one_of}
+use Rattle.std.proofs.lemmas.Option.{same_Some}
 
 -- ---- a report is of what is held
 
@@ -119,15 +121,12 @@ question_tells held v asker e = subst (TellsHeld held) e (λ page m c. absurd (C
 tick_tells : (me : ℕ) (held : List DrawopValue) (actions : List Action) (v : Datagram) → Contains (sends_for me held actions) v → TellsHeld held v
 tick_tells me held actions v c =
     let r = sent_from (sent_for me held) actions v c in from r.0 r.2 where
-      some : (a b : Datagram) → Some a ≡ Some b → a ≡ b
-      some a b e = cc
-
       from : (action : Action) → sent_for me held action ≡ Some v → TellsHeld held v
-      from (Ask n) e = request_tells held v me n (some (Request me n) v e)
+      from (Ask n) e = request_tells held v me n (same_Some (Request me n) v e)
       from (Answer n) e = by (drawop_of held n) e where
         by : (o : Option DrawopValue) → option_map {T = DrawopValue} {U = Datagram} Draw o ≡ Some v → TellsHeld held v
         by None e = cc
-        by (Some x) e = drawing_tells held v x (some (Draw x) v e)
+        by (Some x) e = drawing_tells held v x (same_Some (Draw x) v e)
 
 answer_tells : (me : ℕ) (held : List DrawopValue) (heard v : Datagram) → length held ≤ 65535 → Contains (answers_to me held heard) v → TellsHeld held v
 answer_tells me held heard v few c = by (asks_for_pages me heard) c where
@@ -145,9 +144,6 @@ answer_tells me held heard v few c = by (asks_for_pages me heard) c where
   by false c = absurd (Contains-none v c)
 
 -- ---- one line
-
-one_of : (a b : Datagram) → Contains (a ∷ []) b → a ≡ b
-one_of a b c = ⊎_elim (λ (e : a ≡ b). e) (λ (d : Contains [] b). absurd (Contains-none b d)) (Contains-cases a b [] c)
 
 -- what is held is held after lines
 lines_grow : (lines : List Line) (host : Opened) (x : DrawopValue) → Contains host.is.held x → Contains (after_lines lines host).is.held x

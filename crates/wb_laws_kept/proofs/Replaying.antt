@@ -22,6 +22,7 @@ use Rattle.wb_keeping.proofs.EachLine.{Each, each_both, learned_each}
 use Rattle.wb_laws_sessions.proofs.Outcomes.{Found, found}
 use Rattle.wb_laws_kept.specs.Restarts.{drawops_in}
 use Rattle.wb_laws_kept.proofs.Honest.{IsGiven, came_given, of_policy, timed_given}
+use Rattle.wb_laws_sessions.proofs.Sending.{one_draw}
 
 -- ---- lines by which nothing comes
 
@@ -142,9 +143,6 @@ module _ (v : Datagram) (given : List Datagram) (held next : List DrawopValue) (
   pub mean_one : MeanOne (v ∷ given) held → MeanOne given next
   mean_one one d e a b same = one d e (behind d a) (behind e b) same
 
-same_draw : (d x : DrawopValue) → Draw d ≡ Draw x → d ≡ x
-same_draw d x e = cc
-
 record Taken (d : DrawopValue) (cells : ℕ) (held next : List DrawopValue) : Type 0 where
   over : (x : DrawopValue) → Contains held x → Contains next x
   comes : (x : DrawopValue) → Draw d ≡ Draw x → Contains next x
@@ -154,13 +152,13 @@ record Taken (d : DrawopValue) (cells : ℕ) (held next : List DrawopValue) : Ty
 taken : (d : DrawopValue) (cells : ℕ) (held : List DrawopValue) (o : Outcome) → outcome_of cells held d ≡ o → Found held d o → length held < cells → ((x : DrawopValue) → Contains held x → x.name ≡ d.name → x ≡ d) → Taken d cells held (history_with held d o)
 taken d cells held (Fresh place) is none lt one = record {
   over = λ x c. Contains-append_left held (d ∷ []) x c;
-  comes = λ x e. subst (Contains (held ++ d ∷ [])) (same_draw d x e) (Contains-append_right held (d ∷ []) d (Contains-here d []));
+  comes = λ x e. subst (Contains (held ++ d ∷ [])) (one_draw d x e) (Contains-append_right held (d ∷ []) d (Contains-here d []));
   back = λ x c. ⊎_elim (λ (was : Contains held x). inl was) (λ (e : d ≡ x). inr (ap Draw e)) (Contains-push_cases held d x c);
   longer = let e = length-append held (d ∷ []) in omega (arith, e);
 }
 taken d cells held (Known place) is has lt one = record {
   over = λ x c. c;
-  comes = λ x e. subst (Contains held) (same_draw d x e) has;
+  comes = λ x e. subst (Contains held) (one_draw d x e) has;
   back = λ x c. inl c;
   longer = omega arith;
 }

@@ -30,7 +30,7 @@ drawops_in given = filter_map drawop_in given
 
 -- The record has all that the member at the place drew, and its drawops fit on the board. What
 -- others drew may be missing. live/board.py holds to it (`draw`, `start`; tests/live/test_keeping.py:
--- test_draw, test_unsaid, check_old), and web/page/board.js (tests/browser/keeping.test.mjs: testDraw,
+-- test_draw, test_unsaid, check_old), and web/member/board.js (tests/browser/keeping.test.mjs: testDraw,
 -- testNoRoom, testEnds).
 pub record IsWholeRecord (numbers : ℕ → ℕ) (older : List CallAt) (i : ℕ) (o : Opening)
     (given : List Datagram) : Type 0 where
@@ -55,7 +55,7 @@ KnowsItsOwn numbers older i page =
 
 -- So it is whenever a member draws. A member whose record may lack its last lines listens before it
 -- draws: LISTENING of live/board.py (tests/live/test_keeping.py: check_listening, check_mark) and of
--- web/page/board.js (tests/browser/keeping.test.mjs: testMarks).
+-- web/member/board.js (tests/browser/keeping.test.mjs: testMarks).
 abbrev pub KnowTheirOwn : (ℕ → ℕ) → List CallAt → Type 0
 KnowTheirOwn numbers [] = Unit {0}
 KnowTheirOwn numbers (e ∷ older) =

@@ -1,9 +1,8 @@
 -- What one act of a member brings, and what is drawn by it.
 use Rattle.std.proofs.Common.{◌≡◌, ℕ, List, [], ◌∷◌, subst, ◌⊎◌, inl, inr, ⊎_elim}
 use Rattle.std.specs.Prelude.{Contains}
-use Rattle.std.proofs.lemmas.List.Elements.{Contains-push_cases}
 use Rattle.wb_names.specs.Values.{DrawopValue, MarkValue}
-use Rattle.wb_names.specs.Arrivals.{Outcome, Fresh, Known, Clashed, Left, outcome_of, history_with, history_after}
+use Rattle.wb_names.specs.Arrivals.{outcome_of, history_with, history_after}
 use Rattle.wb_names.specs.declared.echo.Echo.{Echo}
 use Rattle.wb_names.specs.declared.name.PageId.{PageId}
 use Rattle.wb_names.proofs.Listings.{Contains-here, Contains-there, Contains-none}
@@ -11,6 +10,7 @@ use Rattle.wb_codec.specs.declared.datagram.Datagram.TheVariants.{Draw, Session,
 use Rattle.wb_member.specs.Members.{Member, Act, Draws, Takes, Hears, Ticks, Reports, AsksForPages, next_drawop, after, sends}
 use Rattle.wb_laws_sessions.proofs.Outcomes.{with_more}
 use Rattle.wb_laws_sessions.proofs.Sending.{answers_held, no_answer, one_of}
+use Rattle.wb_laws_sessions.proofs.Deeds.{arrival_brings}
 
 -- an act takes this drawop
 abbrev pub IsTaking : Act → DrawopValue → Type 0
@@ -24,19 +24,13 @@ IsDrawing act m x = ⊥
 
 -- ---- what is held
 
-with_outcome : (h : List DrawopValue) (d x : DrawopValue) (o : Outcome) → Contains (history_with h d o) x → Contains h x ⊎ (d ≡ x)
-with_outcome h d x (Fresh i) c = Contains-push_cases h d x c
-with_outcome h d x (Known i) c = inl c
-with_outcome h d x (Clashed i) c = inl c
-with_outcome h d x Left c = inl c
-
 with_batch : (cells : ℕ) (h batch : List DrawopValue) (x : DrawopValue) → Contains (history_after cells h batch) x → Contains h x ⊎ Contains batch x
 with_batch cells h [] x c = inl c
 with_batch cells h (d ∷ batch) x c = ⊎_elim
     (λ (g : Contains (history_with h d (outcome_of cells h d)) x). ⊎_elim
     (λ (k : Contains h x). inl k)
     (λ (e : d ≡ x). inr (subst (λ (y : DrawopValue). Contains (d ∷ batch) y) e (Contains-here d batch)))
-    (with_outcome h d x (outcome_of cells h d) g))
+    (arrival_brings h d x (outcome_of cells h d) g))
     (λ (g : Contains batch x). inr (Contains-there d x batch g))
     (with_batch cells (history_with h d (outcome_of cells h d)) batch x c)
 

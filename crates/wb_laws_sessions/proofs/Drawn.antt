@@ -11,13 +11,7 @@ use Rattle.wb_laws_sessions.specs.Drawn.{AreHonest, HeldOnce, HeldWasDrawn, IsHo
 use Rattle.wb_laws_sessions.specs.Sessions.{Performs, Step, after_deed, host_at}
 use Rattle.wb_laws_sessions.proofs.Deeds.{ComesBy, deed_brings, deed_draws, once_after, one_drawn}
 use Rattle.wb_laws_sessions.proofs.Outcomes.{Found, found}
-
-pub nil_ends : (newer : List Step) (e : Step) (older : List Step) → ◌≡◌ {A = List Step} [] (newer ++ e ∷ older) → ⊥
-nil_ends [] e older same = cc
-nil_ends (x ∷ newer) e older same = cc
-
-pub tails : (a b : Step) (x y : List Step) → a ∷ x ≡ b ∷ y → x ≡ y
-tails a b x y same = cc
+use Rattle.wb_progress.proofs.Parts.{tails, nil_ends}
 
 module _ (numbers : ℕ → ℕ) where
   abbrev there : List Step → ℕ → Opened

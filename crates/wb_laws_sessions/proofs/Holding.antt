@@ -9,7 +9,7 @@ use Rattle.wb_names.proofs.Orders.{name_parts}
 use Rattle.wb_names.specs.Arrivals.{history_after}
 use Rattle.wb_names.specs.Orders.{same_name}
 use Rattle.wb_names.proofs.Orders.{same_name-is}
-use Rattle.wb_names.proofs.Listings.{Contains-here, Contains-there, Contains-filter, Contains-map}
+use Rattle.wb_names.proofs.Listings.{Contains-here, Contains-filter, Contains-map}
 use Rattle.wb_codec.specs.declared.datagram.Datagram.{Datagram}
 use Rattle.wb_codec.specs.declared.datagram.Datagram.TheVariants.{Draw, Session, Request, AskPages, PageState}
 use Rattle.wb_recovery.specs.Timing.{new_ask, new_answer, heard_ask, fired_ask, fired_answer, noticed, asked, got, is_standing}
@@ -41,6 +41,7 @@ use Rattle.wb_laws_sessions.specs.Sessions.{Deed, Looks, Opens, Performs, Step, 
 use Rattle.wb_laws_sessions.specs.Sessions as deeds
 use Rattle.wb_laws_sessions.specs.Timers.{AnswersAreOfHeld, NoneHeldIsAskedFor}
 use Rattle.wb_laws_sessions.proofs.Acts.{held_after, held_grows}
+use Rattle.wb_progress.proofs.Giving.{held_as}
 
 -- the timers of a name at a member
 abbrev pub timers_of_member : Member → NameValue → Timers
@@ -51,13 +52,6 @@ abbrev pub IsCareful : Act → Member → Type 0
 IsCareful (Misses now names words) m = All (λ n. holds m.held n ≡ false) names
 IsCareful (Takes now batch order) m = All (λ d. Contains batch d) order
 IsCareful act m = Unit {0}
-
-pub member_of : (h : List DrawopValue) (n : NameValue) → holds h n ≡ true → (d : DrawopValue) × Contains h d × (d.name ≡ n)
-member_of [] n e = absurd (true≢false (sym e))
-member_of (x ∷ h) n e = from (member_of h n) (same_name x.name n) refl e where
-  from : (holds h n ≡ true → (d : DrawopValue) × Contains h d × (d.name ≡ n)) → (b : Bool) → same_name x.name n ≡ b → (b || holds h n) ≡ true → (d : DrawopValue) × Contains (x ∷ h) d × (d.name ≡ n)
-  from rest true f g = (x, Contains-here x h, same_name-is x.name n f)
-  from rest false f g = let r = rest g in (r.0, Contains-there x r.0 h r.1, r.2)
 
 -- ---- no request timer
 
@@ -121,7 +115,7 @@ taken_none m now batch order careful none n h =
     let names : List NameValue = filter (holds held) (map (λ (d : DrawopValue). d.name) batch) in
     let received : List Received = received_of (delay_to m.number m.calls) names in
     let s : Timers = timers_of m.constants events n in
-    let x = member_of held n h in
+    let x = held_as held n h in
     ⊎_elim
     (λ (c : Contains m.held x.0). receipts_none m.constants n now events received (none n (holds_from m.held n x.0 c x.2)))
     (λ (c : Contains order x.0).
@@ -208,7 +202,7 @@ abbrev pub AnswerHeld : Member → Type 0
 AnswerHeld m = (n : NameValue) → HasAnswer (timers_of_member m n) → holds m.held n ≡ true
 
 grows : (act : Act) (m : Member) (n : NameValue) → holds m.held n ≡ true → holds (after act m).held n ≡ true
-grows act m n h = let x = member_of m.held n h in holds_from (after act m).held n x.0 (held_grows act m x.0 x.1) x.2
+grows act m n h = let x = held_as m.held n h in holds_from (after act m).held n x.0 (held_grows act m x.0 x.1) x.2
 
 pub answer_after : (act : Act) (m : Member) → AnswerHeld m → AnswerHeld (after act m)
 answer_after (Draws page time op) m is n e = is n e
@@ -234,7 +228,7 @@ record Tells (m : Member) : Type 0 where
 tells_after : (a : Act) (m : Member) → IsCareful a m → Tells m → Tells (after a m)
 tells_after a m careful t = record { requests = none_after a m careful t.requests; answers = answer_after a m t.answers }
 
-all_from : {X : Type 0} (P : X → Type 0) (xs : List X) → ((x : X) → Contains xs x → P x) → All P xs
+pub all_from : {X : Type 0} (P : X → Type 0) (xs : List X) → ((x : X) → Contains xs x → P x) → All P xs
 all_from P xs f = All-weaker (Contains xs) P f xs (All-contains_itself xs)
 
 module _ (host : Opened) where

@@ -1,14 +1,14 @@
 -- What the outcome of one arrival says of what is held.
-use Rattle.std.proofs.Common.{◌≡◌, ℕ, ◌+◌, Bool, true, false, cond, List, [], ◌∷◌, refl, sym, ap, ◌∙◌, subst, arith, true≢false, ⊎_elim}
+use Rattle.std.proofs.Common.{◌≡◌, ℕ, ◌+◌, Bool, true, false, cond, List, [], ◌∷◌, refl, sym, ap, ◌∙◌, subst, true≢false, ⊎_elim}
 use Rattle.std.specs.Prelude.{Contains, nat_lt}
-use Rattle.std.proofs.lemmas.Bool.Decides.{nat_tests}
 use Rattle.std.proofs.lemmas.List.Elements.{Contains-append_left}
-use Rattle.wb_names.specs.Values.{NameValue, DrawopValue}
+use Rattle.wb_names.specs.Values.{DrawopValue}
 use Rattle.wb_names.specs.Arrivals.{Outcome, Fresh, Known, Clashed, Left, history_with, outcome_from}
 use Rattle.wb_names.specs.Orders.{same_name}
 use Rattle.wb_names.specs.Same.{same_drawop, same_drawop-Decides}
 use Rattle.wb_names.proofs.Listings.{Contains-here, Contains-there, Contains-cases, Contains-none}
 use Rattle.wb_names.proofs.Orders.{same_name-is}
+use Rattle.wb_host.proofs.KeptCalls.{same_here}
 
 -- by what became of it: none has its name; it is held; another with its name is
 abbrev pub Found : List DrawopValue → DrawopValue → Outcome → Type 0
@@ -29,9 +29,6 @@ behind y h d (Known place) other f = Contains-there y d h f
 behind y h d (Clashed place) other f = (f.0, Contains-there y f.0 h f.1, f.2, f.3)
 behind y h d Left other f = none_behind y h d other f
 
-name_again : (m n : NameValue) → m ≡ n → same_name m n ≡ true
-name_again m n e = subst (λ (k : NameValue). same_name m k ≡ true) e (grind (arith, nat_tests))
-
 pub found : (cells i : ℕ) (h : List DrawopValue) (d : DrawopValue) → Found h d (outcome_from cells i h d)
 found cells i [] d = from (nat_lt i cells) where
   from : (b : Bool) → Found [] d (cond b (Fresh i) Left)
@@ -44,7 +41,7 @@ found cells i (y ∷ h) d = by (found cells (i + 1) h d) (same_name y.name d.nam
 
   by : Found h d (outcome_from cells (i + 1) h d) → (b : Bool) → same_name y.name d.name ≡ b → Found (y ∷ h) d (cond b (cond (same_drawop y d) (Known i) (Clashed i)) (outcome_from cells (i + 1) h d))
   by rest true e = named (same_drawop y d) refl (same_name-is y.name d.name e)
-  by rest false e = behind y h d (outcome_from cells (i + 1) h d) (λ same. true≢false (sym (name_again y.name d.name same) ∙ e)) rest
+  by rest false e = behind y h d (outcome_from cells (i + 1) h d) (λ same. true≢false (sym (same_here y.name d.name same) ∙ e)) rest
 
 -- what is held stays
 pub with_more : (h : List DrawopValue) (d x : DrawopValue) (o : Outcome) → Contains h x → Contains (history_with h d o) x

@@ -23,16 +23,14 @@ use Rattle.wb_member.specs.Opened.{Opened, has_room_for}
 use Rattle.wb_laws_sessions.specs.Drawn.{SentWasHeld}
 use Rattle.wb_laws_sessions.specs.Sessions.{Deed, Looks, Opens, Performs, Reports, Step, after_deed, host_at, sent, sent_by_deed}
 use Rattle.wb_laws_sessions.proofs.Outcomes.{Found, found}
+use Rattle.std.proofs.lemmas.Option.{same_Some}
 
 -- a look-up finds a member
 found_member : (history : List DrawopValue) (name : NameValue) (d : DrawopValue) → drawop_of history name ≡ Some d → Contains history d
 found_member [] name d e = cc
 found_member (x ∷ history) name d e = at (found_member history name d) (same_name x.name name) e where
-  unwrapped : (x d : DrawopValue) → Some x ≡ Some d → x ≡ d
-  unwrapped x d e = cc
-
   at : (drawop_of history name ≡ Some d → Contains history d) → (b : Bool) → cond b (Some x) (drawop_of history name) ≡ Some d → Contains (x ∷ history) d
-  at rest true e = subst (λ (w : DrawopValue). Contains (x ∷ history) w) (unwrapped x d e) (Contains-here x history)
+  at rest true e = subst (λ (w : DrawopValue). Contains (x ∷ history) w) (same_Some x d e) (Contains-here x history)
   at rest false e = Contains-there x d history (rest e)
 
 -- whatever the actions, only members of the history are sent
@@ -56,15 +54,15 @@ no_answer me history datagram d c = from (asks_for_pages me datagram) c where
   from true c = let r = Any-from_map (λ (r : PageReport). PageState me r.page r.marks) (reports_of history) (Draw d) c in other me r.1 r.4
   from false c = Contains-none (Draw d) c
 
-pub one_of : (a b : Datagram) → Contains (a ∷ []) b → a ≡ b
+pub one_of : {X : Type 0} (a b : X) → Contains (a ∷ []) b → a ≡ b
 one_of a b c = ⊎_elim (λ (e : a ≡ b). e) (λ (d : Contains [] b). absurd (Contains-none b d)) (Contains-cases a b [] c)
 
-same : (x d : DrawopValue) → Draw x ≡ Draw d → x ≡ d
-same x d e = cc
+pub one_draw : (x d : DrawopValue) → Draw x ≡ Draw d → x ≡ d
+one_draw x d e = cc
 
 said_held : (held : List DrawopValue) (x d : DrawopValue) (o : Outcome) → Found held x o → Contains (said_where x o) (Draw d) → Contains (history_with held x o) d
-said_held held x d (Fresh place) f c = subst (Contains (held ++ x ∷ [])) (same x d (one_of (Draw x) (Draw d) c)) (Contains-append_right held (x ∷ []) x (Contains-here x []))
-said_held held x d (Known place) f c = subst (Contains held) (same x d (one_of (Draw x) (Draw d) c)) f
+said_held held x d (Fresh place) f c = subst (Contains (held ++ x ∷ [])) (one_draw x d (one_of (Draw x) (Draw d) c)) (Contains-append_right held (x ∷ []) x (Contains-here x []))
+said_held held x d (Known place) f c = subst (Contains held) (one_draw x d (one_of (Draw x) (Draw d) c)) f
 said_held held x d (Clashed place) f c = absurd (Contains-none (Draw d) c)
 said_held held x d Left f c = absurd (Contains-none (Draw d) c)
 

@@ -2,7 +2,6 @@
 use Rattle.std.proofs.Common.{◌≡◌, ℕ, ◌+◌, ◌*◌, ◌≤◌, ◌<◌, Bool, true, false, cond, List, [], ◌∷◌, Option, Some, None, refl, ap, ◌∙◌, sym, subst, arith, ◌⊎◌, inl, inr, ⊎_elim, eqb-true, eq-eqb, true≢false}
 use Rattle.std.specs.Prelude.{Contains, IfSome, min, nat_eq, nat_le, is_none, ◌&&◌}
 use Rattle.std.proofs.Math.Nat.{mul-le-mul_left, mul-le-mul_right}
-use Rattle.std.proofs.lemmas.Bool.Decides.{nat_tests}
 use Rattle.wb_names.specs.Values.{NameValue}
 use Rattle.wb_names.specs.Orders.{same_name}
 use Rattle.wb_names.proofs.Orders.{same_name-is}
@@ -24,9 +23,11 @@ use Rattle.wb_progress.specs.Calls.{Brings, Fires, Requests, Misses, AnswersGoOn
 use Rattle.wb_progress.specs.Keepers.{AreWithin, constants_at}
 use Rattle.wb_progress.specs.Repairs.{timers_at}
 use Rattle.wb_progress.proofs.KeeperBounds.{steady_within, within_now, near_within}
-use Rattle.wb_progress.proofs.OneCall.{received_from, not_standing, is_false}
+use Rattle.wb_progress.proofs.OneCall.{received_from, not_standing}
 use Rattle.wb_progress.proofs.Standing.{requests_are_taken}
 use Rattle.wb_progress.proofs.TimerBounds.{expiry_within}
+use Rattle.std.proofs.lemmas.Bool.{leb-true, false_from_ne_true}
+use Rattle.std.proofs.lemmas.Option.{same_Some, none-some}
 
 -- ---- what a call does to the timers s of a name
 
@@ -78,12 +79,10 @@ module _ (far : ℕ) (bound : Tuning) (now : ℕ) where
     from None e = subst (λ (o : Option AskTimer). IsMissed far bound now s (cond (is_none o) (record s { ask = Some (new_ask t now delay word) }) s)) (sym e) (record {
       answer = refl;
       quiet = refl;
-      stays = λ ask h. absurd (none_some ask (sym e ∙ h));
+      stays = λ ask h. absurd (none-some ask (sym e ∙ h));
       new = λ none. new_within bound t far now delay word under le;
       lowest = λ none. refl;
-    }) where
-      none_some : (ask : AskTimer) → ◌≡◌ {A = Option AskTimer} None (Some ask) → ⊥
-      none_some ask h = cc
+    })
 
   then_missed : (s mid next : Timers) → IsMissed far bound now s mid → IsMissed far bound now mid next → IsMissed far bound now s next
   then_missed s mid next a b = record {
@@ -214,26 +213,23 @@ module _ (far me : ℕ) (bound t : Tuning) (calls : List KeeperCall) (n : NameVa
 
 -- ---- laws
 
-due_yes : (a b : ℕ) → nat_le a b ≡ true → a ≤ b
-due_yes a b e = grind (arith, nat_tests)
-
 answer_fires : (now : ℕ) (answer : AnswerTimer) → (fired_answer now (Some answer) ≡ Some answer) ⊎ (answer.due ≤ now)
 answer_fires now answer = from (nat_le answer.due now) refl where
   from : (b : Bool) → nat_le answer.due now ≡ b → (cond b None (Some answer) ≡ Some answer) ⊎ (answer.due ≤ now)
-  from true e = inr (due_yes answer.due now e)
+  from true e = inr (leb-true answer.due now e)
   from false e = inl refl
 
 ask_fires : (t : Tuning) (now word : ℕ) (ask : AskTimer) → (fired_ask t now word (Some ask) ≡ Some ask) ⊎ (ask.due ≤ now)
 ask_fires t now word ask = from (nat_le ask.due now) refl where
   from : (b : Bool) → nat_le ask.due now ≡ b → (Some (cond b (backed_off t ask now ask.delay word) ask) ≡ Some ask) ⊎ (ask.due ≤ now)
-  from true e = inr (due_yes ask.due now e)
+  from true e = inr (leb-true ask.due now e)
   from false e = inl refl
 
 quiet_fires : (now quiet : ℕ) (o : Option AnswerTimer) → (quiet_after now quiet o ≡ quiet) ⊎ ((answer : AnswerTimer) × (o ≡ Some answer) × (answer.due ≤ now))
 quiet_fires now quiet None = inl refl
 quiet_fires now quiet (Some answer) = from (nat_le answer.due now) refl where
   from : (b : Bool) → nat_le answer.due now ≡ b → (cond b (now + 3 * answer.delay) quiet ≡ quiet) ⊎ ((a : AnswerTimer) × (Some answer ≡ Some a) × (a.due ≤ now))
-  from true e = inr (answer, refl, due_yes answer.due now e)
+  from true e = inr (answer, refl, leb-true answer.due now e)
   from false e = inl refl
 
 asked_answer : (t : Tuning) (held : Bool) (now delay word : ℕ) (s : Timers) (answer : AnswerTimer) → s.answer ≡ Some answer → (asked t held now delay word s).answer ≡ Some answer
@@ -355,30 +351,24 @@ requests_are_heard far me bound t calls now asker word n other within = subst Fo
   Found newer = (now < (timers_of t events n).quiet) ⊎ ((answer : AnswerTimer) × ((timers_of t newer n).answer ≡ Some answer) × (answer.due ≤ now + (bound.d1 + bound.d2) * far))
 
   heard : events_of me (Hear now (Request asker n) word true ∷ calls) ≡ Asked n true now delay word ∷ events
-  heard = ap (λ (b : Bool). cond b events (Asked n true now delay word ∷ events)) (is_false (nat_eq asker me) (λ e. other (eqb-true asker me e)))
+  heard = ap (λ (b : Bool). cond b events (Asked n true now delay word ∷ events)) (false_from_ne_true (nat_eq asker me) (λ e. other (eqb-true asker me e)))
 
 -- ---- a request timer that was not backed off
-
-some_ask : (a b : AskTimer) → Some a ≡ Some b → a ≡ b
-some_ask a b e = cc
 
 backed_level : (level : ℕ) → min (level + 1) 16 ≡ 0 → ⊥
 backed_level level e = omega (arith, e)
 
-no_ask : (ask : AskTimer) → ◌≡◌ {A = Option AskTimer} None (Some ask) → ⊥
-no_ask ask e = cc
-
 -- what backs off or not, and was not backed off, is as it was
 as_it_was : (b : Bool) (t : Tuning) (now delay word : ℕ) (a ask : AskTimer) → Some (cond b (backed_off t a now delay word) a) ≡ Some ask → ask.level ≡ 0 → Some a ≡ Some ask
-as_it_was true t now delay word a ask e level = absurd (backed_level a.level (ap (λ (x : AskTimer). x.level) (some_ask (backed_off t a now delay word) ask e) ∙ level))
+as_it_was true t now delay word a ask e level = absurd (backed_level a.level (ap (λ (x : AskTimer). x.level) (same_Some (backed_off t a now delay word) ask e) ∙ level))
 as_it_was false t now delay word a ask e level = e
 
 heard_fresh : (t : Tuning) (now delay word : ℕ) (o : Option AskTimer) (ask : AskTimer) → heard_ask t now delay word o ≡ Some ask → ask.level ≡ 0 → o ≡ Some ask
-heard_fresh t now delay word None ask e level = absurd (no_ask ask e)
+heard_fresh t now delay word None ask e level = absurd (none-some ask e)
 heard_fresh t now delay word (Some a) ask e level = as_it_was (nat_le a.deaf now) t now delay word a ask e level
 
 fired_fresh : (t : Tuning) (now word : ℕ) (o : Option AskTimer) (ask : AskTimer) → fired_ask t now word o ≡ Some ask → ask.level ≡ 0 → o ≡ Some ask
-fired_fresh t now word None ask e level = absurd (no_ask ask e)
+fired_fresh t now word None ask e level = absurd (none-some ask e)
 fired_fresh t now word (Some a) ask e level = as_it_was (nat_le a.due now) t now a.delay word a ask e level
 
 asked_fresh : (t : Tuning) (held : Bool) (now delay word : ℕ) (s : Timers) (ask : AskTimer) → (asked t held now delay word s).ask ≡ Some ask → ask.level ≡ 0 → s.ask ≡ Some ask
@@ -406,7 +396,7 @@ fresh_ask far me bound t call calls n short under ask is level = by (does far me
 
   by : Does far me bound n call old next → (old.ask ≡ Some ask) ⊎ (Misses n call × (ask.due ≤ moment_at (call ∷ []) + (bound.c1 + bound.c2) * far))
   by (inl same) = inl (sym (ap (λ (s : Timers). s.ask) same) ∙ is)
-  by (inr (inl brought)) = absurd (no_ask ask (sym brought.1 ∙ is))
+  by (inr (inl brought)) = absurd (none-some ask (sym brought.1 ∙ is))
   by (inr (inr (inl heard))) = inl (asked_fresh heard.constants heard.by.held heard.by.now heard.delay heard.by.word old ask (sym (ap (λ (s : Timers). s.ask) heard.becomes) ∙ is) level)
   by (inr (inr (inr (inl missed)))) = ⊎_elim
       (λ (stood : old.ask ≡ Some ask). inl stood)

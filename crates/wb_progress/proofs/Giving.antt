@@ -17,8 +17,9 @@ use Rattle.wb_progress.specs.Keepers.{AreWithin}
 use Rattle.wb_progress.specs.Repairs.{timers_at}
 use Rattle.wb_progress.specs.Turns.{longest, Terms, settled_by, Turn, Places, desk_at, has, timers_there, time_of, AreInOrder, until, IsAnswerable, AllHoldBehind, Accepts, WasSent, IsOtherOrLacked, KeepTimeBut}
 use Rattle.wb_progress.proofs.Calls.{quiet_begins}
-use Rattle.wb_progress.proofs.OneCall.{le_true, ticks_answer}
+use Rattle.wb_progress.proofs.OneCall.{ticks_answer}
 use Rattle.wb_progress.proofs.Parts.{before_end, order_of, goes_on, joined}
+use Rattle.std.proofs.lemmas.Bool.{le-leb}
 
 -- a name that is held is that of a drawop
 pub held_as : (h : List DrawopValue) (n : NameValue) → holds h n ≡ true → (d : DrawopValue) × Contains h d × (d.name ≡ n)
@@ -221,7 +222,7 @@ module _ {MayStop : List Turn → Turn → NameValue → Type 0} (places : Place
       let d = held_as (desk_at older i).held n h in
       let part : turns ≡ (newer ++ e ∷ []) ++ older = split ∙ sym (append_assoc newer (e ∷ []) older) in
       let none : (timers_there places older i d.0.name).ask ≡ None = subst (λ (m : NameValue). (timers_there places older i m).ask ≡ None) (sym d.2) (is.are.lacking (newer ++ e ∷ []) older i n part live h) in
-      let due : is_answer_due fires.now (timers_there places older i d.0.name).answer ≡ true = subst (λ (m : NameValue). is_answer_due fires.now (timers_there places older i m).answer ≡ true) (sym d.2) (ap (is_answer_due fires.now) stands ∙ le_true answer.due fires.now fires.due_by) in
+      let due : is_answer_due fires.now (timers_there places older i d.0.name).answer ≡ true = subst (λ (m : NameValue). is_answer_due fires.now (timers_there places older i m).answer ≡ true) (sym d.2) (ap (is_answer_due fires.now) stands ∙ le-leb answer.due fires.now fires.due_by) in
       let sends = ticks_answer (places.me i) (places.constants i) (desk_at older i).calls (desk_at older i).held fires.now d.0 (is.are.history (newer ++ e ∷ []) older i part live) d.1 none due in
       let there = (is.are.turn newer older e split live').sends fires.now fires.words fires.stopped (c.accepts ∙ ap (λ (k : KeeperCall). k ∷ (desk_at older e.place).calls) fires.is) (Draw d.0)
       (subst (λ (k : ℕ). Contains (sent_by_tick (places.me k) (places.constants k) (desk_at older k).calls (desk_at older k).held fires.now) (Draw d.0)) (sym here) sends) in

@@ -16,8 +16,9 @@ use Rattle.wb_progress.specs.Turns.{longest, Terms, settled_by, Turn, Places, Ac
 use Rattle.wb_progress.proofs.Answering.{sooner, request_is_answered_but}
 use Rattle.wb_progress.proofs.Calls.{ask_goes_on}
 use Rattle.wb_progress.proofs.Giving.{Spares, spares_held, Called, Copy, IsGiven, changes, came_or_given, copy_comes}
-use Rattle.wb_progress.proofs.OneCall.{le_true, ticks_ask}
+use Rattle.wb_progress.proofs.OneCall.{ticks_ask}
 use Rattle.wb_progress.proofs.Parts.{before_end, order_of, joined, AreFrom, from_at, from_tail}
+use Rattle.std.proofs.lemmas.Bool.{le-leb}
 
 itself : (n : ℕ) → n ≤ n
 itself n = omega arith
@@ -72,7 +73,7 @@ module _ {MayStop : List Turn → Turn → NameValue → Type 0} (places : Place
 
       fired : (c : Called places terms turns is older e i) → Fires ask.due c.call → HoldBy e.time
       fired c f =
-          let due : is_ask_due f.now (asks older) ≡ true = ap (is_ask_due f.now) stands ∙ le_true ask.due f.now f.due_by in
+          let due : is_ask_due f.now (asks older) ≡ true = ap (is_ask_due f.now) stands ∙ le-leb ask.due f.now f.due_by in
           let sends = ticks_ask (places.me i) (places.constants i) (desk_at older i).calls (desk_at older i).held f.now n due lost in
           let there = (is.are.turn newer older e split (subst (Contains terms.live) (sym c.place) live)).sends f.now f.words f.stopped (c.accepts ∙ ap (λ (k : KeeperCall). k ∷ (desk_at older e.place).calls) f.is) (Request (places.me i) n)
           (subst (λ (k : ℕ). Contains (sent_by_tick (places.me k) (places.constants k) (desk_at older k).calls (desk_at older k).held f.now) (Request (places.me i) n)) (sym c.place) sends) in

@@ -14,7 +14,7 @@ use Rattle.wb_names.proofs.Listings.{Contains-here, Contains-there, Contains-cas
 use Rattle.wb_host.proofs.KeptCalls.{same_here}
 use Rattle.wb_progress.specs.InTime.{AreApart}
 
-less_greater : ◌≡◌ {A = Ordering} Less Greater → ⊥
+pub less_greater : ◌≡◌ {A = Ordering} Less Greater → ⊥
 less_greater e = cc
 
 pub apart_of : (names : List NameValue) → IsStrictlySortedBy name_cmp names → AreApart names

@@ -1,8 +1,7 @@
 -- What a tick, a request and a miss do to the timers of one name.
-use Rattle.std.proofs.Common.{◌≡◌, ℕ, ◌≤◌, Bool, true, false, cond, List, [], ◌∷◌, Option, Some, None, refl, ap, ◌∙◌, sym, subst, arith, true≢false, ⊎_elim, eqb-true}
+use Rattle.std.proofs.Common.{◌≡◌, ℕ, ◌≤◌, Bool, true, false, cond, List, [], ◌∷◌, Option, Some, None, refl, ap, ◌∙◌, sym, subst, true≢false, ⊎_elim, eqb-true}
 use Rattle.std.specs.Prelude.{IfSome, nat_eq, nat_le, is_none, is_some, map, Contains, ◌&&◌, ◌||◌}
 use Rattle.std.specs.Option.{option_map}
-use Rattle.std.proofs.lemmas.Bool.Decides.{nat_tests}
 use Rattle.std.proofs.lemmas.List.Elements.{Contains-append_left, Contains-append_right}
 use Rattle.wb_names.specs.Values.{NameValue, DrawopValue}
 use Rattle.wb_names.specs.History.{IsHistory}
@@ -30,9 +29,7 @@ use Rattle.wb_host.proofs.KeptCalls.{same_here}
 use Rattle.wb_host.proofs.TickSends.{sent_by}
 use Rattle.wb_progress.specs.Keepers.{constants_at}
 use Rattle.wb_progress.specs.Repairs.{timers_at, gone_on, IsIdle, TicksAsk, TicksAnswer, TicksClear, TicksEnd, TicksLeave, RequestsSet, MissesStand, GivenUpIsIdle}
-
-pub le_true : (a b : ℕ) → a ≤ b → nat_le a b ≡ true
-le_true a b le = grind (arith, nat_tests)
+use Rattle.std.proofs.lemmas.Bool.{le-leb, false_from_ne_true}
 
 -- ---- names that have come
 
@@ -52,10 +49,6 @@ received_from delays (m ∷ names) n e = from (received_from delays names n) (sa
   from : (is_received (received_of delays names) n ≡ true → Contains names n) → (b : Bool) → same_name m n ≡ b → (b || is_received (received_of delays names) n) ≡ true → Contains (m ∷ names) n
   from rest true g h = subst (λ (k : NameValue). Contains (m ∷ names) k) (same_name-is m n g) (Contains-here m names)
   from rest false g h = Contains-there m n names (rest h)
-
-pub is_false : (b : Bool) → (b ≡ true → ⊥) → b ≡ false
-is_false true f = absurd (f refl)
-is_false false f = refl
 
 no_ask : (o : Option AskTimer) → (is_some o ≡ true → ⊥) → o ≡ None
 no_ask None f = refl
@@ -103,10 +96,10 @@ module _ (me : ℕ) (t : Tuning) (calls : List KeeperCall) (history : List Drawo
   stopped_if h a = received_in (delay_to me calls) stopped n (Contains-filter (holds history) (asking (names_of events) (timers_of t events)) n (((listed_of (λ (r : Timers). is_some r.ask) refl t events).members n).1 a) h)
 
   not_held : holds history n ≡ false → timers_of t after n ≡ s
-  not_held h = then ∙ not_received now n s received (is_false (is_received received n) (λ e. true≢false (sym (stopped_only e).0 ∙ h)))
+  not_held h = then ∙ not_received now n s received (false_from_ne_true (is_received received n) (λ e. true≢false (sym (stopped_only e).0 ∙ h)))
 
   not_asked : s.ask ≡ None → timers_of t after n ≡ s
-  not_asked e = then ∙ not_received now n s received (is_false (is_received received n) (λ f. true≢false (sym (stopped_only f).1 ∙ ap is_some e)))
+  not_asked e = then ∙ not_received now n s received (false_from_ne_true (is_received received n) (λ f. true≢false (sym (stopped_only f).1 ∙ ap is_some e)))
 
   asks : is_ask_due now s.ask ≡ true → holds history n ≡ false → Contains (sent_by_tick me t calls history now) (Request me n)
   asks due h =
@@ -134,7 +127,7 @@ module _ (me : ℕ) (t : Tuning) (calls : List KeeperCall) (history : List Drawo
 
   due_ends : (o : Option AnswerTimer) → IfSome o (λ answer. answer.due ≤ now) → fired_answer now o ≡ None
   due_ends None h = refl
-  due_ends (Some a) h = ap (λ (b : Bool). cond b None (Some a)) (le_true a.due now h)
+  due_ends (Some a) h = ap (λ (b : Bool). cond b None (Some a)) (le-leb a.due now h)
 
   module _ (words : List ℕ) where
     abbrev word : ℕ
@@ -191,7 +184,7 @@ module _ (me : ℕ) (t : Tuning) (calls : List KeeperCall) (now asker word : ℕ
 
   sets_here : asked (constants_at me t calls) true now delay word before ≡ set
   sets_here = ap (λ (o : Option AnswerTimer). cond (is_none o && nat_le before.quiet now) (record before { answer = Some (new_answer (constants_at me t calls) now delay word) }) before) idle.answer
-      ∙ ap (λ (b : Bool). cond b (record before { answer = Some (new_answer (constants_at me t calls) now delay word) }) before) (le_true before.quiet now quiet)
+      ∙ ap (λ (b : Bool). cond b (record before { answer = Some (new_answer (constants_at me t calls) now delay word) }) before) (le-leb before.quiet now quiet)
       ∙ ap (λ (o : Option AskTimer). record set { ask = o }) idle.ask
 
   sets : (asker ≡ me → ⊥) → timers_of t (cond (nat_eq asker me) (events_of me calls) (Asked n true now delay word ∷ events_of me calls)) n ≡ set
@@ -203,7 +196,7 @@ module _ (me : ℕ) (t : Tuning) (calls : List KeeperCall) (now asker word : ℕ
 pub requests_set : RequestsSet
 requests_set me t calls now asker word n other idle quiet = sets me t calls now asker word n idle quiet other
 
-stands : (t : Tuning) (now delay word : ℕ) (s : Timers) → is_some (noticed t now delay word s).ask ≡ true
+pub stands : (t : Tuning) (now delay word : ℕ) (s : Timers) → is_some (noticed t now delay word s).ask ≡ true
 stands t now delay word s = from s.ask refl where
   from : (o : Option AskTimer) → s.ask ≡ o → is_some (noticed t now delay word s).ask ≡ true
   from None e = ap (λ (o : Option AskTimer). is_some (cond (is_none o) (record s { ask = Some (new_ask t now delay word) }) s).ask) e

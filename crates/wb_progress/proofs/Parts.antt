@@ -1,8 +1,8 @@
 -- Parts of a list of turns, and times.
 use Rattle.std.proofs.Common.{◌≡◌, ℕ, ◌+◌, ◌<◌, ◌≤◌, Bool, true, false, cond, List, [], ◌∷◌, ◌++◌, refl, sym, ap, ◌∙◌, subst, arith, append_assoc}
 use Rattle.std.specs.Prelude.{nat_le}
-use Rattle.std.proofs.lemmas.Bool.Decides.{nat_tests}
 use Rattle.wb_progress.specs.Turns.{Turn, time_of, AreInOrder, until}
+use Rattle.std.proofs.lemmas.Bool.{lt-leb, leb-false, leb-true}
 
 pub before_end : (newer later : List Turn) → AreInOrder (newer ++ later) → time_of later ≤ time_of (newer ++ later)
 before_end [] later order = omega arith
@@ -12,8 +12,15 @@ pub order_of : (newer later : List Turn) → AreInOrder (newer ++ later) → Are
 order_of [] later order = order
 order_of (e ∷ newer) later order = order_of newer later order.1
 
-pub tails : (a b : Turn) (x y : List Turn) → a ∷ x ≡ b ∷ y → x ≡ y
+pub heads : {X : Type 0} (a b : X) (x y : List X) → a ∷ x ≡ b ∷ y → a ≡ b
+heads a b x y same = cc
+
+pub tails : {X : Type 0} (a b : X) (x y : List X) → a ∷ x ≡ b ∷ y → x ≡ y
 tails a b x y same = cc
+
+pub nil_ends : {X : Type 0} (newer : List X) (e : X) (older : List X) → ◌≡◌ {A = List X} [] (newer ++ e ∷ older) → ⊥
+nil_ends [] e older same = cc
+nil_ends (x ∷ newer) e older same = cc
 
 -- a part that ends earlier than another is within it
 pub in_past : (newer later front base : List Turn) → newer ++ later ≡ front ++ base → AreInOrder (newer ++ later) → time_of base < time_of later → (middle : List Turn) × (later ≡ middle ++ base)
@@ -26,15 +33,6 @@ in_past (e ∷ newer) later [] base same order lt =
 in_past (e ∷ newer) later (y ∷ front) base same order lt = in_past newer later front base (tails e y (newer ++ later) (front ++ base) same) order.1 lt
 
 -- ---- the part up to a time, and behind it
-
-not_by : (a b : ℕ) → b < a → nat_le a b ≡ false
-not_by a b lt = grind (arith, nat_tests)
-
-past : (a b : ℕ) → nat_le a b ≡ false → b < a
-past a b e = grind (arith, nat_tests)
-
-is_by : (a b : ℕ) → nat_le a b ≡ true → a ≤ b
-is_by a b e = grind (arith, nat_tests)
 
 -- each turn is at this time or later
 abbrev pub AreFrom : ℕ → List Turn → Type 0
@@ -71,11 +69,11 @@ split_at s (e ∷ older) = from (split_at s older) (nat_le e.time s) refl where
     newer = [];
     split = sym (ap (λ (b : Bool). cond b (e ∷ older) (until s older)) h);
     behind = tt;
-    by = subst (λ (t : List Turn). time_of t ≤ s) (sym (ap (λ (b : Bool). cond b (e ∷ older) (until s older)) h)) (is_by e.time s h);
+    by = subst (λ (t : List Turn). time_of t ≤ s) (sym (ap (λ (b : Bool). cond b (e ∷ older) (until s older)) h)) (leb-true e.time s h);
   }
   from rest false h =
       let same : until s (e ∷ older) ≡ until s older = ap (λ (b : Bool). cond b (e ∷ older) (until s older)) h in
-      let lt = past e.time s h in
+      let lt = leb-false e.time s h in
       record {
         newer = e ∷ rest.newer;
         split = ap (λ (t : List Turn). e ∷ t) rest.split ∙ ap (λ (t : List Turn). (e ∷ rest.newer) ++ t) (sym same);
@@ -89,14 +87,14 @@ behind s [] older order lt = refl
 behind s (x ∷ newer) older order lt =
     let le = before_end newer older order.1 in
     let o = order.0 in
-    ap (λ (b : Bool). cond b (x ∷ (newer ++ older)) (until s (newer ++ older))) (not_by x.time s (omega (arith, le, o, lt))) ∙ behind s newer older order.1 lt
+    ap (λ (b : Bool). cond b (x ∷ (newer ++ older)) (until s (newer ++ older))) (lt-leb x.time s (omega (arith, le, o, lt))) ∙ behind s newer older order.1 lt
 
 -- a part behind a time goes on from the part up to it, and so does what stands before its newest turn
 pub goes_on : (s : ℕ) (newer older : List Turn) (e : Turn) → AreInOrder (newer ++ e ∷ older) → s < e.time → (middle : List Turn) × (older ≡ middle ++ until s (newer ++ e ∷ older))
 goes_on s newer older e order lt =
     let r = split_at s older in
     let one : until s (newer ++ e ∷ older) ≡ until s (e ∷ older) = behind s newer (e ∷ older) order lt in
-    let two : until s (e ∷ older) ≡ until s older = ap (λ (b : Bool). cond b (e ∷ older) (until s older)) (not_by e.time s lt) in
+    let two : until s (e ∷ older) ≡ until s older = ap (λ (b : Bool). cond b (e ∷ older) (until s older)) (lt-leb e.time s lt) in
     (r.newer, r.split ∙ ap (λ (t : List Turn). r.newer ++ t) (sym (one ∙ two)))
 
 pub joined : (newer front back : List Turn) (e : Turn) (turns older : List Turn) → turns ≡ newer ++ older → older ≡ front ++ e ∷ back → turns ≡ (newer ++ front) ++ e ∷ back

@@ -1,6 +1,6 @@
 -- How a keeper comes to ask for a name, and how one that holds it comes to answer.
-use Rattle.std.proofs.Common.{◌≡◌, ℕ, ◌+◌, ◌*◌, ◌^◌, ◌<◌, ◌≤◌, true, List, [], ◌∷◌, Option, Some, None, refl, ap, ◌∙◌, sym, subst, arith, true≢false, leb-true}
-use Rattle.std.specs.Prelude.{IfSome, nat_le, is_some, Contains}
+use Rattle.std.proofs.Common.{◌≡◌, ℕ, ◌+◌, ◌*◌, ◌^◌, ◌<◌, ◌≤◌, true, List, [], ◌∷◌, Option, Some, None, refl, ap, ◌∙◌, sym, subst, arith, true≢false}
+use Rattle.std.specs.Prelude.{IfSome, is_some, Contains}
 use Rattle.std.proofs.Math.Nat.{pow-le-pow_right, mul-le-mul}
 use Rattle.wb_names.specs.Values.{DrawopValue}
 use Rattle.wb_names.specs.History.{IsHistory}
@@ -18,17 +18,15 @@ use Rattle.wb_progress.specs.Bounds.{IsAskNear, IsAnswerNear}
 use Rattle.wb_progress.specs.Keepers.{farthest, greatest_constants, constants_at, AreOrderly}
 use Rattle.wb_progress.specs.Repairs.{timers_at, gone_on, gave_up, IsIdle, first_wait, asking_wait, answering_wait, quiet_wait, AskerAsks, AskedAnewIsSoon, AnswersAreSoon, HolderAnswers}
 use Rattle.wb_progress.proofs.TimerBounds.{expiry_within}
-use Rattle.wb_progress.proofs.KeeperBounds.{delays_fit, in_range, keepers_are_bounded}
-use Rattle.wb_progress.proofs.OneCall.{le_true, ticks_ask, ticks_answer, ticks_clear, ticks_leave, requests_set, given_up_is_idle, sets_anew}
+use Rattle.wb_progress.proofs.KeeperBounds.{delays_fit, in_range, keepers_are_bounded, most}
+use Rattle.wb_progress.proofs.OneCall.{ticks_ask, ticks_answer, ticks_clear, ticks_leave, requests_set, given_up_is_idle, sets_anew}
+use Rattle.std.proofs.lemmas.Bool.{le-leb}
 
 record AreSmall (t : Tuning) : Type 0 where
   c1 : t.c1 ≤ 16
   c2 : t.c2 ≤ 16
   d1 : t.d1 ≤ 16
   d2 : t.d2 ≤ 16
-
-most : (n : ℕ) → is_constant n ≡ true → n ≤ 16
-most n e = leb-true n 16 (and_both (nat_le 1 n) (nat_le n 16) e).1
 
 small : (t : Tuning) → are_constants t ≡ true → AreSmall t
 small t e =
@@ -40,7 +38,7 @@ small t e =
 itself : (k : ℕ) → k ≤ k
 itself k = omega arith
 
-asking_bound : (level c delay : ℕ) → level ≤ 16 → c ≤ 32 → delay ≤ farthest → 2 ^ level * c * delay ≤ 2 ^ 45
+pub asking_bound : (level c delay : ℕ) → level ≤ 16 → c ≤ 32 → delay ≤ farthest → 2 ^ level * c * delay ≤ 2 ^ 45
 asking_bound level c delay l x d =
     let two : 0 < 2 = omega arith in
     let p : 2 ^ level ≤ 2 ^ 16 = pow-le-pow_right two l in
@@ -61,7 +59,7 @@ asker_asks me t calls history n constants orderly h stands =
       from (Some a) near e =
           let b = asking_bound a.level 32 a.delay near.level (itself 32) near.delay in
           let due = near.due in
-          le_true a.due (moment_at calls + asking_wait) (omega (arith, b, due))
+          le-leb a.due (moment_at calls + asking_wait) (omega (arith, b, due))
 
 few : (t : Tuning) → are_constants t ≡ true → t.d1 + t.d2 ≤ 32
 few t constants = let s = small t constants in let d1 = s.d1 in let d2 = s.d2 in omega arith
@@ -81,7 +79,7 @@ asked_anew_is_soon me t calls history n word constants orderly lost none =
     let e = expiry_within now 0 now_used.c1 now_used.c2 delay word in
     let b = answering_bound (now_used.c1 + now_used.c2) delay sum (delays_fit me stopped (itself now, tt, orderly) n.source) in
     let due : timer.due ≤ now + first_wait = omega (arith, e, b) in
-    ticks_ask me t (Miss now (n ∷ []) (word ∷ []) ∷ stopped) history (now + first_wait) n (ap (is_ask_due (now + first_wait)) set ∙ le_true timer.due (now + first_wait) due) lost
+    ticks_ask me t (Miss now (n ∷ []) (word ∷ []) ∷ stopped) history (now + first_wait) n (ap (is_ask_due (now + first_wait)) set ∙ le-leb timer.due (now + first_wait) due) lost
 
 pub answers_are_soon : AnswersAreSoon
 answers_are_soon me t calls n constants orderly = from (timers_at me t calls n).answer (keepers_are_bounded me t calls constants orderly n).answer where
@@ -144,7 +142,7 @@ module _ (me : ℕ) (t : Tuning) (calls : List KeeperCall) (history : List Drawo
       let e = expiry_within second 0 used.d1 used.d2 (delay_to me quiet asker) word in
       let b = answering_bound (used.d1 + used.d2) (delay_to me quiet asker) (few used (in_range me t quiet constants quiet_orderly)) (delays_fit me quiet quiet_orderly asker) in
       let le : (new_answer (constants_at me t quiet) second (delay_to me quiet asker) word).due ≤ third = omega (arith, e, b) in
-      ap (λ (s : Timers). is_answer_due third s.answer) set ∙ le_true (new_answer (constants_at me t quiet) second (delay_to me quiet asker) word).due third le
+      ap (λ (s : Timers). is_answer_due third s.answer) set ∙ le-leb (new_answer (constants_at me t quiet) second (delay_to me quiet asker) word).due third le
 
   pub answers : Contains (sent_by_tick me t heard history third) (Draw d)
   answers = ticks_answer me t heard history third d names held (ap (λ (s : Timers). s.ask) set) due

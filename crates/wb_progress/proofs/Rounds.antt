@@ -1,6 +1,6 @@
 -- Each look has more of what a place lacks asked for, so that after some rounds it lacks nothing that can be answered.
 use Rattle.std.proofs.Common.{◌≡◌, ℕ, zero, suc, ◌+◌, ◌-◌, ◌*◌, ◌<◌, ◌≤◌, Bool, true, false, cond, List, [], ◌∷◌, ◌++◌, length, take, Option, Some, None, refl, sym, ap, ◌∙◌, subst, arith, ◌⊎◌, inl, inr, ⊎_elim, append_assoc, true≢false, length-append, max}
-use Rattle.std.specs.Prelude.{Contains, is_some, is_none, not}
+use Rattle.std.specs.Prelude.{Contains, is_some, not}
 use Rattle.std.proofs.lemmas.List.Elements.{Contains-append_cases}
 use Rattle.std.proofs.lemmas.Nat.{div-add-mod', mod_below}
 use Rattle.wb_names.specs.Values.{NameValue}
@@ -8,7 +8,7 @@ use Rattle.wb_names.specs.Orders.{same_name}
 use Rattle.wb_names.proofs.Listings.{Contains-here, Contains-there, Contains-cases, Contains-none}
 use Rattle.wb_recovery.specs.Events.{Event, Notice, asking, names_of, constants_after, timers_of}
 use Rattle.wb_recovery.specs.Noticing.{notices}
-use Rattle.wb_recovery.specs.Timing.{new_ask, noticed}
+use Rattle.wb_recovery.specs.Timing.{noticed}
 use Rattle.wb_recovery.specs.declared.tuning.Tuning.{Tuning}
 use Rattle.wb_recovery.specs.declared.timers.AskTimer.{AskTimer}
 use Rattle.wb_recovery.specs.declared.timers.Timers.{Timers}
@@ -24,14 +24,10 @@ use Rattle.wb_progress.proofs.Giving.{desk_here, keeps}
 use Rattle.wb_progress.proofs.NamesApart.{apart_of, apart_take, apart_append, from_take, AreMost, most_are}
 use Rattle.wb_progress.proofs.Parts.{before_end, order_of, in_past, split_at}
 use Rattle.wb_progress.proofs.Setting.{WasSet, asked_since, stood_comes, round_comes}
+use Rattle.std.proofs.lemmas.Bool.{false_from_ne_true}
+use Rattle.wb_progress.proofs.OneCall.{stands as noticed_stands}
 
 -- ---- names that are missed have timers
-
-noticed_stands : (t : Tuning) (now delay word : ℕ) (s : Timers) → is_some (noticed t now delay word s).ask ≡ true
-noticed_stands t now delay word s = from s.ask refl where
-  from : (o : Option AskTimer) → s.ask ≡ o → is_some (cond (is_none s.ask) (record s { ask = Some (new_ask t now delay word) }) s).ask ≡ true
-  from None e = ap (λ (o : Option AskTimer). is_some (cond (is_none o) (record s { ask = Some (new_ask t now delay word) }) s).ask) e
-  from (Some a) e = ap (λ (o : Option AskTimer). is_some (cond (is_none o) (record s { ask = Some (new_ask t now delay word) }) s).ask) e ∙ ap is_some e
 
 missed_stand : (t : Tuning) (now : ℕ) (delays : ℕ → ℕ) (n : NameValue) (names : List NameValue) (words : List ℕ) (events : List Event) → length words ≡ length names → Contains names n ⊎ (is_some (timers_of t events n).ask ≡ true) → is_some (timers_of t (notices now events (missed_of delays names words)) n).ask ≡ true
 missed_stand t now delays n [] words events same h = ⊎_elim (λ (c : Contains [] n). absurd (Contains-none n c)) (λ (s : is_some (timers_of t events n).ask ≡ true). s) h
@@ -72,15 +68,11 @@ is_true : (b : Bool) → not b ≡ true → b ≡ true → ⊥
 is_true true h e = true≢false (sym h)
 is_true false h e = true≢false (sym e)
 
-not_true : (b : Bool) → (b ≡ true → ⊥) → b ≡ false
-not_true true f = absurd (f refl)
-not_true false f = refl
-
 unasked : (b : Bool) → (b ≡ true → ⊥) → not b ≡ true
 unasked true f = absurd (f refl)
 unasked false f = refl
 
-the_ask : (o : Option AskTimer) → is_some o ≡ true → (ask : AskTimer) × (o ≡ Some ask)
+pub the_ask : (o : Option AskTimer) → is_some o ≡ true → (ask : AskTimer) × (o ≡ Some ask)
 the_ask None e = absurd (true≢false (sym e))
 the_ask (Some ask) e = (ask, refl)
 
@@ -156,7 +148,7 @@ module _ (places : Places) (terms : Terms) (turns : List Turn) (is : KeepTime pl
   Claim k = (i : ℕ) (newer part : List Turn) (names : List NameValue) → Contains terms.live i → turns ≡ newer ++ part → start + k * round terms < time_of part → AreApart names → AreLacked terms turns part i names → length names ≤ most - k * (64 - terms.unanswerable)
 
   lost_before : (newer middle part : List Turn) (i : ℕ) (n : NameValue) → turns ≡ newer ++ (middle ++ part) → Contains terms.live i → has (middle ++ part) i n ≡ false → has part i n ≡ false
-  lost_before newer middle part i n split live lost = not_true (has part i n) (λ h. true≢false (sym (keeps places terms turns is newer middle part i n split live h) ∙ lost))
+  lost_before newer middle part i n split live lost = false_from_ne_true (has part i n) (λ h. true≢false (sym (keeps places terms turns is newer middle part i n split live h) ∙ lost))
 
   first : Claim zero
   first i newer part names live split lt apart lacked =
@@ -171,7 +163,7 @@ module _ (places : Places) (terms : Terms) (turns : List Turn) (is : KeepTime pl
   -- what is asked for behind all those waits is of the page, and not held
   module _ (i : ℕ) (live : Contains terms.live i) (newer part : List Turn) (split : turns ≡ newer ++ part) (lt : start < time_of part) (n : NameValue) (a : IsAnswerable terms turns n) (stands : is_some (timers_there places part i n).ask ≡ true) where
     not_held : has part i n ≡ false
-    not_held = not_true (has part i n) (λ h. none_some (timers_there places part i n).ask (is.are.lacking newer part i n split live h) stands)
+    not_held = false_from_ne_true (has part i n) (λ h. none_some (timers_there places part i n).ask (is.are.lacking newer part i n split live h) stands)
 
     of_page : n.page ≡ terms.page
     of_page =

@@ -2,7 +2,6 @@
 use Rattle.std.proofs.Common.{◌≡◌, ℕ, ◌+◌, ◌*◌, ◌≤◌, ◌<◌, Bool, true, false, cond, List, [], ◌∷◌, ◌++◌, Option, Some, None, refl, ap, ◌∙◌, sym, subst, arith, ◌⊎◌, inl, inr, ⊎_elim, append-nil}
 use Rattle.std.specs.Prelude.{IfSome, is_none, nat_le, ◌&&◌}
 use Rattle.std.proofs.Math.Nat.{mul-le-mul_left}
-use Rattle.std.proofs.lemmas.Bool.Decides.{nat_tests}
 use Rattle.wb_names.specs.Values.{NameValue}
 use Rattle.wb_names.specs.Orders.{same_name}
 use Rattle.wb_recovery.specs.Timing.{asked, new_answer, is_answer_due}
@@ -16,8 +15,8 @@ use Rattle.wb_host.proofs.KeptCalls.{same_here}
 use Rattle.wb_recovery.proofs.TimerLaws.{request_stays, answer_stays_set, quiet_stays_left}
 use Rattle.wb_progress.specs.Bounds.{AreSteady, IsAnswerNear}
 use Rattle.wb_progress.specs.Standing.{Did, AnswersAreKept, RequestsAreKept, IsCause, QuietHasCause, RequestsAreTaken, IsRecent, RequestsLeadOn}
-use Rattle.wb_progress.proofs.OneCall.{le_true}
 use Rattle.wb_progress.proofs.TimerBounds.{timers_are_bounded}
+use Rattle.std.proofs.lemmas.Bool.{le-leb, leb-false}
 
 -- one more call
 more : (does : Event → List Event → Type 0) (e : Event) (newer older : List Event) → Did does newer older → Did does (e ∷ newer) older
@@ -92,9 +91,6 @@ quiet_has_cause bound t far n (e ∷ newer) older steady = from (quiets t n e (n
 
 -- ---- a request that is heard
 
-past : (a b : ℕ) → nat_le a b ≡ false → b < a
-past a b e = grind (arith, nat_tests)
-
 is_quiet : (t : Tuning) (now delay word : ℕ) (s : Timers) → (asked t true now delay word s).answer ≡ None → now < s.quiet
 is_quiet t now delay word s e = from s.answer refl (nat_le s.quiet now) refl where
   from : (o : Option AnswerTimer) → s.answer ≡ o → (b : Bool) → nat_le s.quiet now ≡ b → now < s.quiet
@@ -104,7 +100,7 @@ is_quiet t now delay word s e = from s.answer refl (nat_le s.quiet now) refl whe
   from None f true g = absurd (other (new_answer t now delay word) (sym (ap (λ (o : Option AnswerTimer). (cond (is_none o && nat_le s.quiet now) (record s { answer = Some (new_answer t now delay word) }) s).answer) f ∙ ap (λ (b : Bool). (cond b (record s { answer = Some (new_answer t now delay word) }) s).answer) g) ∙ e)) where
     other : (a : AnswerTimer) → Some a ≡ None → ⊥
     other a e = cc
-  from None f false g = past s.quiet now g
+  from None f false g = leb-false s.quiet now g
 
 waits : (now due c delay far : ℕ) → due ≤ now + c * delay → delay ≤ far → due ≤ now + c * far
 waits now due c delay far le near = let m = mul-le-mul_left c near in omega (arith, le, m)
@@ -160,6 +156,6 @@ requests_lead_on bound t far n after before events now delay word moment words s
       ends : (answer : AnswerTimer) → (timers_of t (Asked n true now delay word ∷ events) n).answer ≡ Some answer → answer.due ≤ moment → Did (EndsAnswer t n) (Tick moment words ∷ before) (Asked n true now delay word ∷ events)
       ends answer e due = ⊎_elim
           (λ (h : (timers_of t (before ++ Asked n true now delay word ∷ events) n).answer ≡ Some answer).
-          newest (EndsAnswer t n) (Tick moment words) before (Asked n true now delay word ∷ events) (ap (is_answer_due moment) h ∙ le_true answer.due moment due))
+          newest (EndsAnswer t n) (Tick moment words) before (Asked n true now delay word ∷ events) (ap (is_answer_due moment) h ∙ le-leb answer.due moment due))
           (λ (h : Did (EndsAnswer t n) before (Asked n true now delay word ∷ events)). more (EndsAnswer t n) (Tick moment words) before (Asked n true now delay word ∷ events) h)
           (answers_are_kept t n before (Asked n true now delay word ∷ events) answer e)
