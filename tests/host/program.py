@@ -23,6 +23,12 @@ def program() -> str:
     return subprocess.run([TOP / "wb", "--where"], stdout=subprocess.PIPE, text=True, check=True).stdout.rstrip("\n")
 
 
+def command(words: list[str]) -> list[str]:
+    """The program with these words. For `host` alone, the environment may name another program that answers lines, as one over the library."""
+    other = os.environ.get("WB_HOST")
+    return [other] if other and words == ["host"] else [program(), *words]
+
+
 @dataclass(frozen=True)
 class Ended:
     """How a run ended: its status, and the bytes at standard output and standard error."""
@@ -35,7 +41,7 @@ class Ended:
 def run(words: list[str], given: bytes, patience: float = PATIENCE) -> Ended:
     """Runs the program over an input."""
     try:
-        ended = subprocess.run([program(), *words], input=given, capture_output=True, timeout=patience, check=False)
+        ended = subprocess.run(command(words), input=given, capture_output=True, timeout=patience, check=False)
     except subprocess.TimeoutExpired:
         return Ended(-1, b"", b"it did not end")
     return Ended(ended.returncode, ended.stdout, ended.stderr)
@@ -59,7 +65,7 @@ class Dialog:
 
     def __init__(self, *words: str) -> None:
         pipe = subprocess.PIPE
-        self.child = subprocess.Popen([program(), "host", *words], stdin=pipe, stdout=pipe, stderr=pipe, bufsize=0)
+        self.child = subprocess.Popen(command(["host", *words]), stdin=pipe, stdout=pipe, stderr=pipe, bufsize=0)
         assert self.child.stdin and self.child.stdout and self.child.stderr
         self.given = self.child.stdin
         self.output = self.child.stdout

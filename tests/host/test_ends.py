@@ -9,11 +9,16 @@ import subprocess
 import threading
 import time
 
+import pytest
+
 from .program import PATIENCE, Dialog, Ended, host, program, run
 
 LONGEST = 65_536
 BOARD = "board 1 16 1 42\n"
 DRAW = "draw 7 7/1 1 10 line 0 1 4 1 *\n"
+
+# a call of the library takes a whole line, so another program has ends of its own
+of_the_program = pytest.mark.skipif("WB_HOST" in os.environ, reason="WB_HOST names another program, whose input and output end otherwise")
 
 
 def test_lengths() -> None:
@@ -34,6 +39,7 @@ def test_lengths() -> None:
         assert host(f"{line}\n{line}\n") == block * 2, f"{name}, twice"
 
 
+@of_the_program
 def test_line_ends() -> None:
     """Line feeds, carriage returns, and inputs that end without either."""
     drawn = "ok never\nbatch 1 0 0 0\nok never\nok never\npages 1\n7 1\nok never\n"
@@ -49,6 +55,7 @@ def test_line_ends() -> None:
     assert run(["host"], b"\xff\xfe\n\n") == Ended(0, b"refused unknown\nok never\n", b""), "bytes that are no text"
 
 
+@of_the_program
 def test_pipes() -> None:
     """Each block is written before more is read: when its line has ended, or is too long."""
     dialog = Dialog()
@@ -87,6 +94,7 @@ def test_slow_reader() -> None:
     assert len(read) == len("ok never\nbatch 1 0 0 0\nok never\n") + 40 * (201 * 100 + len("ok never\n")), "is all of it"
 
 
+@of_the_program
 def test_sinks() -> None:
     """A host whose output fails ends with 3, at once or in mid-stream."""
     with open("/dev/full", "wb") as full:

@@ -1,0 +1,23 @@
+-- The block of a line, and where it is.
+use Rattle.std.specs.Prelude.{◌≡◌, ◌≤◌, ◌<◌, ℕ, List, [], ◌++◌, length, drop, Bool, true, false, None}
+use Rattle.wb_lines.specs.Input.{InputLine}
+use Rattle.wb_lines.specs.Taking.{met}
+use Rattle.wb_dialog.specs.Doing.{DialogValue, IsAt}
+use Rattle.wb_dialog.specs.Hosting.{Hosting, Reply, block_of, hosting_after, reply_of}
+
+-- a dialog with no board, whose timers will have the constants that a host has without others
+abbrev pub fresh : DialogValue
+fresh = record { tuning = record { c1 = 2; c2 = 2; d1 = 1; d2 = 1 }; host = None }
+
+-- what a host does for a line: what the definition of its transcript says of one with a line feed behind it
+abbrev pub reply_to_line : Hosting → List ℕ → Reply
+reply_to_line s line = reply_of s (met (record { bytes = line; ended = true }))
+
+-- A host took a line once: it is at the host that follows, and the block is that of the definition.
+abbrev pub Took : DialogValue → DialogValue → List ℕ → List ℕ → Type 0
+Took old new line block = (s : Hosting) → IsAt old s → IsAt new (hosting_after s (reply_to_line s line)) × (block ≡ block_of (reply_to_line s line))
+
+-- A block was handed over whole, at the front of the buffer, and nothing waits; or there is no room for it, and it waits as it did.
+abbrev pub HandsOver : List ℕ → List ℕ → List ℕ → List ℕ → Bool → Type 0
+HandsOver block left before after true = (length block ≤ length before) × (after ≡ block ++ drop (length block) before) × (left ≡ [])
+HandsOver block left before after false = (length before < length block) × (after ≡ before) × (left ≡ block)

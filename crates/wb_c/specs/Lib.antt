@@ -1,0 +1,3 @@
+pub mod Owning
+pub mod Blocks
+pub mod Calls

@@ -1,0 +1,79 @@
+//! A host, and the block that waits until it is fetched.
+ghost use Rattle.std.specs.Prelude.{◌≡◌, [], true, length, OnOk};
+ghost use Rattle.wb_c.specs.Blocks.{HandsOver, Took, fresh};
+
+use crate::taken::bytes_of;
+use std::alloc::{AllocError, Global};
+use std::convert::Infallible;
+use wb_dialog::Dialog;
+use wb_lines::{Handler, Output, Stop};
+use wb_recovery::Tuning;
+
+/// A longer line is refused, and not read. The law of `answer` ties this to the definition.
+const MAX_LINE_LEN: usize = 65_536;
+
+/// A host, and the block that waits.
+#[derive(Drop)]
+pub struct Room {
+    pub(crate) dialog: Dialog,
+    pub(crate) block: Vec<u8>,
+}
+
+impl Room {
+    /// No board is open, and nothing waits.
+    pub(crate) fn new(alloc: Global) -> Self
+        ensures dialog { result.dialog ≡ fresh }
+        ensures block { result.block.items ≡ [] }
+    {
+        Room {
+            dialog: Dialog::new(Tuning::default()),
+            block: Vec::new(alloc),
+        }
+    }
+
+    /// Hands a line to the dialog.
+    fn hand_in(
+        &mut self,
+        alloc: Global,
+        line: &[u8],
+        output: &mut Output,
+    ) -> Result<(), Stop<Infallible>>
+        requires { output.old ≡ [] }
+        ensures { OnOk result (Took self.old.dialog self.new.dialog line.now output.new) }
+    {
+        if line.len() > MAX_LINE_LEN {
+            self.dialog.take_too_long(alloc, 0, output)
+        } else {
+            Handler::take(&mut self.dialog, alloc, 0, line, true, output)
+        }
+    }
+
+    /// Takes a line, which stands without its line feed. Its block waits then. Where memory runs
+    /// out, the host is to be given up.
+    pub(crate) fn answer(&mut self, alloc: Global, line: &[u8]) -> Result<(), AllocError>
+        ensures { OnOk result (Took self.old.dialog self.new.dialog line.now self.new.block.items) }
+    {
+        let mut output = Output::new(alloc);
+        match self.hand_in(alloc, line, &mut output) {
+            Ok(()) => {
+                self.block = bytes_of(alloc, output)?;
+                Ok(())
+            }
+            Err(_) => Err(AllocError),
+        }
+    }
+
+    /// Hands over the block that waits, where there is room for it, and says whether there is.
+    pub(crate) fn hand_over(&mut self, room: &mut [u8]) -> bool
+        ensures same { self.new.dialog ≡ self.old.dialog }
+        ensures block { HandsOver self.old.block.items self.new.block.items room.old room.new result }
+    {
+        let size = self.block.len();
+        if room.len() < size {
+            return false;
+        }
+        room[..size].copy_from_slice(self.block.as_slice());
+        self.block.clear();
+        true
+    }
+}

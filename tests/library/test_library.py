@@ -1,0 +1,199 @@
+"""The library libwb: the same blocks as `wb host`, and what its calls owe."""
+
+from __future__ import annotations
+
+import ctypes
+import random
+import re
+import shutil
+import subprocess
+from pathlib import Path
+
+import pytest
+
+from ..host.conversations import documented, parted
+from ..host.program import program
+from ..host.sessions import Session
+from ..host.test_kept import KeptSession
+from .conftest import TOP, run
+
+DONE, WAITS, NOT_DONE, CLOSED, MEMORY, OPEN = range(6)
+CALLS = ["wb_block", "wb_close", "wb_line", "wb_open"]
+CONVERSATIONS = 60
+
+
+class Held(ctypes.Structure):
+    _fields_ = [("at", ctypes.c_void_p), ("is_open", ctypes.c_bool)]
+
+
+class Host:
+    """A host of the library, by its calls."""
+
+    def __init__(self, library: Path) -> None:
+        self.calls = ctypes.CDLL(str(library / "lib/libwb.so.0"))
+        for call in CALLS:
+            getattr(self.calls, call).restype = ctypes.c_uint32
+        self.held = Held(None, False)
+
+    def open(self) -> int:
+        return int(self.calls.wb_open(ctypes.byref(self.held)))
+
+    def close(self) -> None:
+        self.calls.wb_close(ctypes.byref(self.held))
+
+    def line(self, line: bytes, room: int) -> tuple[int, int, bytes]:
+        """The status, the size that was told, and the whole buffer, which was full of dots."""
+        buffer, size = ctypes.create_string_buffer(b"." * room, max(room, 1)), ctypes.c_size_t(77)
+        status = self.calls.wb_line(ctypes.byref(self.held), line, ctypes.c_size_t(len(line)), buffer, ctypes.c_size_t(room), ctypes.byref(size))
+        return int(status), size.value, buffer.raw[:room]
+
+    def block(self, room: int) -> tuple[int, int, bytes]:
+        buffer, size = ctypes.create_string_buffer(b"." * room, max(room, 1)), ctypes.c_size_t(77)
+        status = self.calls.wb_block(ctypes.byref(self.held), buffer, ctypes.c_size_t(room), ctypes.byref(size))
+        return int(status), size.value, buffer.raw[:room]
+
+
+@pytest.fixture
+def host(library: Path) -> Host:
+    return Host(library)
+
+
+# ---- the calls
+
+
+def test_a_block_is_written_at_the_front(host: Host) -> None:
+    assert host.open() == DONE
+    assert host.line(b"board 1 100 1 42", 12) == (DONE, 9, b"ok never\n...")
+    assert host.line(b"x", 16) == (DONE, 16, b"refused unknown\n")
+    host.close()
+
+
+def test_a_block_without_room_is_kept_until_it_is_fetched(host: Host) -> None:
+    host.open()
+    assert host.line(b"board 1 100 1 42", 8) == (WAITS, 9, b"........")
+    assert host.line(b"board 2 100 1 42", 99)[:2] == (NOT_DONE, 9), "no line is taken before it"
+    assert host.block(8) == (WAITS, 9, b"........")
+    assert host.block(10) == (DONE, 9, b"ok never\n.")
+    assert host.block(10) == (DONE, 0, b".........."), "it is told once"
+    assert host.line(b"board 2 100 1 42", 40)[2].startswith(b"refused "), "the first board is open"
+    host.close()
+
+
+def test_a_closed_host_does_nothing(host: Host) -> None:
+    assert (host.line(b"known", 4), host.block(4)) == ((CLOSED, 0, b"...."), (CLOSED, 0, b"...."))
+    host.close()
+    assert (host.open(), host.open()) == (DONE, OPEN)
+    host.line(b"board 1 100 1 42", 2)
+    host.close()
+    assert host.block(20)[0] == CLOSED, "what waited is gone"
+    assert (host.open(), host.line(b"board 1 100 1 42", 9)) == (DONE, (DONE, 9, b"ok never\n"))
+    host.close()
+
+
+def test_hosts_know_nothing_of_one_another(library: Path) -> None:
+    hosts = [Host(library) for _ in range(20)]
+    for number, host in enumerate(hosts):
+        assert (host.open(), host.line(b"board %d 100 1 42" % (number + 1), 9)[0]) == (DONE, DONE)
+    sent = [host.line(b"say draw %d 1/1 1 0 line 0 0 4 0 *" % (number + 1), 400)[2] for number, host in enumerate(hosts)]
+    assert len({it.split(b"\n")[0] for it in sent}) == len(hosts)
+    for host in hosts:
+        assert host.line(b"show 1 1 5 1", 6)[0] == WAITS
+        host.close()
+
+
+def test_closing_gives_memory_back(host: Host) -> None:
+    """Hosts are opened, fed and closed many times, and the process grows by no more than the first ones took."""
+
+    def grown(times: int) -> int:
+        for _ in range(times):
+            host.open()
+            host.line(b"board 1 20000 1 42", 20)
+            host.line(b"say draw 1 1/1 1 0 line 0 0 4 0 *", 4)
+            host.close()
+        return int(re.findall(r"VmRSS:\s+(\d+)", Path("/proc/self/status").read_text())[0])
+
+    first = grown(20)
+    assert grown(400) - first < 4000
+
+
+def test_a_line_too_long_is_refused(host: Host) -> None:
+    host.open()
+    assert host.line(b" " * 65_536, 16)[2] == b"ok never\n......."
+    assert host.line(b" " * 65_537, 16)[2] == b"refused endless\n"
+    host.close()
+
+
+# ---- the same bytes
+
+
+def by_program(given: bytes) -> bytes:
+    return subprocess.run([program(), "host"], input=given, stdout=subprocess.PIPE, timeout=120, check=True).stdout
+
+
+def by_library(host_in_c: Path, given: bytes) -> bytes:
+    return subprocess.run([host_in_c], input=given, stdout=subprocess.PIPE, timeout=120, check=True).stdout
+
+
+def conversations() -> list[bytes]:
+    """Those of the documents, and those that the tests of the host make up."""
+    found = [parted(it)[0].encode() for page in ("HOST.md", "HOST-LINES.md", "KEEPING.md") for it in documented((TOP / "docs" / page).read_text())]
+    for seed in range(CONVERSATIONS):
+        numbers = random.Random(seed)
+        found += [session.conversation(80)[0].encode() for session in (Session(numbers), KeptSession(numbers))]
+    return found
+
+
+def test_the_same_blocks_as_the_program(host_in_c: Path) -> None:
+    many = 0
+    for given in conversations():
+        wanted = by_program(given)
+        many += wanted.count(b"\n")
+        assert by_library(host_in_c, given) == wanted
+    assert many > 5000
+
+
+# ---- what is built over it
+
+
+def test_board_in_c(library: Path, compiler: str, tmp_path: Path) -> None:
+    words: list[str | Path] = ["-std=c11", "-D_POSIX_C_SOURCE=200809L", "-Wall", "-Wextra", "-Werror", f"-I{library}/include", TOP / "examples/c/board.c"]
+    run([compiler, *words, library / "lib/libwb.a", "-o", tmp_path / "static"])
+    run([compiler, *words, f"-L{library}/lib", "-lwb", f"-Wl,-rpath,{library}/lib", "-o", tmp_path / "shared"])
+    for made in ("static", "shared"):
+        assert run([tmp_path / made]) == "*****     \ndrawn in C\n"
+
+
+def test_pkg_config(library: Path) -> None:
+    if not shutil.which("pkg-config"):
+        pytest.skip("there is no pkg-config here (apt-get install pkg-config)")
+    told = run(["env", f"PKG_CONFIG_PATH={library}/lib/pkgconfig", "pkg-config", "--cflags", "--libs", "wb"]).split()
+    assert [Path(word[2:]).resolve() if word[:2] in ("-I", "-L") else word for word in told] == [library / "include", library / "lib", "-lwb"]
+
+
+def test_board_in_rust(library: Path, tmp_path: Path) -> None:
+    compiler = shutil.which("rustc")
+    if not compiler:
+        pytest.skip("there is no compiler of Rust here (apt-get install rustc)")
+    run([compiler, "--edition", "2021", "-D", "warnings", "-L", f"native={library}/lib", TOP / "examples/rust/board.rs", "-o", tmp_path / "board"])
+    assert run([tmp_path / "board"]) == "*****        \ndrawn in Rust\n"
+
+
+def test_only_the_calls_are_offered(library: Path, compiler: str) -> None:
+    del compiler  # with it comes nm
+    told = run(["nm", "-D", "--defined-only", library / "lib/libwb.so.0"])
+    assert sorted(line.split()[-1] for line in told.splitlines()) == CALLS
+    needed = run(["readelf", "-d", library / "lib/libwb.so.0"])
+    assert re.findall(r"NEEDED.*\[(.*)\]", needed) == ["libc.so.6"]
+
+
+def test_header_is_that_of_the_calls() -> None:
+    """The header declares what the crate exports, with as many parameters as C sees: a slice is two, and the allocator none."""
+    header, source = (TOP / "include/wb.h").read_text(), (TOP / "crates/wb_c/src/calls.rt").read_text()
+    declared = {name: len(rest.split(",")) for name, rest in re.findall(r"^(?:uint32_t|void) (wb_\w+)\(([^)]*)\);", header, re.MULTILINE)}
+    exported = {}
+    for name, rest in re.findall(r'extern "C" fn (\w+)\(([^)]*)\)', source):
+        words = [word.split(":")[1] for word in rest.split(",") if ":" in word]
+        exported[name] = sum(0 if "Global" in word else 2 if "[u8]" in word else 1 for word in words)
+    assert declared == exported
+    statuses = dict(re.findall(r"WB_(\w+) = (\d)", header))
+    assert statuses == dict(re.findall(r"const (\w+): u32 = (\d);", source))
