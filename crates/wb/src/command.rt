@@ -1,4 +1,8 @@
 //! The words of the command line.
+ghost use Rattle.std.specs.Prelude.{◌≡◌, ◌⊎◌, map, codes, IfOk, IfErr, OnErr, MatchResult};
+ghost use Rattle.clap.specs.Words.{App, found_of, kind_of, new_app, rows_of, subcommand_rows_of, with_subcommand};
+ghost use Rattle.wb.specs.CommandLine.{Asks, IsAsked, IsFound, IsMade, bare_app, command_line, filter_app, host_app, name_of, run_app};
+
 use crate::constants::{Constants, WrongConstants};
 use clap::error::ErrorKind;
 use clap::{Arg, ArgAction, ArgMatches, Command, Error, value_parser};
@@ -22,6 +26,8 @@ pub enum Task {
 const ABOUT: &str = "Runs scripts of wb, a shared whiteboard";
 
 const VERSION: &str = "0.1.0";
+
+const NO_TASK: &str = "a command is missing";
 
 const WRONG_CONSTANTS: &str = "the value of '--tuning' is four numbers from 1 to 16, as in 2,2,1,1";
 
@@ -51,8 +57,8 @@ is sent, the second batch, and the page on a canvas 5 cells wide and 3 high:
     found
     *****
 
-`wb run` takes datagrams in words, as `wb hex --help` shows them, and in hexadecimal, behind
-`datagram`. It prints them in hexadecimal, behind `send`; `wb words` turns these into words.
+`wb run` takes datagrams in words, as `wb hex --help` shows them, and in hexadecimal, after
+`datagram`. It prints them in hexadecimal, after `send`; `wb words` turns these into words.
 
 The line `gaps 7 1` prints the numbers that are missing on that page, as ranges; `report 7 1`
 prints the greatest number of each source there, `pages` the pages that were drawn on, and
@@ -64,12 +70,14 @@ Lines that are blank or begin with # are skipped.
 A program that holds a session in real time talks to `wb host`: `wb host --help` and docs/HOST.md
 say how.";
 
-fn run_command<'a>(alloc: Global) -> Result<Command<'a>, AllocError> {
+fn run_command<'a>(alloc: Global) -> Result<Command<'a>, AllocError>
+    ensures { IfOk result (IsMade run_app) }
+{
     let workers = Arg::new(alloc, "workers")
         .long("workers")
         .value_name("N")
         .help(
-            "Takes each batch of arrivals by N workers, 1 to 8, in place of those that the script's board names. One is the fastest",
+            "Takes each batch of arrivals with N workers, 1 to 8, instead of those that the script's board names. One is the fastest",
         )
         .value_parser(value_parser!(u32).range(1..=i64::from(MAX_WORKERS)))
         .action(ArgAction::Set);
@@ -89,24 +97,26 @@ A datagram in words is a line such as
 
 The first is: source 7 draws, on page 1 of creator 7, its drawop number 1, at time 10,
 a line from (0, 1) to (4, 1) of stars. Such a line becomes `arrive` of a drawop, or `hear`
-of any other datagram, with its bytes. All other lines stay as they are. Where a word is
-wrong, the fault tells its line and its place, and with --keep-going a comment with the
-fault stands for that line.
+of any other datagram, with its bytes. All other lines stay as they are. If a word is
+wrong, the fault has its line and its place; with --keep-going a comment with the fault
+replaces that line.
 A line of over 65,536 bytes ends the filter in any case: `endless`.";
 
 const WORDS_HELP: &str = "\
 Lines of `arrive`, `hear` or `send` with a datagram in hexadecimal become the datagram in
-words, as `wb hex --help` shows them; what was sent stays behind the word `send`. All other
-lines stay as they are. With --keep-going a comment with the fault stands for a line whose
-word after `arrive`, `hear` or `send` is no datagram in hexadecimal. A line of over 65,536
-bytes ends the filter in any case: `endless`.";
+words, as `wb hex --help` shows them; what was sent stays after the word `send`. All other
+lines stay as they are. With --keep-going a comment with the fault replaces a line whose
+word after `arrive`, `hear` or `send` is not a datagram in hexadecimal. A line of over
+65,536 bytes ends the filter in any case: `endless`.";
 
 fn filter_command<'a>(
     alloc: Global,
     name: &'static str,
     about: &'static str,
     help: &'static str,
-) -> Result<Command<'a>, AllocError> {
+) -> Result<Command<'a>, AllocError>
+    ensures { IfOk result (IsMade (filter_app name.entry.now)) }
+{
     let keeps_going = Arg::new(alloc, "keep-going")
         .long("keep-going")
         .help("Writes a comment with the fault for a line that can't be turned, and goes on")
@@ -117,11 +127,15 @@ fn filter_command<'a>(
         .arg(keeps_going)
 }
 
-fn check_command<'a>(alloc: Global) -> Command<'a> {
+fn check_command<'a>(alloc: Global) -> Command<'a>
+    ensures { IsMade (new_app (codes "check")) result }
+{
     Command::new(alloc, "check").about("Says `ok` and the number of lines, where each line parses")
 }
 
-fn hex_command<'a>(alloc: Global) -> Result<Command<'a>, AllocError> {
+fn hex_command<'a>(alloc: Global) -> Result<Command<'a>, AllocError>
+    ensures { IfOk result (IsMade (filter_app (codes "hex"))) }
+{
     filter_command(
         alloc,
         "hex",
@@ -130,7 +144,9 @@ fn hex_command<'a>(alloc: Global) -> Result<Command<'a>, AllocError> {
     )
 }
 
-fn words_command<'a>(alloc: Global) -> Result<Command<'a>, AllocError> {
+fn words_command<'a>(alloc: Global) -> Result<Command<'a>, AllocError>
+    ensures { IfOk result (IsMade (filter_app (codes "words"))) }
+{
     filter_command(
         alloc,
         "words",
@@ -153,7 +169,7 @@ lines to it and reads what they give. Each line is answered by one block: what i
     ask C N SOURCE NUMBER      asks the others for one drawop
     stop C N SOURCE NUMBER     gives up asking for it
 
-Or the host judges by itself what to ask for and to tell, and a driver needs these alone:
+Or the host is self-managing: it decides what to ask for and to report. A driver then writes:
 
     keep RATE LISTEN           once: all reports take RATE bytes a second
     came NOW HEX               a datagram came in at the moment NOW
@@ -162,11 +178,13 @@ Or the host judges by itself what to ask for and to tell, and a driver needs the
 
 docs/HOST.md says what to write when.";
 
-fn host_command<'a>(alloc: Global) -> Result<Command<'a>, AllocError> {
+fn host_command<'a>(alloc: Global) -> Result<Command<'a>, AllocError>
+    ensures { IfOk result (IsMade host_app) }
+{
     let tuning = Arg::new(alloc, "tuning")
         .long("tuning")
         .value_name("C1,C2,D1,D2")
-        .help("The constants of the timers, 1 to 16 each; 2,2,1,1 where none are given")
+        .help("The constants of the timers, 1 to 16 each; 2,2,1,1 if none are given")
         .action(ArgAction::Set);
     Command::new(alloc, "host")
         .about("Answers the lines of a program, which has the sockets, the clock and the screen")
@@ -176,7 +194,9 @@ fn host_command<'a>(alloc: Global) -> Result<Command<'a>, AllocError> {
 
 /// The program without its subcommands. It is handed no name in front of its words, so the name
 /// that usage lines begin with is given here.
-fn bare_command<'a>(alloc: Global) -> Result<Command<'a>, AllocError> {
+fn bare_command<'a>(alloc: Global) -> Result<Command<'a>, AllocError>
+    ensures { IfOk result (IsMade bare_app) }
+{
     Command::new(alloc, "wb")
         .about(ABOUT)
         .version(VERSION)
@@ -191,44 +211,103 @@ fn bare_command<'a>(alloc: Global) -> Result<Command<'a>, AllocError> {
 fn with_subcommand<'a>(
     program: Command<'a>,
     subcommand: Result<Command<'a>, AllocError>,
-) -> Result<Command<'a>, AllocError> {
-    program.subcommand(subcommand?)
+) -> Result<Command<'a>, AllocError>
+    ensures { (app : App) (below : App) → IsMade app program.entry → IfOk subcommand.entry (IsMade below)
+        → IfOk result (IsMade (with_subcommand app below.top)) }
+{
+    let subcommand = subcommand?;
+    program.subcommand(subcommand)
 }
 
-fn command<'a>(alloc: Global) -> Result<Command<'a>, AllocError> {
+fn command<'a>(alloc: Global) -> Result<Command<'a>, AllocError>
+    ensures { IfOk result (IsMade command_line) }
+{
     let program = with_subcommand(bare_command(alloc)?, run_command(alloc))?;
     let program = with_subcommand(program, Ok(check_command(alloc)))?;
     let program = with_subcommand(program, hex_command(alloc))?;
     let program = with_subcommand(program, words_command(alloc))?;
-    with_subcommand(program, host_command(alloc))
+    let program = with_subcommand(program, host_command(alloc))?;
+    Ok(program)
+}
+
+/// The task of a run.
+fn run_task<'a>(options: &ArgMatches<'a>) -> Task
+    ensures { IsAsked (codes "run") (rows_of (found_of options.now)) result }
+{
+    Task::Run {
+        workers: options.get_one::<u32>("workers"),
+    }
+}
+
+/// The task of a filter.
+fn filter_task<'a>(direction: Direction, options: &ArgMatches<'a>) -> Task
+    ensures { IsAsked (name_of direction) (rows_of (found_of options.now)) result }
+{
+    Task::Turn(Filter {
+        direction,
+        keeps_going: options.get_flag("keep-going"),
+    })
 }
 
 /// The task of a host: its constants are those of a script where no word gives others.
-fn host_task<'a>(program: &mut Command<'a>, options: &ArgMatches<'a>) -> Result<Task, Error> {
-    match options.try_get_one::<Constants>("tuning") {
-        Ok(constants) => Ok(Task::Host(constants.unwrap_or_default())),
-        Err(WrongConstants) => Err(program.error(ErrorKind::ValueValidation, WRONG_CONSTANTS)?),
+fn host_task<'a>(options: &ArgMatches<'a>) -> Result<Task, WrongConstants>
+    ensures { MatchResult result (λ task. IsAsked (codes "host") (rows_of (found_of options.now)) task)
+        (λ _. (task : Task) → IsAsked (codes "host") (rows_of (found_of options.now)) task → ⊥) }
+{
+    let constants = options.try_get_one::<Constants>("tuning")?;
+    Ok(Task::Host(constants.unwrap_or_default()))
+}
+
+/// The task of a command, by its name and its options; or why they ask for none.
+fn named_task<'a>(name: &str, options: &ArgMatches<'a>) -> Result<Task, (ErrorKind, &'static str)>
+    ensures asked { IfOk result (IsAsked name.now (rows_of (found_of options.now))) }
+    ensures refused { OnErr result
+        ((task : Task) → IsAsked name.now (rows_of (found_of options.now)) task → ⊥) }
+{
+    if name == "run" {
+        Ok(run_task(options))
+    } else if name == "check" {
+        Ok(Task::Check)
+    } else if name == "hex" {
+        Ok(filter_task(Direction::Hex, options))
+    } else if name == "words" {
+        Ok(filter_task(Direction::Words, options))
+    } else if name == "host" {
+        match host_task(options) {
+            Ok(task) => Ok(task),
+            Err(WrongConstants) => Err((ErrorKind::ValueValidation, WRONG_CONSTANTS)),
+        }
+    } else {
+        Err((ErrorKind::InvalidSubcommand, NO_TASK))
+    }
+}
+
+/// The task that what was found of the words asks for; or why they ask for none.
+fn found_task<'a>(matches: &ArgMatches<'a>) -> Result<Task, (ErrorKind, &'static str)>
+    ensures asked { IfOk result (IsFound (subcommand_rows_of matches.now)) }
+    ensures refused { OnErr result
+        ((task : Task) → IsFound (subcommand_rows_of matches.now) task → ⊥) }
+{
+    match matches.subcommand() {
+        Some((name, options)) => named_task(name, options),
+        None => Err((ErrorKind::MissingSubcommand, NO_TASK)),
     }
 }
 
 /// The task that the words after the program's name ask for. The error has the parser's text: of
 /// help, where it was asked for, and else of what is wrong with the words.
-pub fn task_of<'a>(alloc: Global, words: &'a [&'a str]) -> Result<Task, Error> {
+pub fn task_of<'a>(alloc: Global, words: &'a [&'a str]) -> Result<Task, Error>
+    ensures asked { IfOk result (Asks (map (λ word. word.now) words.entry.now)) }
+    ensures refused { IfErr result (λ e. (kind_of e ≡ ErrorKind.OutOfMemory)
+        ⊎ ((task : Task) → Asks (map (λ word. word.now) words.entry.now) task → ⊥)) }
+{
     let mut program = command(alloc)?;
     let matches = program.try_get_matches_from_mut(words)?;
-    match matches.subcommand() {
-        Some(("run", options)) => Ok(Task::Run {
-            workers: options.get_one::<u32>("workers"),
-        }),
-        Some(("host", options)) => host_task(&mut program, &options),
-        Some(("hex", options)) => Ok(Task::Turn(Filter {
-            direction: Direction::Hex,
-            keeps_going: options.get_flag("keep-going"),
-        })),
-        Some(("words", options)) => Ok(Task::Turn(Filter {
-            direction: Direction::Words,
-            keeps_going: options.get_flag("keep-going"),
-        })),
-        _ => Ok(Task::Check),
+    match found_task(&matches) {
+        Ok(task) => Ok(task),
+        Err((kind, text)) => {
+            let error = program.error(kind, text)?;
+            Err(error)
+        }
     }
 }

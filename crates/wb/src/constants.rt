@@ -1,6 +1,7 @@
 //! The constants of the timers, as a word of the command line.
-ghost use Rattle.std.specs.Prelude.{◌≡◌, true};
+ghost use Rattle.std.specs.Prelude.{◌≡◌, ℕ, true, MatchResult};
 ghost use Rattle.wb_recovery.specs.Timing.{are_constants};
+ghost use Rattle.wb.specs.CommandLine.{HasComma, IsConstant, before_comma, behind_comma};
 
 use std::marker::Model;
 use std::str::FromStr;
@@ -38,6 +39,10 @@ impl Constants {
 }
 
 impl Default for Constants {
+    ghost use Rattle.std.specs.Prelude.{◌≡◌};
+
+    ghost is_default = { λ t. t ≡ record { c1 = 2; c2 = 2; d1 = 1; d2 = 1 } };
+
     /// Those of a script.
     fn default() -> Constants {
         Constants {
@@ -47,27 +52,52 @@ impl Default for Constants {
 }
 
 /// Reads one of the constants, which is digits alone.
-fn constant(word: Option<&str>) -> Result<u32, WrongConstants> {
-    let word = word.ok_or(WrongConstants)?;
+fn constant(word: &str) -> Result<u32, WrongConstants>
+    ensures { MatchResult result (λ n. IsConstant word.now n)
+        (λ _. (n : ℕ) → IsConstant word.now n → ⊥) }
+{
     if word.starts_with('+') {
         return Err(WrongConstants);
     }
-    word.parse().map_err(|_| WrongConstants)
+    match word.parse() {
+        Ok(number) => Ok(number),
+        Err(_) => Err(WrongConstants),
+    }
+}
+
+/// What stands before the first comma, and behind it.
+fn at_comma(text: &str) -> Result<(&str, &str), WrongConstants>
+    ensures { MatchResult result (λ parts. HasComma text.now
+        × (parts.0.now ≡ before_comma text.now) × (parts.1.now ≡ behind_comma text.now))
+        (λ _. ¬ (HasComma text.now)) }
+{
+    match text.split_once(',') {
+        Some(parts) => Ok(parts),
+        None => Err(WrongConstants),
+    }
 }
 
 /// Reads `C1,C2,D1,D2`.
 impl FromStr for Constants {
     type Err = WrongConstants;
 
+    ghost use Rattle.std.specs.Prelude.{MatchResult};
+    ghost use Rattle.wb.specs.CommandLine.{SaysTuning};
+    ghost use Rattle.wb_recovery.specs.declared.tuning.Tuning.{Tuning};
+
+    ghost from_str_gives = { λ text r. MatchResult r (SaysTuning text)
+        (λ _. (t : Tuning) → SaysTuning text t → ⊥) };
+
     fn from_str(text: &str) -> Result<Constants, WrongConstants> {
-        let mut words = text.split(',');
-        let tuning = Tuning {
-            c1: constant(words.next())?,
-            c2: constant(words.next())?,
-            d1: constant(words.next())?,
-            d2: constant(words.next())?,
-        };
-        if words.next().is_none() && tuning.is_in_range() {
+        let front = at_comma(text)?;
+        let middle = at_comma(front.1)?;
+        let back = at_comma(middle.1)?;
+        let c1 = constant(front.0)?;
+        let c2 = constant(middle.0)?;
+        let d1 = constant(back.0)?;
+        let d2 = constant(back.1)?;
+        let tuning = Tuning { c1, c2, d1, d2 };
+        if tuning.is_in_range() {
             Ok(Constants { tuning })
         } else {
             Err(WrongConstants)

@@ -1,5 +1,12 @@
 //! What the program does for each of its commands, and the exit status that tells how it ended.
-ghost use Rattle.std.specs.Prelude.{◌<◌, ◌≤◌};
+ghost use Rattle.std.specs.Prelude.{◌≡◌, ◌≢◌, ◌⊎◌, ℕ, List, Result, true, map, IfOk, Err};
+ghost use Rattle.std.specs.String.{string_bytes};
+ghost use Rattle.std.specs.Io.KnownBytes.{Appends};
+ghost use Rattle.clap.specs.Words.{kind_of};
+ghost use Rattle.wb_lines.specs.Driving.{Gave};
+ghost use Rattle.wb_recovery.specs.Timing.{are_constants};
+ghost use Rattle.wb_script.specs.Checking.{Checks};
+ghost use Rattle.wb.specs.Serving.{Approves, IsWritten, Performs, Serves, approval, failure_status, status_by};
 
 use crate::command::{Task, task_of};
 use clap::Error;
@@ -9,8 +16,10 @@ use std::io;
 use std::sync::Wait;
 use std::thread::Threads;
 use wb_dialog::{HostFault, host};
-use wb_filters::{FilterFault, run_filter};
+use wb_filters::{Filter, FilterFault, run_filter};
+use wb_lines::Output;
 use wb_names::{Sink, Source};
+use wb_recovery::Tuning;
 use wb_script::{NoGate, RunFault, check, run};
 
 const DONE: u8 = 0;
@@ -35,26 +44,8 @@ enum Failure {
     Host(HostFault),
 }
 
-impl From<RunFault> for Failure {
-    fn from(fault: RunFault) -> Failure {
-        Failure::Run(fault)
-    }
-}
-
-impl From<FilterFault> for Failure {
-    fn from(fault: FilterFault) -> Failure {
-        Failure::Filter(fault)
-    }
-}
-
-impl From<HostFault> for Failure {
-    fn from(fault: HostFault) -> Failure {
-        Failure::Host(fault)
-    }
-}
-
 fn status_of(failure: Failure) -> u8
-    ensures { (0 < result) × (result ≤ 4) }
+    ensures { result ≡ failure_status failure }
 {
     match failure {
         Failure::Run(RunFault::Line(_, _) | RunFault::Endless) => REFUSED,
@@ -91,7 +82,7 @@ fn push_all<S: Sink>(sink: &mut S, bytes: &[u8]) -> bool {
 
 /// Writes that memory was refused, and answers the status for it. That takes no memory.
 pub fn report_no_memory<E: Sink>(errors: &mut E) -> u8
-    ensures { (0 < result) × (result ≤ 4) }
+    ensures { result ≡ 4 }
 {
     push_all(errors, "wb: memory\n".as_bytes());
     NO_MEMORY
@@ -100,7 +91,7 @@ pub fn report_no_memory<E: Sink>(errors: &mut E) -> u8
 /// Writes a line about a fault, and answers the status for it. A failure to write it changes
 /// nothing.
 fn report<E: Sink>(alloc: Global, errors: &mut E, failure: Failure) -> u8
-    ensures { (0 < result) × (result ≤ 4) }
+    ensures { result ≡ failure_status failure }
 {
     match text_of(alloc, failure) {
         Ok(text) => push_all(errors, text.as_bytes()),
@@ -111,7 +102,7 @@ fn report<E: Sink>(alloc: Global, errors: &mut E, failure: Failure) -> u8
 
 /// Writes the parser's text about the words, and answers the status for it.
 fn misuse<E: Sink>(alloc: Global, errors: &mut E, error: Error) -> u8
-    ensures { (0 < result) × (result ≤ 4) }
+    ensures { (result ≡ 4) ⊎ ((result ≡ 2) × (kind_of error ≢ ErrorKind.OutOfMemory)) }
 {
     if error.kind() == ErrorKind::OutOfMemory {
         return report_no_memory(errors);
@@ -139,39 +130,177 @@ pub fn refuse_words<E: Sink>(errors: &mut E, kind: io::ErrorKind) -> u8 {
     }
 }
 
+/// What is written where each line parses.
+fn approval(alloc: Global, lines: u32) -> Result<String, AllocError>
+    ensures { IfOk result (λ text. string_bytes text ≡ approval lines) }
+{
+    format!(in alloc; "ok {lines}\n")
+}
+
 /// Writes that each line parses.
-fn approve<W: Sink>(alloc: Global, sink: &mut W, lines: u32) -> Result<(), RunFault> {
-    let text = format!(in alloc; "ok {lines}\n")?;
-    if push_all(sink, text.as_bytes()) {
-        Ok(())
-    } else {
-        Err(RunFault::Write)
+fn approve<W: Sink>(alloc: Global, sink: &mut W, lines: u32) -> Result<(), RunFault>
+    ensures text { (written : List ℕ) × Appends (W.taken sink.old) (W.taken sink.new) written
+        × IsWritten (approval lines) written result }
+    ensures read { result ≢ Err RunFault.Read }
+    ensures write { result ≡ Err RunFault.Write → W.has_failed sink.new ≡ true }
+{
+    let text = approval(alloc, lines)?;
+    let mut output = Output::new(alloc);
+    output.add(text.as_bytes())?;
+    match output.flush(sink) {
+        Ok(_) => Ok(()),
+        Err(_) => Err(RunFault::Write),
     }
 }
 
+/// Checks a script, and writes how many lines it has where each of them parses.
+fn check_lines<R: Source, W: Sink>(
+    alloc: Global,
+    source: &mut R,
+    sink: &mut W,
+) -> Result<(), RunFault>
+    ensures text { (input : List ℕ) × (written : List ℕ)
+        × Gave (R.left source.old) (R.left source.new) (R.has_failed source.new) input
+        × Appends (W.taken sink.old) (W.taken sink.new) written
+        × (checked : Result ℕ RunFault) × Checks (R.has_failed source.new) input checked
+        × Approves checked written result }
+    ensures read { result ≡ Err RunFault.Read → R.has_failed source.new ≡ true }
+    ensures write { result ≡ Err RunFault.Write → W.has_failed sink.new ≡ true }
+{
+    let lines = check(alloc, source)?;
+    approve(alloc, sink, lines)
+}
+
+/// Runs a script.
+fn perform_run<T: Threads + Wait + Sync, R: Source, W: Sink>(
+    rt: &T,
+    alloc: Global,
+    workers: Option<u32>,
+    source: &mut R,
+    sink: &mut W,
+) -> Result<(), Failure>
+    ensures begun { (input : List ℕ) × (written : List ℕ)
+        × Gave (R.left source.old) (R.left source.new) (R.has_failed source.new) input
+        × Appends (W.taken sink.old) (W.taken sink.new) written
+        × Performs (Task.Run workers) (R.has_failed source.new) input written
+        (status_by failure_status result) }
+    ensures failed { status_by failure_status result ≡ 3
+        → (R.has_failed source.new ≡ true) ⊎ (W.has_failed sink.new ≡ true) }
+{
+    match run(rt, alloc, source, sink, workers, &NoGate) {
+        Ok(_) => Ok(()),
+        Err(fault) => Err(Failure::Run(fault)),
+    }
+}
+
+/// Checks a script.
+fn perform_check<R: Source, W: Sink>(
+    alloc: Global,
+    source: &mut R,
+    sink: &mut W,
+) -> Result<(), Failure>
+    ensures begun { (input : List ℕ) × (written : List ℕ)
+        × Gave (R.left source.old) (R.left source.new) (R.has_failed source.new) input
+        × Appends (W.taken sink.old) (W.taken sink.new) written
+        × Performs Task.Check (R.has_failed source.new) input written
+        (status_by failure_status result) }
+    ensures failed { status_by failure_status result ≡ 3
+        → (R.has_failed source.new ≡ true) ⊎ (W.has_failed sink.new ≡ true) }
+{
+    match check_lines(alloc, source, sink) {
+        Ok(_) => Ok(()),
+        Err(fault) => Err(Failure::Run(fault)),
+    }
+}
+
+/// Turns the lines of a script.
+fn perform_turn<R: Source, W: Sink>(
+    alloc: Global,
+    filter: Filter,
+    source: &mut R,
+    sink: &mut W,
+) -> Result<(), Failure>
+    ensures begun { (input : List ℕ) × (written : List ℕ)
+        × Gave (R.left source.old) (R.left source.new) (R.has_failed source.new) input
+        × Appends (W.taken sink.old) (W.taken sink.new) written
+        × Performs (Task.Turn filter) (R.has_failed source.new) input written
+        (status_by failure_status result) }
+    ensures failed { status_by failure_status result ≡ 3
+        → (R.has_failed source.new ≡ true) ⊎ (W.has_failed sink.new ≡ true) }
+{
+    match run_filter(alloc, filter, source, sink) {
+        Ok(_) => Ok(()),
+        Err(fault) => Err(Failure::Filter(fault)),
+    }
+}
+
+/// Answers the lines of a driver.
+fn perform_host<R: Source, W: Sink>(
+    alloc: Global,
+    tuning: Tuning,
+    source: &mut R,
+    sink: &mut W,
+) -> Result<(), Failure>
+    requires { are_constants tuning ≡ true }
+    ensures begun { (input : List ℕ) × (written : List ℕ)
+        × Gave (R.left source.old) (R.left source.new) (R.has_failed source.new) input
+        × Appends (W.taken sink.old) (W.taken sink.new) written
+        × Performs (Task.Host tuning) (R.has_failed source.new) input written
+        (status_by failure_status result) }
+    ensures failed { status_by failure_status result ≡ 3
+        → (R.has_failed source.new ≡ true) ⊎ (W.has_failed sink.new ≡ true) }
+{
+    match host(alloc, tuning, source, sink) {
+        Ok(_) => Ok(()),
+        Err(fault) => Err(Failure::Host(fault)),
+    }
+}
+
+/// Does a task.
 fn perform<T: Threads + Wait + Sync, R: Source, W: Sink>(
     rt: &T,
     alloc: Global,
     task: Task,
     source: &mut R,
     sink: &mut W,
-) -> Result<(), Failure> {
+) -> Result<(), Failure>
+    ensures begun { (input : List ℕ) × (written : List ℕ)
+        × Gave (R.left source.old) (R.left source.new) (R.has_failed source.new) input
+        × Appends (W.taken sink.old) (W.taken sink.new) written
+        × Performs task (R.has_failed source.new) input written
+        (status_by failure_status result) }
+    ensures failed { status_by failure_status result ≡ 3
+        → (R.has_failed source.new ≡ true) ⊎ (W.has_failed sink.new ≡ true) }
+{
     match task {
-        Task::Run { workers } => {
-            run(rt, alloc, source, sink, workers, &NoGate)?;
-        }
-        Task::Check => {
-            let lines = check(alloc, source)?;
-            approve(alloc, sink, lines)?;
-        }
-        Task::Turn(filter) => {
-            run_filter(alloc, filter, source, sink)?;
-        }
-        Task::Host(constants) => {
-            host(alloc, constants.tuning(), source, sink)?;
-        }
+        Task::Run { workers } => perform_run(rt, alloc, workers, source, sink),
+        Task::Check => perform_check(alloc, source, sink),
+        Task::Turn(filter) => perform_turn(alloc, filter, source, sink),
+        Task::Host(constants) => perform_host(alloc, constants.tuning(), source, sink),
     }
-    Ok(())
+}
+
+/// Performs a task, writes a line about its failure, and answers the status.
+fn finish<T: Threads + Wait + Sync, R: Source, W: Sink, E: Sink>(
+    rt: &T,
+    alloc: Global,
+    task: Task,
+    source: &mut R,
+    sink: &mut W,
+    errors: &mut E,
+) -> u8
+    ensures begun { (input : List ℕ) × (written : List ℕ)
+        × Gave (R.left source.old) (R.left source.new) (R.has_failed source.new) input
+        × Appends (W.taken sink.old) (W.taken sink.new) written
+        × Performs task (R.has_failed source.new) input written result }
+    ensures failed { result ≡ 3
+        → (R.has_failed source.new ≡ true) ⊎ (W.has_failed sink.new ≡ true) }
+    ensures quiet { result ≡ 0 → E.taken errors.new ≡ E.taken errors.old }
+{
+    match perform(rt, alloc, task, source, sink) {
+        Ok(_) => DONE,
+        Err(failure) => report(alloc, errors, failure),
+    }
 }
 
 /// Does what the words after the program's name ask for, and answers the status of the program: 0;
@@ -185,15 +314,21 @@ pub fn serve<T: AllocGlobal + Threads + Wait + Sync, R: Source, W: Sink, E: Sink
     sink: &mut W,
     errors: &mut E,
 ) -> u8
-    ensures { result ≤ 4 }
+    ensures served { Serves (map (λ word. word.now) words.now)
+        (record {
+          left = R.left source.old;
+          rest = R.left source.new;
+          cut = R.has_failed source.new;
+          before = W.taken sink.old;
+          after = W.taken sink.new;
+        }) result }
+    ensures failed { result ≡ 3
+        → (R.has_failed source.new ≡ true) ⊎ (W.has_failed sink.new ≡ true) }
+    ensures quiet { result ≡ 0 → E.taken errors.new ≡ E.taken errors.old }
 {
     let alloc = rt.alloc();
-    let task = match task_of(alloc, words) {
-        Ok(task) => task,
-        Err(error) => return misuse(alloc, errors, error),
-    };
-    match perform(rt, alloc, task, source, sink) {
-        Ok(()) => DONE,
-        Err(failure) => report(alloc, errors, failure),
+    match task_of(alloc, words) {
+        Ok(task) => finish(rt, alloc, task, source, sink, errors),
+        Err(error) => misuse(alloc, errors, error),
     }
 }

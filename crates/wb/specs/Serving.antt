@@ -1,0 +1,112 @@
+-- What the program does for its words, and the status that tells how it ended.
+use Rattle.std.specs.Prelude.{◌≡◌, ◌⊎◌, ℕ, ◌^◌, ◌-◌, List, [], ◌++◌, Bool, Option, Result, Ok, Err, codes}
+use Rattle.std.specs.Fmt.{decimal}
+use Rattle.std.specs.Io.KnownBytes.{Appends}
+use Rattle.wb_lines.specs.Driving.{Gave, Meets}
+use Rattle.wb_lines.specs.Input.{BeginsWith, input_lines}
+use Rattle.wb_lines.specs.declared.fault.DriveFault.{DriveFault}
+use Rattle.wb_lines.specs.declared.fault.DriveFault.TheVariants as filter_faults
+use Rattle.wb_script.specs.Runs.{Runs}
+use Rattle.wb_script.specs.Checking.{Checks}
+use Rattle.wb_script.specs.declared.fault.RunFault.{RunFault}
+use Rattle.wb_script.specs.declared.fault.RunFault.TheVariants as run_faults
+use Rattle.wb_script.specs.declared.running.Summary.{Summary}
+use Rattle.wb_filters.specs.Filtering.{outcome}
+use Rattle.wb_filters.specs.declared.fault.LineFault.{LineFault}
+use Rattle.wb_dialog.specs.Doing.{Writes}
+use Rattle.wb_dialog.specs.Hosting.{transcript, IsEndless}
+use Rattle.wb_dialog.specs.declared.fault.HostFault.{HostFault}
+use Rattle.wb_dialog.specs.declared.fault.HostFault.TheVariants as host_faults
+use Rattle.clap.specs.Words.{Text}
+use Rattle.wb.specs.CommandLine.{Asks}
+use Rattle.wb.specs.declared.command.Task.{Task}
+use Rattle.wb.specs.declared.command.Task.TheVariants as tasks
+use Rattle.wb.specs.declared.serving.Failure.{Failure}
+use Rattle.wb.specs.declared.serving.Failure.TheVariants as failures
+
+-- ---- statuses
+
+-- 1: a line is refused, or a limit is passed; 3: reading or writing failed; 4: memory or a thread was refused.
+abbrev pub run_status : RunFault → ℕ
+run_status (run_faults.Line number fault) = 1
+run_status run_faults.Endless = 1
+run_status run_faults.Read = 3
+run_status run_faults.Write = 3
+run_status run_faults.Memory = 4
+run_status run_faults.Start = 4
+
+abbrev pub filter_status : DriveFault LineFault → ℕ
+filter_status (filter_faults.Line number fault) = 1
+filter_status filter_faults.Endless = 1
+filter_status filter_faults.Read = 3
+filter_status filter_faults.Write = 3
+filter_status filter_faults.Memory = 4
+
+abbrev pub host_status : HostFault → ℕ
+host_status host_faults.Endless = 1
+host_status host_faults.Read = 3
+host_status host_faults.Write = 3
+host_status host_faults.Memory = 4
+
+-- 0 just where all was done
+abbrev pub status_by : {X F : Type 0} → (F → ℕ) → Result X F → ℕ
+status_by status (Ok x) = 0
+status_by status (Err fault) = status fault
+
+abbrev pub failure_status : Failure → ℕ
+failure_status (failures.Run fault) = run_status fault
+failure_status (failures.Filter fault) = filter_status fault
+failure_status (failures.Host fault) = host_status fault
+
+-- ---- tasks
+
+-- what is written where each line parses
+abbrev pub approval : ℕ → List ℕ
+approval lines = codes "ok " ++ (decimal lines ++ codes "\n")
+
+-- A text is written; or a front of it, where the sink fails or memory runs out.
+abbrev pub IsWritten : {U : Type 0} → List ℕ → List ℕ → Result U RunFault → Type 0
+IsWritten text written (Ok u) = written ≡ text
+IsWritten text written (Err fault) = BeginsWith text written × ((fault ≡ run_faults.Write) ⊎ (fault ≡ run_faults.Memory))
+
+-- A check that counted lines writes how many, and another nothing. So it ends.
+abbrev pub Approves : {U : Type 0} → Result ℕ RunFault → List ℕ → Result U RunFault → Type 0
+Approves (Ok lines) written ended = IsWritten (approval lines) written ended
+Approves (Err fault) written ended = (written ≡ []) × (ended ≡ Err fault)
+
+-- Of an input, which is cut off where reading fails after it, a task wrote this, and so it ended.
+abbrev pub Performs : Task → Bool → List ℕ → List ℕ → ℕ → Type 0
+Performs (tasks.Run workers) cut input written status =
+    (r : Result Summary RunFault) × Runs workers cut input written r × (status ≡ status_by run_status r)
+Performs tasks.Check cut input written status =
+    (r : Result ℕ RunFault) × Checks cut input r × ((ended : Result (Unit {0}) RunFault) × Approves r written ended × (status ≡ status_by run_status ended))
+Performs (tasks.Turn filter) cut input written status =
+    (r : Result ℕ (DriveFault LineFault)) × Meets (outcome filter cut input) written r × (status ≡ status_by filter_status r)
+Performs (tasks.Host tuning) cut input written status =
+    (r : Result (Unit {0}) HostFault) × Writes (transcript tuning cut input) written r
+    × (r ≡ Err host_faults.Endless → IsEndless (2 ^ 64 - 1) (input_lines input)) × (status ≡ status_by host_status r)
+
+-- ---- the program
+
+-- What the source has left before and after, and whether it has failed then; and what the sink has taken before and after.
+pub record Ends : Type 0 where
+  pub left : Option (List ℕ)
+  pub rest : Option (List ℕ)
+  pub cut : Bool
+  pub before : Option (List ℕ)
+  pub after : Option (List ℕ)
+
+-- The task was begun: what the source gave is its input, and what it wrote went to the sink.
+abbrev pub IsBegun : Task → Ends → ℕ → Type 0
+IsBegun task ends status = (input : List ℕ) × (written : List ℕ)
+    × Gave ends.left ends.rest ends.cut input × Appends ends.before ends.after written
+    × Performs task ends.cut input written status
+
+-- Nothing was read or written, since memory was refused (4), or the words ask for no task (2).
+pub record IsIdle (words : List Text) (ends : Ends) (status : ℕ) : Type 0 where
+  pub unread : ends.rest ≡ ends.left
+  pub unwritten : ends.after ≡ ends.before
+  pub reason : (status ≡ 4) ⊎ ((status ≡ 2) × ((task : Task) → Asks words task → ⊥))
+
+abbrev pub Serves : List Text → Ends → ℕ → Type 0
+Serves words ends status = ((task : Task) × Asks words task × IsBegun task ends status) ⊎ IsIdle words ends status
