@@ -2,13 +2,13 @@
 
 parts=$top/tools/installed
 
-# says what is wrong with the folder before anything is proved
+# says what is wrong with the folder of a word before anything is proved
 check_place() {
-    if [ -z "$1" ]; then
-        say "--install takes a folder, as /usr/local or \$HOME/.local"
+    if [ -z "$2" ]; then
+        say "$1 takes a folder, as /usr/local or \$HOME/.local"
         exit 2
     fi
-    mkdir -p -- "$1" 2>/dev/null && [ -w "$1" ] || fail "$1 can't be written"
+    mkdir -p -- "$2" 2>/dev/null && [ -w "$2" ] || fail "$2 can't be written"
 }
 
 # one file, which replaces what stands there only when it is whole
@@ -36,6 +36,7 @@ install_below() {
     place=$(readlink -f -- "$1")
     put 755 "$program" "$place/bin/wb"
     put 644 "$parts/wb.1" "$place/share/man/man1/wb.1"
+    put 644 "$parts/wb-live.1" "$place/share/man/man1/wb-live.1"
     put 644 "$parts/wb.bash" "$place/share/bash-completion/completions/wb"
     put 644 "$parts/wb.bash" "$place/share/bash-completion/completions/wb-live"
     put 644 "$parts/LICENCE" "$place/share/doc/wb/LICENCE"
