@@ -13,11 +13,14 @@ Each script is run so often, and the least and the median are printed, in nanose
 processors. The start of the program is in them.
 """
 
+from __future__ import annotations
+
 import os
 import subprocess
 import sys
 import tempfile
 import time
+from collections.abc import Callable, Iterable, Iterator, Sequence
 
 ROUNDS = 25
 COUNT = 60_000
@@ -27,20 +30,20 @@ LATER = 5_000
 class Numbers:
     """Random numbers of a multiplicative generator with a fixed seed."""
 
-    def __init__(self):
+    def __init__(self) -> None:
         self.state = 20260101
 
-    def below(self, bound):
+    def below(self, bound: int) -> int:
         self.state = self.state * 16807 % 2147483647
         return self.state % bound
 
 
-def name(place):
+def name(place: int) -> str:
     """Source, page and number of a drawop."""
     return f"{100 + place % 40} 7/{1 + place // 40 % 4} {1 + place // 160}"
 
 
-def shape(numbers):
+def shape(numbers: Numbers) -> str:
     kind, x, y = numbers.below(10), numbers.below(160), numbers.below(80)
     if kind < 6:
         return f"line {x} {y} {numbers.below(160)} {numbers.below(80)} *"
@@ -49,11 +52,11 @@ def shape(numbers):
     return f'text {x} {y} "meet at noon, room {1 + numbers.below(9)}"'
 
 
-def drawops(numbers):
+def drawops(numbers: Numbers) -> list[str]:
     return [f"draw {name(place)} {1000 + numbers.below(1_000_000)} {shape(numbers)}" for place in range(COUNT)]
 
 
-def shows(lines):
+def shows(lines: Iterable[str]) -> Iterator[str]:
     """The lines, with a page shown after each 1,000."""
     for place, line in enumerate(lines):
         yield line
@@ -61,7 +64,7 @@ def shows(lines):
             yield f"show 7 {1 + place // 1_000 % 4} 160 80"
 
 
-def others(numbers, place, moment):
+def others(numbers: Numbers, place: int, moment: int) -> Iterator[str]:
     """What others send: requests for a drawop that most likely is held and for one that is lost, and what one has."""
     yield f"request 90 {name(numbers.below(place))}"
     yield f"request 91 {name(place - place % 10)}"
@@ -69,7 +72,7 @@ def others(numbers, place, moment):
     yield f"session-message 92 {moment} 7/{1 + numbers.below(4)} {mark}"
 
 
-def losses(numbers, lines):
+def losses(numbers: Numbers, lines: Sequence[str]) -> Iterator[str]:
     for source in range(100, 140):
         yield f"distance {source} {10_000 + numbers.below(90_000)}"
     moment = 0
@@ -86,20 +89,20 @@ def losses(numbers, lines):
             yield f"look 7 {1 + numbers.below(4)}"
 
 
-def script(kind):
+def script(kind: str) -> bytes:
     """The lines of a script, its datagrams in words."""
     numbers = Numbers()
     lines = drawops(numbers)
-    made = {
+    made: dict[str, Callable[[], Iterable[str]]] = {
         "arrivals": lambda: lines,
         "repeated": lambda: lines + lines,
         "shows": lambda: shows(lines),
         "losses": lambda: losses(numbers, lines),
-    }[kind]()
-    return "".join(f"{line}\n" for line in ["board 1 65535 1 42", *made]).encode()
+    }
+    return "".join(f"{line}\n" for line in ["board 1 65535 1 42", *made[kind]()]).encode()
 
 
-def time_once(command, given):
+def time_once(command: Sequence[str], given: bytes) -> tuple[int, int]:
     """Nanoseconds of one run over these bytes, by the clock and of processors."""
     with tempfile.TemporaryFile() as standing:
         standing.write(given)
@@ -114,7 +117,7 @@ def time_once(command, given):
     return taken, int((usage.ru_utime + usage.ru_stime) * 1_000_000_000)
 
 
-def print_row(label, command, given):
+def print_row(label: str, command: Sequence[str], given: bytes) -> None:
     lines = given.count(b"\n")
     rounds = [time_once(command, given) for _ in range(ROUNDS)]
     cells = []
@@ -124,7 +127,7 @@ def print_row(label, command, given):
     print(f"{label:<20}{lines:>8}" + "".join(f"{cell:>10}" for cell in cells), flush=True)
 
 
-def main():
+def main() -> None:
     top, words = sys.argv[1], sys.argv[2:]
     subprocess.run([f"{top}/wb", "hex"], stdin=subprocess.DEVNULL, check=True)
     where = subprocess.run([f"{top}/wb", "--where"], stdout=subprocess.PIPE, text=True, check=True)
