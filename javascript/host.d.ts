@@ -72,7 +72,7 @@ export class Program {
     constructor(module: WebAssembly.Module, wide: boolean);
     module: WebAssembly.Module;
     wide: boolean;
-    /** A start with these words behind `wb`.
+    /** A start with these words after `wb`.
      * @param {string[]} words */
     start(...words: string[]): Promise<Host>;
 }

@@ -1,2 +1,2 @@
 // In a checkout the page has this file; the package has it in this place.
-export * from '../web/page/host.js';
+export * from '../web/member/host.js';

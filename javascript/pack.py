@@ -12,7 +12,7 @@ from pathlib import Path
 from typing import Dict
 
 HERE = Path(__file__).resolve().parent
-HOST = HERE.parent / "web" / "page" / "host.js"
+HOST = HERE.parent / "web" / "member" / "host.js"
 
 FILES = ("README.md", "host.d.ts", "node.d.ts", "node.js", "package.json", "wb.d.ts", "wb.js")
 MODULES = ("wb-any.wasm", "wb.wasm")

@@ -1,7 +1,7 @@
 /** A call that is the program's own was refused. It changed nothing. */
 export class Refused extends Error {
 }
-/** A member that keeps itself: it asks for what it lacks, reports, repairs, and answers who asks. Moments are microseconds below 2^48 that never
+/** A self-managing member: it asks for what it lacks, reports, repairs, and answers others. Moments are microseconds below 2^48 that never
  * go back; begin near 0. Calls are done in their order, one at a time. */
 export class Host {
     /** Opens one. `member` is its number, which no other member of the session has.
@@ -24,13 +24,13 @@ export class Host {
     must(line: string): Promise<Block>;
     /** @param {Block} block @returns {Answer} */
     answer(block: Block): Answer;
-    /** A datagram came in. One that is none, or that no host takes, is refused in the answer, and is no fault of this program.
+    /** A datagram came in. The answer refuses bytes that are not one, or that no host takes; this program is not to blame.
      * @param {number} now @param {Uint8Array} datagram */
     came(now: number, datagram: Uint8Array): Promise<Answer>;
     /** Time is `now`: to be called when the clock comes to `due`, and before more is handed in then.
      * @param {number} now */
     tick(now: number): Promise<Answer>;
-    /** The user draws, as `line 0 0 4 0 *`, `text 0 1 "hello"` or `delete 7 1`. Where two drawops cover one cell, the one with the greater time is
+    /** The user draws, as `line 0 0 4 0 *`, `text 0 1 "hello"` or `delete 7 1`. If two drawops cover one cell, the one with the greater time is
      * seen: use the microseconds of the time of day.
      * @param {number} now @param {number | bigint} time @param {string} page as `1/1` @param {string} operation */
     add(now: number, time: number | bigint, page: string, operation: string): Promise<Answer>;

@@ -59,7 +59,7 @@ function wordsOf(page) {
   return page.replace('/', ' ');
 }
 
-/** A member that keeps itself: it asks for what it lacks, reports, repairs, and answers who asks. Moments are microseconds below 2^48 that never
+/** A self-managing member: it asks for what it lacks, reports, repairs, and answers others. Moments are microseconds below 2^48 that never
  * go back; begin near 0. Calls are done in their order, one at a time. */
 export class Host {
   /** @param {number} member @param {Lines} lines */
@@ -110,7 +110,7 @@ export class Host {
     return { send: block.sent().map(bytesOf), due: this.due, became, refused: block.fault };
   }
 
-  /** A datagram came in. One that is none, or that no host takes, is refused in the answer, and is no fault of this program.
+  /** A datagram came in. The answer refuses bytes that are not one, or that no host takes; this program is not to blame.
    * @param {number} now @param {Uint8Array} datagram */
   async came(now, datagram) {
     return this.answer(await this.ask(`came ${now} ${digitsOf(datagram)}`));
@@ -122,7 +122,7 @@ export class Host {
     return this.answer(await this.must(`tick ${now}`));
   }
 
-  /** The user draws, as `line 0 0 4 0 *`, `text 0 1 "hello"` or `delete 7 1`. Where two drawops cover one cell, the one with the greater time is
+  /** The user draws, as `line 0 0 4 0 *`, `text 0 1 "hello"` or `delete 7 1`. If two drawops cover one cell, the one with the greater time is
    * seen: use the microseconds of the time of day.
    * @param {number} now @param {number | bigint} time @param {string} page as `1/1` @param {string} operation */
   async add(now, time, page, operation) {

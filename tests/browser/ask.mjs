@@ -1,7 +1,7 @@
 // ask.mjs MODULE WORD ..: gives the lines of standard input to a module as the page does, one by one, and prints the blocks.
 // At the end it tells, on standard error, the microseconds of a line and the bytes of the memory.
 import fs from 'node:fs';
-import { Program } from '../../web/page/host.js';
+import { Program } from '../../web/member/host.js';
 
 const [file, ...words] = process.argv.slice(2), began = performance.now();
 const host = await new Program(await WebAssembly.compile(fs.readFileSync(file)), false).start(...words);

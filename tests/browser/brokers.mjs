@@ -1,5 +1,5 @@
 // Tests the packets of MQTT, and what a member makes of a broker that is slow, gone or refuses, without one.
-import { Broker, Packets, nameAt, packet } from '../../web/page/transports.js';
+import { Broker, Packets, nameAt, packet } from '../../web/member/transports.js';
 import { fault, judge } from '../judge.mjs';
 
 /** The packets that come out of bytes that come in parts of one size. */

@@ -11,6 +11,7 @@ from pathlib import Path
 import pytest
 
 from ..host.program import TOP
+from ..live.browser import PATIENCE
 from .serving import Broker, Folder
 from .windows import Ordinary
 
@@ -48,7 +49,7 @@ def module(page: Path) -> Path:
 
 @pytest.fixture(scope="module")
 def browser() -> Iterator[Ordinary]:
-    one = Ordinary(found("chromium", "chromium", "chromium-browser", "google-chrome"), 120.0)
+    one = Ordinary(found("chromium", "chromium", "chromium-browser", "google-chrome"), 2 * PATIENCE)
     with one:
         yield one
 

@@ -1,5 +1,5 @@
 // Tests that datagrams are read as `wb words` says them. The digits are of `wb hex`; test_agreement.py compares many more.
-import { hex, readDatagram, unhex, withEcho } from '../../web/page/datagram.js';
+import { hex, readDatagram, unhex, withEcho } from '../../web/member/datagram.js';
 import { judge } from '../judge.mjs';
 import { datagramOf } from './table.mjs';
 

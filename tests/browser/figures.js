@@ -2,7 +2,7 @@
 // datagram that came, the milliseconds of a canvas and of a start from a record, and the bytes of the memory. The datagrams are made by the
 // modules themselves, by `wb hex`.
 const folder = new URL(document.body.dataset.folder, location.href);
-const { Program, isWide } = await import(new URL('web/page/host.js', folder).href);
+const { Program, isWide } = await import(new URL('web/member/host.js', folder).href);
 
 const DRAWOPS = 60_000, ROUNDS = 5, AT_ONCE = 1_000;
 

@@ -1,15 +1,15 @@
 // Tests what stands between a member and its judge: what of the host it is told, and what comes of what it decides. The member is none. What the
 // judge decides the table of cases says (table.mjs).
-import { Alarms } from '../../web/page/alarms.js';
-import { Board } from '../../web/page/board.js';
-import { hex, readDatagram, unhex } from '../../web/page/datagram.js';
-import { Drawn } from '../../web/page/drawn.js';
-import { Block } from '../../web/page/host.js';
-import { Judging } from '../../web/page/judging.js';
-import { Telling } from '../../web/page/telling.js';
-import { MOST_TOLD, Told } from '../../web/page/told.js';
-import { drawopOf } from '../../web/page/views.js';
-import { Wire } from '../../web/page/wire.js';
+import { Alarms } from '../../web/member/alarms.js';
+import { Board } from '../../web/member/board.js';
+import { hex, readDatagram, unhex } from '../../web/member/datagram.js';
+import { Drawn } from '../../web/member/drawn.js';
+import { Block } from '../../web/member/host.js';
+import { Judging } from '../../web/member/judging.js';
+import { Telling } from '../../web/member/telling.js';
+import { MOST_REPORTED, Reported } from '../../web/member/reported.js';
+import { drawopOf } from '../../web/member/views.js';
+import { Wire } from '../../web/member/wire.js';
 import { judge } from '../judge.mjs';
 import { datagramOf } from './table.mjs';
 
@@ -17,16 +17,16 @@ const SECOND = 1_000_000, DAY = 86_400 * SECOND;
 
 // ---- what is missing
 
-export function testTold() {
-  const told = new Told(), drawn = new Drawn();
+export function testReported() {
+  const reported = new Reported(), drawn = new Drawn();
   for (const seq of [1, 4]) drawn.add(drawopOf(drawing(7, seq)));
-  for (const [source, page, seq] of [[7, '7/1', 3], [7, '7/1', 9], [8, '7/1', 2], [8, '7/2', 2]]) told.tell({ source, page, seq });
-  judge('a number of a gap counts once', told.missing('7/1', drawn), 4);
-  told.come({ source: 7, page: '7/1', seq: 9 });
-  judge('what came is missing no more', [told.missing('7/1', drawn), told.missing('7/2', drawn)], [3, 1]);
-  judge('pages of which nothing is held are told', told.pages().includes('7/2'), true);
-  for (let number = 0; number < 5_000; number += 1) told.tell({ source: 1, page: `9/${number}`, seq: 5 });
-  judge('what is told is bounded', told.names.size, MOST_TOLD);
+  for (const [source, page, seq] of [[7, '7/1', 3], [7, '7/1', 9], [8, '7/1', 2], [8, '7/2', 2]]) reported.tell({ source, page, seq });
+  judge('a number of a gap counts once', reported.missing('7/1', drawn), 4);
+  reported.come({ source: 7, page: '7/1', seq: 9 });
+  judge('what came is missing no more', [reported.missing('7/1', drawn), reported.missing('7/2', drawn)], [3, 1]);
+  judge('pages of which nothing is held are told', reported.pages().includes('7/2'), true);
+  for (let number = 0; number < 5_000; number += 1) reported.tell({ source: 1, page: `9/${number}`, seq: 5 });
+  judge('what is told is bounded', reported.names.size, MOST_REPORTED);
 }
 
 // ---- judging
@@ -65,9 +65,9 @@ async function testHost() {
   for (const words of ['page-state 9 7/1 7=3', 'request 9 7 7/1 2', 'ask-pages 9', drawing(7, 2)]) await heed(member, words, 'x', sent);
   judge('all that a member sends comes to the host', member.came.map((words) => words.slice(0, 3)), ['ses', 'pag', 'req', 'ask', 'dra']);
   judge('and what the host sends goes out', sent, ['00ff', '00ff', '00ff', '00ff']);
-  judge('what is told is missing, and what is below', member.telling.told.missing('7/1', member.drawn), 2);
+  judge('what is told is missing, and what is below', member.telling.reported.missing('7/1', member.drawn), 2);
   await heed(member, drawing(7, 3));
-  judge('until it comes', member.telling.told.missing('7/1', member.drawn), 1);
+  judge('until it comes, and then it is forgotten', [member.telling.reported.missing('7/1', member.drawn), member.telling.reported.names.size], [1, 0]);
   judge('what comes under our number does not', [await heed(member, 'request 1 7 7/1 2'), member.came.length], ['under our number', 6]);
   const present = (now) => member.judging.present(now).map(([number, { distance }]) => [number, distance]);
   judge('members that are here, for a minute', [present(25), present(60 * SECOND), present(61 * SECOND)], [[[9, 5]], [[9, 5]], []]);
@@ -81,12 +81,13 @@ async function testHost() {
 async function testRecord() {
   const member = memberOf();
   await heed(member, drawing(7, 1), 'b');
-  judge('what a stranger gave', member.kept, [drawing(7, 1)]);
+  await heed(member, drawing(6, 1), 'y');
+  judge('what strangers gave', member.kept, [drawing(7, 1), drawing(6, 1)]);
   await meet(member, 7, 'b');
-  judge('is a member\u2019s once he answers, by its bytes', member.kept.slice(1), [`datagram ${drawing(7, 1)}`]);
+  judge('is a member\u2019s once he answers, by its bytes, and of no other', member.kept.slice(2), [`datagram ${drawing(7, 1)}`]);
   await heed(member, drawing(7, 2), 'b');
   await heed(member, drawing(8, 1), 'y');
-  judge('what comes later is written as it is then', member.kept.slice(2), [`datagram ${drawing(7, 2)}`, drawing(8, 1)]);
+  judge('what comes later is written as it is then', member.kept.slice(3), [`datagram ${drawing(7, 2)}`, drawing(8, 1)]);
   const again = memberOf({ strange: ['8 7/1 1'], strangers: 1 });
   judge('what the record has of strangers takes of their share', await heed(again, drawing(9, 1), 'z'), 'over the share of strangers');
 }
@@ -98,6 +99,9 @@ async function testPatience() {
   const report = new Uint8Array(Buffer.from(`57420102${(992).toString(16).padStart(8, '0')}${REPORT.slice(16, 56)}0079${'0000000100000001'.repeat(121)}0000`, 'hex'));
   judging.leaving(report);
   judge('of fifty each speaks once in 12.5 s', [report.length, readDatagram(report).marks.length, judging.patience], [1_000, 121, 60 * SECOND]);
+  member.board.options.rate = 2_000;
+  judging.leaving(report);
+  judge('where reports have half of that, once in 25', judging.patience, 75 * SECOND);
   member.board.options.rate = 400;
   judging.leaving(report);
   judge('or, where reports have a tenth, once in 64', judging.patience, 192 * SECOND);
@@ -106,9 +110,9 @@ async function testPatience() {
 async function testNotice() {
   const member = memberOf();
   await heed(member, 'session-message 9 77 7/1 7=3');
-  judge('what a stranger reports is not missing', member.telling.told.missing('7/1', member.drawn), 0);
+  judge('what a stranger reports is not missing', member.telling.reported.missing('7/1', member.drawn), 0);
   await meet(member, 9, 'x', ' 7=3');
-  judge('and what a member reports is', member.telling.told.missing('7/1', member.drawn), 1);
+  judge('and what a member reports is', member.telling.reported.missing('7/1', member.drawn), 1);
 }
 
 async function testOwnMarks() {
@@ -125,6 +129,40 @@ async function testOwnMarks() {
   await heed(member, 'page-state 9 7/1 1=70000');
   judge('after it none changes anything, and it is told', [member.isReady, member.kept.length, member.came.length, member.alarms.told()],
     [true, 2, 4, ['a report tells of a drawing of ours that we did not make']]);
+}
+
+/** What the host holds is told to the judge: by it our own marks are no forgeries, and who asks for it is answered. */
+async function testHeld() {
+  const member = memberOf();
+  await meet(member);
+  [1, 2, 3].forEach((seq) => member.drawn.add(drawopOf(drawing(1, seq))));
+  judge('a report of all that we drew warns nobody', [await heed(member, 'session-message 9 78 7/1 1=3'), member.alarms.told()], [null, []]);
+  judge('one of more does', [await heed(member, 'session-message 9 79 7/1 1=4'), member.alarms.told()], [null, ['a report tells of a drawing of ours that we did not make']]);
+  judge('a stranger\u2019s copy of what is held', await heed(member, drawing(1, 2), 'z'), 'a copy that a stranger sent');
+  judge('his requests for what is held, and for what is not', [await heed(member, 'request 8 1 7/1 2', 'z'), await heed(member, 'request 8 1 7/1 4', 'z')],
+    [null, 'a stranger asks for what is not held']);
+  await heed(member, 'page-state 8 7/1 1=3', 'y');
+  judge('who sends from a place its own reports alone tell', [...member.wire.places], [['x', 9]]);
+  const young = memberOf({ isReady: false });
+  young.board.readyAt = SECOND;
+  young.drawn.add(drawopOf(drawing(1, 4)));
+  for (const mark of [4, 5]) await heed(young, `page-state 9 7/1 1=${mark}`);
+  judge('a mark of what is held is not kept', young.kept, ['page-state 9 7/1 1=5']);
+}
+
+/** What the host refuses, or does not take, changes nothing here. */
+async function testRefused() {
+  const member = memberOf(), answers = (lines, end) => { member.board.came = async () => new Block(lines, end); };
+  await meet(member);
+  answers([], 'refused datagram 4');
+  judge('why a report is refused', await heed(member, 'session-message 9 78 7/1 7=3'), 'datagram 4');
+  judge('what it told of is not missing', member.telling.reported.missing('7/1', member.drawn), 0);
+  judge('why a drawop is refused', await heed(member, drawing(7, 1), 'z'), 'datagram 4');
+  answers(['batch 0 0 1 0'], 'ok never');
+  judge('one that clashes', [await heed(member, drawing(7, 1), 'z'), member.alarms.told()], [null, ['two members draw with number 7: what they drew differs from member to member']]);
+  answers(['batch 0 0 0 1'], 'ok never');
+  judge('one without room', [await heed(member, drawing(7, 1), 'z'), member.alarms.told().at(-1)], [null, 'the board is full: new drawops are not kept']);
+  judge('none of them takes of a share, or is kept', [member.judging.judge.strange.size, member.drawn.total, member.kept], [0, 0, []]);
 }
 
 /** Two members of one number, who hear each other and nobody else: each report echoes the other's. */
@@ -188,7 +226,7 @@ async function testPages() {
   judge('strangers open no more', await heed(member, 'draw 900 0/1500 1 5 line 0 0 1 1 *', 's'), 'strangers are on too many pages, or too many numbers');
   await heed(member, 'draw 9 9/2 1 5 line 0 0 1 1 *');
   member.drawn.add(drawopOf('draw 1 5/1 1 5 line 0 0 1 1 *'));
-  member.telling.told.tell({ source: 9, page: '6/1', seq: 1 });
+  member.telling.reported.tell({ source: 9, page: '6/1', seq: 1 });
   member.telling.tellPages();
   const { page, pages } = member.pages;
   judge('the page in view, ours, and those of members and of which they tell', [page, pages.slice(0, 4).map((one) => one.page)], ['7/1', ['5/1', '6/1', '7/1', '9/2']]);
@@ -196,5 +234,5 @@ async function testPages() {
 }
 
 export async function testJudging() {
-  for (const test of [testHost, testRecord, testPatience, testNotice, testOwnMarks, testTwins, testRoom, testTime, testPages]) await test();
+  for (const test of [testHost, testRecord, testPatience, testNotice, testOwnMarks, testHeld, testRefused, testTwins, testRoom, testTime, testPages]) await test();
 }

@@ -2,14 +2,14 @@
 // on with all that is held.
 import fs from 'node:fs';
 import test from 'node:test';
-import { Board, NoRoom } from '../../web/page/board.js';
-import { unhex } from '../../web/page/datagram.js';
-import { heldOf } from '../../web/page/held.js';
-import { HostEnded, Program } from '../../web/page/host.js';
-import { Inbox } from '../../web/page/inbox.js';
-import { Member } from '../../web/page/member.js';
-import { FIRST_LINE, Record, actsOf } from '../../web/page/record.js';
-import { drawopOf } from '../../web/page/views.js';
+import { Board, NoRoom } from '../../web/member/board.js';
+import { unhex } from '../../web/member/datagram.js';
+import { heldOf } from '../../web/member/held.js';
+import { HostEnded, Program } from '../../web/member/host.js';
+import { Inbox } from '../../web/member/inbox.js';
+import { Member } from '../../web/member/member.js';
+import { FIRST_LINE, Record, actsOf } from '../../web/member/record.js';
+import { drawopOf } from '../../web/member/views.js';
 import { judge } from '../judge.mjs';
 
 const file = process.env.WB_MODULE, PAGE = '1/1', SECOND = 1_000_000;
@@ -148,7 +148,7 @@ async function testSession(program) {
   judge('each has its name', new Set(answers.map(({ source, seq }) => `${source} ${seq}`)).size, 24);
   const all = () => members.map((member) => member.drawn.count(PAGE)), isWhole = () => members.every((member) => member.drawn.count(PAGE) === 24 && member.told.board);
   judge('all have all, though a third is lost', await comes(isWhole) || all(), true);
-  judge('nothing is told to be missing', [members.map(({ telling, drawn }) => telling.told.missing(PAGE, drawn)), members.map(({ telling }) => telling.differences)], [[0, 0, 0], [0, 0, 0]]);
+  judge('nothing is told to be missing', [members.map(({ telling, drawn }) => telling.reported.missing(PAGE, drawn)), members.map(({ telling }) => telling.differences)], [[0, 0, 0], [0, 0, 0]]);
   judge('each knows how far the others are', await comes(() => members.every((member) => [...member.judging.judge.others.values()].filter(({ distance }) => distance !== null).length === 2)), true);
   judge('something was asked for, and repaired', members.reduce((sum, { wire }) => sum + wire.counts.requests, 0) > 0, true);
   const [one] = members, fault = await one.people.draw(PAGE, 'line 0 0 4 5000 x').catch((it) => it.message);

@@ -1,8 +1,8 @@
 // Runs the table of cases of a member's judgement (tests/judging/README.md) by the judge of the page.
 import fs from 'node:fs';
-import { Drawn } from '../../web/page/drawn.js';
-import { Judge } from '../../web/page/judge.js';
-import { drawopOf } from '../../web/page/views.js';
+import { Drawn } from '../../web/member/drawn.js';
+import { Judge } from '../../web/member/judge.js';
+import { drawopOf } from '../../web/member/views.js';
 import { judge } from '../judge.mjs';
 
 const TABLE = new URL('../judging/cases.json', import.meta.url);

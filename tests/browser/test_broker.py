@@ -12,6 +12,7 @@ import pytest
 from ..host.program import program
 from .alone import run_alone
 from ..facts import Facts
+from ..live.browser import PATIENCE
 from .live_member import LiveMember, why_not
 from .serving import Broker, Folder
 from .spoilt import WAYS, Spoilt
@@ -38,7 +39,7 @@ def check_hidden(facts: Facts, browser: Ordinary, windows: list[Window]) -> None
         facts("drawings are taken", window.draw_all([some_drawing(chance) for _ in range(DRAWINGS)]))
     facts("one window is hidden", hidden.page.wait("document.visibilityState === 'hidden'"))
     began = time.monotonic()
-    facts.holds("a hidden tab and one in view show one canvas", agree(windows, 2 * DRAWINGS, 120.0), [(w.drawings(), w.health()) for w in windows])
+    facts.holds("a hidden tab and one in view show one canvas", agree(windows, 2 * DRAWINGS), [(w.drawings(), w.health()) for w in windows])
     print(f"{2 * DRAWINGS} drawings by a broker, a third lost, one tab hidden: one canvas {time.monotonic() - began:.1f} s after the last")
     browser.call("Target.closeTarget", targetId=cover)
 
@@ -67,12 +68,12 @@ def draw_with_live(facts: Facts, live: Window, windows: list[Window]) -> None:
     for window in all_three:
         facts("drawings are taken", window.draw_all([some_drawing(chance) for _ in range(DRAWINGS)]))
     began = time.monotonic()
-    facts.holds("browsers and wb-live show one canvas", agree(all_three, before + 3 * DRAWINGS, 120.0), [(window.drawings(), window.health()) for window in all_three])
+    facts.holds("browsers and wb-live show one canvas", agree(all_three, before + 3 * DRAWINGS), [(window.drawings(), window.health()) for window in all_three])
     print(f"{3 * DRAWINGS} drawings by two browsers that lose a third and wb-live: one canvas {time.monotonic() - began:.1f} s after the last")
     for one, other in ((windows[0], live), (live, windows[0])):
         other.page.value("wb.session.on('presence', ({ others }) => { window.pointed = JSON.stringify(others.map(({ cell, begun }) => [cell, begun])); }); 0")
         told = one.page.value("wb.session.member.point(wb.session.board.page, [3, 4], ['line 0 0 4 4 *']).then(({ ok }) => ok)")
-        facts("where one points is told, and what is begun", (told, other.page.wait("window.pointed === '[[[3,4],[\"line 0 0 4 4 *\"]]]'", 60.0)), (True, True))
+        facts("where one points is told, and what is begun", (told, other.page.wait("window.pointed === '[[[3,4],[\"line 0 0 4 4 *\"]]]'")), (True, True))
     live.page.close()
 
 
@@ -84,7 +85,7 @@ def check_stranger(facts: Facts, browser: Ordinary, folder: Folder, broker: Brok
         facts("a stranger's page is ready", stranger.is_ready())
         facts("a stranger draws for himself", stranger.draw("text 0 0 \"not ours\"").get("ok"), True)
     windows[0].draw("line 0 30 5 30 =")
-    facts.holds("the members draw on", agree(windows, before + 1, 60.0), [window.drawings() for window in windows])
+    facts.holds("the members draw on", agree(windows, before + 1), [window.drawings() for window in windows])
     time.sleep(3)
     facts("nothing of a stranger's is on their boards", [window.drawings() for window in windows], [before + 1] * 2)
     facts("nor of theirs on a stranger's", [stranger.drawings() for stranger in strangers], [1, 1])
@@ -102,12 +103,12 @@ def check_gone(facts: Facts, windows: list[Window], what: str, go: Callable[[], 
     go()
     try:
         for window in windows:
-            facts.holds(f"{what} is told, and the dot is no more green", window.page.wait(IS_LOST, 60.0), window.health())
+            facts.holds(f"{what} is told, and the dot is no more green", window.page.wait(IS_LOST), window.health())
             facts("it draws on meanwhile", window.draw("text 3 33 \"meanwhile\"").get("ok"), True)
     finally:
         come()
     began = time.monotonic()
-    facts.holds(f"after {what} all come together", agree(windows, before + len(windows), 120.0), [(window.drawings(), window.health()) for window in windows])
+    facts.holds(f"after {what} all come together", agree(windows, before + len(windows)), [(window.drawings(), window.health()) for window in windows])
     print(f"after {what}: one canvas {time.monotonic() - began:.1f} s after it was back")
 
 
@@ -120,7 +121,7 @@ def check_spoilt(facts: Facts, broker: Broker, windows: list[Window]) -> None:
         spoilt.append(Spoilt())
 
     def come() -> None:
-        until = time.monotonic() + 90
+        until = time.monotonic() + 3 * PATIENCE
         while spoilt[0].met < 2 * len(WAYS) and time.monotonic() < until:
             for window in windows:
                 window.in_worker("member.transport.under.pause = 500")

@@ -18,7 +18,7 @@ CHECKS = ["--noEmit", "--allowJs", "--checkJs", "--strict", "--target", "es2022"
 @pytest.mark.parametrize("start, names", [("worker.js", "es2022,webworker,webworker.iterable"), ("start.js", "es2022,dom,dom.iterable")])
 def test_types(start: str, names: str) -> None:
     """Those of the worker, and those of the page."""
-    words = [found("node-typescript", "tsc"), *CHECKS, "--lib", names, str(TOP / "web/page" / start), str(HERE / "newer.d.ts")]
+    words = [found("node-typescript", "tsc"), *CHECKS, "--lib", names, str(TOP / "web/member" / start), str(HERE / "newer.d.ts")]
     ran = subprocess.run(words, stdout=subprocess.PIPE, text=True, check=False)
     assert ran.stdout == ""
 

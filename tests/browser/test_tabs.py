@@ -68,7 +68,7 @@ def check_losses(facts: Facts, windows: list[Window]) -> None:
     for window in windows:
         facts("drawings are taken", window.draw_all([some_drawing(chance) for _ in range(DRAWINGS)]))
     began = time.monotonic()
-    facts.holds("all show one canvas though a third was lost", agree(windows, count, 120.0), str([(window.drawings(), window.health()) for window in windows]))
+    facts.holds("all show one canvas though a third was lost", agree(windows, count), str([(window.drawings(), window.health()) for window in windows]))
     print(f"{count} drawings in three tabs that lose a third: one canvas {time.monotonic() - began:.1f} s after the last")
     facts("something was lost and repaired", windows[0].says("counts", "lost on purpose"))
 
@@ -84,11 +84,11 @@ def check_hand(facts: Facts, windows: list[Window]) -> None:
 
 def check_reload(facts: Facts, windows: list[Window]) -> None:
     count = len(windows) * DRAWINGS + 2  # a line of the mouse and one of the finger
-    facts.holds("all have what the hands drew", agree(windows, count, 120.0), [window.drawings() for window in windows])
+    facts.holds("all have what the hands drew", agree(windows, count), [window.drawings() for window in windows])
     one, me, rows = windows[0], windows[0].me, windows[0].rows()
     facts("it is ready again", one.reload())
     facts("a reload keeps the number", one.me, me)
-    facts("and the board", one.page.wait(f"wb.session.board.drawops.length === {count}", 60.0) and one.rows(), rows)
+    facts("and the board", one.page.wait(f"wb.session.board.drawops.length === {count}") and one.rows(), rows)
     facts("a number is used once", one.draw("line 60 1 64 1 +").get("ok") and windows[1].shows(60, 1, "+++++"), True)
 
 
@@ -99,7 +99,7 @@ def check_trap(facts: Facts, windows: list[Window]) -> None:
         facts("a host that broke off is started from its record", window.is_ready())
         # what was asked as it broke may be refused
         facts("and goes on", any(window.draw("line 70 3 74 3 x").get("ok") for _ in range(100)))
-        facts.holds("with all that it had", window.page.wait(f"wb.session.board.drawops.length > {shown}", 60.0), window.drawings())
+        facts.holds("with all that it had", window.page.wait(f"wb.session.board.drawops.length > {shown}"), window.drawings())
         facts("it was started again", window.in_worker("member.board.ends.length"), 1)
         facts("the record tells it", window.in_worker("member.board.record.lines().then((lines) => lines.filter((line) => line.includes('broke off')).length)"), 1)
 
@@ -129,7 +129,7 @@ def check_full(facts: Facts, browser: Ordinary, folder: Folder) -> None:
     facts("a full board takes no more", [answer["ok"] for answer in answers], [True] * 5 + [False] * 2)
     facts("and says why", answers[-1].get("fault"), "full")
     # a page is shown anew a moment after the answer
-    facts.holds("what it has is shown", window.page.wait("wb.session.board.rows.length === 5", 60.0), window.rows())
+    facts.holds("what it has is shown", window.page.wait("wb.session.board.rows.length === 5"), window.rows())
     window.page.close()
 
 
@@ -140,7 +140,7 @@ def check_alone(facts: Facts, browser: Ordinary, folder: Folder) -> None:
     facts("a window is ready", window.is_ready())
     sources = window.page.value("performance.getEntriesByType('resource').map((it) => it.name)")
     facts("nothing comes from elsewhere", [name for name in sources if not name.startswith(folder.address()) and not name.startswith("blob:")], [])
-    facts("the browser keeps the folder", window.page.wait("navigator.serviceWorker.ready.then(() => true)", 60.0))
+    facts("the browser keeps the folder", window.page.wait("navigator.serviceWorker.ready.then(() => true)"))
     folder.stop()
     try:
         facts("it starts without a network", window.reload() and window.shows(0, 0, "*****"), True)

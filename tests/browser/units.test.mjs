@@ -1,20 +1,20 @@
 // What the scripts of the page do by themselves: `node --test tests/browser/units.test.mjs`.
 import crypto from 'node:crypto';
 import test from 'node:test';
-import { Alarms } from '../../web/page/alarms.js';
-import { Drawn, Sheet } from '../../web/page/drawn.js';
-import { Block } from '../../web/page/host.js';
-import { Inbox } from '../../web/page/inbox.js';
-import { newName, readInvitation, writeInvitation } from '../../web/page/invitation.js';
-import { Presence, isAside, pointOf, readGone, readPoint, writeGone, writePoint } from '../../web/page/presence.js';
-import { FIRST_LINE, Record, actsOf, isLater } from '../../web/page/record.js';
-import { Counters, Seal, Sealed, keyBytes, newKey, readEnvelope, writeEnvelope } from '../../web/page/seal.js';
-import { drawopOf, fieldsOf, orderOfPages } from '../../web/page/views.js';
-import { Wire } from '../../web/page/wire.js';
+import { Alarms } from '../../web/member/alarms.js';
+import { Drawn, Sheet } from '../../web/member/drawn.js';
+import { Block } from '../../web/member/host.js';
+import { Inbox } from '../../web/member/inbox.js';
+import { newName, readInvitation, writeInvitation } from '../../web/member/invitation.js';
+import { Presence, isAside, pointOf, readGone, readPoint, writeGone, writePoint } from '../../web/member/presence.js';
+import { FIRST_LINE, Record, actsOf, isLater } from '../../web/member/record.js';
+import { Counters, Seal, Sealed, keyBytes, newKey, readEnvelope, writeEnvelope } from '../../web/member/seal.js';
+import { drawopOf, fieldsOf, orderOfPages } from '../../web/member/views.js';
+import { Wire } from '../../web/member/wire.js';
 import { testBrokers, testPackets } from './brokers.mjs';
 import { testDatagrams, testEchoes } from './datagrams.mjs';
 import { fault, judge } from '../judge.mjs';
-import { testJudging, testTold } from './judging.mjs';
+import { testJudging, testReported } from './judging.mjs';
 import { datagramOf, testTable } from './table.mjs';
 
 function testBlocks() {
@@ -41,6 +41,7 @@ function testDrawn() {
     judge('what is shown, in any order of coming', sheet.shown.map(({ words }) => words), [LINES[5], LINES[1]]);
     judge('and what is hidden', [...sheet.hidden.keys()], ['7 7/1 1']);
   }
+  testOrder();
   const drawn = new Drawn();
   LINES.forEach((words) => { drawn.add(drawopOf(words)); drawn.add(drawopOf(words)); });
   judge('each once', [drawn.total, drawn.count('7/1'), drawn.count('7/2'), drawn.find('7 7/1 1').words, drawn.find('7 7/2 1')], [6, 6, 0, LINES[0], null]);
@@ -53,6 +54,28 @@ function testDrawn() {
   judge('of pages that are looked at and have nothing none is remembered', drawn.pages.size, before);
   const sheet = drawn.sheet('7/1'), view = [LINES[5], LINES[0], LINES[1]].map((words) => drawopOf(words));
   judge('what differs from the host is seen', [sheet.agrees(view), (sheet.replace(view), sheet.agrees(view)), sheet.hidden.size], [false, true, 0]);
+}
+
+/** What lies on what, and what a delete or a restore does, in the order of their times and not of their coming. */
+function testOrder() {
+  const sheetOf = (...lines) => lines.reduce((sheet, words) => (sheet.add(drawopOf(words)), sheet), new Sheet()), shown = ({ shown: all }) => all.map(({ name }) => name);
+  const line = (source, seq, time) => `draw ${source} 7/1 ${seq} ${time} line 0 1 4 1 *`;
+  judge('of one time the greater source lies above, and then the greater number', shown(sheetOf(line(8, 1, 5), line(7, 2, 5), line(7, 3, 5), line(7, 1, 5), line(9, 1, 4))),
+    ['9 7/1 1', '7 7/1 1', '7 7/1 2', '7 7/1 3', '8 7/1 1']);
+  const back = sheetOf(line(7, 1, 5), 'draw 8 7/1 1 50 delete 7 1', 'draw 8 7/1 2 60 restore 7 1');
+  judge('what was restored is shown, and not hidden', [shown(back), back.hidden.size], [['7 7/1 1'], 0]);
+  back.changed.clear();
+  back.add(drawopOf('draw 8 7/1 3 70 delete 8 1'));
+  back.add(drawopOf('draw 9 7/1 1 55 delete 7 1'));
+  judge('a delete of a delete, and an earlier one, change nothing', [shown(back), back.hidden.size, back.changed.size], [['7 7/1 1'], 0, 0]);
+  back.add(drawopOf('draw 8 7/1 4 80 delete 7 1'));
+  judge('a later one does, which is told', [shown(back), [...back.hidden.keys()], [...back.changed.keys()]], [[], ['7 7/1 1'], ['7 7/1 1']]);
+  const late = sheetOf(line(7, 9, 5), line(7, 2, 6));
+  judge('the greatest number of a source, whichever came last', late.tops.get(7), 9);
+  judge('a view that has less than what is shown differs', late.agrees([drawopOf(line(7, 9, 5))]), false);
+  const held = late.drawops.get('7 7/1 2');
+  late.replace([drawopOf(line(7, 2, 6))]);
+  judge('of the host\u2019s view what is held is shown as it is held', [late.shown[0] === held, [...late.hidden.keys()]], [true, ['7 7/1 9']]);
 }
 
 function testInvitations() {
@@ -129,12 +152,27 @@ function testCounters() {
 const NOWHERE = { place: '', owner: null };
 
 function testInbox() {
+  const { now } = performance, clock = { at: now.call(performance) };
+  performance.now = () => clock.at;
+  try {
+    takeAll(clock);
+  } finally {
+    performance.now = now;
+  }
+}
+
+/** By a clock that goes when it is told. */
+function takeAll(clock) {
   const inbox = new Inbox();
   for (let i = 0; i < 2_100; i += 1) inbox.take(new Uint8Array([i & 255]), NOWHERE);
   judge('the oldest are dropped', [inbox.waiting.length, inbox.dropped, inbox.next().bytes[0]], [2_048, 52, 52]);
-  let taken = 1;
-  while (inbox.next()) taken += 1;
-  judge('a pace is kept', taken >= 90 && taken < 400, true);
+  const taken = () => {
+    let count = 0;
+    while (inbox.next()) count += 1;
+    return count;
+  };
+  const [first] = [1 + taken(), clock.at += 10], second = taken();
+  judge('a hundred come at once, and then two in each millisecond', [Math.abs(first - 100) <= 1, Math.abs(second - 20) <= 1], [true, true]);
   inbox.worse = { lose: 1, delay: 0, twice: 0, mix: false };
   inbox.waiting = [];
   inbox.take(new Uint8Array(1), NOWHERE);
@@ -152,6 +190,31 @@ function testWire() {
   judge('who sends from a place', [request.by, lost.by], [9, null]);
   judge('a repair answers its request', [repair.answers, lost.lost, bad.kind, bad.refused], [1, true, 'bad', 'no datagram']);
   judge('what went by', wire.counts, { in: 3, out: 1, lost: 1, twice: 0, refused: 1, requests: 0, repairs: 1 });
+}
+
+/** What is told of a datagram, and how much of all is remembered. */
+function testWireBounds() {
+  const wire = new Wire(), came = (words, more = {}) => wire.came(datagramOf(words), { origin: NOWHERE, isLost: false, isSecond: false, ...more }, null);
+  const request = (seq) => `request 9 7 7/1 ${seq}`, repair = (seq) => datagramOf(`draw 7 7/1 ${seq} 11 line 0 0 1 1 *`);
+  came(request(1), { isLost: true });
+  came(request(2), { isSecond: true });
+  came(request(2));
+  wire.went(datagramOf(request(3)));
+  [1, 2, 3].forEach((seq) => wire.went(repair(seq)));
+  const told = wire.taken();
+  judge('a repair answers the first request that came or went, and none that was lost', told.map(({ kind, answers }) => [kind, answers]).slice(4), [['draw', null], ['draw', 2], ['draw', 4]]);
+  judge('a request answers none', told.slice(0, 4).map(({ answers }) => answers), [null, null, null, null]);
+  judge('what came twice is told, and counted', [told.map(({ twice }) => twice).slice(0, 3), wire.counts], [[false, true, false], { in: 3, out: 4, lost: 1, twice: 1, refused: 0, requests: 1, repairs: 2 }]);
+  judge('each is told once', wire.taken(), []);
+  came(`draw 7 7/1 9 11 text 0 1 "${'a'.repeat(500)}"`);
+  judge('a long one is cut', [wire.entries[0].words.length, wire.entries[0].words.endsWith('a ..')], [403, true]);
+  for (let seq = 10; seq < 10 + 1_024; seq += 1) came(request(seq));
+  judge('the last 600 wait to be told', [wire.entries.length, wire.entries.at(-1).name], [600, '7 7/1 1033']);
+  judge('the last requests are remembered', [wire.requests.size, wire.requests.has('7 7/1 2'), wire.requests.has('7 7/1 10')], [1_024, false, true]);
+  wire.learn('', 9);
+  judge('without a name there is no place', wire.places.size, 0);
+  for (let place = 0; place < 1_025; place += 1) wire.learn(`p${place}`, 9);
+  judge('of places no more than so many', [wire.places.size <= 1_024, wire.places.get('p1024')], [true, 9]);
 }
 
 function testPresence() {
@@ -194,13 +257,27 @@ async function testRecords() {
   record.add(FIRST_LINE, 'board 7 100 1 1', 'tick 5', 'datagram 00');
   record.note('started');
   judge('the lines of a record', actsOf(await record.lines()), ['board 7 100 1 1', 'tick 5', 'datagram 00']);
+  judge('an empty line is none of them', actsOf(['', 'tick 5', '# a note']), ['tick 5']);
   judge('a line that is kept at once', [await record.keep(['tick 9', 'say draw']), (await record.lines()).at(-1)], [true, 'say draw']);
   judge('the version of a record', [FIRST_LINE, '# wb record 2', '# constants 2,2,1,1 for 1 members', 'board 7 100 1 1'].map(isLater), [false, true, false, false]);
   const broken = new Record(/** @type {any} */ ({ transaction: () => { throw new Error('no room'); } }), 'here', 7);
   broken.add('board 7 100 1 1');
+  judge('what is added is written soon', broken.timer !== 0, true);
+  clearTimeout(broken.timer);
+  broken.timer = 0;
   judge('a record that can\u2019t be written', [await broken.keep(['say draw']), broken.waiting, broken.fault], [false, ['board 7 100 1 1'], "the record can't be written (no room)"]);
+  judge('is tried again', broken.timer !== 0, true);
+  clearTimeout(broken.timer);
+  const parts = [];
+  broken.put = async (part, lines) => {
+    if (!parts.length) broken.waiting.push('tick 7');
+    parts.push([part, lines]);
+  };
+  judge('once it can, it has all, and what comes meanwhile later', [await broken.keep(['tick 5']), broken.waiting, broken.fault], [true, ['tick 7'], '']);
+  await broken.flush();
+  judge('each line in one part', [parts, broken.waiting], [[[0, ['board 7 100 1 1', 'tick 5']], [1, ['tick 7']]], []]);
 }
 
-const TESTS = [testBlocks, testWords, testDatagrams, testEchoes, testDrawn, testInvitations, testSeal, testEnvelope, testSealed, testCounters, testPackets, testBrokers, testInbox, testWire,
-  testPresence, testPresences, testAlarms, testRecords, testTold, testTable, testJudging];
+const TESTS = [testBlocks, testWords, testDatagrams, testEchoes, testDrawn, testInvitations, testSeal, testEnvelope, testSealed, testCounters, testPackets, testBrokers, testInbox, testWire, testWireBounds,
+  testPresence, testPresences, testAlarms, testRecords, testReported, testTable, testJudging];
 for (const each of TESTS) test(each.name.slice('test'.length), each);

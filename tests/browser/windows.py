@@ -6,7 +6,7 @@ import time
 from typing import Any
 
 from ..live.browser import PATIENCE, Browser, Page
-from ..page.sheets import BY_CELLS
+from ..ui.sheets import BY_CELLS
 
 # switches that keep a hidden page's clock going, which nobody's browser has
 FOR_TESTS_ALONE = ("--disable-background-timer-throttling", "--disable-renderer-backgrounding", "--disable-backgrounding-occluded-windows")
@@ -39,18 +39,18 @@ class Window:
         if size == PHONE:
             self.page.resize(*size, mobile=True)
 
-    def is_ready(self, seconds: float = 90.0) -> bool:
+    def is_ready(self, seconds: float = PATIENCE) -> bool:
         return self.page.wait("wb.session.hello.ready", seconds)
 
     def reload(self) -> bool:
         """Loads the page anew. Whether it comes to be ready."""
         self.page.value("window.isOld = true; 0")
         self.page.call("Page.reload")
-        return self.page.wait("!window.isOld && wb.session.hello.ready", 90.0)
+        return self.page.wait("!window.isOld && wb.session.hello.ready")
 
     def says(self, name: str, text: str) -> bool:
         """Whether an element of the page comes to have a text in it."""
-        return self.page.wait(f"document.getElementById({json.dumps(name)}).textContent.includes({json.dumps(text)})", 60.0)
+        return self.page.wait(f"document.getElementById({json.dumps(name)}).textContent.includes({json.dumps(text)})")
 
     @property
     def me(self) -> int:
@@ -88,13 +88,13 @@ class Window:
     def drawings(self) -> int:
         return int(self.page.value("wb.session.board.drawops.length"))
 
-    def shows(self, x: int, y: int, text: str, seconds: float = 60.0) -> bool:
+    def shows(self, x: int, y: int, text: str, seconds: float = PATIENCE) -> bool:
         """Whether a row comes to show a text from a column on."""
         return self.page.wait(f"(wb.session.board.rows[{y}] ?? '').padEnd(300).substr({x}, {len(text)}) === {json.dumps(text)}", seconds)
 
     def go_to(self, page: str) -> bool:
         self.page.value(f"wb.session.goToPage({json.dumps(page)}); 0")
-        return self.page.wait(f"wb.session.board.page === {json.dumps(page)}", 60.0)
+        return self.page.wait(f"wb.session.board.page === {json.dumps(page)}")
 
     def health(self) -> str:
         return str(self.page.value("document.getElementById('phrase').textContent"))
@@ -114,7 +114,7 @@ class Window:
             self.page.call("Target.setAutoAttach", autoAttach=False, **how)
 
 
-def agree(windows: list[Window], drawings: int, seconds: float) -> bool:
+def agree(windows: list[Window], drawings: int, seconds: float = 3 * PATIENCE) -> bool:
     """Whether all windows come to show the same rows of so many drawings."""
     end = time.monotonic() + seconds
     while time.monotonic() < end:

@@ -13,20 +13,23 @@ POLICY = "; ".join([
     "default-src 'none'", "script-src 'self' 'wasm-unsafe-eval'", "style-src 'self'", "img-src 'self' data: blob:", "connect-src 'self' ws: wss:",
     "worker-src 'self'", "manifest-src 'self'", "base-uri 'none'", "form-action 'self'"])
 
+# where the scripts stand: the page that people see, and the member in a browser
+UI, MEMBER = "live/ui", "web/member"
+
 # what stands elsewhere in the folder, or not at all
 ELSEWHERE = ("index.html", "service.js", "package.json")
 
-# parts of live's page that are for a member behind HTTP
+# parts of the page that are for a member behind HTTP
 OF_HTTP = ("start.js", "connection.js")
 
-# lines of live's index.html, and what stands there instead
+# lines of the page's index.html, and what stands there instead
 EDITS = [
     ('<meta name="wb-token" content="__TOKEN__">\n',
      '<meta http-equiv="Content-Security-Policy" content="%s">\n<meta name="referrer" content="no-referrer">\n' % POLICY),
     ('<link rel="stylesheet" href="page/style.css">\n',
-     '<link rel="stylesheet" href="live/page/style.css">\n<link rel="stylesheet" href="web/page/panel.css">\n'
-     '<link rel="manifest" href="web/page/page.webmanifest">\n'),
-    ('<script type="module" src="page/start.js"></script>\n', '<script type="module" src="web/page/start.js"></script>\n'),
+     '<link rel="stylesheet" href="live/ui/style.css">\n<link rel="stylesheet" href="web/member/panel.css">\n'
+     '<link rel="manifest" href="web/member/page.webmanifest">\n'),
+    ('<script type="module" src="page/start.js"></script>\n', '<script type="module" src="web/member/start.js"></script>\n'),
 ]
 
 
@@ -35,11 +38,11 @@ class Changed(Exception):
 
 
 def index() -> str:
-    """The page: live's, with another start and a policy of its own."""
-    text = (TOP / "live" / "page" / "index.html").read_text()
+    """The page of live/ui, with another start and a policy of its own."""
+    text = (TOP / UI / "index.html").read_text()
     for old, new in EDITS:
         if text.count(old) != 1:
-            raise Changed("live/page/index.html has not one line %r" % old)
+            raise Changed("live/ui/index.html has not one line %r" % old)
         text = text.replace(old, new)
     return text
 
@@ -50,12 +53,12 @@ def digest(path: Path) -> str:
 
 def lay_files(folder: Path, module: Path) -> None:
     """The files that come from elsewhere as they are."""
-    for part in ("live", "web"):
-        (folder / part / "page").mkdir(parents=True)
-        for path in sorted((TOP / part / "page").iterdir()):
-            if path.is_file() and not path.name.endswith(".d.ts") and path.name not in (*ELSEWHERE, *(OF_HTTP if part == "live" else ())):
-                shutil.copyfile(path, folder / part / "page" / path.name)
-    shutil.copyfile(TOP / "web" / "page" / "service.js", folder / "service.js")
+    for part in (UI, MEMBER):
+        (folder / part).mkdir(parents=True)
+        for path in sorted((TOP / part).iterdir()):
+            if path.is_file() and not path.name.endswith(".d.ts") and path.name not in (*ELSEWHERE, *(OF_HTTP if part == UI else ())):
+                shutil.copyfile(path, folder / part / path.name)
+    shutil.copyfile(TOP / MEMBER / "service.js", folder / "service.js")
     for name in ("wb.wasm", "wb-any.wasm"):
         shutil.copyfile(module / name, folder / name)
 
@@ -68,7 +71,7 @@ def lay_folder(folder: Path, module: Path, built: dict[str, str]) -> int:
     (made / "index.html").write_text(index())
     modules = {path.name: digest(path) for path in sorted(made.glob("*.wasm"))}
     said = json.dumps({**built, "modules": modules}, indent=2)
-    (made / "web" / "page" / "built.js").write_text("/** Of what this folder was built. Written by the build. */\nexport const BUILT = %s;\n" % said)
+    (made / MEMBER / "built.js").write_text("/** Of what this folder was built. Written by the build. */\nexport const BUILT = %s;\n" % said)
     files = sorted(str(path.relative_to(made)) for path in made.rglob("*") if path.is_file() and path.name != "service.js")
     whole = hashlib.sha256("".join("%s %s\n" % (digest(made / name), name) for name in files).encode()).hexdigest()
     told = json.dumps({"build": whole[:16], "files": ["./", *files]}, indent=2)

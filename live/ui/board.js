@@ -1,0 +1,275 @@
+/** A board over any member: puts the parts of the page together. */
+import { nameOf } from './cells.js';
+import { listenToClipboard } from './clipboard.js';
+import { $, say, tell } from './dom.js';
+import { Faces } from './faces.js';
+import { Files } from './files.js';
+import { FilmBar } from './film.js';
+import { Hand, middleOf } from './hand.js';
+import { itemAt } from './inkfind.js';
+import { reachOf } from './eraser.js';
+import { keysOf } from './keymap.js';
+import { Keys } from './keys.js';
+import { Layout } from './layout.js';
+import { kindOf, showHealth, showHidden, showMembers, showWorse } from './members.js';
+import { NOTES, Notes } from './notes.js';
+import { Painter } from './painter.js';
+import { showPages } from './pages.js';
+import { makePalette } from './palette.js';
+import { Pen } from './pen.js';
+import { showPeople } from './people.js';
+import { Pointing } from './pointing.js';
+import { Presence } from './presence.js';
+import { showProof } from './proof.js';
+import { Session } from './session.js';
+import { Sight } from './sight.js';
+import { Side } from './side.js';
+import { State } from './state.js';
+import { Steps } from './steps.js';
+import { Style } from './style.js';
+import { Typing } from './typing.js';
+import { View } from './view.js';
+import { Welcome } from './welcome.js';
+import { Wire } from './wire.js';
+
+/** @typedef {import('./types.js').Member} Member */
+/** @typedef {import('./types.js').Drawing} Drawing */
+/** @typedef {import('./session.js').Taken} Taken */
+/** @typedef {import('./cells.js').Cell} Cell */
+
+/** If as many drawings come at once, they are not marked one by one. */
+const MANY = 200;
+
+export class Board {
+  /** @param {Member} member */
+  constructor(member) {
+    this.session = new Session(member);
+    this.painter = new Painter($('sheet').querySelector('canvas'));
+    this.view = new View($('sheet'), (size) => this.painter.measure(size));
+    this.layout = new Layout();
+    this.steps = new Steps(this.session);
+    this.ink = this.painter.ink;
+    this.notes = new Notes(this.session);
+    this.style = new Style(this);
+    this.pen = new Pen(this);
+    this.hand = new Hand(this);
+    this.painter.parts = this;
+    this.typing = new Typing(this);
+    this.pointing = new Pointing(this.view, this.hand);
+    this.wire = new Wire(this.session);
+    this.files = new Files(this);
+    this.presence = new Presence(this);
+    this.film = new FilmBar(this.session, this.painter);
+    this.sight = new Sight(this);
+    this.faces = new Faces(this);
+    this.side = new Side(this);
+    this.state = new State(this);
+    this.welcome = new Welcome(this);
+    this.openPalette = makePalette((glyph) => this.hand.setGlyph(glyph));
+    this.hasTurned = false;
+    /** The colours that members have chosen, as they were painted last. */
+    this.coloured = '';
+  }
+
+  /** Something that is seen has changed. */
+  change() {
+    this.showUnder();
+    this.painter.soon();
+    this.presence.soon();
+  }
+
+  // ---- what is under the hand
+
+  /** What a cell shows, in words.
+   * @param {Cell} cell */
+  describe(cell) {
+    const { session, layout, ink } = this, place = `${cell.x}, ${cell.y}`;
+    if (this.painter.isInk) {
+      const item = itemAt(ink.items, middleOf(cell), reachOf(this.view));
+      return item ? `${place}   ${kindOf(item.drawings[0])} by ${session.who(item.source)}` : place;
+    }
+    const drawing = this.hand.tool === 'restore' ? layout.hiddenAt(cell) : layout.drawingAt(cell);
+    return drawing ? `${place}   ${drawing.op} by ${session.who(drawing.source)}, number ${drawing.seq}, ${when(drawing.time)}` : place;
+  }
+
+  /** What stands at the foot: of ink who drew what is pointed at; of cells what is there, and how large it is that is begun. */
+  under() {
+    const { hand, ink, session } = this, cell = hand.at(), { gesture, point } = hand;
+    if (this.painter.isInk) {
+      const item = point && !gesture ? itemAt(ink.items, point, reachOf(this.view)) : undefined;
+      return item ? `${session.who(item.source)}, ${when(item.drawings[0].time)}` : '';
+    }
+    const size = gesture ? `   ${Math.abs(gesture.to.x - gesture.from.x) + 1} by ${Math.abs(gesture.to.y - gesture.from.y) + 1}` : '';
+    return cell ? this.describe(cell) + size : session.titleOf(session.board.page);
+  }
+
+  showUnder() {
+    const told = this.under();
+    if ($('under').textContent !== told) $('under').textContent = told;
+  }
+
+  // ---- what the member tells
+
+  /** @param {import('./types.js').Hello} hello */
+  takeHello(hello) {
+    $('notice').textContent = `${hello.notice} You are member ${hello.me}; ${hello.mode}.`;
+    showProof(hello.proof);
+  }
+
+  /** @param {import('./types.js').Board} board @param {Taken} taken */
+  takeBoard(board, taken) {
+    if (taken.isTurned) this.painter.cells.forget();
+    this.layout.take(board, taken);
+    this.ink.take(taken);
+    if (taken.isTurned) this.changePage(board);
+    else this.tellChange(taken);
+    $('hint').hidden = this.session.shown.size + this.session.erased.size > 0;
+    this.showText();
+    this.change();
+  }
+
+  /** The page as text, for who listens: its rows, and the letters of its inks. */
+  showText() {
+    const letters = [...this.ink.lettered].filter(({ kind }) => kind !== 'text').map((item) => item.letters), text = [...this.session.board.rows, ...letters].join('\n');
+    if ($('text').textContent !== text) $('text').textContent = text;
+  }
+
+  /** What others did is marked, and told.
+   * @param {Taken} taken */
+  tellChange({ gone, added }) {
+    const { hello: { me } } = this.session, drawn = added.filter(({ source }) => source !== me), many = gone.length - added.length;
+    if (drawn.length < MANY && !this.painter.isInk) drawn.forEach((drawing) => this.painter.cells.mark(drawing));
+    if (drawn.length === 1) say(`${this.session.who(drawn[0].source)} drew ${told(drawn[0])}`);
+    else if (drawn.length) say(`${drawn.length} drawings came`);
+    else if (many > 0) say(many === 1 ? 'a drawing was erased' : `${many} drawings were erased`);
+  }
+
+  /** Drops what was in hand on the page before, and shows all of the new one.
+   * @param {import('./types.js').Board} board */
+  changePage(board) {
+    this.hand.gesture = null;
+    this.sight.begin();
+    this.leaveNotes(board.page);
+    say(`${this.session.titleOf(board.page)}, ${board.drawops.length} drawings`);
+  }
+
+  /** The reserved page is turned to by wish alone: a newcomer may hear of it before any other.
+   * @param {string} page */
+  leaveNotes(page) {
+    if (page !== NOTES || this.hasTurned) return;
+    this.session.goToPage(this.session.leaves()[0]?.page ?? '1/1');
+  }
+
+  // ---- what the hand wishes
+
+  /** Where something is pasted: at what is pointed at, or near the corner.
+   * @returns {Cell} */
+  place() {
+    return this.hand.at() ?? { x: Math.max(0, Math.floor(this.view.left)) + 2, y: Math.max(0, Math.floor(this.view.top)) + 2 };
+  }
+
+  undo() {
+    if (!this.pen.undo()) this.steps.undo();
+  }
+
+  /** Erases all that the page shows, as one step. */
+  clear() {
+    const drawops = [...this.session.board.drawops];
+    if (!drawops.length || !confirm(`Clear the page for everyone? It takes ${drawops.length} drawings of room; Undo brings all back.`)) return;
+    this.hand.change([], drawops);
+  }
+
+  /** A double click edits the letters under it.
+   * @param {MouseEvent} event */
+  edit(event) {
+    if (!this.painter.isInk || event.target instanceof HTMLTextAreaElement || !['select', 'text'].includes(this.hand.tool)) return;
+    const item = itemAt(this.ink.items, this.view.pointAt(event), reachOf(this.view));
+    if (item && ['t', 'n', 'r', 'o', 'd'].includes(item.kind)) this.typing.edit(item);
+  }
+
+  /** Has the buttons, the keys and the system's wishes heard. */
+  listen() {
+    const keys = keysOf(this), undo = () => this.undo(), redo = () => this.steps.redo(), menu = ['clear', 'restore-tool', 'help', 'entitle'];
+    /** @type {Record<string, () => void>} */
+    const clicks = { glyph: this.openPalette, undo, redo, back: keys['['], forth: keys[']'], new: () => this.session.goToPage(null), help: keys['?'],
+      all: () => this.files.showAll(), file: () => $('files').showModal(), smaller: keys['-'], larger: keys['+'], clear: () => this.clear() };
+    menu.forEach((id) => $(id).addEventListener('click', () => $('files').close()));
+    for (const [id, act] of Object.entries(clicks)) $(id).addEventListener('click', () => act());
+    for (const button of document.querySelectorAll('[data-tool]')) {
+      button.addEventListener('click', () => this.hand.choose(/** @type {any} */ (button).dataset.tool));
+    }
+    // who clicked goes on at the sheet; who came by keys stays where he is. The row of style is made anew by a click in it, so this comes first
+    document.addEventListener('click', (event) => {
+      const is = /** @type {HTMLElement} */ (event.target).closest?.('[data-tool], .pages button, #style button, #foot button:not(#state)');
+      if (event.detail && is && !document.querySelector('dialog[open]')) this.focusSheet();
+    }, true);
+    this.view.sheet.addEventListener('dblclick', (event) => this.edit(event));
+    listenToClipboard(this.hand, () => this.place());
+    new Keys(this.view, this.hand, this.pointing, { keys, undo, redo, describe: (cell) => this.describe(cell) });
+    addEventListener('beforeprint', () => this.sight.fitPrint());
+    this.painter.night.addEventListener('change', () => this.changeColours());
+    new ResizeObserver(() => this.view.resize()).observe($('sheet'));
+  }
+
+  focusSheet() {
+    this.view.sheet.focus(/** @type {FocusOptions} */ ({ preventScroll: true, focusVisible: false }));
+  }
+
+  /** If somebody has chosen another colour, all is painted again.
+   * @param {Map<number, number>} colours */
+  takeColours(colours) {
+    const told = JSON.stringify([...colours]);
+    if (told !== this.coloured) this.painter.repaint();
+    this.coloured = told;
+  }
+
+  /** It has become day or night: all that has the colour of a member is shown anew. */
+  changeColours() {
+    this.painter.readColours();
+    this.session.emit('notes', this.notes.told);
+    this.film.paint();
+    this.style.show();
+  }
+
+  begin() {
+    const { session } = this;
+    session.on('hello', (hello) => this.takeHello(hello));
+    session.on('board', (board, taken) => this.takeBoard(board, taken));
+    session.on('link', (is) => is || say('Offline: what you draw is not sent'));
+    session.on('ghosts', () => this.painter.soon());
+    session.on('notes', ({ colours }) => this.takeColours(colours));
+    session.on('fault', tell);
+    this.ink.changed = () => { this.sight.show(); this.showText(); };
+    for (const show of [showPeople, showMembers, showHealth, showHidden, showWorse]) show(this);
+    showPages(session);
+    this.listen();
+    this.hand.choose('pen');
+    this.view.fit();
+    this.focusSheet();
+    session.begin();
+  }
+}
+
+/** A drawing in words, for those who listen.
+ * @param {Drawing} drawing */
+function told(drawing) {
+  const kind = kindOf(drawing);
+  if (drawing.op === 'text') return kind.startsWith('“') ? `a text: ${kind}` : `a ${kind}`;
+  return `a ${drawing.op} at ${drawing.x0}, ${drawing.y0}`;
+}
+
+/** When a drawing was made; a number outside these years is shown as it is.
+ * @param {string} time microseconds of the day */
+function when(time) {
+  const date = new Date(Number(time) / 1000), isLikely = Number(date) > Date.UTC(2000, 0) && Number(date) < Date.UTC(2200, 0);
+  return isLikely ? date.toLocaleTimeString() : `time ${time}`;
+}
+
+/** Opens the board of a member in the page, and gives a handle on its parts for tests and for who looks in from a console.
+ * @param {Member} member */
+export function openBoard(member) {
+  const board = new Board(member);
+  Object.assign(globalThis, { wb: board });
+  board.begin();
+  return board;
+}

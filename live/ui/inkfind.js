@@ -1,0 +1,86 @@
+/** Which items are where: those that can leave a mark in a box, that are under a hand, and that lie in a rectangle. */
+import { isClosed, isStroke } from './ink.js';
+import { off } from './inkcurves.js';
+import { isLetters } from './inkfonts.js';
+import { boxOf } from './inkpaint.js';
+import { WIDTHS } from './inksigns.js';
+
+/** @typedef {import('./ink.js').Point} Point */
+/** @typedef {import('./inkitems.js').Item} Item */
+/** @typedef {import('./inkpaint.js').Box} Box */
+
+/** Within this many units of its border a frame leaves a mark, and of its line a line, with its head. */
+const BORDER = 200, BESIDE = 400;
+
+/** Items that lie up to this many units beyond a rectangle are within it still. */
+const BEYOND = 40;
+
+/** @type {(a: Box, b: Box) => boolean} */
+const overlap = (a, b) => a.x0 <= b.x1 && a.x1 >= b.x0 && a.y0 <= b.y1 && a.y1 >= b.y0;
+
+/** Whether an item can leave a mark in a box: what is only about it does not.
+ * @type {(item: Item, box: Box) => boolean} */
+export function meets(item, box) {
+  const own = boxOf(item), { kind, points, flag, letters } = item;
+  if (!overlap(own, box)) return false;
+  if (kind === 'frame' || (kind === 'r' && !(flag & 3) && !letters)) return !(box.x0 > own.x0 + BORDER && box.x1 < own.x1 - BORDER && box.y0 > own.y0 + BORDER && box.y1 < own.y1 - BORDER);
+  if ((kind === 'l' || kind === 'line') && points.length === 2 && !flag) {
+    const middle = { x: (box.x0 + box.x1) / 2, y: (box.y0 + box.y1) / 2 };
+    return off(middle, points[0], points[1]) < Math.hypot(box.x1 - box.x0, box.y1 - box.y0) / 2 + BESIDE;
+  }
+  return true;
+}
+
+/** The items that can leave a mark in a box, in the order of painting.
+ * @type {(items: Item[], box: Box) => Item[]} */
+export const itemsIn = (items, box) => items.filter((item) => meets(item, box));
+
+/** The items that lie in a rectangle as a whole.
+ * @type {(items: Item[], from: Point, to: Point) => Item[]} */
+export function itemsInside(items, from, to) {
+  const [left, right] = [Math.min(from.x, to.x) - BEYOND, Math.max(from.x, to.x) + BEYOND];
+  const [top, bottom] = [Math.min(from.y, to.y) - BEYOND, Math.max(from.y, to.y) + BEYOND];
+  return items.filter((item) => {
+    const { x0, y0, x1, y1 } = boxOf(item);
+    return x0 >= left && y0 >= top && x1 <= right && y1 <= bottom;
+  });
+}
+
+/** The parts of an item that a point is near to, by the places of their first points: of a stroke from lift to lift, else the whole.
+ * @type {(item: Item, at: Point, near: number) => number[]} */
+export function partsAt(item, at, near) {
+  const { kind, width } = item, box = boxOf(item);
+  if (at.x < box.x0 - near || at.x > box.x1 + near || at.y < box.y0 - near || at.y > box.y1 + near) return [];
+  const by = near + WIDTHS[width] * (kind === 'h' ? 1.2 : 0.5);
+  if (isLetters(item) || kind === 'n') return [0];
+  if (isClosed(kind) || kind === 'frame') return isInShape(item, at, by) ? [0] : [];
+  return strokesAt(item, at, by);
+}
+
+/** Whether a point is near to the border of a shape, or in one that is not empty.
+ * @type {(item: Item, at: Point, by: number) => boolean} */
+function isInShape({ kind, points: [a, b], flag, letters }, at, by) {
+  const [wide, high] = [Math.abs(a.x - b.x) / 2 || 1, Math.abs(a.y - b.y) / 2 || 1], [dx, dy] = [Math.abs(at.x - (a.x + b.x) / 2), Math.abs(at.y - (a.y + b.y) / 2)];
+  // how far the point is inside the border, about
+  const inside = kind === 'o' ? (1 - Math.hypot(dx / wide, dy / high)) * Math.min(wide, high)
+    : kind === 'd' ? (1 - dx / wide - dy / high) * ((wide * high) / Math.hypot(wide, high)) : Math.min(wide - dx, high - dy);
+  const isEmpty = !(flag & 3) && !letters;
+  return inside > -by && (!isEmpty || inside < by);
+}
+
+/** @type {(item: Item, at: Point, by: number) => number[]} */
+function strokesAt({ kind, points }, at, by) {
+  /** @type {Set<number>} */
+  const found = new Set(), isBent = kind === 'l' && points.length === 3, way = isBent ? [points[0], points[2], points[1]] : points;
+  let start = 0;
+  way.forEach((point, i) => {
+    if (point.up) start = i;
+    const next = way[i + 1];
+    if (off(at, point, next && !next.up ? next : point) < by) found.add(isStroke(kind) ? start : 0);
+  });
+  return [...found];
+}
+
+/** The item on top at a point.
+ * @type {(items: Item[], at: Point, near: number) => Item | undefined} */
+export const itemAt = (items, at, near) => items.findLast((item) => partsAt(item, at, near).length > 0);

@@ -1,0 +1,82 @@
+/** Letters of inks on a canvas: their fonts, their lines, and how wide they are. */
+import { isClosed } from './ink.js';
+import { CELL_HIGH, CELL_WIDE, SIZES } from './inksigns.js';
+
+/** @typedef {import('./ink.js').Point} Point */
+/** @typedef {import('./inkitems.js').Item} Item */
+
+export const SANS = 'system-ui, "Segoe UI", Roboto, "Helvetica Neue", "Noto Sans", "DejaVu Sans", sans-serif';
+const SERIF = '"STIX Two Text", Cambria, Georgia, "Liberation Serif", "DejaVu Serif", serif';
+export const MONO = 'ui-monospace, "Cascadia Mono", "SF Mono", Menlo, Consolas, "DejaVu Sans Mono", monospace';
+
+/** Of letters in shapes the size; how many times as high a line is as they are large; letters of cells, in units. */
+export const IN_SHAPES = 2, LEADING = 1.28, OF_CELLS = 106;
+
+/** Units that a note, and another shape, keep free at both sides together. */
+const FREE = { note: 110, shape: 70 };
+
+/** Of which font letters are: 0 plain, 1 of one width, 2 a formula.
+ * @type {(font: number, size: number) => string} */
+export const fontOf = (font, size) => (font === 2 ? `italic ${size}px ${SERIF}` : `${size}px ${font === 1 ? MONO : SANS}`);
+
+/** @type {CanvasRenderingContext2D | null} */
+let ruler = null;
+
+/** How wide a line of letters is, in the units of its size.
+ * @type {(line: string, font: number, size: number) => number} */
+export function widthOf(line, font, size) {
+  ruler ??= /** @type {CanvasRenderingContext2D} */ (document.createElement('canvas').getContext('2d'));
+  ruler.font = fontOf(font, size);
+  return ruler.measureText(line).width;
+}
+
+/** The lines of letters, broken at spaces where they would be wider.
+ * @type {(letters: string, wide: number, font: number, size: number) => string[]} */
+function broken(letters, wide, font, size) {
+  return letters.split('\n').flatMap((row) => {
+    const lines = [''];
+    for (const word of row.split(/(?<= )/)) {
+      const line = lines[lines.length - 1];
+      if (line && widthOf(line + word.trimEnd(), font, size) > wide) lines.push(word);
+      else lines[lines.length - 1] += word;
+    }
+    return lines;
+  });
+}
+
+/** @type {WeakMap<Item, string[]>} */
+const known = new WeakMap();
+
+/** The lines in which the letters of an item are written.
+ * @type {(item: Item) => string[]} */
+export function linesOf(item) {
+  const found = known.get(item), [a, b] = item.points;
+  if (found) return found;
+  const room = isClosed(item.kind) && Math.abs(a.x - b.x) - (item.kind === 'n' ? FREE.note : FREE.shape);
+  const lines = room === false ? item.letters.split('\n') : broken(item.letters, room, 0, SIZES[IN_SHAPES]);
+  known.set(item, lines);
+  return lines;
+}
+
+/** Whether an item is letters alone.
+ * @type {(item: { kind: string }) => boolean} */
+export const isLetters = ({ kind }) => kind === 't' || kind === 'k' || kind === 'text';
+
+/** How the letters of an item stand: their font and size, the upper left corner of the first line, or its upper middle.
+ * @type {(item: Item) => { font: number, size: number, x: number, y: number, isMiddle: boolean }} */
+export function standOf(item) {
+  const { kind, points: [a, b], width, flag } = item, size = SIZES[IN_SHAPES];
+  if (kind === 'text') return { font: 1, size: OF_CELLS, x: a.x, y: a.y + (CELL_HIGH - OF_CELLS * LEADING) / 2, isMiddle: false };
+  if (!isClosed(kind)) return { font: kind === 'k' ? 0 : flag, size: SIZES[width], x: a.x, y: a.y, isMiddle: false };
+  if (kind === 'n') return { font: 0, size, x: Math.min(a.x, b.x) + FREE.note / 2, y: Math.min(a.y, b.y) + 60 - size * 0.14, isMiddle: false };
+  return { font: 0, size, x: (a.x + b.x) / 2, y: (a.y + b.y) / 2 - (linesOf(item).length * size * LEADING) / 2, isMiddle: true };
+}
+
+/** The box about letters that stand by themselves.
+ * @type {(item: Item) => import('./inkpaint.js').Box} */
+export function boxOfLetters(item) {
+  const { points: [a], letters, kind } = item, { font, size } = standOf(item), lines = linesOf(item);
+  if (kind === 'text') return { x0: a.x, y0: a.y, x1: a.x + letters.length * CELL_WIDE, y1: a.y + CELL_HIGH };
+  const wide = Math.max(...lines.map((line) => widthOf(line, font, size)));
+  return { x0: a.x, y0: a.y, x1: a.x + wide, y1: a.y + lines.length * size * LEADING };
+}

@@ -1,0 +1,104 @@
+/** What is in hand, over the ink of the page: what is selected, touched, let go and not yet held, and begun. */
+import { reachOf } from './eraser.js';
+import { itemsOf } from './inkitems.js';
+import { boxOf } from './inkpaint.js';
+import { CELL_WIDE } from './inksigns.js';
+import { gripsOf } from './resizing.js';
+
+/** @typedef {import('./types.js').Shape} Shape */
+/** @typedef {import('./types.js').Drawing} Drawing */
+/** @typedef {import('./inkitems.js').Item} Item */
+/** @typedef {import('./ink.js').Point} Point */
+
+/** Points of the screen that a corner is wide; it makes what is selected larger or smaller. */
+const GRIP = 9;
+
+/** Hidden drawings that are shown where one is to be restored. */
+const MOST_HIDDEN = 1000;
+
+export class InkGhosts {
+  /** @param {import('./painter.js').Painter} painter */
+  constructor(painter) {
+    this.painter = painter;
+  }
+
+  /** A point of the screen, in units. */
+  get point() {
+    return CELL_WIDE / this.painter.parts.view.wide;
+  }
+
+  paint() {
+    const { hand, session, pen } = this.painter.parts, { colours } = this.painter, { gesture } = hand, { me } = session.hello;
+    if (hand.tool === 'restore') this.paintHidden(session.board.hidden.slice(-MOST_HIDDEN));
+    if (hand.selection.size) this.paintChosen(hand.chosenItems());
+    if (gesture?.touched) this.paintItems([...gesture.touched.keys()], colours.bad);
+    this.paintShapes([...session.waiting].map(({ ghost }) => ghost), me);
+    this.paintShapes(pen.ghosts(), me);
+    this.paintShapes(hand.ghosts(), me);
+    if (gesture?.tool === 'select' && !gesture.isMove) this.paintBox(gesture.points[0], gesture.points[gesture.points.length - 1]);
+    if (hand.cursor.on) this.painter.cells.paintPointer();
+    else if (hand.point && hand.tool === 'erase') this.paintRubber(hand.point);
+  }
+
+  /** Shapes that are not held yet, as they will be.
+   * @param {Shape[]} shapes @param {number} source @param {string} [over] another colour */
+  paintShapes(shapes, source, over) {
+    if (!shapes.length) return;
+    this.paintItems(itemsOf(shapes.map((shape, i) => ({ ...shape, source, seq: i + 1, time: String(i + 1) }))), over);
+  }
+
+  /** @param {Item[]} items @param {string} [over] */
+  paintItems(items, over) {
+    const { ink, parts: { view: { wide } } } = this.painter;
+    this.painter.inUnits((brush) => items.forEach((item) => ink.paints.paint(brush, item, { wide, over })));
+  }
+
+  /** @param {Drawing[]} hidden */
+  paintHidden(hidden) {
+    const { brush, colours } = this.painter;
+    brush.globalAlpha = 0.4;
+    this.paintItems(itemsOf(hidden), colours.quiet);
+    brush.globalAlpha = 1;
+  }
+
+  /** A frame about each item that is selected, and the corners that make them larger or smaller.
+   * @param {Item[]} items */
+  paintChosen(items) {
+    const { colours } = this.painter, { point } = this, side = GRIP * point;
+    this.painter.inUnits((brush) => {
+      brush.strokeStyle = colours.accent;
+      brush.fillStyle = colours.paper;
+      brush.lineWidth = 1.5 * point;
+      for (const { x0, y0, x1, y1 } of items.map(boxOf)) brush.strokeRect(x0, y0, x1 - x0, y1 - y0);
+      for (const { at: { x, y } } of gripsOf(items)) {
+        brush.fillRect(x - side / 2, y - side / 2, side, side);
+        brush.strokeRect(x - side / 2, y - side / 2, side, side);
+      }
+    });
+  }
+
+  /** The rectangle of a selection.
+   * @param {Point} a @param {Point} b */
+  paintBox(a, b) {
+    this.painter.inUnits((brush) => {
+      brush.fillStyle = brush.strokeStyle = this.painter.colours.accent;
+      brush.lineWidth = this.point;
+      brush.globalAlpha = 0.08;
+      brush.fillRect(a.x, a.y, b.x - a.x, b.y - a.y);
+      brush.globalAlpha = 1;
+      brush.strokeRect(a.x, a.y, b.x - a.x, b.y - a.y);
+    });
+  }
+
+  /** What the eraser reaches.
+   * @param {Point} at */
+  paintRubber(at) {
+    this.painter.inUnits((brush) => {
+      brush.beginPath();
+      brush.arc(at.x, at.y, reachOf(this.painter.parts.view), 0, 2 * Math.PI);
+      brush.strokeStyle = this.painter.colours.quiet;
+      brush.lineWidth = 1.2 * this.point;
+      brush.stroke();
+    });
+  }
+}

@@ -1,0 +1,105 @@
+/** The paths of items, in units, as SVG writes them: a canvas makes a path of its own of each. */
+import { isClosed, isStroke } from './ink.js';
+import { along, bend } from './inkcurves.js';
+import { WIDTHS } from './inksigns.js';
+
+/** @typedef {import('./ink.js').Point} Point */
+/** @typedef {import('./inkitems.js').Item} Item */
+
+/** The corners of a stroke of cells are cut by this many units at most. */
+const CUT = 200;
+
+/** Heads of arrows: how long at least, by how many widths, and how far to each side, in radians. */
+const HEAD = { least: 70, widths: 4.2, side: 0.48 };
+
+/** The corners of frames and of notes, in units. */
+const ROUND = { frame: 64, note: 24 };
+
+/** Pieces of a step whose width changes by pressure. */
+const PIECES = 6;
+
+/** A number of a path, to a tenth of a unit.
+ * @type {(n: number) => number} */
+export const tenth = (n) => Math.round(n * 10) / 10;
+
+/** @type {(word: string, ...points: Point[]) => string} */
+const part = (word, ...points) => word + points.map(({ x, y }) => `${tenth(x)} ${tenth(y)}`).join(' ');
+
+/** The path of an item. Each stroke of it begins with an M.
+ * @type {(item: Item) => string} */
+export function wayOf(item) {
+  const { kind, points } = item;
+  if (isStroke(kind)) return strokes(points);
+  if (kind === 'line' && points.length > 2) return cut(points);
+  return kind === 'l' || kind === 'line' ? lined(item) : closed(item);
+}
+
+/** @type {(points: Point[]) => string} */
+function strokes(points) {
+  return points.map((point, i) => {
+    const next = points[i + 1], isFirst = i === 0 || point.up, isLast = !next || next.up;
+    // a point alone is a dot
+    const start = isFirst ? part('M', point) + (isLast ? part('L', { x: point.x + 0.5, y: point.y }) : '') : '';
+    return isLast ? start : start + part('C', ...bend(points, i), next);
+  }).join('');
+}
+
+/** A stroke of cells, its corners cut: they are those of cells, and not of the hand.
+ * @type {(points: Point[]) => string} */
+function cut(points) {
+  const last = points.length - 1;
+  /** @type {(at: Point, to: Point) => Point} */
+  const towards = (at, to) => {
+    const share = Math.min(0.5, CUT / (Math.hypot(to.x - at.x, to.y - at.y) || 1));
+    return { x: at.x + (to.x - at.x) * share, y: at.y + (to.y - at.y) * share };
+  };
+  const bends = points.slice(1, last).map((at, i) => part('L', towards(at, points[i])) + part('Q', at, towards(at, points[i + 2])));
+  return part('M', points[0]) + bends.join('') + part('L', points[last]);
+}
+
+/** A line or an arrow; of three points the last is passed on the way.
+ * @type {(item: Item) => string} */
+function lined({ kind, points: [a, b, over], width, flag }) {
+  const way = over && { x: 2 * over.x - (a.x + b.x) / 2, y: 2 * over.y - (a.y + b.y) / 2 }, isDot = a.x === b.x && a.y === b.y;
+  const line = part('M', a) + (way ? part('Q', way, b) : part('L', isDot ? { x: b.x + 0.5, y: b.y } : b));
+  const atEnd = flag & 1 ? head(b, way ?? a, width) : '', atStart = kind === 'l' && flag & 2 ? head(a, way ?? b, width) : '';
+  return line + atEnd + atStart;
+}
+
+/** @type {(tip: Point, from: Point, width: number) => string} */
+function head(tip, from, width) {
+  const angle = Math.atan2(tip.y - from.y, tip.x - from.x), size = Math.max(HEAD.least, WIDTHS[width] * HEAD.widths);
+  return [-HEAD.side, HEAD.side].map((side) => part('M', tip)
+    + part('L', { x: tip.x - size * Math.cos(angle + side), y: tip.y - size * Math.sin(angle + side) })).join('');
+}
+
+/** A frame, an ellipse, a diamond or a note.
+ * @type {(item: Item) => string} */
+function closed({ kind, points: [a, b] }) {
+  const [x, y, w, h] = [Math.min(a.x, b.x), Math.min(a.y, b.y), Math.abs(a.x - b.x), Math.abs(a.y - b.y)], [mx, my] = [x + w / 2, y + h / 2];
+  if (kind === 'o') return `M${x} ${my}A${w / 2} ${h / 2} 0 1 1 ${x + w} ${my}A${w / 2} ${h / 2} 0 1 1 ${x} ${my}Z`;
+  if (kind === 'd') return `M${mx} ${y}L${x + w} ${my}L${mx} ${y + h}L${x} ${my}Z`;
+  const r = Math.min(kind === 'n' ? ROUND.note : kind === 'frame' ? 0 : ROUND.frame, w / 2, h / 2);
+  return `M${x + r} ${y}h${w - 2 * r}a${r} ${r} 0 0 1 ${r} ${r}v${h - 2 * r}a${r} ${r} 0 0 1 ${-r} ${r}h${2 * r - w}a${r} ${r} 0 0 1 ${-r} ${-r}v${2 * r - h}a${r} ${r} 0 0 1 ${r} ${-r}Z`;
+}
+
+/** The straight pieces of a stroke whose width changes by pressure, each as wide as the pen is pressed at its end.
+ * @type {(item: Item) => { from: Point, to: Point, wide: number }[]} */
+export function piecesOf({ points, width }) {
+  const wideAt = (/** @type {Point} */ { pressure = 0.5 }) => WIDTHS[width] * (0.4 + 1.2 * pressure);
+  return points.flatMap((a, i) => {
+    const b = points[i + 1];
+    if (!b || b.up) return i === 0 || a.up ? [{ from: a, to: { x: a.x + 0.5, y: a.y }, wide: wideAt(a) }] : [];
+    const [c, d] = bend(points, i), at = Array.from({ length: PIECES + 1 }, (_, k) => along(a, c, d, b, k / PIECES));
+    return at.slice(1).map((to, k) => ({ from: at[k], to, wide: wideAt(a) + ((wideAt(b) - wideAt(a)) * (k + 1)) / PIECES }));
+  });
+}
+
+/** Of how many units the dashes and the gaps of a line are, or none.
+ * @type {(item: Item) => number[]} */
+export function dashesOf({ kind, flag, width, points: [a, b], drawings: [drawing] }) {
+  if (kind === 'line') return drawing.op === 'line' && drawing.glyph === '.' ? [1, 40] : [];
+  const isDashed = Boolean(flag & 4) && (isClosed(kind) ? kind !== 'n' : kind === 'l' && Math.hypot(a.x - b.x, a.y - b.y) < 60_000);
+  return isDashed ? [WIDTHS[width] * 3.2, WIDTHS[width] * 2.6] : [];
+}
+

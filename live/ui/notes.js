@@ -1,0 +1,143 @@
+/** Names of members, titles of pages, and what is said: texts on a page that a convention reserves (docs/WORDS.md), which is named,
+ * repaired and recorded as every other. */
+import { SIDE, spell } from './cells.js';
+import { inTexts, readLetters, writeLetters } from './inkletters.js';
+import { TILDE } from './inksigns.js';
+
+/** @typedef {import('./types.js').Drawing} Drawing */
+/** What was said, by whom and when.
+ * @typedef {{ source: number, seq: number, time: string, text: string }} Said */
+/** The names and the colours of members, the titles of pages, what was said, the first free row, and the session in which the board goes on,
+ * with who said so.
+ * @typedef {{ names: Map<number, string>, colours: Map<number, number>, titles: Map<string, string>, said: Said[], row: number,
+ *   next: { session: string, source: number } | null }} Noted */
+
+/** The page that is reserved. */
+export const NOTES = '0/0';
+
+/** Letters of a name and of a title. */
+export const MOST_NAME = 24, MOST_TITLE = 36;
+
+/** The name of a session in which a board goes on. */
+export const NEXT = /^[A-Za-z0-9._-]{1,40}$/;
+
+/** The first word of a text of this page, whether what follows is in signs, as the letters of ink are, and what follows. */
+const WORD = /^([^\s~]+)(~?) ?(.*)$/;
+
+/** What is seen by nobody, or would turn the order of the letters about it; two of these join letters. */
+const UNSEEN = /[^\P{C}\u200c\u200d]/gu;
+
+/** Letters on one line, as they are shown.
+ * @type {(letters: string) => string} */
+export const shownOf = (letters) => letters.normalize('NFC').replace(/\s+/g, ' ').replace(UNSEEN, '').trim();
+
+/** The first letters of some.
+ * @type {(letters: string, many: number) => string} */
+const firstOf = (letters, many) => [...letters].slice(0, many).join('');
+
+/** What the texts of the reserved page say, the later ones over the earlier: a member names itself alone and chooses its own colour; anyone
+ * entitles a page, and says where the board goes on.
+ * @param {Drawing[]} drawops in the order of painting
+ * @returns {Noted} */
+export function readNotes(drawops) {
+  /** @type {Noted} */
+  const told = { names: new Map(), colours: new Map(), titles: new Map(), said: [], row: 0, next: null };
+  for (const drawing of drawops) {
+    if (drawing.op !== 'text') continue;
+    const { source, seq, time, text } = drawing, [, word = '', tilde = '', rest = ''] = WORD.exec(text) ?? [], [, page, title] = /^(\d+\/\d+) ?(.*)$/.exec(rest) ?? [];
+    const written = word === 'title' ? title ?? '' : rest, letters = tilde ? readLetters(written) : written, shown = shownOf(letters ?? '');
+    told.row = Math.max(told.row, drawing.y + 1);
+    if (letters === null) continue;
+    if (word === 'name') told.names.set(source, firstOf(shown, MOST_NAME));
+    if (word === 'title' && page) told.titles.set(page, firstOf(shown, MOST_TITLE));
+    if (word === 'say' && shown) told.said.push({ source, seq, time, text: shown });
+    if (tilde) continue;
+    if (word === 'colour' && /^[0-8]$/.test(rest)) told.colours.set(source, Number(rest));
+    if (word === 'colour' && rest === '') told.colours.delete(source);
+    if (word === 'next' && NEXT.test(rest)) told.next = { session: rest, source };
+  }
+  return told;
+}
+
+/** One or two letters for a member: of its name, else the last digits of its number.
+ * @type {(name: string | undefined, member: number) => string} */
+export function initialsOf(name, member) {
+  const words = (name ?? '').split(/[^\p{L}\p{M}\p{N}]+/u).filter(Boolean);
+  if (!words.length) return String(member).slice(-2);
+  return (words.length > 1 ? firstOf(words[0], 1) + firstOf(words[words.length - 1], 1) : firstOf(words[0], 2)).toUpperCase();
+}
+
+/** The texts that say letters behind a word and what is plain: as they stand, or in signs behind a tilde if one of them is not ASCII.
+ * @type {(word: string, head: string, letters: string) => string[]} */
+export function spoken(word, head, letters) {
+  const isPlain = /^[ -~]*$/.test(letters), first = `${word}${isPlain ? '' : TILDE} ${head}`;
+  return inTexts(first, isPlain ? [...letters] : writeLetters(letters), first);
+}
+
+export class Notes {
+  /** @param {import('./session.js').Session} session */
+  constructor(session) {
+    this.session = session;
+    this.told = readNotes([]);
+    this.drawn = -1;
+    session.on('pages', ({ pages }) => this.look(pages));
+    session.on('board', (board) => board.page === NOTES && this.take(board.drawops));
+  }
+
+  /** Reads the reserved page where something was drawn on it.
+   * @param {import('./types.js').Pages['pages']} pages */
+  async look(pages) {
+    const drawn = pages.find(({ page }) => page === NOTES)?.drawn ?? 0;
+    if (drawn === this.drawn) return;
+    this.drawn = drawn;
+    const board = drawn ? await this.session.member.read?.(NOTES) : null;
+    if (board) this.take(board.drawops);
+  }
+
+  /** @param {Drawing[]} drawops */
+  take(drawops) {
+    this.told = readNotes(drawops);
+    this.session.called = this.told.names;
+    this.session.titles = this.told.titles;
+    this.session.emit('notes', this.told);
+  }
+
+  /** Tells our name, as far as a text has room for it.
+   * @param {string} name */
+  name(name) {
+    return this.write(spoken('name', '', firstOf(shownOf(name), MOST_NAME))[0]);
+  }
+
+  /** @param {number} colour its place among the nine */
+  colour(colour) {
+    return this.write(`colour ${colour}`);
+  }
+
+  /** Says in which session the board goes on.
+   * @param {string} name */
+  goOn(name) {
+    return this.write(`next ${name}`);
+  }
+
+  /** @param {string} page @param {string} title */
+  entitle(page, title) {
+    return this.write(spoken('title', `${page} `, firstOf(shownOf(title), MOST_TITLE))[0]);
+  }
+
+  /** Says a text, in as many pieces as it takes.
+   * @param {string} text */
+  async say(text) {
+    const letters = shownOf(text);
+    for (const piece of letters ? spoken('say', '', letters) : []) await this.write(piece);
+  }
+
+  /** Writes a text on the reserved page, in the first row that is free.
+   * @param {string} text */
+  async write(text) {
+    const row = Math.min(this.told.row, SIDE - 1);
+    this.told.row += 1;
+    const answer = await this.session.member.draw(NOTES, spell({ op: 'text', x: 0, y: row, text }));
+    if (!answer.ok) this.session.emit('fault', `Not told: ${answer.fault}`);
+    return answer.ok;
+  }
+}

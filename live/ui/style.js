@@ -1,0 +1,107 @@
+/** The colours, widths and letters that are chosen, and the row that offers them. */
+import { BRIGHT, COLOURS, DAY, NIGHT, OFFERED } from './colours.js';
+import { $, make, say } from './dom.js';
+import { OWN } from './inksigns.js';
+
+/** What is drawn with: a colour and a width; of the highlighter and of notes a colour, and of the highlighter a width; of letters the size and
+ * the font; whether lines are dashed, and how shapes are filled.
+ * @typedef {{ colour: number, width: number, bright: number, broad: number, size: number, font: number, isDashed: boolean, fill: number }} Look */
+
+/** Where the page keeps it. */
+const KEPT = 'wb-style';
+
+/** @type {Look} */
+const USUAL = { colour: 0, width: 2, bright: 3, broad: 6, size: 3, font: 0, isDashed: false, fill: 0 };
+
+/** The widths that are offered, of strokes and of the highlighter, and points of their marks. */
+const WIDTHS = [[1, 'fine'], [2, 'normal'], [4, 'thick'], [6, 'very thick']], BROAD = [[5, 'fine'], [6, 'normal'], [7, 'thick'], [8, 'very thick']], MARKS = [5, 8, 13, 19];
+
+/** The sizes and the fonts of letters. */
+const SIZES = [[1, 'S', 'small'], [3, 'M', 'middle'], [5, 'L', 'large'], [7, 'XL', 'very large']], FONTS = [[0, 'Aa', 'plain'], [2, 'x²', 'formula'], [1, '{}', 'code']];
+
+export class Style {
+  /** @param {import('./board.js').Board} board */
+  constructor(board) {
+    this.board = board;
+    /** @type {Look} */
+    this.look = { ...USUAL, ...JSON.parse(localStorage.getItem(KEPT) ?? '{}') };
+  }
+
+  /** @param {Partial<Look>} change */
+  set(change) {
+    this.board.pen.flush();
+    Object.assign(this.look, change);
+    localStorage.setItem(KEPT, JSON.stringify(this.look));
+    this.show();
+  }
+
+  /** Chooses a colour for the tool in hand: of the highlighter and of notes it is another.
+   * @param {number} colour */
+  setColour(colour) {
+    this.set(this.isBright() ? { bright: colour } : { colour });
+  }
+
+  isBright() {
+    return ['marker', 'note'].includes(this.board.hand.tool);
+  }
+
+  /** @param {number} colour */
+  tintOf(colour) {
+    const { painter, session } = this.board;
+    return colour === OWN ? painter.tintOf(session.hello.me) : (painter.isNight() ? NIGHT : DAY)[colour];
+  }
+
+  /** @param {number} colour */
+  brightOf(colour) {
+    return BRIGHT[colour] ?? this.tintOf(colour);
+  }
+
+  /** Shows what can be chosen for the tool in hand. */
+  show() {
+    const { look } = this, bar = $('style'), isBright = this.isBright(), isMarker = this.board.hand.tool === 'marker';
+    /** @param {string} row @param {any[]} buttons */
+    const fill = (row, buttons) => refill(bar.querySelector(row), buttons);
+    fill('.colours', OFFERED.map((colour) => {
+      const button = radio(COLOURS[colour], colour === (isBright ? look.bright : look.colour), () => this.setColour(colour));
+      button.style.setProperty('--c', isBright ? BRIGHT[colour] : this.tintOf(colour));
+      return button;
+    }));
+    fill('.widths', (isMarker ? BROAD : WIDTHS).map(([width, name], i) => {
+      const button = radio(String(name), width === (isMarker ? look.broad : look.width), () => this.set(isMarker ? { broad: Number(width) } : { width: Number(width) }));
+      button.style.setProperty('--w', `${MARKS[i]}px`);
+      return button;
+    }));
+    fill('.fonts', [...SIZES.map(([size, text, name]) => radio(String(name), look.size === size, () => this.set({ size: Number(size) }), text)),
+      ...FONTS.map(([font, text, name]) => radio(String(name), look.font === font, () => this.set({ font: Number(font) }), text))]);
+    fill('.looks', [toggle('dashed', '┄', look.isDashed, () => this.set({ isDashed: !look.isDashed })),
+      toggle('filled', '▨', look.fill > 0, () => this.set({ fill: look.fill ? 0 : 1 }))]);
+  }
+}
+
+/** Puts other buttons into a row. If one of this name had the focus, it has it again.
+ * @type {(row: any, buttons: any[]) => void} */
+export function refill(row, buttons) {
+  const name = row.contains(document.activeElement) ? document.activeElement?.getAttribute('aria-label') : null;
+  row.replaceChildren(...buttons);
+  if (name) buttons.find((button) => button.getAttribute('aria-label') === name)?.focus();
+}
+
+/** A button of which one of a row is chosen.
+ * @type {(name: string, is: boolean, act: () => void, text?: string | number) => any} */
+export function radio(name, is, act, text = '') {
+  const button = Object.assign(make('button', String(text)), { type: 'button', title: name });
+  button.setAttribute('role', 'radio');
+  button.setAttribute('aria-label', name);
+  button.setAttribute('aria-checked', String(is));
+  button.addEventListener('click', () => { act(); say(name); });
+  return button;
+}
+
+/** @type {(name: string, text: string, is: boolean, act: () => void) => any} */
+function toggle(name, text, is, act) {
+  const button = Object.assign(make('button', text), { type: 'button', title: name });
+  button.setAttribute('aria-label', name);
+  button.setAttribute('aria-pressed', String(is));
+  button.addEventListener('click', act);
+  return button;
+}

@@ -1,0 +1,82 @@
+/** One's name and colour, which are asked for once. */
+import { COLOURS, FOR_MEMBERS } from './colours.js';
+import { $ } from './dom.js';
+import { shownOf } from './notes.js';
+import { radio, refill } from './style.js';
+
+/** Where the page keeps them, and that they are not to be asked for. */
+const NAME = 'wb-name', COLOUR = 'wb-colour', ASKED = 'wb-asked';
+
+/** Milliseconds from the first page to the question: until then the names have come. */
+const PAUSE = 700;
+
+export class Welcome {
+  /** @param {import('./board.js').Board} board */
+  constructor(board) {
+    this.board = board;
+    this.colour = 0;
+    this.isBegun = false;
+    board.session.on('board', () => this.begin());
+    board.session.on('film', () => { this.isBegun = true; });
+    $('welcome').addEventListener('close', () => this.take());
+    $('my-name').addEventListener('click', () => this.ask());
+  }
+
+  /** The first page is there: who has no name is asked, or tells the one of the last time. */
+  begin() {
+    const { session } = this.board, kept = localStorage.getItem(NAME);
+    if (this.isBegun) return;
+    this.isBegun = true;
+    setTimeout(() => {
+      if (session.called.get(session.hello.me) || this.board.film.film) return;
+      if (kept) this.tell(kept, Number(localStorage.getItem(COLOUR)));
+      else if (localStorage.getItem(ASKED) !== 'no' && !document.querySelector('dialog[open]')) this.ask();
+    }, PAUSE);
+  }
+
+  ask() {
+    const { session, notes } = this.board, { me } = session.hello;
+    this.colour = notes.told.colours.get(me) ?? this.free();
+    $('welcome-name').value = session.called.get(me) ?? localStorage.getItem(NAME) ?? '';
+    this.showColours();
+    $('welcome').returnValue = '';
+    $('welcome').showModal();
+    $('welcome-name').focus();
+  }
+
+  showColours() {
+    refill($('welcome-colours'), FOR_MEMBERS.map((colour) => {
+      const button = radio(COLOURS[colour], colour === this.colour, () => { this.colour = colour; this.showColours(); });
+      button.style.setProperty('--c', this.board.style.tintOf(colour));
+      return button;
+    }));
+  }
+
+  /** The first colour that no other of those here has chosen. */
+  free() {
+    const { faces, notes, session } = this.board, others = faces.members.filter(({ member }) => member !== session.hello.me);
+    const taken = new Set(others.map(({ member }) => notes.told.colours.get(member)));
+    return FOR_MEMBERS.find((colour) => !taken.has(colour)) ?? FOR_MEMBERS[0];
+  }
+
+  /** The form is closed. */
+  take() {
+    const name = shownOf($('welcome-name').value);
+    this.board.view.sheet.focus(/** @type {FocusOptions} */ ({ preventScroll: true, focusVisible: false }));
+    if ($('welcome').returnValue !== 'ok' || !name) {
+      localStorage.setItem(ASKED, 'no');
+      return;
+    }
+    localStorage.setItem(NAME, name);
+    localStorage.setItem(COLOUR, String(this.colour));
+    this.tell(name, this.colour);
+  }
+
+  /** Tells what is not told yet.
+   * @param {string} name @param {number} colour */
+  async tell(name, colour) {
+    const { notes, session } = this.board, { me } = session.hello;
+    if (session.called.get(me) !== name) await notes.name(name);
+    if (notes.told.colours.get(me) !== colour) await notes.colour(colour);
+  }
+}

@@ -1,0 +1,225 @@
+/** A member of a session: hands to the host what comes in and what is drawn, ticks when it says, sends what it answers. What it concludes
+ * beside its host stands in judging.js, what people do in people.js, and what it tells the board in telling.js. */
+import { Alarms } from './alarms.js';
+import { Board } from './board.js';
+import { hex, readDatagram, unhex } from './datagram.js';
+import { Drawn } from './drawn.js';
+import { HostEnded } from './host.js';
+import { Judging } from './judging.js';
+import { People } from './people.js';
+import { Presence, isAside, readGone } from './presence.js';
+import { Telling } from './telling.js';
+import { Wire } from './wire.js';
+
+/** The page of names, titles and the chat, which is not turned to by itself (docs/WORDS.md). */
+const NOTES = '0/0';
+
+/** A turn waits this many milliseconds at most. */
+const LONGEST_WAIT = 1_000;
+
+/** The longest datagram that every transport carries. */
+const MOST_BYTES = 65_507;
+
+/** What carries the datagrams of a member, and how many came that were not sealed by our key.
+ * @typedef {import('./transports.js').Transport & { foreign?: number }} Carrier */
+
+/** What a member is begun with: what its page says of it, and how its board starts.
+ * @typedef {{ notice: string, teach: boolean, start: import('./board.js').Start }} Options */
+
+export class Member {
+  /** @param {import('./host.js').Program} program @param {import('./record.js').Record} record @param {number} me
+   * @param {import('./inbox.js').Inbox} inbox takes what comes in
+   * @param {Carrier} transport @param {Options} options
+   * @param {(name: string, news: any) => void} post tells the board */
+  constructor(program, record, me, inbox, transport, options, post) {
+    this.me = me;
+    this.inbox = inbox;
+    this.transport = transport;
+    this.options = options;
+    this.page = '1/1';
+    this.hasTurned = false; // until then it goes where something is drawn
+    this.isReady = false;
+    this.isEnded = false;
+    this.isAwake = false;
+    this.drawn = new Drawn();
+    this.wire = new Wire();
+    this.alarms = new Alarms();
+    this.people = new People(this);
+    this.presence = new Presence((news) => post('presence', news));
+    this.telling = new Telling(this, post);
+    this.board = new Board(program, record, options.start, (drawop) => this.hold(drawop));
+    this.judging = /** @type {Judging} */ (/** @type {unknown} */ (null));
+    this.wake = () => { this.isAwake = true; };
+    inbox.wake = () => this.wake();
+  }
+
+  /** Starts the host. */
+  async open() {
+    await this.board.open(this.me);
+    this.judging = new Judging(this);
+  }
+
+  // ---- the loop
+
+  /** Goes on until it is ended, or its host can't be started again. */
+  async run() {
+    while (!this.isEnded) {
+      try {
+        await this.turn();
+      } catch (fault) {
+        if (!(fault instanceof HostEnded)) throw fault;
+        this.telling.isChanged = true;
+      }
+      await this.rest(this.pause());
+    }
+  }
+
+  async turn() {
+    const { calls } = this.people;
+    for (const call of calls.splice(0)) await call();
+    for (let arrival = this.inbox.next(); arrival; arrival = this.inbox.next()) {
+      await this.arrive(arrival);
+      if (calls.length) break;
+    }
+    await this.passTime();
+    await this.telling.tell();
+  }
+
+  /** What is due is done. */
+  async passTime() {
+    const now = this.board.clock();
+    for (const [moment, act] of this.judging.plan()) if (moment <= now) await act();
+  }
+
+  /** Milliseconds until the next thing that is due. */
+  pause() {
+    if (this.people.calls.length) return 0;
+    const until = (Math.min(...this.judging.plan().map(([moment]) => moment)) - this.board.clock()) / 1_000;
+    return Math.min(LONGEST_WAIT, Math.max(1, until), this.inbox.pause(), this.telling.pause());
+  }
+
+  /** Waits some milliseconds, or until something comes in.
+   * @param {number} pause */
+  rest(pause) {
+    if (this.isAwake || pause <= 0) {
+      this.isAwake = false;
+      return nextTask();
+    }
+    return new Promise((/** @type {(value?: any) => void} */ go) => {
+      const timer = setTimeout(() => this.wake(), pause);
+      this.wake = () => {
+        clearTimeout(timer);
+        this.wake = () => { this.isAwake = true; };
+        go();
+      };
+    });
+  }
+
+  // ---- what comes in
+
+  /** A datagram has come in: what no host hears of does not wait.
+   * @param {Uint8Array} bytes @param {import('./judge.js').Origin} origin */
+  take(bytes, origin) {
+    const gone = readGone(bytes);
+    if (!isAside(bytes)) this.inbox.take(bytes, origin);
+    else if (gone === null) this.presence.hear(bytes, this.me);
+    else {
+      const left = this.transport.goneBy(gone, origin);
+      if (left) this.judging?.judge.leave(left);
+    }
+  }
+
+  // ---- the host
+
+  /** The host does what is due. */
+  async tick() {
+    const block = await this.board.tell(`tick ${this.board.now()}`);
+    for (const digits of block.sent()) await this.send(digits);
+  }
+
+  /** The network was gone and is back: a host that starts from the record asks at once, without the waits that have grown. */
+  beginAgain() {
+    return this.people.call(async () => {
+      await this.board.beginAgain();
+      this.telling.isChanged = true;
+    });
+  }
+
+  /** @param {string} digits */
+  async send(digits) {
+    const { bytes, datagram } = this.judging.leaving(unhex(digits));
+    this.wire.went(datagram);
+    if (bytes.length <= MOST_BYTES) this.transport.send(bytes);
+    else this.alarms.warn(`a datagram of over ${MOST_BYTES} bytes can't be sent`);
+  }
+
+  /** The host has taken in a drawop.
+   * @param {import('./views.js').Drawop} drawop */
+  hold(drawop) {
+    if (!this.hasTurned && drawop.page !== NOTES && !this.drawn.count(this.page)) this.page = drawop.page;
+    this.drawn.add(drawop);
+    this.telling.isChanged ||= drawop.page === this.page;
+    this.telling.arePagesChanged = true;
+  }
+
+  /** Hands on a datagram that came in, tells what became of it, and sends what the host sends then.
+   * @param {import('./inbox.js').Arrival} arrival */
+  async arrive(arrival) {
+    const { bytes, origin, isLost } = arrival, datagram = readDatagram(bytes);
+    /** @type {string[]} */
+    const sent = [];
+    /** @type {string | null} */
+    let refused = null;
+    if (!isLost) refused = datagram ? await this.judging.heed(datagram, hex(bytes), origin, sent) : 'no datagram';
+    this.wire.came(datagram, arrival, refused);
+    for (const answer of sent) await this.send(answer);
+  }
+
+  // ---- what is done in a turn
+
+  /** From now on it may draw. */
+  async begin() {
+    this.isReady = true;
+    await this.people.begin();
+  }
+
+  /** Makes this the page in view.
+   * @param {string} page */
+  turnTo(page) {
+    this.page = page;
+    this.hasTurned = true;
+    this.telling.isChanged = true;
+  }
+
+  /** Goes on under another number, with all that is held.
+   * @param {number} me @param {import('./record.js').Record} record that of the number */
+  async renumber(me, record) {
+    await this.board.renumber(me, record, this.drawn.all(), this.judging.judge.strange);
+    this.me = me;
+    this.judging = new Judging(this);
+    this.telling.isChanged = true;
+    return { me };
+  }
+
+  /** Ends it: what it has is in the record then. */
+  async end() {
+    this.isEnded = true;
+    this.wake();
+    this.transport.end();
+    await this.board.record.flush();
+  }
+}
+
+const tasks = new MessageChannel();
+/** @type {(() => void)[]} */
+const waiting = [];
+tasks.port1.onmessage = () => waiting.shift()?.();
+
+/** The next turn of the event loop, after what has come in meanwhile.
+ * @returns {Promise<void>} */
+function nextTask() {
+  return new Promise((go) => {
+    waiting.push(go);
+    tasks.port2.postMessage(0);
+  });
+}

@@ -1,0 +1,41 @@
+/** The page: a board over a member of its own, in a worker. */
+import { openBoard } from '../../live/ui/board.js';
+import { tell } from '../../live/ui/dom.js';
+import { BUILT } from './built.js';
+import { readInvitation, writeInvitation } from './invitation.js';
+import { Panel } from './panel.js';
+import { WorkerMember } from './worker_member.js';
+
+const NOTICE = 'The board is kept by wb host, the proved program, compiled another way than it was proved for: for browsers. '
+  + 'This page, its network and its clock are not proved. Members are not authenticated: whoever has the invitation can draw, under any number.';
+
+/** The number that this tab had in a session, which lasts over a reload.
+ * @param {import('./invitation.js').Invitation} invitation */
+const placeOf = ({ session, broker }) => `wb ${location.pathname} ${broker} ${session}`;
+
+function begin() {
+  const invitation = readInvitation(location.hash), place = placeOf(invitation), kept = sessionStorage.getItem(place);
+  const folder = new URL('.', document.baseURI).href;
+  const worker = new WorkerMember({ folder, invitation, me: kept === null ? null : Number(kept), notice: NOTICE });
+  // a board that goes on is a session of another name, which the same broker carries under the same key
+  const member = Object.assign(worker, { next: async (/** @type {string} */ session) => ({ ok: true, address: writeInvitation({ ...invitation, session }) }) });
+  const board = openBoard(member), panel = new Panel(invitation, BUILT);
+  board.session.on('begun', ({ me, module }) => {
+    sessionStorage.setItem(place, String(me));
+    panel.begun(module);
+  });
+  board.session.on('health', (health) => panel.take(health));
+  board.session.on('broken', (fault) => panel.broke(fault));
+}
+
+try {
+  begin();
+} catch (fault) {
+  tell(`This address is no invitation: ${/** @type {Error} */ (fault).message}`);
+}
+
+// another invitation is another session
+addEventListener('hashchange', () => location.reload());
+
+// what is kept for a start without a network; where a browser does not allow it, the page does without
+navigator.serviceWorker?.register(new URL('service.js', document.baseURI), { updateViaCache: 'none' }).catch(() => {});
