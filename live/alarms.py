@@ -1,10 +1,10 @@
-"""Warnings: each is told for a time, and then goes."""
+"""Warnings: each is shown for a time, and then goes."""
 from __future__ import annotations
 
 import time
 from typing import Dict, List
 
-# seconds for which a warning is told after it was last given, and how many are told
+# seconds for which a warning is shown after it was last given, and how many are shown
 LASTS = 60.0
 MOST_TOLD = 8
 

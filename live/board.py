@@ -1,4 +1,4 @@
-"""A host that keeps itself, with its record: every drawing is in the record before its datagrams leave, and a host that ended starts
+"""A self-managing host, with its record: every drawing is in the record before its datagrams leave, and a host that ended starts
 from it."""
 from __future__ import annotations
 
@@ -17,7 +17,7 @@ from .views import Drawop, Name, Page, Report, page_text
 from .waiting import Waiting
 from .words import Words
 
-# is told each drawop that the host took in
+# gets each drawop that the host took in
 Listener = Callable[[Drawop], None]
 
 # the part of a page that is painted: the greatest canvas that a host gives
@@ -85,7 +85,7 @@ class Board:
         self.clock = Clock(self.moment + 1, self.options.speed)
 
     def start(self, listening: int = 0, waiting: Optional[Waiting] = None, lead: float = 0.0) -> List[Tuple[str, Block]]:
-        """Starts a host that keeps itself, after this part of the moments that the record leaves, and gives it the datagrams of the record, each
+        """Starts a self-managing host, after this part of the moments that the record leaves, and gives it the datagrams of the record, each
         with its block. A record that is shown has a host that keeps nothing."""
         held = held_of(self.program, [*self.record.acts(), *map(Act, self.unkept)])
         self.me, self.cells = map(int, held.board.split()[1:3])
@@ -124,7 +124,7 @@ class Board:
         return blocks
 
     def now(self) -> int:
-        """The present moment, above that of each line that was told."""
+        """The present moment, above that of each line so far."""
         return max(self.clock.now(), self.moment + 1)
 
     def tell_held(self, given: List[Tuple[str, Block]], waiting: Waiting) -> None:
@@ -253,7 +253,7 @@ class Board:
             self.is_broken = True
 
     def renumber(self, me: int, path: Optional[str], held: List[Drawop], strange: Set[Name]) -> None:
-        """Goes on under another number, with a record of its own and with all that was held; what of it no member gave is told. NoRoom,
+        """Goes on under another number, with a record of its own and with all that was held; returns what of it no member gave. NoRoom,
         RecordFault or OSError if there is no room for that record: then all stays as it is."""
         head = [FIRST_LINE, "board %d %d 1 %d" % (me, self.cells, secrets.randbits(64))]
         lines = [*head, "tick %d" % self.moment, *(drawop.words if drawop.name in strange else "datagram " + drawop.digits for drawop in held)]

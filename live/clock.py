@@ -7,7 +7,7 @@ SECOND = 1_000_000
 
 
 def wall() -> int:
-    """The time of day of this machine, in microseconds, by which drawings lie upon one another."""
+    """The time of day of this machine, in microseconds: the later drawing lies on top."""
     return time.time_ns() // 1000
 
 

@@ -1,4 +1,4 @@
-"""The connections of the page's server: so many at a time, each with a time for its request, and the oldest idle one goes first."""
+"""The connections of the page's server: a limited number at a time, each with a time for its request, and the oldest idle one goes first."""
 from __future__ import annotations
 
 import socket

@@ -97,11 +97,11 @@ class Drawn:
         return name[1] in self.pages and name in self.pages[name[1]].drawops
 
     def top(self, page: Page, source: int) -> int:
-        """The greatest number of a source that is held of a page; 0 where none is."""
+        """The greatest number of a source that is held of a page; 0 if there is none."""
         return self.pages[page].tops.get(source, 0) if page in self.pages else 0
 
     def lacking(self, page: Page, source: int, high: int) -> int:
-        """How many numbers of a source are lacking at least, if it has so many."""
+        """How many numbers of a source are lacking at least, if it has drawn as many."""
         return max(0, high - (self.pages[page].counts.get(source, 0) if page in self.pages else 0))
 
     def count(self, page: Page) -> int:

@@ -1,4 +1,4 @@
-"""What views are told: the newest state of each thing by its name, what changed on the page, and the datagrams as they went by.
+"""What views get: the newest state of each thing by its name, what changed on the page, and the datagrams as they went by.
 
 The member's thread tells; JSON of a whole page is made by the thread of a view that needs it, and once for all."""
 from __future__ import annotations
@@ -10,7 +10,7 @@ from typing import Any, Deque, Dict, List, Optional, Sequence, Tuple
 
 from .views import Drawop
 
-# in this order a view that begins is told; the page comes behind the first
+# a view that begins gets them in this order; the page comes after the first
 NAMES = ("hello", "pages", "members", "health")
 
 # what only some members tell
@@ -19,7 +19,7 @@ OTHERS = ("scenes", "film", "presence")
 # datagrams that a view which begins still sees
 MOST_ENTRIES = 200
 
-# changes of the page that are remembered: a view that is further behind is told the whole page
+# changes of the page that are remembered: a view that is further behind gets the whole page
 MOST_CHANGES = 256
 MOST_BYTES = 4 << 20
 
@@ -118,7 +118,7 @@ class Watcher:
         self.last_entry = 0
 
     def news(self) -> Tuple[News, Optional[Whole]]:
-        """What is new since, each with its name; and the whole page, where that has to be told. Nothing before all things have a state."""
+        """What is new since, each with its name; and the whole page, if that is needed. Nothing before all things have a state."""
         events, page = self.events, self.events.page
         if not all(name in events.states for name in NAMES) or page is None:
             return [], None
@@ -137,7 +137,7 @@ class Watcher:
         return news, page if is_whole else None
 
     def wait(self, seconds: float) -> Optional[News]:
-        """What is new, as soon as something is; nothing after so many seconds; None at the end."""
+        """What is new, as soon as something is; nothing after the seconds given; None at the end."""
         with self.events.changed:
             news, page = self.news()
             if not news and page is None and not self.events.is_ended:

@@ -11,7 +11,7 @@ from .words import Words
 # a longer pause of the record is shortened to this
 MOST_PAUSE = 5 * SECOND
 
-# scenes that are told; of more, some are left out
+# scenes that are shown; of more, some are left out
 MOST_SCENES = 2_000
 
 SPEEDS = (0.1, 100.0)
@@ -87,7 +87,7 @@ def drawops_of(film: Film, words: Words) -> List[Tuple[int, Drawop]]:
 
 
 def scenes_of(film: Film, words: Words) -> Dict[str, Any]:
-    """Who drew what when, in milliseconds. One that came behind a later one of its source was lost at first, or late."""
+    """Who drew what when, in milliseconds. One that came after a later one of its source was lost at first, or late."""
     tops: Dict[Any, int] = {}
     scenes: List[List[Any]] = []
     for time, drawop in drawops_of(film, words):

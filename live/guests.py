@@ -32,7 +32,7 @@ PATIENCE = 10.0
 # windows that look at one member at a time
 MOST_WINDOWS = 8
 
-# new members of one address: so many at once, and then one in each pause, in seconds
+# new members of one address: how many at once, and then one in each pause, in seconds
 MOST_NEW = 32
 NEW_PAUSE = 2.0
 
@@ -94,7 +94,7 @@ class Guest:
 
 
 class Guests:
-    """The members of browsers, at most so many, the one that came first in front."""
+    """The members of browsers, at most as many as are allowed, the one that came first in front."""
 
     def __init__(self, keeper: Member, hub: Hub) -> None:
         self.keeper = keeper
@@ -157,7 +157,7 @@ class Guests:
         return [guest for guest in self.guests.values() if guest.address == most] if count > counts[address] + 1 else []
 
     def hand_over(self, guest: Guest) -> None:
-        """Gives a new member all that is held, so that it has to ask for nothing. Where that takes too long, it asks."""
+        """Gives a new member all that is held, so that it has to ask for nothing. If that takes too long, it asks."""
         keeper = self.keeper
         try:
             held = keeper.people.call(keeper.judging.given).result(PATIENCE)

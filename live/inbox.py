@@ -13,7 +13,7 @@ from .carriers.carrier import Origin
 # how many datagrams wait; of more, the oldest is dropped
 MOST_WAITING = 2_048
 
-# the pace at which datagrams are taken in: so many a second, and so many bytes
+# the pace at which datagrams are taken in: how many a second, and how many bytes
 PACE = 2_000
 PACE_BYTES = 1 << 20
 
@@ -62,7 +62,7 @@ class Inbox:
         self.trouble = trouble
 
     def put(self, arrival: Arrival, delay: float) -> None:
-        """A datagram is due after so many seconds. What is for drivers alone does not wait."""
+        """A datagram is due after the seconds given. What is for drivers alone does not wait."""
         if arrival.data.startswith(ASIDE):
             if not arrival.is_lost:
                 self.aside(arrival.data, arrival.origin)
@@ -85,7 +85,7 @@ class Inbox:
     # ---- from the member
 
     def take(self, seconds: float) -> Tuple[List[Callable[[], None]], List[Arrival]]:
-        """The calls and the datagrams that are due. Waits for the first of them, so many seconds at most."""
+        """The calls and the datagrams that are due. Waits for the first of them, at most the seconds given."""
         end = time.monotonic() + seconds
         with self.changed:
             while True:

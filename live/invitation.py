@@ -1,5 +1,5 @@
 """A line that brings somebody into a session. Behind a `#`, which no server sees, it says what the address of a page in a browser says
-(`web/page/invitation.js`): the session, the broker and the key; and, of sessions that no browser reaches by itself, the group or the ports."""
+(`web/member/invitation.js`): the session, the broker and the key; and, of sessions that no browser reaches by itself, the group or the ports."""
 from __future__ import annotations
 
 import re
@@ -46,7 +46,7 @@ def login_in(name: str, password: str) -> Login:
 
 
 def read_broker(text: str) -> Tuple[Broker, str, Optional[Login]]:
-    """The broker of an address, what stands behind it as a path, and the name and the password that stand in it."""
+    """The broker of an address, the path after it, and the name and the password that stand in it."""
     try:
         url = urlsplit(text)
         scheme, host, port = url.scheme, url.hostname or "", url.port

@@ -1,8 +1,8 @@
 """The judgement of a member: which datagrams are handed to its host, which has no clock of the day, knows no origins and remembers no reports
-of its own. docs/LIVE.md says what holds by it, and against whom.
+of its own. docs/WB-LIVE.md has its rules, docs/SECURITY.md what they prevent.
 
 It decides, and does nothing else: it has no host, no socket and no clock. Whoever asks tells the moment, and what the host holds. Moments and
-times are microseconds, and all that is remembered is bounded. `web/page/judge.js` has the same; both pass tests/judging/cases.json."""
+times are microseconds, and all that is remembered is bounded. `web/member/judge.js` has the same; both pass tests/judging/cases.json."""
 from __future__ import annotations
 
 from collections import Counter, deque
@@ -27,14 +27,14 @@ SILENCE, PATIENCE = 600 * SECOND, 192 * SECOND
 # origins that are known, and numbers that were heard
 MOST_KNOWN, MOST_OTHERS = 1_024, 1_024
 
-# One cell in so many is for all that no known origin gave, and one in so many for what one such origin gave, but so many at least.
+# One cell in STRANGERS is for all that no known origin gave, and one in OF_ORIGIN for what one such origin gave, but LEAST_SHARE at least.
 STRANGERS, OF_ORIGIN, LEAST_SHARE = 16, 128, 16
 
 # Pages on which strangers' drawops stand, and sources that these have, summed over the pages. A host tells its pages in turn, and the sources of a
 # page in parts, so each of them keeps what members draw from being told for a while.
 STRANGE_PAGES, STRANGE_ROWS = 16, 256
 
-# one cell in so many is kept for deletes and restores of members
+# one cell in RESERVE is kept for deletes and restores of members
 RESERVE = 32
 
 # So many at once, and then one in each pause: numbers that are heard first, since a host remembers each for good; those that answer us, beside
@@ -42,7 +42,7 @@ RESERVE = 32
 MOST_NEW, MOST_ANSWERING, NEW_PAUSE = 256, 256, SECOND
 MOST_ASKED, ASKED_PAUSE = 64, SECOND // 16
 
-# Who lacks so many numbers takes a stream, unless one began so lately, or one of that member. Who lacks fewer asks for each.
+# A member that lacks LACKING numbers takes a stream, unless one began lately, or one of that member. With fewer it asks for each.
 LACKING, FETCH_PAUSE, FETCH_AGAIN = 500, 10 * SECOND, 60 * SECOND
 
 # A number of ours that is so far above what we hold is forged, since nobody draws as many on a page; and so is any from here on, as the host
@@ -159,7 +159,7 @@ class Judge:
         self.has_twin = False  # somebody else has our number
         self.tell_time(now, wall)
 
-    # ---- what is told
+    # ---- what the judge reports
 
     def tell_time(self, now: int, wall: int) -> None:
         """The time of day at a moment."""
@@ -272,7 +272,7 @@ class Judge:
         return self.strange.take_out(other.origin)
 
     def fetch(self, other: Other, facts: Facts) -> Optional[Origin]:
-        """Who lacks much takes a stream, of a member that has answered us, from where it speaks."""
+        """A member that lacks much takes a stream of a member that has answered us, from where that speaks."""
         now = facts.now
         if other.answered is None or facts.lacking < LACKING or now < self.fetch_at:
             return None

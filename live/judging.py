@@ -22,7 +22,7 @@ SESSION, REQUEST, SENT = "57420102", "57420103", slice(24, 40)
 # marks of a report of which note is taken, as many as a host tells
 MARKS = 64
 
-# A member that was not heard for so long is shown no more, and for so many intervals between two reports, since of many members each
+# A member that was not heard for so long is not shown any more, and for some intervals between two reports, since of many members each
 # speaks more seldom than that; and an interval at most.
 GONE_AFTER, GONE_AFTER_INTERVALS, MOST_INTERVAL = 60 * SECOND, 3, 64 * SECOND
 
@@ -33,7 +33,7 @@ WHYS = {
     "ahead": "ahead of the clock", "full": "the board is full", "share": "over a stranger's share", "pages": "strangers are on too many pages, or too many numbers",
 }
 
-# what people are warned of; that another has our number is told as long as it is so
+# what people are warned of; that another has our number is shown as long as it is so
 WARNINGS = {
     "speaks": "{origin} speaks for member {number}, which is another's number: that is not heeded",
     "mark": "a report tells of a drawing of ours that we did not make",
@@ -64,7 +64,7 @@ class Judging:
     # ---- what comes in
 
     def arrive(self, arrivals: Sequence[Arrival]) -> None:
-        """Datagrams came in. It is told what became of each, and what the host sends then is sent."""
+        """Datagrams came in. It takes in what became of each, and sends what the host sends then."""
         member = self.member
         self.judge.tell_time(member.board.now(), wall())
         digits = [arrival.data.hex() for arrival in arrivals]

@@ -24,7 +24,7 @@ def width_of(letter: str) -> int:
 
 
 def fitting(text: str, columns: int) -> str:
-    """As much of a text as so many cells of a terminal hold."""
+    """As much of a text as this many cells of a terminal hold."""
     width = 0
     for at, letter in enumerate(text):
         width += width_of(letter)

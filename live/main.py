@@ -36,7 +36,7 @@ FAULTS = (BoardFault, HostEnded, InvitationFault, KeyFault, NetworkFault, NoProg
 
 
 PLAIN = (
-    "wb-live: the page goes over the network by plain HTTP: who can read there has its key, and draws. docs/LIVE.md, Over TLS, has three lines "
+    "wb-live: the page goes over the network by plain HTTP: who can read there has its key, and draws. docs/LIVE.md, Behind a proxy, has three lines "
     "that seal it"
 )
 

@@ -48,7 +48,7 @@ class Options(argparse.Namespace):
     invite: bool
     page: Optional[str]
     web: Optional[Tuple[str, int, bool]]  # an address, and whether the words name one; None: serves no page
-    guests: int  # so many browsers may have a member of their own; 0: all browsers are one member
+    guests: int  # the most browsers that have a member of their own; 0: all browsers are one member
     origin: List[str]
     terminal: bool
     open: bool
@@ -99,14 +99,14 @@ def login_of(path: str) -> Login:
 
 def page_address(text: str) -> str:
     if not re.match("https?://[^#\\s]+$", text):
-        raise argparse.ArgumentTypeError("%r is no address of a page" % text)
+        raise argparse.ArgumentTypeError("%r is not the address of a page" % text)
     return text
 
 
 def origin(text: str) -> str:
     """SCHEME://HOST or SCHEME://HOST:PORT, as a browser tells it."""
     if not re.fullmatch(r"https?://[a-z0-9.-]+(:[0-9]{1,5})?", text) and not re.fullmatch(r"https?://\[[0-9a-f:]+\](:[0-9]{1,5})?", text):
-        raise argparse.ArgumentTypeError("%r is not http://HOST or https://HOST, with :PORT where it is no usual one" % text)
+        raise argparse.ArgumentTypeError("%r is not http://HOST or https://HOST, with :PORT if it is not the usual one" % text)
     return text
 
 
@@ -119,7 +119,7 @@ def within(least: float, most: float, kind: Callable[[str], Any]) -> Callable[[s
         except ValueError:
             value = least - 1
         if not least <= value <= most:
-            raise argparse.ArgumentTypeError("%r is no number from %d to %d" % (text, least, most))
+            raise argparse.ArgumentTypeError("%r is not a number from %d to %d" % (text, least, most))
         return value
 
     return read
@@ -129,17 +129,17 @@ def parser() -> argparse.ArgumentParser:
     made = argparse.ArgumentParser(
         prog="wb-live",
         description="Holds a session of wb: people draw together, in a browser or a terminal. With no words it is for "
-        "this machine alone. The host that keeps the board is proved; until its first proof is done, a build of it serves that is "
+        "this machine alone. The host that keeps the board is proved; until its first proof is done, a build serves that is "
         "only checked while it runs. The network, the clock and the page are tested, and not proved.",
         epilog="Records stand in $XDG_STATE_HOME/wb, or else in ~/.local/state/wb, in a folder for each session. All checkouts and "
         "installations of one user share them, so a start of any goes on with the same boards. XDG_STATE_HOME=FOLDER "
         "before the command chooses another place, --record a file, and --forget a new board.",
     )
     net = made.add_argument_group("whom to draw with").add_argument
-    net("--lan", nargs="?", const=address(GROUP), type=address, metavar="ADDRESS:PORT", help="a multicast group, %s where none is given" % GROUP)
+    net("--lan", nargs="?", const=address(GROUP), type=address, metavar="ADDRESS:PORT", help="a multicast group, %s if none is given" % GROUP)
     net("--broker", metavar="URL", help="a session at a broker of MQTT 5: mqtts://HOST[:PORT]/SESSION, or wss://HOST[:PORT]/PATH with --session")
     net("--password-file", dest="login", type=login_of, metavar="FILE", help="has NAME:PASSWORD for the broker in its first line")
-    net("--ca", metavar="FILE", help="the certificate authority of the broker, where the system does not trust it already")
+    net("--ca", metavar="FILE", help="the certificate authority of the broker, if the system does not trust it already")
     net("--interface", default="0.0.0.0", metavar="A", help="the address of the interface on which the group is joined")
     net("--listen", type=address, metavar="HOST:PORT", help="listens here, and sends to each --peer")
     net("--peer", type=address, action="append", metavar="HOST:PORT", help="another member, which listens there; may be repeated")
@@ -151,21 +151,21 @@ def parser() -> argparse.ArgumentParser:
     shut("--session", type=session_in, default=FIRST_NAME, metavar="NAME", help="the name of the session, else %s" % FIRST_NAME)
     shut("--key", type=read_key, metavar="FILE", help="seals each datagram by the key in this file")
     shut("--new-key", metavar="FILE", help="makes a file with a new key, which only its owner can read, and ends")
-    shut("--invite", action="store_true", help="prints a line by which others join this session, with its key, and ends")
+    shut("--invite", action="store_true", help="prints a line for others to join this session, with its key, and ends")
     shut("--page", type=page_address, metavar="URL", help="the line of --invite begins with the address of this page, which wb --page built")
     seen = made.add_argument_group("where it is seen").add_argument
     seen("--web", type=web_address, default=("127.0.0.1", -1, False), metavar="PORT", help="serves the page on this port of 127.0.0.1; with ADDRESS:PORT it is served there, and each browser is a member of its own")
-    seen("--guests", type=within(1, GUESTS, int), metavar="N", help="so many browsers have a member of their own at most, else %d" % GUESTS)
+    seen("--guests", type=within(1, GUESTS, int), metavar="N", help="the most browsers that have a member of their own, else %d" % GUESTS)
     seen("--origin", type=origin, action="append", default=[], metavar="URL", help="another address of the page, as https://board.example.org, behind a proxy; may be repeated")
     seen("--no-web", dest="web", action="store_const", const=None, help="serves no page, and paints it in the terminal")
     seen("--terminal", action="store_true", default=None, help="paints the page in the terminal")
     seen("--no-terminal", dest="terminal", action="store_false", help="paints nothing in the terminal")
     seen("--open", action="store_true", help="opens the page in a browser")
     kept = made.add_argument_group("what is kept").add_argument
-    kept("--record", metavar="FILE", help="keeps the board in this file, and goes on from its lines; else in a file of the session's folder, as told below")
+    kept("--record", metavar="FILE", help="keeps the board in this file, and goes on from its lines; else in a file of the session's folder, see below")
     kept("--forget", action="store_true", help="forgets the record, and starts anew with another number")
     kept("--replay", metavar="FILE", help="shows a record as it went, and sends nothing")
-    kept("--cells", type=within(1, 65_535, int), default=65_535, metavar="N", help="room for so many drawops, else 65535")
+    kept("--cells", type=within(1, 65_535, int), default=65_535, metavar="N", help="room for N drawops, else 65535")
     worse = made.add_argument_group("a worse network, on purpose").add_argument
     worse("--lose", type=within(0, 1, float), default=0.0, metavar="P", help="loses this share of what comes in, 0 to 1")
     worse("--delay", type=within(0, 5000, float), default=0.0, metavar="MS", help="delays what comes in, up to 5000 milliseconds")
@@ -173,7 +173,7 @@ def parser() -> argparse.ArgumentParser:
     worse("--mix", action="store_true", help="delays at random, so that order is lost")
     worse("--teach", action="store_true", help="lets the page change these four")
     made.add_argument_group("for tests").add_argument(
-        "--speed", type=within(0.01, 1000, float), default=1.0, metavar="X", help="the session's clock runs so many times as fast",
+        "--speed", type=within(0.01, 1000, float), default=1.0, metavar="X", help="the session's clock runs X times as fast",
     )
     return made
 

@@ -17,7 +17,7 @@ if TYPE_CHECKING:
 
 OPERATIONS = ("line", "frame", "text", "delete", "restore")
 
-# `NOW TIME PAGE` stands before an operation: in the fault of a word its place is told without them
+# `NOW TIME PAGE` stands before an operation: the place of a wrong word is counted without them
 WORDS_BEFORE = 3
 
 # drawings that wait until the member may draw
@@ -26,7 +26,7 @@ MOST_WAITING = 1_024
 # numbers of pages
 MOST_PAGE = 2**32 - 1
 
-# the page of names, titles and the chat; what is drawn elsewhere leaves it, and deletes and restores, one part in so many of the cells
+# the page of names, titles and the chat; what is drawn elsewhere leaves it, and deletes and restores, one cell in KEPT
 WORDS = page_of("0/0")
 KEPT = 16
 
@@ -113,7 +113,7 @@ class People:
         member = self.member
         if member.page[0] == member.me and not member.drawn.count(member.page):
             return self.turn_to(member.page)
-        used = {page[1] for page in [*member.drawn.drawn_pages(), *member.telling.told.pages(), member.page] if page[0] == member.me}
+        used = {page[1] for page in [*member.drawn.drawn_pages(), *member.telling.reported.pages(), member.page] if page[0] == member.me}
         number = next(number for number in range(1, len(used) + 2) if number not in used)
         return self.turn_to((member.me, min(number, MOST_PAGE)))
 

@@ -26,7 +26,7 @@ NOWHERE = 65_535
 MOST_BEGUN = 700
 MOST_LINES = 40
 
-# members that are remembered, for so many seconds, and their datagrams that are heeded in a second
+# members that are remembered, for how many seconds, and their datagrams that are heeded in a second
 MOST_MEMBERS = 64
 STAYS = 4.0
 MOST_A_SECOND = 25

@@ -40,7 +40,7 @@ def find_now() -> Tuple[str, bool]:
 
 @dataclass(frozen=True)
 class Stage:
-    """What people are told of the proof: which crates are proved, of how many, the minutes that it took so far, and what is at work."""
+    """What people see of the proof: which crates are proved, of how many, the minutes that it took so far, and what is at work."""
 
     program: str
     is_proved: bool
@@ -148,7 +148,7 @@ class Teller:
     """Tells stages on standard error: in a line that renews itself where that is a terminal, and else when a crate is proved."""
 
     def __init__(self, renews: bool, first: Stage) -> None:
-        """The text of the first stage was told already."""
+        """The text of the first stage was shown already."""
         self.renews = renews
         self.told = first.text(), -1
 

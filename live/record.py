@@ -41,12 +41,12 @@ MOST_MOMENT = 2**48 - 86_400 * 10**6
 MOMENT = re.compile("tick ([0-9]{1,15})")
 DIGITS = re.compile("(?:datagram|arrive|hear) (?:[0-9a-fA-F]{2})+")
 
-# letters of a line that can't be read which are told
+# how many letters of an unreadable line a message has
 TOLD = 40
 
 
 class RecordFault(Exception):
-    """The file is no record, a line of it is none, or another member has it."""
+    """The file is not a record, a line of it is wrong, or another member has it."""
 
 
 class Act(str):
@@ -189,7 +189,7 @@ class Record:
         os.ftruncate(self.file, self.size)
 
     def take_back(self) -> None:
-        """Takes off what was added last: nobody was told of it."""
+        """Takes off what was added last: nobody knows of it."""
         self.size = self.before
         self.cut()
 
@@ -203,7 +203,7 @@ class Record:
             self.is_synced = True
 
     def remove(self) -> None:
-        """Closes it, and it is no more. OSError if its folder does not let it go."""
+        """Closes it and removes it. OSError if its folder does not let it go."""
         try:
             if self.path is not None:
                 os.unlink(self.path)
@@ -238,7 +238,7 @@ def comment(text: str) -> str:
 
 
 def write_record(path: Optional[str], lines: List[str]) -> Record:
-    """A record of these lines in a file that is whole before it stands under its name. What stood there is no more."""
+    """A record of these lines in a file that is whole before it stands under its name. It replaces what stood there."""
     made = path and "%s.%d.new" % (path, os.getpid())
     if made:
         with contextlib.suppress(FileNotFoundError):

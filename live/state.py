@@ -64,7 +64,7 @@ def make_private(folder: Path) -> None:
 
 
 def used_at(entry: "os.DirEntry[str]") -> float:
-    """When a file was used last; 0 if it is no more."""
+    """When a file was used last; 0 if it is gone."""
     try:
         return entry.stat(follow_symlinks=False).st_mtime
     except OSError:

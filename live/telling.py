@@ -17,7 +17,7 @@ if TYPE_CHECKING:
 
 NOTICE = "Everything shown here came through wb host, which is proved; live/ (network, clock, screen) is not proved."
 
-# the page is told at most so often, in seconds, and takes at most one part in so many of the time
+# the least seconds between two updates of the page, which take one part in PART of the time at most
 LEAST_PAUSE = 0.015
 PART = 6
 
@@ -25,16 +25,16 @@ PART = 6
 MEMBERS_PAUSE = 0.5
 PAGES_PAUSE = 0.1
 
-# seconds from a change to the comparison of what is told with the host's view, which takes at most one part in so many of the time
+# seconds from a change to the comparison of what views show with the host's view, which takes one part in CHECK_PART of the time at most
 CHECK_PAUSE = 2.0
 CHECK_PART = 50
 
-# pages that are told
+# pages that are reported
 MOST_PAGES = 1_000
 MOST_MEMBERS = 500
 
-# names that are told by marks alone, of which the oldest go first
-MOST_TOLD = 512
+# names that only marks reported; the oldest go first
+MOST_REPORTED = 512
 
 # for so long it is said that a page has caught up
 CAUGHT_UP = 60 * SECOND
@@ -49,7 +49,7 @@ def notice_of(member: Member) -> str:
     return NOTICE.replace("which is proved", "the program that WB_PROGRAM names") if os.environ.get("WB_PROGRAM") else NOTICE
 
 
-class Told:
+class Reported:
     """Names that members reported and that are not held: what is missing beside the gaps."""
 
     def __init__(self) -> None:
@@ -58,7 +58,7 @@ class Told:
     def tell(self, name: Name) -> None:
         self.names.pop(name, None)
         self.names[name] = None
-        if len(self.names) > MOST_TOLD:
+        if len(self.names) > MOST_REPORTED:
             del self.names[next(iter(self.names))]
 
     def come(self, name: Name) -> None:
@@ -81,7 +81,7 @@ class Telling:
         self.events = events
         self.is_changed = True
         self.are_pages_changed = True
-        self.page: Any = None  # that was told last
+        self.page: Any = None  # what the views have
         self.names: Set[Name] = set()  # of the drawings that it was told of, shown or hidden
         self.rows: List[str] = []
         self.turn = 0
@@ -94,7 +94,7 @@ class Telling:
         self.differences = 0
         self.caught_up: Dict[Page, int] = {}
         self.missing: Set[Page] = set()
-        self.told = Told()
+        self.reported = Reported()
 
     def seconds_to_wait(self) -> float:
         return max(0.0, self.next_at - time.monotonic()) if self.is_changed else 3600.0
@@ -168,7 +168,7 @@ class Telling:
         return {"page": page_text(self.member.page), "names": names, "added": added, "hidden": hidden, "rows": new, "height": len(rows)}
 
     def check(self) -> None:
-        """Compares what is told with the host's view; what differs is told anew, as the host has it."""
+        """Compares what views show with the host's view; what differs is sent again, as the host has it."""
         began = time.monotonic()
         self.is_checked = True
         sheet, lines = self.member.drawn.sheet(self.member.page), self.member.board.view(self.member.page)
@@ -181,16 +181,16 @@ class Telling:
     # ---- what is noticed of what comes in, for people alone
 
     def notice(self, report: Report, most: int) -> None:
-        """What a member reports that is not held, by so many of its marks at most."""
+        """What a member reports that is not held, by a limited number of its marks."""
         for source, high in list(report.marks.items())[:most]:
             if source != self.member.me and not self.member.drawn.holds((source, report.page, high)):
-                self.told.tell((source, report.page, high))
+                self.reported.tell((source, report.page, high))
 
     def notice_batch(self, name: Name, batch: List[str]) -> None:
         """What the host has answered to a drawop."""
         alarms, source = self.member.alarms, name[0]
         if batch == NEW:
-            self.told.come(name)
+            self.reported.come(name)
         elif batch == CLASH:
             alarms.warn("two members draw with number %d: what they drew differs from member to member" % source)
         elif batch == FULL:
@@ -211,12 +211,12 @@ class Telling:
         self.events.tell("pages", {"page": page_text(self.member.page), "pages": told})
 
     def pages(self) -> List[Page]:
-        """As many as are told: the page in view, and those of members before those of strangers alone. They stand by their numbers, since one
+        """As many as are shown: the page in view, and those of members before those of strangers alone. They stand by their numbers, since one
         turns through them."""
         order = self.member.judging.judge.order_of(self.member.drawn.pages)
         strange = set(self.member.judging.judge.pages_of_strangers(self.member.drawn.pages))
         members = [page for page in order if page not in strange]
-        told = dict.fromkeys([self.member.page, *members, *self.told.pages(), *order])
+        told = dict.fromkeys([self.member.page, *members, *self.reported.pages(), *order])
         return sorted(list(told)[:MOST_PAGES], key=lambda page: (page in strange, page))
 
     def tell_members(self) -> None:
@@ -234,10 +234,10 @@ class Telling:
 
     def tell_health(self) -> None:
         member, page = self.member, self.member.page
-        missing = self.told.missing(page, member.drawn)
+        missing = self.reported.missing(page, member.drawn)
         now = member.board.clock.now()
         if missing:
-            self.missing = {page, *self.missing} if len(self.missing) < MOST_TOLD else {page}
+            self.missing = {page, *self.missing} if len(self.missing) < MOST_REPORTED else {page}
         elif page in self.missing:
             self.missing.remove(page)
             self.caught_up = {page: now, **{each: at for each, at in self.caught_up.items() if now - at < CAUGHT_UP}}
@@ -247,7 +247,7 @@ class Telling:
         })
 
     def warnings(self) -> List[str]:
-        """What lasts stands behind what goes."""
+        """What lasts comes after what goes."""
         member = self.member
         lasting = [
             (member.judging.judge.has_twin, "another member has our number %d: nothing is drawn until this member has a new one" % member.me),

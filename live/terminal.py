@@ -1,8 +1,8 @@
 """The page in a terminal, painted as it changes, and a line at its foot that is typed into."""
 from __future__ import annotations
 
-import contextlib
 import json
+import os
 import shutil
 import sys
 import threading
@@ -59,9 +59,11 @@ class Terminal:
             sys.stdout.flush()
 
     def end(self) -> None:
-        """Gives the terminal back."""
-        with contextlib.suppress(OSError):  # it may be gone
+        """Gives the terminal back. If it is gone, what was not painted yet goes nowhere, or Python would end with a status for it."""
+        try:
             self.write("\x1b[r\x1b[%d;1H\n" % shutil.get_terminal_size().lines)
+        except OSError:
+            os.dup2(os.open(os.devnull, os.O_WRONLY), sys.stdout.fileno())
 
     # ---- painting
 

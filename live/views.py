@@ -53,7 +53,7 @@ class Drawop:
         return self.time, self.name[0], self.name[2]
 
     def is_drawing(self) -> bool:
-        """It puts glyphs on the page: it is no delete and no restore."""
+        """It puts glyphs on the page: it is neither a delete nor a restore."""
         return self.kind not in AIMED
 
     def target(self) -> Tuple[int, int]:

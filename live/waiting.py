@@ -6,7 +6,7 @@ import sys
 import time
 from typing import TextIO
 
-# seconds until it is told for the first time, and from then on between two lines; in a terminal, where a line renews itself
+# seconds until the first line, and from then on between two lines; in a terminal, where a line renews itself
 FIRST = 2.0
 PAUSE, SHORT_PAUSE = 5.0, 0.2
 

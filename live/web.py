@@ -1,4 +1,4 @@
-"""The page for a browser, over HTTP: the page itself, what is told as it changes, and what people draw."""
+"""The page for a browser, over HTTP: the page itself, its updates, and what people draw."""
 from __future__ import annotations
 
 import hmac
@@ -27,7 +27,7 @@ from .presence import point_in
 from .sockets import PING, TEXT, acceptance, frame, has_ended, is_key
 from .views import Page, page_of
 
-PAGE = Path(__file__).resolve().parent / "page"
+PAGE = Path(__file__).resolve().parent / "ui"
 
 # what is served of that directory beside its index, by the end of the name
 KINDS = {".js": "text/javascript; charset=utf-8", ".css": "text/css; charset=utf-8"}
@@ -55,7 +55,7 @@ WORSE: Ranges = {"lose": (0, 1), "twice": (0, 1), "delay": (0, 5000), "mix": Non
 # the port that an address of a page has if it names none
 USUAL_PORTS = {"http": ":80", "https": ":443"}
 
-# by which a browser is known again that has a member of its own
+# how a browser with a member of its own is known again
 COOKIE = "wb"
 
 # no script, style or address but our own: none stands in the page itself
@@ -89,7 +89,7 @@ class Fault(Exception):
 
 
 def own_address() -> str:
-    """The address of this machine on its network: that of the interface by which it would send elsewhere. Nothing is sent."""
+    """The address of this machine on its network: that of the interface that it would send through. Nothing is sent."""
     with socket.socket(socket.AF_INET, socket.SOCK_DGRAM) as probe:
         try:
             probe.connect(("192.0.2.1", 9))
@@ -309,7 +309,7 @@ class Handler(BaseHTTPRequestHandler):
             held.callback(self.server.streams.release)
 
     def stream(self, watcher: Watcher) -> None:
-        """Sends what is told until the other side or the program ends."""
+        """Sends updates until the other side or the program ends."""
         said = time.monotonic()
         while not has_ended(self.connection):
             news = watcher.wait(QUIET / 5)
@@ -371,7 +371,7 @@ class Handler(BaseHTTPRequestHandler):
             self.give(people.call(people.turn_to, self.page_in(body, ["page"])))
 
     def point(self) -> None:
-        """Where this member points, which is told to others but kept by nobody."""
+        """Where this member points: others see it, nobody keeps it."""
         body, member = self.body(), self.member
         page = self.page_in({"page": body.pop("page", None)}, ["page"])
         point = point_in(body, member.me, page)

@@ -10,7 +10,7 @@ from .events import Events
 from .inbox import Arrival
 from .views import Name, name_in, page_text, speaker_of
 
-# characters of a datagram that are told, and requests and origins that are remembered
+# characters of a datagram that are shown, and requests and origins that are remembered
 MOST_CHARACTERS = 400
 MOST_REMEMBERED = 1_024
 
@@ -38,7 +38,7 @@ class Wire:
         self.origins[origin] = member
 
     def entry(self, way: str, words: Optional[str], arrival: Optional[Arrival]) -> Dict[str, Any]:
-        """The entry of a datagram, which is told to nobody yet."""
+        """The entry of a datagram, which nobody sees yet."""
         self.last += 1
         text = words or ""
         name = name_in(text)
@@ -54,7 +54,7 @@ class Wire:
         }
 
     def came(self, arrival: Arrival, words: Optional[str]) -> Dict[str, Any]:
-        """A datagram came in. What became of it is added before it is told."""
+        """A datagram came in. What became of it is added before anyone sees it."""
         self.counts["in"] += 1
         self.counts["lost"] += arrival.is_lost
         self.counts["twice"] += arrival.is_second

@@ -14,8 +14,8 @@ MOST_REMEMBERED = 1_024
 MOST_LENGTH = 4_096
 
 
-class Told(NamedTuple):
-    """The words of a datagram, or by which fault it is none."""
+class Wording(NamedTuple):
+    """The words of a datagram, or the fault of bytes that are not one."""
 
     words: Optional[str]
     fault: Optional[str]
@@ -28,7 +28,7 @@ class Words:
         self.command = [program, "words", "--keep-going"]
         self.child = Child(self.command)
         self.last = ""
-        self.told = Told(None, "datagram 1")
+        self.told = Wording(None, "datagram 1")
 
     def end(self) -> None:
         self.child.end()
@@ -39,17 +39,17 @@ class Words:
         self.child.end()
         self.child = Child(self.command)
 
-    def of(self, digits: str) -> Told:
+    def of(self, digits: str) -> Wording:
         if digits != self.last:
             self.told = self.all([digits])[0]
             self.last = digits
         return self.told
 
-    def all(self, many: Sequence[str]) -> List[Told]:
+    def all(self, many: Sequence[str]) -> List[Wording]:
         """Many at a time, which takes less time than one after another."""
         return [told for start in range(0, len(many), LINES) for told in self.some(many[start:start + LINES])]
 
-    def some(self, many: Sequence[str]) -> List[Told]:
+    def some(self, many: Sequence[str]) -> List[Wording]:
         lines = [b"send " + digits.encode() for digits in many if len(digits) <= MOST_DIGITS]
         try:
             self.child.give(lines)
@@ -57,13 +57,13 @@ class Words:
         except HostEnded:
             self.child.end()
             self.child = Child(self.command)
-            return [Told(None, "unread")] * len(many)
-        return [told_by(next(said)) if len(digits) <= MOST_DIGITS else Told(None, "endless") for digits in many]
+            return [Wording(None, "unread")] * len(many)
+        return [wording_by(next(said)) if len(digits) <= MOST_DIGITS else Wording(None, "endless") for digits in many]
 
 
-def told_by(line: str) -> Told:
-    """What a line of the filter tells: words behind `send`, or a comment with the fault, as `# line 1: word 2: datagram 4`."""
-    return Told(line[5:], None) if line.startswith("send ") else Told(None, line.rpartition(": ")[2])
+def wording_by(line: str) -> Wording:
+    """What a line of the filter says: words after `send`, or a comment with the fault, as `# line 1: word 2: datagram 4`."""
+    return Wording(line[5:], None) if line.startswith("send ") else Wording(None, line.rpartition(": ")[2])
 
 
 class SharedWords(Words):
@@ -72,7 +72,7 @@ class SharedWords(Words):
     def __init__(self, program: str) -> None:
         super().__init__(program)
         self.lock = threading.Lock()
-        self.remembered: Dict[str, Told] = {}
+        self.remembered: Dict[str, Wording] = {}
 
     def end(self) -> None:
         """It ends with the program."""
@@ -83,15 +83,15 @@ class SharedWords(Words):
             if self.command[0] != program:
                 super().change_over(program)
 
-    def of(self, digits: str) -> Told:
+    def of(self, digits: str) -> Wording:
         return self.all([digits])[0]
 
-    def all(self, many: Sequence[str]) -> List[Told]:
+    def all(self, many: Sequence[str]) -> List[Wording]:
         known = [self.remembered.get(digits) for digits in many]
         found = [told for told in known if told is not None]
         return found if len(found) == len(known) else self.say(many)
 
-    def say(self, many: Sequence[str]) -> List[Told]:
+    def say(self, many: Sequence[str]) -> List[Wording]:
         """Those that are not known yet, one member after another."""
         with self.lock:
             new = [digits for digits in dict.fromkeys(many) if digits not in self.remembered]

@@ -15,6 +15,10 @@ from .seeds import first_seed
 
 sys.dont_write_bytecode = True
 
+# What is tested writes as it does where people start it: without this, which some machines set, a fault at its end was hidden.
+os.environ.pop("PYTHONUNBUFFERED", None)
+
+
 @pytest.fixture
 def facts() -> Iterator[Facts]:
     gathered = Facts()
@@ -55,7 +59,7 @@ def pytest_report_header() -> str:
 
 
 # folders whose tests share what a file starts, so that one process has all of a file
-BY_FILE = ("live", "page", "browser")
+BY_FILE = ("live", "ui", "browser")
 
 
 # before xdist reads the groups

@@ -19,7 +19,7 @@ class NetworkFault(Exception):
 
 @dataclass(frozen=True)
 class Origin:
-    """Where a datagram came from. Two that differ are two senders. Where it is kept, the network lets nobody else send from there; under a
+    """Where a datagram came from. Two that differ are two senders. If it is kept, the network lets nobody else send from there; under a
     key one start of a member has one tag, wherever it sends from."""
 
     text: str

@@ -33,7 +33,7 @@ class Hub:
             self.under.begin(self)
 
     def remove(self, origin: Origin) -> None:
-        """A member is gone, which the others are told."""
+        """A member is gone, which the others learn."""
         with self.changed:
             self.inboxes = {other: inbox for other, inbox in self.inboxes.items() if other != origin}
         self.spread(GONE + origin.text.encode(), origin)

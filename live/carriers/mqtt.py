@@ -71,7 +71,7 @@ class Broker(NamedTuple):
         return "%s://%s%s%s" % (self.scheme, host, "" if self.port == PORTS[self.scheme] else ":%d" % self.port, self.path)
 
 
-class Room(NamedTuple):
+class BrokerSession(NamedTuple):
     """A session at a broker: by what name we speak there, and what else it takes to come in."""
 
     broker: Broker
@@ -82,12 +82,12 @@ class Room(NamedTuple):
 
 
 class MqttCarrier:
-    def __init__(self, room: Room, will: bytes) -> None:
+    def __init__(self, at: BrokerSession, will: bytes) -> None:
         """Connects, and hears the session from now on. `will` is published when this member is gone. NetworkFault where the broker
         does not answer, refuses, or is not the one that its certificate should tell."""
-        self.room = room
+        self.at = at
         self.mqtt = module_of("paho.mqtt.client", "python3-paho-mqtt", "--broker")
-        self.topic = "wb/%s/%s" % (room.session, room.name)
+        self.topic = "wb/%s/%s" % (at.session, at.name)
         self.inbox: Optional[Taker] = None
         self.trouble = "connecting"
         self.settled, self.ended = threading.Event(), threading.Event()
@@ -98,13 +98,13 @@ class MqttCarrier:
 
     @property
     def where(self) -> str:
-        room = self.room
-        return "the broker %s, session %s%s" % (room.broker.host, room.session, ", as %s" % room.login.name if room.login else "")
+        at = self.at
+        return "the broker %s, session %s%s" % (at.broker.host, at.session, ", as %s" % at.login.name if at.login else "")
 
     # ---- how it connects
 
     def made(self, will: bytes) -> Any:
-        broker, login = self.room.broker, self.room.login
+        broker, login = self.at.broker, self.at.login
         is_web = broker.scheme in ("ws", "wss")
         client = lasting(self.mqtt)("wb-" + secrets.token_hex(8), protocol=self.mqtt.MQTTv5, transport="websockets" if is_web else "tcp")
         client.suppress_exceptions = True
@@ -123,12 +123,12 @@ class MqttCarrier:
     def context(self) -> ssl.SSLContext:
         """Only a broker is spoken to whose certificate is valid for its name."""
         try:
-            return ssl.create_default_context(cafile=self.room.ca)
+            return ssl.create_default_context(cafile=self.at.ca)
         except (OSError, ValueError) as fault:
-            raise NetworkFault("--ca %s is no file of certificates" % self.room.ca) from fault
+            raise NetworkFault("--ca %s is no file of certificates" % self.at.ca) from fault
 
     def connect(self) -> None:
-        broker = self.room.broker
+        broker = self.at.broker
         properties = module_of("paho.mqtt.properties", "python3-paho-mqtt", "--broker").Properties(self.mqtt.CONNECT >> 4)
         properties.MaximumPacketSize = MOST_PACKET
         self.client.connect_async(broker.host, broker.port, KEEP_ALIVE, clean_start=True, properties=properties)
@@ -148,7 +148,7 @@ class MqttCarrier:
             self.tell("refuses: %s" % REFUSALS.get(number, reason))
             return
         options = self.mqtt.SubscribeOptions(qos=0, noLocal=True, retainHandling=self.mqtt.SubscribeOptions.RETAIN_DO_NOT_SEND)
-        client.subscribe("wb/%s/+" % self.room.session, options=options)
+        client.subscribe("wb/%s/+" % self.at.session, options=options)
 
     def subscribed(self, _client: Any, _data: Any, _number: int, reasons: Any, _properties: Any = None) -> None:
         is_refused = any(getattr(reason, "value", reason) >= 128 for reason in reasons)
@@ -167,14 +167,14 @@ class MqttCarrier:
         self.trouble = trouble
         self.settled.set()
         if self.inbox:
-            self.inbox.tell("the broker %s %s" % (self.room.broker.host, trouble) if trouble else "")
+            self.inbox.tell("the broker %s %s" % (self.at.broker.host, trouble) if trouble else "")
 
     def heard(self, _client: Any, _data: Any, message: Any) -> None:
         if not self.inbox:
             return
         name = message.topic.rpartition("/")[2]
         if is_name(name) and len(message.payload) <= MOST_BYTES + SEALED:
-            self.inbox.arrive(bytes(message.payload), Origin(name, is_kept=self.room.login is not None))
+            self.inbox.arrive(bytes(message.payload), Origin(name, is_kept=self.at.login is not None))
         else:
             self.inbox.miss()
 

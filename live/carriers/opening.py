@@ -4,7 +4,7 @@ from __future__ import annotations
 from typing import TYPE_CHECKING, Optional, Tuple
 
 from .carrier import Carrier
-from .mqtt import GONE, MqttCarrier, Room
+from .mqtt import GONE, BrokerSession, MqttCarrier
 from .sealed import Seal, Sealed
 from .udp import Group, Peers, Ports, UdpCarrier
 
@@ -21,11 +21,11 @@ def open_udp(options: Options) -> UdpCarrier:
 
 
 def open_broker(options: Options, me: int, seal: Optional[Seal]) -> MqttCarrier:
-    """A member speaks under the name by which the broker knows it; where it asks for none, under its number."""
+    """A member speaks under its name at the broker; if the broker asks for none, under its number."""
     assert options.broker is not None
     name = options.login.name if options.login else "%d" % me
     will = seal.will() if seal else GONE + name.encode()
-    return MqttCarrier(Room(options.broker, options.session, name, options.login, options.ca), will)
+    return MqttCarrier(BrokerSession(options.broker, options.session, name, options.login, options.ca), will)
 
 
 def open_network(options: Options, me: int) -> Tuple[Carrier, Optional[UdpCarrier], Optional[Seal]]:

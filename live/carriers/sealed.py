@@ -1,4 +1,4 @@
-"""Any carrier under a key: each datagram is sealed by AES-256-GCM, with the session's name as what goes with it, as `web/page/seal.js`
+"""Any carrier under a key: each datagram is sealed by AES-256-GCM, with the session's name as what goes with it, as `web/member/seal.js`
 does. Sealed bytes are a nonce of 12 random bytes, and then the ciphertext with its tag. What is sealed is the version 2 in one byte; the sender's
 own tag, which tells starts of members apart, in 8; a counter in 8, which is greater for each datagram of that tag; and the datagram. So what
 somebody without the key sends once more is known again, or has the tag of a start that answers nobody any more."""

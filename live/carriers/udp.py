@@ -101,7 +101,7 @@ class UdpCarrier:
         return listening
 
     def stream_to(self, address: Address, seconds: float) -> socket.socket:
-        """A stream to the member there, from where it hears us. OSError if there is none within so many seconds."""
+        """A stream to the member there, from where it hears us. OSError if there is none within the seconds given."""
         stream = self.tcp()
         try:
             stream.settimeout(seconds)

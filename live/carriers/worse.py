@@ -10,7 +10,7 @@ from .carrier import Carrier, Origin, Over
 if TYPE_CHECKING:
     from ..options import Options
 
-# milliseconds by which datagrams are mixed at least
+# the least milliseconds over which datagrams are mixed
 LEAST_MIX = 20.0
 
 

@@ -18,7 +18,7 @@ from typing import Any
 NAMES = ("chromium", "chromium-browser", "google-chrome")
 
 # what has to come is waited for so many seconds, on a slow machine too
-PATIENCE = 40.0
+PATIENCE = 120.0
 
 # the bits of the protocol for keys that are held
 ALT, CONTROL, SHIFT = 1, 2, 8

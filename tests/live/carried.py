@@ -8,20 +8,19 @@ import time
 from concurrent.futures import ThreadPoolExecutor
 from typing import Any, Dict, List, Union
 
-from live.carriers.mqtt import Broker, Login, MqttCarrier, Room as Place
+from live.carriers.mqtt import Broker, BrokerSession, Login, MqttCarrier
 from live.carriers.sealed import Seal, Sealed
 from live.keys import new_key, read_key, write_key
 from ..facts import Facts
 from .test_carriers import Kept
 from .test_hostile import asking, drawn, framed, session, state
-from .members import Process
-from .mosquitto import Room
+from .members import PATIENCE, Process
+from .mosquitto import BrokerFiles
 from .test_sessions import PAGES, Session, draw_together
 
 MEMBERS = 8
 DRAWOPS = 8
 OUTAGE = 10.0
-PATIENCE = 60.0
 NAME = "class-7"
 
 # whom somebody speaks for, and the number of nobody
@@ -31,7 +30,7 @@ VICTIM, NOBODY = 3, 999
 class Carried(Session):
     """Members of a session at a broker, each under a name of its own."""
 
-    def __init__(self, room: Room, folder: str) -> None:
+    def __init__(self, room: BrokerFiles, folder: str) -> None:
         super().__init__(0, folder)
         self.room = room
         self.key = str(room.path / "session.key")
@@ -54,9 +53,9 @@ class Carried(Session):
         return Process(words + ["--lose", "0.3334", "--speed", "10", "--cells", "4096"])
 
 
-def carrier_of(room: Room, name: str) -> MqttCarrier:
+def carrier_of(room: BrokerFiles, name: str) -> MqttCarrier:
     login = Login(*(room.path / ("%s.login" % name)).read_text().strip().split(":"))
-    return MqttCarrier(Place(Broker("mqtts", "127.0.0.1", 8883, ""), NAME, name, login, str(room.path / "own.pem")), b"x")
+    return MqttCarrier(BrokerSession(Broker("mqtts", "127.0.0.1", 8883, ""), NAME, name, login, str(room.path / "own.pem")), b"x")
 
 
 def all_heard(members: List[Process]) -> bool:
@@ -76,7 +75,7 @@ def check_impostor(facts: Facts, held: Carried) -> None:
             mallory.send(datagram)
         time.sleep(0.02)
     for member in held.members:
-        told = member.wait_for(lambda states: any("speaks for member %d" % VICTIM in text for text in states["health"]["warnings"]), 20)
+        told = member.wait_for(lambda states: any("speaks for member %d" % VICTIM in text for text in states["health"]["warnings"]))
         facts("who speaks for another is told by member %d" % member.me, told, True)
         came: Dict[str, List[Any]] = {kind: [] for kind in forged}
         for entry in list(member.entries):
@@ -99,7 +98,7 @@ def check_strangers(facts: Facts, held: Carried) -> None:
             sender.send(drawn(NOBODY, seq, now, 30, b"$"))
             sender.send(drawn(1, 1000 + seq, now, 31, b"$"))
         time.sleep(0.02)
-    counted = [member.wait_for(lambda states: states["health"]["counts"]["foreign"] >= 40, 20) for member in held.members]
+    counted = [member.wait_for(lambda states: states["health"]["counts"]["foreign"] >= 40) for member in held.members]
     facts("what does not open is dropped and counted", counted, [True] * MEMBERS)
     facts("a stranger hears nothing that is open", (len(kept.came) > 0, [data for data, _ in kept.came if data[:2] in (b"WB", b"WP")]), (True, []))
     plain.end()
@@ -110,14 +109,14 @@ def check_outage(facts: Facts, held: Carried) -> None:
     broker = held.room.brokers[0]
     broker.stop()
     began = time.monotonic()
-    told = [member.wait_for(lambda states: any("does not answer" in text for text in states["health"]["warnings"]), 20) for member in held.members]
+    told = [member.wait_for(lambda states: any("does not answer" in text for text in states["health"]["warnings"])) for member in held.members]
     facts("a broker that is gone is told by all", told, [True] * MEMBERS)
     facts("meanwhile all draw on", draw_together(held.members, DRAWOPS // 2), [])
     time.sleep(max(0.0, OUTAGE - (time.monotonic() - began)))
     broker.start()
 
 
-def check_session(facts: Facts, room: Room) -> None:
+def check_session(facts: Facts, room: BrokerFiles) -> None:
     with tempfile.TemporaryDirectory() as folder:
         held = Carried(room, folder)
         try:

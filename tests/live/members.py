@@ -17,8 +17,9 @@ from typing import Any, Callable, Dict, Iterator, List, Optional, Tuple
 
 TOP = Path(__file__).resolve().parent.parent.parent
 
-# no test waits longer for one thing, in seconds
-PATIENCE = 60
+# No test waits longer for one thing, in seconds; and for what all members do together, each with many drawings. A machine that does much else is
+# slow, so what takes long there has not failed.
+PATIENCE, LONGEST = 120, 900
 
 
 class Process:
@@ -194,6 +195,21 @@ def messages(path: str, port: int) -> Iterator[Tuple[str, Any]]:
 
 
 SLOW_FROM = 0.2
+
+
+def comes(is_so: Callable[[], Any], seconds: float = PATIENCE) -> bool:
+    """Whether something comes to be so."""
+    end = time.monotonic() + seconds
+    while not is_so():
+        if time.monotonic() > end:
+            return False
+        time.sleep(0.02)
+    return True
+
+
+def is_refused(status: int, answer: Dict[str, Any]) -> bool:
+    """Whether a drawing was refused. A member that does much else says that it is busy, and draws all the same."""
+    return status != 200 and answer.get("fault") != "busy"
 
 
 def program() -> str:

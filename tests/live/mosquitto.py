@@ -12,7 +12,7 @@ from pathlib import Path
 from typing import Dict, List, Optional
 
 from .inside import way_inside
-from .members import TOP
+from .members import PATIENCE, TOP
 
 ETC = "/etc/mosquitto"
 TLS_PORT = 8883
@@ -68,7 +68,7 @@ class Mosquitto:
     def start(self) -> None:
         self.process = subprocess.Popen([str(found("mosquitto")), "-c", str(self.configuration)], cwd=self.configuration.parent,
                                         stdin=subprocess.DEVNULL, stdout=subprocess.DEVNULL, stderr=subprocess.DEVNULL)
-        end = time.monotonic() + 10
+        end = time.monotonic() + PATIENCE
         while time.monotonic() < end:
             try:
                 socket.create_connection(("127.0.0.1", self.port), timeout=1).close()
@@ -79,11 +79,11 @@ class Mosquitto:
     def stop(self) -> None:
         if self.process:
             self.process.terminate()
-            self.process.wait(10)
+            self.process.wait(PATIENCE)
             self.process = None
 
 
-class Room:
+class BrokerFiles:
     """The files of brokers, and of those who come to them."""
 
     def __init__(self) -> None:

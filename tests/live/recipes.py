@@ -12,10 +12,10 @@ from typing import Dict, List
 
 from ..facts import Facts
 from .members import TOP, Process
-from .mosquitto import Room
+from .mosquitto import BrokerFiles
 
-# how each recipe begins, and the broker of the last
-RECIPES = ("**This machine.**", "**This LAN, with a key.**", "**Across the Internet, by a broker**")
+# the heading of each recipe, and the broker of the last
+RECIPES = ("## On one computer", "## On a LAN, with a key", "## Across the Internet, with a broker")
 HOST = "broker.example.org"
 
 # seconds, far fewer than those after which a member that is not heard is forgotten
@@ -23,9 +23,10 @@ SOON = 25
 
 
 def recipe(start: str) -> List[str]:
-    """The lines of a recipe."""
-    _, _, rest = (TOP / "docs" / "LIVE.md").read_text().partition(start)
-    return [line.strip() for line in re.findall("(?m)^    .*", rest.split("\n\n")[1])]
+    """The lines of a recipe: the first commands below its heading."""
+    _, _, rest = (TOP / "docs" / "LIVE.md").read_text().partition(start + "\n")
+    block = re.search("(?m)(?:^    .*\n)+", rest)
+    return [line.strip() for line in block[0].splitlines()] if block else []
 
 
 def names_of(text: str) -> None:
@@ -70,7 +71,7 @@ def check_recipe(facts: Facts, start: str, environment: Dict[str, str]) -> None:
         facts("%s each ends with 0" % start, [member.end() for member in members], [0] * len(members))
 
 
-def check_recipes(facts: Facts, room: Room) -> None:
+def check_recipes(facts: Facts, room: BrokerFiles) -> None:
     """This needs a network with mounts of its own: names, routes and who is trusted are those of the recipes."""
     names_of("127.0.0.1 localhost %s\n" % HOST)
     for words in ("ip link set lo multicast on", "ip route add 239.0.0.0/8 dev lo"):

@@ -17,7 +17,7 @@ from typing import Dict, List, Optional
 
 from ..facts import Facts
 from .test_hostile import drawn, framed, session, state
-from .members import Process, program
+from .members import LONGEST, Process, is_refused, program
 from .test_mutants import echoing, mutant, requesting
 from .test_sessions import PAGES, operation
 from .test_storms import Storm, wait_until_equal
@@ -30,9 +30,6 @@ LONG_SECONDS, ALL_MEMBERS, LONG_SPEED = 60.0, (2, 3, 8), 4
 
 # seconds that a drawing may take on a machine that does nothing else, which WB_MEASURE says
 LATEST = 0.5
-
-# seconds until all are whole and equal, at most
-LONGEST = 240
 
 # Pages that the attackers draw on, and from how many ports: more than strangers have room for, by pages and by drawops.
 PAGES_OF_STRANGERS, ORIGINS = 2_000, 9
@@ -110,9 +107,9 @@ class Drawing:
             page = PAGES[turn % len(PAGES)]
             status, told = member.draw(page, operation(chance, own[page], member.me))
             self.times.append(time.monotonic() - began)
-            if status != 200:
+            if is_refused(status, told):
                 self.faults.append("%d: %s" % (status, told))
-            elif told["words"].split(" ")[5] in ("line", "frame", "text"):
+            elif status == 200 and told["words"].split(" ")[5] in ("line", "frame", "text"):
                 own[page].append(told["seq"])
             time.sleep(PAUSE)
 

@@ -10,13 +10,12 @@ import socket
 import subprocess
 import sys
 import threading
-import time
-from typing import Any, Optional
+from typing import Optional
 
 import pytest
 
 from live.carriers.carrier import NetworkFault, Origin
-from live.carriers.mqtt import GONE, Broker, Login, MqttCarrier, Room as Place
+from live.carriers.mqtt import GONE, Broker, BrokerSession, Login, MqttCarrier
 from live.keys import new_key
 from ..facts import Facts
 from .test_carriers import NODE, Kept
@@ -24,26 +23,26 @@ from .carried import check_session
 from .inside import run_inside
 from .test_following import check_broker
 from .test_liars import check_long as check_long_liars, check_names as check_liars
-from .members import TOP
-from .mosquitto import PLAIN_PORT, TLS_PORT, WEB_PORT, Room, found, way_to_etc
+from .members import TOP, comes
+from .mosquitto import PLAIN_PORT, TLS_PORT, WEB_PORT, BrokerFiles, found, way_to_etc
 from .recipes import check_recipes
 
 SESSION = "class-7"
 PACKAGES = "import cryptography.hazmat.primitives.ciphers.aead, paho.mqtt.client"
 
 
-def place(room: Room, name: str, ca: Optional[str] = "own", host: str = "127.0.0.1", port: int = TLS_PORT) -> Place:
+def place(room: BrokerFiles, name: str, ca: Optional[str] = "own", host: str = "127.0.0.1", port: int = TLS_PORT) -> BrokerSession:
     """Where somebody comes to the broker with TLS."""
     login = (room.path / ("%s.login" % name)).read_text().strip().partition(":")
-    return Place(Broker("mqtts", host, port, ""), SESSION, login[0], Login(login[0], login[2]), str(room.path / ("%s.pem" % ca)) if ca else None)
+    return BrokerSession(Broker("mqtts", host, port, ""), SESSION, login[0], Login(login[0], login[2]), str(room.path / ("%s.pem" % ca)) if ca else None)
 
 
-def open_place(name: str, scheme: str) -> Place:
+def open_place(name: str, scheme: str) -> BrokerSession:
     port, path = (WEB_PORT, "/mqtt") if scheme == "ws" else (PLAIN_PORT, "")
-    return Place(Broker(scheme, "127.0.0.1", port, path), SESSION, name, None, None)
+    return BrokerSession(Broker(scheme, "127.0.0.1", port, path), SESSION, name, None, None)
 
 
-def fault_of(where: Place) -> str:
+def fault_of(where: BrokerSession) -> str:
     try:
         MqttCarrier(where, b"").end()
         return ""
@@ -51,7 +50,7 @@ def fault_of(where: Place) -> str:
         return str(fault)
 
 
-def check_refusals(facts: Facts, room: Room) -> None:
+def check_refusals(facts: Facts, room: BrokerFiles) -> None:
     """Who does not come in, and what he is told. The certificate is for the address and for a name that is not asked for here."""
     cases = {
         "a certificate of nobody we trust": (place(room, "m1", "other"), "has no certificate that is taken: .*--ca FILE"),
@@ -66,7 +65,7 @@ def check_refusals(facts: Facts, room: Room) -> None:
         facts("%s: %s" % (name, told), bool(re.search(wanted, told)) and "\n" not in told, True)
 
 
-def check_names(facts: Facts, room: Room) -> None:
+def check_names(facts: Facts, room: BrokerFiles) -> None:
     """A name writes its own topic alone, hears the others, and is told of when it goes."""
     kept = {name: Kept() for name in ("m1", "m2", "mallory")}
     carriers = {name: MqttCarrier(place(room, name), GONE + name.encode()) for name in kept}
@@ -93,17 +92,17 @@ def check_names(facts: Facts, room: Room) -> None:
         carrier.end()
 
 
-def check_outage(facts: Facts, room: Room) -> None:
+def check_outage(facts: Facts, room: BrokerFiles) -> None:
     """A broker that goes is told of, and found again when it is back."""
     broker = room.brokers[0]
     one, two, kept, other = MqttCarrier(place(room, "m1"), b"x"), MqttCarrier(place(room, "m2"), b"x"), Kept(), Kept()
     one.begin(kept)
     two.begin(other)
     broker.stop()
-    facts("a broker that is gone", wait(lambda: (kept.trouble or "").startswith("the broker 127.0.0.1 does not answer"), 10), True)
+    facts("a broker that is gone", comes(lambda: (kept.trouble or "").startswith("the broker 127.0.0.1 does not answer")), True)
     facts("takes nothing", one.send(b"lost"), False)
     broker.start()
-    facts("one that is back is found", wait(lambda: kept.trouble == other.trouble == "", 20), True)
+    facts("one that is back is found", comes(lambda: kept.trouble == other.trouble == ""), True)
     one.send(b"again")
     facts("and carries again", other.wait_for(b"again"), Origin("m1", True))
     for carrier in (one, two):
@@ -147,7 +146,7 @@ class Relay:
         self.listener.close()
 
 
-def check_broken(facts: Facts, room: Room) -> None:
+def check_broken(facts: Facts, room: BrokerFiles) -> None:
     """A connection that breaks in another way than by an end is told of too, and made again."""
     relay, kept, other = Relay(), Kept(), Kept()
     one, two = MqttCarrier(place(room, "m1", port=relay.port), b"x"), MqttCarrier(place(room, "m2"), b"x")
@@ -156,20 +155,13 @@ def check_broken(facts: Facts, room: Room) -> None:
     for again in (b"first", b"second"):
         troubles = len(kept.troubles)
         relay.spoil()
-        facts("a connection that is spoilt is told of", wait(lambda: "the broker 127.0.0.1 does not answer" in kept.troubles[troubles:], 10), True)
-        facts("and made again", wait(lambda: kept.trouble == "", 20), True)
+        facts("a connection that is spoilt is told of", comes(lambda: "the broker 127.0.0.1 does not answer" in kept.troubles[troubles:]), True)
+        facts("and made again", comes(lambda: kept.trouble == ""), True)
         one.send(again)
         facts("and carries again", other.wait_for(again), Origin("m1", True))
     for carrier in (one, two):
         carrier.end()
     relay.end()
-
-
-def wait(is_so: Any, seconds: float) -> bool:
-    end = time.monotonic() + seconds
-    while not is_so() and time.monotonic() < end:
-        time.sleep(0.02)
-    return bool(is_so())
 
 
 def check_ways(facts: Facts) -> None:
@@ -216,7 +208,7 @@ def check_browser(facts: Facts) -> None:
     key, kept, plain = new_key(), Kept(), Kept()
     asked = json.dumps({"address": "ws://127.0.0.1:%d/mqtt" % WEB_PORT, "session": SESSION, "key": key})
     tag = "00112233445566ff"
-    program = BROWSER % {"web": TOP / "web" / "page", "tag": tag}
+    program = BROWSER % {"web": TOP / "web" / "member", "tag": tag}
     page = subprocess.Popen([NODE, "--no-warnings", "--experimental-websocket", "--input-type=module", "-e", program, asked],
                             stdin=subprocess.PIPE, stdout=subprocess.PIPE, stderr=subprocess.PIPE, text=True)
     assert page.stdout
@@ -227,7 +219,7 @@ def check_browser(facts: Facts) -> None:
     stranger.send(b"WB not sealed")
     ours.send(b"WB hello")
     facts("a browser opens what we send, and we its answer", kept.wait_for(b"WB hello!"), Origin(tag, tag=tag))
-    facts("a stranger hears both, sealed", wait(lambda: len(plain.came) == 2, 5) and not any(b"hello" in data for data, _ in plain.came), True)
+    facts("a stranger hears both, sealed", comes(lambda: len(plain.came) == 2) and not any(b"hello" in data for data, _ in plain.came), True)
     told = json.loads(page.communicate("")[0])
     facts("and is not heard by the browser", told, {"heard": [b"WB hello".hex()], "foreign": 1})
     facts("nor by us", kept.missed, 1)
@@ -235,7 +227,7 @@ def check_browser(facts: Facts) -> None:
     stranger.end()
 
 
-def check_packages(facts: Facts, room: Room) -> None:
+def check_packages(facts: Facts, room: BrokerFiles) -> None:
     """A start without the package ends with one line that names the one command."""
     for name, words, package in (("paho", ["--broker", "mqtts://127.0.0.1/x"], "python3-paho-mqtt"), ("cryptography", ["--key", str(room.path / "a.key")], "python3-cryptography")):
         empty = room.path / ("without " + name)
@@ -251,7 +243,7 @@ def check_packages(facts: Facts, room: Room) -> None:
 
 @pytest.mark.inside
 def test_inside(facts: Facts) -> None:
-    room = Room()
+    room = BrokerFiles()
     try:
         room.sealed()
         room.open()

@@ -29,7 +29,7 @@ from live.options import read_options
 from live.packages import advice
 from live.state import session_name
 from ..facts import Facts
-from .members import TOP
+from .members import PATIENCE, TOP
 from .test_networks import free_ports
 
 HOME = Origin("127.0.0.1:1")
@@ -79,7 +79,7 @@ class Kept:
         self.trouble = trouble
         self.troubles.append(trouble)
 
-    def wait_for(self, data: bytes, seconds: float = 10.0) -> Optional[Origin]:
+    def wait_for(self, data: bytes, seconds: float = PATIENCE) -> Optional[Origin]:
         """Where a datagram came from, once it has come."""
         end = time.monotonic() + seconds
         while time.monotonic() < end:
@@ -185,7 +185,7 @@ def test_seal(facts: Facts) -> None:
     facts("nor what a member of an earlier version sealed", seal.read(seal.close(data)), None)
     facts("a sender is not one that a network keeps", {Seal(KEY, "x").sender[0] >> 7 for _ in range(50)}, {0})
     vector = Seal("AAECAwQFBgcICQoLDA0ODxAREhMUFRYXGBkaGxwdHh8", "board").read(bytes.fromhex(VECTOR))
-    facts("the bytes are those of docs/LIVE.md", vector, Letter(bytes.fromhex("0123456789abcdef"), 5, bytes.fromhex("574201040000000400000007")))
+    facts("the bytes are those of docs/PROTOCOL.md", vector, Letter(bytes.fromhex("0123456789abcdef"), 5, bytes.fromhex("574201040000000400000007")))
 
 
 def wrong_bytes(sealed: bytes) -> List[bytes]:
@@ -284,7 +284,7 @@ def test_code(facts: Facts) -> None:
     except OSError:  # the other end is closed
         pass
     lines = told.decode("utf-8").replace("\r", "").split("\n")
-    facts("an invitation in a terminal", (ran.wait(20), lines[0]), (0, "wb:#session=board&ports=25000"))
+    facts("an invitation in a terminal", (ran.wait(PATIENCE), lines[0]), (0, "wb:#session=board&ports=25000"))
     facts("has a picture below", len(lines) > 15 and all(set(line) <= set(" \u2580\u2584\u2588") for line in lines[1:]), True)
     facts("and a word on what has no key", b"no key" in (ran.stderr.read() if ran.stderr else b""), True)
     if ran.stderr:
@@ -336,7 +336,7 @@ def test_udp(facts: Facts) -> None:
         here.begin(ours)
         there.begin(theirs)
         facts("%s: what is sent" % name, here.send(b"hello"), True)
-        origin = theirs.wait_for(b"hello", 3)
+        origin = theirs.wait_for(b"hello", 3 if name == "group" else PATIENCE)
         if name == "group" and origin is None:
             print("skipped: a multicast group as a carrier, since the loopback interface here carries none")
         else:
@@ -372,7 +372,7 @@ def test_browsers(facts: Facts) -> None:
     seal, key = Seal(KEY, "class-7"), KEY
     line = "https://page.example/#session=class-7&broker=wss%3A%2F%2Fbroker.example%2Fmqtt&key=" + key
     asked = json.dumps({"key": key, "session": "class-7", "closed": seal.close(b"\x00\xffWB").hex(), "line": line})
-    program = AGREEMENT % {"web": TOP / "web" / "page"}
+    program = AGREEMENT % {"web": TOP / "web" / "member"}
     ran = subprocess.run([str(NODE), "--input-type=module", "-e", program, asked], stdout=subprocess.PIPE, stderr=subprocess.PIPE, text=True, timeout=60, check=False)
     told = json.loads(ran.stdout) if ran.returncode == 0 else {"fault": ran.stderr}
     facts("a browser opens what we seal", told.get("opened"), b"\x00\xffWB".hex())

@@ -13,7 +13,7 @@ from live.options import read_options
 
 from ..facts import Facts
 from .members import PATIENCE, Process
-from .mosquitto import Room
+from .mosquitto import BrokerFiles
 from .test_networks import can_join, free_ports
 from .test_requests import status_of
 
@@ -127,7 +127,7 @@ def test_group(facts: Facts) -> None:
         print("skipped: the next board on a LAN, since the loopback interface here carries no group")
 
 
-def check_broker(facts: Facts, room: Room) -> None:
+def check_broker(facts: Facts, room: BrokerFiles) -> None:
     """By the broker of docs/LIVE.md, sealed; each member by a name of its own."""
     key = str(room.path / "next.key")
     write_key(key)

@@ -6,7 +6,7 @@ from typing import Any, Callable, Dict, List
 
 from ..facts import Facts
 from .test_hostile import Attacker, asking, deleting, drawn, session, state
-from .members import Process
+from .members import Process, comes
 
 FIRST_PORT = 26_320
 PAGE = "1/1"
@@ -72,12 +72,15 @@ def check_future(facts: Facts, member: Process, attacker: Attacker) -> None:
     member.draw(PAGE, "delete %d %d" % (member.me, answer["seq"]))
     member.draw(PAGE, "restore %d %d" % (member.me, answer["seq"]))
     facts("what is restored is shown", member.wait_for(lambda states: states["board"]["rows"][2] == "fffff"), True)
-    later = drawn(8, 1, now() + MINUTE + 4_000_000, 5, b"z")
+    later = drawn(8, 1, now() + MINUTE + 10_000_000, 5, b"z")
     attacker.reach(member, [later])
     facts("a stranger's drawing of the next minutes is not taken", member.wait_for(lambda states: "zzzzz" in states["board"]["rows"], WHILE), False)
-    time.sleep(4)
-    attacker.send(later)
-    facts("and is once its time has come", member.wait_for(lambda states: "zzzzz" in states["board"]["rows"]), True)
+
+    def is_taken() -> bool:
+        attacker.send(later)
+        return member.wait_for(lambda states: "zzzzz" in states["board"]["rows"], 0.5)
+
+    facts("and is once its time has come", comes(is_taken), True)
 
 
 def check_clock(facts: Facts, member: Process, attacker: Attacker) -> None:

@@ -19,7 +19,7 @@ from .members import TOP
 
 NODE = shutil.which("node")
 VECTORS = TOP / "docs" / "vectors" / "ink.json"
-PAGE = TOP / "tests" / "page" / "ink.mjs"
+PAGE = TOP / "tests" / "ui" / "ink.mjs"
 
 # texts and boards at random in a run of the tests, and texts that one program of node is given
 TEXTS, BOARDS, AT_ONCE = 6_000, 300, 50_000

@@ -11,7 +11,7 @@ from pathlib import Path
 from typing import Any, Dict, List, Optional
 
 from ..facts import Facts
-from .members import SLOW_FROM, Process, messages, milliseconds_a_line
+from .members import LONGEST, PATIENCE, SLOW_FROM, Process, messages, milliseconds_a_line
 
 FIRST_PORT = 26_560
 PAGE = "1/1"
@@ -28,9 +28,6 @@ SECONDS = 10
 WATCHERS = 50
 ROUNDS = 9
 MOST_LATENCY = 100
-
-# seconds of waiting, anywhere
-LONGEST, LONGEST_LINE = 240, 60
 
 
 def write_board(path: Path, me: int, drawops: int) -> None:
@@ -116,7 +113,7 @@ def check_line(facts: Facts, member: Process, drawops: int) -> None:
     for row in range(91, 91 + ROUNDS):
         began = time.monotonic()
         member.draw(PAGE, "line 0 %d 5 %d #" % (row, row))
-        taken.append(1000 * (max(watcher.is_told(row, began + LONGEST_LINE) for watcher in watchers) - began))
+        taken.append(1000 * (max(watcher.is_told(row, began + PATIENCE) for watcher in watchers) - began))
         time.sleep(0.5)
     print("a line on a page of %d drawops was seen by %d browsers after %.0f ms, the median of %d; at best %.0f" % (
         drawops, WATCHERS, statistics.median(taken), ROUNDS, min(taken)))

@@ -15,7 +15,7 @@ from live.held import held_of
 from live.options import read_options
 from live.record import MOST_MOMENT, Act, Record, read_played
 from live.views import Drawop
-from live.words import Told, Words
+from live.words import Wording, Words
 from ..facts import Facts
 from .test_hostile import Attacker, drawn, session, state
 from .members import Process, answers
@@ -143,8 +143,8 @@ def test_draw(facts: Facts) -> None:
 class Speechless(Words):
     """`wb words` that ends whenever it is asked."""
 
-    def some(self, many: Sequence[str]) -> List[Told]:
-        return [Told(None, "unread")] * len(many)
+    def some(self, many: Sequence[str]) -> List[Wording]:
+        return [Wording(None, "unread")] * len(many)
 
 
 def test_unsaid(facts: Facts) -> None:

@@ -9,7 +9,7 @@ from typing import Callable, List, Optional, Tuple
 import pytest
 
 from live.carriers.carrier import Origin
-from live.carriers.mqtt import MOST_NAME, Broker, MqttCarrier, Room
+from live.carriers.mqtt import MOST_NAME, Broker, BrokerSession, MqttCarrier
 from live.sockets import acceptance
 from ..facts import Facts
 from .test_carriers import Kept
@@ -101,7 +101,7 @@ class Liar:
 
 
 def carrier_of(liar: Liar) -> Tuple[MqttCarrier, Kept]:
-    carrier, kept = MqttCarrier(Room(liar.broker, SESSION, "1", None, None), b"x"), Kept()
+    carrier, kept = MqttCarrier(BrokerSession(liar.broker, SESSION, "1", None, None), b"x"), Kept()
     carrier.begin(kept)
     liar.go.set()
     return carrier, kept

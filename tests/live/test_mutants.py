@@ -33,7 +33,7 @@ from live.views import Drawop
 from live.words import Words
 from ..facts import Facts
 from .test_hostile import Attacker, asking, deleting, drawn, framed, session, state
-from .members import Process
+from .members import PATIENCE, Process, comes
 
 FIRST_PORT = 27_280
 PAGE = "1/1"
@@ -189,7 +189,7 @@ SHOWS = {
 
 def check_shows(facts: Facts, *_: Any) -> None:
     """A driver knows how many rows a canvas has, however the question is written."""
-    host = Host(os.environ["WB_PROGRAM"], patience=3)
+    host = Host(os.environ["WB_PROGRAM"], patience=PATIENCE)
     host.ask("board 7 64 1 42")
     for line, wanted in SHOWS.items():
         block = block_of(host, line)
@@ -403,10 +403,7 @@ def check_requests(facts: Facts, chance: random.Random, found: Dict[str, int]) -
         facts("a mutated request is answered, or its connection ends", odd[:1], [])
         facts("after mutated requests the page is served", member.get_page()[0], 200)
         facts("and drawn on", member.draw(PAGE, "line 0 9 4 9 z")[0], 200)
-        end = time.monotonic() + 10
-        while len(os.listdir("/proc/%d/task" % member.process.pid)) > before + 2 and time.monotonic() < end:
-            time.sleep(0.1)
-        facts("and no thread stays", len(os.listdir("/proc/%d/task" % member.process.pid)) <= before + 2, True)
+        facts("and no thread stays", comes(lambda: len(os.listdir("/proc/%d/task" % member.process.pid)) <= before + 2), True)
     finally:
         facts("after mutated requests a member ends with 0", member.end(), 0)
 

@@ -17,7 +17,7 @@ FIRST_PORT = 26_280
 POINT = Point(7, (1, 2), (3, 4), ["line 0 0 1 1 *", 'text 0 0 "a"'])
 
 
-class Told:
+class LastTold:
     """In the place of events: what was told last."""
 
     def __init__(self) -> None:
@@ -42,7 +42,7 @@ def test_bytes(facts: Facts) -> None:
 
 
 def test_heeding(facts: Facts) -> None:
-    told = Told()
+    told = LastTold()
     presence = Presence(1, told)  # type: ignore[arg-type]
     presence.hear(write(POINT))
     facts("another is told", [other["member"] for other in told.others], [7])

@@ -5,13 +5,12 @@ import os
 import shutil
 import subprocess
 import tempfile
-import time
 from pathlib import Path
-from typing import Callable, List
+from typing import List
 
 from ..facts import Facts
 from .test_guests import Window
-from .members import TOP, Process, program
+from .members import TOP, Process, comes, program
 
 # The launcher: what is there at once is a build that is not proved, until the file `proved` stands beside it. Its proof goes on as
 # the tests say, by files: `stage` is what it writes, `fast` lets another build take the first one's place, and `ends` ends it.
@@ -68,14 +67,6 @@ def hosts_of(member: Process) -> List[str]:
     return sorted({line.split()[0] for line in told.stdout.splitlines() if "/wb " in line and "--beside" not in line})
 
 
-def waits(is_so: Callable[[], bool]) -> bool:
-    """Whether something comes to be so in ten seconds."""
-    end = time.monotonic() + 10
-    while not is_so() and time.monotonic() < end:
-        time.sleep(0.1)
-    return is_so()
-
-
 def test_change(facts: Facts) -> None:
     place = Checkout()
     one = place.start("--ports", "27800")
@@ -122,10 +113,10 @@ def test_none(facts: Facts) -> None:
 def test_end(facts: Facts) -> None:
     place = Checkout()
     one = place.start("--ports", "27920")
-    facts("a proof is begun", waits(lambda: (place.top / "prover").exists() and bool((place.top / "prover").read_text())), True)
+    facts("a proof is begun", comes(lambda: (place.top / "prover").exists() and bool((place.top / "prover").read_text())), True)
     prover = (place.top / "prover").read_text().strip()
     one.end()
-    facts("and ends with its session", waits(lambda: not Path("/proc", prover).exists()), True)
+    facts("and ends with its session", comes(lambda: not Path("/proc", prover).exists()), True)
 
 
 def test_guests(facts: Facts) -> None:
@@ -140,7 +131,7 @@ def test_guests(facts: Facts) -> None:
         facts("and the other sees it", windows[1].wait_for(lambda states: states["board"]["rows"] == ["*****"]), True)
         place.say("ends-0")
         facts("both are told that it is proved", [window.wait_for(lambda states: states["hello"]["proof"]["proved"]) for window in windows], [True, True])
-        facts("all hosts are the proved program", waits(lambda: hosts_of(served) == [str(place.top / "out/wb")]), True)
+        facts("all hosts are the proved program", comes(lambda: hosts_of(served) == [str(place.top / "out/wb")]), True)
         facts("each goes on", windows[1].draw("1/1", 'text 0 1 "two"')[0], 200)
         facts("with all that was drawn", [window.wait_for(lambda states: states["board"]["rows"] == ["*****", "two"]) for window in windows], [True, True])
         late = Window(served).look()

@@ -7,7 +7,6 @@ import resource
 import stat
 import subprocess
 import sys
-import time
 from pathlib import Path
 from typing import Any, Callable, Dict, List, Tuple
 
@@ -19,7 +18,7 @@ from ..facts import Facts
 from .test_hostile import Attacker
 from .test_joins import holds, write_board
 from .test_keeping import board_of
-from .members import PATIENCE, Process
+from .members import PATIENCE, Process, comes
 
 FIRST_PORT = 26_400
 PAGE = "1/1"
@@ -75,7 +74,7 @@ def refused(words: List[str], environment: Dict[str, str]) -> Tuple[int, str]:
     """The status of a start that is refused, and what it says."""
     started = Process([*words, "--no-terminal"], web=False, environment=environment)
     try:
-        status = started.process.wait(10)
+        status = started.process.wait(PATIENCE)
         return status, started.process.stderr.read().strip() if started.process.stderr else ""
     except subprocess.TimeoutExpired:
         return -1, ""
@@ -220,21 +219,20 @@ sys.exit(host.wait())
 
 
 def check_long(facts: Facts, folder: Path) -> None:
-    """A start that takes long tells how far it is; a short one tells nothing."""
+    """A start that takes long tells how far it is."""
     path, program, slow = folder / "long.wb", os.environ["WB_PROGRAM"], folder / "slow"
     write_board(path, 7, 2_000)
     words = ["--ports", str(FIRST_PORT), "--record", str(path)]
-    for seconds, wanted in ((0.002, True), (0, False)):
-        slow.write_text(SLOW % (sys.executable, program, program, seconds))
-        slow.chmod(0o700)
-        member = Process(words, environment={"WB_PROGRAM": str(slow)})
-        facts("a record of 2,000 drawops is there", member.wait_for(lambda states: holds(states, 2_000)), True)
-        error = member.process.stderr
-        member.process.terminate()
-        told = [line for line in (error.read() if error else "").split("\n") if "takes in what its record has" in line]
-        member.process.wait(PATIENCE)
-        member.close()
-        facts("a start of %g ms a drawop tells how far it is: %s" % (1000 * seconds, told), bool(told) and all(line.endswith(" percent") for line in told), wanted)
+    slow.write_text(SLOW % (sys.executable, program, program, 0.002))
+    slow.chmod(0o700)
+    member = Process(words, environment={"WB_PROGRAM": str(slow)})
+    facts("a record of 2,000 drawops is there", member.wait_for(lambda states: holds(states, 2_000)), True)
+    error = member.process.stderr
+    member.process.terminate()
+    told = [line for line in (error.read() if error else "").split("\n") if "takes in what its record has" in line]
+    member.process.wait(PATIENCE)
+    member.close()
+    facts("a start of 2 ms a drawop tells how far it is: %s" % told, bool(told) and all(line.endswith(" percent") for line in told), True)
 
 
 def check_noise(facts: Facts, folder: Path) -> None:
@@ -268,9 +266,8 @@ def check_full_disk(facts: Facts, folder: Path) -> None:
         facts("it is told", member.wait_for(lambda states: any("record" in text for text in states["health"]["warnings"])), True)
         facts("no line is torn", path.read_bytes()[-1:], b"\n")
         resource.prlimit(member.process.pid, resource.RLIMIT_FSIZE, (resource.RLIM_INFINITY, resource.RLIM_INFINITY))
-        time.sleep(1.5)
-        status, answer = member.draw(PAGE, "line 0 1 4 1 b")
-        facts("with room one draws on, by the next number", (status, answer.get("seq")), (200, drawn + 1))
+        facts("with room one draws on", comes(lambda: member.draw(PAGE, "line 0 1 4 1 b")[0] == 200), True)
+        facts("by the next number", member.draw(PAGE, "line 0 2 4 2 b")[1].get("seq"), drawn + 2)
         facts("and is not warned any more", member.wait_for(lambda states: not any("record" in text for text in states["health"]["warnings"])), True)
     finally:
         facts("it ends with 0", member.end(), 0)

@@ -10,14 +10,14 @@ from typing import Any, Callable, Dict, Iterator, List, Optional, Tuple
 import pytest
 
 from ..facts import Facts
-from .members import Process
+from .members import PATIENCE, Process
 
 FIRST_PORT = 26_120
 
 
 def status_of(member: Process, method: str, path: str, headers: Dict[str, str], body: Optional[bytes] = None) -> int:
     """The status of a request with these headers and no others but its length."""
-    connection = http.client.HTTPConnection("127.0.0.1", member.port, timeout=20)
+    connection = http.client.HTTPConnection("127.0.0.1", member.port, timeout=PATIENCE)
     try:
         connection.putrequest(method, path, skip_host=True, skip_accept_encoding=True)
         for name, value in headers.items():
@@ -32,13 +32,13 @@ def status_of(member: Process, method: str, path: str, headers: Dict[str, str], 
 
 def raw_status(member: Process, request: bytes) -> str:
     """The first line of the answer to these bytes."""
-    with socket.create_connection(("127.0.0.1", member.port), timeout=20) as connection:
+    with socket.create_connection(("127.0.0.1", member.port), timeout=PATIENCE) as connection:
         connection.sendall(request)
         return connection.makefile("rb").readline().decode().strip()
 
 
 def check_page(facts: Facts, member: Process) -> None:
-    connection = http.client.HTTPConnection("127.0.0.1", member.port, timeout=20)
+    connection = http.client.HTTPConnection("127.0.0.1", member.port, timeout=PATIENCE)
     connection.request("GET", "/%s/" % member.token)
     answer = connection.getresponse()
     policy = answer.getheader("Content-Security-Policy", "")
@@ -51,7 +51,7 @@ def check_page(facts: Facts, member: Process) -> None:
 def check_files(facts: Facts, member: Process) -> None:
     """The modules that the page consists of, and nothing beside them."""
     for path, kind in (("/page/start.js", "text/javascript"), ("/page/style.css", "text/css")):
-        connection = http.client.HTTPConnection("127.0.0.1", member.port, timeout=20)
+        connection = http.client.HTTPConnection("127.0.0.1", member.port, timeout=PATIENCE)
         connection.request("GET", "/%s%s" % (member.token, path))
         answer = connection.getresponse()
         facts("%s is served" % path, (answer.status, answer.getheader("Content-Type", "").split(";")[0]), (200, kind))
@@ -146,7 +146,7 @@ def check_pages(facts: Facts, member: Process) -> None:
 
 def check_crowds(facts: Facts, member: Process) -> None:
     """Idle connections, too many streams, and lines without end."""
-    idle = [socket.create_connection(("127.0.0.1", member.port), timeout=20) for _ in range(200)]
+    idle = [socket.create_connection(("127.0.0.1", member.port), timeout=PATIENCE) for _ in range(200)]
     began = time.monotonic()
     facts("beside 200 idle connections the page is served", member.get_page()[0], 200)
     facts("and one draws", member.draw("1/1", "line 0 8 5 8 i")[0], 200)
@@ -157,7 +157,7 @@ def check_crowds(facts: Facts, member: Process) -> None:
     facts("too many headers", raw_status(member, b"GET / HTTP/1.1\r\n" + b"a: b\r\n" * 200 + b"\r\n").split(" ")[1], "431")
     streams = []
     for _ in range(140):
-        connection = socket.create_connection(("127.0.0.1", member.port), timeout=20)
+        connection = socket.create_connection(("127.0.0.1", member.port), timeout=PATIENCE)
         connection.sendall(
             b"GET /%s/events?token=%s HTTP/1.1\r\nHost: 127.0.0.1:%d\r\nUpgrade: websocket\r\nSec-WebSocket-Key: AAAAAAAAAAAAAAAAAAAAAA==\r\n\r\n"
             % (member.token.encode(), member.token.encode(), member.port))

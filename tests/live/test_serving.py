@@ -19,7 +19,7 @@ import pytest
 from live.web import spellings
 from ..facts import Facts
 from .inside import run_inside, way_inside
-from .members import TOP, Process
+from .members import PATIENCE, TOP, Process
 from .mosquitto import make_certificate
 
 FIRST_PORT = 27_200
@@ -52,11 +52,11 @@ def test_usual_port(facts: Facts) -> None:
         try:
             host, key = origin[7:], {"X-Wb-Token": served.token, "Origin": origin}
             for named in ([host, host + ":80"] if "--origin" in words else [host]):
-                connection = http.client.HTTPConnection("127.0.0.1", served.port, timeout=20)
+                connection = http.client.HTTPConnection("127.0.0.1", served.port, timeout=PATIENCE)
                 status, page = asked(connection, "/%s/" % served.token, headers={"Host": named})
                 facts("%s: the page by %s" % (words[1], named), (status, b"<script" in page), (200, True))
                 connection.close()
-            connection = http.client.HTTPConnection("127.0.0.1", served.port, timeout=20)
+            connection = http.client.HTTPConnection("127.0.0.1", served.port, timeout=PATIENCE)
             status, _ = asked(connection, "/%s/draw" % served.token, {"page": "1/1", "op": "line 0 0 3 0 a"}, {**key, "Host": host})
             facts("%s: a drawing of its own page" % words[1], status, 200)
             status, _ = asked(connection, "/%s/draw" % served.token, {"page": "1/1", "op": "line 0 0 3 0 a"}, {**key, "Host": host, "Origin": "http://example.org"})
@@ -74,7 +74,7 @@ def test_plain(facts: Facts) -> None:
         served = Process(["--ports", str(FIRST_PORT), "--web", address])
         error = served.process.stderr
         served.process.terminate()
-        status, said = served.process.wait(20), error.read() if error else ""
+        status, said = served.process.wait(PATIENCE), error.read() if error else ""
         facts("at %s plain HTTP is told" % address, (status, "plain HTTP" in said), (0, wanted))
         served.close()
 
@@ -96,7 +96,7 @@ class Caddy:
         environment = {**os.environ, "XDG_DATA_HOME": str(folder), "XDG_CONFIG_HOME": str(folder), "HOME": str(folder)}
         self.process = subprocess.Popen([str(shutil.which("caddy")), "run", "--config", str(file), "--adapter", "caddyfile"], env=environment,
                                         stdin=subprocess.DEVNULL, stdout=subprocess.DEVNULL, stderr=subprocess.DEVNULL)
-        end = time.monotonic() + 20
+        end = time.monotonic() + PATIENCE
         while time.monotonic() < end:
             try:
                 socket.create_connection(("127.0.0.1", 443), timeout=1).close()
@@ -106,7 +106,7 @@ class Caddy:
 
     def end(self) -> None:
         self.process.terminate()
-        self.process.wait(10)
+        self.process.wait(PATIENCE)
 
 
 class Sealed(http.client.HTTPSConnection):
@@ -114,10 +114,10 @@ class Sealed(http.client.HTTPSConnection):
 
     def __init__(self, own: Path) -> None:
         self.trusted = ssl.create_default_context(cafile=str(own))
-        super().__init__(NAME, 443, timeout=20, context=self.trusted)
+        super().__init__(NAME, 443, timeout=PATIENCE, context=self.trusted)
 
     def connect(self) -> None:
-        self.sock = self.trusted.wrap_socket(socket.create_connection(("127.0.0.1", 443), timeout=20), server_hostname=NAME)
+        self.sock = self.trusted.wrap_socket(socket.create_connection(("127.0.0.1", 443), timeout=PATIENCE), server_hostname=NAME)
 
 
 @pytest.mark.inside

@@ -10,14 +10,11 @@ from functools import partial
 from typing import Any, Dict, List
 
 from ..facts import Facts
-from .members import SLOW_FROM, Process, answers, milliseconds_a_line
+from .members import LONGEST, SLOW_FROM, Process, answers, is_refused, milliseconds_a_line
 
 PAGES = ["1/1", "2/1"]
 DRAWOPS = 50
 SPEED = 10
-
-# seconds until all of a session hold all, at most
-LONGEST = 240
 
 # of eight members, where the program is a slow build
 FEW_DRAWOPS = 12
@@ -41,9 +38,9 @@ def draw_all(member: Process, count: int, faults: List[str]) -> None:
     for turn in range(count * len(PAGES)):
         page = PAGES[turn % len(PAGES)]
         status, answer = member.draw(page, operation(chance, drawn[page], member.me))
-        if status != 200:
+        if is_refused(status, answer):
             faults.append("%d: %s" % (status, answer))
-        elif answer["words"].split(" ")[5] in ("line", "frame", "text"):
+        elif status == 200 and answer["words"].split(" ")[5] in ("line", "frame", "text"):
             drawn[page].append(answer["seq"])
 
 

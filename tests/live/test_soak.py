@@ -20,7 +20,7 @@ from live.views import Drawop
 from ..facts import Facts
 from .test_guests import Window
 from .test_ink import VECTORS
-from .members import SLOW_FROM, Process, answers, milliseconds_a_line, program
+from .members import LONGEST, SLOW_FROM, Process, answers, milliseconds_a_line, program
 from .test_networks import hosts_of
 from .test_sessions import PAGES, operation
 
@@ -31,8 +31,8 @@ MEMBERS, GUESTS = 8, 4
 SECONDS, DRAWINGS = 40.0, 1_800
 MINUTES, MANY_DRAWINGS = 10.0, 30_000
 
-# seconds until all boards are equal, at most, and between two looks
-LONGEST, PAUSE = 240, 2
+# seconds between two looks whether all boards are equal
+PAUSE = 2
 
 # one drawing in so many of a guest is its last before its window is closed and its page opened again
 LEAVES = 30

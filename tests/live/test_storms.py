@@ -13,14 +13,11 @@ from typing import Any, Dict, List, Optional, Set, Tuple
 
 from ..facts import Facts
 from .test_hostile import asking, deleting, drawn, framed, session, state
-from .members import SLOW_FROM, Process, answers, milliseconds_a_line, program
+from .members import LONGEST, SLOW_FROM, Process, answers, is_refused, milliseconds_a_line, program
 from .test_sessions import PAGES, operation
 
 FIRST_PORT = 26_640
 SECONDS, LONG_SECONDS = 20.0, 60.0
-
-# seconds until boards are equal, at most
-LONGEST = 240
 
 # rows of a page that are compared: forged drawops are below
 ROWS = 38
@@ -112,9 +109,9 @@ def draw_while(member: Process, end: float, faults: List[str], pause: float) -> 
     while time.monotonic() < end:
         page = PAGES[turn % len(PAGES)]
         status, answer = member.draw(page, operation(chance, own[page], member.me))
-        if status != 200:
+        if is_refused(status, answer):
             faults.append("%d: %s" % (status, answer))
-        elif answer["words"].split(" ")[5] in ("line", "frame", "text"):
+        elif status == 200 and answer["words"].split(" ")[5] in ("line", "frame", "text"):
             own[page].append(answer["seq"])
         turn += 1
         time.sleep(pause)

@@ -1,4 +1,4 @@
-"""What a stranger and a forger can't do to members: each test fails on a member that goes by what anybody says. docs/LIVE.md says what holds."""
+"""What a stranger and a forger can't do to members: each test fails on a member that goes by what anybody says. docs/SECURITY.md says what holds."""
 from __future__ import annotations
 
 import importlib.util
@@ -14,7 +14,7 @@ from live.judge import STRANGE_PAGES
 from ..facts import Facts
 from .test_forgeries import now
 from .test_hostile import Attacker, drawn, framed, session, state
-from .members import Process
+from .members import Process, comes
 
 FIRST_PORT = 26_760
 PORTS = 32
@@ -227,13 +227,12 @@ def test_replay(facts: Facts) -> None:
         first, other = members(words, "--speed 10")
         ear = Ear(first.udp_port)
         first.draw(PAGE, "line 0 0 4 0 d")
-        time.sleep(2)
+        facts("a member's datagrams were heard", comes(lambda: len(ear.heard) > 3), True)
         first.end()
         again = Process(["--ports", str(FIRST_PORT), *words.split()])
         time.sleep(1)
         try:
             ear.target = ("127.0.0.1", again.udp_port)
-            facts("a member's datagrams were heard", len(ear.heard) > 3, True)
             ear.send(*[data for data, _ in list(ear.heard)])
             facts("a replay is no twin", is_twin(again), False)
             facts("and the member draws", again.draw(PAGE, "line 0 1 4 1 d")[0], 200)
@@ -257,7 +256,7 @@ def test_sealed_replay(facts: Facts) -> None:
         ear = Ear(0)
         two[0].draw(PAGE, 'text 0 0 "forget me"')
         two[1].wait_for(lambda states: states["board"]["rows"] == ["forget me"])
-        time.sleep(1)
+        comes(lambda: len(ear.heard) > 3)
         for each in two:
             each.end()
         fresh = members(words, words)
@@ -297,15 +296,15 @@ def test_hushing(facts: Facts) -> None:
     holder = Process(["--ports", str(FIRST_PORT)])
     ear, is_done = Ear(holder.udp_port), threading.Event()
     holder.draw(PAGE, "line 0 0 4 0 d")
-    time.sleep(0.5)
+    comes(lambda: any(data[:4] == b"WB\x01\x01" for data, _ in list(ear.heard)))
     drawop = next(data for data, _ in ear.heard if data[:4] == b"WB\x01\x01")
     thread = flood(ear, lambda _: drawop, is_done)
     newcomer = Process(["--ports", str(FIRST_PORT)])
     began = time.monotonic()
     try:
-        comes = newcomer.wait_for(lambda states: states["board"]["rows"] == ["ddddd"], SOON)
+        is_there = newcomer.wait_for(lambda states: states["board"]["rows"] == ["ddddd"], SOON)
         print("beside 250 copies a second a newcomer had the drawing after %.1f s" % (time.monotonic() - began))
-        facts("copies keep nobody from repairing", comes, True)
+        facts("copies keep nobody from repairing", is_there, True)
     finally:
         is_done.set()
         thread.join()
@@ -327,9 +326,9 @@ def test_putting_off(facts: Facts) -> None:
     thread = flood(attacker, lambda _: asking, is_done)
     began = time.monotonic()
     try:
-        comes = two[1].wait_for(lambda states: states["board"]["rows"] == ["ddddd"] * 2, SOON)
+        is_there = two[1].wait_for(lambda states: states["board"]["rows"] == ["ddddd"] * 2, SOON)
         print("beside 250 forged requests a second a lost drawing came after %.1f s" % (time.monotonic() - began))
-        facts("forged requests put off none of ours", comes, True)
+        facts("forged requests put off none of ours", is_there, True)
     finally:
         is_done.set()
         thread.join()

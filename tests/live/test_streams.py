@@ -10,7 +10,7 @@ import threading
 import time
 from pathlib import Path
 from types import SimpleNamespace
-from typing import Any, Iterator, List, Optional, Tuple
+from typing import Any, Iterator, List, Tuple
 
 import pytest
 
@@ -23,7 +23,7 @@ from ..facts import Facts
 from .test_carriers import HAS_SEALS, KEY
 from .inside import run_inside, way_inside
 from .test_joins import PAGE, holds, write_board
-from .members import Process
+from .members import PATIENCE, Process, comes
 from .test_networks import free_ports
 
 FIRST_PORT = 27_000
@@ -38,6 +38,15 @@ SHAPED = "ip link set lo mtu 1500 && tc qdisc add dev lo root tbf rate %s burst 
 
 # bytes that a slow relay passes at a time, and the seconds between
 PIECE, PAUSE = 1_100, 0.0005
+
+
+# the drawing that is held by who gives a stream
+HELD = bytes.fromhex("57420101000000220000000800000001000000010000000100000000000003e70100000000000200006f")
+
+
+def soon() -> float:
+    """The moment at which something that has not come has failed."""
+    return time.monotonic() + PATIENCE
 
 
 def drawings() -> List[bytes]:
@@ -61,7 +70,7 @@ def linked(relay: bool) -> Iterator[Tuple[socket.socket, socket.socket]]:
         between = socket.create_server(("127.0.0.1", 0)) if relay else None
         if between:
             threading.Thread(target=pass_on, args=(between, target), daemon=True).start()
-        with socket.create_connection(between.getsockname() if between else target, timeout=5) as near, far.accept()[0] as other:
+        with socket.create_connection(between.getsockname() if between else target, timeout=PATIENCE) as near, far.accept()[0] as other:
             yield near, other
         if between:
             between.close()
@@ -94,7 +103,7 @@ def check_whole(facts: Facts, how: str, relay: bool) -> None:
 
         def give(stream: socket.socket, seal: Any = seal, given: List[bytes] = given) -> None:
             talk = Talk(stream, seal)
-            asked.append(talk.is_asked(time.monotonic() + 5))
+            asked.append(talk.is_asked(soon()))
             for start in range(0, len(given), 500):
                 talk.write(b"".join(given[start:start + 500]))
             stream.shutdown(socket.SHUT_WR)
@@ -103,8 +112,8 @@ def check_whole(facts: Facts, how: str, relay: bool) -> None:
         with linked(relay) as (near, other):
             threading.Thread(target=give, args=(other,), daemon=True).start()
             talk = Talk(near, seal)
-            talk.ask(time.monotonic() + 5)
-            taken = list(datagrams_of(talk, time.monotonic() + 30))
+            talk.ask(soon())
+            taken = list(datagrams_of(talk, soon()))
         facts("a %s stream is asked for %s" % (name, how), asked, [True])
         facts("%d of %d of a %s stream come %s" % (len(taken), len(given), name, how), taken == given, True)
 
@@ -120,7 +129,7 @@ def test_strangers(facts: Facts) -> None:
         with linked(False) as (near, giver):
             near.sendall(wrong)
             near.shutdown(socket.SHUT_WR)
-            facts("who has %s gets no stream" % name, Talk(giver, sealed).is_asked(time.monotonic() + 5), False)
+            facts("who has %s gets no stream" % name, Talk(giver, sealed).is_asked(soon()), False)
 
 
 class Tape:
@@ -153,36 +162,36 @@ def test_replays(facts: Facts) -> None:
         giving, tape = Talk(other, seal), Tape(near)
 
         def give() -> None:
-            if giving.is_asked(time.monotonic() + 5):
+            if giving.is_asked(soon()):
                 giving.write(b"".join(given))
 
         thread = threading.Thread(target=give, daemon=True)
         thread.start()
         asking = Talk(tape, seal)  # type: ignore[arg-type]
-        asking.ask(time.monotonic() + 5)
-        first = next(datagrams_of(asking, time.monotonic() + 5))
+        asking.ask(soon())
+        first = next(datagrams_of(asking, soon()))
         thread.join()
     facts("a stream is given", first, given[0])
     with linked(False) as (near, other):
         near.sendall(tape.said)
-        facts("the same question again gets none", Talk(other, seal).is_asked(time.monotonic() + 5), False)
+        facts("the same question again gets none", Talk(other, seal).is_asked(soon()), False)
     with linked(False) as (near, other):
         other.sendall(tape.heard)
         other.shutdown(socket.SHUT_WR)
         asking = Talk(near, seal)
-        asking.ask(time.monotonic() + 5)
-        facts("the same stream again brings nothing", (len(tape.heard) > FRESH, list(datagrams_of(asking, time.monotonic() + 5))), (True, []))
+        asking.ask(soon())
+        facts("the same stream again brings nothing", (len(tape.heard) > FRESH, list(datagrams_of(asking, soon()))), (True, []))
 
 
 # ---- to whom a stream is given
 
 
 class Keeper:
-    """What an offer needs of a member that holds nothing."""
+    """What an offer needs of a member that holds one drawing."""
 
     def __init__(self) -> None:
         self.people = SimpleNamespace(call=lambda what: SimpleNamespace(result=lambda seconds: what()))
-        self.drawn = SimpleNamespace(all=lambda: [])
+        self.drawn = SimpleNamespace(all=lambda: [SimpleNamespace(name=(7, (1, 1), 1), digits=HELD.hex())])
 
 
 def offered(udp: UdpCarrier) -> Offer:
@@ -191,45 +200,53 @@ def offered(udp: UdpCarrier) -> Offer:
     return made
 
 
-def ask(place: Tuple[str, int], source: str = "127.0.0.1", question: bytes = QUESTION) -> Optional[float]:
-    """After how many seconds a connection from there is at its end, which first asks; None if that takes longer than a silence may."""
-    began = time.monotonic()
-    with contextlib.suppress(ConnectionResetError), socket.create_connection(place, timeout=3, source_address=(source, 0)) as stream:
-        try:
-            stream.sendall(question)
-            stream.recv(1)
-        except socket.timeout:
-            return None
-    return time.monotonic() - began
+def ask(place: Tuple[str, int], source: str = "127.0.0.1") -> bytes:
+    """What a connection from there gets that asks for a stream: what is held, or nothing."""
+    got = b""
+    with contextlib.suppress(ConnectionError), socket.create_connection(place, timeout=PATIENCE, source_address=(source, 0)) as stream:
+        stream.sendall(QUESTION)
+        while part := stream.recv(1 << 16):
+            got += part
+    return got
 
 
-def test_silent(facts: Facts) -> None:
-    """Connections that ask for nothing, or letter by letter, have a second; and nobody is kept out by those of another host."""
+def test_silent(facts: Facts, monkeypatch: pytest.MonkeyPatch) -> None:
+    """Nobody is kept out by connections of another host that ask for nothing."""
+    monkeypatch.setattr("live.joining.QUESTION_TIME", PATIENCE)
     one, two = free_ports(2)
     udp = Peers(("127.0.0.1", one), [("127.0.0.1", two), ("127.0.0.2", two)])
     offer, place = offered(udp), ("127.0.0.1", one)
-    held = [socket.create_connection(place, timeout=3) for _ in range(MOST_GIVEN)]
-    time.sleep(0.1)
-    facts("of one host one has a place", sum(offer.given.values()), 1)
-    facts("beside silent connections another host is served", (ask(place, "127.0.0.2") or 9) < QUESTION_TIME / 2, True)
-    began = time.monotonic()
-    with contextlib.suppress(OSError):
-        while time.monotonic() - began < 3 and any(offer.given.values()):
-            held[0].sendall(QUESTION[:1])
-            time.sleep(0.2)
-    facts("a question has a second, letter by letter too", QUESTION_TIME * 0.8 < time.monotonic() - began < 2 * QUESTION_TIME, True)
-    facts("then that host is served too", (ask(place) or 9) < QUESTION_TIME / 2, True)
+    held = [socket.create_connection(place, timeout=PATIENCE) for _ in range(MOST_GIVEN)]
+    facts("one that asks gets what is held", ask(place, "127.0.0.2"), HELD)
+    facts("of one host one has a place", comes(lambda: sum(offer.given.values()) == 1) and ask(place), b"")
+    facts("beside it another host is served", ask(place, "127.0.0.2"), HELD)
     for each in held:
         each.close()
+    facts("then that host is served too", comes(lambda: not offer.given) and ask(place), HELD)
     offer.end()
     udp.end()
     ports = Ports(FIRST_PORT + 40)
     offer = offered(ports)
-    held = [socket.create_connection(ports.place(), timeout=3) for _ in range(MOST_GIVEN + 1)]
-    time.sleep(0.1)
-    facts("of this machine each member may have one", sum(offer.given.values()), MOST_GIVEN)
+    held = [socket.create_connection(ports.place(), timeout=PATIENCE) for _ in range(MOST_GIVEN + 1)]
+    facts("of this machine each member may have one", comes(lambda: sum(offer.given.values()) == MOST_GIVEN) and ask(ports.place()), b"")
     for each in held:
         each.close()
+    offer.end()
+    ports.end()
+
+
+def test_slow_question(facts: Facts) -> None:
+    """A question has a second. Letters that come one by one do not make it longer: there is an end before the last of them."""
+    facts("the time of a question", QUESTION_TIME, 1.0)
+    ports, began, letters = Ports(FIRST_PORT + 60), time.monotonic(), 0
+    offer = offered(ports)
+    with contextlib.suppress(ConnectionError), socket.create_connection(ports.place(), timeout=PATIENCE) as slow:
+        facts("who is slow has a place", comes(lambda: any(offer.given.values())), True)
+        while any(offer.given.values()) and letters < len(QUESTION):
+            slow.sendall(QUESTION[letters:letters + 1])
+            letters += 1
+            time.sleep(0.5)
+    facts("and loses it in mid-question, after a second", (letters < len(QUESTION), time.monotonic() - began >= QUESTION_TIME), (True, True))
     offer.end()
     ports.end()
 
@@ -244,10 +261,11 @@ def test_group(facts: Facts) -> None:
     offer, place = offered(group), group.place()
     assert offer.socket
     facts("what listens speaks one hop far", offer.socket.getsockopt(socket.IPPROTO_IP, socket.IP_TTL), 1)
-    facts("a host that was never heard", (ask(place, "127.77.0.9") or 9) < QUESTION_TIME / 2 and not offer.given, True)
+    facts("a host that was never heard gets nothing", ask(place, "127.77.0.9"), b"")
     group.takes(b"x", ("127.77.0.9", 5))
-    facts("is served when it was", (group.may_ask(("127.77.0.9", 7)), group.may_ask(("127.77.0.8", 7))), (True, False))
-    with group.stream_to(place, 3) as stream:
+    facts("and what is held when it was", ask(place, "127.77.0.9"), HELD)
+    facts("as no other is", (group.may_ask(("127.77.0.9", 7)), group.may_ask(("127.77.0.8", 7))), (True, False))
+    with group.stream_to(place, PATIENCE) as stream:
         facts("who asks speaks as far, from where it is heard", (stream.getsockopt(socket.IPPROTO_IP, socket.IP_TTL), stream.getsockname()[0]), (1, place[0]))
     for number in range(MOST_HOSTS):
         group.takes(b"x", ("10.0.%d.%d" % divmod(number, 256), 5))
@@ -277,9 +295,9 @@ def test_accepting(facts: Facts) -> None:
     offer.socket = listening
     thread = threading.Thread(target=offer.accept, args=(Failing(listening),), daemon=True)
     thread.start()
-    facts("after a fault of the machine a stream is given", ask(ports.place()) is not None, True)
+    facts("after a fault of the machine a stream is given", ask(ports.place()), HELD)
     offer.end()
-    thread.join(3)
+    thread.join(PATIENCE)
     facts("an offer that is ended has no thread", thread.is_alive(), False)
     ports.end()
 
@@ -304,7 +322,7 @@ def joining(outcome: BaseException) -> Tuple[Joining, List[Any]]:
         made.is_busy = True
         thread = threading.Thread(target=made.join, args=(Streams(udp, None), Origin("9"), ("127.0.0.1", 1)))  # type: ignore[arg-type]
         thread.start()
-        thread.join(5)
+        thread.join(PATIENCE)
     finally:
         threading.excepthook = before
         other.close()

@@ -90,7 +90,7 @@ def test_gone(facts: Facts) -> None:
     hosts = hosts_of(screen.process.pid)
     os.close(screen.terminal)
     try:
-        status: Optional[int] = screen.process.wait(10)
+        status: Optional[int] = screen.process.wait(PATIENCE)
     except subprocess.TimeoutExpired:
         status = None
         screen.process.kill()

@@ -7,17 +7,22 @@ import os
 import random
 import re
 import tempfile
-from typing import List
+from functools import partial
+from typing import Any, Callable, Dict, List, Optional, Tuple
+
+import pytest
 
 from live.alarms import Alarms
 from live.carriers.carrier import Origin
 from live.drawn import Drawn, Sheet
-from live.inbox import MOST_WAITING, Inbox
+from live.inbox import MOST_WAITING, Arrival, Inbox
 from live.letters import fitting, letter_rows, printable
 from live.options import read_options
-from live.record import Record, RecordFault
-from live.telling import MOST_TOLD, Told
+from live.record import NoRoom, Record, RecordFault
+from live.telling import MOST_REPORTED, Reported
 from live.views import Drawop, Question, Report, datagram_of, name_in, page_of
+from live.waiting import Waiting
+from live.wire import MOST_CHARACTERS, MOST_REMEMBERED, Wire
 from ..facts import Facts
 from .members import TOP
 
@@ -77,6 +82,84 @@ def test_drawn(facts: Facts) -> None:
     facts("what the host alone has is shown", [drawop.name for drawop in drawn.sheet((9, 1)).shown], [(7, (9, 1), 1)])
 
 
+def test_order(facts: Facts) -> None:
+    """What lies on what, and what a delete or a restore does, in the order of their times and not of their coming."""
+    def line(source: int, seq: int, time: int) -> str:
+        return "draw %d 7/1 %d %d line 0 1 4 1 *" % (source, seq, time)
+
+    def shown(sheet: Sheet) -> List[Tuple[int, int]]:
+        return [(drawop.name[0], drawop.name[2]) for drawop in sheet.shown]
+
+    above = sheet_of(line(8, 1, 5), line(7, 2, 5), line(7, 3, 5), line(7, 1, 5), line(9, 1, 4))
+    facts("of one time the greater source lies above, and then the greater number", shown(above), [(9, 1), (7, 1), (7, 2), (7, 3), (8, 1)])
+    back = sheet_of(line(7, 1, 5), "draw 8 7/1 1 50 delete 7 1", "draw 8 7/1 2 60 restore 7 1")
+    facts("what was restored is shown, and not hidden", (shown(back), back.hidden), ([(7, 1)], {}))
+    back.changed.clear()
+    for words in ("draw 8 7/1 3 70 delete 8 1", "draw 9 7/1 1 55 delete 7 1"):
+        back.add(Drawop(words))
+    facts("a delete of a delete, and an earlier one, change nothing", (shown(back), back.hidden, back.changed), ([(7, 1)], {}, {}))
+    back.add(Drawop("draw 8 7/1 4 80 delete 7 1"))
+    facts("a later one does, which is told", (shown(back), list(back.hidden), list(back.changed)), ([], [(7, PAGE, 1)], [(7, PAGE, 1)]))
+    back.replace([line(7, 1, 5)])
+    facts("of the host's view no delete is hidden", (shown(back), back.hidden), ([(7, 1)], {}))
+    late = sheet_of(line(7, 9, 5), line(7, 2, 6))
+    facts("the greatest number of a source, and how many are held, whichever came last", (late.tops, late.counts), ({7: 9}, {7: 2}))
+    held = late.drawops[7, PAGE, 2]
+    late.replace([line(7, 2, 6)])
+    facts("of the host's view what is held is shown as it is held", (late.shown[0] is held, list(late.hidden)), (True, [(7, PAGE, 9)]))
+    for words in (line(7, 3, 6), line(7, 10, 5)):
+        late.add(Drawop(words))
+    facts("and what comes then has its place", shown(late), [(7, 10), (7, 2), (7, 3)])
+    drawn = Drawn()
+    for words in (line(7, 9, 5), line(7, 2, 6)):
+        drawn.add(Drawop(words))
+    facts("numbers that are lacking at least", [drawn.lacking(PAGE, *each) for each in ((7, 9), (7, 1), (8, 3))] + [drawn.lacking((9, 9), 7, 2)], [7, 0, 3, 2])
+    facts("what is held", (drawn.holds((7, PAGE, 2)), drawn.holds((7, PAGE, 1)), drawn.drawn_pages(), len(list(drawn.all()))), (True, False, [PAGE], 2))
+
+
+class Entries:
+    """In the place of events: the entries that were told."""
+
+    def __init__(self) -> None:
+        self.entries: List[Dict[str, Any]] = []
+
+    def tell_entry(self, entry: Dict[str, Any]) -> None:
+        self.entries.append(entry)
+
+
+def test_wire(facts: Facts) -> None:
+    """What is told of a datagram that goes by, which request a repair answers, and how much is remembered."""
+    told = Entries()
+    wire = Wire(told)  # type: ignore[arg-type]
+
+    def came(words: Optional[str], origin: Origin = HOME, refused: Optional[str] = None, **more: bool) -> None:
+        wire.tell({**wire.came(Arrival(b"", origin, **more), words), "refused": refused})
+
+    wire.learn(HOME, 9)
+    came("request 9 7 7/1 1", is_lost=True)
+    came("request 9 7 7/1 2", Origin("127.0.0.1:2"), is_second=True)
+    came("request 9 7 7/1 2")
+    wire.went("request 1 7 7/1 3")
+    for seq in (1, 2, 3):
+        wire.went("draw 7 7/1 %d 11 line 0 0 1 1 *" % seq)
+    came(None, refused="no datagram")
+    entries = told.entries
+    facts("a repair answers the first request that came or went, and none that was lost", [entry["answers"] for entry in entries], [None] * 5 + [2, 4, None])
+    facts("who sends from there", [entry["by"] for entry in entries[:4]], [9, None, 9, None])
+    facts("what was done on purpose", [(entry["lost"], entry["twice"]) for entry in entries[:3]], [(True, False), (False, True), (False, False)])
+    facts("what goes by", [(entry["id"], entry["way"], entry["kind"], entry["member"], entry["name"]) for entry in (entries[3], entries[4], entries[7])],
+          [(4, "out", "request", 1, "7 7/1 3"), (5, "out", "draw", 7, "7 7/1 1"), (8, "in", "bad", None, None)])
+    facts("what is counted", wire.counts, {"in": 4, "out": 4, "lost": 1, "twice": 1, "refused": 1, "requests": 1, "repairs": 2})
+    came('draw 7 7/1 9 11 text 0 1 "%s"' % ("a" * 500))
+    facts("a long one is cut", (len(entries[-1]["words"]), entries[-1]["words"][-4:]), (MOST_CHARACTERS + 3, "a .."))
+    for seq in range(10, 10 + MOST_REMEMBERED):
+        came("request 9 7 7/1 %d" % seq)
+    facts("the last requests are remembered", (len(wire.requests), (7, PAGE, 2) in wire.requests, (7, PAGE, 10) in wire.requests), (MOST_REMEMBERED, False, True))
+    for port in range(MOST_REMEMBERED + 1):
+        wire.learn(Origin("127.0.0.1:%d" % (1 + port)), port)
+    facts("of origins no more than so many", (len(wire.origins) <= MOST_REMEMBERED, wire.origins.get(Origin("127.0.0.1:%d" % (1 + MOST_REMEMBERED)))), (True, MOST_REMEMBERED))
+
+
 def test_letters(facts: Facts) -> None:
     """Letters of ink in a terminal."""
     facts("what moves the cursor is not shown", printable("a\x9b1m\u202eb\u00a0\u6f22"), "a?1m?b?\u6f22")
@@ -87,20 +170,20 @@ def test_letters(facts: Facts) -> None:
     facts("no ink", letter_rows([]), ["0 with letters, 0 without"])
 
 
-def test_told(facts: Facts) -> None:
+def test_reported(facts: Facts) -> None:
     """What reports tell of is missing until it comes."""
-    told, drawn = Told(), Drawn()
+    reported, drawn = Reported(), Drawn()
     for line in ("draw 7 7/1 1 10 line 0 1 4 1 *", "draw 7 7/1 4 10 line 0 1 4 1 *"):
         drawn.add(Drawop(line))
     for name in ((7, PAGE, 3), (7, PAGE, 9), (8, PAGE, 2), (8, (7, 2), 2)):
-        told.tell(name)
-    facts("a number of a gap counts once", told.missing(PAGE, drawn), 4)
-    told.come((7, PAGE, 9))
-    facts("what came is missing no more", (told.missing(PAGE, drawn), told.missing((7, 2), drawn)), (3, 1))
-    facts("pages of which nothing is held are told", (7, 2) in told.pages(), True)
+        reported.tell(name)
+    facts("a number of a gap counts once", reported.missing(PAGE, drawn), 4)
+    reported.come((7, PAGE, 9))
+    facts("what came is missing no more", (reported.missing(PAGE, drawn), reported.missing((7, 2), drawn)), (3, 1))
+    facts("pages of which nothing is held are told", (7, 2) in reported.pages(), True)
     for number in range(5000):
-        told.tell((1, (9, number), 5))
-    facts("what is told is bounded", len(told.names), MOST_TOLD)
+        reported.tell((1, (9, number), 5))
+    facts("what is told is bounded", len(reported.names), MOST_REPORTED)
 
 
 def test_alarms(facts: Facts) -> None:
@@ -110,6 +193,22 @@ def test_alarms(facts: Facts) -> None:
     facts("of fifty warnings a few are told", 0 < len(alarms.told()) <= 8, True)
     alarms.given = {text: at - 61 for text, at in alarms.given.items()}
     facts("and after a minute none", alarms.told(), [])
+
+
+def test_waiting(facts: Facts) -> None:
+    """A start tells how far it is if it takes long, and a short one tells nothing."""
+    out = io.StringIO()
+    waiting = Waiting("takes it in", out)
+    waiting.next_at += 3_600
+    waiting.tell(1, 4)
+    waiting.end()
+    facts("before that it tells nothing", (out.getvalue(), waiting.has_told), ("", False))
+    waiting.next_at = 0
+    waiting.tell(1, 4)
+    facts("then how much is done", out.getvalue(), "wb-live: takes it in: 25 percent\n")
+    waiting.tell(2, 4)
+    waiting.end()
+    facts("and not again at once", out.getvalue().count("\n"), 1)
 
 
 def test_record(facts: Facts) -> None:
@@ -128,10 +227,57 @@ def test_record(facts: Facts) -> None:
         with open(path, "ab") as file:
             file.write(b"tick 9")
         again = Record(path)
-        facts("a torn line is taken off", list(again.acts()), ["board 1 16 1 42", "tick 5"])
+        facts("a torn line is taken off", (list(again.acts()), os.path.getsize(path)), (["board 1 16 1 42", "tick 5"], again.size))
         again.add("tick 7")
         facts("and the next stands for itself", list(again.acts())[-1], "tick 7")
         again.close()
+
+
+def fault_of(act: Callable[[], Any]) -> str:
+    """What a record is refused for."""
+    try:
+        act()
+    except (RecordFault, NoRoom) as fault:
+        return str(fault)
+    return "none"
+
+
+def test_refused_records(facts: Facts) -> None:
+    """A file that a later version wrote stays as it is, and no board goes on whose moments are used up."""
+    with tempfile.TemporaryDirectory() as folder:
+        path = os.path.join(folder, "a.wb")
+        for head, wanted in (("# wb record 2\n", "it stays as it is"), ("# wb record 1\n", "none"), ("", "none"), ("one line\n", "it stays as it is")):
+            text = head + "board 1 16 1 42\ntick 5\n"
+            with open(path, "w") as file:
+                file.write(text)
+            told = fault_of(lambda: Record(path).close())
+            with open(path) as file:
+                facts("a file that begins with %r" % head, (told if told == "none" else told.lower()[-17:], file.read()), (wanted, text))
+    # a day is left of the moments of a host
+    last = 2**48 - 86_400 * 10**6
+    for moment, is_refused in ((last - 1, False), (last, True)):
+        record = Record(None)
+        record.add("board 1 16 1 42", "tick %d" % moment)
+        facts("the moment %d is none of a board that goes on" % moment, "no moment" in fault_of(partial(list, record.acts())), is_refused)
+        record.close()
+
+
+def test_taken_back(facts: Facts, monkeypatch: pytest.MonkeyPatch) -> None:
+    """What was added last is taken back, and a line that has no room leaves nothing."""
+    record = Record(None)
+    record.add("board 1 16 1 42")
+    record.add("tick 5", "tick 6")
+    record.take_back()
+    facts("two lines that were added at once", record.text(), b"board 1 16 1 42\n")
+    record.add("tick 7")
+    write = os.pwrite
+    with monkeypatch.context() as patch:
+        patch.setattr(os, "pwrite", lambda file, text, at: write(file, text[:3], at))
+        facts("a line of which three letters have room", fault_of(lambda: record.add("tick 8")), "no room")
+    facts("it leaves nothing", (record.text(), os.fstat(record.file).st_size), (b"board 1 16 1 42\ntick 7\n", 23))
+    record.add("tick 9")
+    facts("and the next stands in its place", list(record.acts()), ["board 1 16 1 42", "tick 7", "tick 9"])
+    record.close()
 
 
 def test_long_record(facts: Facts) -> None:

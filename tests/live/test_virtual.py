@@ -232,14 +232,14 @@ def beside_a_stranger(count: int) -> Tuple[List[int], List[int], "Counter[str]"]
         return held, [member.held() - own for member, own in zip(members, held)], dropped
 
 
-class Told(NamedTuple):
+class AfterForgeries(NamedTuple):
     """After how many seconds a drawing was there that was lost, and how many pages strangers have."""
 
     there: Optional[int]
     pages: int
 
 
-def beside_forged_pages(forged: int, longest: int = 240) -> Told:
+def beside_forged_pages(forged: int, longest: int = 240) -> AfterForgeries:
     """Strangers begin so many pages with two members. Then one of these draws, and the other has to be told of it."""
     with World(forged) as world:
         members = [world.join(1), world.join(2)]
@@ -255,8 +255,8 @@ def beside_forged_pages(forged: int, longest: int = 240) -> Told:
         for second in range(1, longest + 1):
             world.run(1)
             if members[1].member.drawn.holds((1, PAGE, 1)):
-                return Told(second, drawn_on)
-        return Told(None, drawn_on)
+                return AfterForgeries(second, drawn_on)
+        return AfterForgeries(None, drawn_on)
 
 
 class Departed(NamedTuple):
