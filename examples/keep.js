@@ -1,5 +1,5 @@
 #!/usr/bin/env node
-// The smallest driver of a host that keeps itself, for Node: as keep.py, with the same arguments and the same input.
+// The smallest driver of a self-managing host, for Node: as keep.py, with the same arguments and the same input.
 const [program, me, port, ...others] = process.argv.slice(2);
 const { createInterface } = require("readline");
 const host = require("child_process").spawn(program, ["host"], { stdio: ["pipe", "pipe", "inherit"] });

@@ -1,5 +1,5 @@
 #!/usr/bin/env python3
-"""The smallest driver of a host that keeps itself: each line of its input is drawn on page 1/1, and soon the others have it.
+"""The smallest driver of a self-managing host: each line of its input is drawn on page 1/1, and soon the others have it.
 
     examples/keep.py PROGRAM ME PORT OTHER ..
 

@@ -7,7 +7,7 @@ const LETTERS = 56;
 /** Milliseconds in which what is typed becomes one update. */
 const PAUSE = 100;
 
-/** The pieces of an update: `+2:..`, `1:..`, `0:..`, with how many come behind each. They have numbers one behind another.
+/** The pieces of an update: `+2:..`, `1:..`, `0:..`, with how many follow each. Their numbers follow one another.
  * @param {Uint8Array} update */
 export function pieces(update) {
   const letters = btoa(String.fromCharCode(...update)), parts = letters.match(new RegExp(`.{1,${LETTERS}}`, 'g')) ?? [];

@@ -1,4 +1,4 @@
-"""Each crate is told of, with its modules, and limits are those of the sources."""
+"""The documents have each crate with its modules, and the limits of the sources."""
 
 from __future__ import annotations
 
@@ -6,7 +6,7 @@ import re
 
 from .sources import CRATES, SOURCES, SPAN, TOP, crates_below, is_tests, nothing_is_wrong, rows_of
 
-# a limit of docs/FORMAT.md: its row, and the constants that keep it, each with the text by which the row tells it
+# a limit of docs/FORMAT.md: its row, and the constants that keep it, each with the text of the row
 LIMITS = {
     "coordinate": [("wb_names/src/shape.rt", "MAX_COORDINATE", "0 to {:,}")],
     "text": [("wb_names/src/text.rt", "MAX_LEN", "1 to {} bytes")],
@@ -19,7 +19,7 @@ LIMITS = {
     "script": [("wb_script/src/said.rt", "MAX_LINES", "{:,} lines"), ("wb_lines/src/line_reader.rt", "MAX_LINE_LEN", "{:,} bytes")],
 }
 
-# limits that a definition has as a number of its own, by which the source is proved
+# limits that a definition has as a number of its own, with which the source is proved
 HELD_BY_A_DEFINITION = {("wb_script", "MAX_LINES")}
 
 

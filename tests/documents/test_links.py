@@ -10,7 +10,7 @@ import pytest
 from .sources import CRATES, DOCUMENTS, README, SPAN, TOP, nothing_is_wrong, short
 
 # folders from which a page names a file
-BESIDE = ("docs", "examples", "live", "live/carriers", "live/page", "web", "web/page", "web/building", "lab", "lab/laboratory", "tests", "tools")
+BESIDE = ("docs", "examples", "live", "live/carriers", "live/ui", "web", "web/member", "web/building", "lab", "lab/laboratory", "tests", "tools")
 
 
 def anchors_of(document: Path) -> set[str]:

@@ -10,7 +10,7 @@ import pytest
 from .sources import ALL_SOURCES, CLAUSES, CRATES, DOCUMENTS, FUNCTIONS, NEAR, PAGES, SOURCES, SPAN, TOP, WORDS, crates_below, nothing_is_wrong, short
 
 def promises(page: Path, label: str) -> list[str]:
-    """What stands behind a label, as 'refused', in the promises of a page."""
+    """What follows a label, as 'refused', in the promises of a page."""
     text = re.sub(r"\n    (?=\S)", " ", page.read_text())
     return re.findall(rf"^  - {label}: (.+)$", text, re.MULTILINE)
 

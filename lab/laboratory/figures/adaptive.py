@@ -62,7 +62,7 @@ def adaptive(scale: Scale) -> Figure:
                     continue
                 shown = [series(name, [r for r in own if r["policy"] == policy], "round", "datagrams") for policy, name in POLICIES.items()]
                 panels.append(Panel(title, "round", "requests and repairs for a loss", shown))
-            found[f"adaptive-{regime}"] = Plot(f"{scale.group} members, of whom half leave half-way; {words}", panels)
+            found[f"adaptive-{regime}"] = Plot(f"{scale.group} members; half of them leave half-way; {words}", panels)
         return found
 
     def section(records: list[Record]) -> str:
@@ -73,8 +73,8 @@ def adaptive(scale: Scale) -> Figure:
             steady = [r for r in own if r["round"] == half]
             fewer = sorted(NETWORKS[r["network"]][0] for r in steady if r["policy"] == "adapting" and r["more_datagrams"] is not None
                            and r["more_datagrams"] + r["more_datagrams_95"] < 0)
-            text = f"""By rounds {half - width + 1} to {half} adapting timers send fewer datagrams than fixed 2,2,1,1, by an interval that leaves out 0,
-                on these: {'; '.join(fewer) or 'none'}. The table has these rounds, and the last ones, when half of the group is gone."""
+            text = f"""In rounds {half - width + 1} to {half} adapting timers send fewer datagrams than fixed 2,2,1,1 on these networks, by an
+                interval that excludes 0: {'; '.join(fewer) or 'none'}. The table has these rounds, and the last ones, after half of the group left."""
             heads = ("Network", "Members", "Policy", "Requests", "Repairs", "Seconds", "Datagrams beside fixed")
             cells = table_of(heads, own, lambda r: [NETWORKS[r["network"]][0], str(r["members"]), POLICIES[r["policy"]],
                                                     *(sure(r, c) for c in ("requests", "repairs", "seconds", "more_datagrams"))])

@@ -42,9 +42,9 @@ def implosions(scale: Scale) -> Figure:
 
     def section(records: list[Record]) -> str:
         few, many = ([r for r in records if r["tuning"] == t.replace(",", " ")] for t in (TUNINGS[1], TUNINGS[0]))
-        return picture("implosions", "Narrow links", f"""On links of {number(many[0]['rate'])} bytes a second {sure(many[0], 'dropped')} datagrams find a full
-            queue for each loss with {TUNINGS[0]} and {sure(few[0], 'dropped')} with {TUNINGS[1]}, and the last member has it after {sure(many[0], 'seconds')} and
-            {sure(few[0], 'seconds')} s. On links of {number(many[-1]['rate'])} an implosion costs little: {sure(many[-1], 'seconds')} and
-            {sure(few[-1], 'seconds')} s.""")
+        return picture("implosions", "Narrow links", f"""On links of {number(many[0]['rate'])} bytes a second, each loss makes
+            {sure(many[0], 'dropped')} datagrams find a full queue with {TUNINGS[0]}, and {sure(few[0], 'dropped')} with {TUNINGS[1]}. The last
+            member has the drawop after {sure(many[0], 'seconds')} and {sure(few[0], 'seconds')} s. On links of {number(many[-1]['rate'])} an
+            implosion costs little: {sure(many[-1], 'seconds')} and {sure(few[-1], 'seconds')} s.""")
 
     return Figure("implosions", {f"{r} {t}": Case(settings(r, t), scale.runs) for r, t in keys}, table, plots, section)

@@ -1,4 +1,4 @@
-"""Members that keep themselves whole, as people run them: on each kind of network, with losses, joins, reports and wrong clocks."""
+"""Self-managing members, as people run them: on each kind of network, with losses, joins, reports and wrong clocks."""
 from __future__ import annotations
 
 from dataclasses import dataclass, replace
@@ -64,7 +64,7 @@ def places(scale: Scale) -> Figure:
     def plots(records: list[Record]) -> dict[str, Plot]:
         panels = []
         for group in groups:
-            for what, up in (("source_requests", "requests, where many lack it"), ("member_repairs", "repairs, where one lacks it"),
+            for what, up in (("source_requests", "requests, if many lack it"), ("member_repairs", "repairs, if one lacks it"),
                              ("seconds", "seconds until the last has it")):
                 shown = []
                 for tuning in (TUNING, NEAR_TUNING, LEVEL_TUNING):
@@ -72,24 +72,24 @@ def places(scale: Scale) -> Figure:
                            if (r["group"], r["tuning"]) == (group, tuning.replace(",", " "))]
                     shown.append(series(tuning, own, "x", what, line=False))
                 panels.append(Panel(f"{group} members", "", up, shown, log_y=what != "seconds", words=[place.words for place in PLACES.values()]))
-        return {"places": Plot("Members that keep themselves, by network and constants", panels)}
+        return {"places": Plot("Self-managing members, by network and constants", panels)}
 
     def section(records: list[Record]) -> str:
         of = {(r["network"], r["tuning"].replace(" ", ",")): r for r in records if r["group"] == groups[-1]}
         first, live, near = of["broker", TUNING], of["broker", LEVEL_TUNING], of["radio", NEAR_TUNING]
         columns = ("source_requests", "member_repairs")
         few = "at most" if all(r[column] <= 6 for r in (live, near) for column in columns) else "more than"
-        text = picture("places", "Members that keep themselves, by network", f"""With {groups[-1]} members at one distance of 40 ms, as by a broker,
-            {TUNING} gives {sure(first, columns[0])} requests for a loss on the source's link and {sure(first, columns[1])} repairs for one on a
-            member's. With {LEVEL_TUNING}, which wb-live takes there, there are {sure(live, columns[0])} and {sure(live, columns[1])}, {few} 6 of each in
-            the mean, and the last member has it after {sure(live, 'seconds')} s in place of {sure(first, 'seconds')}. On a LAN, and for members of
-            browsers, it takes {NEAR_TUNING}: where that LAN is by radio, 5 ms apart, there are {sure(near, columns[0])} and
-            {sure(near, columns[1])}, and the last has it after {sure(near, 'seconds')} s. On one machine and on a LAN by wire no distance
-            counts as less than 10 ms, so that a request that was sent is heard long before most timers are due. Where members are at many
-            distances {LEVEL_TUNING} saves less, and waits longer: in domains {sure(of['domains', LEVEL_TUNING], 'seconds')} s in place of
-            {sure(of['domains', TUNING], 'seconds')}, and on a tree {sure(of['tree', LEVEL_TUNING], 'seconds')} in place of
+        text = picture("places", "Self-managing members, by network", f"""{groups[-1]} members at one distance of 40 ms, as with a broker: with {TUNING} a loss
+            on the source's link takes {sure(first, columns[0])} requests, and one on a member's link {sure(first, columns[1])} repairs. With
+            {LEVEL_TUNING}, which wb-live uses there, they take {sure(live, columns[0])} and {sure(live, columns[1])}, {few} 6 of each on average,
+            and the last member has the drawop after {sure(live, 'seconds')} s instead of {sure(first, 'seconds')}. On a LAN, and for members of
+            browsers, wb-live uses {NEAR_TUNING}: on a LAN by radio, 5 ms apart, they take {sure(near, columns[0])} and
+            {sure(near, columns[1])}, and the last member has it after {sure(near, 'seconds')} s. On one computer and on a wired LAN, distances
+            count as 10 ms at least, so a request is heard long before most timers are due. If members are at many distances, {LEVEL_TUNING}
+            saves less and waits longer: in domains {sure(of['domains', LEVEL_TUNING], 'seconds')} s instead of
+            {sure(of['domains', TUNING], 'seconds')}, and on a tree {sure(of['tree', LEVEL_TUNING], 'seconds')} instead of
             {sure(of['tree', TUNING], 'seconds')}.""")
-        heads = ("Members", "Network", "Constants", "Requests, where many lack it", "Repairs, where one does", "Seconds, of all losses")
+        heads = ("Members", "Network", "Constants", "Requests, if many lack it", "Repairs, if one does", "Seconds, of all losses")
         cells = table_of(heads, records, lambda r: [str(r["group"]), PLACES[r["network"]].words, r["tuning"].replace(" ", ","),
                                                     *(sure(r, column) for column in ("source_requests", "member_repairs", "seconds"))])
         return f"{text}\n\n{cells}"
@@ -131,8 +131,8 @@ def losses(scale: Scale) -> Figure:
 
     def section(records: list[Record]) -> str:
         most = {r["kind"]: r for r in records if r["lost"] == max(shares)}
-        return picture("losses", "Losses, each by itself and in bursts", f"""Where each link loses {100 * max(shares):.0f} in 100 of everything, all are whole
-            {sure(most['alone'], 'whole_after')} s after the last drawing, and {sure(most['bursts'], 'whole_after')} s where the losses come in bursts; a member sends
+        return picture("losses", "Losses, each by itself and in bursts", f"""If each link loses {100 * max(shares):.0f} in 100 of everything, all are whole
+            {sure(most['alone'], 'whole_after')} s after the last drawing, and {sure(most['bursts'], 'whole_after')} s if the losses come in bursts; a member sends
             {sure(most['alone'], 'bytes')} and {sure(most['bursts'], 'bytes')} bytes a second. All runs ended whole.""")
 
     return Figure("losses", {f"{s} {k}": Case(settings(s, k), scale.runs) for s, k in keys}, table, plots, section)
@@ -217,9 +217,9 @@ def reports(scale: Scale) -> Figure:
 
     def section(records: list[Record]) -> str:
         last, middle = records[-1], records[-2]
-        return picture("reports", "Reports as the group grows", f"""All members together may take 4,000 bytes a second. {middle['members']} take {sure(middle, 'bytes_a_second')},
-            one report of a member in {sure(middle, 'interval')} s. No member waits more than 96 s, so that {last['members']} take
-            {sure(last, 'bytes_a_second')} ({last['runs']} run{'s' if last['runs'] > 1 else ''}): beyond some 200 members the share is not kept.""")
+        return picture("reports", "Reports as the group grows", f"""All members together may use 4,000 bytes a second. {middle['members']} use {sure(middle, 'bytes_a_second')},
+            with a report of each member every {sure(middle, 'interval')} s. No member waits more than 96 s, so {last['members']} use
+            {sure(last, 'bytes_a_second')} ({last['runs']} run{'s' if last['runs'] > 1 else ''}): more than some 200 members exceed the limit.""")
 
     return Figure("reports", {str(g): Case(settings(g), scale.runs if usual else 1) for g, usual in groups}, table, plots, section)
 

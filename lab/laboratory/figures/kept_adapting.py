@@ -1,4 +1,4 @@
-"""Members that keep themselves, with constants that follow the session, beside fixed ones: before and after half of the group goes or comes."""
+"""Self-managing members, with constants that follow the session, beside fixed ones: before and after half of the group goes or comes."""
 from __future__ import annotations
 
 import textwrap
@@ -25,7 +25,7 @@ GO, COME = "half go", "half come"
 PARTS = 4  # of a run, with as many losses each; the group changes between the second and the third
 RUNS = 20
 COLUMNS = {
-    "source_requests": "Requests, where many lack it", "member_repairs": "Repairs, where one does", "seconds": "Seconds, of all losses",
+    "source_requests": "Requests, if many lack it", "member_repairs": "Repairs, if one does", "seconds": "Seconds, of all losses",
     "datagrams": "Datagrams of a loss", "more_datagrams": f"Datagrams beside fixed, {LIVE}", "more_seconds": "Seconds beside these",
 }
 PLOTS = {"kept-adapting": ("datagrams", "requests and repairs for a loss"), "kept-adapting-wait": ("seconds", "seconds until the last has it")}
@@ -82,19 +82,19 @@ def kept_adapting(scale: Scale) -> Figure:
         ]
 
     def plots(records: list[Record]) -> dict[str, Plot]:
-        title = "Members that keep themselves, of whom half go or come half-way"
+        title = "Self-managing members; half of them leave or come half-way"
         return {name: Plot(title, [panel_of(group, column, up, records) for group in groups]) for name, (column, up) in PLOTS.items()}
 
     def section(records: list[Record]) -> str:
         settled = [r for r in records if r["part"] in (PARTS // 2, PARTS)]
-        beside = f"""Beside the fixed constants {LIVE}, in the {draws // PARTS // 2} losses before the group changes and in as many at the end, by
-            intervals of {min(RUNS, scale.runs)} runs that leave out 0:"""
+        beside = f"""Compared with the fixed constants {LIVE}, in the {draws // PARTS // 2} losses before the group changes and in as many at the end, by
+            intervals of {min(RUNS, scale.runs)} runs that exclude 0 (what is not named does not differ):"""
         found = [bullet(f"{words[0].upper()}{words[1:]}: {told(policy, settled)}.") for policy, words in POLICIES.items() if policy != "live"]
         cells = table_of(("Network", "Members", "Constants", *COLUMNS.values()), settled, lambda r: [
             PLACES[r["network"]].words, members_told(r), POLICIES[r["policy"]], *(sure(r, column) for column in COLUMNS)])
         return "\n\n".join([
             picture("kept-adapting", "Constants that follow the session: datagrams", beside), "\n".join(found),
-            picture("kept-adapting-wait", "Constants that follow the session: seconds", begun(groups, records, draws)), cells])
+            picture("kept-adapting-wait", "Constants that follow the session: seconds", ""), cells])
 
     cases = {name_of(group, policy): Case(settings(group, policy), min(RUNS, scale.runs)) for group, policy in keys}
     return Figure("kept-adapting", cases, table, plots, section)
@@ -150,19 +150,11 @@ def told(policy: str, records: list[Record]) -> str:
     def above(value: float, half: float) -> bool:
         return value - half > 0
 
-    parts = [f"{words}: {where(column, is_so)}" for words, column, is_so in (
-        ("fewer datagrams", "more_datagrams", below), ("more", "more_datagrams", above),
-        ("sooner", "more_seconds", below), ("later", "more_seconds", above))]
-    return "; ".join(parts)
+    parts = [f"{words}: {places}" for words, column, is_so in (
+        ("fewer datagrams", "more_datagrams", below), ("more datagrams", "more_datagrams", above),
+        ("sooner", "more_seconds", below), ("later", "more_seconds", above)) if (places := where(column, is_so)) != "nowhere"]
+    return "; ".join(parts) or "no difference"
 
 
 def bullet(text: str) -> str:
     return textwrap.fill(f"- {text}", WIDTH, subsequent_indent="  ", break_on_hyphens=False)
-
-
-def begun(groups: list[Group], records: list[Record], draws: int) -> str:
-    """What the first losses take, where all are at one distance."""
-    group = next(group for group in reversed(groups) if group.change == GO and group.place == "broker")
-    of = {r["policy"]: r for r in records if is_of(r, group) and r["part"] == 1}
-    parts = [f"{words}: {sure(of[policy], 'source_requests')} and {sure(of[policy], 'member_repairs')}" for policy, words in POLICIES.items()]
-    return f"""The requests and repairs of the first {draws // PARTS // 2} losses of {group.members} members at a broker are, {'; '.join(parts)}."""

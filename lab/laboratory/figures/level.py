@@ -20,7 +20,7 @@ DISTANCES = (1, 5, 40)  # milliseconds
 SEARCHED = {5: NEAR_TUNING, 40: LEVEL_TUNING}
 LOSSES, TRIED = 40, 5
 ADAPTING = "adapting"
-HEADS = ("Distance", "Members", "Losses", "Constants", "Requests, where all lack it", "Repairs, where one does", "Until the last has it")
+HEADS = ("Distance", "Members", "Losses", "Constants", "Requests, if all lack it", "Repairs, if one does", "Until the last has it")
 
 
 class Key(NamedTuple):
@@ -95,12 +95,13 @@ def level(scale: Scale) -> Figure:
                  for distance, tuning in SEARCHED.items()]
         width = least_width(most, 40)
         least = of[Key(most, 40, f"2,{width},1,{width}")]
-        text = paragraph(f"""Of {most} members at one distance, with D1 = 1, C1 from 1 to {TRIED - 1}, C2 and D2 from the least by which at most {FEW}
-            timers fire in one round: {'; '.join(parts)}. An interval counts as at most {FEW} where all of it is. The least by the formula of one round
-            at 40 ms, {least['tuning'].replace(' ', ',')}, has {sure(least, 'requests')} requests and {sure(least, 'repairs')} repairs: timers that
-            backed off are due again before a late repair comes.""")
-        more = paragraph(f"""Timers that adapt from {TUNING} on, measured after {losses} losses, beside {LEVEL_TUNING} for {most} members at 40 ms:
-            {'; '.join(compared(loss, of[Key(most, 40, ADAPTING, loss)], of[Key(most, 40, LEVEL_TUNING, loss)]) for loss in (AT_SOURCE, AT_MEMBERS, IN_TURN))}.""")
+        text = paragraph(f"""{most} members at one distance, with D1 = 1, C1 from 1 to {TRIED - 1}, and C2 and D2 from the least with which at most {FEW}
+            timers fire in one round: {'; '.join(parts)}. Constants count only if all of the interval is at most {FEW}. The least by the formula of one
+            round at 40 ms, {least['tuning'].replace(' ', ',')}, takes {sure(least, 'requests')} requests and {sure(least, 'repairs')} repairs:
+            timers that backed off are due again before a late repair comes.""")
+        more = paragraph(f"""Timers that adapt from {TUNING} on, after {losses} losses, and {LEVEL_TUNING}, for {most} members at 40 ms:""")
+        beside = [of[Key(most, 40, policy, loss)] for loss in (AT_SOURCE, AT_MEMBERS, IN_TURN) for policy in (ADAPTING, LEVEL_TUNING)]
+        more += "\n\n" + table_of(HEADS[2:], beside, lambda record: cells_of(record)[2:])
         return f"{text}\n\n{more}\n\n{table_of(HEADS, [of[key] for key in told], cells_of)}"
 
     cases = {key.name: key.case(losses if key.group <= most else losses // 4, scale.runs) for key in keys}
@@ -114,12 +115,6 @@ def cells_of(record: Record) -> list[str]:
 
 def waits(record: Record) -> str:
     return sure({name: 1_000 * record[name] for name in ("seconds", "seconds_95")}, "seconds") + " ms"
-
-
-def compared(loss: str, adapting: Record, fixed: Record) -> str:
-    """What timers that adapt do where losses are there, and what fixed ones do."""
-    parts = [f"{sure(adapting, what)} {what} and {sure(fixed, what)}" for what in ("requests", "repairs") if adapting[what] is not None]
-    return f"where losses are {loss}, {', '.join(parts)}, after {waits(adapting)} and {waits(fixed)}"
 
 
 def search_told(distance: int, records: list[Record], ours: Record) -> str:

@@ -48,12 +48,12 @@ def star_requests(scale: Scale) -> Figure:
         shown = max((r for r in records if r["c2"] == 4), key=lambda r: int(r["group"]))
         within, waits = (sum(holds(r, a, b) for r in records) for a, b in (("requests", "exact"), ("first_request", "published_first")))
         return "\n\n".join([
-            picture("star-requests", "Star: requests beside C2", f"""The requests are those of the exact mean: for {shown['group']} members and C2
-                of 4 they are {sure(shown, 'requests')}, exactly {number(shown['exact'])}, published {number(shown['published'])}. The intervals of
-                {within} of {len(records)} points hold the exact mean, of which 95 in 100 should."""),
-            picture("star-delay", "Star: wait until the first request", f"""The first request waits as published, {sure(shown, 'first_request')}
-                distances there where {number(shown['published_first'])} were published. The published mean is of G timers in place of G - 1, so that
-                it is a little short for small groups; {waits} of {len(records)} intervals hold it."""),
+            picture("star-requests", "Star: requests beside C2", f"""The requests match the exact mean: {shown['group']} members with C2 = 4 send {sure(shown, 'requests')};
+                the exact mean is {number(shown['exact'])}, the published one {number(shown['published'])}. The intervals of {within} of {len(records)}
+                points contain the exact mean, and 95 in 100 should."""),
+            picture("star-delay", "Star: wait until the first request", f"""The first request waits as published: {sure(shown, 'first_request')}
+                distances there, where {number(shown['published_first'])} were published. The published mean counts G timers instead of G - 1, so
+                it is slightly short for small groups; {waits} of {len(records)} intervals contain it."""),
         ])
 
     cases = {f"{g} {c2}": Case(star_of(g, 1, f"2,{c2},1,1", scale.losses), scale.runs) for g, c2 in points}
@@ -78,9 +78,8 @@ def star_repairs(scale: Scale) -> Figure:
         shown = max((r for r in records if r["d2"] == 4), key=lambda r: int(r["group"]))
         all_of_them = [r for r in records if r["d2"] == 1]
         return picture("star-repairs", "Star: repairs beside D2", f"""Repairs follow the same formula: {sure(shown, 'repairs')} for
-            {shown['group']} members and D2 of 4, exactly {number(shown['exact'])}. The intervals of {sum(holds(r, 'repairs', 'exact') for r in records)}
-            of {len(records)} points hold the exact mean. With D2 of 1 all holders repair, {' and '.join(number(r['repairs']) for r in all_of_them)}, at
-            each loss.""")
+            {shown['group']} members and D2 = 4, exactly {number(shown['exact'])}. The intervals of {sum(holds(r, 'repairs', 'exact') for r in records)}
+            of {len(records)} points contain the exact mean. With D2 = 1 all holders repair each loss: {', '.join(number(r['repairs']) for r in all_of_them)}.""")
 
     cases = {f"{g} {d2}": Case(star_of(g, g, f"2,2,1,{d2}", scale.losses), scale.runs) for g, d2 in points}
     return Figure("star-repairs", cases, table, plots, section)

@@ -49,11 +49,11 @@ def trees(shape: str, scale: Scale) -> Figure:
     def section(records: list[Record]) -> str:
         last, first = records[-1], records[0]
         alt = "Trees of degree 4" if sparse else "Random trees"
-        return picture(shape, alt, f"""From {first['members']} members to {last['members']} there are {sure(first, 'requests')} to
-            {sure(last, 'requests')} requests for a loss and {sure(first, 'repairs')} to {sure(last, 'repairs')} repairs in the mean; the medians for
+        return picture(shape, alt, f"""From {first['members']} members to {last['members']} a loss takes {sure(first, 'requests')} to
+            {sure(last, 'requests')} requests and {sure(first, 'repairs')} to {sure(last, 'repairs')} repairs on average; the medians for
             {last['members']} are {number(last['requests_median'])} and {number(last['repairs_median'])}, with quartiles of
-            {number(last['repairs_lower'])} and {number(last['repairs_upper'])} repairs. The last member has it {sure(last, 'last_repair')} round trips
-            after it noticed. Each point is of {last['losses']} losses in {scale.runs} networks, with D1 = D2 = 1 below 32 members and 2 from there on.""")
+            {number(last['repairs_lower'])} and {number(last['repairs_upper'])} repairs. The last member has the drawop {sure(last, 'last_repair')} round trips
+            after it noticed. Each point is {last['losses']} losses in {scale.runs} networks, with D1 = D2 = 1 below 32 members and 2 from there on.""")
 
     return Figure(shape, {str(members): Case(settings(members), scale.runs) for members in scale.trees}, table, plots, section)
 
@@ -90,10 +90,10 @@ def chains(scale: Scale) -> Figure:
         far = [r for r in records if r["tuning"] == "16 1 16 1"]
         most = max(short, key=lambda r: float(r["requests"]))
         ones = all(r["requests"] == r["repairs"] == 1 for r in far)
-        return picture("chain", "Chain: requests and repairs", f"""With 16,1,16,1 there {'is one request and one repair for each loss' if ones else
-            'is more than one request or repair for some loss'}, at each hop, as without chance. With 2,2,1,1 chance adds some: the most are
+        return picture("chain", "Chain: requests and repairs", f"""With 16,1,16,1 {'each loss takes one request and one repair' if ones else
+            'some loss takes more than one request or repair'}, at each hop, as without chance. With 2,2,1,1 chance adds some: at most
             {sure(most, 'requests')} requests, {most['hop']} hops from the source, and {sure(max(short, key=lambda r: float(r['repairs'])), 'repairs')} repairs.
-            Each point is of {2 * scale.runs} losses.""")
+            Each point is {2 * scale.runs} losses.""")
 
     base = Settings(shape="chain", members=scale.chain, loss=f"link:{links}", draws=4 * len(hops), who="timers")
     cases = {tuning: Case(replace(base, tuning=tuning), scale.runs) for tuning in tunings}

@@ -62,13 +62,13 @@ def tunings(network: str, scale: Scale) -> Figure:
         return {f"tunings-{network}": Plot(f"Constants C1 C2 D1 D2, {words}", panels)}
 
     def section(records: list[Record]) -> str:
-        cells = table_of(("Members", "Constants", "Requests, where all lack it", "Repairs, where one does", "Seconds, mean of both", "Datagrams, of both", "beside 2,2,1,1"),
+        cells = table_of(("Members", "Constants", "Requests, if all lack it", "Repairs, if one does", "Seconds, mean of both", "Datagrams, of both", "beside 2,2,1,1"),
                          records, row_of)
         best = [min((r for r in records if r["group"] == group), key=lambda r: float(r["datagrams"] * r["seconds"])) for group in scale.classes]
         told = ", ".join(f"{r['constants'].replace(' ', ',')} for {r['group']}" for r in best)
-        text = picture(f"tunings-{network}", f"Constants, {words}", f"""A point is the mean of both losses. The least product of wait and datagrams
-            have {told}. The last column says by how much the datagrams differ from those of 2,2,1,1 with the same seeds; an interval that leaves out
-            0 tells the two apart.""")
+        text = picture(f"tunings-{network}", f"Constants, {words}", f"""A point is the mean of both kinds of losses. The smallest product of wait
+            and datagrams have {told}. The last column of the table compares the datagrams with those of 2,2,1,1 with the same seeds; the two
+            differ if the interval excludes 0.""")
         return f"{text}\n\n{cells}"
 
     return Figure(f"tunings-{network}", {f"{g} {t}": Case(settings(g, t), scale.runs) for g, t in keys}, table, plots, section)

@@ -7,7 +7,7 @@ from collections.abc import Callable, Sequence
 
 from laboratory.figures.cases import Record
 
-WIDTH = 140
+WIDTH = 100
 
 # a table of more lines than this stands in a file of its own, beside the plots
 MOST_LINES = 8
@@ -40,7 +40,7 @@ def paragraph(text: str) -> str:
 
 def picture(name: str, alt: str, text: str) -> str:
     """A plot with what is seen in it below."""
-    return f"![{alt}](laboratory/{name}.svg)\n\n{paragraph(text)}"
+    return f"![{alt}](laboratory/{name}.svg)\n\n{paragraph(text)}".strip()
 
 
 def table(heads: Sequence[str], records: Sequence[Record], cells: Callable[[Record], Sequence[str]]) -> str:
