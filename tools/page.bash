@@ -16,7 +16,7 @@ digest_of_modules() {
 
 # what the folder is made of: the modules and the page's files
 digest_of_page() {
-    digest_of_modules | digest_of_files web/page live/page
+    digest_of_modules | digest_of_files web/member live/ui
 }
 
 # whether what stands in a folder is of a digest, as the file beside it says

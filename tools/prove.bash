@@ -51,7 +51,7 @@ clear_line() {
     ! has_terminal || printf '\r\033[K' >&2
 }
 
-# a bar of so many parts of so many
+# a bar: $1 parts of $2
 bar_of() {
     local width=20 filled
     filled=$(($1 * width / $2))

@@ -43,7 +43,7 @@ build_unproved() {
     is_unproved_current
 }
 
-# Optimises it, in the process group of the provers. Where that fails, the session goes on by the slow one.
+# Optimises it, in the process group of the provers. If that fails, the session goes on with the slow one.
 make_fast() {
     [ ! -e "$unproved.fast" ] && is_unproved_current || return 0
     "$top/tools/unproved" --fast "$unproved" >"$logs/unproved.log" 2>&1 9>&- &

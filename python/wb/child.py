@@ -117,7 +117,7 @@ class Child:
 
 
 class ChildHost(Child):
-    """`wb host` with these words behind it."""
+    """`wb host` with these words after it."""
 
     def __init__(self, program: str, *words: str, patience: float = PATIENCE) -> None:
         super().__init__([program, "host", *words], patience)

@@ -44,7 +44,7 @@ class Became(enum.Enum):
 
 
 class Answer(NamedTuple):
-    """What a call came to: datagrams to be sent to all others, and what became of a drawop. Where the call was refused, why: then
+    """What a call came to: datagrams to be sent to all others, and what became of a drawop. If the call was refused, why: then
     nothing has changed. `due` is the moment at which to call `tick` next, if there is one."""
 
     send: List[bytes]
@@ -94,7 +94,7 @@ def start() -> Union[LibraryHost, ChildHost]:
 
 
 class Host:
-    """A member that keeps itself: it asks for what it lacks, reports, repairs, and answers who asks. `member` is its number, which no
+    """A self-managing member: it asks for what it lacks, reports, repairs, and answers others. `member` is its number, which no
     other member of the session has; `listen` are the microseconds for which it only listens: 0 for a new number, 6,000,000 for one that
     may have drawn before. Moments are microseconds below 2^48 that never go back; begin near 0. Use it by `with`, or call `end`."""
 
@@ -130,7 +130,7 @@ class Host:
         return block
 
     def came(self, now: int, datagram: bytes) -> Answer:
-        """A datagram came in. One that is none, or that no host takes, is refused, and is no fault of this program."""
+        """A datagram came in. Bytes that are not one, or that no host takes, are refused; this program is not to blame."""
         return answer_of(self.by.ask("came %d %s" % (now, datagram.hex())))
 
     def tick(self, now: int) -> Answer:
@@ -138,7 +138,7 @@ class Host:
         return answer_of(self.must("tick %d" % now))
 
     def add(self, now: int, time: int, page: AnyPage, operation: str) -> Answer:
-        """The user draws, as `line 0 0 4 0 *`, `text 0 1 "hello"` or `delete 7 1`. Where two drawops cover one cell, the one with the
+        """The user draws, as `line 0 0 4 0 *`, `text 0 1 "hello"` or `delete 7 1`. If two drawops cover one cell, the one with the
         greater time is seen: use the microseconds of the time of day."""
         return answer_of(self.must("add %d %d %s %s" % (now, time, page_of(page), operation)))
 

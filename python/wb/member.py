@@ -170,7 +170,7 @@ class Member(asyncio.DatagramProtocol):
         self.news.set()
 
     def break_off(self, fault: BaseException) -> None:
-        """The host has ended: whoever waits for changes is told."""
+        """The host has ended: whoever waits for changes learns it."""
         self.fault = fault
         self.end()
 

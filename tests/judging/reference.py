@@ -1,6 +1,6 @@
 """The judgement of a member, as the table of cases has it: which datagrams are handed to its host, and why the others are not.
 
-It is written to be read, and kept apart from those that have to be fast: `live/judge.py` and `web/page/judge.js` pass the table that
+It is written to be read, and kept apart from those that have to be fast: `live/judge.py` and `web/member/judge.js` pass the table that
 make_cases.py makes by it. It has no host, no clock and no socket: whoever asks tells the moment, and what the host holds. Moments and times
 are microseconds. A datagram is said in the words of `wb words`."""
 

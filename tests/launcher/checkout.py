@@ -15,6 +15,9 @@ HERE = Path(__file__).resolve().parent
 TOP = HERE.parents[1]
 PATIENCE = 60.0  # seconds until what does not come has failed
 
+# A start obeys these signals, though who started the tests ignores them, as a shell does for what it starts in the background.
+OBEYING = ["env", "--default-signal=INT,HUP"]
+
 CRATES = """\
 # a comment: here
 low: thiserror
@@ -95,7 +98,7 @@ class Checkout:
     def start(self, *words: str, command: list[str] | None = None, own_group: bool = False, is_open: bool = False, **more: str) -> subprocess.Popen[str]:
         """Starts it, and goes on. What it tells stands in the file `told`. Its input is empty, or open until it is closed."""
         with (self.room / "told").open("w") as told:
-            child = subprocess.Popen(command or ["./wb", *words], cwd=self.top, env=self.environment(**more), stdin=subprocess.PIPE if is_open else subprocess.DEVNULL, stdout=subprocess.PIPE,
+            child = subprocess.Popen([*OBEYING, *(command or ["./wb", *words])], cwd=self.top, env=self.environment(**more), stdin=subprocess.PIPE if is_open else subprocess.DEVNULL, stdout=subprocess.PIPE,
                                      stderr=told, text=True, start_new_session=own_group)
         self.started.append(child)
         return child

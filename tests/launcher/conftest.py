@@ -28,9 +28,9 @@ def built(checkout: Checkout) -> Checkout:
 @pytest.fixture
 def page(checkout: Checkout) -> Checkout:
     """One with a stand-in for the build of the page."""
-    for folder in ("web/building", "web/page", "live/page"):
+    for folder in ("web/building", "web/member", "live/ui"):
         (checkout.top / folder).mkdir(parents=True)
     checkout.stand_in("build", HERE / "page.sh")
     (checkout.bin / "build").rename(checkout.top / "web/build")
-    checkout.write("web/page/one.js", "scripts")
+    checkout.write("web/member/one.js", "scripts")
     return checkout

@@ -16,9 +16,10 @@ share/bash-completion/completions/wb
 share/bash-completion/completions/wb-live
 share/doc/wb/BUILT
 share/doc/wb/LICENCE
+share/man/man1/wb-live.1
 share/man/man1/wb.1
 share/wb/live/main.py
-share/wb/live/page/board.js
+share/wb/live/ui/board.js
 share/wb/python/wb/__init__.py
 share/wb/wb
 share/wb/wb-live
@@ -30,7 +31,7 @@ share/wb/wbhost.py
 def with_live(checkout: Checkout) -> Checkout:
     for name in ("wb-live", "wbhost.py"):
         shutil.copy(TOP / name, checkout.top)
-    checkout.write("live/page/board.js", "")
+    checkout.write("live/ui/board.js", "")
     shutil.copytree(TOP / "python", checkout.top / "python", ignore=shutil.ignore_patterns("__pycache__"))
     checkout.write("live/main.py", "import wbhost\ndef main(words): print(wbhost.find_program(), *words)")
     return checkout
@@ -80,7 +81,7 @@ def test_page_is_built_behind_the_program(page: Checkout) -> None:
 def test_page_with_another_script_keeps_its_modules(page: Checkout) -> None:
     page_of(page)
     page.forget()
-    page.write("web/page/one.js", "other")
+    page.write("web/member/one.js", "other")
     assert page_of(page) == {"module": "one", "one.js": "other"}
     assert page.begun() == ["page needs", "page folder"]
 

@@ -13,7 +13,7 @@ import pytest
 TOP = Path(__file__).resolve().parents[2]
 PYTHON = ("live", "lab", "tests", "web", "tools", "examples", "python", "javascript", "wbhost.py", "wb-live")
 # what is typed
-TYPED = ("wbhost.py", "live", "lab/laboratory", "tests", "python/wb", "python/wheels.py", "javascript/pack.py")
+TYPED = ("wbhost.py", "live", "lab/laboratory", "tests", "python/wb", "python/wheels.py", "javascript/pack.py", "tools/packing")
 
 
 def find(package: str, *names: str) -> str:
