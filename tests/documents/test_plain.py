@@ -41,15 +41,15 @@ PATTERNS = {re.compile(pattern.replace(" ", r"\s+"), re.MULTILINE): plainer for 
 
 # the documents that are not plain yet; a new one is plain from the beginning
 LATER = {"CHANGELOG.md"}
-PLAIN = [name for document in DOCUMENTS if document not in PAGES and (name := short(document)) not in LATER]
+PLAIN = [name for document in DOCUMENTS if (name := short(document)) not in LATER]
 LONGEST_LINE = 100
 
-# where comments are plain, of each the first line; the crates that are not on the list have comments from before
+# where comments are plain, of each the first line
 COMMENTED = [
     *("examples", "javascript", "live", "python", "tools", "web", "tests/documents"),
-    *(f"crates/{name}/src" for name in ("wb_laws_hosts", "wb_laws_sessions", "wb_progress")),
+    *sorted(short(it) for part in ("src", "specs", "proofs") for it in (TOP / "crates").glob(f"*/{part}")),
 ]
-ENDINGS = (".py", ".js", ".mjs", ".ts", ".bash", ".sh", ".in", ".rt")
+ENDINGS = (".py", ".js", ".mjs", ".ts", ".bash", ".sh", ".in", ".rt", ".antt")
 # the texts of --help in the sources
 HELPING = ["crates/wb/src/command.rt", "live/options.py", "tests/take-figures", "tools/vendor", "wb", "wb-live", "test"]
 
@@ -101,7 +101,7 @@ def comments_of_lines(source: str) -> Iterator[tuple[int, str]]:
     """The first lines of comments that begin their line."""
     was_comment = False
     for number, line in enumerate(source.splitlines(), 1):
-        comment = re.match(r"\s*(?:///|//!|//|/\*\*?|\*|#(?![!\[]))\s?(.*)", line)
+        comment = re.match(r"\s*(?:///|//!|//|-- (?:----)?|/\*\*?|\*|#(?![!\[]))\s?(.*)", line)
         if comment and not was_comment:
             yield number, comment[1]
         was_comment = bool(comment)
@@ -139,7 +139,9 @@ COMMENTS = sorted(path for folder in COMMENTED for path in (TOP / folder).rglob(
 @pytest.mark.parametrize("page", PLAIN)
 def test_page(page: str) -> None:
     text = (TOP / page).read_text()
-    nothing_is_wrong(bad_english(without_code(text)) + long_lines(text))
+    # a promise stands in one line of its page
+    long = long_lines(text) if TOP / page not in PAGES else []
+    nothing_is_wrong(bad_english(without_code(text)) + long)
 
 
 def test_comments() -> None:

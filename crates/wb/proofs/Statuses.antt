@@ -42,7 +42,7 @@ host_fails host_faults.Read e = absurd (omega (arith, e))
 host_fails host_faults.Write e = absurd (omega (arith, e))
 host_fails host_faults.Memory e = absurd (omega (arith, e))
 
--- no failure is told by 0
+-- no failure has status 0
 pub fails : (failure : Failure) → failure_status failure ≡ 0 → ⊥
 fails (failures.Run fault) e = run_fails fault e
 fails (failures.Filter fault) e = filter_fails fault e

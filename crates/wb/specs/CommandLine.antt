@@ -1,4 +1,4 @@
--- What the words of the command line ask for. Which words stand behind an option is said by clap.
+-- What the words of the command line ask for. Clap says which words follow an option.
 use Rattle.std.specs.Prelude.{◌==◌, length, slice_index, ◌≡◌, ◌≢◌, ℕ, ◌<◌, ◌^◌, List, [], Bool, true, false, Option, Some, None, pos, codes}
 use Rattle.std.specs.List.{after_first, before_first, position_or_len}
 use Rattle.std.specs.Str.Parse.{IsNumeral, digits_value, without_leading_plus}
@@ -62,7 +62,7 @@ abbrev pub SaysNumber : Text → Option ℕ → Type 0
 SaysNumber text (Some n) = IsNumber text × (n ≡ digits_value 10 (without_leading_plus text))
 SaysNumber text None = ¬ (IsNumber text)
 
--- the number behind an option, where that is given
+-- the number after an option, if that is given
 abbrev pub IsNumberIn : Option Text → Option ℕ → Type 0
 IsNumberIn None number = number ≡ None
 IsNumberIn (Some text) number = SaysNumber text number
@@ -75,7 +75,7 @@ IsFlagIn text is_given = (text ≡ None → is_given ≡ false) × (text ≡ Som
 abbrev pub IsConstant : Text → ℕ → Type 0
 IsConstant text n = (slice_index text 0 ≢ 43) × SaysNumber text (Some n)
 
--- A comma stands in a text; what stands before the first, and behind it.
+-- A comma stands in a text; what stands before the first, and after it.
 abbrev pub is_comma : ℕ → Bool
 is_comma byte = byte == 44
 
@@ -96,7 +96,7 @@ pub record SaysTuning (text : Text) (t : Tuning) : Type 0 where
   pub last : IsConstant (behind_comma (behind_comma (behind_comma text))) t.d2
   pub range : are_constants t ≡ true
 
--- the constants behind an option, and those of a script where it is not given
+-- the constants after an option, and those of a script if it is not given
 abbrev pub IsTuningIn : Option Text → Tuning → Type 0
 IsTuningIn None t = t ≡ record { c1 = 2; c2 = 2; d1 = 1; d2 = 1 }
 IsTuningIn (Some text) t = SaysTuning text t
@@ -117,6 +117,6 @@ abbrev pub IsFound : Option (Text × List Row) → Task → Type 0
 IsFound None task = ⊥
 IsFound (Some found) task = IsAsked found.0 found.1 task
 
--- The words behind the program's name ask for a task: clap finds no fault in them, and a command.
+-- The words after the program's name ask for a task: clap finds no fault in them, and a command.
 abbrev pub Asks : List Text → Task → Type 0
 Asks words task = (fault_of command_line words ≡ []) × IsFound (subcommand_of command_line words) task

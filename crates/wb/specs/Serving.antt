@@ -48,7 +48,7 @@ host_status host_faults.Read = 3
 host_status host_faults.Write = 3
 host_status host_faults.Memory = 4
 
--- 0 just where all was done
+-- 0 just if all was done
 abbrev pub status_by : {X F : Type 0} → (F → ℕ) → Result X F → ℕ
 status_by status (Ok x) = 0
 status_by status (Err fault) = status fault
@@ -60,11 +60,11 @@ failure_status (failures.Host fault) = host_status fault
 
 -- ---- tasks
 
--- what is written where each line parses
+-- what is written if each line parses
 abbrev pub approval : ℕ → List ℕ
 approval lines = codes "ok " ++ (decimal lines ++ codes "\n")
 
--- A text is written; or a front of it, where the sink fails or memory runs out.
+-- A text is written; or a front of it, if the sink fails or memory runs out.
 abbrev pub IsWritten : {U : Type 0} → List ℕ → List ℕ → Result U RunFault → Type 0
 IsWritten text written (Ok u) = written ≡ text
 IsWritten text written (Err fault) = BeginsWith text written × ((fault ≡ run_faults.Write) ⊎ (fault ≡ run_faults.Memory))
@@ -74,7 +74,7 @@ abbrev pub Approves : {U : Type 0} → Result ℕ RunFault → List ℕ → Resu
 Approves (Ok lines) written ended = IsWritten (approval lines) written ended
 Approves (Err fault) written ended = (written ≡ []) × (ended ≡ Err fault)
 
--- Of an input, which is cut off where reading fails after it, a task wrote this, and so it ended.
+-- Of an input, which is cut off if reading fails after it, a task wrote this, and so it ended.
 abbrev pub Performs : Task → Bool → List ℕ → List ℕ → ℕ → Type 0
 Performs (tasks.Run workers) cut input written status =
     (r : Result Summary RunFault) × Runs workers cut input written r × (status ≡ status_by run_status r)
@@ -102,7 +102,7 @@ IsBegun task ends status = (input : List ℕ) × (written : List ℕ)
     × Gave ends.left ends.rest ends.cut input × Appends ends.before ends.after written
     × Performs task ends.cut input written status
 
--- Nothing was read or written, since memory was refused (4), or the words ask for no task (2).
+-- Nothing was read or written, since an allocation failed (4), or the words ask for no task (2).
 pub record IsIdle (words : List Text) (ends : Ends) (status : ℕ) : Type 0 where
   pub unread : ends.rest ≡ ends.left
   pub unwritten : ends.after ≡ ends.before

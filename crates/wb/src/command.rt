@@ -13,7 +13,7 @@ use wb_filters::{Direction, Filter};
 /// What the program is asked to do.
 #[derive(Drop)]
 pub enum Task {
-    /// Run a script, by so many workers where a number is given.
+    /// Run a script, by `workers` workers if a number is given.
     Run { workers: Option<u32> },
     /// Say whether each line of a script parses.
     Check,
@@ -249,7 +249,7 @@ fn filter_task<'a>(direction: Direction, options: &ArgMatches<'a>) -> Task
     })
 }
 
-/// The task of a host: its constants are those of a script where no word gives others.
+/// The task of a host: its constants are those of a script if no word gives others.
 fn host_task<'a>(options: &ArgMatches<'a>) -> Result<Task, WrongConstants>
     ensures { MatchResult result (λ task. IsAsked (codes "host") (rows_of (found_of options.now)) task)
         (λ _. (task : Task) → IsAsked (codes "host") (rows_of (found_of options.now)) task → ⊥) }
@@ -295,7 +295,7 @@ fn found_task<'a>(matches: &ArgMatches<'a>) -> Result<Task, (ErrorKind, &'static
 }
 
 /// The task that the words after the program's name ask for. The error has the parser's text: of
-/// help, where it was asked for, and else of what is wrong with the words.
+/// help, if it was asked for, or else of what is wrong with the words.
 pub fn task_of<'a>(alloc: Global, words: &'a [&'a str]) -> Result<Task, Error>
     ensures asked { IfOk result (Asks (map (λ word. word.now) words.entry.now)) }
     ensures refused { IfErr result (λ e. (kind_of e ≡ ErrorKind.OutOfMemory)

@@ -65,7 +65,7 @@ fn constant(word: &str) -> Result<u32, WrongConstants>
     }
 }
 
-/// What stands before the first comma, and behind it.
+/// What stands before the first comma, and after it.
 fn at_comma(text: &str) -> Result<(&str, &str), WrongConstants>
     ensures { MatchResult result (λ parts. HasComma text.now
         × (parts.0.now ≡ before_comma text.now) × (parts.1.now ≡ behind_comma text.now))

@@ -1,6 +1,6 @@
 //! `wb run` runs a script of a whiteboard: what it prints goes to standard output, and a fault to
 //! standard error. `wb check` only says whether each of its lines parses. `wb hex` and `wb words`
-//! are filters, by which people write and read the datagrams of scripts.
+//! are filters, with which people write and read the datagrams of scripts.
 #![tactic(auto)]
 
 mod command;

@@ -33,7 +33,7 @@ const MISUSED: u8 = 2;
 /// Reading or writing failed.
 const DISCONNECTED: u8 = 3;
 
-/// Memory or a thread was refused.
+/// An allocation failed, or a thread was refused.
 const NO_MEMORY: u8 = 4;
 
 /// Why a task was not done.
@@ -80,7 +80,7 @@ fn push_all<S: Sink>(sink: &mut S, bytes: &[u8]) -> bool {
     true
 }
 
-/// Writes that memory was refused, and answers the status for it. That takes no memory.
+/// Writes that an allocation failed, and answers the status for it. That allocates nothing.
 pub fn report_no_memory<E: Sink>(errors: &mut E) -> u8
     ensures { result ≡ 4 }
 {
@@ -116,8 +116,8 @@ fn misuse<E: Sink>(alloc: Global, errors: &mut E, error: Error) -> u8
     }
 }
 
-/// Answers the status where the words of the command line can't be had: one of them is not UTF-8,
-/// which is told, or memory is refused.
+/// Writes why the words of the command line can't be had, and answers the status for it: one of
+/// them is not UTF-8, or an allocation failed.
 pub fn refuse_words<E: Sink>(errors: &mut E, kind: io::ErrorKind) -> u8 {
     if kind == io::ErrorKind::InvalidData {
         push_all(
@@ -130,7 +130,7 @@ pub fn refuse_words<E: Sink>(errors: &mut E, kind: io::ErrorKind) -> u8 {
     }
 }
 
-/// What is written where each line parses.
+/// What is written if each line parses.
 fn approval(alloc: Global, lines: u32) -> Result<String, AllocError>
     ensures { IfOk result (λ text. string_bytes text ≡ approval lines) }
 {
@@ -153,7 +153,7 @@ fn approve<W: Sink>(alloc: Global, sink: &mut W, lines: u32) -> Result<(), RunFa
     }
 }
 
-/// Checks a script, and writes how many lines it has where each of them parses.
+/// Checks a script, and writes how many lines it has if each of them parses.
 fn check_lines<R: Source, W: Sink>(
     alloc: Global,
     source: &mut R,
@@ -304,9 +304,9 @@ fn finish<T: Threads + Wait + Sync, R: Source, W: Sink, E: Sink>(
 }
 
 /// Does what the words after the program's name ask for, and answers the status of the program: 0;
-/// 1 where a line is refused or a limit is passed; 2 where the words are not understood, or ask for
-/// help or the version, and then nothing is read; 3 where reading or writing fails; 4 where memory
-/// or a thread is refused. Only a script may wait for other threads: those of its own workers.
+/// 1 if a line is refused or a limit is passed; 2 if the words are not understood, or ask for help
+/// or the version, and then nothing is read; 3 if reading or writing fails; 4 if an allocation or
+/// the start of a thread fails. Only a script may wait for other threads: those of its own workers.
 pub fn serve<T: AllocGlobal + Threads + Wait + Sync, R: Source, W: Sink, E: Sink>(
     rt: &T,
     words: &[&str],

@@ -40,7 +40,7 @@ pub took_by : {U : Type 0} (r : Result U (Stop Infallible)) (old new : DialogVal
 took_by (Ok u) old new line before block printed m is none all did = took old new line before block printed m u is none all did
 took_by (Err e) old new line before block printed m is none all did = tt
 
--- ---- a line behind a block that waits
+-- ---- a line after a block that waits
 
 pub line_taken : (waiting : List ℕ) (old new : Room) (line before after : List ℕ) (size status : ℕ) → length waiting ≤ 0
     → Taken old new line before after size status → LineAt waiting old new line before after size status

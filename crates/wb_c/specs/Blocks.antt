@@ -9,7 +9,7 @@ use Rattle.wb_dialog.specs.Hosting.{Hosting, Reply, block_of, hosting_after, rep
 abbrev pub fresh : DialogValue
 fresh = record { tuning = record { c1 = 2; c2 = 2; d1 = 1; d2 = 1 }; host = None }
 
--- what a host does for a line: what the definition of its transcript says of one with a line feed behind it
+-- what a host does for a line: what the definition of its transcript says of one that a line feed ends
 abbrev pub reply_to_line : Hosting → List ℕ → Reply
 reply_to_line s line = reply_of s (met (record { bytes = line; ended = true }))
 

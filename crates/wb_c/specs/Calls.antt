@@ -37,12 +37,12 @@ abbrev pub status_of : Bool → ℕ
 status_of true = done
 status_of false = waits
 
--- The block that waits is handed over, or there is no room for it. Its size is told. The host is as it was.
+-- The block that waits is handed over, or there is no room for it. The call answers its size. The host stays.
 abbrev pub Fetches : Room → Room → List ℕ → List ℕ → ℕ → ℕ → Type 0
 Fetches old new before after size status = (new.dialog ≡ old.dialog) × (size ≡ length old.block.items)
     × ((whole : Bool) × (status ≡ status_of whole) × HandsOver old.block.items new.block.items before after whole)
 
--- Nothing is written, and no size is told.
+-- The call writes nothing, and answers no size.
 abbrev pub Nothing : List ℕ → List ℕ → ℕ → Type 0
 Nothing before after size = (after ≡ before) × (size ≡ 0)
 
@@ -55,7 +55,7 @@ FetchesFrom (Some old) (Some new) before after size status = Fetches old new bef
 abbrev pub Taken : Room → Room → List ℕ → List ℕ → List ℕ → ℕ → ℕ → Type 0
 Taken old new line before after size status = (kept : Room) × Took old.dialog kept.dialog line kept.block.items × Fetches kept new before after size status
 
--- Where the block of an earlier line waits, nothing is done, and its size is told.
+-- While the block of an earlier line waits, the call does nothing, and answers its size.
 abbrev pub LineAt : List ℕ → Room → Room → List ℕ → List ℕ → List ℕ → ℕ → ℕ → Type 0
 LineAt [] old new line before after size status = Taken old new line before after size status
 LineAt (b ∷ rest) old new line before after size status = (status ≡ not_done) × (new ≡ old) × (after ≡ before) × (size ≡ length (b ∷ rest))

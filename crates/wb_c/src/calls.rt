@@ -14,7 +14,7 @@ const WAITS: u32 = 1;
 const NOT_DONE: u32 = 2;
 /// The host is closed.
 const CLOSED: u32 = 3;
-/// There was no memory, and the host is closed.
+/// An allocation failed, and the host is closed.
 const MEMORY: u32 = 4;
 /// The host is open already.
 const OPEN: u32 = 5;
@@ -27,8 +27,8 @@ fn fetch(room: &mut Room, buffer: &mut [u8], size: &mut usize) -> u32
     if room.hand_over(buffer) { DONE } else { WAITS }
 }
 
-/// Takes a line and hands over its block, where no block waits. None where there is no memory, and
-/// the host is to be given up.
+/// Takes a line and hands over its block, if no block waits. None if an allocation fails: the host
+/// is to be given up then.
 fn serve(
     room: &mut Room,
     alloc: Global,
@@ -68,9 +68,9 @@ pub extern "C" fn wb_open(alloc: Global, host: &mut Host) -> u32
     }
 }
 
-/// Takes a line, which stands without its line feed. Its block goes into the buffer, or waits where
-/// that has no room for it; its size is told. Where the block of an earlier line waits, this line is
-/// not taken.
+/// Takes a line, which stands without its line feed. Its block goes into the buffer, or waits if
+/// that has no room for it; `size` says how large it is. If the block of an earlier line waits,
+/// this line is not taken.
 #[unsafe(no_mangle)]
 pub extern "C" fn wb_line(
     alloc: Global,
@@ -95,7 +95,7 @@ pub extern "C" fn wb_line(
     }
 }
 
-/// Fetches the block that waits. Where none does, it is empty.
+/// Fetches the block that waits. If none does, it is empty.
 #[unsafe(no_mangle)]
 pub extern "C" fn wb_block(
     alloc: Global,

@@ -10,8 +10,8 @@ use std::marker::Model;
 use std::mem::replace;
 use std::ptr::null_mut;
 
-/// The place of a room, or of none. It is let go only where it is that of none: what it owns would
-/// be forgotten.
+/// The place of a room, or of none. It is dropped only if it is that of none: else what it owns
+/// would be forgotten.
 #[repr(C)]
 #[derive(Drop)]
 pub struct Held {

@@ -48,8 +48,8 @@ impl Room {
         }
     }
 
-    /// Takes a line, which stands without its line feed. Its block waits then. Where memory runs
-    /// out, the host is to be given up.
+    /// Takes a line, which stands without its line feed. Its block waits then. If memory runs out,
+    /// the host is to be given up.
     pub(crate) fn answer(&mut self, alloc: Global, line: &[u8]) -> Result<(), AllocError>
         ensures { OnOk result (Took self.old.dialog self.new.dialog line.now self.new.block.items) }
     {
@@ -63,7 +63,7 @@ impl Room {
         }
     }
 
-    /// Hands over the block that waits, where there is room for it, and says whether there is.
+    /// Hands over the block that waits, if there is room for it, and says whether there is.
     pub(crate) fn hand_over(&mut self, room: &mut [u8]) -> bool
         ensures same { self.new.dialog ≡ self.old.dialog }
         ensures block { HandsOver self.old.block.items self.new.block.items room.old room.new result }

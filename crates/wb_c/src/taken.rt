@@ -5,7 +5,7 @@ use std::alloc::{AllocError, Global};
 use wb_lines::Output;
 use wb_names::Sink;
 
-/// A sink that keeps what it is handed. It fails where memory runs out.
+/// A sink that keeps what it is handed. It fails if memory runs out.
 #[derive(Drop)]
 struct Taken {
     bytes: Vec<u8>,

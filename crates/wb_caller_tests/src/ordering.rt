@@ -20,7 +20,7 @@ fn text(source: u32, time: u64) -> Option<Drawop> {
     Drawop::new(name, time, text).ok()
 }
 
-/// What the page shows of a list, or None where a name stands in it twice.
+/// What the page shows of a list, or None if a name stands in it twice.
 fn order_checked(alloc: Global, list: &[Drawop]) -> Result<Option<Vec<Drawop>>, AllocError> {
     if is_history(alloc, list)? {
         Ok(Some(order(alloc, list, PAGE)?))

@@ -31,7 +31,7 @@ fn open(alloc: Global) -> Option<(Board, Desk)>
     Board::open(alloc, 8).ok()
 }
 
-/// A desk with so many rows of this one.
+/// A desk with `rows` rows of this one.
 fn split(board: &Board, alloc: Global, desk: &mut Desk, rows: u32) -> Option<Desk>
     requires { IsPassOf board.now desk.old }
     ensures same { IsSamePass desk.old desk.new }
@@ -106,7 +106,7 @@ fn relay_on_threads<R: Threads + Sync>(
     (well && other_well, one, two)
 }
 
-/// Whether two desks that meet have one list, of so many drawops.
+/// Whether two desks that meet have one list, of `count` drawops.
 fn meet(board: &Board, one: &mut Desk, two: &mut Desk, count: usize) -> bool
     requires { IsPassOf board.now one.old × IsPassOf board.now two.old }
 {

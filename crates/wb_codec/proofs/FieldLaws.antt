@@ -26,7 +26,7 @@ abbrev Holds : {A : Type 0} → (A → Type 0) → Result A ReadFault → Type 0
 Holds P (Ok x) = P x
 Holds P (Err fault) = is_memory fault ≡ false
 
--- what was read has P, and nothing is refused for want of memory
+-- what was read has P, and no allocation fails
 pub record Reads {A : Type 0} (P : A → Type 0) (r : Result A ReadFault) : Type 0 where
   pub it : Holds P r
 

@@ -296,7 +296,7 @@ is_fault bytes fault fits e = e
 pub spells : (bytes : List ℕ) (v : Datagram) → IsBytes bytes → reading bytes ≡ Ok v → Spells bytes v
 spells bytes v fits e = let t = reading_takes bytes v fits e in (t.1, t.0)
 
--- what is refused is no datagram's spelling
+-- what is refused spells no datagram
 pub no_spelling : (bytes : List ℕ) (v : Datagram) (fault : ReadFault) → reading bytes ≡ Err fault → Spells bytes v → ⊥
 no_spelling bytes v fault e s = apart v fault (sym (reading_again v s.0) ∙ ap reading (sym s.1) ∙ e) where
   apart : (v : Datagram) (fault : ReadFault) → (let r : Result Datagram ReadFault = Ok v in let q : Result Datagram ReadFault = Err fault in r ≡ q) → ⊥

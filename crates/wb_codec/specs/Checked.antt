@@ -14,7 +14,7 @@ abbrev pub listed : {X : Type 0} → Result (List X × List ℕ) ReadFault → L
 listed (Ok entries) = entries.0
 listed (Err fault) = []
 
--- the entries that so many are
+-- the first n entries that the bytes spell
 abbrev pub marks_in : ℕ → List ℕ → List MarkValue
 marks_in n bytes = listed (marks_at n bytes)
 

@@ -18,7 +18,7 @@ HasLists (Session sender sent page marks echoes) = Unit {0}
 HasLists (PageState sender page marks) = Unit {0}
 HasLists v = ⊥
 
--- the first check that fails; want of memory is told of the bytes of a datagram with lists alone
+-- the first check that fails; an allocation can fail only for the bytes of a datagram with lists
 abbrev pub IsFaultOf : List ℕ → ReadFault → Type 0
 IsFaultOf bytes Memory = (v : Datagram) × Spells bytes v × HasLists v
 IsFaultOf bytes fault = reading bytes ≡ Err fault

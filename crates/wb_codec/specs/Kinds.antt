@@ -29,7 +29,7 @@ is_version One One = true
 is_version Two Two = true
 is_version version other = false
 
--- whether a version has a kind: texts are told by both, by their length, all else by the first that can
+-- whether a version has a kind: both have texts, by their length; all else belongs to the first that can
 abbrev pub has_kind : Version → OpKind → Bool
 has_kind version Text = true
 has_kind version kind = is_version version (first_version kind)

@@ -141,7 +141,7 @@ drawop_at version bytes = do
   named ← in_range (seq_fault name.0.seq) name.0
   in_range (fault_in_version version named whole) (record { name = named; time = time.0; op = whole })
 
--- ---- lists: so many entries, each source above the one before it
+-- ---- lists: n entries, each source above the one before it
 
 -- a mark: that it is whole comes first, then its number, then its source
 unfoldable pub mark_at : Option ℕ → List ℕ → Result (MarkValue × List ℕ) ReadFault

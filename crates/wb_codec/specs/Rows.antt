@@ -29,7 +29,7 @@ text_word bytes k = from_be_bytes w64 (take 8 (drop (8 * k) bytes))
 abbrev pub text_words : List ℕ → List ℕ
 text_words text = map (text_word (padded text)) (range_with_len 0 8)
 
--- the words that are told by the operation
+-- the words that depend on the operation
 abbrev pub op_words : Op → List ℕ
 op_words (Drawn figure s) = op_word (op_code (kinds.Drawn figure)) s.glyph s.x0 s.y0 s.x1 s.y1 ∷ replicate 8 0
 op_words (Text x y text) = op_word (op_code kinds.Text) (length text) x y 0 0 ∷ text_words text

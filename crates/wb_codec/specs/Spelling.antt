@@ -67,7 +67,7 @@ kind_code (Request asker name) = 3
 kind_code (AskPages asker) = 4
 kind_code (PageState sender page marks) = 5
 
--- a text of over 40 bytes is told by version 2
+-- version 2 spells a text of over 40 bytes
 abbrev pub op_version : Op → Version
 op_version (Text x y text) = if nat_le (length text) 40 then One else Two
 op_version op = first_version (op_kind op)

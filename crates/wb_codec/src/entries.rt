@@ -89,7 +89,7 @@ impl Spelled for Echo {
     }
 }
 
-/// The bytes after so many entries, all of which are checked.
+/// The bytes after `count` entries, all of which are checked.
 pub(crate) fn after_entries<E: Spelled>(count: u16, bytes: &[u8]) -> Result<&[u8], ReadFault>
     ensures { let read = list_at E.entry_at E.source count None bytes.now in
         Gives (λ rest. (listed read, rest.now)) result read }

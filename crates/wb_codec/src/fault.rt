@@ -1,4 +1,4 @@
-//! Why bytes are no datagram.
+//! Why bytes are not a datagram.
 
 ghost use Rattle.std.specs.Prelude.{◌≡◌};
 ghost use Rattle.wb_codec.specs.declared.fault.ReadFault.TheVariants.{Field};
@@ -6,13 +6,13 @@ ghost use Rattle.wb_codec.specs.declared.fault.ReadFault.TheVariants.{Field};
 use thiserror::Error;
 use wb_names::FieldFault;
 
-/// Why bytes are no datagram: the first check that fails. `Memory` alone says nothing of the bytes:
-/// they are a datagram, for whose lists there was no memory.
+/// Why bytes are not a datagram: the first check that fails. `Memory` alone says nothing about the
+/// bytes: they are a datagram, for whose lists there was no memory.
 ///
 /// The checks come in the order of the variants, with three exceptions. That the header tells more
 /// bytes than follow is found after the kind. The number of an operation is checked where it
 /// stands, before the sizes of what follows it. And the entries of lists are checked one by one,
-/// each for its size, its number and its order; bytes behind the last list are found then.
+/// each for its size, its number and its order; bytes after the last list are found then.
 #[derive(Clone, Copy, Debug, PartialEq, Eq, Error)]
 pub enum ReadFault {
     /// Fewer bytes than the header has, or fewer than it tells.

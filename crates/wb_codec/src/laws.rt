@@ -111,7 +111,7 @@ pub fn reading_undoes_spelling()
     ensures one { OneDatagram }
 {}
 
-/// Bytes that end before a datagram does are short, and bytes behind a datagram are trailing,
+/// Bytes that end before a datagram does are short, and bytes after a datagram are trailing,
 /// whatever they are.
 #[tactic(auto, using(crate::proofs::GrammarLaws::whole_datagrams))]
 pub fn only_whole_datagrams_are_read()

@@ -3,8 +3,8 @@
 //! Members tell one another drawops, what they hold of a page, and what they want. Each datagram
 //! has one spelling in bytes, and `read` and `write` are its two directions: what is read is
 //! spelled so, and other bytes are refused with the first check that fails: the header, then the
-//! sizes, then the fields. Each drawop also has one row of twelve words, by which threads share it
-//! word by word.
+//! sizes, then the fields. Each drawop also has one row of twelve words, with which threads share
+//! it word by word.
 //!
 //! This crate knows the layouts and nothing of what they mean: it keeps no board, numbers no
 //! drawing and opens no socket. The layouts are this project's own.

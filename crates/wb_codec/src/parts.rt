@@ -12,7 +12,7 @@ use wb_names::{Change, Drawop, Echo, Figure, Mark, Name, OpKind, PageId, Stroke,
 // Each of these is added to a datagram as a whole, so that the
 // room for it is looked at once, and not at each field.
 
-/// What stands in front of a body of so many bytes.
+/// The header of a body of `len` bytes.
 #[inline(always)]
 pub(crate) fn header(version: u8, kind: u8, len: u32) -> [u8; 8]
     ensures { result ≡ 0x57 ∷ 0x42 ∷ version ∷ kind ∷ to_be_bytes w32 len }

@@ -196,7 +196,7 @@ pub fn drawop_in(words: &[u64; 12]) -> Option<Drawop>
     Drawop::new(name, words[2], shape).ok()
 }
 
-/// The drawop whose record these words are, and none where they are no drawop's record.
+/// The drawop whose record these words are, and none if there is no such drawop.
 pub fn from_row(words: &[u64; 12]) -> Option<Drawop>
     ensures found { IfSome result (λ d. (row d ≡ words.now) × IsDrawop d) }
     ensures only { (d : DrawopValue) → IsDrawop d → row d ≡ words.now → result ≡ Some d }

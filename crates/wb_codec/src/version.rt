@@ -54,7 +54,7 @@ pub(crate) fn first_version(kind: OpKind) -> Version
     }
 }
 
-/// Whether the version has operations of this kind: texts are told by both, by their length.
+/// Whether the version has operations of this kind: both have texts, of different lengths.
 #[inline(always)]
 pub(crate) fn has_kind(version: Version, kind: OpKind) -> bool
     ensures { result ≡ Kinds.has_kind version kind }

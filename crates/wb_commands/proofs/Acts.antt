@@ -19,7 +19,7 @@ use Rattle.wb_commands.specs.Doing.{DoesAct, PrintsAnswer, fault_of, printed}
 use Rattle.wb_commands.specs.Acts.{Act, does, fails, tells, asked, act}
 use Rattle.wb_commands.specs.SentLines.{sends_text}
 
--- want of memory before anything was printed
+-- an allocation failed before anything was printed
 pub act_at_once : (host : Opened) (new : MemberValue) (a : Act) → DoesAct {U = Unit {0}} host new [] (Err untaken.Memory) a
 act_at_once host new a = (printed a, refl)
 
@@ -45,7 +45,7 @@ asked_done r v w query said old new same is prints = let did = by r (answer_text
 err_is : {X : Type 0} (f g : KeepFault) → (let r : Result X KeepFault = Err f in r) ≡ Err g → f ≡ g
 err_is f g e = cc
 
--- the call ended for want of memory alone
+-- the call ended only because an allocation failed
 memory_alone : (host : Opened) (new : MemberValue) (a : Act) (f : KeepFault) → f ≡ keeping.Memory → DoesAct {U = Unit {0}} host new [] (Err (fault_of f)) a
 memory_alone host new a f is = subst (λ (g : KeepFault). DoesAct {U = Unit {0}} host new [] (Err (fault_of g)) a) (sym is) (act_at_once host new a)
 

@@ -110,7 +110,7 @@ others rest = record {
   bytes = no_kind_first (codes "datagram") _ refl;
 }
 
--- a line that is none in words is told by its first word
+-- a line that does not begin like a datagram is read by its words
 told : (line : List ℕ) (ws : List (List ℕ)) → begins_datagram line ≡ false → words line ≡ ws → line_of line ≡ line_of_words ws
 told line ws other e = rw other (ap line_of_words e)
 

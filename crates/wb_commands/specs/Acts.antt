@@ -16,7 +16,7 @@ pub data Act : Type 0 where
   does : Opened → List ℕ → Act
   fails : LineFault → Act
 
--- An answer that has a text prints it; where no number is left, the question is refused.
+-- An answer that has a text prints it; if no number is left, the question is refused.
 abbrev pub tells : Opened → Option (List ℕ) → Act
 tells host (Some text) = does host text
 tells host None = fails faults.TooMany

@@ -23,12 +23,12 @@ DoesAct host new written (Err (untaken.Line f)) (does next text) = ⊥
 DoesAct host new written (Err (untaken.Line f)) (fails e) = (f ≡ e) × IsOpenAt new host × (written ≡ [])
 DoesAct host new written (Err untaken.Memory) a = BeginsWith (printed a) written
 
--- The same at each host at which a member was, of what is printed behind a text that waits.
+-- The same at each host at which a member was, of what is printed after a text that waits.
 abbrev pub DoesAt : {U : Type 0} → MemberValue → MemberValue → List ℕ → List ℕ → Result U Untaken → (Opened → Act) → Type 0
 DoesAt old new before after result act =
     (written : List ℕ) × (after ≡ before ++ written) × ((host : Opened) → IsOpenAt old host → DoesAct host new written result (act host))
 
--- The text of an answer is printed behind what waits; where it has none, that is refused; or memory ran out, and nothing is printed.
+-- The text of an answer is printed after what waits; if it has none, that is refused; or memory ran out, and nothing is printed.
 abbrev pub PrintsAnswer : {U : Type 0} → List ℕ → List ℕ → Result U Untaken → Option (List ℕ) → Type 0
 PrintsAnswer before after (Ok u) (Some text) = after ≡ before ++ text
 PrintsAnswer before after (Ok u) None = ⊥
@@ -36,7 +36,7 @@ PrintsAnswer before after (Err (untaken.Line e)) (Some text) = ⊥
 PrintsAnswer before after (Err (untaken.Line e)) None = (e ≡ faults.TooMany) × (after ≡ before)
 PrintsAnswer before after (Err untaken.Memory) text = after ≡ before
 
--- why a line is not taken, where a member refuses it with a fault
+-- why a line is not taken, if a member refuses it with a fault
 abbrev pub fault_of : KeepFault → Untaken
 fault_of keeping.BackInTime = untaken.Line faults.BackInTime
 fault_of keeping.Range = untaken.Line faults.Number

@@ -19,7 +19,7 @@ line_code BackInTime = 9
 line_code TooMany = 10
 line_code (Word wrong) = 11
 
--- what is said of it
+-- the text of a fault
 abbrev pub line_text : LineFault → List ℕ
 line_text Unknown = codes "unknown"
 line_text Words = codes "words"

@@ -145,7 +145,7 @@ abbrev pub heard : Datagram → Result Command LineFault
 heard (datagrams.Draw d) = Err (faults.Digits digit_faults.Kind)
 heard v = Ok (Hear v)
 
--- Where a line does not say which it is to be, a drawop arrives, and every other datagram is heard.
+-- If a line does not say which it is to be, a drawop arrives, and every other datagram is heard.
 abbrev pub handed_in : Datagram → Command
 handed_in (datagrams.Draw d) = Arrive d
 handed_in v = Hear v
@@ -211,7 +211,7 @@ CarriesDatagram (Arrive d) = Unit {0}
 CarriesDatagram (Hear v) = Unit {0}
 CarriesDatagram line = ⊥
 
--- What parsing answers to the words of a line: what they say, the first fault, or want of memory, once the digits have been looked at.
+-- What parsing answers to the words of a line: what they say, or the first fault; or an allocation failed, once the digits have been looked at.
 abbrev pub Parses : {X : Type 0} → Result X Untaken → Result X LineFault → Type 0
 Parses (Ok line) said = said ≡ Ok line
 Parses (Err (untaken.Line e)) said = said ≡ Err e

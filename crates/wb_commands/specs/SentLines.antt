@@ -20,14 +20,14 @@ send_line v = codes "send " ++ (digits_of v ++ codes "\n")
 abbrev pub sends_text : List Datagram → List ℕ
 sends_text sent = flat_map send_line sent
 
--- the line of a look at a page, at which so many missing drawops got a timer
+-- the line of a look at a page that gave timers to `count` missing drawops
 abbrev pub look_line : ℕ → List ℕ
 look_line count = codes "look " ++ (decimal count ++ codes "\n")
 
 -- ---- laws
 
--- What one script prints as sent, another takes. Behind the word `arrive` the digits of a drawop, and behind `hear` those of every
--- other datagram, are read as that datagram; behind `datagram` those of each are, and so are its words.
+-- What one script prints as sent, another takes. After the word `arrive` the digits of a drawop, and after `hear` those of every
+-- other datagram, are read as that datagram; after `datagram` those of each are, and so are its words.
 pub record IsTaken (v : Datagram) : Type 0 where
   pub arrives : line_of (codes "arrive " ++ digits_of v) ≡ arrived v
   pub hears : line_of (codes "hear " ++ digits_of v) ≡ heard v

@@ -22,7 +22,7 @@ use wb_member::{Member, Query};
 use wb_names::PageId;
 use wb_recovery::Tuning;
 
-/// Why a line is not taken, where the member refuses what it says.
+/// Why a line is not taken, if the member refuses what it says.
 fn refused(fault: KeepFault) -> Untaken
     ensures { result ≡ fault_of fault }
 {

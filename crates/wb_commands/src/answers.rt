@@ -100,7 +100,7 @@ fn next_line(alloc: Global, number: u32) -> Result<String, AllocError>
     format!(in alloc; "next {number}\n")
 }
 
-/// Prints an answer. Refused with `TooMany`, where no number is left. Unless it is printed, nothing
+/// Prints an answer. Refused with `TooMany`, if no number is left. Unless it is printed, nothing
 /// is.
 pub fn print(alloc: Global, answer: &Answer, output: &mut Output) -> Result<(), Untaken>
     ensures { PrintsAnswer output.old output.new result (answer_text (told answer.now)) }

@@ -11,7 +11,7 @@ use wb_words::{DigitsFault, WrongWord};
 /// fault of its own, its first word that is wrong.
 #[derive(Clone, Copy, Debug, PartialEq, Eq)]
 pub enum LineFault {
-    /// The first word is no word of a script.
+    /// The first word is not a word of a script.
     Unknown,
     /// There are too few words, or too many.
     Words,

@@ -2,8 +2,8 @@
 //! clause.
 ghost use Rattle.wb_commands.specs.SentLines.{SentIsTaken};
 
-/// What is printed as sent, another member takes: the digits of a drawop behind the word `arrive`,
-/// those of every other datagram behind `hear`, and those of each behind `datagram`, or its words.
+/// Another member takes what is printed as sent: the digits of a drawop after the word `arrive`,
+/// those of every other datagram after `hear`, and those of each after `datagram`, or its words.
 pub fn sent_is_taken()
     ensures { SentIsTaken }
 {}

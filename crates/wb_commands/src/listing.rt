@@ -61,7 +61,7 @@ impl Listed for PageId {
     }
 }
 
-/// A word with a space behind it and how many there are, on a line; and a line for each, in their
+/// A word with a space after it and how many there are, on a line; and a line for each, in their
 /// order.
 pub(crate) fn list_text<T: Listed>(
     alloc: Global,

@@ -61,7 +61,7 @@ pub fn four_words(rest: &[u8]) -> Option<(&[u8], &[u8], &[u8], &[u8])>
     Some((first, second, third, fourth))
 }
 
-/// The number that a word of decimal digits stands for, where it is from `low` to `high`; else
+/// The number that a word of decimal digits stands for, if it is from `low` to `high`; else
 /// `Number`.
 pub fn number_word(word: &[u8], low: u64, high: u64) -> Result<u64, LineFault>
     ensures value { result ≡ number low high word.now }
@@ -304,8 +304,8 @@ fn in_words(alloc: Global, line: &[u8]) -> Result<Command, Untaken>
 
 /// The line that the bytes say, which stand without their end; or its first fault: `Unknown`,
 /// `Words`, `Number`, `Hex`, `Datagram` or `Kind`, in this order; or `Word`, of a datagram in
-/// words. Memory can run out only in a line that carries a datagram: where that is in hexadecimal,
-/// once its digits are checked.
+/// words. Memory can run out only in a line that carries a datagram: if that is in hexadecimal,
+/// after its digits are checked.
 pub fn parse_line(alloc: Global, bytes: &[u8]) -> Result<Command, Untaken>
     ensures line { ParsesLine result (line_of bytes.now) }
     ensures within { IfOk result IsWithin }
@@ -316,7 +316,7 @@ pub fn parse_line(alloc: Global, bytes: &[u8]) -> Result<Command, Untaken>
     line_of_words(alloc, bytes)
 }
 
-/// The line that is told by its first word.
+/// The line of these words, by the first of them.
 fn line_of_words(alloc: Global, bytes: &[u8]) -> Result<Command, Untaken>
     ensures line { ParsesLine result (line_of_words (words bytes.now)) }
     ensures within { IfOk result IsWithin }

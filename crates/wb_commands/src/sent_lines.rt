@@ -35,7 +35,7 @@ pub fn print_sends(alloc: Global, sent: &[Datagram], output: &mut Output) -> Res
     output.add(sends_text(alloc, sent)?.as_bytes())
 }
 
-/// The line of a look at a page, at which so many missing drawops got a timer.
+/// The line of a look at a page that set timers for `count` missing drawops.
 pub fn look_line(alloc: Global, count: usize) -> Result<String, AllocError>
     ensures { IfOk result (λ text. string_bytes text ≡ look_line count) }
 {

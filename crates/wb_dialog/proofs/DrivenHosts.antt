@@ -1,5 +1,5 @@
--- A host that its driver drives, beside one that may keep itself: for lines of which none says `keep`, and for lines that are not
--- refused, they print the same.
+-- A host that its driver drives, beside one that may become self-managing: for lines of which none says `keep`, and for lines
+-- that are not refused, they print the same.
 use Rattle.std.proofs.Common.{◌≡◌, ℕ, List, [], ◌∷◌, ◌++◌, Result, Ok, Err, refl, sym, ap, subst, ◌∙◌}
 use Rattle.std.specs.Prelude.{Bool, true, false, Option, Some, None, All, if◌then◌else◌}
 use Rattle.std.specs.List.{concat}

@@ -15,7 +15,7 @@ use Rattle.wb_commands.specs.Parsing.{line_of_words, line_of, in_words, command,
 
 -- ---- what stands before the first space
 
--- the words of a line, where this stands before its first space, and these words behind it
+-- the words of a line, if this stands before its first space, and these words after it
 abbrev pub first_and : List ℕ → List (List ℕ) → List (List ℕ)
 first_and word more = if nat_eq (length word) 0 then more else word ∷ more
 
@@ -40,7 +40,7 @@ words_none begun (b ∷ bytes) e = by (words_none (begun ++ b ∷ []) bytes) (na
 
 -- ---- words that begin no line of a script
 
--- it is no word of a script's line, and tells no kind of datagram
+-- it is not a word of a script's line, and names no kind of datagram
 pub record IsUnknown (word : List ℕ) : Type 0 where
   pub script : (arguments : List (List ℕ)) → line_of_words (word ∷ arguments) ≡ Err faults.Unknown
   pub kind : is_kind word ≡ false

@@ -38,7 +38,7 @@ use Rattle.wb_dialog.specs.KeptLaws.{IsDrivenBy, KeptIsDriven, driver_line, told
 
 -- ---- what a policy has its host say
 
--- a line behind the first: what is said is said by this member
+-- a line after the first: what is said is said by this member
 abbrev IsOwn : ℕ → Line → Type 0
 IsOwn n (Ticks now) = ⊥
 IsOwn n (Arrives d) = Unit {0}

@@ -1,4 +1,4 @@
--- What a host that keeps itself does for a line, by what its member did.
+-- What a self-managing host does for a line, by what its member did.
 use Rattle.std.proofs.Common.{◌≡◌, ℕ, List, [], ◌++◌, Option, Some, None, Result, Ok, Err, refl, sym, ap, subst, ◌∙◌, append-nil}
 use Rattle.std.specs.Prelude.{IsTrue, is_some}
 use Rattle.wb_codec.specs.declared.datagram.Datagram.{Datagram}
@@ -105,7 +105,7 @@ pub taken_kept : {U : Type 0} (line : DriverLine) (old new : KeptValue) (written
 taken_kept line old new written result does (Kept k) at = does k at
 taken_kept line old new written result does (Driven host own) at = absurd at
 
--- It begins to keep itself; or it is too late, or it does already.
+-- It becomes self-managing; or it is too late, or it is so already.
 pub begins_kept : (member : MemberValue) (kept : KeptValue) (rate listen seed : ℕ) → ((host : Opened) → IsOpenAt member host → IsKeptAt kept (record { host = host; policy = begun (present host) rate listen seed }))
     → (h : Host) → IsHostAt (values.Driven member (Some seed)) h → DoesReply {U = Unit {0}} (Some h) (Some (values.Kept kept)) [] (Ok tt) (keep_reply rate listen (Some h))
 begins_kept member kept rate listen seed keeps (Driven host own) at =
@@ -138,7 +138,7 @@ abbrev unanswered_at : {U : Type 0} → Result U Untaken → Result U Unanswered
 unanswered_at (Ok u) = Ok u
 unanswered_at (Err e) = Err (unanswered_by e)
 
--- The answer is printed, or the question is refused, or memory ran out: a host that keeps itself stays as it is.
+-- The answer is printed, or the question is refused, or memory ran out: a self-managing host stays as it is.
 pub asks_line : {U : Type 0} (old new : KeptValue) (query : Query) (said : Told) (before after : List ℕ) (r : Result U Untaken) → new ≡ old → ((k : Keeping) → IsKeptAt old k → said ≡ answer_to query k.host) → PrintsAnswer before after r (answer_text said)
     → Adds before after (λ written. DoesKept old new written (unanswered_at r) (kept_reply (asks query)))
 asks_line {U} old new query said before after r same is told = let did = by r (answer_text said) told in (

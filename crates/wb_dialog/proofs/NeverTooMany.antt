@@ -35,7 +35,7 @@ use Rattle.wb_dialog.specs.Dialog.{Answer, answer_at, answered, gives, refuses, 
 use Rattle.wb_dialog.specs.Hosting.{Driven, Host, Hosting, Kept, Reply, as_driven, denies, host_after, hosting_after, hosting_from, is_acting, keep_reply, kept_does, kept_reply, kept_shows, reply, reply_of, reply_to, seed_after, taken_reply, unopened}
 use Rattle.wb_dialog.specs.KeptLaws.{AddIsNotTooMany}
 
--- a host that may keep itself, or does, on a board of at most 65,535 cells
+-- a host that may become self-managing, or is, on a board of at most 65,535 cells
 abbrev MayCount : Opened → Type 0
 MayCount host = host.is.cells ≤ 65535 → IsBounded host
 
@@ -71,7 +71,7 @@ cells_lines : (ls : List Line) (host : Opened) → (after_lines ls host).is.cell
 cells_lines [] host = refl
 cells_lines (line ∷ ls) host = cells_lines ls (after_line line host) ∙ cells_line line host
 
--- ---- a host that keeps itself
+-- ---- a self-managing host
 
 does_count : (line : KeptLine) (text : List ℕ) (k : Keeping) (fault : Option KeptFault) → fault ≡ fault_of line k → MayCount k.host → Counts (host_after (Some (Kept k)) (kept_does fault (doing_of line) text k))
 does_count line text k (Some f) e counts = counts
@@ -107,7 +107,7 @@ unseeded host (gives None text) = tt
 unseeded host (gives (Some next) text) = tt
 unseeded host (refuses e) = tt
 
--- it may not begin to keep itself any more
+-- it may not become self-managing any more
 acted : (host : Opened) (seed : Option ℕ) (a : Answer) → Counts (Some (Driven host seed)) → Counts (host_after (Some (Driven host seed)) (as_driven None a))
 acted host seed (gives None text) counts = tt
 acted host seed (gives (Some next) text) counts = tt

@@ -1,4 +1,4 @@
--- What a host answers to the lines of a driver that judges for it. What a host does that keeps itself is said in Hosting.antt, over this.
+-- What a host answers to the lines of a driver that judges for it. Hosting.antt, over this, says what a self-managing host does.
 use Rattle.std.specs.Prelude.{ℕ, List, [], ◌∷◌, ◌++◌, Bool, nat_eq, Option, Some, None, Result, Ok, Err, if◌then◌else◌, codes, decimal}
 use Rattle.std.specs.List.{concat}
 use Rattle.wb_names.specs.Values.{DrawopValue}
@@ -52,7 +52,7 @@ speaker (datagrams.Request asker name) = asker
 speaker (datagrams.AskPages asker) = asker
 speaker (datagrams.PageState sender page marks) = sender
 
--- A drawop of ours is sent where it is new or held already. Else it is not, and its batch says why.
+-- A drawop of ours is sent if it is new or held already. Else it is not, and its batch says why.
 abbrev pub said_text : DrawopValue → Outcome → List ℕ
 said_text d (Fresh place) = send_line (datagrams.Draw d)
 said_text d (KnownDrawop place) = send_line (datagrams.Draw d)
@@ -117,7 +117,7 @@ answer tuning s (Err e) = refuses e
 
 -- ---- blocks
 
--- the next moment at which a timer is due, where one stands
+-- the next moment at which a timer is due, if one stands
 abbrev pub due : Option Opened → Option ℕ
 due s = by_host s None next_due
 
@@ -136,12 +136,12 @@ abbrev pub block : Answer → List ℕ
 block (gives s text) = text ++ ok_line (due s)
 block (refuses e) = refused_line e
 
--- the host after a line: where it is refused, the one before
+-- the host after a line: if it is refused, the one before
 abbrev pub after : Option Opened → Answer → Option Opened
 after s (gives t text) = t
 after s (refuses e) = s
 
--- ---- a transcript of a host that never begins to keep itself
+-- ---- a transcript of a host that never becomes self-managing
 
 -- what a line of the input says, unless it is too long
 abbrev pub says_line : Met → Result DriverLine Refusal
@@ -173,7 +173,7 @@ abbrev pub state_from : State → List InputLine → State
 state_from s [] = s
 state_from s (line ∷ lines) = state_from (state_after s (answer_of s (met line))) lines
 
--- The lines that are answered. Where the input is cut off, the line at which it is has no end, and no block, unless it is too long already.
+-- The lines that are answered. If the input is cut off, its last line has no end, and no block, unless it is too long already.
 abbrev pub answered_lines : Bool → List InputLine → List InputLine
 answered_lines cut [] = []
 answered_lines cut (line ∷ lines) = if is_taken cut line then line ∷ answered_lines cut lines else []
@@ -182,6 +182,6 @@ answered_lines cut (line ∷ lines) = if is_taken cut line then line ∷ answere
 abbrev pub unopened : Tuning → State
 unopened tuning = record { tuning = tuning; host = None }
 
--- what is written for an input, which is cut off where reading fails after it
+-- what is written for an input, which is cut off if reading fails after it
 abbrev pub transcript : Tuning → Bool → List ℕ → List ℕ
 transcript tuning cut input = concat (blocks_from (unopened tuning) (answered_lines cut (input_lines input)))

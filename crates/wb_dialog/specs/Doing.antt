@@ -25,7 +25,7 @@ pub record DialogValue : Type 0 where
   pub tuning : Tuning
   pub host : Option HostValue
 
--- Something was written behind what waits, and this holds of it.
+-- Something was written after what waits, and this holds of it.
 abbrev pub Adds : List ℕ → List ℕ → (List ℕ → Type 0) → Type 0
 Adds before after holds = (written : List ℕ) × (after ≡ before ++ written) × holds written
 
@@ -60,7 +60,7 @@ Tells written (Ok u) text = written ≡ text
 Tells written (Err (unanswered.Refused e)) text = ⊥
 Tells written (Err unanswered.Memory) text = BeginsWith text written
 
--- what is left of a seed: where a line was not taken, all
+-- what is left of a seed: if a line was not taken, all
 abbrev pub seed_by : {U : Type 0} → Result U Unanswered → Option ℕ → Option ℕ → Option ℕ
 seed_by (Ok u) seed later = later
 seed_by (Err e) seed later = seed
@@ -101,12 +101,12 @@ DoesOpen old new written result reply = (h : Host) → IsHostAt old h → DoesRe
 abbrev pub DoesHost : {U : Type 0} → Option HostValue → Option HostValue → List ℕ → Result U Unanswered → (Option Host → Reply) → Type 0
 DoesHost old new written result reply = (s : Option Host) → MayBeAt old s → DoesReply s new written result (reply s)
 
--- why a line is not done, by why a member that keeps itself does not do it
+-- why a line is not done, by why a self-managing member does not do it
 abbrev pub unanswered_of : KeptFault → Unanswered
 unanswered_of (kept_faults.Host keep_faults.Memory) = unanswered.Memory
 unanswered_of fault = unanswered.Refused (kept_refusal fault)
 
--- The same at each host at which a member was that keeps itself.
+-- The same at each host at which a self-managing member was.
 abbrev pub DoesKept : {U : Type 0} → KeptValue → KeptValue → List ℕ → Result U Unanswered → (Keeping → Reply) → Type 0
 DoesKept old new written result reply = (k : Keeping) → IsKeptAt old k → DoesReply (Some (Kept k)) (Some (values.Kept new)) written result (reply k)
 
@@ -132,7 +132,7 @@ fault_of drive_faults.Write = host_faults.Write
 fault_of drive_faults.Memory = host_faults.Memory
 fault_of drive_faults.Endless = host_faults.Endless
 
--- What was written: all of a text, where the input came to its end or to where reading failed; else a front of it.
+-- What was written: all of a text, if the input came to its end or to where reading failed; else a front of it.
 abbrev pub Writes : {U : Type 0} → List ℕ → List ℕ → Result U HostFault → Type 0
 Writes text written (Ok u) = written ≡ text
 Writes text written (Err host_faults.Read) = written ≡ text

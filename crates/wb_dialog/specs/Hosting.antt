@@ -1,4 +1,4 @@
--- What a host does for the lines of a driver, whether its driver judges or it keeps itself, and what is written for them.
+-- What a host does for the lines of a driver, whether its driver judges or it is self-managing, and what is written for them.
 use Rattle.std.specs.Prelude.{ℕ, ◌<◌, ◌≤◌, ◌⊎◌, List, [], ◌∷◌, ◌++◌, length, Contains, Bool, true, false, nat_lt, Option, Some, None, Result, Ok, Err, if◌then◌else◌}
 use Rattle.std.specs.List.{concat}
 use Rattle.std.specs.declared.convert.Infallible.{Infallible}
@@ -32,8 +32,8 @@ use Rattle.wb_dialog.specs.declared.line.DriverLine.{DriverLine}
 use Rattle.wb_dialog.specs.declared.line.DriverLine.TheVariants.{Script, Say, Ask, Stop, Keep, Came, Add}
 use Rattle.wb_dialog.specs.Dialog.{Answer, gives, refuses, answer_at, answer_first, batch_of, ok_line, refused_line, says_line, answered_lines}
 
--- A host, once its board is open. Where its driver judges, it may begin to keep itself, with the seed of its board, until a line
--- that acts was taken. Where it keeps itself, it has a policy.
+-- A host, once its board is open. If its driver judges, it may become self-managing, with the seed of its board, until a line
+-- that acts was taken. If it is self-managing, it has a policy.
 pub data Host : Type 0 where
   Driven : Opened → (seed : Option ℕ) → Host
   Kept : Keeping → Host
@@ -45,7 +45,7 @@ pub data Reply : Type 0 where
 
 -- ---- a host that its driver drives
 
--- A line that acts: behind such a one a host can't begin to keep itself, and one that keeps itself takes none.
+-- A line that acts: after such a one a host can't become self-managing, and one that is takes none.
 abbrev pub acts_in_script : Command → Bool
 acts_in_script (lines.Arrive d) = true
 acts_in_script (lines.Hear v) = true
@@ -63,7 +63,7 @@ is_acting (Stop name) = true
 is_acting (Keep rate listen) = true
 is_acting line = false
 
--- the seed with which it may begin to keep itself after a line
+-- the seed with which it may become self-managing after a line
 abbrev pub seed_after : DriverLine → Option ℕ → Option ℕ
 seed_after line seed = if is_acting line then None else seed
 
@@ -75,12 +75,12 @@ abbrev pub as_driven : Option ℕ → Answer → Reply
 as_driven seed (gives next text) = prints (driven_host seed next) text
 as_driven seed (refuses e) = denies e
 
--- From now on it keeps itself.
+-- From now on it is self-managing.
 abbrev pub begins : ℕ → ℕ → Opened → Option ℕ → Reply
 begins rate listen host None = denies refusals.TooLate
 begins rate listen host (Some seed) = prints (Some (Kept (record { host = host; policy = begun (present host) rate listen seed }))) []
 
--- ---- a host that keeps itself
+-- ---- a self-managing host
 
 -- The number of a target is the sixth word of a drawing.
 abbrev pub wrong_target : FieldFault → Refusal
@@ -159,7 +159,7 @@ abbrev pub taken_reply : Tuning → Option Host → DriverLine → Reply
 taken_reply tuning None line = as_driven (seed_in line) (answer_first tuning line)
 taken_reply tuning (Some h) line = taken_by line h
 
--- It begins to keep itself, where it may.
+-- It becomes self-managing, if it may.
 abbrev pub keep_reply : ℕ → ℕ → Option Host → Reply
 keep_reply rate listen None = denies (refusals.Line faults.NoBoard)
 keep_reply rate listen (Some (Driven host seed)) = begins rate listen host seed
@@ -190,7 +190,7 @@ abbrev pub block_of : Reply → List ℕ
 block_of (prints s text) = text ++ ok_line (due_at s)
 block_of (denies e) = refused_line e
 
--- the host after a line: where it is refused, the one before
+-- the host after a line: if it is refused, the one before
 abbrev pub host_after : Option Host → Reply → Option Host
 host_after s (prints t text) = t
 host_after s (denies e) = s
@@ -226,7 +226,7 @@ hosting_from s (line ∷ lines) = hosting_from (hosting_after s (reply_of s (met
 abbrev pub unopened : Tuning → Hosting
 unopened tuning = record { tuning = tuning; host = None }
 
--- what is written for an input, which is cut off where reading fails after it
+-- what is written for an input, which is cut off if reading fails after it
 abbrev pub transcript : Tuning → Bool → List ℕ → List ℕ
 transcript tuning cut input = concat (blocks_from (unopened tuning) (answered_lines cut (input_lines input)))
 

@@ -1,4 +1,4 @@
--- A host that keeps itself is a host whose driver hands in other lines: those of its policy.
+-- A self-managing host is a host whose driver hands in other lines: those of its policy.
 use Rattle.std.specs.Prelude.{◌≡◌, ◌≤◌, ℕ, List, [], ◌∷◌, ◌++◌, Some, None}
 use Rattle.wb_names.specs.declared.name.PageId.{PageId}
 use Rattle.wb_names.specs.declared.parts.Op.{Op}
@@ -58,7 +58,7 @@ IsDrivenBy (line ∷ lines') host =
     let a = answer_at (driver_line line) host in
     (after (Some host) a ≡ Some (after_line line host)) × (text_of a ≡ sends_text (sent_by_line line host) ++ told_by line host) × IsDrivenBy lines' (after_line line host)
 
--- So it is with the lines of each call that a host which keeps itself does not refuse.
+-- So it is with the lines of each call that a self-managing host does not refuse.
 pub record KeptIsDriven : Type 0 where
   pub ticked : (k : Keeping) (now : ℕ) → tick_fault now k ≡ None → IsDrivenBy (ticks now (sees k.host) k.policy).lines k.host
   pub took : (k : Keeping) (now : ℕ) (v : Datagram) → came_fault now v k ≡ None → IsDrivenBy (came now v (sees k.host) k.policy).lines k.host

@@ -32,7 +32,7 @@ RefusedStays = (s : Hosting) (front rest : List InputLine) (line : InputLine) (e
 abbrev pub IsClosing : List ℕ → Type 0
 IsClosing line = ((moment : Option ℕ) × (line ≡ ok_line moment)) ⊎ ((e : Refusal) × (line ≡ refused_line e))
 
--- a text with a line behind it that closes the block
+-- a text and then a line that closes the block
 pub record IsBlock (bytes : List ℕ) : Type 0 where
   pub text : List ℕ
   pub line : List ℕ
@@ -45,7 +45,7 @@ EachIsAnswered = (s : Hosting) (lines : List InputLine) → (length (blocks_from
 
 -- ---- fronts
 
--- The transcript of a front of an input, where reading fails after it, is a front of the transcript of the input: of any front, not of whole lines alone.
+-- The transcript of a front of an input, if reading fails after it, is a front of the transcript of the input: of any front, not of whole lines alone.
 abbrev pub FrontsAreFronts : Type 0
 FrontsAreFronts = (tuning : Tuning) (cut : Bool) (front rest : List ℕ) → BeginsWith (transcript tuning cut (front ++ rest)) (transcript tuning true front)
 
@@ -69,14 +69,14 @@ accepted_blocks s (line ∷ lines) = if is_given (reply_of s (met line)) then bl
 abbrev pub AcceptedAlone : Type 0
 AcceptedAlone = (s : Hosting) (lines : List InputLine) → (blocks_from s (accepted_lines s lines) ≡ accepted_blocks s lines) × (hosting_from s (accepted_lines s lines) ≡ hosting_from s lines)
 
--- ---- a host that never begins to keep itself
+-- ---- a host that never becomes self-managing
 
 -- a line that does not say `keep`
 abbrev pub BeginsNoKeep : Result DriverLine Refusal → Type 0
 BeginsNoKeep (Ok (Keep rate listen)) = ⊥
 BeginsNoKeep said = Unit {0}
 
--- Where no line of an input says `keep`, what is written is what a host writes that its driver drives, whose definition knows no policy.
+-- If no line of an input says `keep`, what is written is what a host writes that its driver drives, whose definition knows no policy.
 abbrev pub DrivenAsBefore : Type 0
 DrivenAsBefore = (tuning : Tuning) (cut : Bool) (input : List ℕ) → All (λ line. BeginsNoKeep (says_line (met line))) (input_lines input) → transcript tuning cut input ≡ driven_transcript tuning cut input
 
@@ -87,7 +87,7 @@ abbrev pub NextIsNew : Type 0
 NextIsNew = (page : PageId) (host : Opened) (n : ℕ) → next_number page host ≡ Some n
     → ((m : ℕ) → IsHeld host.is.held page host.is.number m → m < n) × (mark_of (marks_heard host.is.number host.is.calls page) host.is.number < n)
 
--- What `say` prints as sent is read back, behind the word `datagram`, as what was said.
+-- What `say` prints as sent is read back, after the word `datagram`, as what was said.
 abbrev pub SaidIsRead : Type 0
 SaidIsRead = (v : Datagram) → IsDatagram v → line_of (codes "datagram " ++ digits_of v) ≡ Ok (Script (handed_in v))
 

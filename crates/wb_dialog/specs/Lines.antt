@@ -29,7 +29,7 @@ use Rattle.wb_dialog.specs.declared.fault.Refusal.TheVariants as refusals
 use Rattle.wb_dialog.specs.declared.fault.Unanswered.{Unanswered}
 use Rattle.wb_dialog.specs.declared.fault.Unanswered.TheVariants as unanswered
 
--- what stands behind a word and a space, with which a line begins
+-- what follows a word and a space, with which a line begins
 abbrev pub part_behind : List ℕ → Option (List ℕ × List ℕ) → Option (List ℕ)
 part_behind opener None = None
 part_behind opener (Some parts) = if bytes_eq parts.0 opener then Some parts.1 else None
@@ -66,7 +66,7 @@ question word arguments =
 abbrev pub asks : Query → DriverLine
 asks query = Script (lines.Question query)
 
--- a line of a script; where no script has such a line, a question
+-- a line of a script; if no script has such a line, a question
 abbrev pub script_or : Result Query LineFault → Result Command LineFault → Result DriverLine Refusal
 script_or query (Ok line) = Ok (Script line)
 script_or query (Err faults.Unknown) = by_words asks query
@@ -80,7 +80,7 @@ keep_line arguments = do
   listen ← number 0 (2 ^ 32 - 1) words'.1
   Ok (Keep rate listen)
 
--- the moment of the first of two words, and the datagram of those behind it, which came in then
+-- the moment of the first of two words, and the datagram of those after it, which came in then
 unfoldable pub moment_of : List (List ℕ) → Result ℕ LineFault
 moment_of arguments = do
   words' ← or_fault faults.Words (two_of arguments)
@@ -96,8 +96,8 @@ came_line arguments = do
   v ← datagram (words_behind arguments)
   Ok (Came now v)
 
--- The line with this first word and these further ones. One that is not a driver's own is a script's, or a question. The words behind
--- `say` and `add` stand one space after it, so where they do not, they are wrong.
+-- The line with this first word and these further ones. One that is not a driver's own is a script's, or a question. What follows
+-- `say` or `add` begins one space after it, so if it does not, it is wrong.
 unfoldable pub command : List ℕ → List ℕ → List (List ℕ) → Result DriverLine Refusal
 command line word arguments =
     if bytes_eq word (codes "say") then Err (refusals.Line faults.Words)
@@ -123,7 +123,7 @@ said_by read = in_words Say read
 abbrev pub added_by : Result Adding WrongWord → Result DriverLine Refusal
 added_by read = in_words Add read
 
--- by what stands behind the word `say`, or behind the word `add`
+-- by what follows the word `say`, or the word `add`
 abbrev pub line_behind : List ℕ → Option (List ℕ) → Option (List ℕ) → Result DriverLine Refusal
 line_behind line None None = line_of_words line (words line)
 line_behind line None (Some rest) = added_by (adding_reading rest)
@@ -155,7 +155,7 @@ abbrev pub unanswered_words : WordsFault → Unanswered
 unanswered_words (words_faults.Word wrong) = unanswered.Refused (refusals.Line (faults.Word wrong))
 unanswered_words words_faults.Memory = unanswered.Memory
 
--- what a line says, its first fault, or want of memory
+-- what a line says, or its first fault; or an allocation failed
 abbrev pub Parses : {X : Type 0} → Result X Unanswered → Result X Refusal → Type 0
 Parses (Ok x) said = said ≡ Ok x
 Parses (Err (unanswered.Refused e)) said = said ≡ Err e

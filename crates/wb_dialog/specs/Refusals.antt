@@ -1,4 +1,4 @@
--- What is said of why a line of a driver is refused.
+-- The text that says why a line of a driver is refused.
 use Rattle.std.specs.Prelude.{ℕ, List, codes}
 use Rattle.wb_commands.specs.Faults.{line_text}
 use Rattle.wb_dialog.specs.declared.fault.Refusal.{Refusal}

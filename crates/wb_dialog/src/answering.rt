@@ -79,7 +79,7 @@ fn speaker(datagram: &Datagram) -> u32
     }
 }
 
-/// Prints the line of a datagram that is sent. Without memory it prints nothing.
+/// Prints the line of a datagram that is sent. If an allocation fails, it prints nothing.
 fn send(alloc: Global, datagram: &Datagram, output: &mut Output) -> Result<(), AllocError>
     ensures ok { OnOk result (output.new ≡ output.old ++ send_line datagram.now) }
     ensures err { OnErr result (output.new ≡ output.old) }
@@ -88,7 +88,7 @@ fn send(alloc: Global, datagram: &Datagram, output: &mut Output) -> Result<(), A
     output.add(text.as_bytes())
 }
 
-/// Prints the batch that one drawop is. Without memory it prints nothing.
+/// Prints the batch that one drawop is. If an allocation fails, it prints nothing.
 fn count(became: Option<Reply>, output: &mut Output) -> Result<(), AllocError>
     ensures ok { OnOk result (output.new ≡ output.old ++ batch_of (outcome_in became)) }
     ensures err { OnErr result (output.new ≡ output.old) }
@@ -96,7 +96,7 @@ fn count(became: Option<Reply>, output: &mut Output) -> Result<(), AllocError>
     output.add(arrival_line(became))
 }
 
-/// A drawop of ours is accepted, and goes out where it is new or was held already.
+/// A drawop of ours is accepted, and goes out if it is new or was held already.
 fn publish(
     alloc: Global,
     member: &mut Member,

@@ -30,8 +30,8 @@ pub(crate) fn refused_line(alloc: Global, refusal: Refusal) -> Result<String, Al
     format!(in alloc; "refused {refusal}\n")
 }
 
-/// Prints the line that closes the block of a line that was taken, where a timer is due at this
-/// moment. Without memory it prints a front of it.
+/// Prints the line that closes the block of a line that was taken, if a timer is due at `moment`.
+/// If an allocation fails, it prints a front of it.
 fn print_due(moment: u64, output: &mut Output) -> Result<(), AllocError>
     ensures { Adds output.old output.new (λ written.
         Prints written result (ok_line (Some moment))) }
@@ -42,7 +42,7 @@ fn print_due(moment: u64, output: &mut Output) -> Result<(), AllocError>
     output.add(b"\n")
 }
 
-/// The same, where there is a timer or none.
+/// The same, if a timer is due at a moment or none stands.
 pub(crate) fn print_ok(due: Option<u64>, output: &mut Output) -> Result<(), AllocError>
     ensures { Adds output.old output.new (λ written. Prints written result (ok_line due)) }
 {

@@ -48,7 +48,7 @@ impl Dialog {
         Dialog { tuning, host: None }
     }
 
-    /// The next moment at which the host has something to do, in microseconds. None where there is
+    /// The next moment at which the host has something to do, in microseconds. None if there is
     /// none.
     fn next_due(&self) -> Option<u64>
         ensures { (s : Option HostState) → MayBeAt self.now.host s → result ≡ due_at s }
@@ -84,7 +84,7 @@ impl Dialog {
         }
     }
 
-    /// What a line does that does not begin to keep the host.
+    /// What a line does that does not make the host self-managing.
     fn take(
         &mut self,
         alloc: Global,
@@ -103,7 +103,7 @@ impl Dialog {
         }
     }
 
-    /// From now on the host keeps itself, where it may.
+    /// From now on the host is self-managing, if it may be.
     fn keep(&mut self, rate: u32, listen: u32) -> Result<(), Unanswered>
         requires rate { 1 ≤ rate }
         ensures does { DoesHost self.old.host self.new.host [] result (keep_reply rate listen) }
@@ -159,8 +159,8 @@ impl Dialog {
     }
 
     /// Prints the block of a line, which stands without its end: what it prints, and `ok DUE`; or,
-    /// where the line is refused, `refused FAULT`, and nothing changes. Where memory runs out, a
-    /// front of the block is printed, and the host is to be given up.
+    /// if the line is refused, `refused FAULT`, and nothing changes. If memory runs out, a front of
+    /// the block is printed, and the host is to be given up.
     pub fn answer(
         &mut self,
         alloc: Global,

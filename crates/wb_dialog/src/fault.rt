@@ -19,15 +19,15 @@ pub enum Refusal {
     Member,
     /// The line has over 65,536 bytes before its line feed.
     Endless,
-    /// The line is one of a host that keeps itself, and this one does not.
+    /// The line is for a self-managing host, and this one is not.
     NotKept,
-    /// The line is for its driver to judge, and the host keeps itself.
+    /// The line is for its driver to judge, and the host is self-managing.
     Kept,
-    /// A line that acts was taken, so the host can't begin to keep itself.
+    /// A line that acts was taken, so the host can't become self-managing.
     TooLate,
     /// Nothing is added yet.
     Listening,
-    /// A drawop of our own number of 2^31 or more that is not held.
+    /// A drawop of ours that is not held, with a number of 2^31 or more.
     Ours,
 }
 
@@ -58,7 +58,7 @@ impl error::Error for Refusal {}
 pub(crate) enum Unanswered {
     /// It is refused.
     Refused(Refusal),
-    /// Memory ran out. This says nothing of the line.
+    /// Memory ran out. This says nothing about the line.
     Memory,
 }
 
@@ -106,7 +106,7 @@ pub enum HostFault {
     /// Memory ran out.
     #[error("memory")]
     Memory,
-    /// The input has 2^64 - 1 lines or more, or a line that has so many bytes.
+    /// The input has 2^64 - 1 lines or more, or a line that has as many bytes.
     #[error("endless")]
     Endless,
 }

@@ -32,8 +32,8 @@ fn fault_of(fault: DriveFault<Infallible>) -> HostFault
 /// read. The timers of the host have these constants, each from 1 to 16.
 ///
 /// What is written is the transcript of the input, which ends where the source does or where it
-/// fails. Where memory runs out or the sink fails, a front of it is written; and so where it has no
-/// end that is waited for: more than 2^64 - 1 lines, or one that is too long to pass over.
+/// fails. If memory runs out or the sink fails, a front of it is written; and so if it has no end
+/// that is waited for: more than 2^64 - 1 lines, or one that is too long to pass over.
 pub fn host<R: Source, W: Sink>(
     alloc: Global,
     tuning: Tuning,

@@ -1,4 +1,4 @@
-//! What the lines of a driver do at a host that keeps itself.
+//! What the lines of a driver do at a self-managing host.
 ghost use Rattle.std.specs.Prelude.{◌≡◌, ◌<◌, ◌^◌, ◌++◌, [], true};
 ghost use Rattle.wb_names.specs.Moments.{IsMoment};
 ghost use Rattle.wb_names.specs.Shapes.{op_of};
@@ -39,7 +39,7 @@ fn wrong_target(fault: FieldFault) -> Refusal
     }))
 }
 
-/// Why a host that keeps itself does not do a line.
+/// Why a self-managing host does not do a line.
 fn refused(fault: KeptFault) -> Unanswered
     ensures { result ≡ unanswered_of fault }
 {
@@ -53,7 +53,7 @@ fn refused(fault: KeptFault) -> Unanswered
     }
 }
 
-/// Prints what is sent, and then a text. Without memory it prints a front of that.
+/// Prints what is sent, and then a text. If an allocation fails, it prints a front of that.
 fn tell(
     alloc: Global,
     sent: &[Datagram],
@@ -97,7 +97,7 @@ fn tune(kept: &mut KeptMember, constants: Tuning) -> Result<(), Unanswered>
     }
 }
 
-/// The batch that a datagram is, where it is a drawop, by what became of that.
+/// The batch that a datagram is, if it is a drawop, by what became of that.
 fn batch(datagram: &Datagram, became: Option<Reply>) -> &'static [u8]
     ensures { result.now ≡ came_text datagram.now (outcome_in became) }
 {
@@ -107,7 +107,7 @@ fn batch(datagram: &Datagram, became: Option<Reply>) -> &'static [u8]
     }
 }
 
-/// A datagram came in at a moment. Of a drawop the batch is printed last.
+/// A datagram came in at a moment. If it is a drawop, its batch is printed last.
 #[tactic(auto, using(crate::proofs::KeptReplies::does_line))]
 fn came(
     alloc: Global,
@@ -153,7 +153,7 @@ fn unsent(became: Option<Reply>) -> &'static [u8]
     }
 }
 
-/// The user draws an operation. Where the board is full, the batch is printed last.
+/// The user draws an operation. If the board is full, the batch is printed last.
 #[tactic(auto, using(crate::proofs::KeptReplies::does_line))]
 fn draw(
     alloc: Global,
@@ -206,7 +206,7 @@ fn ask(
     }
 }
 
-/// What a line of a script does, of which some are its driver's to judge no more.
+/// What a line of a script does. Some are no longer its driver's to judge.
 fn script(
     alloc: Global,
     kept: &mut KeptMember,
@@ -227,8 +227,8 @@ fn script(
     }
 }
 
-/// What a line does at a host that keeps itself: it prints, or it is refused, and then the host
-/// stays as it is.
+/// What a line does at a self-managing host: it prints, or it is refused, and then the host stays
+/// as it is.
 pub(crate) fn answer_kept(
     alloc: Global,
     kept: &mut KeptMember,

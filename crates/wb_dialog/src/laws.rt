@@ -29,14 +29,14 @@ pub fn driven_hosts_stay()
     ensures { DrivenAsBefore }
 {}
 
-/// A host that keeps itself is a host whose driver hands in the lines of its policy: it comes to
-/// the same hosts, and sends the same. So what is proved of hosts holds of it.
+/// A self-managing host is a host whose driver hands in the lines of its policy: it comes to the
+/// same hosts, and sends the same. So what is proved of hosts holds of it.
 pub fn kept_hosts_are_driven()
     ensures { KeptIsDriven }
 {}
 
-/// A host that keeps itself refuses no drawing as too many, whatever was handed in before: a number
-/// is left for each.
+/// A self-managing host refuses no drawing as too many, whatever was handed in before: a number is
+/// left for each.
 pub fn adds_are_not_too_many()
     ensures { AddIsNotTooMany }
 {}

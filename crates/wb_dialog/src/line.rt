@@ -17,8 +17,8 @@ pub enum DriverLine {
     Ask(Name),
     /// `stop C N SOURCE NUMBER` gives up asking for a drawop.
     Stop(Name),
-    /// `keep RATE LISTEN`: from now on the host keeps itself. The reports of all members together
-    /// take so many bytes a second, and for so many microseconds nothing is added.
+    /// `keep RATE LISTEN`: from now on the host is self-managing. The reports of all members
+    /// together take RATE bytes a second, and for LISTEN microseconds nothing is added.
     Keep { rate: u32, listen: u32 },
     /// `came NOW HEX`: a datagram came in at a moment, in microseconds.
     Came { now: u64, datagram: Datagram },

@@ -24,10 +24,10 @@ use wb_recovery::Tuning;
 /// A host, once its board is open.
 #[derive(Drop)]
 pub(crate) enum Host {
-    /// Its driver judges. It may begin to keep itself, with the seed of its board, until a line
+    /// Its driver judges. It may become self-managing, with the seed of its board, until a line
     /// that acts was taken.
     Driven { member: Member, seed: Option<u64> },
-    /// It keeps itself.
+    /// It is self-managing.
     Kept(KeptMember),
 }
 
@@ -46,8 +46,7 @@ fn acts_in_script(line: &Command) -> bool
     }
 }
 
-/// Whether a line that is taken acts on its host: behind such a one a host can't begin to keep
-/// itself.
+/// Whether a line that is taken acts on its host: after it a host can't become self-managing.
 pub(crate) fn is_acting(line: &DriverLine) -> bool
     ensures { result ≡ is_acting line.now }
 {
@@ -81,7 +80,7 @@ fn drive(
     Ok(())
 }
 
-/// From now on a driven host keeps itself, where it has the seed of its board yet.
+/// From now on a driven host is self-managing, if it still has the seed of its board.
 #[tactic(auto, using(crate::proofs::KeptReplies::begins_kept, crate::proofs::KeptReplies::begins_late))]
 fn begin_to_keep(
     member: Member,
@@ -105,7 +104,7 @@ fn begin_to_keep(
     }
 }
 
-/// A moment that a line can tell.
+/// The moment, if a line can name it.
 fn in_time(moment: u64) -> Option<u64>
     ensures { result ≡ in_time moment }
 {
@@ -137,8 +136,8 @@ impl Host {
         })
     }
 
-    /// The next moment at which it has something to do, in microseconds. None where there is none,
-    /// or where no line could tell it.
+    /// The next moment at which it has something to do, in microseconds. None if there is none, or
+    /// if no line could name it.
     #[tactic(auto, using(crate::proofs::KeptReplies::due_driven, crate::proofs::KeptReplies::due_itself))]
     pub fn next_due(&self) -> Option<u64>
         ensures { (h : HostState) → IsHostAt self.now h → result ≡ due_at (Some h) }
@@ -149,8 +148,8 @@ impl Host {
         }
     }
 
-    /// What a line does that does not begin to keep it: it prints, or it is refused, and then the
-    /// host stays as it is.
+    /// What a line does that does not make it self-managing: it prints, or it is refused, and then
+    /// the host stays as it is.
     #[tactic(auto, using(crate::proofs::KeptReplies::taken_driven, crate::proofs::KeptReplies::taken_kept))]
     pub fn take(
         &mut self,
@@ -168,7 +167,7 @@ impl Host {
         }
     }
 
-    /// From now on it keeps itself, where it may.
+    /// From now on it is self-managing, if it may be.
     #[tactic(auto, using(crate::proofs::KeptReplies::begins_again))]
     pub fn keep(self, rate: u32, listen: u32) -> (Host, Result<(), Unanswered>)
         requires rate { 1 ≤ rate }

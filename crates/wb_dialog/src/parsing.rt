@@ -34,7 +34,7 @@ fn is_word(word: &[u8], other: &[u8]) -> bool
     word.len() == other.len() && word == other
 }
 
-/// What stands behind a word and a space, with which a line begins.
+/// What follows `opener` and a space, if a line begins with these.
 fn behind<'a>(line: &'a [u8], opener: &[u8]) -> Option<&'a [u8]>
     ensures { option_map (λ x. x.now) result ≡ part_behind opener.now (split_once 32 line.now) }
 {
@@ -161,7 +161,7 @@ fn question(word: &[u8], rest: &[u8]) -> Result<Query, LineFault>
     Err(LineFault::Unknown)
 }
 
-/// A line of a script; where no script has such a line, a question.
+/// A line of a script, or, if no script has such a line, a question.
 fn script_or_question(
     alloc: Global,
     line: &[u8],
@@ -193,7 +193,7 @@ fn script_line(alloc: Global, line: &[u8]) -> Result<DriverLine, Unanswered>
     }
 }
 
-/// A line that is told by its first word.
+/// A line whose first word says what it is.
 fn words_line(alloc: Global, line: &[u8]) -> Result<DriverLine, Unanswered>
     ensures line { Parses result (line_of_words line.now (words line.now)) }
     ensures within { IfOk result IsWithin }

@@ -1,4 +1,4 @@
--- Histories that hold the same drawops show the same; and where nothing is restored, as by the rule that knows deletes alone.
+-- Histories that hold the same drawops show the same; and if nothing is restored, as by the rule that knows deletes alone.
 use Rattle.std.proofs.Common.{◌≡◌, List, refl, ap, ◌∙◌, sym, subst, ℕ}
 use Rattle.std.specs.Prelude.{Bool, ◌↔◌, not, ◌&&◌, Contains, IsPermutation, true, false, All, Option, Some, None}
 use Rattle.std.specs.List.{list_any}
@@ -53,7 +53,7 @@ converges one other page shown again moved a b = one_list display_total _ shown 
 pub paints_alike : PaintsAlike
 paints_alike one other page shown again w h moved a b = ap (λ (ds : List DrawopValue). canvas_text ds w h) (converges one other page shown again moved a b)
 
--- ---- where nothing is restored, the latest word on a drawop is a delete if there is a word at all
+-- ---- if nothing is restored, the latest word on a drawop is a delete, if there is a word at all
 
 deletes_unless : (op : Op) (s n : ℕ) → has_target op s n ≡ true → is_restore op ≡ false → is_delete op ≡ true
 deletes_unless (Aimed Delete target) s n t r = refl

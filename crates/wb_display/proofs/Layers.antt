@@ -253,7 +253,7 @@ step_held words words' entries entries' list i d h is news page holds held =
     let e : held_of entries' ≡ held_with words.page (held_of entries) d = ap held_of t.1 ∙ map-append (λ (e : Target × DrawopValue). e.1) entries ((own_target d, d) ∷ []) ∙ sym (held_more words.page (held_of entries) d news) in
     (t.0, t.1, e, rw (page, e) (room_taken words.page (held_of entries) list i d h is news))
 
--- where nothing is news there is nothing to make room for
+-- if there is no news, nothing needs room
 pub news_none : (page : PageId) (held list : List DrawopValue) → All (λ d. is_news page held d ≡ false) list → news_count page held list ≡ 0
 news_none page held [] all = refl
 news_none page held (x ∷ xs) all =

@@ -206,7 +206,7 @@ module _ (page : PageId) (held : List DrawopValue) (d : DrawopValue) (shown afte
         (λ e. (viewed.members x).1 (cx, by ∙ and_from _ _ (and_from _ _ on drawn) (not_from_false _ e))),
       )
 
-  -- something later was said of x
+  -- a later word on x is held
   outdone : is_drawing d.op ≡ false → (x : DrawopValue) → is_aimed_at d x ≡ true → is_last_word held x d ≡ false → Contains after x ↔ Contains shown x
   outdone changes x aimed late = stays x (λ cx. still (here x cx) (last_word_of held page (own_target x)).0 (last_word_of held page (own_target x)).1) (not_drawn changes x) where
     later : (k : ℕ) × (f : DrawopValue) × (k < length held) × (get_or held k f ≡ f) × ((is_aimed_at f x && is_lt (display_cmp d f)) ≡ true)

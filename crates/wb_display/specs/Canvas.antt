@@ -66,7 +66,7 @@ glyph_of (Drawn figure s) x = s.glyph
 glyph_of (Text x0 y0 text) x = text_glyph x0 text x
 glyph_of (Aimed change t) x = 32
 
--- the glyph of the last drawop that covers the point, and a space where none does
+-- the glyph of the last drawop that covers the point, and a space if no drawop does
 abbrev pub glyph_at : List DrawopValue → ℕ → ℕ → ℕ
 glyph_at ds x y = option_map_or (λ d. glyph_of d.op x) (find (λ d. covers d.op x y) (reverse ds)) 32
 

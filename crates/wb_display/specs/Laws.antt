@@ -32,21 +32,21 @@ was_shown history page d = (same_page d.name.page page && is_drawing d.op) && no
 abbrev pub IsOlderView : List DrawopValue → PageId → List DrawopValue → Type 0
 IsOlderView history page shown = Lists display_cmp (λ d. Contains history d × IsTrue (was_shown history page d)) shown
 
--- Where nothing is restored, the view is the one of the older rule.
+-- If nothing is restored, the view is the one of the older rule.
 abbrev pub AgreesWithOlderRule : Type 0
 AgreesWithOlderRule = (history : List DrawopValue) (page : PageId) (shown : List DrawopValue) → All (λ e. is_restore e.op ≡ false) history → IsView history page shown ↔ IsOlderView history page shown
 
 -- what one more drawop d, after held, changes of what is shown
 pub record PutChanges (held : List DrawopValue) (d : DrawopValue) (shown after : List DrawopValue) : Type 0 where
-  -- a drawing enters, unless what was said of it before hides it
+  -- a drawing enters, unless a word on it that came before hides it
   pub enters : is_drawing d.op ≡ true → Contains after d ↔ (is_hidden_in held d ≡ false)
   -- it changes nothing else
   pub alone : is_drawing d.op ≡ true → (x : DrawopValue) → x ≢ d → Contains after x ↔ Contains shown x
   -- a delete or a restore changes nothing that it does not name
   pub others : is_drawing d.op ≡ false → (x : DrawopValue) → is_aimed_at d x ≡ false → Contains after x ↔ Contains shown x
-  -- it shows or hides its target, where nothing later was said of that
+  -- it shows or hides its target, if no later word on that is held
   pub decides : (x : DrawopValue) → Contains held x → is_drawing x.op ≡ true → is_aimed_at d x ≡ true → is_last_word held x d ≡ true → Contains after x ↔ (is_delete d.op ≡ false)
-  -- and changes nothing where something later was
+  -- and changes nothing if a later word is
   pub outdone : is_drawing d.op ≡ false → (x : DrawopValue) → is_aimed_at d x ≡ true → is_last_word held x d ≡ false → Contains after x ↔ Contains shown x
 
 -- What a put does to the view of a page.

@@ -82,8 +82,8 @@ impl Canvas {
         (1..=Self::MAX_WIDTH).contains(&width) && (1..=Self::MAX_HEIGHT).contains(&height)
     }
 
-    /// The canvas of the list, `width` columns by `height` rows. `Size` where there is no such
-    /// canvas, which is decided before memory is asked for.
+    /// The canvas of the list, `width` columns by `height` rows. `Size` if there is no such canvas,
+    /// which is decided before memory is asked for.
     pub fn paint(
         alloc: Global,
         list: &[Drawop],
@@ -113,8 +113,8 @@ impl Canvas {
         &self.bytes
     }
 
-    /// Writes the rows into the sink: all of them, or those bytes of which `Stopped` tells where
-    /// the sink has failed.
+    /// Writes the rows into the sink: all of them, or, if the sink has failed, those bytes of which
+    /// `Stopped` tells.
     #[tactic(auto, using(crate::proofs::Sent::sent_more))]
     pub fn write_to<W: Sink>(&self, sink: &mut W) -> Result<(), Stopped>
         ensures ok { OnOk result (Appends (W.taken sink.old) (W.taken sink.new) self.now) }

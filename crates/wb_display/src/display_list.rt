@@ -19,8 +19,8 @@ fn place_in(list: &[Drawop], drawop: &Drawop) -> Result<usize, usize>
     }
 }
 
-/// Puts a drawop into the list where it is to be shown, and takes it out where it is not. The list
-/// has room for one more.
+/// Puts a drawop into the list if it is to be shown, and takes it out if it is not. The list has
+/// room for one more.
 pub(crate) fn set_shown(list: &mut Vec<Drawop>, drawop: &Drawop, shows: bool)
     requires { vec_len list.old < vec_capacity list.old }
     ensures { IsStrictlySortedBy display_cmp list.old.items → TiesAlone list.old.items drawop.now →

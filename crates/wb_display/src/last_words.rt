@@ -88,8 +88,8 @@ fn aimed_at(op: &Op) -> Option<Target>
     }
 }
 
-/// The one drawop whose showing may change where this one is put on its page: its target, or itself
-/// where it has none.
+/// The one drawop whose showing may change when this one is put on its page: its target, or itself
+/// if it has none.
 #[inline(always)]
 pub(crate) fn affected_by(drawop: &Drawop) -> Target
     ensures { result ≡ affected_target drawop.now }
@@ -108,7 +108,7 @@ pub(crate) struct LastWords {
 }
 
 impl LastWords {
-    /// Nothing is said of any drawop of the page.
+    /// No drawop of the page has a last word.
     pub fn new(alloc: Global, page: PageId) -> LastWords
         ensures page { result.page ≡ page }
         ensures none { AreLastWords [] result }
@@ -119,7 +119,7 @@ impl LastWords {
         }
     }
 
-    /// Makes room for so many words more.
+    /// Makes room for `count` words more.
     pub fn reserve(&mut self, count: usize) -> Result<(), AllocError>
         ensures page { self.new.page ≡ self.old.page }
         ensures words { (target : Target) → word_on self.new target ≡ word_on self.old target }
@@ -128,8 +128,8 @@ impl LastWords {
         self.latest.reserve(count)
     }
 
-    /// Takes in a drawop: where it is a delete or a restore on the page, and later than what was
-    /// said of its target so far, it is the last word on that.
+    /// Takes in a drawop: if it is a delete or a restore on the page, and later than the last word
+    /// on its target so far, it is the last word on that.
     pub fn update(&mut self, drawop: &Drawop) -> Result<(), AllocError>
         ensures page { self.new.page ≡ self.old.page }
         ensures ok { OnOk result ((history : List DrawopValue) → AreLastWords history self.old →
@@ -150,7 +150,7 @@ impl LastWords {
         Ok(())
     }
 
-    /// The later of what was said of a drawop so far and one word more.
+    /// The later of the last word on a drawop so far and one word more.
     #[inline(always)]
     fn later_word(&self, target: Target, word: LastWord) -> LastWord
         ensures { result ≡ later_word_of (word_on self.now target) word }

@@ -21,14 +21,14 @@ pub fn canvas_is_free()
     ensures { PaintsAlike }
 {}
 
-/// Where nothing is restored, what is shown is what the older rule showed, by which a drawop is
-/// hidden where some delete names it.
+/// If nothing is restored, what is shown is what the older rule showed: it hid a drawop if some
+/// delete names it.
 pub fn older_rule()
     ensures { AgreesWithOlderRule }
 {}
 
 /// What one more drawop changes of what a page shows: a drawing enters unless it is hidden, a
-/// delete takes its target out and a restore brings it back, where nothing later was said of that.
+/// delete takes its target out and a restore brings it back, unless a later one names that.
 pub fn put_shows()
     ensures { PutsShow }
 {}

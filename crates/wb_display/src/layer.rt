@@ -1,6 +1,6 @@
 //! A layer: what a page shows, kept while drawops are put on it one by one, in any order.
 //!
-//! A delete waits for its target, and a target finds what was said of it before it came. A drawop
+//! A delete waits for its target, and a target finds the words on it that came before. A drawop
 //! that is hidden is kept, since a restore may show it again.
 
 ghost use Rattle.std.specs.Prelude.{◌≡◌, ◌≤◌, ◌<◌, ◌+◌, [], OnOk, OnErr, IsOk, All, false, vec_len, vec_capacity};
@@ -71,7 +71,7 @@ impl Layer {
     }
 
     /// Puts each drawop of a list, in its order, as that many calls of `put` would. All memory is
-    /// asked for before anything is changed: where it is refused, none was put.
+    /// asked for before anything is changed: if an allocation fails, none was put.
     #[tactic(auto, using(crate::proofs::Layers::news_none))]
     pub fn put_all(&mut self, drawops: &[Drawop]) -> Result<(), AllocError>
         ensures ok { OnOk result (self.new ≡
@@ -178,7 +178,7 @@ fn take_in(
 }
 
 /// Takes in what a new drawop of the page says, and the drawop itself. Gives the one that it
-/// affects, where that is held.
+/// affects, if that is held.
 #[inline(always)]
 fn hold(
     words: &mut LastWords,

@@ -34,7 +34,7 @@ impl Model for Walk {
 }
 
 impl Walk {
-    /// A coordinate at `from`, on its way to `to` in so many steps.
+    /// A coordinate at `from`, on its way to `to` in `steps` steps.
     #[inline(always)]
     #[tactic(auto, using(crate::proofs::Lines::start))]
     fn new(from: u16, to: u16, steps: u16) -> Walk
@@ -51,7 +51,7 @@ impl Walk {
         }
     }
 
-    /// A coordinate on its way from `from` to `to` in so many steps, of which it has gone some.
+    /// A coordinate on its way from `from` to `to` in `steps` steps, of which it has gone `gone`.
     pub fn after(from: u16, to: u16, steps: u16, gone: u16) -> Walk
         requires reach { distance_of from to ≤ steps }
         requires within { gone ≤ steps }
@@ -87,7 +87,7 @@ impl Walk {
         self.at
     }
 
-    /// Goes one step. The position moves where the error has grown to a whole.
+    /// Goes one step. The position moves when the error has grown to a whole.
     #[inline(always)]
     pub fn step(&mut self)
         requires { self.old.gone < self.old.steps }

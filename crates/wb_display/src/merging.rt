@@ -49,8 +49,8 @@ fn enter(list: &mut Vec<Drawop>, entering: &[Drawop])
     merge(list, front, entering);
 }
 
-/// Takes out what the last words hide, in one walk, where they hide any of what was touched. They
-/// show all else in the list.
+/// Takes out what the last words hide, in one walk, if they hide any of what was touched. They show
+/// all else in the list.
 fn hide(words: &LastWords, shown: &mut Vec<Drawop>, touched: &[Drawop])
     requires { ShowsOthers (is_shown_now words.now) shown.old.items touched.now }
     ensures items { shown.new.items ≡ filter (is_shown_now words.now) shown.old.items }

@@ -34,7 +34,7 @@ fn put(cells: &mut [u8], size: Size, x: usize, y: usize, glyph: u8)
     cells[y * (size.width + 1) + x] = glyph;
 }
 
-/// Puts a glyph into the cell of a point, where it is one of the canvas.
+/// Puts a glyph into the cell of a point, if it is one of the canvas.
 #[inline(always)]
 fn plot(cells: &mut [u8], size: Size, x: usize, y: usize, glyph: u8)
     requires { length cells.old ≡ size.height * (size.width + 1) }

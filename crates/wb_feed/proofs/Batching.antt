@@ -79,7 +79,7 @@ work_sound n p q log gots s (inl x) = runs_sound p q (entries log) s x.1.runs
 work_sound n p q log gots s (inr (some, nobody)) = absurd (omega (arith, some))
 work_sound n p q log gots s (inr (some, worker es others got more split serves rest back)) = back.sound
 
--- the same, with what n workers were told of it
+-- the same, with the replies to n workers
 abbrev pub AllWorked : ℕ → PassValue → PassValue → ChannelView → ChannelView → List (ℕ × Reply) → Type 0
 AllWorked n p q g h told = Worked (λ log gots. Work n p log gots q) g h told
 

@@ -1,4 +1,4 @@
--- What was told, filed by its place, and the drawops for which nothing is filed.
+-- The replies, filed by their places, and the drawops for which nothing is filed.
 use Rattle.std.proofs.Common.{◌≡◌, ◌≢◌, ℕ, zero, suc, ◌+◌, ◌≤◌, ◌<◌, ◌==◌, ◌||◌, Bool, true, false, cond, List, [], ◌∷◌, ◌++◌, length, take, get_or, set, refl, ap, ap₂, sym, subst, ◌∙◌, arith, length-take, length-set, get_or-set_same, get_or-set_other, Option, Some, None, ⊎_elim}
 use Rattle.std.proofs.lemmas.Bool.{cases_lt}
 use Rattle.std.proofs.lemmas.List.{append-nil, length-replicate, take_more, length-map, map-append, map-set}
@@ -153,7 +153,7 @@ turned a b = omega arith
 plus_turned : (a b : Counts) → plus a b ≡ plus b a
 plus_turned a b = same_counts (turned a.fresh b.fresh) (turned a.again b.again) (turned a.clash b.clash) (turned a.left b.left)
 
--- a reply that is filed where none was is counted with the others
+-- a reply that is filed at a free place is counted with the others
 filed-set : (fs : List (Option Reply)) (q : ℕ) (r : Reply) → q < length fs → get_or fs q None ≡ None → counts_of (filed_outcomes (set fs q (Some r))) ≡ plus (counts_of (outcome r ∷ [])) (counts_of (filed_outcomes fs))
 filed-set [] q r lt e = absurd (omega (arith, lt))
 filed-set (None ∷ fs) zero r lt e = counts_of-append (outcome r ∷ []) (filed_outcomes fs)

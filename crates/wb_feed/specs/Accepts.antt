@@ -10,7 +10,7 @@ pub record Keeps (p q : PassValue) : Type 0 where
   pub same : IsSamePass p q
   pub seen : IsPrefix p.seen q.seen
 
--- besides, each place is kept, and each row but at most so many: a row is free, or it became a place
+-- besides, each place is kept, and each row but at most `most`: a row is free, or it became a place
 pub record LosesAtMost (most : ℕ) (p q : PassValue) : Type 0 where
   pub kept : Keeps p q
   pub places : IsPrefix p.mine q.mine

@@ -26,7 +26,7 @@ pub record IsInSomeOrder (p : PassValue) (given : List DrawopValue) (q : PassVal
   pub moved : IsPermutation given order
   pub taken : IsInOrder p order q b
 
--- the list has the names of all drawops but at most so many
+-- the list has the names of all drawops but at most `left`
 pub record HoldsNamesBut (left : ℕ) (history given : List DrawopValue) : Type 0 where
   pub held : List DrawopValue
   pub others : List DrawopValue

@@ -14,11 +14,11 @@ use Rattle.wb_feed.specs.Served.{Spot, entries}
 use Rattle.wb_feed.specs.Workers.{Workers, nobody, worker, Work}
 use Rattle.wb_feed.specs.Batches.{IsShared}
 
--- the caller was given this reply to d where the history had so many members
+-- the caller was given this reply to d when the history had `point` members
 abbrev pub answered : ℕ → DrawopValue → Reply → ℕ → Answered
 answered caller d reply point = record { step = record { caller = caller; call = Accept d; answer = Replied reply }; point = point }
 
--- one accept: a new drawop where it became a member, another where the desk had then seen so many. Of what was left nothing is answered
+-- one accept: a new drawop is answered at its place, another at the `seen` members of the desk, and what was left not at all
 abbrev pub answered_of : ℕ → Entry → ℕ → List Answered
 answered_of caller (d, Fresh i) seen = answered caller d (New i) i ∷ []
 answered_of caller (d, Known i) seen = answered caller d (Again i) seen ∷ []

@@ -20,15 +20,15 @@ pub record IsWith (f : Feeding) (v : ChannelView) (g : Feeding) : Type 0 where
 abbrev pub IsMerged : Feeding → ChannelView → Feeding → Type 0
 IsMerged f w g = let v = view f.pass in IsWith f (channel_view (v.parts + w.parts) v.sends v.sent (v.got ++ w.got)) g
 
--- nothing came or was sent, and more than so many passes may be cut off
+-- nothing came or was sent, and more than `workers` passes may be cut off
 pub record IsReady (workers : ℕ) (f : Feeding) : Type 0 where
   pub parts : workers < (view f.pass).parts
   pub sent : (view f.pass).sent ≡ []
   pub arrived : f.arrived.items ≡ []
   pub going : f.going ≡ true
 
--- The source a was fed from, is b since, and r was answered: a is as it was where no thread could be started, and b has ended where
--- all went well. What a source is told by is its trait's
+-- The source a was fed from, is b since, and r was answered: a is as it was if no thread could be started, and b has ended if
+-- all went well. `gives`, `most` and `has_ended` are its trait's
 pub record HasFed {A X : Type 0} (gives : A → List DrawopValue → A → Type 0) (most : A → ℕ) (has_ended : A → Bool) (f : Feeding) (a : A) (g : Feeding) (b : A) (r : Result X WorkFault) : Type 0 where
   pub channel : g.channel ≡ f.channel
   pub arrived : HasArrived gives most a f.arrived.items b g.arrived.items

@@ -31,7 +31,7 @@ pub record CountsOne (b : Batch) (o : Outcome) (c : Batch) : Type 0 where
   pub clash : c.clash ≡ b.clash + (counts_of (o ∷ [])).clash
   pub left : c.left ≡ b.left + (counts_of (o ∷ [])).left
 
--- where something was told, and with which outcomes
+-- the places of some replies, and their outcomes
 abbrev pub told_at : List (ℕ × Reply) → List ℕ
 told_at ts = map (λ t. t.0) ts
 
@@ -60,7 +60,7 @@ filed_outcomes (Some r ∷ fs) = outcome r ∷ filed_outcomes fs
 abbrev pub IsPut : List (Option Reply) → ℕ → Reply → List (Option Reply) → Type 0
 IsPut fs place r gs = (place < length fs → gs ≡ set fs place (Some r)) × (length fs ≤ place → gs ≡ fs)
 
--- what was told is filed by its place, below n: each once, if it was told of each place once
+-- the replies are filed by their places, below n: all of them, if their places are below n and differ
 pub record Files (told : List (ℕ × Reply)) (n : ℕ) (filed : List (Option Reply)) : Type 0 where
   pub long : length filed ≡ n
   pub marks : Marks (told_at told) n (filled filed)

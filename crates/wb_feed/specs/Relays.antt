@@ -46,7 +46,7 @@ abbrev pub NotTold : PassValue → DrawopValue → PassValue → RelayFault → 
 NotTold p d q NoRow = HasNoRow p d q
 NotTold p d q Memory = MayHaveAccepted p d q
 
--- the hearer took in the desk that it was sent, or it is as it was: what was told was a fault, or memory was refused
+-- the hearer took in the desk that it was sent, or it is as it was: it was sent a fault, or an allocation failed
 abbrev pub Hears : Result (Reply × PassValue) RelayFault → PassValue → PassValue → Result Reply RelayFault → Type 0
 Hears (Ok t) h k (Ok r) = (t.0 ≡ r) × IsSamePass h k × IsJoined h t.1 k
 Hears (Ok t) h k (Err e) = (e ≡ Memory) × (k ≡ h)

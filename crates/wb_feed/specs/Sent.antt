@@ -21,8 +21,8 @@ pub record IsSent (h : ChannelView) (arrived : List DrawopValue) (going : Bool) 
   pub first : take (length h.sent) arrived ≡ h.sent
   pub all : going ≡ true → h.sent ≡ arrived
 
--- Some more came: the source a gave them and is b since, each has so many to give at most, and was is what had come. What a
--- source is told by is its trait's
+-- Some more came: the source a gave them and is b since, each has `most` to give at most, and was is what had come. `gives`
+-- and `most` are its trait's
 pub record HasArrived {A : Type 0} (gives : A → List DrawopValue → A → Type 0) (most : A → ℕ) (a : A) (was : List DrawopValue) (b : A) (arrived : List DrawopValue) : Type 0 where
   pub more : List DrawopValue
   pub given : gives a more b

@@ -54,14 +54,14 @@ abbrev pub Rises : ℕ → List (ℕ × DrawopValue) → Type 0
 Rises low [] = Unit {0}
 Rises low (x ∷ xs) = (low ≤ x.0) × Rises (x.0 + 1) xs
 
--- what a worker notes of an outcome at a position: the reply, and nothing where the drawop was left
+-- what a worker notes of an outcome at a position: the reply, and nothing if the drawop was left
 abbrev pub noted : ℕ → Outcome → List (ℕ × Reply)
 noted p (Fresh i) = (p, New i) ∷ []
 noted p (Known i) = (p, Again i) ∷ []
 noted p (Clashed i) = (p, Clash i) ∷ []
 noted p Left = []
 
--- the desk p accepted the drawop of this position and is q, and what was noted of it comes behind what was told before
+-- the desk p accepted the drawop of this position and is q, and what was noted of it comes after what was noted before
 abbrev pub NotesOne : PassValue → ℕ → DrawopValue → PassValue → List (ℕ × Reply) → List (ℕ × Reply) → Type 0
 NotesOne p position d q before after = (o : Outcome) × Accepts p d o q × (after ≡ before ++ noted position o)
 
@@ -75,7 +75,7 @@ pub record Serves (p : PassValue) (log : List Spot) (got : List Message) (q : Pa
   pub offered : offered log ≡ takes got
   pub rises : Rises 0 (takes got)
 
--- the worker took all that it received, and this is what it was told
+-- the worker took all that it received, and these are the replies to it
 pub record TookAll (p q : PassValue) (got : List Message) (told : List (ℕ × Reply)) : Type 0 where
   pub log : List Spot
   pub serves : Serves p log got q

@@ -19,7 +19,7 @@ pub record IsBack (p desk q : PassValue) : Type 0 where
   pub sound : IsSound q
   pub joined : IsJoined p desk q
 
--- From the desk p, n workers with so many rows each were started and came back to the desk q. The lists are what they did, and what
+-- From the desk p, n workers with `rows` rows each were started and came back to the desk q. The lists are what they did, and what
 -- they received, as it was put together
 pub data Workers (rows : ℕ) : ℕ → PassValue → List Spot → List Message → PassValue → Type 0 where
   nobody : {p : PassValue} → Workers rows zero p [] [] p
@@ -31,17 +31,17 @@ pub data Workers (rows : ℕ) : ℕ → PassValue → List Spot → List Message
 abbrev pub Work : ℕ → PassValue → List Spot → List Message → PassValue → Type 0
 Work n p log gots q = ((n ≡ 1) × Serves p log gots q) ⊎ ((1 < n) × Workers (p.free / n) n p log gots q)
 
--- how many of so many free rows they get
+-- how many of the free rows n workers get
 abbrev pub handed_out : ℕ → ℕ → ℕ
 handed_out n free = if nat_eq n 1 then 0 else n * (free / n)
 
--- rows are lost only where memory is refused, and then at most so many
+-- rows are lost only if an allocation failed, and then at most n
 abbrev pub most_lost : {X : Type 0} → ℕ → Result X WorkFault → ℕ
 most_lost n (Ok x) = 0
 most_lost n (Err Start) = 0
 most_lost n (Err Memory) = n
 
--- What the workers did, and what they were told of it. The pass h of the channel has what they received, and the parts that g had
+-- What the workers did, and the replies to it. The pass h of the channel has what they received, and the parts that g had
 pub record Worked (Did : List Spot → List Message → Type 0) (g h : ChannelView) (told : List (ℕ × Reply)) : Type 0 where
   pub log : List Spot
   pub gots : List Message
@@ -50,7 +50,7 @@ pub record Worked (Did : List Spot → List Message → Type 0) (g h : ChannelVi
   pub parts : h.parts ≡ g.parts
   pub tells : told ≡ told_of log
 
--- The workers did this, up to the desk q, and what they were told is r: f is how far the batch had got before, and g after
+-- The workers did this, up to the desk q, and r has the replies to it: f is how far the batch had got before, and g after
 abbrev pub HasWorked : (List Spot → List Message → PassValue → Type 0) → Feeding → Feeding → PassValue → Result Told WorkFault → Type 0
 HasWorked Did f g q r = IfOk r (λ told. Worked (λ log gots. Did log gots q) (view f.pass) (view g.pass) told.replies.items)
 
@@ -58,13 +58,13 @@ HasWorked Did f g q r = IfOk r (λ told. Worked (λ log gots. Did log gots q) (v
 abbrev pub MayLose : {X : Type 0} → ℕ → PassValue → Result X WorkFault → PassValue → Type 0
 MayLose n p r q = LosesAtMost (most_lost (handed_out n p.free) r) p q
 
--- the desk p took back a worker's, unless memory was refused, and is q; others is what the others were told, and the last what all were
+-- the desk p took back a worker's, unless an allocation failed, and is q; others has the replies to the others, and the last those to all
 abbrev pub TakesBack : PassValue → Done → Result Told WorkFault → PassValue → Result Told WorkFault → Type 0
 TakesBack p d others q (Ok all) = (d.failed ≡ false) × IsBack p d.desk q × (o : Told) × (others ≡ Ok o) × (all.replies.items ≡ d.told.replies.items ++ o.replies.items)
 TakesBack p d others q (Err Start) = (others ≡ Err Start) × IsBack p d.desk q
 TakesBack p d others q (Err Memory) = IsBack p d.desk q ⊎ (q ≡ p)
 
--- the desk of the one worker comes back as q; fed is what feeding it answered, and the last what the worker was told
+-- the desk of the one worker comes back as q; fed is what feeding it answered, and the last has the replies to the worker
 abbrev pub ComesBack : Done → Result Told WorkFault → PassValue → Result Told WorkFault → Type 0
 ComesBack d fed q (Ok all) = (q ≡ d.desk) × (d.failed ≡ false) × (all ≡ d.told) × (o : Told) × (fed ≡ Ok o)
 ComesBack d fed q (Err Start) = (q ≡ d.desk) × (fed ≡ Err Start)

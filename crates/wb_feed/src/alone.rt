@@ -20,7 +20,7 @@ use std::sync::Wait;
 use std::thread::{Scope, Threads};
 use wb_host::{Board, Desk};
 
-/// The desk that a worker's thread gives back, and what the worker was told.
+/// The desk that a worker's thread gives back, and the replies to the worker.
 fn give_back(
     feeding: &mut Feeding,
     done: Done,
@@ -44,9 +44,9 @@ fn give_back(
     }
 }
 
-/// Starts the worker with this desk, feeds it, and takes both back. Where its thread is refused,
-/// its work is called here behind an end message, which is all that it then receives: so the desk
-/// comes back.
+/// Starts the worker with this desk, feeds it, and takes both back. If its thread is refused, its
+/// work is called here after an end message, which is all that it then receives: so the desk comes
+/// back.
 fn work_with<'s, 'e: 's, R: Threads + Wait + Sync, S: Arrivals, G: Gate + Sync>(
     scope: &'s Scope<'s, &'e ()>,
     place: Place<'e, R, G>,
@@ -68,7 +68,7 @@ fn work_with<'s, 'e: 's, R: Threads + Wait + Sync, S: Arrivals, G: Gate + Sync>(
         desk: Snapshot::of(&desk),
         end: place.end,
     };
-    // Taken apart, since the proof sees what a closure captures only where it is no struct of type
+    // Taken apart, since the proof sees what a closure captures only if it is not a struct of type
     // parameters.
     let Place {
         rt,

@@ -38,8 +38,8 @@ pub trait Arrivals {
         gives a (ds ++ es) c };
 }
 
-/// A source whose drawops are known before they are taken: so many of them, from where it stands,
-/// are one list.
+/// A source whose drawops are known before they are taken: the next N of them are one list, for
+/// each N.
 pub trait KnownArrivals: Arrivals {
     ghost use Rattle.wb_names.specs.Values.{DrawopValue};
 

@@ -57,7 +57,7 @@ impl Batch {
 /// How many messages the channel has room for, at most.
 const CAPACITY: usize = 64;
 
-/// Takes all that the source gives, each drawop once, by so many workers, from 1 to 8, each on a
+/// Takes all that the source gives, each drawop once, by `workers` workers, from 1 to 8, each on a
 /// thread of its own. One has the desk itself; of more each gets an equal part of the desk's free
 /// rows. A drawop that a worker had no row for is taken again with the desk once all are joined, in
 /// order of arrival, and `left` counts those that find no row there either. The gate is called
@@ -158,7 +158,7 @@ fn take_batch<R: Threads + Wait + Sync, S: Arrivals, G: Gate + Sync>(
     }
 }
 
-/// Files what was told by its place, of so many.
+/// Files each reply by the place of its arrival, of `count` places.
 fn file(
     alloc: Global,
     told: &[(u32, Reply)],

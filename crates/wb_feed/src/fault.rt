@@ -12,7 +12,7 @@ pub enum FeedFault {
     /// A thread was refused. Any part of the arrivals may have been taken.
     #[error("no thread")]
     Start,
-    /// A growth was refused. Any part of the arrivals may have been taken.
+    /// An allocation failed. Any part of the arrivals may have been taken.
     #[error("out of memory")]
     Memory,
 }

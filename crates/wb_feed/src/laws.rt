@@ -5,9 +5,9 @@ ghost use Rattle.wb_feed.specs.Calls.{BatchIsOneRun};
 
 use wb_host::laws::one_run;
 
-/// What a batch told is one run of a whiteboard of one thread, by the law of the board that serves
-/// all its callers. Its workers are callers, and so is the desk, which takes what they left: each
-/// is told its replies in its own order, at points of one history. The desk owned all rows before
+/// The replies of a batch are one run of a whiteboard of one thread, by the law of the board that
+/// serves all its callers. Its workers are callers, and so is the desk, which takes what they left:
+/// each gets its replies in its own order, at points of one history. The desk owned all rows before
 /// the batch.
 pub fn batches_are_one_run()
     ensures { BatchIsOneRun }

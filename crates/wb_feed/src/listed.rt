@@ -6,8 +6,8 @@ ghost use Rattle.std.proofs.Math.Seq.{take-append_seam};
 use crate::arrivals::{Arrivals, KnownArrivals};
 use wb_names::Drawop;
 
-/// The drawops of a list, in order, of which some may be taken already. Of a list of more than
-/// 4,294,967,295 it gives so many.
+/// The drawops of a list, in order, of which some may be taken already. It gives at most
+/// 4,294,967,295 of them.
 #[derive(Drop)]
 pub struct Listed {
     all: Vec<Drawop>,

@@ -18,7 +18,7 @@ pub enum RelayFault {
     /// The teller has no free row, and the name stands nowhere in the history.
     #[error("no free row")]
     NoRow,
-    /// A growth was refused.
+    /// An allocation failed.
     #[error("out of memory")]
     Memory,
 }
@@ -37,7 +37,7 @@ impl RelayFault {
     }
 }
 
-/// The teller accepts the drawop, on a thread of its own where one can be made, and the hearer has
+/// The teller accepts the drawop, on a thread of its own if one can be made, and the hearer has
 /// then seen all that the teller has, the drawop with it. No row or place of either is lost,
 /// whatever is answered. After `Memory` the drawop may stand in the history.
 pub fn relay<R: Threads + Sync>(

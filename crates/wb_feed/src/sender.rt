@@ -74,7 +74,7 @@ impl Feeding {
         arrived
     }
 
-    /// Sends an end message for each of so many workers.
+    /// Sends an end message for each of `workers` workers.
     pub(crate) fn end_all<R: Wait>(&mut self, rt: &R, workers: u32)
         ensures channel { self.new.channel ≡ self.old.channel }
         ensures arrived { self.new.arrived ≡ self.old.arrived }

@@ -16,7 +16,7 @@ use std::sync::Wait;
 use wb_host::{Board, BoardFault, Desk, Reply};
 use wb_names::Drawop;
 
-/// What a worker was told: the replies to what it accepted, each with the position of the arrival.
+/// The replies to what a worker accepted, each with the position of the arrival.
 #[derive(Drop)]
 pub(crate) struct Told {
     pub(crate) replies: Vec<(u32, Reply)>,
@@ -34,7 +34,7 @@ impl Told {
         }
     }
 
-    /// What both were told.
+    /// The replies of both.
     pub(crate) fn and(self, other: Told) -> Result<Told, AllocError>
         ensures { IfOk result
             (λ both. both.replies.items ≡ self.replies.items ++ other.replies.items) }
@@ -52,7 +52,7 @@ pub(crate) struct Done {
     pub(crate) desk: Desk,
     pub(crate) pass: ChannelPass,
     pub(crate) told: Told,
-    /// Whether a growth was refused. From then on nothing was accepted.
+    /// Whether an allocation failed. From then on nothing was accepted.
     pub(crate) failed: bool,
 }
 
@@ -81,7 +81,7 @@ fn accept_one(
     }
 }
 
-/// The next arrival. None at the end message, and where the channel gives no more.
+/// The next arrival. None at the end message, and if the channel gives no more.
 fn next_arrival<R: Wait>(
     rt: &R,
     channel: &ChannelReceiver,
@@ -104,7 +104,7 @@ fn next_arrival<R: Wait>(
     }
 }
 
-/// Accepts the arrival, unless a growth was refused before. Answers whether one was refused.
+/// Accepts the arrival, unless an allocation failed before. Answers whether one failed.
 fn take_turn<R, G: Gate>(
     place: Place<R, G>,
     desk: &mut Desk,

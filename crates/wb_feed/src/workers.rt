@@ -29,7 +29,7 @@ use wb_host::{Board, Desk, SplitFault};
 pub(crate) enum WorkFault {
     /// A thread was refused.
     Start,
-    /// A growth was refused.
+    /// An allocation failed.
     Memory,
 }
 
@@ -70,7 +70,7 @@ pub(crate) fn feed_all<R: Wait, S: Arrivals, G>(
     }
 }
 
-/// Takes back what a worker's thread has, and puts what it was told before what the others were.
+/// Takes back what a worker's thread has, and puts its replies before those of the others.
 fn take_back(
     board: &Board,
     root: &mut Desk,
@@ -103,9 +103,9 @@ fn take_back(
     }
 }
 
-/// Starts the workers that are still to start, feeds them all, and takes them back. Where a thread
-/// is refused, its work is called here behind an end message, which is all that it then receives:
-/// so its desk comes back too.
+/// Starts the workers that are still to start, feeds them all, and takes them back. If a thread is
+/// refused, its work is called here after an end message, which is all that it then receives: so
+/// its desk comes back too.
 fn run_several<'s, 'e: 's, R: Threads + Wait + Sync, S: Arrivals, G: Gate + Sync>(
     scope: &'s Scope<'s, &'e ()>,
     place: Place<'e, R, G>,
@@ -143,7 +143,7 @@ fn run_several<'s, 'e: 's, R: Threads + Wait + Sync, S: Arrivals, G: Gate + Sync
         desk: Snapshot::of(&desk),
         end: place.end,
     };
-    // Taken apart, since the proof sees what a closure captures only where it is no struct of type
+    // Taken apart, since the proof sees what a closure captures only if it is not a struct of type
     // parameters.
     let Place {
         rt,
@@ -177,7 +177,7 @@ fn run_several<'s, 'e: 's, R: Threads + Wait + Sync, S: Arrivals, G: Gate + Sync
     }
 }
 
-/// The workers of a batch: one has the desk itself, and of more each gets so many rows.
+/// The workers of a batch: one has the desk itself, and of more each gets `rows` rows.
 fn run_some<'s, 'e: 's, R: Threads + Wait + Sync, S: Arrivals, G: Gate + Sync>(
     scope: &'s Scope<'s, &'e ()>,
     place: Place<'e, R, G>,
@@ -205,7 +205,7 @@ fn run_some<'s, 'e: 's, R: Threads + Wait + Sync, S: Arrivals, G: Gate + Sync>(
 }
 
 /// All workers, each on a thread of its own, fed from this one. One has the desk itself; of more
-/// each gets so many rows, an equal part of those that are free.
+/// each gets `rows` rows, an equal part of those that are free.
 pub(crate) fn run_all<R: Threads + Wait + Sync, S: Arrivals, G: Gate + Sync>(
     place: Place<R, G>,
     root: &mut Desk,

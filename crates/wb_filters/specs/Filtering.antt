@@ -23,7 +23,7 @@ abbrev pub told_on : Bool → ℕ → Result (List ℕ) LineFault → Result (Li
 told_on keeps number (Ok text) = Ok text
 told_on keeps number (Err e) = if keeps then Ok (comment number e) else Err e
 
--- What stands behind the content of a line, which stays as it was: a line feed ends it, before which a carriage return may stand.
+-- What ends a line after its content, which stays as it was: a line feed, before which a carriage return may stand.
 abbrev pub end_of : Bool → List ℕ → List ℕ → List ℕ
 end_of ended content bytes = if ended then (if nat_eq (length content) (length bytes) then 10 ∷ [] else 13 ∷ 10 ∷ []) else []
 
@@ -50,17 +50,17 @@ abbrev pub filter_step : Filter → ℕ → Met → Step Filter LineFault
 filter_step filter number (whole line) = written filter (said_of filter number line)
 filter_step filter number too_long = ends []
 
--- at most so many lines
+-- the most lines of an input
 abbrev pub most_lines : ℕ
 most_lines = 2 ^ 64 - 1
 
--- the outcome of an input, which is cut off where reading fails after it
+-- the outcome of an input, which is cut off if reading fails after it
 abbrev pub outcome : Filter → Bool → List ℕ → Outcome LineFault
 outcome filter cut input = outcome_of (rules_of filter_step most_lines) cut filter input
 
 -- ---- what the code answers
 
--- What becomes of a line without its end, or want of memory.
+-- What becomes of a line without its end; or an allocation failed.
 abbrev pub MayAnswer : {X : Type 0} → (X → List ℕ) → Result X (Stop LineFault) → Result (List ℕ) LineFault → Type 0
 MayAnswer view (Ok x) said = said ≡ Ok (view x)
 MayAnswer view (Err (handler_stops.Fault e)) said = said ≡ Err e

@@ -40,7 +40,7 @@ IsOther line = (hexed line ≡ Ok line) × (worded line ≡ Ok line)
 abbrev pub openers : List (List ℕ)
 openers = codes "draw" ∷ codes "session-message" ∷ codes "request" ∷ codes "ask-pages" ∷ codes "page-state" ∷ codes "arrive" ∷ codes "hear" ∷ codes "send" ∷ []
 
--- A line that begins with another word is no line of a datagram.
+-- A line that begins with another word is not a line of a datagram.
 abbrev pub OtherLinesStay : Type 0
 OtherLinesStay = (line word : List ℕ) (others : List (List ℕ)) → words line ≡ word ∷ others → All (λ opener. word ≢ opener) openers → IsOther line
 

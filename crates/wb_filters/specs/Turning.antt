@@ -54,7 +54,7 @@ digits_line carrier v = front carrier ++ encode_lower (spelling v)
 
 -- ---- lines in words
 
--- the words of a datagram, behind `send` where it is sent
+-- the words of a datagram, after `send` if it is sent
 abbrev pub words_behind : Carrier → Datagram → List ℕ
 words_behind Send v = codes "send " ++ spelled v
 words_behind carrier v = spelled v

@@ -70,7 +70,7 @@ impl<T: Drop> From<AllocFailed<T>> for TurnFault {
 }
 
 /// Why a filter did not come to the end of its input: at the line of a number, from 1 and counting
-/// every line, which can't be turned; or `Endless` where a line has over 65,536 bytes before its
-/// line feed, or lines can't be counted any more; or the source or the sink has failed, or memory
-/// ran out.
+/// every line, which can't be turned; or `Endless` if a line has over 65,536 bytes before its line
+/// feed, or lines can't be counted any more; or the source or the sink has failed, or memory ran
+/// out.
 pub type FilterFault = DriveFault<LineFault>;

@@ -64,7 +64,7 @@ fn answer(
     }
 }
 
-/// What stands behind the content of a line.
+/// What follows the content of a line.
 fn ending(line: &[u8], content: &[u8], ended: bool) -> &'static [u8]
     ensures { result.now ≡ end_of ended content.now line.now }
 {
@@ -120,7 +120,7 @@ impl Handler for Filter {
 /// were, or the first fault in their order; each line before it is written. One that keeps going
 /// never answers that a line can't be turned.
 ///
-/// Where memory runs out or the sink fails, a front of the text is written.
+/// If memory runs out or the sink fails, a front of the text is written.
 pub fn run_filter<R: Source, W: Sink>(
     alloc: Global,
     filter: Filter,

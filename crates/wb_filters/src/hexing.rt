@@ -23,7 +23,7 @@ fn digits_line(alloc: Global, carrier: Carrier, datagram: &Datagram) -> Result<V
     Ok(line)
 }
 
-/// What follows the word `send`, where a line begins with it.
+/// What follows the word `send`, if a line begins with it.
 fn sent_part(line: &[u8]) -> Option<&[u8]>
     ensures { option_map (λ x. x.now) result ≡ sent_part (split_once 32 line.now) }
 {
@@ -40,7 +40,7 @@ fn sent_part(line: &[u8]) -> Option<&[u8]>
 }
 
 /// A line of a script, which stands without its end, as a whiteboard takes it: a datagram in words,
-/// or one behind the word `send`, as the line with its bytes in hexadecimal; any other line as it
+/// or one after the word `send`, as the line with its bytes in hexadecimal; any other line as it
 /// is. Or the first word from the left that is wrong, of those of a datagram.
 pub fn hex_line(alloc: Global, line: &[u8]) -> Result<Vec<u8>, TurnFault>
     ensures { MayTurn (λ text. text.items) result (hexed line.now) }

@@ -12,7 +12,7 @@ use wb_codec::{Datagram, ReadFault, read};
 use wb_lines::unhex;
 use wb_words::{DigitsFault, split_once, write_words};
 
-/// The words of a datagram, behind `send` where it is sent.
+/// The words of a datagram, after `send` if it is sent.
 fn words_behind(alloc: Global, carrier: Carrier, datagram: &Datagram) -> Result<Vec<u8>, AllocError>
     ensures { IfOk result (λ line. line.items ≡ words_behind carrier datagram.now) }
 {
@@ -44,8 +44,8 @@ fn told(alloc: Global, carrier: Carrier, bytes: &[u8]) -> Result<Vec<u8>, TurnFa
     }
 }
 
-/// A line of `arrive`, `hear` or `send`, whose rest after the space is no even number of digits:
-/// where that is one word, it is wrong; a line of more words stays as it is.
+/// A line of `arrive`, `hear` or `send`, whose rest after the space is not an even number of
+/// digits: if that is one word, it is wrong; a line of more words stays as it is.
 fn without_digits(alloc: Global, line: &[u8], rest: &[u8]) -> Result<Vec<u8>, TurnFault>
     ensures { MayTurn (λ text. text.items) result (without_digits line.now rest.now) }
 {
@@ -57,8 +57,8 @@ fn without_digits(alloc: Global, line: &[u8], rest: &[u8]) -> Result<Vec<u8>, Tu
 
 /// A line that a whiteboard takes or prints, which stands without its end, in words: `arrive`,
 /// `hear` or `send`, a space and an even number of hexadecimal digits are the words of the
-/// datagram, behind `send` where it is sent. Or what is wrong with the digits or the bytes: one
-/// word after the space has to be digits. Any other line stays as it is.
+/// datagram, after `send` if it is sent. Or what is wrong with the digits or the bytes: one word
+/// after the space has to be digits. Any other line stays as it is.
 pub fn words_line(alloc: Global, line: &[u8]) -> Result<Vec<u8>, TurnFault>
     ensures { MayTurn (λ text. text.items) result (worded line.now) }
 {

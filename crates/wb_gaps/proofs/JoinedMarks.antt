@@ -160,7 +160,7 @@ joined_alone xs [] m ms e none = ap (λ (zs : List MarkValue). joined zs []) e �
   with_none (z ∷ zs) = refl
 joined_alone xs (y ∷ ys) m ms e none = absurd (omega arith)
 
--- there are no more of them than in the two lists
+-- there are at most as many of them as in the two lists
 pub joined_count : (ms ns : List MarkValue) → AreMarks ms → AreMarks ns → (length (joined ms ns) ≡ source_count ms ns) × (length (joined ms ns) ≤ 131070)
 joined_count ms ns a b = grind (arith, common_steps, nat_tests, joins, length-filter, count_by-le-length)
 

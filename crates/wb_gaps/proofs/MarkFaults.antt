@@ -7,7 +7,7 @@ use Rattle.wb_names.specs.Drawing.{seq_fault}
 use Rattle.wb_names.specs.Faults.{fault_unless, value_unless}
 use Rattle.wb_names.specs.declared.fault.FieldFault.TheVariants.{SeqZero}
 
--- a number of at least 1 is no fault
+-- a number of at least 1 is right
 pub no_seq_fault : (high : ℕ) (m : MarkValue) → 1 ≤ high → value_unless (seq_fault high) m ≡ Ok m
 no_seq_fault high m pos = let t : nat_le 1 high ≡ true = grind (arith, nat_tests) in ap (λ (b : Bool). value_unless (fault_unless b SeqZero) m) t
 

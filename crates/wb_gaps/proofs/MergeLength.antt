@@ -1,4 +1,4 @@
--- How many marks a merge has. It is told by its look-ups, also where there would be too many for a list of marks.
+-- How many marks a merge has. Its look-ups say it, even if there would be too many for a list of marks.
 use Rattle.std.proofs.Common.{◌≡◌, length, ap, ◌∙◌, sym}
 use Rattle.wb_gaps.specs.Laws.{MergesAllSources}
 use Rattle.wb_names.proofs.MarkLists.{same_marks}

@@ -145,7 +145,7 @@ onto_later source n (g ∷ gaps) later = at (nat_eq g.source source && nat_eq g.
 same_ranges : (P Q : ℕ → ℕ → Type 0) (gaps : List Gap) → ((s m : ℕ) → P s m → Q s m) → ((s m : ℕ) → Q s m → P s m) → Ranges P gaps → Ranges Q gaps
 same_ranges P Q gaps up down r = grind (arith, common_steps)
 
--- one of so many numbers of a source from n on, which is not held
+-- one of `count` numbers of a source from n on, which is not held
 abbrev Here : (ℕ → Bool) → ℕ → ℕ → ℕ → ℕ → ℕ → Type 0
 Here held source n count s m = (s ≡ source) × (n ≤ m) × (m < n + count) × (held m ≡ false)
 

@@ -35,7 +35,7 @@ use Rattle.wb_gaps.proofs.HeldNumbers.{same_page-here}
 use Rattle.wb_gaps.proofs.HeldRanges.{covers_name, name_covered}
 use Rattle.wb_gaps.proofs.Starts.{page_itself, start_is, start_total}
 
--- there are no more runs of a page than ranges
+-- a page has at most as many runs as ranges
 pub few_runs : (page : PageId) (es : List (Start × ℕ)) → length (runs_on page es) ≤ length (ranges_of es)
 few_runs page es =
     let on = length-filter (is_on page) es in

@@ -39,7 +39,7 @@ onto_gaps source n (g ∷ gaps) =
     then record { source = source; first = n; last = g.last } ∷ gaps
     else record { source = source; first = n; last = n } ∷ g ∷ gaps
 
--- the missing ones of so many numbers of a source, before the ranges that follow
+-- the missing ones of some numbers of a source, from n on, before the ranges that follow
 abbrev pub missing_before : (ℕ → Bool) → ℕ → ℕ → ℕ → List Gap → List Gap
 missing_before held source n zero later = later
 missing_before held source n (suc count) later =

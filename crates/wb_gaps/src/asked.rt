@@ -24,7 +24,7 @@ use wb_names::{Gap, Marks, PageId};
 
 impl Holdings {
     /// The gaps of a page, found one by one. It walks the ranges of the page and the marks
-    /// together, so that who stops early has not paid for the rest. To begin costs a look-up.
+    /// together, so that stopping early saves the rest. To begin costs a look-up.
     pub fn missing<'a>(&'a self, page: PageId, marks: &'a Marks) -> Missing<'a>
         ensures { (history : List DrawopValue) → HoldNamesOf history self.now →
             AreGaps history page marks.now result }
@@ -55,7 +55,7 @@ impl Holdings {
         Ok(Marks::from_ascending(marks))
     }
 
-    /// How many ranges are held: where nothing is missing, one of each page and source.
+    /// How many ranges are held: if nothing is missing, one of each page and source.
     pub fn range_count(&self) -> usize
         ensures { result ≡ length self.now }
     {

@@ -22,7 +22,7 @@ pub(crate) struct Start {
 }
 
 /// What is held of a list of drawops that come one by one: of each page and source the ranges of
-/// numbers, each as long as it can be. Where nothing is missing that is one range of each page and
+/// numbers, each as long as it can be. If nothing is missing, that is one range of each page and
 /// source.
 #[derive(Drop)]
 pub struct Holdings {
@@ -53,8 +53,8 @@ impl Holdings {
         }
     }
 
-    /// Takes in a drawop, by which there is at most one range more. One whose name was put before
-    /// changes nothing and takes no memory. Where memory is refused nothing has changed.
+    /// Takes in a drawop, which makes at most one range more. One whose name was put before changes
+    /// nothing and takes no memory. If an allocation fails, nothing has changed.
     pub fn put(&mut self, drawop: &Drawop) -> Result<(), AllocError>
         ensures ok { OnOk result ((history : List DrawopValue) → HoldNamesOf history self.old →
             HoldNamesOf (history ++ drawop.now ∷ []) self.new) }
@@ -100,7 +100,7 @@ fn before(ranges: &BTreeMap<Start, u32>, at: Start) -> Option<(Start, u32)>
     Some((*start, *last))
 }
 
-/// Where the range begins that has this number from now on, or None where one has it.
+/// Where the range begins that has this number from now on, or None if one has it.
 fn begin(ranges: &BTreeMap<Start, u32>, at: Start) -> Option<Start>
     requires ranges { AreRanges ranges.now.entries }
     requires positive { 1 ≤ at.first }

@@ -27,8 +27,8 @@ pub struct Hole {
 
 impl Holdings {
     /// The first hole that begins after this number of a source on a page, where holes ascend by
-    /// page, source and number. None where there is none. It costs the pages, and of this page and
-    /// the later ones the ranges up to the hole.
+    /// page, source and number. None if there is none. It costs the pages, and of this page and the
+    /// later ones the ranges up to the hole.
     pub fn hole_after(
         &self,
         alloc: Global,

@@ -17,8 +17,8 @@ pub(crate) struct Joined<'a> {
 }
 
 impl Joined<'_> {
-    /// Takes the mark of the next source that either has; where both have it, the one with the
-    /// greater number.
+    /// Takes the mark of the next source that either has; if both have it, the one with the greater
+    /// number.
     pub(crate) fn next(&mut self) -> Option<Mark>
         ensures { let before = joined self.old.first.now self.old.second.now in
             let after = joined self.new.first.now self.new.second.now in

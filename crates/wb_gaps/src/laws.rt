@@ -40,9 +40,9 @@ pub fn order_is_free()
 {}
 
 /// The number that a report has for a source is the greatest that the page holds of it, and a
-/// number is known of exactly where one at least as great is held or reported. The number that a
-/// merge has for a source is the greater of the two, and it has as many marks as the two have
-/// sources together.
+/// number is known of exactly if one at least as great is held or reported. The number that a merge
+/// has for a source is the greater of the two, and it has as many marks as the two have sources
+/// together.
 pub fn marks_are_greatest()
     ensures report { ReportsGreatest }
     ensures known { KnownIsReached }

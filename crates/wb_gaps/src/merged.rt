@@ -37,8 +37,8 @@ impl MergeFault {
 }
 
 /// Each source of either list, ascending, with the greater of its two numbers. It is refused with
-/// `TooMany` where the two have over 65,535 sources together, which is decided before any memory is
-/// asked for, and with `Memory` where memory is refused.
+/// `TooMany` if the two have over 65,535 sources together, which is decided before any memory is
+/// asked for, and with `Memory` if an allocation fails.
 pub fn merge_marks(alloc: Global, first: &Marks, second: &Marks) -> Result<Marks, MergeFault>
     ensures merge { IfOk result (λ marks. IsMerge first.now second.now marks) }
     ensures fault { MatchResult result (λ _. source_count first.now second.now ≤ MAX_ENTRIES)

@@ -9,7 +9,7 @@ ghost use Rattle.wb_gaps.specs.Runs.{runs_left};
 use crate::run::{Run, Runs};
 use wb_names::{Gap, Mark};
 
-/// Numbers of a source: those after `done` up to `last`, where there are any.
+/// Numbers of a source: those after `done` up to `last`, if there are any.
 #[derive(Clone, Copy)]
 pub(crate) struct Span {
     source: u32,

@@ -1,4 +1,4 @@
--- Rows as ranges: the last one, and ranges that are cut where so many rows end.
+-- Rows as ranges: the last one, and ranges that are cut after some rows.
 use Rattle.std.proofs.lemmas.Grind.{common_steps}
 use Rattle.std.proofs.Common.{◌≡◌, ℕ, zero, suc, ◌+◌, ◌-◌, ◌<◌, ◌≤◌, List, [], ◌∷◌, ◌++◌, length, get_or, take, drop, slice_set, refl, sym, ap, ◌∙◌, subst, arith, append_assoc, length-append}
 use Rattle.std.specs.List.{range_with_len}
@@ -87,13 +87,13 @@ pub some_range : (rs : List RowRange) → 0 < length (rows_in rs) → 0 < length
 some_range [] h = absurd (omega arith)
 some_range (r ∷ rs) h = omega arith
 
--- The ranges have the rows of a list but for its last ones, so many. It has `count` rows
+-- The ranges have the rows of a list but for its last `rows` rows. It has `count` rows
 pub record HaveFirst (items : List ℕ) (count rows : ℕ) (kept : List RowRange) : Type 0 where
   pub first : rows_in kept ≡ take (length items - rows) items
   pub many : count - rows ≡ length (rows_in kept)
   pub ranges : All IsRange kept
 
--- the ranges have the last rows of a list, so many
+-- the ranges have the last `rows` rows of a list
 pub record HaveLast (items : List ℕ) (rows : ℕ) (cut : List RowRange) : Type 0 where
   pub last : rows_in cut ≡ drop (length items - rows) items
   pub many : rows ≡ length (rows_in cut)

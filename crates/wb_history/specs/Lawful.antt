@@ -18,7 +18,7 @@ use Rattle.wb_history.specs.Views.{HasAllRows}
 abbrev pub address : ℕ → ℕ → ℕ → ℕ
 address cells r k = cells + (cells - 1 - r) * row_stride + k
 
--- what a pass with so many cells has seen, and the shorter list of its last join, are beginnings of the history
+-- what a pass with `own_cells` cells has seen, and the shorter list of its last join, are beginnings of the history
 pub record Sees (cells : ℕ) (log : List DrawopValue) (own_cells : ℕ) (seen joined : List DrawopValue) : Type 0 where
   pub sized : 0 < own_cells → own_cells ≡ cells
   pub begins : IsPrefix seen log

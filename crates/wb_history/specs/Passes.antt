@@ -65,7 +65,7 @@ pub record IsSound (p : PassValue) : Type 0 where
 abbrev pub IsCaughtUp : PassValue → PassValue → Type 0
 IsCaughtUp p q = ((p.made < q.made) × (q.last_word ≡ length q.seen) × (q.last_found ≡ 0)) ⊎ (length q.seen ≡ q.cells)
 
--- a history of so many cells, which has no member, and the pass that owns all its rows
+-- a history of `cells` cells, which has no member, and the pass that owns all its rows
 pub record IsOpened (cells : ℕ) (h : HistoryValue) (p : PassValue) : Type 0 where
   pub pass : IsPassOf h p
   pub sound : IsSound p

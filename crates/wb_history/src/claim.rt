@@ -20,7 +20,7 @@ pub enum ClaimFault {
     /// The pass has no free row, and the name stands nowhere in the history.
     #[error("no free row")]
     NoRow,
-    /// A growth was refused.
+    /// An allocation failed.
     #[error("out of memory")]
     Memory,
 }

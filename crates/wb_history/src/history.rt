@@ -41,7 +41,7 @@ pub enum OpenFault {
     /// The number of cells is not from 1 to 65,535.
     #[error("cells not from 1 to 65535")]
     Cells,
-    /// A growth was refused.
+    /// An allocation failed.
     #[error("out of memory")]
     Memory,
 }
@@ -61,7 +61,7 @@ impl OpenFault {
 }
 
 impl History {
-    /// An empty history of so many cells, from 1 to 65,535, and as many rows; and the pass that
+    /// An empty history of `cells` cells, from 1 to 65,535, and as many rows; and the pass that
     /// owns all rows. There is room for as many drawops as there are cells.
     pub fn open(alloc: Global, cells: u32) -> Result<(History, Pass), OpenFault>
         ensures opened { IfOk result (λ t. IsOpened cells t.0 t.1) }

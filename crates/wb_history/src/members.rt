@@ -66,7 +66,7 @@ impl Members {
         self.names.get_index_of(name)
     }
 
-    /// Makes room for so many more, in the list and in the index.
+    /// Makes room for `more` members, in the list and in the index.
     pub(crate) fn reserve(&mut self, more: usize) -> Result<(), AllocError>
         ensures items { self.new.items ≡ self.old.items }
         ensures room { OnOk result (more ≤ self.new.room) }

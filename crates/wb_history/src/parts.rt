@@ -24,10 +24,10 @@ use wb_names::Drawop;
 /// Why a pass was not split, in the order of the checks.
 #[derive(Clone, Copy, Debug, PartialEq, Eq, Error)]
 pub enum SplitFault {
-    /// More rows were asked for than it has free: it has so many.
+    /// Fewer rows are free than were asked for: this many.
     #[error("only {0} free rows")]
     TooMany(u32),
-    /// A growth was refused.
+    /// An allocation failed.
     #[error("out of memory")]
     Memory,
 }
@@ -49,7 +49,7 @@ impl SplitFault {
 /// Why two passes were not joined.
 #[derive(Clone, Copy, Debug, PartialEq, Eq, Error)]
 pub enum JoinFault {
-    /// A growth was refused.
+    /// An allocation failed.
     #[error("out of memory")]
     Memory,
 }
@@ -68,7 +68,7 @@ impl JoinFault {
 }
 
 impl History {
-    /// A new pass, which has seen the same and gets so many of the free rows. With no rows it can
+    /// A new pass, which has seen the same and gets `rows` of the free rows. With no rows it can
     /// tell another thread what was seen. A refused call changes nothing.
     pub fn split(&self, alloc: Global, pass: &mut Pass, rows: u32) -> Result<Pass, SplitFault>
         requires pass { IsPassOf self.now pass.old }
@@ -164,7 +164,7 @@ impl CellTable {
 
 impl History {
     /// Takes in another pass of the history: the pass has then seen the longer list, and owns the
-    /// rows and places of both. Where it is refused both are as before, and the other comes back.
+    /// rows and places of both. If it is refused, both are as before, and the other comes back.
     pub fn join(&self, pass: &mut Pass, other: Pass) -> Result<(), (JoinFault, Pass)>
         requires passes { IsPassOf self.now pass.old × IsPassOf self.now other }
         ensures same { IsSamePass pass.old pass.new × (pass.new.steps ≡ pass.old.steps) }

@@ -35,7 +35,7 @@ impl Model for Rows {
 }
 
 impl Rows {
-    /// The rows from 0 on, so many, some at least.
+    /// The first `count` rows, from 0 on.
     pub(crate) fn first(alloc: Global, count: u32) -> Result<Rows, AllocError>
         requires { IsCellCount count }
         ensures { IfOk result (λ r. r.items ≡ range_with_len 0 count) }
@@ -84,7 +84,7 @@ impl Rows {
         }
     }
 
-    /// Takes the last rows out, so many. A refused call changes nothing.
+    /// Takes the last `rows` rows out. A refused call changes nothing.
     pub(crate) fn split_off(&mut self, rows: u32) -> Result<Rows, AllocError>
         requires { rows ≤ length self.old.items }
         ensures items { OnOk result (self.new.items ≡
@@ -126,7 +126,7 @@ impl Rows {
         self.ranges.reserve(other.ranges.len())
     }
 
-    /// Puts the rows of another behind these, for whose ranges there is room.
+    /// Puts the rows of another after these, for whose ranges there is room.
     pub(crate) fn append(&mut self, other: Rows)
         requires room { other.parts ≤ self.old.room }
         requires few { length self.old.items + length other.items < 2 ^ 32 }
@@ -139,8 +139,8 @@ impl Rows {
     }
 }
 
-/// The range that so many rows reach into, and how many of its rows they take; past the last range
-/// if they are all rows.
+/// The range that the first `rows` rows reach into, and how many of its rows they take; past the
+/// last range if they are all rows.
 #[tactic(auto, using(crate::proofs::RowLists::rows_more, crate::proofs::Lists::at_read))]
 fn place_of(ranges: &[RowRange], rows: u32) -> (usize, u32)
     requires { rows ≤ length (rows_in ranges.now) }

@@ -17,8 +17,8 @@ const MOST: usize = 8;
 /// 32,768 members, or four of all.
 const MOST_MEMBERS: usize = 262_144;
 
-/// Another list of the members that were seen: a spare one with what came since, or a copy where
-/// there is none. After a fault the spare is gone.
+/// Another list of the members that were seen: a spare one with what came since, or a copy if there
+/// is none. After a fault the spare is gone.
 pub(crate) fn another(spares: &mut Vec<Members>, seen: &Members) -> Result<Members, AllocError>
     requires spares { AreFronts spares.old.items seen.now.items }
     requires once { IsHistory seen.now.items }

@@ -87,7 +87,7 @@ impl CellTable {
     }
 
     /// Exchanges the first cell that the seat has not seen, if it is free, for the row in which the
-    /// whole record stands. It returns what the cell held: 0 where the exchange was won.
+    /// whole record stands. It returns what the cell held: 0 if the exchange was won.
     pub(crate) fn publish(
         &self,
         seat: &mut HistorySeat,

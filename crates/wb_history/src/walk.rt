@@ -25,7 +25,7 @@ pub(crate) fn is_namesake(member: &Drawop, drawop: &Drawop) -> bool
     member.name() == drawop.name()
 }
 
-/// The answer where the member at a place has the name of the drawop.
+/// The answer if the member at a place has the name of the drawop.
 pub(crate) fn answer(drawop: &Drawop, member: &Drawop, place: usize) -> Claim
     requires { (member.now.name ≡ drawop.now.name) × (place ≤ MAX_CELLS) }
     ensures { (l : List DrawopValue) → slice_get l place ≡ Some member.now →
@@ -38,7 +38,7 @@ pub(crate) fn answer(drawop: &Drawop, member: &Drawop, place: usize) -> Claim
     }
 }
 
-/// The answer where the member at this place has the name of the drawop.
+/// The answer if the member at this place has the name of the drawop.
 pub(crate) fn answer_at(members: &Members, place: usize, drawop: &Drawop) -> Option<Claim>
     requires { (place < length members.now.items) × (place ≤ MAX_CELLS) }
     ensures { MatchOption result ((d : DrawopValue) → slice_get members.now.items place ≡ Some d →

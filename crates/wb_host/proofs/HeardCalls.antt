@@ -91,7 +91,7 @@ pub keeps_own_datagram : (old new : KeeperValue) (now : ℕ) (d : Datagram) (wor
 keeps_own_datagram old new now d word held e is = keeps_silent old new now d word held old.recovery (own_silent old.me now d word held e) is
     (λ t calls s. subst (λ (events : List Event). timers.StandsFor t events old.recovery) (own_events old.me (delay_to old.me calls) now d word held (events_of old.me calls) e) s.recovery)
 
--- a request is told to the timers
+-- the timers take in a request
 pub keeps_request : (old new : KeeperValue) (now asker : ℕ) (name : NameValue) (word : ℕ) (held : Bool) (recovery : RecoveryValue) (delay : ℕ) → nat_eq asker old.me ≡ false → new ≡ record old { moment = now; recovery = recovery }
     → delay ≡ delay_at old.delays (cond held asker name.source) → timers.Accepts (Asked name held now delay word) old.recovery recovery → Keeps (Hear now (Request asker name) word held) old new
 keeps_request old new now asker name word held recovery delay e is near accepts = keeps_silent old new now (Request asker name) word held recovery
@@ -128,7 +128,7 @@ marks_put old page (Some merged) p = ap (λ (o : Option (List MarkValue)). unwra
   from true = refl
   from false = refl
 
--- the marks are told for one page
+-- a datagram tells marks of one page
 module _ (old : List (PageId × List MarkValue)) (page : PageId) (marks : List MarkValue) (merged : Option (List MarkValue)) (is : IsMerged (marks_at old page) marks merged) where
   pub marks_of_put : (p : PageId) (source : ℕ) → mark_of (marks_at (marks_with page merged old) p) source ≡ max (cond (same_page page p) (mark_of marks source) 0) (mark_of (marks_at old p) source)
   marks_of_put p source = ap (λ (ms : List MarkValue). mark_of ms source) (marks_put old page merged p) ∙ from (same_page page p) refl where
@@ -229,7 +229,7 @@ module _ (me : ℕ) (calls : List KeeperCall) (old : List (ℕ × Heard)) (sende
         agrees s ∙ ap (λ (b : Bool). cond b (heard_last me calls s) None) gone ∙ sym (ap (λ (b : Bool). cond b (Some h) None) gone)
     from false true false e f = agrees s
 
--- the delay that was told
+-- the delay that an echo told
 delay_put : (old : List (ℕ × ℕ)) (sender : ℕ) (delay rest : Option ℕ) (source : ℕ) → delay_at old source ≡ unwrap_or rest 100000 → delay_at (delays_with sender delay old) source ≡ unwrap_or (option_or (cond (nat_eq sender source) delay None) rest) 100000
 delay_put old sender None rest source same = same ∙ from (nat_eq sender source) where
   from : (b : Bool) → unwrap_or rest 100000 ≡ unwrap_or (option_or (cond b None None) rest) 100000

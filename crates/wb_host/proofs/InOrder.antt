@@ -52,7 +52,7 @@ filter_step : (f : Answered → Bool) (t u : Answered) (us : List Answered) (b :
 filter_step f t u us true e low later = refl
 filter_step f t u us false e low later = ap (λ (l : List Answered). cond (f u) (u ∷ l) l) later ∙ pass_both f t u us (f t) (f u) refl refl low (leb-false (rank t) (rank u) e)
 
--- A test keeps the order of what passes it, where none of it is of a lower rank than t.
+-- A test keeps the order of what passes it, if none of it is of a lower rank than t.
 pub placed_filter : (f : Answered → Bool) (t : Answered) (us : List Answered) → (f t ≡ true → Each (λ u. f u ≡ true → rank t ≤ rank u) us) → filter f (placed t us) ≡ filter f (t ∷ us)
 placed_filter f t [] low = refl
 placed_filter f t (u ∷ us) low = filter_step f t u us (nat_le (rank t) (rank u)) refl low (placed_filter f t us (λ e. (low e).1))

@@ -32,7 +32,7 @@ module _ {K X : Type 0} (cmp : K → K → Ordering) (one : (a b : K) → is_eq 
     step rest Greater f = ap (λ (r : Option X). cond (is_at (cmp q) e.0) (Some e.1) r) rest
         ∙ cond_swap (is_at (cmp q) e.0) (is_at (cmp q) k) (Some e.1) (Some v) (lookup (is_at (cmp q)) es) (λ a b. let c : cmp k e.0 ≡ Equal = ap (cmp k) (sym (one q e.0 a) ∙ one q k b) ∙ here k in cc)
 
-  -- and taken out again, where nothing stood there
+  -- and taken out again, if nothing stood there
   pub remove_put : (es : List (K × X)) → lookup (is_at (cmp k)) es ≡ None → remove_entry (is_at (cmp k)) (insert_entry cmp es k v) ≡ es
   remove_put [] none = ap (λ (o : Ordering). cond (is_eq o) [] ((k, v) ∷ [])) (here k)
   remove_put (e ∷ es) none = step (remove_put es) (cmp k e.0) refl where

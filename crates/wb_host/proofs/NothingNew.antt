@@ -11,7 +11,7 @@ use Rattle.wb_gaps.specs.Merging.{source_count}
 use Rattle.wb_host.specs.TakingIn.{IsMerged, has_all}
 
 module _ (heard : List MarkValue) where
-  -- no number that is told is above that which was heard
+  -- no number that these tell is above that which was heard
   low : (told : List MarkValue) → has_all heard told ≡ true → (s : ℕ) → mark_of told s ≤ mark_of heard s
   low [] h s = omega arith
   low (m ∷ told) h s = from (λ k. low told k s) (nat_eq m.source s) refl where
@@ -25,7 +25,7 @@ module _ (heard : List MarkValue) where
     from rest true e = let same : mark_of heard m.source ≡ mark_of heard s = ap (mark_of heard) (eqb-true m.source s e) in let le = below m.high (mark_of heard m.source) both.0 in omega arith
     from rest false e = rest both.1
 
-  -- each source that is told of was heard
+  -- each source that these tell of was heard
   none_new : (told : List MarkValue) → All (λ m. 1 ≤ m.high) told → has_all heard told ≡ true → length (filter (λ m. nat_eq (mark_of heard m.source) 0) told) ≡ 0
   none_new [] p h = refl
   none_new (m ∷ told) p h = ap (λ (b : Bool). length (cond b (m ∷ filter (λ m. nat_eq (mark_of heard m.source) 0) told) (filter (λ m. nat_eq (mark_of heard m.source) 0) told))) (apart m.high (mark_of heard m.source) (All-head (λ (m : MarkValue). 1 ≤ m.high) m told p) both.0) ∙ none_new told (All-tail (λ (m : MarkValue). 1 ≤ m.high) m told p) both.1 where

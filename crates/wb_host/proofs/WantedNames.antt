@@ -24,7 +24,7 @@ numbers_split first (suc k) m =
     let from : first + 1 + k ≡ first + suc k = omega arith in
     ap (numbers_from first) sum ∙ ap (λ (ns : List ℕ). first ∷ ns) (numbers_split (first + 1) k m ∙ ap (λ (f : ℕ). numbers_from (first + 1) k ++ numbers_from f m) from)
 
--- ---- lists that stop at so many members
+-- ---- lists that stop at `room` members
 
 taken_full : {X : Type 0} (room : ℕ) (all rest names : List X) → names ≡ take room all → length names ≡ room → names ≡ take room (all ++ rest)
 taken_full room all rest names is full =
@@ -71,7 +71,7 @@ module _ (p : NameValue → Bool) (room : ℕ) (old : List NameValue) (page : Pa
         more ∙ added.1 ∙ ap (take room) (append_assoc old (filter p (part page source first (seq - first))) (filter p (name ∷ [])) ∙ ap (λ (ns : List NameValue). old ++ ns) (sym all)),
       )
 
-  -- there is no more room, up to the end of the gap
+  -- the list is full, up to the end of the gap
   pub no_room : (last : ℕ) → seq ≤ last + 1 → length names ≡ room → names ≡ take room (old ++ filter p (part page source first (last + 1 - first)))
   no_room last within full =
       let sum : last + 1 - first ≡ seq - first + (last + 1 - seq) = omega arith in

@@ -13,7 +13,7 @@ is_asked timers name = is_some (timers name).ask
 abbrev pub is_timed : (NameValue → Timers) → NameValue → Bool
 is_timed timers name = is_standing (timers name)
 
--- how often a request timer was backed off, where one stands
+-- how often a request timer was backed off, if one stands
 abbrev pub level : Option AskTimer → Option ℕ
 level None = None
 level (Some ask) = Some ask.level

@@ -39,7 +39,7 @@ marks_heard me (call ∷ calls) page = joined (marks_reported me page call) (mar
 
 -- ---- why a datagram is refused
 
--- a list of marks has room for the sources that the datagram tells of, beside those that were heard of its page
+-- a list of marks has room for the sources that the datagram tells of, besides those that were heard of its page
 abbrev pub has_room : (PageId → List MarkValue) → Datagram → Bool
 has_room heard (Session sender sent page marks echoes) = nat_le (source_count (heard page) marks) MAX_ENTRIES
 has_room heard (PageState sender page marks) = nat_le (source_count (heard page) marks) MAX_ENTRIES
@@ -77,7 +77,7 @@ asks_for_pages me (PageState sender page marks) = false
 abbrev pub ArePageStates : ℕ → List DrawopValue → List Datagram → Type 0
 ArePageStates me history sent = (reports : List PageReport) × AreReports history reports × (sent ≡ map (λ r. PageState me r.page r.marks) reports)
 
--- where these are asked for; else nothing
+-- if these are asked for; else nothing
 abbrev pub AreAnswers : Bool → ℕ → List DrawopValue → List Datagram → Type 0
 AreAnswers true me history sent = ArePageStates me history sent
 AreAnswers false me history sent = sent ≡ []

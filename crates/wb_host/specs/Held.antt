@@ -1,4 +1,4 @@
--- What a desk keeps of its list beside the layers: what is held of a beginning of it.
+-- What a desk keeps of its list besides the layers: what is held of a beginning of it.
 use Rattle.std.specs.Prelude.{◌≤◌, List, length, take}
 use Rattle.wb_names.specs.Values.{DrawopValue}
 use Rattle.wb_names.specs.declared.name.PageId.{PageId}
@@ -7,7 +7,7 @@ use Rattle.wb_host.specs.Layers.{AreLayersOf}
 use Rattle.wb_host.specs.declared.held.Held.{Held}
 use Rattle.wb_host.specs.declared.layers.PageLayer.{PageLayer}
 
--- the names of the first `taken` drawops of the list are held, and no others; there are no more ranges than drawops
+-- the names of the first `taken` drawops of the list are held, and no others, in at most `taken` ranges
 pub record HoldsFirst (list : List DrawopValue) (h : Held) : Type 0 where
   pub names : HoldNamesOf (take h.taken list) h.holdings
   pub few : length h.holdings ≤ h.taken

@@ -19,7 +19,7 @@ moment_fault last now = first_of (fault_unless (nat_le last now) BackInTime ∷ 
 abbrev pub delay_fault : ℕ → Option KeepFault
 delay_fault micros = first_of (fault_unless (is_delay micros) Range ∷ [])
 
--- the result is the fault, or where there is none an answer, unless memory ran out
+-- the result is the fault, or an answer if there is none, unless memory ran out
 abbrev pub IsKeptBy : {X : Type 0} → Option KeepFault → Result X KeepFault → Type 0
 IsKeptBy (Some fault) result = result ≡ Err fault
 IsKeptBy None (Ok x) = Unit {0}

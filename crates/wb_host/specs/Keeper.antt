@@ -57,7 +57,7 @@ now_of (GiveUp now name asked) = Some now
 abbrev pub moment_at : List KeeperCall → ℕ
 moment_at calls = unwrap_or (newest now_of calls) 0
 
--- ---- what is heard of others: who sent it, where that is told
+-- ---- what is heard of others: who sent it, if the datagram says so
 
 abbrev pub sender_of : Datagram → Option ℕ
 sender_of (Draw d) = None
@@ -94,7 +94,7 @@ high_heard me calls page source = greatest (high_reported me page source) calls
 
 -- ---- delays
 
--- the delay that an echo tells, where it tells one
+-- the delay that an echo tells, if it tells one
 abbrev pub distance_by : ℕ → Option Echo → Option ℕ
 distance_by now None = None
 distance_by now (Some echo) = distance_of echo.sent echo.held now
@@ -112,7 +112,7 @@ delay_given me source (SetDelay s micros) = if nat_eq s source then Some micros 
 delay_given me source (Hear now datagram word held) = if is_own me datagram then None else delay_in me now source datagram
 delay_given me source call = None
 
--- the delay to a source that was last set or told, else a tenth of a second
+-- the delay to a source that was last set or heard, else a tenth of a second
 abbrev pub delay_to : ℕ → List KeeperCall → ℕ → ℕ
 delay_to me calls source = unwrap_or (newest (delay_given me source) calls) FIRST_DELAY
 
@@ -156,7 +156,7 @@ received_of delays names = map (λ n. record { name = n; delay = delays n.source
 abbrev pub missed_of : (ℕ → ℕ) → List NameValue → List ℕ → List Missed
 missed_of delays names words = map (λ p. record { name = p.0; delay = delays p.0.source; word = p.1 }) (zip names words)
 
--- A request of another member: the delay that counts is that to the asker where the name is held, and else that to its source.
+-- A request of another member: the delay that counts is that to the asker if the name is held, and else that to its source.
 abbrev pub asked_by : ℕ → (ℕ → ℕ) → ℕ → Datagram → ℕ → Bool → List Event → List Event
 asked_by me delays now (Request asker name) word held events = if nat_eq asker me then events else Asked name held now (delays (if held then asker else name.source)) word ∷ events
 asked_by me delays now (Draw d) word held events = events
@@ -164,11 +164,11 @@ asked_by me delays now (Session sender sent page marks echoes) word held events 
 asked_by me delays now (AskPages asker) word held events = events
 asked_by me delays now (PageState sender page marks) word held events = events
 
--- A name that is given up counts as one that has come from nearby, where it had a request timer.
+-- A name that is given up counts as one that has come from nearby, if it had a request timer.
 abbrev pub given_up : ℕ → NameValue → Bool → List Event → List Event
 given_up now name asked events = if asked then receipts now events (received_of (λ source. 0) (name ∷ [])) else events
 
--- the calls of the timers once a call is accepted, where these are the delays and the calls before it
+-- the calls of the timers once a call is accepted, given the delays and the calls before it
 abbrev pub timer_calls : ℕ → (ℕ → ℕ) → KeeperCall → List Event → List Event
 timer_calls me delays (Hear now datagram word held) events = asked_by me delays now datagram word held events
 timer_calls me delays (Arrive now held) events = receipts now events (received_of delays held)

@@ -22,7 +22,7 @@ use Rattle.wb_host.specs.declared.keeper.Heard.{Heard}
 
 -- ---- timers that a tick stops
 
--- where a keeper stands for some calls, these and the history tell which of its request timers a tick stops
+-- if a keeper stands for some calls, these and the history tell which of its request timers a tick stops
 abbrev pub StoppedByCalls : Type 0
 StoppedByCalls = (me : ℕ) (constants : Tuning) (calls : List KeeperCall) (value : KeeperValue) → StandsFor me constants calls value → (history : List DrawopValue) → stopped_in history value.recovery ≡ stopped_after me constants calls history
 
@@ -32,7 +32,7 @@ StoppedByCalls = (me : ℕ) (constants : Tuning) (calls : List KeeperCall) (valu
 abbrev pub IsReported : ℕ → List KeeperCall → PageId → ℕ → ℕ → Type 0
 IsReported me calls page source high = (now word : ℕ) × (datagram : Datagram) × (held : Bool) × Contains calls (Hear now datagram word held) × (is_own me datagram ≡ false) × (high_in page source datagram ≡ high)
 
--- it is the greatest of those numbers, or 0 where there is none
+-- it is the greatest of those numbers, or 0 if there is none
 pub record IsGreatestReported (me : ℕ) (calls : List KeeperCall) (page : PageId) (source high : ℕ) : Type 0 where
   pub reported : (high ≡ 0) ⊎ IsReported me calls page source high
   pub greatest : (other : ℕ) → IsReported me calls page source other → other ≤ high
@@ -96,7 +96,7 @@ FirstSendersAreEchoed = (me : ℕ) (calls : List KeeperCall) (source : ℕ) (h :
 
 -- ---- ticks
 
--- what a tick at this moment sends, where these are the history and the calls before it
+-- what a tick at this moment sends, given the history and the calls before it
 abbrev pub sent_at : ℕ → Tuning → List KeeperCall → KeeperValue → ℕ → List DrawopValue → List Datagram
 sent_at me t calls value now history = sends_for me history (actions_of t (receipts now (events_of me calls) (received_of (delay_to me calls) (stopped_in history value.recovery))) now)
 
@@ -105,7 +105,7 @@ abbrev pub AsksForNoneHeld : Type 0
 AsksForNoneHeld = (me : ℕ) (t : Tuning) (calls : List KeeperCall) (value : KeeperValue) (now : ℕ) (history : List DrawopValue) → StandsFor me t calls value
     → (asker : ℕ) (name : NameValue) → Contains (sent_at me t calls value now history) (Request asker name) ↔ ((asker ≡ me) × (is_ask_due now (timers_of t (events_of me calls) name).ask ≡ true) × (holds history name ≡ false))
 
--- It answers with just the members of the history whose answer timer is due, where no request timer stands for their names.
+-- It answers with just the members of the history whose answer timer is due, if no request timer stands for their names.
 abbrev pub AnswersWithHeld : Type 0
 AnswersWithHeld = (me : ℕ) (t : Tuning) (calls : List KeeperCall) (value : KeeperValue) (now : ℕ) (history : List DrawopValue) → IsHistory history → StandsFor me t calls value
     → (d : DrawopValue) → Contains (sent_at me t calls value now history) (Draw d) ↔ (Contains history d × (is_answer_due now (timers_of t (events_of me calls) d.name).answer ≡ true) × (is_none (timers_of t (events_of me calls) d.name).ask ≡ true))

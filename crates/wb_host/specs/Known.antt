@@ -20,7 +20,7 @@ AreKnownPages heard history pages = Lists page_cmp (λ page. Any (λ d. d.name.p
 
 -- ---- the same as a function of the accepted calls
 
--- a page, where there are marks of it
+-- a page, if there are marks of it
 abbrev pub page_where : PageId → List MarkValue → Option PageId
 page_where page [] = None
 page_where page (m ∷ marks) = Some page

@@ -26,6 +26,6 @@ AgreeOnNames one other page = (d e : DrawopValue) → Contains one d → Contain
 abbrev pub HoldsAllOf : List DrawopValue → PageId → List MarkValue → Type 0
 HoldsAllOf history page marks = IsAnswer history (AskReport page) (Marks marks) × IsAnswer history (AskGaps page marks) (Gaps [])
 
--- Two boards that have one report of a page, and no gaps below it, show the same there, where each name has one content in both.
+-- Two boards that have one report of a page, and no gaps below it, show the same there, if each name has one content in both.
 abbrev pub ReportsAgree : Type 0
 ReportsAgree = (one other : List DrawopValue) (page : PageId) (marks : List MarkValue) (shown again : List DrawopValue) → All (λ d. 1 ≤ d.name.seq) one → All (λ d. 1 ≤ d.name.seq) other → HoldsAllOf one page marks → HoldsAllOf other page marks → AgreeOnNames one other page → IsAnswer one (AskView page) (Shown shown) → IsAnswer other (AskView page) (Shown again) → shown ≡ again

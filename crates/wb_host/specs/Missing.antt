@@ -14,7 +14,7 @@ use Rattle.wb_recovery.specs.declared.tuning.Tuning.{Tuning}
 use Rattle.wb_recovery.specs.declared.timers.Timers.{Timers}
 use Rattle.wb_host.specs.declared.keeper.TheConstants.Keeper.{MOST_ASKS}
 
--- so many numbers from the first on
+-- `count` numbers, from the first on
 abbrev pub numbers_from : ℕ → ℕ → List ℕ
 numbers_from first zero = []
 numbers_from first (suc count) = first ∷ numbers_from (first + 1) count

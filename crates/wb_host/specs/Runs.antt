@@ -34,7 +34,7 @@ pub record IsAnsweredSince (history : List DrawopValue) (k : ℕ) (t : Answered)
 abbrev pub is_new_at : ℕ → Answered → Bool
 is_new_at i t = is_new t.step.answer && nat_eq t.point i
 
--- What all callers were answered since the history had k members, the calls of each caller in their order, as where one caller's
+-- What all callers were answered since the history had k members, the calls of each caller in their order, as when one caller's
 -- calls stand after another's. Each member from k on was new to exactly one of them.
 pub record AreAnsweredSince (history : List DrawopValue) (k : ℕ) (answered : List Answered) : Type 0 where
   pub each : All (IsAnsweredSince history k) answered

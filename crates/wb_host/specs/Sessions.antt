@@ -20,7 +20,7 @@ use Rattle.wb_host.specs.declared.keeper.Heard.{Heard}
 abbrev pub echo_cmp : Echo → Echo → Ordering
 echo_cmp a b = nat_cmp a.source b.source
 
--- what is told a sender that is remembered: the moment that its last session message named, and how long ago that was heard
+-- the echo to a sender that is remembered: the moment that its last session message named, and how long ago that was heard
 abbrev pub IsEchoTo : ℕ → List KeeperCall → ℕ → Echo → Type 0
 IsEchoTo me calls now e = (h : Heard) × (last_heard me calls e.source ≡ Some h) × (e.sent ≡ h.sent) × (e.held ≡ now - h.at)
 
@@ -42,7 +42,7 @@ OneSession = (me : ℕ) (calls : List KeeperCall) (now : ℕ) (history : List Dr
 
 -- ---- the same as a function
 
--- what is told a sender, where it is remembered
+-- the echo to a sender, if it is remembered
 abbrev pub echo_to : ℕ → List KeeperCall → ℕ → ℕ → Option Echo
 echo_to me calls now source = option_map (λ h. record { source = source; sent = h.sent; held = now - h.at }) (last_heard me calls source)
 

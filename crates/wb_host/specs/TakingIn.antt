@@ -15,7 +15,7 @@ use Rattle.wb_codec.specs.declared.datagram.Datagram.TheVariants.{Draw, Session,
 use Rattle.wb_host.specs.Keeping.{heard_at}
 use Rattle.wb_host.specs.declared.keeper.Heard.{Heard}
 
--- the delay to a sender, where it told one
+-- the delay to a sender, if it told one
 abbrev pub delays_with : ℕ → Option ℕ → List (ℕ × ℕ) → List (ℕ × ℕ)
 delays_with sender None delays = delays
 delays_with sender (Some delay) delays = insert_entry nat_cmp delays sender delay
@@ -36,13 +36,13 @@ abbrev pub restored : {X : Type 0} → ℕ → Option X → List (ℕ × X) → 
 restored key None entries = remove_entry (is_at (nat_cmp key)) entries
 restored key (Some x) entries = insert_entry nat_cmp entries key x
 
--- marks that are told are merged with those that were heard; None where these have all that the others tell
+-- the marks of a datagram are merged with those that were heard; None if these have all that the others tell
 pub record IsMerged (heard told : List MarkValue) (merged : Option (List MarkValue)) : Type 0 where
   pub heard_are : AreMarks heard
   pub told_are : AreMarks told
   pub merges : IsMerge heard told (unwrap_or merged heard)
 
--- where the datagram tells marks, these are merged with what was heard of its page
+-- if the datagram tells marks, these are merged with what was heard of its page
 abbrev pub AreMerged : (PageId → List MarkValue) → Datagram → Option (List MarkValue) → Type 0
 AreMerged heard (Session sender sent page marks echoes) merged = IsMerged (heard page) marks merged
 AreMerged heard (PageState sender page marks) merged = IsMerged (heard page) marks merged
@@ -50,7 +50,7 @@ AreMerged heard (Draw d) merged = Unit {0}
 AreMerged heard (Request asker name) merged = Unit {0}
 AreMerged heard (AskPages asker) merged = Unit {0}
 
--- the marks of a page, where they changed
+-- the marks of a page, if they changed
 abbrev pub marks_with : PageId → Option (List MarkValue) → List (PageId × List MarkValue) → List (PageId × List MarkValue)
 marks_with page None marks = marks
 marks_with page (Some merged) marks = insert_entry page_cmp marks page merged

@@ -18,7 +18,7 @@ use Rattle.wb_host.specs.Keeper.{KeeperCall, received_of, delay_to, events_of, h
 abbrev pub drawop_of : List DrawopValue → NameValue → Option DrawopValue
 drawop_of history name = find (λ d. same_name d.name name) history
 
--- a request from me, or the drawop that is held; nothing where none is
+-- a request from me, or the drawop that is held; nothing if none is
 abbrev pub sent_for : ℕ → List DrawopValue → Action → Option Datagram
 sent_for me history (Ask name) = Some (Request me name)
 sent_for me history (Answer name) = option_map Draw (drawop_of history name)
@@ -34,6 +34,6 @@ stopped_in history recovery = filter (holds history) (asking (names_in recovery)
 abbrev pub stopped_after : ℕ → Tuning → List KeeperCall → List DrawopValue → List NameValue
 stopped_after me constants calls history = filter (holds history) (asking (names_of (events_of me calls)) (timers_of constants (events_of me calls)))
 
--- what a tick at a moment sends, where these are the accepted calls before it and the history
+-- what a tick at a moment sends, given the accepted calls before it and the history
 abbrev pub sent_by_tick : ℕ → Tuning → List KeeperCall → List DrawopValue → ℕ → List Datagram
 sent_by_tick me constants calls history now = sends_for me history (actions_of constants (receipts now (events_of me calls) (received_of (delay_to me calls) (stopped_after me constants calls history))) now)

@@ -36,10 +36,10 @@ impl Model for Board {
 }
 
 impl Board {
-    /// An empty board of so many cells, from 1 to 65,535, and as many rows; and the desk that owns
+    /// An empty board of `cells` cells, from 1 to 65,535, and as many rows; and the desk that owns
     /// all rows. There is room for as many drawops as there are cells.
     ///
-    /// Refused with `Cells`, just where the number is not from 1 to 65,535, or `Memory`.
+    /// Refused with `Cells`, exactly if the number is not from 1 to 65,535, or `Memory`.
     pub fn open(alloc: Global, cells: u32) -> Result<(Board, Desk), OpenFault>
         ensures opened { IfOk result (λ t. IsOpened cells t.0 t.1) }
         ensures refused { (cells ≡ 0) ⊎ (MAX_CELLS < cells) → result ≡ Err opening.Cells }
@@ -49,10 +49,10 @@ impl Board {
         Ok((Board { history }, Desk::new(alloc, pass)))
     }
 
-    /// A new desk, which has seen the same and gets so many of the free rows. With no rows it can
+    /// A new desk, which has seen the same and gets `rows` of the free rows. With no rows it can
     /// tell another thread what was seen. A refused call changes nothing.
     ///
-    /// Refused with `TooMany` and how many rows are free, just where it has fewer, or `Memory`.
+    /// Refused with `TooMany` and how many rows are free, exactly if it has fewer, or `Memory`.
     pub fn split(&self, alloc: Global, desk: &mut Desk, rows: u32) -> Result<Desk, SplitFault>
         requires desk { IsPassOf self.now desk.old }
         ensures same { IsSamePass desk.old desk.new }
@@ -101,8 +101,8 @@ impl Board {
     /// tells where, and whether that member is the same drawop. A name that the desk has seen is
     /// answered without a step and without memory.
     ///
-    /// Refused with `NoRow`, where no row is free and the name stands nowhere, or `Memory`. The
-    /// desk may then have seen more, and nothing of this call stands in the history.
+    /// Refused with `NoRow`, if no row is free and the name stands nowhere, or `Memory`. The desk
+    /// may then have seen more, and nothing of this call stands in the history.
     pub fn accept(&self, desk: &mut Desk, drawop: &Drawop) -> Result<Reply, BoardFault>
         requires desk { IsPassOf self.now desk.old }
         ensures same { IsSamePass desk.old desk.new }

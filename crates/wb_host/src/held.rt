@@ -28,7 +28,7 @@ impl Held {
         }
     }
 
-    /// Takes in what the pass has seen since. Where memory is refused, it holds what it has taken
+    /// Takes in what the pass has seen since. If an allocation fails, it holds what it has taken
     /// in.
     pub(crate) fn catch_up(&mut self, pass: &Pass) -> Result<(), AllocError>
         requires { HoldsFirst pass.now.seen self.old }
@@ -55,7 +55,7 @@ impl Held {
     }
 }
 
-/// The greatest number of a source on a page, or 0 where it has no drawop there.
+/// The greatest number of a source on a page, or 0 if it has no drawop there.
 fn highest(list: &[Drawop], page: PageId, source: u32) -> u32
     ensures { result ≡ highest page source list.now }
 {
@@ -66,7 +66,7 @@ fn highest(list: &[Drawop], page: PageId, source: u32) -> u32
     highest
 }
 
-/// The number of a drawop, where it is of the source and on the page, and else 0.
+/// The number of a drawop, if it is of the source and on the page, and else 0.
 fn number_on(drawop: &Drawop, page: PageId, source: u32) -> u32
     ensures { result ≡ (if is_of page source drawop.now then drawop.now.name.seq else 0) }
 {

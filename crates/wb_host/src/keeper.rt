@@ -56,13 +56,13 @@ pub struct Keeper {
     /// The moment of the last accepted call that has one, in microseconds.
     moment: u64,
     recovery: Recovery,
-    /// The delays that were set or told, by source, in microseconds.
+    /// The delays that were set or heard, by source, in microseconds.
     delays: BTreeMap<u32, u64>,
     /// The last session message of each of the first 65,535 members that sent one.
     heard: BTreeMap<u32, Heard>,
     /// The marks that others told, by page.
     marks: BTreeMap<PageId, Marks>,
-    /// The marks of a page of which none was told.
+    /// The marks of a page of which others told none.
     none: Marks,
 }
 
@@ -84,7 +84,7 @@ impl Model for Keeper {
 }
 
 impl Keeper {
-    /// The delay to a source of which none was set or told, in microseconds: a tenth of a second.
+    /// The delay to a source of which none was set or heard, in microseconds: a tenth of a second.
     pub const FIRST_DELAY: u64 = 100_000;
 
     /// The number of request timers up to which `missing` wants names.
@@ -112,7 +112,7 @@ impl Keeper {
         }
     }
 
-    /// Sets the delay to a source, in microseconds below 2^24, until another is set or told. The
+    /// Sets the delay to a source, in microseconds below 2^24, until another is set or heard. The
     /// first delay takes no room, since each source has it that has no other.
     ///
     /// Refused with `Range` or `Memory`, in this order.
@@ -172,7 +172,7 @@ impl Keeper {
         delay.unwrap_or(Keeper::FIRST_DELAY)
     }
 
-    /// The greatest numbers that others told of a page. Empty where none did.
+    /// The greatest numbers that others told of a page. Empty if none did.
     pub fn marks(&self, page: PageId) -> &Marks
         ensures { result.now ≡ marks_at self.now.marks page }
     {
@@ -207,8 +207,7 @@ impl Keeper {
     }
 
     /// The least moment at which a timer is due, in microseconds, and so when the next `tick` has
-    /// something to do.
-    /// None where no timer stands.
+    /// something to do. None if no timer stands.
     pub fn next_due(&self) -> Option<u64>
         ensures due { IsNextDue (timers_in self.now.recovery) result }
         ensures calls { (me : ℕ) (constants : Constants) (calls : List KeeperCall) →

@@ -19,7 +19,7 @@ ghost use Rattle.wb_host.specs.KeeperLaws.{AnswersWithHeld, AsksForNoneHeld, Dra
 use wb_codec::Datagram;
 use wb_codec::laws::{datagrams_are_in_range, reading_undoes_spelling};
 
-/// What all callers of a board were told is one run of a whiteboard of one thread. Let each reply
+/// The replies of a board to all callers are one run of a whiteboard of one thread. Let each reply
 /// be the answer at its point of the history, let the points of a caller never fall, and rise after
 /// a new drawop, and let each member be new to one of them. Then the calls by their points, at each
 /// point the new drawop last, make a run in which each answer is that of the whiteboard at the
@@ -36,8 +36,8 @@ pub fn order_is_free()
 {}
 
 /// What a session message means: two boards that have one report of a page, and no gaps below it,
-/// show the same there, where each name has one content in both. So a host that lacks nothing below
-/// the marks of a session message, and has no more, shows what its sender showed, who lacked
+/// show the same there, if each name has one content in both. So a host that lacks nothing below
+/// the marks of a session message, and has no more, shows what its sender showed, if that lacked
 /// nothing.
 pub fn reports_agree()
     ensures { ReportsAgree }
@@ -68,21 +68,20 @@ pub fn one_session()
     ensures message { MessageIsSession }
 {}
 
-/// A keeper that was told of names that arrived is one that was told of the same names in another
-/// order.
+/// A keeper after an arrival of names is one after an arrival of the same names in another order.
 pub fn order_of_arrival_is_free()
     ensures { OrderOfArrivalIsFree }
 {}
 
-/// The request timers that a tick stops, since what they ask for is held, are told by the accepted
-/// calls and the history.
+/// The accepted calls and the history tell which request timers a tick stops, since what these ask
+/// for is held.
 pub fn stopped_by_calls()
     ensures { StoppedByCalls }
 {}
 
 /// A tick asks, as this member, for just the names whose request timer is due and that the desk
-/// does not hold; and it answers with just those members of the history whose answer timer is due,
-/// where no request timer stands for their names.
+/// does not hold; and it answers with just those members of the history whose answer timer is due
+/// and for whose names no request timer stands.
 pub fn ticks_spare_what_is_held()
     ensures asks { AsksForNoneHeld }
     ensures answers { AnswersWithHeld }
@@ -130,8 +129,8 @@ pub fn sent_is_read_back(sent: &[Datagram])
     reading_undoes_spelling();
 }
 
-/// The most workers of a batch; the delay to a source in microseconds before one is told; and the
-/// request timers up to which names are wanted.
+/// The most workers of a batch; the first delay to a source in microseconds; and the request timers
+/// up to which names are wanted.
 pub fn limits()
     ensures workers { MAX_WORKERS ≡ 8 }
     ensures delay { FIRST_DELAY ≡ 100000 }

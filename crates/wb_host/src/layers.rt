@@ -31,7 +31,7 @@ impl PageLayer {
         }
     }
 
-    /// Puts what came since, all at once, and nothing else. Where memory is refused nothing was
+    /// Puts what came since, all at once, and nothing else. If an allocation fails, nothing was
     /// put.
     fn catch_up(&mut self, list: &[Drawop]) -> Result<(), AllocError>
         requires { HasTakenIn list.now self.old.layer.page self.old }
@@ -45,8 +45,8 @@ impl PageLayer {
     }
 }
 
-/// Brings the layer of a page up to the list; where the page was never viewed, it gets a layer.
-/// Where memory is refused, each layer is right for what it has taken in.
+/// Brings the layer of a page up to the list; if the page was never viewed, it gets a layer. If an
+/// allocation fails, each layer is right for what it has taken in.
 pub(crate) fn bring_up(
     layers: &mut Layers,
     alloc: Global,

@@ -65,7 +65,7 @@ impl Board {
     }
 
     /// The first hole that begins after this number of a source on a page: holes are the gaps of
-    /// all pages below what the desk has, ascending by page, source and number. None where there is
+    /// all pages below what the desk has, ascending by page, source and number. None if there is
     /// none. After a fault the desk may have seen more.
     pub fn hole_after(
         &self,
@@ -85,8 +85,8 @@ impl Board {
         desk.hole_after(alloc, page, source, number)
     }
 
-    /// The greatest number of a source on a page, or 0 where it has no drawop there. It costs
-    /// look-ups alone. After a fault the desk may have seen more.
+    /// The greatest number of a source on a page, or 0 if it has no drawop there. It costs look-ups
+    /// alone. After a fault the desk may have seen more.
     pub fn highest(&self, desk: &mut Desk, page: PageId, source: u32) -> Result<u32, AllocError>
         requires desk { IsPassOf self.now desk.old }
         ensures desk { ReadsOn desk.old desk.new }

@@ -1,4 +1,4 @@
--- Who answers us: who echoes a moment at which we reported lately. Nobody knows such a moment who did not hear that report.
+-- Who answers us: whoever echoes a moment at which we reported lately. Nobody who did not hear that report knows the moment.
 use Rattle.std.specs.Prelude.{ℕ, ◌-◌, Bool, false, ◌&&◌, List, Option, Some, None, nat_eq, nat_le}
 use Rattle.std.specs.List.{list_any}
 use Rattle.wb_names.specs.declared.echo.Echo.{Echo}

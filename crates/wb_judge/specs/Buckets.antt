@@ -1,4 +1,4 @@
--- So many at once, and then one in each pause. What was taken is paid for up to a moment.
+-- Some at once, and then one in each pause. What was taken is paid for up to a moment.
 use Rattle.std.specs.Prelude.{ℕ, ◌+◌, ◌-◌, Bool, max, nat_le}
 
 -- one more is taken: what was taken is not paid for further ahead than this

@@ -1,7 +1,7 @@
--- The time of day goes on from where it was told.
+-- The time of day goes on from the last that was set.
 use Rattle.std.specs.Prelude.{ℕ, ◌+◌, ◌-◌}
 
--- at a moment the time of day was told
+-- at a moment the time of day was set
 pub record DayClock : Type 0 where
   pub wall : ℕ
   pub at : ℕ

@@ -1,4 +1,4 @@
--- How what is held of strangers is kept: beside it stand its pages, and its sources on each.
+-- How what is held of strangers is kept: with its pages, and its sources on each.
 use Rattle.std.specs.Prelude.{◌≡◌, ◌≤◌, [], length, vec_capacity}
 use Rattle.wb_judge.specs.Strange.{pages_in, rows_in}
 use Rattle.wb_judge.specs.declared.strange.Strange.TheInside.{Inside}

@@ -67,20 +67,20 @@ is_another (Some owner) (Some other) = not (nat_eq owner other)
 is_another (Some owner) None = false
 is_another None other = false
 
--- A number is theirs who spoke under it first, and ours is ours, where the network keeps origins.
+-- A number is theirs who spoke under it first, and ours is ours, if the network keeps origins.
 abbrev pub is_forged : ℕ → Origin → Judge → Bool
 is_forged number o j = is_another o.owner (owner_of number j)
 
--- no drawing has a cell, and deletes and restores of members alone have
+-- no cell is left for drawings, only for deletes and restores of members
 abbrev pub is_full : ℕ → Judge → Bool
 is_full held j = nat_le (j.cells - j.cells / RESERVE) held
 
--- ---- what is told
+-- ---- what its host tells it
 
 -- the board has taken in a drawop that is new
 abbrev pub after_taking : Given → Origin → ℕ → Judge → Judge
 after_taking g o now j = if knows o now j then j else record j { strange = with_given g j.strange }
 
--- who spoke from there is gone
+-- whoever spoke from there is gone
 abbrev pub after_leaving : Origin → Judge → Judge
 after_leaving o j = record j { known = left o j.known; others = gone_from o j.others }

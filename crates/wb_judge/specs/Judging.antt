@@ -34,7 +34,7 @@ draws (Drawn figure stroke) = true
 draws (Text x y text) = true
 draws (Aimed change target) = false
 
--- A drawop is not ours that has our number. One that we drew and a crash lost is: our numbers go on above it.
+-- A drawop with our number is forged, unless we may have drawn it before a crash: our numbers go on above it.
 unfoldable pub is_forged_drawop : Bool → DrawopValue → Facts → Judge → Bool
 is_forged_drawop known d f j = nat_eq d.name.source j.me && (nat_le FORGED_NUMBER d.name.seq || (nat_lt (f.top + FORGED_ABOVE) d.name.seq || not (f.listens || known)))
 
@@ -71,7 +71,7 @@ after_question o misses now j =
 
 -- ---- a report of another number, which answers us or not
 
--- a number that was heard needs no room where it answers, and from where it spoke
+-- a number that was heard needs no room if it answers, or speaks from where it spoke
 abbrev pub is_heard : Origin → Bool → Option Other → Bool
 is_heard o answer None = false
 is_heard o answer (Some x) = answer || same_origin x.origin o
@@ -95,7 +95,7 @@ abbrev pub is_recent : Option ℕ → ℕ → Bool
 is_recent None now = false
 is_recent (Some at) now = nat_lt (now - at) FETCH_AGAIN
 
--- Who lacks much takes a stream, of a member that has answered us.
+-- If we lack much, we take a stream of a member that has answered us.
 unfoldable pub is_fetched : Other → ℕ → ℕ → Judge → Bool
 is_fetched x lacking now j = (is_some x.answered && nat_le LACKING lacking) && (nat_le j.fetch_at now && not (is_recent x.fetched now))
 
@@ -178,7 +178,7 @@ after_own sent r now j =
 
 -- ---- any datagram
 
--- under a number of another owner, under ours, or else
+-- by whether the number is another owner's, ours, or neither
 abbrev pub said_verdict : Origin → ℕ → Judge → Verdict → Verdict → Verdict
 said_verdict o number j ours theirs =
     if is_forged number o j then warned Speaks (Impostor number) else if nat_eq number j.me then ours else theirs

@@ -10,11 +10,11 @@ use Rattle.wb_judge.specs.declared.origin.Origin.{Origin}
 unfoldable pub is_known : Origin → ℕ → List KnownOrigin → Bool
 is_known o now known = list_any (λ k. same_origin k.origin o && nat_le (now - k.at) SILENCE) known
 
--- who spoke from there is gone
+-- whoever spoke from there is gone
 abbrev pub left : Origin → List KnownOrigin → List KnownOrigin
 left o known = filter (λ k. not (same_origin k.origin o)) known
 
--- Something came from there last. Of too many, the one goes that was silent for longest.
+-- Something came from there last. If there are too many, the one goes that was silent for longest.
 unfoldable pub known_from : Origin → ℕ → List KnownOrigin → List KnownOrigin
 known_from o now known = joined MOST_KNOWN (record { origin = o; at = now }) (left o known)
 

@@ -35,7 +35,7 @@ abbrev pub OnlyAnswersMakeKnown : Type 0
 OnlyAnswersMakeKnown = (o p : Origin) (v : Datagram) (f : Facts) (j : Judge) (now : ℕ) → knows p now (after_judging o v f j) ≡ true
     → (knows p now j ≡ true) ⊎ (knows p f.at j ≡ true) ⊎ ((o ≡ p) × (is_answer v f.at j ≡ true))
 
--- A member's drawop is not dropped that is not ours, is no more than a day ahead, and has a cell.
+-- A member's drawop is not dropped if it is not ours, is no more than a day ahead, and has a cell.
 abbrev pub AMemberIsNotDropped : Type 0
 AMemberIsNotDropped = (o : Origin) (d : DrawopValue) (f : Facts) (j : Judge) → knows o f.at j ≡ true → ¬ (d.name.source ≡ j.me)
     → d.time ≤ time_of_day j.clock f.at + AHEAD_KNOWN → (draws d.op && is_full f.held j) ≡ false → (verdict o (Draw d) f j).why ≡ None
@@ -51,7 +51,7 @@ abbrev pub NumbersStay : Type 0
 NumbersStay = (o : Origin) (number : ℕ) (v : Datagram) (f : Facts) (j : Judge) → speaker_in v ≡ Some number
     → is_bound_elsewhere number o f.at j.others ≡ true → is_answer v f.at j ≡ false → (after_judging o v f j).others ≡ j.others
 
--- What answers nobody, as a replay, shows no twin.
+-- A datagram that answers nobody, as a replay, shows no twin.
 abbrev pub ReplayIsNoTwin : Type 0
 ReplayIsNoTwin = (o : Origin) (v : Datagram) (f : Facts) (j : Judge) → is_answer v f.at j ≡ false → (after_judging o v f j).has_twin ≡ j.has_twin
 
@@ -88,13 +88,13 @@ taken_at ahead pause paid [] = 0
 taken_at ahead pause paid (now ∷ moments) =
     if has_room ahead paid now then 1 + taken_at ahead pause (paid_after pause paid now) moments else taken_at ahead pause paid moments
 
--- So many at once, and then one in each pause.
+-- As many at once as are paid for ahead, and then one in each pause.
 abbrev pub FewAreTaken : Type 0
 FewAreTaken = (ahead pause paid start end : ℕ) (moments : List ℕ) → AreFrom start end moments → taken_at ahead pause paid moments * pause ≤ ahead + pause + (end - start)
 
 -- ---- steps of a judge
 
--- A datagram comes, and the board takes it in if it is a drawop that is handed in and new; we report; the time of day is told; who spoke from an
+-- A datagram comes, and the board takes it in if it is a drawop that is handed in and new; we report; the time of day is set; whoever spoke from an
 -- origin is gone; and a record tells a stranger's drawop.
 pub data Step : Type 0 where
   Comes : (o : Origin) → (v : Datagram) → (f : Facts) → Step

@@ -1,4 +1,4 @@
--- Lists of at most so many: the one that came first goes.
+-- Lists of at most `most` things: the one that came first goes.
 use Rattle.std.specs.Prelude.{ℕ, List, [], ◌∷◌, ◌++◌, drop, length, nat_lt, if◌then◌else◌}
 
 -- with a place for one more

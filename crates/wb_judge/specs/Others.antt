@@ -31,7 +31,7 @@ spoken number o now others = heard_again number o now (other_of number others)
 abbrev pub without : ℕ → List Other → List Other
 without number others = filter (λ x. not (nat_eq x.number number)) others
 
--- of too many, the first that has not answered us, else the first
+-- if there are too many: the first that has not answered us, else the first
 abbrev pub first_to_go : List Other → ℕ
 first_to_go others = unwrap_or (position (λ x. is_none x.answered) others) 0
 
@@ -41,6 +41,6 @@ with_place_for others = if nat_lt (length others) MOST_OTHERS then others else r
 unfoldable pub other_with : Other → List Other → List Other
 other_with x others = with_place_for (without x.number others) ++ x ∷ []
 
--- who spoke from there is gone
+-- whoever spoke from there is gone
 abbrev pub gone_from : Origin → List Other → List Other
 gone_from o others = filter (λ x. not (same_origin x.origin o)) others

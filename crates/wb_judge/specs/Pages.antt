@@ -14,13 +14,13 @@ place_of Ours = 0
 place_of Members = 1
 place_of Strangers = 2
 
--- whose drawops a page has, of which these names are held
+-- whose drawops a page has, if these names of it are held
 abbrev pub rank_of : ℕ → List Given → List NameValue → Rank
 rank_of me given names =
     if list_any (λ n. nat_eq n.source me) names then Ours
     else if list_all (λ n. has_name n given) names then Strangers
     else Members
 
--- of each kind the page first on which was drawn last
+-- of each kind, the page that was drawn on last comes first
 abbrev pub is_listed_before : Listed → Listed → Bool
 is_listed_before p q = nat_lt (place_of p.rank) (place_of q.rank) || (nat_eq (place_of p.rank) (place_of q.rank) && nat_lt q.last p.last)

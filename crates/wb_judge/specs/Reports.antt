@@ -1,4 +1,4 @@
--- What of a report is judged.
+-- Which parts of a report are judged.
 use Rattle.std.specs.Prelude.{ℕ, List, Option, Some, None, nat_eq}
 use Rattle.std.specs.List.{find}
 use Rattle.wb_names.specs.Values.{MarkValue}

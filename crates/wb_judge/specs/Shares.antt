@@ -2,7 +2,7 @@
 use Rattle.std.specs.Prelude.{ℕ, List}
 use Rattle.wb_judge.specs.declared.strange.Given.{Given}
 
--- at most so many drawops, and of one origin at most so many
+-- at most `most` drawops, and of one origin at most `most_of_origin`
 pub record Shares : Type 0 where
   pub most : ℕ
   pub most_of_origin : ℕ

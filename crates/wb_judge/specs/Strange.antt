@@ -18,11 +18,11 @@ is_there o (Some p) = same_origin p o
 abbrev pub is_given_by : Origin → Given → Bool
 is_given_by o g = is_there o g.origin
 
--- one cell in so many, and 16 at least
+-- one cell in `part`, and 16 at least
 abbrev pub share_of : ℕ → ℕ → ℕ
 share_of cells part = max (cells / part) LEAST_SHARE
 
--- so many as are told, or as a board has for them
+-- the number that is given, else the share of a board
 abbrev pub most_given : ℕ → Option ℕ → ℕ
 most_given cells None = share_of cells STRANGERS
 most_given cells (Some most) = most
@@ -69,7 +69,7 @@ abbrev pub rows_in : List Row → List Given → List Row
 rows_in rows [] = rows
 rows_in rows (g ∷ given) = rows_in (with_row (row_of g.name) rows) given
 
--- one more would be on a page more, or of a source more on a page, than theirs may be
+-- one more would take a page too many, or a source on a page too many
 abbrev pub opens_page : PageId → List PageId → Bool
 opens_page page pages = not (list_any (λ p. same_page p page) pages) && nat_le STRANGE_PAGES (length pages)
 

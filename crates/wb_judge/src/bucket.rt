@@ -1,4 +1,4 @@
-//! So many at once, and then one in each pause.
+//! A limit: some at once, and then one in each pause.
 
 ghost use Rattle.std.specs.Prelude.{◌≡◌, ◌<◌, ◌^◌, if◌then◌else◌};
 ghost use Rattle.wb_names.specs.Moments.{IsMoment};
@@ -14,7 +14,7 @@ impl Bucket {
     /// Nothing was taken yet.
     pub const WHOLE: Bucket = Bucket { paid: 0 };
 
-    /// Whether one more is taken, which it then pays for. It may be paid so far ahead before.
+    /// Takes and pays for one more, if `paid` is at most `ahead` after now. Answers whether.
     pub(crate) fn take(&mut self, ahead: u64, pause: u64, now: u64) -> bool
         requires moment { IsMoment now }
         requires ahead { ahead < 2 ^ 32 }

@@ -6,7 +6,7 @@ ghost use Rattle.wb_judge.specs.Days.{time_of_day};
 
 use std::marker::Model;
 
-/// The time of day, as it was told last, and the moment at which it was told. Both are in
+/// The time of day that the driver named last, and the moment at which it did. Both are in
 /// microseconds, the time of day since 1970.
 #[derive(Drop)]
 pub struct DayClock {
@@ -26,7 +26,7 @@ impl Model for DayClock {
 }
 
 impl DayClock {
-    /// At a moment the time of day is told.
+    /// The driver names the time of day at a moment.
     pub(crate) fn told(now: u64, wall: u64) -> DayClock
         requires { wall < 2 ^ 62 }
         ensures { result ≡ record { wall = wall; at = now } }

@@ -4,7 +4,7 @@
 /// the datagram may be anything.
 #[derive(Clone, Copy, Debug)]
 pub struct Facts {
-    /// The moment, which is not before that of the call before.
+    /// The moment, which is not before that of the last call.
     pub at: u64,
     /// How many drawops the board holds on all pages.
     pub held: u32,

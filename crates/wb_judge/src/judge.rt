@@ -1,4 +1,4 @@
-//! The judge: what it remembers, and what it is told.
+//! The judge: what it remembers, and what its driver tells it.
 
 ghost use Rattle.std.specs.Prelude.{◌≡◌, ◌<◌, ◌^◌, IfOk, None, Some};
 ghost use Rattle.wb_names.specs.Moments.{IsMoment};
@@ -50,14 +50,14 @@ pub struct Start {
     pub me: u32,
     /// The cells of our board.
     pub cells: u32,
-    /// The owner of our own origin, where the network keeps origins.
+    /// The owner of our own origin, if the network keeps origins.
     pub here: Option<u64>,
-    /// How many drawops of strangers are taken, or as many as the board has for them.
+    /// How many drawops of strangers are taken. If None, as many as the board has for them.
     pub strangers: Option<u16>,
 }
 
-/// The judgement of a member: bounded lists and integers, which are taken when it begins. No later
-/// call takes memory.
+/// The judgement of a member: bounded lists and integers, which are allocated when it begins. No
+/// later call allocates.
 #[derive(Drop)]
 pub struct Judge {
     me: u32,
@@ -129,7 +129,7 @@ impl Judge {
         })
     }
 
-    /// The time of day at a moment is told.
+    /// The driver names the time of day at a moment.
     pub fn tell_time(&mut self, now: u64, wall: u64)
         requires { wall < 2 ^ 62 }
         ensures { self.new ≡ record self.old { clock = record { wall = wall; at = now } } }
@@ -156,14 +156,14 @@ impl Judge {
         }
     }
 
-    /// By the record, no known origin gave a drawop that is held.
+    /// The record says that no known origin gave a drawop that is held.
     pub fn remember(&mut self, name: Name)
         ensures { self.new ≡ record self.old { strange = with_given (record { name = name; origin = None }) self.old.strange } }
     {
         self.strange.put(Given { name, origin: None });
     }
 
-    /// The network says that who spoke from there is gone.
+    /// The network says that whoever spoke from there is gone.
     pub fn leave(&mut self, origin: Origin)
         ensures { self.new ≡ after_leaving origin self.old }
     {
@@ -207,21 +207,21 @@ impl Judge {
         rank_of(self.me, &self.strange, names)
     }
 
-    /// Whether no drawing has a cell, where so many drawops are held.
+    /// Whether no cell is left for a drawing, if `held` drawops are held.
     pub fn is_full(&self, held: u32) -> bool
         ensures { result ≡ is_full held self.now }
     {
         held >= self.cells - self.cells / RESERVE
     }
 
-    /// Whether a number is another owner's, where the network keeps origins.
+    /// Whether a number is another owner's, if the network keeps origins.
     fn is_forged(&self, number: u32, origin: Origin) -> bool
         ensures { result ≡ is_forged number origin self.now }
     {
         is_another(origin.owner, self.owner_of(number))
     }
 
-    /// Who owns a number, where somebody does.
+    /// Who owns a number, if somebody does.
     fn owner_of(&self, number: u32) -> Option<u64>
         ensures { result ≡ owner_of number self.now }
     {
@@ -234,8 +234,8 @@ impl Judge {
         }
     }
 
-    /// What a report of ours that leaves now echoes besides, under our own number: who has our
-    /// number too hears by it that we have heard it. To all others the report says the same.
+    /// What a report of ours that leaves now echoes besides, under our own number: whoever has our
+    /// number too hears from it that we have heard them. To all others the report says the same.
     pub fn own_echo(&self, now: u64) -> Option<Echo>
         ensures { result ≡ own_echo now self.now }
     {

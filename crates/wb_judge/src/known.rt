@@ -15,7 +15,7 @@ pub struct KnownOrigin {
     pub at: u64,
 }
 
-/// At most 1,024 origins, the one at the end from which something came last.
+/// At most 1,024 origins: at the end is the one from which something came last.
 #[derive(Drop)]
 pub struct Known {
     items: Vec<KnownOrigin>,
@@ -50,7 +50,7 @@ impl Known {
             && now.saturating_sub(known.at) <= SILENCE)
     }
 
-    /// A member answered from there, or something came from there that is known.
+    /// A member answered from there, or something came from there while it was known.
     #[tactic(auto, unfolding(crate::specs::Known::known_from))]
     pub(crate) fn put(&mut self, origin: Origin, now: u64)
         ensures { self.new ≡ known_from origin now self.old }
@@ -71,7 +71,7 @@ impl Known {
         }
     }
 
-    /// Who spoke from there is gone.
+    /// Whoever spoke from there is gone.
     pub(crate) fn remove(&mut self, origin: Origin)
         ensures { self.new ≡ left origin self.old }
     {

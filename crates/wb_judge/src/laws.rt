@@ -1,4 +1,4 @@
-//! What follows of the judgement, proved for whatever comes in. The functions do nothing: each
+//! What follows from the judgement, proved for whatever comes in. The functions do nothing: each
 //! stands here for its clause.
 
 ghost use Rattle.std.specs.Prelude.{◌≡◌, ◌^◌};
@@ -25,16 +25,16 @@ pub fn nobody_is_vouched_for()
     ensures own { StaysStrange }
 {}
 
-/// However many origins that are not known give whatever they like, while none of them answers, no
-/// more is taken in of it than the share of strangers, in which a name counts once.
+/// However many unknown origins give whatever they like, while none of them answers, no more of
+/// that is taken in than the share of strangers, in which a name counts once.
 pub fn strangers_have_a_share()
     ensures share { StrangersHaveAShare }
     ensures once { NamesCountOnce }
     ensures stays { SharesStay }
 {}
 
-/// A stranger hushes no repair of ours. Of its questions so many are taken at once and then one in
-/// each pause, and so are numbers that are new.
+/// A stranger hushes no repair of ours. Questions of strangers are taken up to a limit at once and
+/// then one in each pause, and so are numbers that are new.
 pub fn strangers_hush_nobody()
     ensures repairs { StrangersHushNobody }
     ensures few { FewAreTaken }
@@ -51,9 +51,9 @@ pub fn limits()
     ensures time { TIME_LIMIT ≡ 2 ^ 62 }
 {}
 
-/// The other numbers of the judgement: in microseconds how long an echo is fresh, and an origin or a
-/// number may be silent; the parts of a board, pages and sources for strangers; and how far ahead a
-/// time may be.
+/// The other numbers of the judgement: in microseconds how long an echo is fresh, and an origin or
+/// a number may be silent; the parts of a board, pages and sources for strangers; and how far ahead
+/// a time may be.
 pub fn numbers()
     ensures silent { (FRESH ≡ 256000000) × (SILENCE ≡ 600000000) × (PATIENCE ≡ 192000000) }
     ensures shares { (STRANGERS ≡ 16) × (OF_ORIGIN ≡ 128) × (LEAST_SHARE ≡ 16) × (RESERVE ≡ 32) }

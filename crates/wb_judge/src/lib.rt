@@ -1,20 +1,20 @@
 //! The judgement of a member: which datagrams it takes, who is known, who may fill its board, whose
 //! times it believes, when it has a twin, and from whom it takes a stream.
 //!
-//! It has no board, no network and no clock. Whoever asks tells the moment, from which origin a
-//! datagram came, and what the board says of it (`Facts`), and is told what becomes of it
-//! (`Verdict`). All that is remembered is bounded, and taken when a judge begins: no later call
-//! takes memory. Moments and times are in microseconds.
+//! It has no board, no network and no clock. The caller hands in the moment, the origin of a
+//! datagram, and what the board says of it (`Facts`), and gets what becomes of it (`Verdict`). All
+//! that is remembered is bounded, and allocated when a judge begins: no later call allocates.
+//! Moments and times are in microseconds.
 //!
 //! An origin is known once a report came from there that echoes a moment at which we reported
 //! lately. Nobody knows such a moment who did not hear that report, so a report vouches for nobody
 //! but itself. What no known origin gave has a share of the board.
 //!
-//! In reading order: `limits` has the numbers; `origin` says where datagrams come from; `bucket` is
-//! so many at once and then one in each pause; `own_reports` are our moments, and who answers us;
-//! `known`, `others` and `strange` are the origins that are known, the numbers that were heard, and
-//! the share of strangers; `pages` lists pages; `report`, `facts` and `verdict` say what is judged and what becomes of
-//! it; `judge` joins them. `laws` says what follows.
+//! In reading order: `limits` has the numbers; `origin` says where datagrams come from; `bucket`
+//! takes some at once and then one in each pause; `own_reports` are our moments, and who answers
+//! us; `known`, `others` and `strange` are the origins that are known, the numbers that were heard,
+//! and the share of strangers; `pages` lists pages; `report`, `facts` and `verdict` say what is
+//! judged and what becomes of it; `judge` joins them. `laws` says what follows.
 #![tactic(auto)]
 
 mod bucket;

@@ -4,17 +4,17 @@
 pub const SECOND: u64 = 1_000_000;
 
 /// How many moments of our own reports are remembered. Nobody knows one who did not hear that
-/// report, so who echoes it is a member.
+/// report, so whoever echoes it is a member.
 pub const MOST_OWN: usize = 256;
 
 /// An echo of a moment that is older answers nobody.
 pub const FRESH: u64 = 256_000_000;
 
-/// An origin that answered us is known until it was silent for so long.
+/// An origin that answered us is known until it was silent for longer than this.
 pub const SILENCE: u64 = 600_000_000;
 
-/// A number stays with its origin until it was silent for so long: three of the longest intervals
-/// between two reports.
+/// A number stays with its origin until it was silent for longer than this: three of the longest
+/// intervals between two reports.
 pub const PATIENCE: u64 = 192_000_000;
 
 /// The most origins that are known.
@@ -23,27 +23,27 @@ pub const MOST_KNOWN: usize = 1_024;
 /// The most numbers that are remembered.
 pub const MOST_OTHERS: usize = 1_024;
 
-/// One cell in so many is for all that no known origin gave.
+/// One cell in `STRANGERS` is for all that no known origin gave.
 pub const STRANGERS: u32 = 16;
 
-/// One cell in so many is for what one origin gave that is not known.
+/// One cell in `OF_ORIGIN` is for what one unknown origin gave.
 pub const OF_ORIGIN: u32 = 128;
 
-/// But so many cells at least.
+/// But each of these two shares has at least this many cells.
 pub const LEAST_SHARE: u32 = 16;
 
-/// The most pages on which drawops stand that no known origin gave. A member tells its pages in
-/// turn, so each keeps what members draw from being told for a while.
+/// The most pages with drawops that no known origin gave. A member reports its pages in turn, so
+/// each of these delays the reports of what members draw.
 pub const STRANGE_PAGES: usize = 16;
 
 /// The most sources that such drawops have, summed over the pages.
 pub const STRANGE_ROWS: usize = 256;
 
-/// One cell in so many is kept for deletes and restores of members.
+/// One cell in `RESERVE` is kept for deletes and restores of members.
 pub const RESERVE: u32 = 32;
 
-/// 256 numbers that are new are heard at once, and then one in each second. So far ahead they may
-/// be paid for where one more is.
+/// 256 new numbers are heard at once, and then one in each second: one more is heard if those
+/// before are paid for up to this far ahead at most.
 pub const NEW_AHEAD: u64 = 255_000_000;
 
 /// What a new number costs.
@@ -55,23 +55,23 @@ pub const ASKED_AHEAD: u64 = 3_937_500;
 /// What such a question costs.
 pub const ASKED_PAUSE: u64 = 62_500;
 
-/// Who lacks so many numbers takes a stream; who lacks fewer asks for each.
+/// A member that lacks this many numbers takes a stream; one that lacks fewer asks for each.
 pub const LACKING: u64 = 500;
 
-/// No stream begins for so long after one began.
+/// After a stream began, none begins for this long.
 pub const FETCH_PAUSE: u64 = 10_000_000;
 
-/// And none of a member for so long after one of it began.
+/// And none of the same member for this long.
 pub const FETCH_AGAIN: u64 = 60_000_000;
 
-/// A number of ours that is so far above what we hold is forged, since nobody draws as many on a
+/// A number of ours that is further above what we hold is forged, since nobody draws as many on a
 /// page.
 pub const FORGED_ABOVE: u64 = 65_536;
 
 /// A number of ours from here on is forged.
 pub const FORGED_NUMBER: u32 = 1 << 31;
 
-/// How far ahead of the time of day the time of a drawop may be that a known origin gave.
+/// How far ahead of the time of day that of a drawop from a known origin may be.
 pub const AHEAD_KNOWN: u64 = 86_400_000_000;
 
 /// How far ahead that of any other may be.

@@ -3,8 +3,8 @@
 ghost use Rattle.std.specs.Prelude.{◌≡◌};
 ghost use Rattle.wb_judge.specs.Origins.{same_origin, same_owner};
 
-/// Where a datagram came from, as the network tells it: an address, a name at a broker, a tag under
-/// a seal. It has an owner where the network lets nobody else send from there. Two origins may have
+/// Where a datagram came from, as the network names it: an address, a name at a broker, a tag under
+/// a seal. It has an owner if the network lets nobody else send from there. Two origins may have
 /// one owner, who started twice.
 #[derive(Clone, Copy, Debug)]
 pub struct Origin {

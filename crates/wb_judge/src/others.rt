@@ -19,7 +19,7 @@ pub struct Other {
     pub fetched: Option<u64>,
 }
 
-/// At most 1,024 numbers, the one at the end that was heard last.
+/// At most 1,024 numbers: at the end is the one that was heard last.
 #[derive(Drop)]
 pub struct Others {
     items: Vec<Other>,
@@ -91,7 +91,7 @@ impl Others {
         }
     }
 
-    /// Remembers what a number has become that was heard.
+    /// Remembers what a number that was heard has become.
     #[tactic(auto, unfolding(crate::specs::Others::other_with))]
     pub(crate) fn put(&mut self, other: Other)
         ensures { self.new ≡ other_with other self.old }
@@ -119,7 +119,7 @@ impl Others {
         self.items.retain(|other| other.number != number);
     }
 
-    /// Who spoke from there is gone.
+    /// Whoever spoke from there is gone.
     pub(crate) fn remove(&mut self, origin: Origin)
         ensures { self.new ≡ gone_from origin self.old }
     {

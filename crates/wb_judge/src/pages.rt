@@ -71,8 +71,8 @@ fn are_strange(strange: &Strange, names: &[Name]) -> bool
     names.iter().all(|name| strange.has(name))
 }
 
-/// Puts pages in the order in which they are listed: first those of ours, then those of members,
-/// then those of strangers alone, and of each kind the one first on which was drawn last.
+/// Puts pages in the order in which they are listed: first ours, then those of members, then those
+/// of strangers alone, and of each kind first the one that was drawn on last.
 pub fn put_in_order(pages: &mut [Listed])
     ensures same { IsPermutation pages.old pages.new }
     ensures order { IsSortedBy is_listed_before pages.new }

@@ -1,11 +1,11 @@
-//! What of a report is judged.
+//! What is judged of a report.
 
 ghost use Rattle.std.specs.Prelude.{◌≡◌, []};
 ghost use Rattle.wb_judge.specs.Reports.{echo_to, mark_in, mark_of, report_of};
 
 use wb_names::{Echo, Mark};
 
-/// What of a report is judged: who speaks, the echo of us, if it has one, and the mark of us, or 0.
+/// What is judged of a report: who speaks, the echo of us, if it has one, and the mark of us, or 0.
 #[derive(Clone, Copy, Debug)]
 pub struct Report {
     pub speaker: u32,

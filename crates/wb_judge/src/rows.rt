@@ -41,7 +41,7 @@ fn has_row(rows: &[Row], row: Row) -> bool
     rows.iter().any(|other| other.source == row.source && other.page == row.page)
 }
 
-/// Adds a page that is not among some, for which there is room.
+/// Adds a page, unless it is among some. There is room for it.
 pub(crate) fn add_page(pages: &mut Vec<PageId>, page: PageId)
     requires { vec_len pages.old < vec_capacity pages.old }
     ensures pages { pages.new.items ≡ with_page page pages.old.items }
@@ -53,7 +53,7 @@ pub(crate) fn add_page(pages: &mut Vec<PageId>, page: PageId)
     }
 }
 
-/// Adds a source on a page that is not among some, for which there is room.
+/// Adds a source on a page, unless it is among some. There is room for it.
 pub(crate) fn add_row(rows: &mut Vec<Row>, row: Row)
     requires { vec_len rows.old < vec_capacity rows.old }
     ensures rows { rows.new.items ≡ with_row row rows.old.items }

@@ -10,7 +10,7 @@ use std::alloc::{AllocError, Global};
 use std::marker::Model;
 use wb_names::{Name, PageId};
 
-/// A drawop that no known origin gave, and the origin that did, which a record does not tell.
+/// A drawop that no known origin gave, and the origin that did, which a record does not name.
 #[derive(Clone, Copy, Debug)]
 pub struct Given {
     pub name: Name,
@@ -43,8 +43,8 @@ impl Model for Strange {
 }
 
 impl Strange {
-    /// Nothing is held. So many drawops of strangers are taken, or as many as a board of so many
-    /// cells has for them.
+    /// Nothing is held. `strangers` drawops of strangers are taken, or, if that is None, as many as
+    /// a board of `cells` cells has for them.
     pub(crate) fn new(
         alloc: Global,
         cells: u32,
@@ -88,7 +88,7 @@ impl Strange {
         self.items.iter().any(|given| given.name == *name)
     }
 
-    /// Whether no more that is new is taken from an origin that is not known.
+    /// Whether no more new drawops are taken from an unknown origin.
     #[tactic(auto, unfolding(crate::specs::Strange::is_over))]
     pub(crate) fn is_over(&self, origin: Origin) -> bool
         ensures { result ≡ is_over origin self.now }
@@ -96,7 +96,7 @@ impl Strange {
         self.items.len() >= self.most || self.count_of(origin) >= self.most_of_origin
     }
 
-    /// Whether it would be on a page more, or of a source more on a page, than theirs may be.
+    /// Whether it would add a page, or a source on a page, beyond what strangers may have.
     #[tactic(auto, unfolding(crate::specs::Strange::is_wide))]
     pub(crate) fn is_wide(&self, name: &Name) -> bool
         ensures { result ≡ is_wide name.now self.now }
@@ -126,7 +126,7 @@ impl Strange {
         }
     }
 
-    /// A member speaks from there: what came from there is strange no more.
+    /// A member speaks from there: what came from there is no longer strange.
     pub(crate) fn take_out(&mut self, origin: Origin)
         ensures { self.new ≡ without_origin origin self.old }
     {
@@ -172,7 +172,7 @@ fn is_given_by(given: &Given, origin: Origin) -> bool
     }
 }
 
-/// One cell in so many, and 16 at least.
+/// One cell in `part`, and 16 at least.
 fn share_of(cells: u32, part: u32) -> usize
     requires { 0 < part }
     ensures { result ≡ share_of cells part }

@@ -14,7 +14,7 @@ pub enum Why {
     Speaks,
     /// Too many new numbers speak.
     Crowd,
-    /// It tells a mark of ours that nobody draws up to.
+    /// It has a mark of ours that nobody draws up to.
     Mark,
     /// An origin that is not known asks for what is not held.
     Stranger,
@@ -28,8 +28,8 @@ pub enum Why {
     Full,
     /// Its origin, or all that are not known, gave as much as is taken.
     Share,
-    /// No known origin gave it, and it would be on a page more, or of a source more on a page, than
-    /// theirs may be.
+    /// No known origin gave it, and it would add a page, or a source on a page, beyond what
+    /// strangers may have.
     Pages,
 }
 
@@ -38,7 +38,7 @@ pub enum Why {
 pub enum Warning {
     /// Another owner speaks under this number.
     Impostor(u32),
-    /// A mark of ours is told that we did not draw up to.
+    /// Somebody reports a mark of ours that we did not draw up to.
     ForgedMark,
     /// Somebody has our number too.
     Twin,

@@ -1,4 +1,4 @@
--- A host that keeps itself sets and backs off timers by distances that are not below 10 milliseconds, and time does not go back.
+-- A self-managing host sets and backs off timers by distances that are not below 10 milliseconds, and time does not go back.
 use Rattle.std.proofs.Common.{◌≡◌, ℕ, ◌+◌, ◌*◌, ◌/◌, ◌≤◌, Bool, true, false, cond, List, [], ◌∷◌, ◌++◌, ◌∙◌, Option, Some, None, ap, arith, map, refl, subst, sym}
 use Rattle.std.specs.Prelude.{◌&&◌, IfSome, nat_eq, nat_le, take, unwrap_or, max, min}
 use Rattle.std.specs.List.{find}
@@ -170,7 +170,7 @@ module _ (sender sent : ℕ) (page : PageId) (marks : List MarkValue) (echoes : 
   abbrev next : Opened
   next = after_line (Hears v) k.host
 
-  -- the distance to the sender is the one that is told, and any other as it was
+  -- the distance to the sender is the one that its echo tells, and any other as it was
   heard_delay : (source : ℕ) (b : Bool) → nat_eq sender source ≡ b → IfSome (cond b told None) (λ micros. 10000 ≤ micros) → 10000 ≤ delay next source
   heard_delay source b same long = either_host (λ (h : Opened). 10000 ≤ delay h source) (has_room_for v k.host) (heard v k.host) k.host
       (subst (λ (own : Bool). Is own (nat_eq sender source) (distance_by (present k.host) (find (λ e. nat_eq e.source me) echo))) (sym other)

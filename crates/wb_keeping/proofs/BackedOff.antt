@@ -104,7 +104,7 @@ got_long now delay s is = by (is_standing s) where
   by true = tt
   by false = is
 
--- ---- calls by which no delay below 10 milliseconds comes in
+-- ---- calls that bring in no delay below 10 milliseconds
 
 abbrev pub IsSpaced : Event → Type 0
 IsSpaced (Notice name now delay word) = 10000 ≤ delay

@@ -40,7 +40,7 @@ module _ (P : Line → Type 0) where
   choose true x y p q = p
   choose false x y p q = q
 
-  -- ---- the lines by which a name is wanted
+  -- ---- the lines for a name that is wanted
 
   pub one_each : ((name : NameValue) → P (Stops name)) → (o : Option AskedName) → Each P (stops_one o)
   one_each stops None = tt
@@ -76,7 +76,7 @@ module _ (P : Line → Type 0) where
 
 -- ---- transitions
 
--- of each line but those by which time goes on, something comes in, constants change, or its user draws
+-- of each line but those with which time goes on, something comes in, constants change, or its user draws
 pub record OfPolicy (P : Line → Type 0) : Type 0 where
   pub asks : (name : NameValue) → P (Asks name)
   pub stops : (name : NameValue) → P (Stops name)

@@ -39,7 +39,7 @@ turns_are_taken see p = turn_to_turns (hole_after (see []).held p.turns.page p.t
 
 -- ---- turns, one after the other
 
--- the turns stand behind a hole, in a round
+-- the turns stand after a hole, in a round
 abbrev behind : ℕ → Hole → Turns
 behind round h = record { page = h.page; source = h.gap.source; number = h.gap.last; round = round }
 
@@ -50,7 +50,7 @@ module _ (held : List DrawopValue) (d : Hole) where
   abbrev at : ℕ → Hole
   at i = get_or holes i d
 
-  -- after so many turns, the next one is of a hole, in a round
+  -- after `count` turns, the next one is of a hole, in a round
   record Visits (t : Turns) (count round i : ℕ) : Type 0 where
     within : i < length holes
     hole : hole_in_turn held (after_turns held count t) ≡ Some (at i)
@@ -236,7 +236,7 @@ each_hole_has_its_turn held t hole (i, lt, e) =
     let s = soon held hole t i lt in
     (s.count, s.few, s.visits.hole ∙ ap Some e)
 
--- of so many numbers, each comes behind any one, counted in a circle
+-- of `numbers` numbers, each comes after any one, counted in a circle
 record Comes (from numbers wanted : ℕ) : Type 0 where
   more : ℕ
   few : more < numbers
@@ -265,7 +265,7 @@ comes : (from numbers wanted : ℕ) → wanted < numbers → Comes from numbers 
 comes zero numbers wanted lt = record { more = wanted; few = lt; is = ap (λ (n : ℕ). n % numbers) (omega arith) ∙ mod-eq_of_lt lt }
 comes (suc from) numbers wanted lt = let before = comes from numbers wanted lt in one_later from numbers wanted before.more before.few before.is
 
--- the product of at most so many
+-- a count of turns is below the product of these bounds
 few_turns : (count holes more numbers : ℕ) → count < holes → more + 1 ≤ 2 * numbers → more * holes + count < 2 * numbers * holes
 few_turns count holes more numbers one le =
     let most = mul-le-mul_right holes le in

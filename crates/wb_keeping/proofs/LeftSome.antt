@@ -1,4 +1,4 @@
--- What is left of transitions in the middle of which memory was refused.
+-- What is left of transitions in the middle of which an allocation failed.
 use Rattle.std.proofs.Common.{◌≡◌, ℕ, zero, suc, ◌+◌, ◌<◌, Bool, true, false, List, [], ◌∷◌, ◌++◌, ap, drop, get_or, length, refl, subst, sym}
 use Rattle.std.specs.Prelude.{Result, Ok, Err, OnErr, take}
 use Rattle.wb_names.specs.Values.{NameValue}

@@ -1,4 +1,4 @@
--- The lines by which a distance is lent for a line, as they are performed one after the other.
+-- The lines that lend a distance for a line, as they are performed one after the other.
 use Rattle.std.proofs.Common.{◌≡◌, ℕ, Bool, true, false, cond, List, [], ◌∷◌, ◌++◌, ◌∙◌, Option, Some, None, ap, refl, sym}
 use Rattle.std.specs.Prelude.{nat_eq}
 use Rattle.wb_names.specs.Values.{NameValue}

@@ -1,4 +1,4 @@
--- Page states that are told one after the other.
+-- Page states that a host says one after the other.
 use Rattle.std.proofs.Common.{◌≡◌, List, [], ◌∷◌, ap, map, refl}
 use Rattle.wb_codec.specs.declared.datagram.Datagram.{Datagram}
 use Rattle.wb_member.specs.Opened.{Opened}

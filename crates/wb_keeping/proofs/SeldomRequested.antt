@@ -24,7 +24,7 @@ count_both n one other =
     ap (λ (sent : List Datagram). length sent) (filter-append (requests n) one other)
     ∙ length-append (filter (requests n) one) (filter (requests n) other)
 
--- from the first of so many requests to the last it is so long at least
+-- from the first of `times` requests to the last it is at least this long
 abbrev passed : ℕ → ℕ
 passed times = (2 ^ times - 2) * 10000
 
@@ -51,7 +51,7 @@ module _ (n : NameValue) (begin end : ℕ) (short : end ≤ begin + 600000000) w
       (λ (e : new ≡ None). subst (IsAfter times) (sym e) tt)
       rests
 
-  -- it is backed off, to a level that is no lower than so many times
+  -- it is backed off, to a level that is no lower than `times`
   backed_after : (times now : ℕ) (old new : Option AskTimer) (b : Backs now old new) → begin + passed times ≤ now → times ≤ min (b.x.level + 1) 16 → IsAfter times new
   backed_after times now old new b late le =
       let level = b.level in

@@ -35,9 +35,9 @@ use Rattle.wb_keeping.specs.Performing.{after_line, after_lines, said_where, sen
 use Rattle.wb_keeping.proofs.StandingTimers.{answers_in, drawn_requests, heard_requests}
 use Rattle.wb_keeping.proofs.BackedOff.{AreSpaced, Backs, IsLong, Rests, asked_backs, fired_backs, receipts_rest, spaced_constants, spaced_long, spaced_receipts}
 
--- ---- lines by which no delay below 10 milliseconds comes to a timer
+-- ---- lines that bring no delay below 10 milliseconds to a timer
 
--- Time does not go back. Where a timer is set or may be backed off, the distance is not below 10 milliseconds.
+-- Time does not go back. If a timer is set or may be backed off, the distance is not below 10 milliseconds.
 abbrev pub IsApt : Line → Opened → Type 0
 IsApt (Ticks now) host = present host ≤ now
 IsApt (Arrives d) host = Unit {0}
@@ -168,7 +168,7 @@ module _ (n : NameValue) where
   fewer (AskPages asker ∷ sent) = fewer sent
   fewer (PageState sender page marks ∷ sent) = fewer sent
 
-  -- where nothing is requested, the name is not
+  -- if nothing is requested, the name is not
   none_for : (sent : List Datagram) → length (filter is_request sent) ≡ 0 → request_count n sent ≡ 0
   none_for sent none = let le = fewer sent in omega (arith, le, none)
 

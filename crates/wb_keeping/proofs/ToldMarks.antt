@@ -1,4 +1,4 @@
--- Each mark of a board is told, page by page, and of a page 64 at a time.
+-- Reports tell each mark of a board, page by page, and of a page 64 at a time.
 use Rattle.std.proofs.Common.{◌≡◌, ℕ, zero, suc, ◌+◌, ◌-◌, ◌*◌, ◌≤◌, ◌<◌, Bool, true, false, cond, List, [], ◌∷◌, ◌∙◌, Option, Some, None, ap, arith, drop, filter, get_or, inl, inr, length, map, max, refl, subst, sym, true≢false, ⊎_elim}
 use Rattle.std.specs.Prelude.{◌⊎◌, ◌/◌, Contains, nat_le, nat_lt, take, unwrap_or}
 use Rattle.std.specs.List.{AllByRecursion, find, sum_by}
@@ -73,7 +73,7 @@ report_ascends history page = ascend_of (λ m. nat_lt 0 m.high) (map (top_mark h
 
 -- ---- what is left behind a slice
 
--- each is above what was told
+-- each is above the last source before
 abbrev IsLeft : Option ℕ → List MarkValue → Type 0
 IsLeft told [] = Unit {0}
 IsLeft told (m ∷ marks) = (is_untold told m.source ≡ true) × IsLeft (Some m.source) marks
@@ -94,7 +94,7 @@ left_of told (m ∷ marks) all = by (is_untold told m.source) refl (left_of told
   by true e later = (e, left_above m.source rest (above_of (λ m. is_untold told m.source) m.source marks all.0) (ascend_of (λ m. is_untold told m.source) marks all.1))
   by false e later = later
 
--- the last source of some marks that are left is not below what was told
+-- the last source of some marks that are left is not below the last before
 no_lower : (told : Option ℕ) (marks : List MarkValue) (n : ℕ) → IsLeft told marks → is_untold (last_source told marks) n ≡ true → is_untold told n ≡ true
 no_lower told [] n left untold = untold
 no_lower told (m ∷ marks) n left untold = higher told m.source n left.0 (no_lower (Some m.source) marks n left.1 untold) where
@@ -143,7 +143,7 @@ filter_both p q less (m ∷ marks) = by (p m) (q m) refl refl (filter_both p q l
   by false true e f rest = absurd (true≢false (sym (less m f) ∙ e))
   by false false e f rest = rest
 
--- what is left of a report, once a slice of what was left is told
+-- what is left of a report, after a slice of what was left
 behind_slice : (told : Option ℕ) (report rest : List MarkValue) → Ascend report → rest ≡ filter (λ m. is_untold told m.source) report → ((rest ≡ []) → told ≡ None)
     → filter (λ m. is_untold (last_source None (take 64 rest)) m.source) report ≡ drop 64 rest
 behind_slice told report [] all e none =
@@ -224,7 +224,7 @@ module _ (held : List DrawopValue) (t : Told) where
   abbrev going : ℕ → Bool
   going count = is_telling (at count).until (at count).last
 
-  -- after so many, the next one tells the first of these marks of a page
+  -- after `count` reports, the next one tells the first of these marks of a page
   record Tells (count : ℕ) (page : PageId) (rest : List MarkValue) : Type 0 where
     page_is : page_in_turn held (at count) ≡ page
     marks_are : marks_in_turn held (at count) ≡ take 64 rest
@@ -277,7 +277,7 @@ module _ (held : List DrawopValue) (t : Told) where
     by true = ap (take 64) e
     by false = refl
 
-  -- the marks that are told are the first of what is left of the page, and the others are left then
+  -- a report tells the first marks of what is left of the page, and the others are left then
   told_on : (count : ℕ) (m : MarkValue) (rest : List MarkValue) → left_to_tell held (at count) ≡ m ∷ rest → ((at (suc count)).page ≡ (at count).page) × (left_at (suc count) ≡ drop 64 (left_at count))
   told_on count m rest e = (page_on count m rest e, left) where
     none_some : [] ≡ m ∷ rest → ⊥
@@ -363,7 +363,7 @@ module _ (held : List DrawopValue) (t : Told) where
           empty : (n count : ℕ) → n < 1 → suc 0 + count ≡ max 1 ((n + 63) / 64) + count
           empty n count none = omega (arith, none)
 
-  -- a mark of what is left is told
+  -- a report tells a mark of what is left
   told_in : (k count j : ℕ) (page : PageId) (rest : List MarkValue) (d : MarkValue) → k * 64 ≤ j → j < suc k * 64 → j < length rest → Tells count page rest
       → (page_in_turn held (at (k + count)) ≡ page) × Contains (marks_in_turn held (at (k + count))) (get_or rest j d)
   told_in zero count j page rest d low high lt s =
@@ -388,7 +388,7 @@ module _ (held : List DrawopValue) (t : Told) where
     abbrev page_at : ℕ → PageId
     page_at i = get_or pages i d
 
-    -- after so many reports, a page begins
+    -- after `count` reports, a page begins
     record Begins (count i : ℕ) : Type 0 where
       within : i < length pages
       tells : Tells count (page_at i) (report_of held (page_at i))
@@ -419,7 +419,7 @@ module _ (held : List DrawopValue) (t : Told) where
     then_page : (count i j : ℕ) → page_after (page_at i) pages ≡ page_at j → j < length pages → Begins count i → Begins (slices_on held (page_at i) + count) j
     then_page count i j e lt b = record { within = lt; tells = subst (λ (p : PageId). Tells (slices_on held (page_at i) + count) p (report_of held p)) e (page_ends count (page_at i) (report_of held (page_at i)) b.tells) }
 
-    -- so many pages further
+    -- `more` pages further
     record Further (count i more : ℕ) : Type 0 where
       there : ℕ
       begins : Begins there (more + i)
@@ -467,7 +467,7 @@ module _ (held : List DrawopValue) (t : Told) where
 
     -- ---- a mark
 
-    -- of a page that begins after so many, within as many more as it has slices
+    -- one of the first `most` reports tells the mark of the page
     record IsToldIn (page : PageId) (m : MarkValue) (most : ℕ) : Type 0 where
       count : ℕ
       few : count < most
@@ -499,7 +499,7 @@ module _ (held : List DrawopValue) (t : Told) where
       on true e rest = let le = rest (leb-true _ _ e) in let more = before_more i (omega (arith, within)) in omega (arith, le, more)
       on false e rest = let no = leb-false _ _ e in at_last (omega (arith, no, less))
 
-    -- from a page that begins, each mark of each page is told before all have begun once
+    -- from a page that begins, reports tell each mark of each page before all have begun once
     told_from : (count i j : ℕ) (m : MarkValue) → j < length pages → Contains (report_of held (page_at j)) m → Begins count i → IsToldIn (page_at j) m (slices_of held + count)
     told_from count i j m lt there b = by (nat_le i j) refl where
       by : (o : Bool) → nat_le i j ≡ o → IsToldIn (page_at j) m (slices_of held + count)
@@ -540,7 +540,7 @@ module _ (held : List DrawopValue) (t : Told) where
       begins = λ page is. subst (λ (p : PageId). Tells count p (report_of held p)) (ap (λ (p : PageId). page_after p pages) same ∙ sym is) (goes_over count e);
     }
 
-    -- what is left of the page is told by as many reports as it has slices, or fewer
+    -- as many reports as the page has slices, or fewer, tell what is left of it
     finish : (slices count : ℕ) → length (left_at count) ≤ slices * 64 → (at count).page ≡ t.page → count + slices ≤ slices_on held t.page → Soon
     finish zero count few same le = begins_at count (none_left count (empty (left_at count) few)) same (omega (arith, le)) where
       empty : (marks : List MarkValue) → length marks ≤ 0 → marks ≡ []

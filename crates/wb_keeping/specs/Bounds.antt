@@ -1,4 +1,4 @@
--- Bounds on what a host that keeps itself asks for and says, whatever comes in.
+-- Bounds on what a self-managing host asks for and says, whatever comes in.
 use Rattle.std.specs.Prelude.{◌≡◌, ℕ, ◌+◌, ◌-◌, ◌*◌, ◌≤◌, Bool, true, false, not, ◌&&◌, List, [], ◌∷◌, ◌++◌, Contains, filter, length, map, take, if◌then◌else◌}
 use Rattle.wb_names.specs.Orders.{same_name}
 use Rattle.wb_names.specs.Values.{NameValue}
@@ -75,12 +75,12 @@ is_ask line = false
 abbrev pub ask_count : List Line → ℕ
 ask_count lines = length (filter is_ask lines)
 
--- a drawop comes by a line that is not held yet, and was asked for
+-- a line brings a drawop that is not held yet, and was asked for
 abbrev pub is_answer : Line → Opened → Bool
 is_answer (Arrives d) host = not (holds (view_of host) d.name) && is_asked (view_of host) d.name
 is_answer line host = false
 
--- how many such drawops come by some lines
+-- how many such drawops some lines bring
 abbrev pub answer_count : List Line → Opened → ℕ
 answer_count [] host = 0
 answer_count (line ∷ lines) host = (if is_answer line host then 1 else 0) + answer_count lines (after_line line host)

@@ -1,11 +1,11 @@
 -- Which distances a host believes, and which it takes for one that it does not know.
 use Rattle.std.specs.Prelude.{ℕ, ◌+◌, ◌*◌, ◌/◌, max, min, nat_eq, if◌then◌else◌}
 
--- the distance to who told none
+-- the distance to a source that told none
 abbrev pub unknown : ℕ
 unknown = 100000
 
--- Who told a distance is known: it is not that of who told none.
+-- A source that told a distance is known: its distance is never the unknown one.
 abbrev pub known : ℕ → ℕ
 known micros = if nat_eq micros unknown then unknown + 1 else micros
 
@@ -13,7 +13,7 @@ known micros = if nat_eq micros unknown then unknown + 1 else micros
 abbrev pub bounded : ℕ → ℕ
 bounded micros = known (min (max micros 10000) 1000000)
 
--- the usual distance at first, that of a session in one town; and once one more was told: an eighth of the way to it
+-- the usual distance at first, that of a session in one town; and once one more was heard: an eighth of the way to it
 abbrev pub first_usual : ℕ
 first_usual = 20000
 

@@ -8,7 +8,7 @@ use Rattle.wb_names.specs.declared.name.PageId.{PageId}
 abbrev pub is_near : PageId → ℕ → DrawopValue → Bool
 is_near page time d = same_page d.name.page page && nat_lt d.time (time + 172800000000)
 
--- one more than the greatest of some times, or 0 where there is none
+-- one more than the greatest of some times, or 0 if there is none
 abbrev pub after_all : List ℕ → ℕ
 after_all [] = 0
 after_all (time ∷ times) = max (time + 1) (after_all times)

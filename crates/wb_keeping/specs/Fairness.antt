@@ -1,4 +1,4 @@
--- Whose turn it is, and what is told, one after the other, where what is held stays as it is.
+-- Whose turn it is, and what reports tell, one after the other, if what is held stays as it is.
 use Rattle.std.specs.Prelude.{◌≡◌, ◌⊎◌, ℕ, zero, suc, ◌+◌, ◌-◌, ◌*◌, ◌/◌, ◌^◌, ◌<◌, ◌≤◌, Bool, false, true, List, [], ◌∷◌, Option, Some, None, Contains, filter, is_some, length, max, ◌||◌}
 use Rattle.std.specs.List.{sum_by}
 use Rattle.std.specs.Option.{option_map, option_or}
@@ -22,7 +22,7 @@ use Rattle.wb_keeping.specs.declared.turns.Turns.{Turns}
 
 -- ---- holes
 
--- the hole whose turn it is, if there is one: the next behind the last turn, or the first of all in another round
+-- the hole whose turn it is, if there is one: the next after the last turn, or the first of all in another round
 abbrev pub hole_in_turn : List DrawopValue → Turns → Option Hole
 hole_in_turn held t = option_or (hole_after held t.page t.source t.number) (hole_after held nowhere 0 0)
 
@@ -39,7 +39,7 @@ after_turn held t = led_to (hole_after held t.page t.source t.number) (hole_afte
 abbrev pub name_in_turn : List DrawopValue → Turns → Option NameValue
 name_in_turn held t = option_map (name_in (after_turn held t).round) (hole_in_turn held t)
 
--- where they stand after so many
+-- where they stand after `count` turns
 abbrev pub after_turns : List DrawopValue → ℕ → Turns → Turns
 after_turns held zero t = t
 after_turns held (suc count) t = after_turn held (after_turns held count t)
@@ -62,7 +62,7 @@ EachNumberHasItsTurn = (held : List DrawopValue) (t : Turns) (hole : Hole) (numb
 
 -- ---- marks
 
--- the page that was told last, its last source that was told, and the last that it had when its telling began
+-- the page of the last report, the last source in it, and the last that the page had when its telling began
 pub record Told : Type 0 where
   pub page : PageId
   pub last : Option ℕ
@@ -77,7 +77,7 @@ abbrev pub where_left : {X : Type 0} → List MarkValue → X → X → X
 where_left [] none some = none
 where_left (m ∷ marks) none some = some
 
--- the page that is told next, and which of its marks: what is left of the telling, or the next page
+-- the page of the next report, and which of its marks: what is left of the telling, or the next page
 abbrev pub page_in_turn : List DrawopValue → Told → PageId
 page_in_turn held t = where_left (left_to_tell held t) (page_after t.page (pages_of held)) t.page
 
@@ -102,20 +102,20 @@ ReportsTell = (see : List Line → View) (p : Policy)
     ((reports see p).lines ≡ Says (Session v.me v.now (page_in_turn v.held t) (marks_in_turn v.held t) (last_heard v.echoes)) ∷ [])
     × ((reports see p).policy.told_page ≡ (after_telling v.held t).page) × ((reports see p).policy.told ≡ (after_telling v.held t).last) × ((reports see p).policy.until ≡ (after_telling v.held t).until)
 
--- so many slices of at most 64 marks a page has, and at least one
+-- how many slices of at most 64 marks a page has, at least one
 abbrev pub slices_on : List DrawopValue → PageId → ℕ
 slices_on held page = max 1 ((length (report_of held page) + 63) / 64)
 
--- and so many a board has
+-- and how many a board has
 abbrev pub slices_of : List DrawopValue → ℕ
 slices_of held = sum_by (slices_on held) (pages_of held)
 
--- Each mark of a board of S slices is told among each S reports and as many more as the page that was told last has slices.
+-- Each mark of a board of S slices is among each S reports and as many more as the page of the last one has slices.
 abbrev pub EachMarkIsTold : Type 0
 EachMarkIsTold = (held : List DrawopValue) (t : Told) (page : PageId) (m : MarkValue) → Contains (pages_of held) page → Contains (report_of held page) m
     → (count : ℕ) × (count < slices_of held + slices_on held t.page) × (page_in_turn held (after_tellings held count t) ≡ page) × Contains (marks_in_turn held (after_tellings held count t)) m
 
--- While the telling of a page goes on, whatever the board has become meanwhile: a report tells of that page sources above those that were told, and 64
+-- While the telling of a page goes on, whatever the board has become meanwhile: a report tells of that page sources above those before, and 64
 -- of them or all that there are. So a telling tells no source twice, and each of its reports but the last tells 64.
 pub record GoesOnTelling (held : List DrawopValue) (t : Told) : Type 0 where
   pub page : page_in_turn held t ≡ t.page

@@ -1,4 +1,4 @@
--- A host that keeps itself whole: what it does for a datagram that comes, as time goes on, and for a drawing. Each is a list of lines
+-- A self-managing host as a whole: what it does for a datagram that comes, as time goes on, and for a drawing. Each is a list of lines
 -- that a host performs, one after the other. So a kept host is a host whose driver hands in these lines.
 use Rattle.std.specs.Prelude.{ℕ, zero, suc, ◌+◌, ◌-◌, ◌*◌, Bool, true, false, not, ◌&&◌, ◌||◌, List, [], ◌∷◌, ◌++◌, Option, Some, None, filter, length, map, max, min, nat_eq, nat_le, nat_lt, take, unwrap_or, if◌then◌else◌}
 use Rattle.std.specs.List.{count_by}
@@ -30,7 +30,7 @@ pub record Doing : Type 0 where
   pub policy : Policy
   pub lines : List Line
 
--- the lines that give a name up, where there is one
+-- the lines that give a name up, if there is one
 abbrev pub stops_one : Option AskedName → List Line
 stops_one None = []
 stops_one (Some a) = Stops a.name ∷ []
@@ -50,7 +50,7 @@ own_marks me listens marks = filter (λ m. nat_eq m.source me && (listens && nat
 abbrev pub own_echo : ℕ → List Echo → List Echo
 own_echo me echoes = filter (λ e. nat_eq e.source me) echoes
 
--- the distance that an echo of this member tells, where it tells one
+-- the distance that an echo of this member tells, if it tells one
 abbrev pub distance_in : ℕ → List Echo → Option ℕ
 distance_in now [] = None
 distance_in now (e ∷ echoes) = distance_of e.sent e.held now
@@ -66,7 +66,7 @@ heard_later e f = is_lt (ordering_then (nat_cmp e.held f.held) (nat_cmp e.source
 abbrev pub last_heard : List Echo → List Echo
 last_heard echoes = filter (λ e. nat_lt (count_by (λ f. heard_later f e) echoes) 32) echoes
 
--- so many numbers, from one down
+-- `count` numbers, from n down
 abbrev pub downwards : ℕ → ℕ → List ℕ
 downwards n zero = []
 downwards n (suc count) = n ∷ downwards (n - 1) count
@@ -80,7 +80,7 @@ near_names name top =
 
 -- ---- transitions
 
--- What a policy does where its host shows this after such lines: at once, after none.
+-- What a policy does if its host shows this after such lines: at once, after none.
 abbrev pub Transition : Type 0
 Transition = (List Line → View) → Policy → Doing
 
@@ -97,7 +97,7 @@ and_then first second see p =
     let two = second (λ lines. see (one.lines ++ lines)) one.policy in
     record { policy = two.policy; lines = one.lines ++ two.lines }
 
--- A name is wanted. Its timer may start anew, where somebody says that he holds it or it has its turn.
+-- A name is wanted. Its timer may start anew if somebody says that he holds it or it has its turn.
 abbrev pub want : NameValue → Bool → Transition
 want name anew see p =
     let v = see [] in
@@ -105,7 +105,7 @@ want name anew see p =
     then record { policy = after_wanting v.now p; lines = room_lines name v ++ lending name.source (v.distance name.source) p.usual (Asks name) }
     else still see p
 
--- who reports a number holds it
+-- whoever reports a number holds it
 abbrev pub want_told : List NameValue → Transition
 want_told [] = still
 want_told (name ∷ names) = and_then (want name true) (want_told names)
@@ -143,7 +143,7 @@ end see p = record { policy = p; lines = map (λ a. Stops a.name) (see []).asked
 abbrev pub paid_for : Bool → Policy → Policy
 paid_for was_asked p = if was_asked then after_came p else p
 
--- A drawop is new: its neighbours are wanted, and where none is missing, another hole has its turn in its place.
+-- A drawop is new: its neighbours are wanted, and if none is missing, another hole has its turn instead.
 abbrev pub learned : NameValue → Bool → Transition
 learned name was_asked see p =
     let v = see [] in
@@ -176,7 +176,7 @@ abbrev pub last_source : Option ℕ → List MarkValue → Option ℕ
 last_source told [] = told
 last_source told (m ∷ marks) = last_source (Some m.source) marks
 
--- where the telling of a page ends that has these marks
+-- the source at which the telling of a page with these marks ends
 abbrev pub until_in : List MarkValue → ℕ
 until_in marks = unwrap_or (last_source None marks) 0
 
@@ -198,7 +198,7 @@ reports_next see p =
     let marks = report_of v.held page in
     reports_page page (until_in marks) (slice_after None marks) see p
 
--- the rest of the page that is told, or the next page
+-- the rest of the page of the last report, or the next page
 abbrev pub reports_rest : List MarkValue → Transition
 reports_rest [] see p = reports_next see p
 reports_rest (m ∷ marks) see p = reports_page p.told_page p.until (m ∷ marks) see p
@@ -245,7 +245,7 @@ hears_state sender page marks see p =
     let own = own_marks v.me (nat_lt v.now p.ready) marks in
     and_then (hears_some sender page own) (want_told (told_names v.me page marks)) see (after_state v.now p)
 
--- Of a name that is held the distance to the asker counts, and of another that to its source.
+-- For a name that is held the distance to the asker counts, and for another that to its source.
 abbrev pub hears_request : ℕ → NameValue → Transition
 hears_request asker name see p =
     let v = see [] in
@@ -259,7 +259,7 @@ takes_question see p =
     then still see (after_taking_up v.now p)
     else still see p
 
--- of what names this member as its sender, nothing
+-- nothing, for what names this member as its sender
 abbrev pub of_other : ℕ → Transition → Transition
 of_other sender does see p = if nat_eq sender (see []).me then still see p else does see p
 

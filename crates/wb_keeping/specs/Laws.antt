@@ -46,7 +46,7 @@ comes_in [] = 0
 comes_in (Asks now ∷ before) = comes_in before
 comes_in (Comes ∷ before) = comes_in before + 1
 
--- names were asked for from one moment to another, each where there was credit
+-- names were asked for from one moment to another, each when there was credit
 abbrev pub IsSpent : ℕ → ℕ → ℕ → List Spending → Type 0
 IsSpent owed start end [] = start ≤ end
 IsSpent owed start end (Asks now ∷ before) = (now ≤ end) × IsTrue (has_credit (owed_after owed before) now) × IsSpent owed start now before
@@ -58,17 +58,17 @@ FewAreAsked = (owed start end : ℕ) (spending : List Spending) → IsSpent owed
 
 -- ---- a kept host
 
--- what comes in is first of all a moment, as where a driver ticks before each line
+-- what comes in is first of all a moment, as when a driver ticks before each line
 abbrev pub TimeComesFirst : Type 0
 TimeComesFirst = (now : ℕ) (v : Datagram) (see : List Line → View) (p : Policy) → (later : List Line) × ((came now v see p).lines ≡ Ticks now ∷ later)
 
--- Where neither an answer nor a question nor a report is due, time goes on as at a host that its driver drives, and the policy stays.
+-- If neither an answer nor a question nor a report is due, time goes on as at a host that its driver drives, and the policy stays.
 abbrev pub NothingIsDue : Type 0
 NothingIsDue = (now : ℕ) (see : List Line → View) (p : Policy)
     → is_due (see (Ticks now ∷ [])).now p.questions.answer ≡ false → is_due (see (Ticks now ∷ [])).now p.questions.ask ≡ false → nat_le p.reports.due (see (Ticks now ∷ [])).now ≡ false
     → ticks now see p ≡ record { policy = p; lines = Ticks now ∷ [] }
 
--- What is wanted is asked for only where it is not held and there is credit for it, and then it costs; else nothing is done.
+-- What is wanted is asked for only if it is not held and there is credit for it, and then it costs; else nothing is done.
 abbrev pub WantedIsPaid : Type 0
 WantedIsPaid = (name : NameValue) (anew : Bool) (see : List Line → View) (p : Policy)
     → (want name anew see p ≡ still see p) ⊎ (IsTrue (is_paid (anew || is_known (see []) name.source) p.owed (see []).now) × (holds (see []) name ≡ false) × ((want name anew see p).policy ≡ after_wanting (see []).now p))
@@ -121,13 +121,13 @@ abbrev pub KeptHostsAreHosts : Type 0
 KeptHostsAreHosts = (lines : List KeptLine) (k : Keeping)
     → ((after_kept lines k).host ≡ after_lines (expand lines k) k.host) × (sent_by_kept lines k ≡ sent_by_lines (expand lines k) k.host)
 
--- Whatever comes in, a member that keeps itself from its opening on, but for ticks, has a number left on each page.
+-- Whatever comes in, a member that is self-managing from its opening on, but for ticks, has a number left on each page.
 abbrev pub ANumberIsLeft : Type 0
 ANumberIsLeft = (constants : Tuning) (number cells seed : ℕ) (moments : List ℕ) (policy : Policy) (lines : List KeptLine)
     → let start : Keeping = record { host = after_lines (map Ticks moments) (opened_with constants number cells seed); policy = policy } in
     cells ≤ MAX_CELLS → AreTaken lines start → (page : PageId) → last_number page (after_kept lines start).host < 4294967295
 
--- So a drawing is refused before the present moment, while the member listens, and where its operation is none of a drawop under the
+-- So a drawing is refused before the present moment, while the member listens, and if its operation is none of a drawop under the
 -- next number, and at no other time.
 abbrev pub DrawingIsNotLocked : Type 0
 DrawingIsNotLocked = (now : ℕ) (page : PageId) (time : ℕ) (op : Op) (k : Keeping)

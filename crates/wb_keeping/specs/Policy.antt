@@ -90,7 +90,7 @@ after_answer now p = record p { questions = answered_at now p.questions }
 abbrev pub after_state : ℕ → Policy → Policy
 after_state now p = record p { questions = heard_at now p.questions }
 
--- It reported a page up to a source, and its telling goes on until another: so many bytes, among so many members.
+-- It reported a page up to a source, and its telling goes on until another: `bytes` bytes, among `members` members.
 abbrev pub after_report : ℕ → PageId → Option ℕ → ℕ → ℕ → ℕ → Policy → Policy
 after_report now page last until members bytes p =
     let mean = mean_time p.reports.rate members bytes in
@@ -127,7 +127,7 @@ is_full v = nat_le v.cells (length v.held)
 abbrev pub is_known : View → ℕ → Bool
 is_known v source = not (nat_eq (v.distance source) unknown)
 
--- how often the request timer of a name was backed off, where one stands
+-- how often the request timer of a name was backed off, if one stands
 abbrev pub level : View → NameValue → Option ℕ
 level v name = option_map (λ a. a.level) (find (λ a. same_name a.name name) v.asked)
 

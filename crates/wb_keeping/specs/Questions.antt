@@ -15,7 +15,7 @@ opened_at now drawn = record { ask = Some (now + drawn); wait = 1000000; answer 
 abbrev pub asked_at : ℕ → ℕ → Questions → Questions
 asked_at now drawn q = record q { ask = Some (now + q.wait / 2 + drawn); wait = min (2 * q.wait) 64000000 }
 
--- Another member asks: who holds something answers within half a second, unless it is to answer already, or somebody
+-- Another member asks: whoever holds something answers within half a second, unless it is to answer already, or somebody
 -- answered within the last second.
 abbrev pub is_to_answer : ℕ → Bool → Questions → Bool
 is_to_answer now holds q = holds && is_none q.answer && nat_le q.quiet now

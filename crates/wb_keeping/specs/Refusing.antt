@@ -1,4 +1,4 @@
--- Why a member that keeps itself refuses a call, and what became of the drawop of one.
+-- Why a self-managing member refuses a call, and what became of the drawop of one.
 use Rattle.std.specs.Prelude.{◌≡◌, ℕ, Bool, false, not, ◌&&◌, [], ◌∷◌, Option, Some, None, Result, Ok, Err, nat_eq, nat_le, nat_lt}
 use Rattle.std.specs.Option.{option_map}
 use Rattle.wb_names.specs.Arrivals.{Outcome, Left}
@@ -54,7 +54,7 @@ drawing_fault page time op k = first_of (
 abbrev pub add_fault : ℕ → PageId → ℕ → Op → Keeping → Option KeptFault
 add_fault now page time op k = first_of (waits_fault now k ∷ drawing_fault page time op k ∷ [])
 
--- The result is the fault, or where there is none an answer, unless memory ran out.
+-- The result is the fault, or an answer if there is none, unless memory ran out.
 abbrev pub IsRefusedBy : {X : Type 0} → Option KeptFault → Result X KeptFault → Type 0
 IsRefusedBy (Some fault) result = result ≡ Err fault
 IsRefusedBy None (Ok x) = Unit {0}
@@ -62,7 +62,7 @@ IsRefusedBy None (Err fault) = fault ≡ Host Memory
 
 -- ---- what became of a drawop
 
--- of the one that came, where the datagram is one
+-- of the one that came, if the datagram is one
 abbrev pub came_as : Datagram → Opened → Outcome
 came_as (Draw d) host = becomes d host
 came_as (Session sender sent page marks echoes) host = Left

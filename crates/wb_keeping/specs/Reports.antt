@@ -9,7 +9,7 @@ use Rattle.wb_names.specs.declared.echo.Echo.{Echo}
 use Rattle.wb_names.specs.declared.name.PageId.{PageId}
 use Rattle.wb_keeping.specs.Turns.{nowhere}
 
--- The mean time between two reports, by which those of all members together take so many bytes a second: from 2 to 64 seconds.
+-- The mean time between two reports, so that those of all members together take `rate` bytes a second: from 2 to 64 seconds.
 abbrev pub mean_time : ℕ → ℕ → ℕ → ℕ
 mean_time rate members bytes = min (max (members * bytes * 1000000 / rate) 2000000) 64000000
 
@@ -23,7 +23,7 @@ next_report now mean drawn = now + mean / 2 + drawn
 
 -- ---- slices
 
--- a source above one that was told, where one was
+-- a source above the last of earlier slices, if there is one
 abbrev pub is_untold : Option ℕ → ℕ → Bool
 is_untold None source = true
 is_untold (Some told) source = nat_lt told source
@@ -32,12 +32,12 @@ is_untold (Some told) source = nat_lt told source
 abbrev pub slice_after : Option ℕ → List MarkValue → List MarkValue
 slice_after told marks = take 64 (filter (λ m. is_untold told m.source) marks)
 
--- The telling of a page goes on until the source is told that was its last when it began, whatever has come since.
+-- The telling of a page goes on up to the source that was its last when it began, whatever has come since.
 abbrev pub is_telling : ℕ → Option ℕ → Bool
 is_telling until None = false
 is_telling until (Some told) = nat_lt told until
 
--- the next marks of the page that is told, and none where its telling has ended
+-- the next marks of the page of the last report, and none if its telling has ended
 abbrev pub rest_after : ℕ → Option ℕ → List MarkValue → List MarkValue
 rest_after until told marks = if is_telling until told then slice_after told marks else []
 
@@ -49,6 +49,6 @@ first_of_pages (page ∷ pages) = Some page
 abbrev pub is_after : PageId → PageId → Bool
 is_after last page = is_lt (page_cmp last page)
 
--- the next page in the cycle of the pages, and page 0/0 where there is none
+-- the next page in the cycle of the pages, and page 0/0 if there is none
 abbrev pub page_after : PageId → List PageId → PageId
 page_after last pages = unwrap_or (option_or (find (is_after last) pages) (first_of_pages pages)) nowhere

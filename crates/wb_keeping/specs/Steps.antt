@@ -32,7 +32,7 @@ back_lines source (Some micros) = SetsDistance source unknown ∷ []
 abbrev pub lends_for : ℕ → Option ℕ → Line → Transition
 lends_for source lent line = and_then (performs_all (set_lines source lent)) (and_then (performs line) (performs_all (back_lines source lent)))
 
--- another round begins, where no hole is left in this one
+-- another round begins, if no hole is left in this one
 abbrev pub turn_again : Transition
 turn_again see p = turn_to None (hole_after (see []).held nowhere 0 0) see p
 

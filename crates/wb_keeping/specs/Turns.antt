@@ -10,7 +10,7 @@ use Rattle.wb_keeping.specs.declared.turns.Turns.{Turns}
 abbrev pub nowhere : PageId
 nowhere = record { creator = 0; number = 0 }
 
--- Of a hole the first number in an even round, since its neighbours come with it; in odd rounds each of its numbers in
+-- The first number of a hole in an even round, since its neighbours come with it; in odd rounds each of its numbers in
 -- turn, since the first may be one that nobody holds.
 abbrev pub number_in : ℕ → Gap → ℕ
 number_in round gap = if nat_eq (round % 2) 0 then gap.first else gap.first + round / 2 % (gap.last + 1 - gap.first)
@@ -18,10 +18,10 @@ number_in round gap = if nat_eq (round % 2) 0 then gap.first else gap.first + ro
 abbrev pub name_in : ℕ → Hole → NameValue
 name_in round hole = name_of hole.page hole.gap.source (number_in round hole.gap)
 
--- the turn goes on behind the last number of a hole
+-- the turn goes on after the last number of a hole
 abbrev pub after_hole : Turns → Hole → Turns
 after_hole t hole = record { page = hole.page; source = hole.gap.source; number = hole.gap.last; round = t.round }
 
--- behind the last hole another round begins before all
+-- after the last hole another round begins before all
 abbrev pub next_round : Turns → Turns
 next_round t = record { page = nowhere; source = 0; number = 0; round = (t.round + 1) % 4294967296 }

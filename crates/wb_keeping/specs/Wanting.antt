@@ -18,12 +18,12 @@ abbrev pub is_paid : Bool → ℕ → ℕ → Bool
 is_paid true owed now = has_credit owed now
 is_paid false owed now = leaves_some owed now
 
--- A name is asked for that is not held, where the board has room for it, no timer of it goes on, and there is credit. Neighbours of what
--- came come last where their source told no distance, so that drawops that are forged with holes leave room for what members draw and report.
+-- A name that is not held is asked for if the board has room for it, no timer of it goes on, and there is credit. Neighbours of what
+-- came come last if their source told no distance, so that drawops that are forged with holes leave room for what members draw and report.
 abbrev pub is_wanted : Bool → Bool → Bool → Bool → Option ℕ → ℕ → ℕ → Bool
 is_wanted held full anew known level owed now = not held && (not full && (not (goes_on anew level) && is_paid (anew || known) owed now))
 
--- of two names that are asked for, the one whose timer was backed off more, and the first where both were equally often
+-- of two names that are asked for, the one whose timer was backed off more, and the first if both were equally often
 abbrev pub older : AskedName → AskedName → AskedName
 older one other = if nat_lt one.level other.level then other else one
 
@@ -32,7 +32,7 @@ abbrev pub oldest : List AskedName → Option AskedName
 oldest [] = None
 oldest (asked ∷ later) = Some (fold older asked later)
 
--- The oldest timer gives way to that of another name where 64 stand, or it is old.
+-- The oldest timer gives way to that of another name if 64 stand, or it is old.
 abbrev pub gives_way : ℕ → ℕ → Bool
 gives_way count level = nat_le 64 count || is_old level
 
@@ -40,6 +40,6 @@ abbrev pub way_of : ℕ → Option AskedName → Option AskedName
 way_of count None = None
 way_of count (Some a) = if gives_way count a.level then Some a else None
 
--- the name that is given up where another is newly asked for
+-- the name that is given up when another is newly asked for
 abbrev pub giving_way : List AskedName → Option AskedName
 giving_way asked = way_of (length asked) (oldest asked)

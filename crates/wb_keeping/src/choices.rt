@@ -19,7 +19,7 @@ const FORGED: u32 = 1 << 31;
 /// The most echoes of a report.
 const ECHOES: usize = 32;
 
-/// How far a drawop reaches that came: its neighbours are wanted.
+/// How far the neighbours of a drawop reach, which are wanted when it comes.
 const REACH: u32 = 64;
 
 /// The marks of this member that are believed: while it listens, those below 2^31.
@@ -66,7 +66,7 @@ fn echoes_of(alloc: Global, me: u32, echoes: &[Echo]) -> Result<Vec<Echo>, Alloc
     own.copied().collect(alloc)
 }
 
-/// The distance that the first of some echoes tells, where it tells one.
+/// The distance that the first of some echoes gives, if it gives one.
 pub(crate) fn distance_in(now: u64, echoes: &[Echo]) -> Option<u64>
     ensures { result ≡ distance_in now echoes.now }
 {
@@ -122,15 +122,15 @@ fn is_later(one: Echo, other: Echo) -> bool
     by_hearing(one, other) == Ordering::Less
 }
 
-/// The order in which senders are echoed: who was heard later comes first, and of those heard at
-/// one moment who has the lesser number.
+/// The order in which senders are echoed: who was heard later comes first, and of two that were
+/// heard at one moment the one with the lesser number.
 fn by_hearing(one: Echo, other: Echo) -> Ordering
     ensures { is_lt result ≡ heard_later one other }
 {
     (one.held, one.source).cmp(&(other.held, other.source))
 }
 
-/// The next marks of a page, at most 64, those of sources above one that was told.
+/// The next marks of a page, at most 64: those of sources above `told`, or the first ones.
 pub(crate) fn slice_of(
     alloc: Global,
     told: Option<u32>,
@@ -153,15 +153,15 @@ pub(crate) fn last_source(marks: &[Mark]) -> Option<u32>
     last
 }
 
-/// Where the telling of a page ends that has these marks: its last source, or 0.
+/// Where the telling of a page with these marks ends: at its last source, or at 0.
 pub(crate) fn until_in(marks: &[Mark]) -> u32
     ensures { result ≡ until_in marks.now }
 {
     last_source(marks).unwrap_or(0)
 }
 
-/// The names of the marks of a page, but for numbers of this member from 2^31 on, which nobody but
-/// a forger tells.
+/// The names of the marks of a page, except for numbers of this member from 2^31 on, which only a
+/// forger reports.
 pub(crate) fn told_names(
     alloc: Global,
     me: u32,
@@ -201,7 +201,7 @@ pub(crate) fn near_names(alloc: Global, name: &Name, top: u32) -> Result<Vec<Nam
     names_down(alloc, name, high, (high + 1).saturating_sub(low))
 }
 
-/// So many names of the source and page of one, from a number down.
+/// `count` names of the source and page of `name`, from the number `high` down.
 fn names_down(alloc: Global, name: &Name, high: u32, count: u32) -> Result<Vec<Name>, AllocError>
     requires { count ≤ high }
     ensures { IfOk result (λ names.

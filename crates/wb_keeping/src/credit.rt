@@ -5,10 +5,10 @@ ghost use Rattle.wb_names.specs.Moments.{IsMoment};
 ghost use Rattle.wb_keeping.specs.Credit.{has_credit, repaid, spent};
 ghost use Rattle.wb_keeping.specs.Wanting.{is_paid};
 
-/// The credit of who asks for names. Each name that is asked for is paid for in a quarter of a
-/// second, and 64 may be asked for at once. What came pays for two names: for itself, and for one
-/// that is asked for again since its request was lost. So who is answered asks as fast as it is,
-/// and who is not at four names a second.
+/// The credit of a member that asks for names. Each name that is asked for is paid for in a quarter
+/// of a second, and 64 may be asked for at once. What came pays for two names: for itself, and for
+/// one that is asked for again since its request was lost. So a member that is answered asks as
+/// fast as it is answered, and one that is not, for four names a second.
 #[derive(Clone, Copy, Debug, PartialEq, Eq)]
 pub struct Credit {
     /// Names are paid for up to this moment.
@@ -19,13 +19,13 @@ impl Credit {
     /// What a name costs, in microseconds.
     pub const COST: u64 = 250_000;
 
-    /// What a name pays that was asked for and came, in microseconds.
+    /// What a name that was asked for pays when it comes, in microseconds.
     const CAME: u64 = 2 * Credit::COST;
 
-    /// The most that may be owed where another name is asked for, in microseconds.
+    /// The most that may be owed when another name is asked for, in microseconds.
     const MOST: u64 = 63 * Credit::COST;
 
-    /// The most where that is a name that comes last.
+    /// The most if that is a name that comes last.
     const LAST: u64 = 47 * Credit::COST;
 
     /// The whole credit.

@@ -5,11 +5,11 @@ ghost use Rattle.wb_keeping.specs.Distances.{bounded, first_usual, known, usual_
 
 use std::marker::Model;
 
-/// The distance to a source that told none, in microseconds.
+/// The distance to a source while it is not known, in microseconds.
 pub(crate) const UNKNOWN: u64 = 100_000;
 
-/// The distances that echoes told, in microseconds: the usual one, which is lent to a source that
-/// told none.
+/// What is kept of the distances that echoes gave, in microseconds: the usual one, which is lent to
+/// a source whose distance is not known.
 #[derive(Debug, Drop)]
 pub struct Distances {
     usual: u64,
@@ -26,8 +26,8 @@ impl Model for Distances {
 }
 
 impl Distances {
-    /// The usual distance at first. Too small a one costs some requests more, and too great a one
-    /// costs seconds.
+    /// The usual distance at first. If it is too small, that costs some more requests; if it is too
+    /// great, it costs seconds.
     const FIRST: u64 = 20_000;
 
     /// The least distance that is believed.
@@ -36,7 +36,7 @@ impl Distances {
     /// The greatest.
     const MOST: u64 = 1_000_000;
 
-    /// No distance was told.
+    /// No echo gave a distance yet.
     pub fn new() -> Distances
         ensures { result ≡ first_usual }
     {
@@ -45,7 +45,7 @@ impl Distances {
         }
     }
 
-    /// An echo told this distance. Answers the one that is to be set.
+    /// An echo gave this distance. Answers the one that is to be set.
     pub fn told(&mut self, micros: u64) -> u64
         ensures bounded { result ≡ bounded micros }
         ensures usual { self.new ≡ usual_with self.old (bounded micros) }
@@ -64,7 +64,7 @@ impl Distances {
     }
 }
 
-/// A distance that was told is another than that of who told none.
+/// The distance that an echo gave, one microsecond longer if it is `UNKNOWN`.
 fn known(micros: u64) -> u64
     requires near { micros ≤ 1000000 }
     ensures known { result ≡ known micros }

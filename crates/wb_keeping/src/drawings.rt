@@ -9,8 +9,8 @@ use wb_names::{Drawop, PageId};
 /// those of a member whose clock shows tomorrow.
 const AHEAD: u64 = 172_800_000_000;
 
-/// The time of a drawing on a page of a list, where its user's clock tells this one: it comes after
-/// all that the page has, but for what is two days or more ahead. It costs a walk over the list.
+/// The time of a drawing on a page of a list, if its user's clock shows `time`: it comes after all
+/// that the page has, except for what is two days or more ahead. It costs a walk over the list.
 pub fn time_of(list: &[Drawop], page: PageId, time: u64) -> u64
     ensures { result ≡ drawing_time list.now page time }
 {

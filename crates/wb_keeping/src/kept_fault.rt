@@ -1,26 +1,26 @@
-//! Why a member that keeps itself refuses a call.
+//! Why a self-managing member refuses a call.
 
 use std::alloc::AllocError;
 use thiserror::Error;
 use wb_host::KeepFault;
 use wb_names::FieldFault;
 
-/// Why a member that keeps itself refuses a call.
+/// Why a self-managing member refuses a call.
 #[derive(Clone, Copy, Debug, PartialEq, Eq, Error)]
 pub enum KeptFault {
-    /// The moment is before the present one, or memory is refused.
+    /// The moment is before the present one, or an allocation failed.
     #[error("{0}")]
     Host(KeepFault),
-    /// It listens yet, and nothing is added.
+    /// It still listens, and nothing is added.
     #[error("listening")]
     Listening,
-    /// A drawop of its own number that it does not hold, of a number that it would never come to.
+    /// A drawop of its own that it does not hold, with a number that it would never reach.
     #[error("a drawop of ours that is not held")]
     Ours,
     /// No number is left on the page.
     #[error("no number is left")]
     Numbers,
-    /// The operation is none of a drawop: the first fault of its fields.
+    /// The operation can't be one of a drawop: the first fault of its fields.
     #[error("{0}")]
     Operation(FieldFault),
 }

@@ -1,4 +1,4 @@
-//! A member that keeps itself: it does what its policy judges, and hands out what is to be sent.
+//! A self-managing member: it does what its policy judges, and hands out what is to be sent.
 ghost use Rattle.std.specs.Prelude.{◌≡◌, ◌≤◌, ◌<◌, ◌^◌, [], IfOk, OnErr, IsTrue, MatchResult, false, is_some, nat_le};
 ghost use Rattle.wb_names.specs.Moments.{IsMoment};
 ghost use Rattle.wb_recovery.specs.Timing.{are_constants};
@@ -28,16 +28,16 @@ use wb_member::Member;
 use wb_names::{Drawop, Name, PageId, Shape};
 use wb_recovery::{Tuning, TuningFault};
 
-/// From this number on a number of its own is one that the member would never come to.
+/// The member would never give a drawop of its own this number, or a greater one.
 const FORGED: u32 = 1 << 31;
 
-/// A member of a session, and the policy that it keeps itself by: it is handed datagrams, moments
-/// and drawings, and gives what is to be sent.
+/// A member of a session, and the policy that manages it: it is handed datagrams, moments and
+/// drawings, and gives what is to be sent.
 ///
 /// What it does is the list of lines of `specs/Kept.antt`, performed by the member. So the
 /// contracts speak of each member at which the code may be, as those of `Member` do. A call that is
-/// refused changes nothing. Without memory it has performed the first of its lines, or none, and
-/// what these sent is lost, as a datagram may be.
+/// refused changes nothing. If an allocation fails, it has performed the first of its lines, or
+/// none, and what these sent is lost, as a datagram may be.
 #[derive(Drop)]
 pub struct KeptMember {
     member: Member,
@@ -57,15 +57,15 @@ impl Model for KeptMember {
 pub struct Done {
     /// What is to be sent, in this order.
     pub sent: Vec<Datagram>,
-    /// What became of the drawop that came or was drawn: None where the board is full, or no drawop
-    /// came.
+    /// What became of the drawop that came or was drawn: None if the board has no cell for it, or
+    /// no drawop came.
     pub became: Option<Reply>,
 }
 
 impl KeptMember {
-    /// A member keeps itself from its present moment on. The reports of all members together may
-    /// take so many bytes a second, from 1 on. For so many microseconds, below 2^32, nothing is
-    /// added. The seed is that of the member.
+    /// A member becomes self-managing at its present moment. The reports of all members together
+    /// may take `rate` bytes a second, at least 1. For `listen` microseconds, below 2^32, nothing
+    /// is added. The seed is that of the member.
     pub fn keep(member: Member, rate: u64, listen: u64, seed: u64) -> KeptMember
         requires rate { 1 ≤ rate }
         requires listen { listen < 2 ^ 32 }
@@ -76,8 +76,8 @@ impl KeptMember {
         KeptMember { member, policy }
     }
 
-    /// Gives its timers other constants, each 1 to 16: what is set or backed off from now on is by
-    /// them. A timer that stands keeps its moment. Refused with `Constant`.
+    /// Gives its timers other constants, each 1 to 16, for what is set or backed off from now on. A
+    /// timer that stands keeps its moment. Refused with `Constant`.
     pub fn set_constants(&mut self, constants: Tuning) -> Result<(), TuningFault>
         ensures constants { MatchResult result (λ _. IsTrue (are_constants constants))
             (λ e. are_constants constants ≡ false) }
@@ -89,8 +89,8 @@ impl KeptMember {
     }
 
     /// A datagram came in at a moment of its clock, in microseconds below 2^48. Answers what is to
-    /// be sent, and what became of a drawop. Refused before the present moment, and where it is a
-    /// drawop of this member's own number that it would never come to and does not hold.
+    /// be sent, and what became of a drawop. Refused before the present moment, and if it is a
+    /// drawop of this member's own that it does not hold, with a number that it would never reach.
     pub fn came(&mut self, alloc: Global, now: u64, datagram: &Datagram) -> Result<Done, KeptFault>
         requires { IsMoment now }
         ensures fault { (k : Keeping) → IsKeptAt self.old k →
@@ -139,8 +139,8 @@ impl KeptMember {
 
     /// Its user draws on a page, at a time of the user's clock. Answers what is to be sent, and
     /// what became of the drawing: it is among what is sent, unless the board is full. Refused
-    /// before the present moment, while it listens, where no number is left on the page, and where
-    /// the operation is none of a drawop under the next number.
+    /// before the present moment, while it listens, if no number is left on the page, and if the
+    /// operation can't be one of a drawop under the next number.
     pub fn add(
         &mut self,
         alloc: Global,
@@ -190,7 +190,7 @@ impl KeptMember {
         self.member.moment() <= now
     }
 
-    /// Whether it is a drawop of this member of a number from 2^31 on that is not held.
+    /// Whether it is a drawop of this member that is not held, with a number from 2^31 on.
     fn is_unknown_of_ours(&self, datagram: &Datagram) -> bool
         ensures { (k : Keeping) → IsKeptAt self.now k →
             result ≡ is_unknown_of_ours datagram.now k.host }
@@ -201,7 +201,7 @@ impl KeptMember {
         }
     }
 
-    /// Whether it is a name of this member of a number from 2^31 on that is not held.
+    /// Whether it is a name of this member that is not held, with a number from 2^31 on.
     fn is_unknown(&self, name: Name) -> bool
         ensures { (k : Keeping) → IsKeptAt self.now k → result ≡ is_unknown name k.host }
     {

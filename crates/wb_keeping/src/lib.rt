@@ -1,6 +1,6 @@
-//! The judgement of a host that keeps itself whole: when it reports, how much of a page at a time,
-//! what it asks for and how fast, which distance it takes for one that it does not know, and which
-//! time a drawing gets.
+//! The whole judgement of a self-managing host: when it reports, how much of a page at a time, what
+//! it asks for and how fast, which distance it takes for one that it does not know, and which time
+//! a drawing gets.
 //!
 //! It follows Floyd, Jacobson, Liu, McCanne and Zhang, "A Reliable Multicast Framework for
 //! Light-weight Sessions and Application Level Framing", 1997, where that leaves the choice to the
@@ -9,8 +9,8 @@
 //!
 //! In reading order: `words` are its random words; `credit` says how much may be asked for,
 //! `wanting` which names, and `turns` which hole comes next; `questions` asks for pages and answers
-//! who asks; `reports` says when a report is due, and which marks it has; `distances` bounds what
-//! echoes tell; `drawings` has the time of a drawing; `policy` joins what is remembered. `laws`
+//! others; `reports` says when a report is due, and which marks it has; `distances` bounds what
+//! echoes give; `drawings` has the time of a drawing; `policy` joins what is remembered. `laws`
 //! says what follows, and `specs/Kept.antt` what a host does that takes these decisions.
 #![tactic(auto)]
 

@@ -1,4 +1,4 @@
-//! The policy of a host that keeps itself: all that it remembers, and what each thing that happens
+//! The policy of a self-managing host: all that it remembers, and what each thing that happens
 //! makes of it.
 
 ghost use Rattle.std.specs.Prelude.{◌≡◌, ◌≤◌, ◌<◌, ◌^◌, ◌+◌, if◌then◌else◌, nat_le, nat_lt};
@@ -21,8 +21,8 @@ use std::marker::Model;
 use wb_gaps::Hole;
 use wb_names::{Name, PageId};
 
-/// What a host that keeps itself remembers: a fixed number of integers, whatever comes in. Moments
-/// are in microseconds, below 2^48.
+/// What a self-managing host remembers: a fixed number of integers, whatever comes in. Moments are
+/// in microseconds, below 2^48.
 #[derive(Drop)]
 pub struct Policy {
     /// Nothing is added before this moment.
@@ -32,7 +32,7 @@ pub struct Policy {
     turns: Turns,
     /// The page of the last report.
     told_page: PageId,
-    /// The last source of the last report, where it told one.
+    /// The last source of the last report, if it had one.
     told: Option<u32>,
     /// The last source that its page had when its telling began.
     until: u32,
@@ -64,8 +64,8 @@ impl Model for Policy {
 }
 
 impl Policy {
-    /// Begins at a moment. The reports of all members together take so many bytes a second, from 1
-    /// on. For so many microseconds, below 2^32, nothing is added. The first word of the seed says
+    /// Begins at a moment. The reports of all members together take `rate` bytes a second, at least
+    /// 1. For `listen` microseconds, below 2^32, nothing is added. The first word of the seed says
     /// when it reports, the second when it asks for pages.
     pub fn new(now: u64, rate: u64, listen: u64, seed: u64) -> Policy
         requires moment { IsMoment now }
@@ -153,7 +153,7 @@ impl Policy {
         self.turns.begin_again();
     }
 
-    /// An echo told a distance: which one is to be set.
+    /// An echo gave a distance: which one is to be set.
     pub fn measure(&mut self, micros: u64) -> u64
         ensures bounded { result ≡ bounded micros }
         ensures usual { self.new ≡ with_distance micros self.old }
@@ -175,7 +175,7 @@ impl Policy {
         true
     }
 
-    /// Another member asks for pages, where this one holds something or not.
+    /// Another member asks for pages, and this one holds something or not.
     pub fn take_question(&mut self, now: u64, holds: bool)
         requires { IsMoment now }
         ensures { self.new ≡ (if is_to_answer now holds self.old.questions then
@@ -187,7 +187,7 @@ impl Policy {
         }
     }
 
-    /// Whether it is to tell its pages now.
+    /// Whether it is to answer with its pages now.
     pub fn answers(&mut self, now: u64) -> bool
         requires { IsMoment now }
         ensures due { result ≡ is_due now self.old.questions.answer }
@@ -200,7 +200,7 @@ impl Policy {
         true
     }
 
-    /// Another member told a page.
+    /// Another member sent a page state.
     pub fn hear_state(&mut self, now: u64)
         requires { IsMoment now }
         ensures { self.new ≡ after_state now self.old }
@@ -236,8 +236,8 @@ impl Policy {
         is_telling(self.until, self.told)
     }
 
-    /// It reported a page up to a source, where it has one, and tells it until another: so many
-    /// bytes, among so many members. So reports are at least a second apart, and at most 96.
+    /// It reported a page up to `last`, and tells it up to `until`: `bytes` bytes, among `members`
+    /// members. So reports are at least a second apart, and at most 96.
     pub fn reported(
         &mut self,
         now: u64,
@@ -271,7 +271,7 @@ impl Policy {
     }
 }
 
-/// The lesser of a moment and of another, where there is one.
+/// The lesser of a moment and of another, if there is one.
 pub(crate) fn sooner(moment: u64, other: Option<u64>) -> u64
     ensures { result ≡ sooner moment other }
 {

@@ -4,14 +4,14 @@ ghost use Rattle.std.specs.Prelude.{◌≡◌, ◌≤◌, ◌<◌, ◌^◌};
 ghost use Rattle.wb_names.specs.Moments.{IsMoment};
 ghost use Rattle.wb_keeping.specs.Questions.{answered_at, asked_at, heard_at, is_due, is_to_answer, opened_at, to_answer};
 
-/// When a member asks which pages there are, and when it answers who asks, in microseconds.
+/// When a member asks which pages there are, and when it answers others, in microseconds.
 #[derive(Clone, Copy, Debug, PartialEq, Eq)]
 pub struct Questions {
-    /// When it asks next. None once somebody told the pages.
+    /// When it asks next. None once another member sent a page state.
     pub ask: Option<u64>,
     /// Its wait after that, from 1,000,000 to 64,000,000.
     pub wait: u64,
-    /// When it answers a question. None where none is to be answered.
+    /// When it answers a question. None if none is to be answered.
     pub answer: Option<u64>,
     /// Before this moment no question is taken up, since somebody answered one.
     pub quiet: u64,
@@ -30,7 +30,7 @@ impl Questions {
     /// The longest wait.
     const MOST_WAIT: u64 = 64_000_000;
 
-    /// It asks after so long, from 0 to `FIRST`.
+    /// It asks after `drawn` microseconds, from 0 to `FIRST`.
     pub fn new(now: u64, drawn: u64) -> Questions
         requires moment { IsMoment now }
         requires drawn { drawn ≤ 200000 }
@@ -62,15 +62,14 @@ impl Questions {
         self.wait = (2 * self.wait).min(Questions::MOST_WAIT);
     }
 
-    /// Another member asks: whether this one begins to wait for its answer, where it holds
-    /// something or not.
+    /// Another member asks: whether this one, which holds something or not, takes the question up.
     pub fn takes_up(&self, now: u64, holds: bool) -> bool
         ensures { result ≡ is_to_answer now holds self.now }
     {
         holds && self.answer.is_none() && self.quiet <= now
     }
 
-    /// It will answer after so long, from 0 to `ANSWER`.
+    /// It will answer after `drawn` microseconds, from 0 to `ANSWER`.
     pub fn take_up(&mut self, now: u64, drawn: u64)
         requires moment { IsMoment now }
         requires drawn { drawn ≤ 500000 }
@@ -95,7 +94,7 @@ impl Questions {
         self.quiet = now + Questions::QUIET;
     }
 
-    /// Another member told a page that there is.
+    /// Another member sent a page state.
     pub fn heard(&mut self, now: u64)
         requires { IsMoment now }
         ensures { self.new ≡ heard_at now self.old }

@@ -36,8 +36,8 @@ impl Reports {
     /// The longest.
     const LONGEST: u64 = 64_000_000;
 
-    /// The mean time between two reports, by which those of so many members, each of so many bytes,
-    /// take the rate: from 2,000,000 to 64,000,000.
+    /// The mean time between two reports at which those of `members` members, of `bytes` bytes
+    /// each, take the rate, but at least 2,000,000 and at most 64,000,000.
     pub fn mean_time(&self, members: u64, bytes: u64) -> u64
         requires rate { 1 ≤ self.now.rate }
         requires members { members ≤ Reports.MEMBERS }
@@ -50,8 +50,8 @@ impl Reports {
         all.max(Reports::SHORTEST).min(Reports::LONGEST)
     }
 
-    /// It reported: the next report is due after half of the mean time, and so much more as was
-    /// drawn from 0 to it. So reports are at least a second apart, and at most 96.
+    /// It reported: the next report is due after half of the mean time, and `drawn` more, from 0 to
+    /// the mean time. So reports are at least a second apart, and at most 96.
     pub fn reported(&mut self, now: u64, mean: u64, drawn: u64)
         requires moment { IsMoment now }
         requires shortest { 2000000 ≤ mean }
@@ -72,7 +72,7 @@ impl Reports {
     }
 }
 
-/// How many members there are: this one, and those of whom a session message was heard within 192
+/// How many members there are: this one, and those from whom a session message was heard within 192
 /// seconds, which is three of the longest mean times.
 pub fn members(echoes: &[Echo]) -> u64
     requires { length echoes.now ≤ MAX_ENTRIES }
@@ -90,7 +90,7 @@ fn heard_count(echoes: &[Echo]) -> usize
     echoes.iter().filter(|echo| echo.held < HEARD).count()
 }
 
-/// The next marks of a page, at most 64, those of sources above one that was told.
+/// The next marks of a page, at most 64: those of sources above `told`, or the first ones.
 pub fn slice_after(
     alloc: Global,
     told: Option<u32>,
@@ -102,7 +102,7 @@ pub fn slice_after(
     untold.take(Reports::MARKS).copied().collect(alloc)
 }
 
-/// Whether a source is above one that was told.
+/// Whether a source is above `told`, or `told` is None.
 fn is_untold(told: Option<u32>, source: u32) -> bool
     ensures { result ≡ is_untold told source }
 {
@@ -112,8 +112,8 @@ fn is_untold(told: Option<u32>, source: u32) -> bool
     }
 }
 
-/// Whether the telling of a page goes on: the source was not told yet that was its last when its
-/// telling began. What has come since waits for the next telling, so that it holds no page up.
+/// Whether the telling of a page goes on: it has not reached the source that was the last when it
+/// began. What has come since waits for the next telling, so that it holds no page up.
 pub fn is_telling(until: u32, told: Option<u32>) -> bool
     ensures { result ≡ is_telling until told }
 {
@@ -123,7 +123,7 @@ pub fn is_telling(until: u32, told: Option<u32>) -> bool
     }
 }
 
-/// The next page in the cycle of the pages, which ascend, and page 0/0 where there is none.
+/// The next page in the cycle of the pages, which ascend, or page 0/0 if there is none.
 pub fn page_after(last: PageId, pages: &[PageId]) -> PageId
     ensures { result ≡ page_after last pages.now }
 {

@@ -6,8 +6,8 @@ ghost use Rattle.wb_keeping.specs.Turns.{after_hole, name_in, next_round, number
 use wb_gaps::Hole;
 use wb_names::{Gap, Name, PageId};
 
-/// Where the turn of the holes is. They come one after the other, and behind the last one another
-/// round begins, so that none is forgotten and none is asked for twice in a round.
+/// Which hole has its turn. They come one after the other, and after the last one another round
+/// begins, so that none is forgotten and none is asked for twice in a round.
 #[derive(Clone, Copy, Debug, PartialEq, Eq)]
 pub struct Turns {
     /// The next hole begins after this number of this source on this page.

@@ -20,16 +20,16 @@ pub struct Candidate {
     pub is_held: bool,
     /// Whether the board has no room for it.
     pub is_full: bool,
-    /// Whether its source told its distance.
+    /// Whether the distance to its source is known.
     pub is_known: bool,
-    /// How often its request timer was backed off. None where none stands.
+    /// How often its request timer was backed off. None if none stands.
     pub level: Option<u32>,
 }
 
 impl Candidate {
     /// Whether it is asked for at this moment, at this credit: a timer that stands goes on, unless
-    /// it is old and may start anew. A neighbour of what came, which starts nothing anew, comes last
-    /// where its source told no distance.
+    /// it is old and may start anew. A neighbour of what came, which starts nothing anew, comes
+    /// last if the distance to its source is not known.
     pub fn is_wanted(&self, credit: &Credit, may_start_anew: bool, now: u64) -> bool
         ensures { result ≡ is_wanted self.now.is_held self.now.is_full may_start_anew
             self.now.is_known self.now.level credit.now.owed now }
@@ -51,7 +51,7 @@ impl Candidate {
     }
 }
 
-/// Whether a timer is old that was backed off so often.
+/// Whether a timer that was backed off `level` times is old.
 fn is_old(level: u32) -> bool
     ensures { result ≡ is_old level }
 {
@@ -67,8 +67,8 @@ pub struct AskedName {
     pub level: u32,
 }
 
-/// The one that is given up where another is newly asked for: the oldest, where 64 timers stand or
-/// it is old. None where none gives way.
+/// The one that is given up when another is newly asked for: the oldest, if 64 timers stand or it
+/// is old. None if none gives way.
 pub fn giving_way(asked: &[AskedName]) -> Option<AskedName>
     ensures { result ≡ giving_way asked.now }
 {
@@ -80,14 +80,14 @@ pub fn giving_way(asked: &[AskedName]) -> Option<AskedName>
     }
 }
 
-/// Whether the oldest of so many timers gives way that was backed off so often.
+/// Whether the oldest of `count` timers gives way, if it was backed off `level` times.
 fn gives_way(count: usize, level: u32) -> bool
     ensures { result ≡ gives_way count level }
 {
     count >= TIMERS || is_old(level)
 }
 
-/// The one whose timer was backed off most, and the first of these. None where there is none.
+/// The one whose timer was backed off most, and the first of these. None if there is none.
 pub fn oldest(asked: &[AskedName]) -> Option<AskedName>
     ensures { result ≡ oldest asked.now }
 {
@@ -101,7 +101,7 @@ pub fn oldest(asked: &[AskedName]) -> Option<AskedName>
     Some(oldest)
 }
 
-/// The one of two whose timer was backed off more, and the first where both were equally often.
+/// The one of two whose timer was backed off more, or the first if both were equally often.
 fn older(one: AskedName, other: AskedName) -> AskedName
     ensures { result ≡ older one other }
 {

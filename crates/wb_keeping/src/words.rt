@@ -34,7 +34,7 @@ impl PolicyWords {
         }
     }
 
-    /// Takes the next word, and makes a number from 0 to this of it.
+    /// Takes the next word, and makes of it a number from 0 to `most`.
     pub fn up_to(&mut self, most: u32) -> u64
         ensures drawn { result ≡ drawn most self.old }
         ensures rest { self.new ≡ after_word self.old }

@@ -124,7 +124,7 @@ new_is_more d k lines lacks room =
 
 -- ---- what is heard
 
--- what is held, the turns and the next report stay; what is asked for is told, and nothing else is spent for
+-- what is held, the turns and the next report stay; it asks for names of P alone, and spends for nothing else
 pub record AsksFor (P : NameValue → Type 0) (k : Keeping) (lines : List Line) (m : Keeping) : Type 0 where
   pub stays : Stays k m
   pub asks : AskFor P lines
@@ -236,7 +236,7 @@ module _ (P : NameValue → Type 0) where
   some_ask sender page [] k = nothing_asked k
   some_ask sender page (m ∷ marks) k = hear_asks (PageState sender page (m ∷ marks)) k
 
-  -- from another policy on, by which nothing is spent
+  -- from another policy on, which spends nothing
   asks_from : (p : Policy) (k : Keeping) (d : Doing) → Stays k (with_policy p k) → p.owed ≡ k.policy.owed
       → AsksFor P (with_policy p k) d.lines (having_done d (with_policy p k)) → AsksFor P k d.lines (having_done d k)
   asks_from p k d same owed it = asks_both k (with_policy p k) (having_done d k) [] d.lines (record { stays = same; asks = tt; owed = inr owed }) it
@@ -304,7 +304,7 @@ module _ (P : NameValue → Type 0) where
     by false e true f = arrives_asks d k
     by false e false f = inl (new_is_more d k (learned d.name (is_asked (view_of k.host) d.name) (sees (after_line (Arrives d) k.host)) k.policy).lines e f)
 
-  -- what comes is new, or what is asked for was told
+  -- what comes is new, or it asks for names of P alone
   pub hears_asks : (v : Datagram) (k : Keeping) → AreTold k.host.is.number v → IsMore k (after_doing (hears v) k) ⊎ At (hears v) k
   hears_asks (Draw d) k told = takes_asks d k
   hears_asks (Session sender sent page marks echoes) k told = inr (other_asks sender (hears_session sender sent page marks echoes) k

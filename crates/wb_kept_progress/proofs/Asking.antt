@@ -82,7 +82,7 @@ quiet_leave (Tunes constants ∷ lines) n host quiet new = quiet_leave lines n (
 quiet_leave (Asks name ∷ lines) n host quiet new = absurd quiet.0
 quiet_leave (line ∷ lines) n host quiet new = absurd quiet.0
 
--- where none stands, none comes to stand
+-- if none stands, none comes to stand
 abbrev pub HasNone : Opened → NameValue → Type 0
 HasNone host n = level host n ≡ None
 
@@ -189,7 +189,7 @@ oldest_is_one a (x ∷ later) =
       by true e = subst (λ (y : AskedName). Contains (a ∷ x ∷ later) y) e (Contains-there a x (x ∷ later) (Contains-here x later))
       by false e = subst (λ (y : AskedName). Contains (a ∷ x ∷ later) y) e (Contains-here a (x ∷ later))
 
--- each is told with the level of its timer
+-- each is listed with the level of its timer
 told_level : (timers : NameValue → Timers) (names : List NameValue) (b : AskedName) → Contains (asked_with timers names) b → level_in (timers b.name).ask ≡ Some b.level
 told_level timers [] b c = absurd (Contains-none b c)
 told_level timers (n ∷ names) b c = by (told_level timers names b) (timers n).ask refl c where
@@ -205,7 +205,7 @@ told_level timers (n ∷ names) b c = by (told_level timers names b) (timers n).
 pub level_told : (host : Opened) (b : AskedName) → Contains (view_of host).asked b → level host b.name ≡ Some b.level
 level_told host b c = told_level (timers_of host.is.constants (events host)) (names_of (events host)) b c
 
--- a name with a timer is told
+-- a name with a timer is listed
 pub from_names : (asked : List AskedName) (n : NameValue) → Contains (map (λ (a : AskedName). a.name) asked) n → (b : AskedName) × Contains asked b × (b.name ≡ n)
 from_names [] n c = absurd (Contains-none n c)
 from_names (a ∷ asked) n c = ⊎_elim
@@ -417,7 +417,7 @@ module _ (name : NameValue) (anew : Bool) (k : Keeping) where
   pub new_stays : (names : List NameValue) → AreNew k names → (n : NameValue) → IsNew k.host n → IsNew (after_doing (want name anew) k).host n
   new_stays names are n new = stays_new names are n new is_so refl
 
--- ---- all names that are told
+-- ---- all names of a report
 
 -- Behind so many names that were wanted: this one is none of them, and was paid for.
 pub record MayBeAsked (k : Keeping) (n : NameValue) (used : ℕ) : Type 0 where
@@ -483,7 +483,7 @@ stay_asked (name ∷ names) k n is =
     let m = after_doing (want name true) k in
     subst (λ (x : Keeping). IsAskedAnew x n) (sym (then_after (want name true) (want_told names) k)) (stay_asked names m n (stays_asked name true k n is))
 
--- of at most 64 names that are told each is asked for
+-- of at most 64 names of a report each is asked for
 pub told_is_asked : (names : List NameValue) (k : Keeping) (n : NameValue) (used : ℕ) → Contains names n → used + length names ≤ 64 → MayBeAsked k n used → IsAskedAnew (after_doing (want_told names) k) n
 told_is_asked [] k n used among few may = absurd (Contains-none n among)
 told_is_asked (name ∷ names) k n used among few may = subst (λ (x : Keeping). IsAskedAnew x n) (sym (then_after (want name true) (want_told names) k)) (by (told_is_asked names (after_doing (want name true) k) n (suc used)) (same_name name n) refl) where

@@ -1,4 +1,4 @@
--- Behind a line by which a host asks for a name its timer stands.
+-- After a line with which a host asks for a name its timer stands.
 use Rattle.std.proofs.Common.{◌≡◌, Bool, true, false, cond, List, [], ◌∷◌, ◌++◌, ◌∙◌, None, ap, append_assoc, refl, subst, sym, ⊎_elim}
 use Rattle.std.specs.Prelude.{Contains, not, take, nat_eq}
 use Rattle.std.proofs.lemmas.Bool.{and_parts, not-true}
@@ -25,7 +25,7 @@ use Rattle.wb_keeping.proofs.EachLine.{room_each, states_each}
 
 -- ---- each step of a policy
 
--- the timer stands behind the line
+-- the timer stands after the line
 record Stands (lines : List Line) (host : Opened) (n : NameValue) : Type 0 where
   before : List Line
   later : List Line

@@ -1,4 +1,4 @@
--- A session of hosts that keep themselves becomes whole: while something is lacked that some hold, something new comes in each step.
+-- A session of self-managing hosts becomes whole: while something is lacked that some hold, something new comes in each step.
 use Rattle.std.proofs.Common.{◌≡◌, ℕ, ◌+◌, ◌*◌, ◌<◌, ◌≤◌, Bool, true, false, cond, List, [], ◌∷◌, ◌++◌, ◌∙◌, ap, append-nil, append_assoc, arith, inl, inr, refl, subst, suc, sym, zero, ⊎_elim, true≢false, get_or}
 use Rattle.std.specs.Prelude.{◌⊎◌, Contains, length, nat_eq}
 use Rattle.std.proofs.lemmas.List.{append_cancel_left, get_or_append_left}
@@ -290,7 +290,7 @@ module _ (hosts : ℕ → Opening) (terms : Terms) (trace : List TimedLine) (siz
   abbrev at_step : ℕ → ℕ
   at_step k = start + k * step terms sizes most
 
-  -- So many are lacked at first that are held behind so many steps, but for the last of them.
+  -- Of k + 1 lacks at first, each but the last is filled after k steps.
   record AreFilled (part : List TimedLine) (i : ℕ) (n : NameValue) (k : ℕ) : Type 0 where
     lacks : List Lack
     apart : AreApart lacks

@@ -45,7 +45,7 @@ module _ (held_was : HeldWasHeld) (hosts : ℕ → Opening) (terms : Terms) (tra
   abbrev IsSome : NameValue → Type 0
   IsSome n = IsHeldBySome hosts terms trace n
 
-  -- what comes was told by a live host, which held it
+  -- what comes tells names that a live host held
   module _ (newer older : List TimedLine) (e : TimedLine) (split : trace ≡ newer ++ e ∷ older) (late : settled_by terms < e.time) where
     abbrev k : Keeping
     k = there hosts older e.at.place

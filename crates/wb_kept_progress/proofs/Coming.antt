@@ -1,4 +1,4 @@
--- Any number that one host holds and another lacks comes: its top is told and comes, and then it has its turn.
+-- Any number that one host holds and another lacks comes: a report has its top, which comes, and then it has its turn.
 use Rattle.std.proofs.Common.{◌≡◌, ℕ, suc, ◌+◌, ◌<◌, ◌≤◌, Bool, true, false, List, [], ◌∷◌, ◌++◌, ◌∙◌, None, ap, append_assoc, arith, eqb-true, inl, inr, leb-true, length, map, max, refl, subst, sym, true≢false}
 use Rattle.std.specs.Prelude.{◌⊎◌, ◌&&◌, ◌||◌, Contains, filter, nat_eq, nat_le, nat_lt, not}
 use Rattle.std.proofs.lemmas.Bool.Decides.{nat_tests}

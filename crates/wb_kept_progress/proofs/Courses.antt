@@ -202,7 +202,7 @@ timed_taken k =
 
 -- ---- a call
 
--- From one moment on it asks for what is told, and for the name in turn, once a report is due; it spends for that alone.
+-- From one moment on it asks for what reports tell, and for the name in turn, once a report is due; it spends for that alone.
 pub record IsCourse (P : NameValue → Type 0) (k : Keeping) (now : ℕ) (lines : List Line) (m : Keeping) : Type 0 where
   pub asks : AskFor (λ n. P n ⊎ HasTurn k now n) lines
   pub owed : ((n : NameValue) × Contains lines (Asks n) × P n) ⊎ ((m.policy.owed ≡ k.policy.owed) ⊎ ((k.policy.reports.due ≤ now) × (m.policy.owed ≡ spent k.policy.owed now)))

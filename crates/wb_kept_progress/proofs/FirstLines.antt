@@ -1,4 +1,4 @@
--- What each line of a call is like: its first lines take in what was handed in, and little stands behind them.
+-- What each line of a call is like: its first lines take in what was handed in, and few lines follow them.
 use Rattle.std.proofs.Common.{◌≡◌, ℕ, Bool, true, false, cond, List, [], ◌∷◌, ◌++◌, ◌∙◌, ap, append_assoc, length, refl, subst, sym}
 use Rattle.std.specs.Prelude.{◌||◌, nat_eq, nat_lt}
 use Rattle.wb_names.specs.Values.{DrawopValue, MarkValue, NameValue}
@@ -223,7 +223,7 @@ lines_of_call (Added now page time op) k =
     (tt, ((now, page, time, op, refl, refl), from_small (Added now page time op) k.host drawn (and_then ends_full timed (sees drawn) k.policy).lines (then_each IsSmall ends_full timed (ends_each IsSmall are_small) (timed_each IsSmall are_small) (sees drawn) k.policy)))
 lines_of_call (Tuned constants) k = (refl, tt)
 
--- ---- the line by which a datagram comes in
+-- ---- the line with which a datagram comes in
 
 pub drawop_begins : (now : ℕ) (d : DrawopValue) (k : Keeping) → (rest : List Line) × ((came now (Draw d) (sees k.host) k.policy).lines ≡ (Ticks now ∷ []) ++ Arrives d ∷ rest)
 drawop_begins now d k = by (holds (view_of host) d.name) (is_full (view_of host)) where

@@ -16,7 +16,7 @@ use Rattle.wb_kept_progress.proofs.Lining.{IsPart, IsTurnOf, line_of_turn, part_
 use Rattle.wb_kept_progress.proofs.Timely.{answerable, holding, joined, keep_time, made, places, timers_here}
 use Rattle.wb_progress.proofs.Parts.{tails}
 
--- ---- parts of a trace are told by their lengths
+-- ---- parts of a trace differ by their lengths
 
 longer : (newer older : List Performed) → length older ≤ length (newer ++ older)
 longer newer older = let l = length-append newer older in omega (arith, l)

@@ -1,4 +1,4 @@
--- At each host that keeps itself time goes on, and delays are in range.
+-- At each self-managing host time goes on, and delays are in range.
 use Rattle.wb_recovery.specs.Timing.{are_constants}
 use Rattle.std.proofs.Common.{◌≡◌, ℕ, ◌≤◌, Bool, true, false, cond, List, [], ◌∷◌, ◌∙◌, None, ap, arith, map, refl, subst, sym, eqb-true}
 use Rattle.std.specs.Prelude.{nat_eq, take, ◌*◌, ◌/◌, ◌+◌, max, min}

@@ -1,4 +1,4 @@
--- Who hears a report of a number that it lacks asks for it.
+-- A host that hears a report of a number that it lacks asks for it.
 use Rattle.std.proofs.Common.{◌≡◌, ℕ, suc, ◌+◌, ◌*◌, ◌≤◌, Bool, true, false, cond, List, [], ◌∷◌, ◌∙◌, Option, Some, None, ap, arith, eqb-true, length, map, refl, subst, sym, true≢false}
 use Rattle.std.specs.Prelude.{◌&&◌, Contains, IfSome, filter, is_some, max, min, nat_eq, nat_le, nat_lt, not, take, unwrap_or}
 use Rattle.std.proofs.lemmas.List.Sums.{count_by-le-length, length-filter}
@@ -135,7 +135,7 @@ measures_may sender (Some micros) k n used may = by (nat_eq (bounded micros) mic
   by true = record { names = may.names; are = record { all = may.are.all; paid = may.are.paid }; none = may.none; lacks = may.lacks; room = may.room; answers = may.answers; paid = may.paid }
   by false = record { names = may.names; are = record { all = may.are.all; paid = may.are.paid }; none = may.none; lacks = may.lacks; room = may.room; answers = may.answers; paid = may.paid }
 
--- ---- what is due behind that
+-- ---- what is due after that
 
 asked_as : (k m : Keeping) (n : NameValue) → m.host ≡ k.host → m.policy.owed ≡ k.policy.owed → IsAskedAnew k n → IsAskedAnew m n
 asked_as k m n same owed is = record {
@@ -179,7 +179,7 @@ at_most_all me page marks =
       mapped [] = refl
       mapped (m ∷ marks) = ap suc (mapped marks)
 
--- Behind a wait above each wait of a timer, and where all names are paid for, it asks for each that is told and that it lacks.
+-- After a wait above each wait of a timer, and if all names are paid for, it asks for each in the report that it lacks.
 module _ (k : Keeping) (fine : IsFine k) (answering : AnswersWhatIsHeld k.host) (now : ℕ) (late : present k.host + asking_wait ≤ now) (owed : k.policy.owed ≤ now) (sender sent : ℕ) (page : PageId) (marks : List MarkValue) (echoes : List Echo) (other : sender ≡ k.host.is.number → ⊥) (small : length marks ≤ 64) (n : NameValue)
     (told : Contains (told_names k.host.is.number page marks) n) (lacks : holds (view_of k.host) n ≡ false) (room : is_full k.host ≡ false) (none : asks_for n k.host ≡ false) where
   abbrev m : Keeping

@@ -1,4 +1,4 @@
--- By when what is asked for comes to hosts that keep themselves: as to the hosts that perform their lines.
+-- By when what is asked for comes to self-managing hosts: as to the hosts that perform their lines.
 use Rattle.std.proofs.Common.{◌≡◌, ℕ, ◌+◌, ◌<◌, ◌≤◌, true, List, [], ◌∷◌, ◌++◌, ◌∙◌, ap, append_assoc, inl, inr, max, refl, subst, sym, ⊎_elim}
 use Rattle.std.specs.Prelude.{Contains, nat_eq}
 use Rattle.std.proofs.lemmas.List.Elements.{Contains-append_cases}

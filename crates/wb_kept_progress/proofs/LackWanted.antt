@@ -1,4 +1,4 @@
--- What a live host lacks is wanted in time: the greatest number of its source is told to it, or its hole has its turn.
+-- What a live host lacks is wanted in time: a report tells it the greatest number of its source, or its hole has its turn.
 use Rattle.std.proofs.Common.{◌≡◌, ℕ, suc, ◌+◌, ◌-◌, ◌*◌, ◌^◌, ◌<◌, ◌≤◌, Bool, true, false, List, [], ◌∷◌, ◌++◌, ◌∙◌, Some, ap, append_assoc, arith, eqb-true, length, mul-le-mul, refl, subst, sym, true≢false}
 use Rattle.std.specs.Prelude.{◌⊎◌, ◌&&◌, Contains, filter, nat_eq, nat_le, not}
 use Rattle.std.proofs.lemmas.Bool.{leb-true, false_from_ne_true}
@@ -90,7 +90,7 @@ module _ (was_held : HeldWasHeld) (hosts : ℕ → Opening) (terms : Terms) (tra
   abbrev policy_at : (k : ℕ) → Contains terms.live k → Policy
   policy_at k live = first hosts terms trace newest window base s still quiet k live from since
 
-  -- a part behind so many of its reports, and the next report
+  -- a part after `count` of its reports, and the next report
   abbrev BehindAt : (k : ℕ) → Contains terms.live k → ℕ → Type 0
   BehindAt k live count = IsBehind hosts terms trace newest window base s still quiet k live from since count
 
@@ -146,7 +146,7 @@ module _ (was_held : HeldWasHeld) (hosts : ℕ → Opening) (terms : Terms) (tra
   cut_quiet c = quiet_behind hosts terms trace s (newest ++ c.front) c.grown base (cut_split c) quiet
 
   module _ (before_end : by < called_at (window ++ base)) (i : ℕ) (live : Contains terms.live i) where
-    -- so many reports come before the end
+    -- `count` + 1 reports come before the end
     in_time : (count : ℕ) → suc count ≤ turns_most → from + suc count * span < called_at (window ++ base)
     in_time count le = let m = more_spans (suc count) turns_most span le in omega (arith, m, before_end)
 
@@ -204,7 +204,7 @@ module _ (was_held : HeldWasHeld) (hosts : ℕ → Opening) (terms : Terms) (tra
                     (window_report i live count b r) (before_report i live count b r) r.place r.reporting.now_is wants (b.behind r.later r.between r.e r.split)
                     (omega (arith, soon, m))
 
-    -- ---- the greatest number of a source is told
+    -- ---- a report tells the greatest number of a source
 
     module _ (j : ℕ) (live_j : Contains terms.live j) (differ : j ≡ i → ⊥) (d : DrawopValue) (there_d : Contains (held_by j) d) (counted : 1 ≤ d.name.seq)
         (top_small : highest d.name.page d.name.source (held_by j) < 2147483648) where
@@ -223,7 +223,7 @@ module _ (was_held : HeldWasHeld) (hosts : ℕ → Opening) (terms : Terms) (tra
       abbrev u : Told
       u = told_of (policy_at j live_j)
 
-      -- among names that are told
+      -- among the names of a report
       in_names : (me : ℕ) (told : PageId) (marks : List MarkValue) → told ≡ page → Contains marks mark → Contains (told_names me told marks) top_name
       in_names me told marks same among = subst (λ (p : PageId). Contains (told_names me p marks) top_name) (sym same) there_is where
         p : MarkValue → Bool
@@ -242,7 +242,7 @@ module _ (was_held : HeldWasHeld) (hosts : ℕ → Opening) (terms : Terms) (tra
         there_is : Contains (told_names me page marks) top_name
         there_is = in_map (λ (m : MarkValue). name_of page m.source m.high) (filter p marks) mark (Contains-filter p marks mark among passes)
 
-      -- so many reports come before it is told
+      -- `count` reports come before the one that tells it
       record IsToldAt (count : ℕ) : Type 0 where
         fits : suc count ≤ turns_most
         page_is : page_in_turn (held_by j) (after_tellings (held_by j) count u) ≡ page

@@ -1,4 +1,4 @@
--- What the parts of a call leave as it was: turns, what is owed, what was told last, and when the next report is due.
+-- What the parts of a call leave as it was: turns, what is owed, the last report, and when the next one is due.
 use Rattle.std.proofs.Common.{◌≡◌, ℕ, ◌+◌, ◌/◌, ◌≤◌, Bool, true, false, cond, List, [], ◌∷◌, ◌++◌, ◌∙◌, Option, Some, None, arith, map, refl}
 use Rattle.std.specs.Prelude.{◌||◌, ◌%◌, length, max, min, nat_eq, nat_lt, take}
 use Rattle.wb_names.specs.Values.{DrawopValue, MarkValue, NameValue}
@@ -121,7 +121,7 @@ near_tells (name ∷ names) see p =
     (both (want name false) (want_near names) (want_tells name false) (near_tells names) see p) (same p))
     (near_tells names see p)
 
--- the same from another policy on, by which nothing was told
+-- the same from another policy on, which reported nothing
 from : (p q r : Policy) → q.reports.due ≡ p.reports.due → told_of q ≡ told_of p → SameReports q r → SameReports p r
 from p q r due told s = behind p q r (record { due = due; told = told }) s
 

@@ -126,7 +126,7 @@ lines_grow (line ∷ lines) host =
     let b = rest.longer in
     record { kept = λ x c. rest.kept x (one.kept x c); longer = omega (arith, a, b); once = λ once. rest.once (one.once once) }
 
--- ---- lines by which time stands still, nothing comes, and no request is said
+-- ---- lines at which time stands still, nothing comes, and no request is said
 
 abbrev pub IsSmall : Line → Type 0
 IsSmall (Ticks now) = ⊥
@@ -145,7 +145,7 @@ IsSmall (Says (PageState sender page marks)) = Unit {0}
 abbrev pub AreSmall : List Line → Type 0
 AreSmall lines = Each IsSmall lines
 
--- such are those by which a policy asks and tells
+-- such are those with which a policy asks and tells
 pub are_small : OfPolicy IsSmall
 are_small = record {
   asks = λ name. tt;

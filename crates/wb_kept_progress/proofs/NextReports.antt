@@ -184,7 +184,7 @@ cut (e ∷ window) base from le = ⊎_elim
       later front rest lt [] b y is = let same : e ≡ y = cc in subst (λ (z : TimedLine). from < z.time) same lt
       later front rest lt (x ∷ a) b y is = rest a b y cc
 
--- ---- so many reports
+-- ---- a number of reports
 
 module _ (hosts : ℕ → Opening) (terms : Terms) (trace newest window base : List TimedLine) (s : IsTimelySession hosts terms trace)
     (still : IsStill hosts terms trace newest window base) (late : terms.quiet < called_at base) (i : ℕ) (live : Contains terms.live i)
@@ -201,7 +201,7 @@ module _ (hosts : ℕ → Opening) (terms : Terms) (trace newest window base : L
   abbrev span : ℕ
   span = report_span terms
 
-  -- a part of the window, behind so many reports
+  -- a part of the window, after `count` reports
   pub record IsBehind (count : ℕ) : Type 0 where
     pub front : List TimedLine
     pub grown : List TimedLine

@@ -1,4 +1,4 @@
--- Hosts that keep themselves perform lines, and each call of theirs begins with a tick.
+-- Self-managing hosts perform lines, and each call of theirs begins with a tick.
 use Rattle.std.proofs.Common.{◌≡◌, ℕ, ◌+◌, Bool, true, false, cond, List, [], ◌∷◌, ◌++◌, ◌∙◌, ap, eqb-true, eq-eqb, map, refl, subst, sym, ⊎_elim}
 use Rattle.std.specs.Prelude.{nat_eq}
 use Rattle.wb_names.specs.declared.name.PageId.{PageId}

@@ -45,7 +45,7 @@ use Rattle.wb_kept_progress.proofs.Going.{Goes, kept_goes, line_goes}
 use Rattle.wb_kept_progress.proofs.Lines.{IsOf, Rests, line_rests, lines_grow, lines_of, IsSmall, are_small, does_rest, rests_then}
 use Rattle.wb_keeping.proofs.EachLine.{learned_each, timed_each}
 
--- ---- one line of a host that keeps itself
+-- ---- one line of a self-managing host
 
 pub tick_rests : (now : ℕ) (k : Keeping) → Rests (ticked now k.host) (after_doing (ticks now) k).host
 tick_rests now k =

@@ -52,7 +52,7 @@ IsTuned line = (constants : Tuning) × (line ≡ Tuned constants)
 abbrev pub DrawsNothing : KeptLine → Type 0
 DrawsNothing line = (now : ℕ) (page : PageId) (time : ℕ) (op : Op) → line ≢ Added now page time op
 
--- when the next report of a host is due behind a call at a moment, by which nothing is drawn
+-- when the next report of a host is due after a call at a moment, if it draws nothing
 pub call_due : (line : KeptLine) (moment : ℕ) (k : Keeping) → IsTold moment line → DrawsNothing line
     → IsDueThen moment k.policy.reports.due (after_doing (doing_of line) k).policy.reports.due ⊎ (IsTuned line × ((after_doing (doing_of line) k).policy.reports.due ≡ k.policy.reports.due))
 call_due (Came now v) moment k told draws = inl (subst (λ (m : ℕ). IsDueThen m k.policy.reports.due (after_doing (came now v) k).policy.reports.due) told (after_came now v k))

@@ -215,7 +215,7 @@ module _ (numbers : ℕ → ℕ) where
     in_range = λ i. (are_fit calls taken i).in_range;
   }
 
-  -- ---- the lines behind them
+  -- ---- the lines after them
 
   module _ (time : ℕ) (older : List CallAt) where
     abbrev h : ℕ → hosts.Opening

@@ -1,4 +1,4 @@
--- Why a host that keeps itself gives a name up.
+-- Why a self-managing host gives a name up.
 use Rattle.std.proofs.Common.{◌≡◌, ℕ, ◌<◌, ◌≤◌, Bool, true, false, cond, List, [], ◌∷◌, ◌++◌, ◌∙◌, Option, Some, None, ap, arith, inl, inr, is_some, length, refl, subst, sym, true≢false, ⊎_elim}
 use Rattle.std.specs.Prelude.{◌⊎◌, ◌&&◌, Contains, nat_le, not, take, unwrap_or, ◌||◌}
 use Rattle.std.proofs.lemmas.Bool.{and_parts, leb-false, leb-true, or_cases}

@@ -1,4 +1,4 @@
--- What a host that keeps itself tells of names, it holds.
+-- What a self-managing host tells of names, it holds.
 use Rattle.std.proofs.Common.{◌≡◌, ℕ, Bool, true, false, cond, List, [], ◌∷◌, ◌++◌, ◌∙◌, Option, Some, None, ap, arith, inl, inr, map, refl, subst, sym, ⊎_elim}
 use Rattle.std.specs.Prelude.{◌⊎◌, Contains, filter, nat_lt, take}
 use Rattle.std.specs.Option.{option_map}

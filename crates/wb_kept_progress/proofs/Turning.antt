@@ -226,7 +226,7 @@ module _ (hosts : ℕ → Opening) (older : List LineAt) (i : ℕ) where
         asked = subst (λ (x : Keeping). asks_for n x.host ≡ true) (sym (behind_next count)) (tick_asks k (ready_at k) (due_for k) (paid_for k) n (answers_at hosts (some_ticks count ++ older) i) lacks_k (room_behind count room) turn_k);
       }
 
-  -- behind so many reports, the next one tells what has its turn
+  -- after `count` reports, the next one tells what has its turn
   pub comes_to_tell : (page : PageId) (mark : MarkValue) (count : ℕ) → AreTaken hosts older
       → page_in_turn (host_at hosts older i).is.held (after_tellings (host_at hosts older i).is.held count (told_of (kept_at hosts older i).policy)) ≡ page
       → Contains (marks_in_turn (host_at hosts older i).is.held (after_tellings (host_at hosts older i).is.held count (told_of (kept_at hosts older i).policy))) mark

@@ -1,4 +1,4 @@
--- A call in which a name is wanted: a timer stands behind some of its lines, or it has no credit.
+-- A call in which a name is wanted: a timer stands after some of its lines, or it has no credit.
 use Rattle.std.proofs.Common.{◌≡◌, ℕ, ◌+◌, ◌<◌, ◌≤◌, true, List, [], ◌∷◌, ◌++◌, ◌∙◌, Some, ap, append_assoc, eqb-true, inl, inr, subst, sym, ⊎_elim}
 use Rattle.std.specs.Prelude.{◌⊎◌, nat_eq}
 use Rattle.wb_names.specs.Values.{NameValue}

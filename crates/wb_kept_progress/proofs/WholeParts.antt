@@ -55,7 +55,7 @@ HeldWasHeld = (hosts : ℕ → Opening) (terms : Terms) (trace newer older : Lis
 
 -- ---- why a name is asked for, and why it is given up
 
--- a report is due, and it is the name whose turn comes behind it
+-- a report is due, and it is the name whose turn comes after it
 pub record HasTurn (k : Keeping) (now : ℕ) (n : NameValue) : Type 0 where
   pub due : k.policy.reports.due ≤ now
   pub named : name_in_turn k.host.is.held k.policy.turns ≡ Some n
@@ -94,13 +94,13 @@ TimersAreYoung = (hosts : ℕ → Opening) (terms : Terms) (trace : List TimedLi
     → performed hosts trace ≡ front ++ back → Contains terms.live i → known_from terms + wait + terms.late < time_of back → IsHeldBySome hosts terms trace n → timer_then hosts back i n ≡ Some ask
     → (ask.level ≡ 0) ⊎ ((newer later : List Performed) (j : ℕ) → performed hosts trace ≡ newer ++ later → time_of back + repairing terms < time_of later → Contains terms.live j → holds (host_then hosts later j) n ≡ true)
 
--- ---- where nothing new comes for a while
+-- ---- while nothing new comes
 
 pub record IsStill (hosts : ℕ → Opening) (terms : Terms) (trace newest window base : List TimedLine) : Type 0 where
   pub split : trace ≡ newest ++ (window ++ base)
   pub same : (front part : List TimedLine) (i : ℕ) → window ≡ front ++ part → Contains terms.live i → (there hosts (part ++ base) i).host.is.held ≡ (there hosts base i).host.is.held
 
--- all that is said of a session below
+-- all that the lemmas below take of a session
 pub record Holds (hosts : ℕ → Opening) (terms : Terms) (trace : List TimedLine) (sizes : Sizes) (wait most : ℕ) : Type 0 where
   pub session : IsTimelySession hosts terms trace
   pub within : AreWithin hosts terms trace sizes

@@ -1,4 +1,4 @@
--- Where the timer that was backed off most was not backed off, none was, and it is that of the least name.
+-- If the timer that was backed off most was not backed off, none was, and it is that of the least name.
 use Rattle.std.proofs.Common.{◌≡◌, suc, ◌≤◌, Bool, true, false, cond, List, [], ◌∷◌, ◌∙◌, Option, Some, None, ap, arith, length, map, refl, subst, sym}
 use Rattle.std.specs.Prelude.{Contains, is_some, nat_lt}
 use Rattle.std.specs.List.{fold}
@@ -26,7 +26,7 @@ use Rattle.wb_keeping.proofs.AskedTimers.{named}
 use Rattle.wb_kept_progress.proofs.Asking.{from_names, level_told, oldest_is_one, oldest_most, same_zero}
 use Rattle.std.proofs.lemmas.Option.{same_Some, none-some}
 
--- the first is the oldest where none of those behind it was backed off more
+-- the first is the oldest if none of those after it was backed off more
 first_stays : (a : AskedName) (later : List AskedName) → ((b : AskedName) → Contains later b → b.level ≤ a.level) → fold older a later ≡ a
 first_stays a [] few = refl
 first_stays a (b ∷ later) few = ap (λ (x : AskedName). fold older x later) (stays (nat_lt a.level b.level) refl) ∙ first_stays a later (λ c there. few c (Contains-there b c later there)) where

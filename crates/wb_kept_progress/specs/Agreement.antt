@@ -1,4 +1,4 @@
--- What hosts that keep themselves show alike, once all of a session has come to each of them.
+-- What self-managing hosts show alike, once all of a session has come to each of them.
 use Rattle.std.specs.Prelude.{◌≡◌, ℕ, ◌<◌, ◌≤◌, List, ◌++◌, Contains}
 use Rattle.wb_names.specs.Values.{DrawopValue}
 use Rattle.wb_names.specs.declared.name.PageId.{PageId}
@@ -26,7 +26,7 @@ pub record LookAlike (one other : List DrawopValue) : Type 0 where
   pub views : (page : PageId) → view_of one page ≡ view_of other page
   pub canvases : (page : PageId) (width height : ℕ) → canvas_text (view_of one page) width height ≡ canvas_text (view_of other page) width height
 
--- Behind the time by which a session is whole, the boards of any two live hosts look alike, where no name means two drawops to them.
+-- After the time at which a session is whole, the boards of any two live hosts look alike, if no name means two drawops to them.
 abbrev pub SessionsAgree : Type 0
 SessionsAgree = (hosts : ℕ → Opening) (terms : Terms) (trace newer later : List TimedLine) (sizes : Sizes) (wait most i j : ℕ)
     → IsTimelySession hosts terms trace → AreWithin hosts terms trace sizes → WaitAtMost hosts terms trace wait → LackAtMost hosts terms trace most → request_span terms ≤ 60000000

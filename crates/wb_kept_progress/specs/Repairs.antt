@@ -1,4 +1,4 @@
--- Lines that bring a drawop from a host that holds it to one that lacks it, where each keeps itself.
+-- Lines that bring a drawop from a host that holds it to one that lacks it, if each is self-managing.
 use Rattle.std.specs.Prelude.{◌≡◌, ◌<◌, ◌≤◌, ℕ, ◌+◌, ◌-◌, ◌*◌, ◌^◌, true, false, List, [], ◌∷◌, ◌++◌, Contains, length, max}
 use Rattle.wb_names.specs.History.{highest, name_of}
 use Rattle.wb_names.specs.Values.{DrawopValue, MarkValue, NameValue}
@@ -38,8 +38,8 @@ pub record IsBrought (hosts : ℕ → Opening) (newer older : List LineAt) (i j 
 
 -- ---- a name that is asked for
 
--- The host that lacks the drawop is told the time; the one that holds it is told the time twice, the request comes to it, and it is told
--- the time; and the drawop comes. The newest line is the first.
+-- The host that lacks the drawop gets a tick. The one that holds it gets two ticks, then the request, then a tick. Then the drawop
+-- comes. The newest line is the first.
 abbrev pub repair : ℕ → ℕ → Opened → Opened → DrawopValue → List LineAt
 repair i j host other d =
     let asking = present host + asking_wait in
@@ -53,14 +53,14 @@ repair i j host other d =
     ∷ at i (Ticked asking)
     ∷ []
 
--- Whatever came in before: where its request timer stands, these lines bring it.
+-- Whatever came in before: if its request timer stands, these lines bring it.
 abbrev pub AskedCanCome : Type 0
 AskedCanCome = (hosts : ℕ → Opening) (older : List LineAt) (i j : ℕ) (d : DrawopValue) → AreHosts hosts → AreTaken hosts older → IsLost hosts older i j d → asks_for d.name (host_at hosts older i) ≡ true
     → IsBrought hosts (repair i j (host_at hosts older i) (host_at hosts older j) d) older i j d
 
 -- ---- a name below a top
 
--- lines by which a host is told the time alone
+-- lines that only hand a host the time
 abbrev pub AreTicks : ℕ → List LineAt → Type 0
 AreTicks i [] = Unit {0}
 AreTicks i (e ∷ lines) = ((e.place ≡ i) × (now : ℕ) × (e.line ≡ Ticked now)) × AreTicks i lines
@@ -78,7 +78,7 @@ pub record ComesToAsk (hosts : ℕ → Opening) (newer older : List LineAt) (i :
   pub same : (host_at hosts (newer ++ older) i).is.held ≡ (host_at hosts older i).is.held
   pub asked : asks_for n (host_at hosts (newer ++ older) i) ≡ true
 
--- A number of a source that is missing below the greatest that a host holds of it comes to be asked for, where the board has a free cell.
+-- A number of a source that is missing below the greatest that a host holds of it comes to be asked for, if the board has a free cell.
 abbrev pub MissingIsAsked : Type 0
 MissingIsAsked = (hosts : ℕ → Opening) (older : List LineAt) (i : ℕ) (n : NameValue) → AreHosts hosts → AreTaken hosts older → IsMissing (host_at hosts older i).is.held n.page [] n.source n.seq → n.seq < 2147483648 → is_full (host_at hosts older i) ≡ false
     → (newer : List LineAt) × ComesToAsk hosts newer older i n
@@ -95,7 +95,7 @@ abbrev pub MissingCanCome : Type 0
 MissingCanCome = (hosts : ℕ → Opening) (older : List LineAt) (i j : ℕ) (d : DrawopValue) → AreHosts hosts → AreTaken hosts older → IsLost hosts older i j d → IsMissing (host_at hosts older i).is.held d.name.page [] d.name.source d.name.seq → d.name.seq < 2147483648
     → (newer : List LineAt) × IsBrought hosts newer older i j d
 
--- ---- any number that is told
+-- ---- any number that a report tells
 
 -- No line more is refused, and each brings only what these lines sent. After them the host holds the drawop.
 pub record HasCome (hosts : ℕ → Opening) (newer older : List LineAt) (i : ℕ) (d : DrawopValue) : Type 0 where
@@ -103,8 +103,8 @@ pub record HasCome (hosts : ℕ → Opening) (newer older : List LineAt) (i : �
   pub sent : AreSent hosts newer older
   pub held : Contains (host_at hosts (newer ++ older) i).is.held d
 
--- A mark of a board of S slices comes to be told: by at most S ticks of its host, and as many more as the page has slices that was told
--- last, a report is sent that has it.
+-- A mark of a board of S slices comes into a report: the host sends one that has it after at most S ticks, and as many more as
+-- the page that it reported last has slices.
 pub record ComesToTell (hosts : ℕ → Opening) (newer older : List LineAt) (j : ℕ) (page : PageId) (m : MarkValue) : Type 0 where
   pub ticks : AreTicks j newer
   pub taken : AreTaken hosts (newer ++ older)
@@ -121,7 +121,7 @@ abbrev pub MarksComeToBeTold : Type 0
 MarksComeToBeTold = (hosts : ℕ → Opening) (older : List LineAt) (j : ℕ) (page : PageId) (m : MarkValue) → AreTaken hosts older → Contains (pages_of (host_at hosts older j).is.held) page → Contains (report_of (host_at hosts older j).is.held page) m
     → (newer : List LineAt) × ComesToTell hosts newer older j page m × (length newer ≤ slices_of (host_at hosts older j).is.held + slices_on (host_at hosts older j).is.held (kept_at hosts older j).policy.told_page)
 
--- No loss is final. Whatever came in before, a drawop that one host lacks and another holds can come, where the one has two free cells and
+-- No loss is final. Whatever came in before, a drawop that one host lacks and another holds can come, if the one has two free cells and
 -- the other holds no number of its source on its page that is 2^31 or more.
 abbrev pub LostCanCome : Type 0
 LostCanCome = (hosts : ℕ → Opening) (older : List LineAt) (i j : ℕ) (d : DrawopValue) → AreHosts hosts → AreTaken hosts older → 1 ≤ d.name.seq → Contains (host_at hosts older j).is.held d → holds (host_at hosts older i) d.name ≡ false

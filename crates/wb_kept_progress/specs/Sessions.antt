@@ -1,4 +1,4 @@
--- Sessions of hosts that keep themselves. What one sends may be lost, and may be handed in to any of them, at any later point, any
+-- Sessions of self-managing hosts. What one sends may be lost, and may be handed in to any of them, at any later point, any
 -- number of times.
 use Rattle.std.specs.Prelude.{◌≡◌, ◌≤◌, ℕ, true, List, [], ◌∷◌, ◌++◌, Contains, None, map, nat_eq, if◌then◌else◌}
 use Rattle.wb_codec.specs.declared.datagram.Datagram.{Datagram}
@@ -12,7 +12,7 @@ use Rattle.wb_keeping.specs.Policy.{begun}
 
 -- ---- hosts and their lines
 
--- How a host begins to keep itself: it was opened so, was told these moments, and has a rate for reports and a time to listen.
+-- How a host becomes self-managing: it was opened so, took in these moments, and has a rate for reports and a time to listen.
 pub record Opening : Type 0 where
   pub constants : Tuning
   pub number : ℕ
@@ -53,7 +53,7 @@ abbrev pub DoNotGoBack : ℕ → List ℕ → Type 0
 DoNotGoBack now [] = Unit {0}
 DoNotGoBack now (moment ∷ moments) = (now ≤ moment) × DoNotGoBack moment moments
 
--- No two hosts have one number, time went on at each before it kept itself, and the constants of timers are 1 to 16.
+-- No two hosts have one number, time went on at each before it was self-managing, and the constants of timers are 1 to 16.
 pub record AreHosts (hosts : ℕ → Opening) : Type 0 where
   pub distinct : (i j : ℕ) → (hosts i).number ≡ (hosts j).number → i ≡ j
   pub moments : (i : ℕ) → DoNotGoBack 0 (hosts i).moments

@@ -1,4 +1,4 @@
--- Hosts in real time, by the lines that they perform. A host that keeps itself performs such lines, one after the other.
+-- Hosts in real time, by the lines that they perform. A self-managing host performs such lines, one after the other.
 use Rattle.std.specs.Prelude.{◌≡◌, ◌≢◌, ◌⊎◌, ℕ, ◌+◌, ◌*◌, ◌<◌, ◌≤◌, true, false, map, max, List, [], ◌∷◌, ◌++◌, Contains, IfSome, Some, nat_eq, nat_le, if◌then◌else◌}
 use Rattle.wb_names.specs.Values.{DrawopValue, NameValue}
 use Rattle.wb_codec.specs.declared.datagram.Datagram.{Datagram}
@@ -41,7 +41,7 @@ host_after hosts (e ∷ older) i = if nat_eq e.place i then after_line e.line (h
 abbrev pub timers_after : (ℕ → Start) → List Performed → ℕ → NameValue → Timers
 timers_after hosts trace i n = let host = host_after hosts trace i in timers_of host.is.constants (events host) n
 
--- what a line sends that comes behind the older ones
+-- what a line sends that comes after the older ones
 abbrev pub sends : (ℕ → Start) → List Performed → Performed → List Datagram
 sends hosts older e = sent_by_line e.line (host_after hosts older e.place)
 
@@ -96,7 +96,7 @@ pub record IsTimely (hosts : ℕ → Start) (terms : Terms) (trace : List Perfor
   pub tuned : (newer older : List Performed) (i : ℕ) → trace ≡ newer ++ older → Contains terms.live i → let host = host_after hosts older i in IsUnder (longest terms) (constants_after host.is.constants (events host))
   pub order : AreInOrder trace
   pub reported : 1 ≤ terms.reporting
-  -- a tick makes the moment the time and the offset of its place, and a datagram is heard behind such a tick
+  -- a tick makes the moment the time and the offset of its place, and a datagram is heard after such a tick
   pub times : (newer older : List Performed) (e : Performed) (now : ℕ) → trace ≡ newer ++ e ∷ older → e.line ≡ Ticks now → now ≡ e.time + terms.offset e.place
   pub behind : (newer older : List Performed) (e : Performed) (v : Datagram) → trace ≡ newer ++ e ∷ older → e.line ≡ Hears v → present (host_after hosts older e.place) ≡ e.time + terms.offset e.place
   -- from `quiet` on a tick comes once a timer is due: until a line comes, no timer that stands at a live place is overdue
@@ -118,7 +118,7 @@ pub record IsTimely (hosts : ℕ → Start) (terms : Terms) (trace : List Perfor
 abbrev pub IsAnswerable : (ℕ → Start) → Terms → List Performed → NameValue → Type 0
 IsAnswerable hosts terms trace n = (j : ℕ) × Contains terms.live j × (holds (host_after hosts (until (settled_by terms) trace) j) n ≡ true)
 
--- each live place has it once the trace has gone on behind a time
+-- each live place has it once the trace has gone on after a time
 abbrev pub AllHoldBehind : (ℕ → Start) → Terms → List Performed → ℕ → NameValue → Type 0
 AllHoldBehind hosts terms trace time n = (newer later : List Performed) (i : ℕ) → trace ≡ newer ++ later → time < time_of later → Contains terms.live i → holds (host_after hosts later i) n ≡ true
 
@@ -127,7 +127,7 @@ abbrev pub RequestIsAnswered : Type 0
 RequestIsAnswered = (hosts : ℕ → Start) (terms : Terms) (trace newer older : List Performed) (e : Performed) (asker : ℕ) (n : NameValue) → IsTimely hosts terms trace → trace ≡ newer ++ e ∷ older → settled_by terms < e.time → settled_by terms + 3 * terms.far ≤ e.time
     → Contains (sends hosts older e) (Request asker n) → IsAnswerable hosts terms trace n → AllHoldBehind hosts terms trace (e.time + answering_by terms) n
 
--- a name is given up at a place behind a part, while its timer stands as it was
+-- a name is given up at a place after a part, while its timer stands as it was
 pub record IsGivenUp (hosts : ℕ → Start) (trace base : List Performed) (i : ℕ) (n : NameValue) (ask : AskTimer) (by : ℕ) : Type 0 where
   pub front : List Performed
   pub e : Performed
@@ -138,13 +138,13 @@ pub record IsGivenUp (hosts : ℕ → Start) (trace base : List Performed) (i : 
   pub stands : (timers_after hosts (between ++ base) i n).ask ≡ Some ask
   pub soon : e.time ≤ by
 
--- A request timer that stands late enough leads to such a request, or its name is given up there before. So where it is not, all come to hold the name.
+-- A request timer that stands late enough leads to such a request, or its name is given up there before. So if it is not, all come to hold the name.
 abbrev pub TimerLeadsOrIsGivenUp : Type 0
 TimerLeadsOrIsGivenUp = (hosts : ℕ → Start) (terms : Terms) (trace newer older : List Performed) (i : ℕ) (n : NameValue) (ask : AskTimer) (due : ℕ) → IsTimely hosts terms trace → trace ≡ newer ++ older → Contains terms.live i → known_from terms ≤ time_of older
     → (timers_after hosts older i n).ask ≡ Some ask → ask.due ≤ due + terms.offset i → IsAnswerable hosts terms trace n
     → AllHoldBehind hosts terms trace (max (time_of older) due + repairing terms) n ⊎ IsGivenUp hosts trace older i n ask (max (time_of older) due + terms.late)
 
--- ---- hosts that keep themselves
+-- ---- self-managing hosts
 
 -- a host is handed a line at a time
 pub record TimedLine : Type 0 where
@@ -159,7 +159,7 @@ abbrev pub performed_then : ℕ → ℕ → List Line → List Performed → Lis
 performed_then time place [] older = older
 performed_then time place (line ∷ lines) older = performed_then time place lines (record { time = time; place = place; line = line } ∷ older)
 
--- what hosts that keep themselves perform: each the lines of its policy, at the time of the line that it was handed
+-- what self-managing hosts perform: each the lines of its policy, at the time of the line that it was handed
 abbrev pub performed : (ℕ → Opening) → List TimedLine → List Performed
 performed hosts [] = []
 performed hosts (e ∷ older) = let k = kept_at hosts (lines_of older) e.at.place in performed_then e.time e.at.place (doing_of e.at.line (sees k.host) k.policy).lines (performed hosts older)
@@ -167,15 +167,15 @@ performed hosts (e ∷ older) = let k = kept_at hosts (lines_of older) e.at.plac
 abbrev pub start_of : Opening → Start
 start_of o = record { constants = o.constants; number = o.number; cells = o.cells; seed = o.seed }
 
--- a line tells this moment, where it tells one
+-- if a line says a moment, it is this one
 abbrev pub IsTold : ℕ → KeptLine → Type 0
 IsTold moment (Came now v) = now ≡ moment
 IsTold moment (Ticked now) = now ≡ moment
 IsTold moment (Added now page time op) = now ≡ moment
 IsTold moment (Tuned constants) = Unit {0}
 
--- So each of them, where it keeps itself from its opening on, is the host that performed these lines. Where each line tells the moment of its
--- time, so does each tick that is performed, and each datagram is heard at such a moment.
+-- So each of them, if it is self-managing from its opening on, is the host that performed these lines. If each line says the moment of
+-- its time, so does each tick that is performed, and each datagram is heard at such a moment.
 pub record IsPerformed (hosts : ℕ → Opening) (trace : List TimedLine) : Type 0 where
   pub same : (i : ℕ) → host_after (λ j. start_of (hosts j)) (performed hosts trace) i ≡ (kept_at hosts (lines_of trace) i).host
 
@@ -193,7 +193,7 @@ KeptIsPerformed = (hosts : ℕ → Opening) (trace : List TimedLine) → ((i : �
 abbrev pub KeptKeepsMoments : Type 0
 KeptKeepsMoments = (hosts : ℕ → Opening) (terms : Terms) (trace : List TimedLine) → TellTimes terms trace → KeepsMoments hosts terms trace
 
--- ---- by when it comes to hosts that keep themselves
+-- ---- by when it comes to self-managing hosts
 
 -- the time of the newest call, at first 0
 abbrev pub called_at : List TimedLine → ℕ
@@ -209,7 +209,7 @@ pub record IsKeptTimely (hosts : ℕ → Opening) (terms : Terms) (trace : List 
 abbrev pub IsKeptAnswerable : (ℕ → Opening) → Terms → List TimedLine → NameValue → Type 0
 IsKeptAnswerable hosts terms trace n = IsAnswerable (λ j. start_of (hosts j)) terms (performed hosts trace) n
 
--- each live host has it once the calls have gone on behind a time
+-- each live host has it once the calls have gone on after a time
 abbrev pub AllKeptHoldBehind : (ℕ → Opening) → Terms → List TimedLine → ℕ → NameValue → Type 0
 AllKeptHoldBehind hosts terms trace time n = (newer later : List TimedLine) (i : ℕ) → trace ≡ newer ++ later → time < called_at later → Contains terms.live i → holds (kept_at hosts (lines_of later) i).host n ≡ true
 
@@ -218,7 +218,7 @@ abbrev pub KeptRequestIsAnswered : Type 0
 KeptRequestIsAnswered = (hosts : ℕ → Opening) (terms : Terms) (trace newer older : List TimedLine) (e : TimedLine) (asker : ℕ) (n : NameValue) → IsKeptTimely hosts terms trace → trace ≡ newer ++ e ∷ older → settled_by terms < e.time → settled_by terms + 3 * terms.far ≤ e.time
     → Contains (sent_by_doing (doing_of e.at.line) (kept_at hosts (lines_of older) e.at.place)) (Request asker n) → IsKeptAnswerable hosts terms trace n → AllKeptHoldBehind hosts terms trace (e.time + answering_by terms) n
 
--- A request timer that stands behind a call late enough does so, or its name is given up there before.
+-- A request timer that stands after a call late enough does so, or its name is given up there before.
 abbrev pub KeptTimerLeadsOrIsGivenUp : Type 0
 KeptTimerLeadsOrIsGivenUp = (hosts : ℕ → Opening) (terms : Terms) (trace newer older : List TimedLine) (i : ℕ) (n : NameValue) (ask : AskTimer) (due : ℕ) → IsKeptTimely hosts terms trace → trace ≡ newer ++ older → Contains terms.live i → known_from terms ≤ called_at older
     → (let host = (kept_at hosts (lines_of older) i).host in (timers_of host.is.constants (events host) n).ask) ≡ Some ask → ask.due ≤ due + terms.offset i → IsKeptAnswerable hosts terms trace n

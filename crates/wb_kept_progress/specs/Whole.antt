@@ -1,4 +1,4 @@
--- By when all of a session has come to hosts that keep themselves, where from some time on nobody draws and nothing is lost.
+-- By when all of a session has come to self-managing hosts, if from some time on nobody draws and nothing is lost.
 use Rattle.std.specs.Prelude.{◌≡◌, ◌≢◌, ℕ, ◌+◌, ◌*◌, ◌^◌, ◌-◌, ◌<◌, ◌≤◌, false, List, [], ◌∷◌, ◌++◌, Contains, Some, length}
 use Rattle.wb_names.specs.Values.{DrawopValue, NameValue}
 use Rattle.wb_names.specs.declared.name.PageId.{PageId}
@@ -22,7 +22,7 @@ use Rattle.wb_kept_progress.specs.Timed.{AllKeptHoldBehind, IsAnswerable, Perfor
 abbrev pub there : (ℕ → Opening) → List TimedLine → ℕ → Keeping
 there hosts calls i = kept_at hosts (lines_of calls) i
 
--- what a call sends, behind the older ones
+-- what a call sends, after the older ones
 abbrev pub sends_then : (ℕ → Opening) → List TimedLine → TimedLine → List Datagram
 sends_then hosts older e = sent_by_doing (doing_of e.at.line) (there hosts older e.at.place)
 
@@ -63,7 +63,7 @@ pub record IsTimelySession (hosts : ℕ → Opening) (terms : Terms) (trace : Li
   pub order : AreCalledInOrder trace
   pub reported : 1 ≤ terms.reporting
   pub times : TellTimes terms trace
-  -- from `quiet` on a call of a live host comes at most so late behind the moment at which it has something to do
+  -- from `quiet` on a call of a live host comes at most `late` after the moment at which it has something to do
   pub soon : (newer older : List TimedLine) (e : TimedLine) (i : ℕ) → trace ≡ newer ++ e ∷ older → Contains terms.live i → terms.quiet < e.time → e.time + terms.offset i ≤ due (there hosts older i) + terms.late
   pub delays : (newer older : List Performed) (i source : ℕ) → performed hosts trace ≡ newer ++ older → Contains terms.live i → delay (host_after (λ j. start_of (hosts j)) older i) source ≤ terms.far
   pub alone : (newer older : List TimedLine) (e : TimedLine) → trace ≡ newer ++ e ∷ older → terms.quiet < e.time → Contains terms.live e.at.place
@@ -73,8 +73,8 @@ pub record IsTimelySession (hosts : ℕ → Opening) (terms : Terms) (trace : Li
       → IsHandedIn newer j (e.time + terms.delivery) v
   pub fresh : (newer older : List TimedLine) (e : TimedLine) (now : ℕ) (v : Datagram) → trace ≡ newer ++ e ∷ older → settled_by terms < e.time → e.at.line ≡ Came now v → WasSentBy hosts older e.time terms.delivery v
 
--- How much the board of a live host has from `quiet` on, at most: so many slices of marks, counted with those of the page that was told last, so many
--- holes, and so many numbers in a hole. Rounds stay below 2^32. No number that is held is 0, or 2^31 or more.
+-- The most that the board of a live host has from `quiet` on: slices of marks, counted with those of the page that it reported last, holes,
+-- and numbers in a hole. Rounds stay below 2^32. No number that is held is 0, or 2^31 or more.
 pub record Sizes : Type 0 where
   pub slices : ℕ
   pub holes : ℕ
@@ -102,11 +102,11 @@ abbrev pub AreApart : List Lack → Type 0
 AreApart [] = Unit {0}
 AreApart (x ∷ lacks) = (Contains lacks x → ⊥) × AreApart lacks
 
--- Behind lines that were performed a live host lacks the name, and one of them held it.
+-- After lines that were performed a live host lacks the name, and one of them held it.
 abbrev pub IsLackedAt : (ℕ → Opening) → Terms → List TimedLine → List Performed → Lack → Type 0
 IsLackedAt hosts terms trace back x = Contains terms.live x.place × IsHeldBySome hosts terms trace x.name × (holds (host_after (λ j. start_of (hosts j)) back x.place) x.name ≡ false)
 
--- Once what was on its way has arrived, all live hosts together lack at most so many: a name counts once for each that lacks it.
+-- Once what was on its way has arrived, all live hosts together lack at most `most`: a name counts once for each that lacks it.
 abbrev pub LackAtMost : (ℕ → Opening) → Terms → List TimedLine → ℕ → Type 0
 LackAtMost hosts terms trace most = (lacks : List Lack) → AreApart lacks → ((x : Lack) → Contains lacks x → IsLackedAt hosts terms trace (until (settled_by terms) (performed hosts trace)) x) → length lacks ≤ most
 
@@ -131,11 +131,11 @@ step terms sizes most =
     + (sizes.slices + 2 * sizes.numbers * sizes.holes + 1) * report_span terms + terms.delivery
     + most * request_span terms + repairing terms
 
--- the time by which each holds what one of them held
+-- the time at which each holds what one of them held
 abbrev pub whole_by : Terms → Sizes → ℕ → ℕ → ℕ
 whole_by terms sizes wait most = known_from terms + wait + repairing terms + (most + 1) * step terms sizes most
 
--- Behind that time each live host holds what one of them held, where a first request follows within a minute.
+-- After that time each live host holds what one of them held, if a first request follows within a minute.
 abbrev pub SessionsBecomeWhole : Type 0
 SessionsBecomeWhole = (hosts : ℕ → Opening) (terms : Terms) (trace : List TimedLine) (sizes : Sizes) (wait most : ℕ) (n : NameValue)
     → IsTimelySession hosts terms trace → AreWithin hosts terms trace sizes → WaitAtMost hosts terms trace wait → LackAtMost hosts terms trace most → request_span terms ≤ 60000000

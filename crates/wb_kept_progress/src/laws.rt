@@ -1,5 +1,5 @@
-//! Laws of progress of hosts that keep themselves. Each function does nothing: its contract is a
-//! law, for proofs to cite.
+//! Laws of progress of self-managing hosts. Each function does nothing: its contract is a law, for
+//! proofs to cite.
 
 ghost use Rattle.wb_kept_progress.specs.Agreement.{SessionsAgree};
 ghost use Rattle.wb_kept_progress.specs.Repairs.{AskedCanCome, MarksComeToBeTold, MissingCanCome, MissingIsAsked, MissingIsAskedSoon};
@@ -14,7 +14,7 @@ pub fn what_is_asked_for_can_come()
 {}
 
 /// A number that is missing below the greatest that a host holds of its source comes to be asked
-/// for, by ticks alone, where the board has a free cell. So a drawop of such a number can come from
+/// for, by ticks alone, if the board has a free cell. So a drawop of such a number can come from
 /// one that holds it.
 pub fn what_is_missing_can_come()
     ensures asked { MissingIsAsked }
@@ -22,7 +22,7 @@ pub fn what_is_missing_can_come()
     ensures comes { MissingCanCome }
 {}
 
-/// No state is a dead end. Each mark of a board comes to be told, by ticks of its host alone. So,
+/// No state is a dead end. A host comes to report each mark of its board, by its ticks alone. So,
 /// whatever came in before, and whoever started anew, a drawop that one member lacks and another
 /// holds comes by some lines, of which none is refused, and each hands in only what these lines
 /// sent.
@@ -31,10 +31,10 @@ pub fn what_is_lost_can_come()
     ensures comes { NoStateIsADeadEnd }
 {}
 
-/// Where hosts, drivers and the network keep to stated times, whatever hosts ask for, give up and
+/// If hosts, drivers and the network keep to stated times, whatever hosts ask for, give up and
 /// report: a request for what a live host held is answered to all of them, and a request timer
 /// leads to one, or its own host gives the name up first. So of a name that is not given up each
-/// timer leads to where all hold it. So it is with hosts that keep themselves.
+/// timer leads to where all hold it. So it is with self-managing hosts.
 pub fn what_is_asked_for_comes_in_time()
     ensures answered { RequestIsAnswered }
     ensures leads { TimerLeadsOrIsGivenUp }
@@ -42,19 +42,19 @@ pub fn what_is_asked_for_comes_in_time()
     ensures kept_leads { KeptTimerLeadsOrIsGivenUp }
 {}
 
-/// A host that keeps itself from its opening on is the host that performed the lines of its policy,
-/// each call at a time. Where each call tells the moment of its time, a tick to that moment stands
-/// before all else that is performed in it.
+/// A host that is self-managing from its opening on is the host that performed the lines of its
+/// policy, each call at a time. If each call names the moment of its time, a tick to that moment
+/// stands before all else that is performed in it.
 pub fn kept_hosts_perform_lines()
     ensures same { KeptIsPerformed }
     ensures moments { KeptKeepsMoments }
 {}
 
-/// A session of hosts that keep themselves becomes whole. Where from some time on nobody draws,
-/// nothing is lost, and drivers tick in time, each live host comes to hold, by a stated time, what
-/// one of them held. Behind it any two of them report, list and show the same, where no name means
-/// two drawops. None does where each drawop that comes was sent by one of the hosts, and no two of
-/// these have one number.
+/// A session of self-managing hosts becomes whole. If from some time on nobody draws, nothing is
+/// lost, and drivers tick in time, each live host comes to hold, by a stated time, what one of them
+/// held. After it any two of them report, list and show the same, if no name means two drawops.
+/// None does if each drawop that comes was sent by one of the hosts, and no two of these have one
+/// number.
 pub fn sessions_become_whole()
     ensures whole { SessionsBecomeWhole }
     ensures agree { SessionsAgree }

@@ -24,7 +24,7 @@ use Rattle.wb_laws_hosts.proofs.PlainTexts as texts
 use Rattle.wb_laws_hosts.proofs.Ranges.{hosts_hold_lines, sessions_hold_lines}
 use Rattle.wb_laws_hosts.proofs.Telling.{texts_tell_sends}
 
--- ---- what is told
+-- ---- what is answered
 
 module _ (host : Opened) (held : AreOneLine host.is.held) where
   unsent : (o : Outcome) → Plain (unsent_text o)

@@ -1,4 +1,4 @@
--- What is told of a board is in range where its drawops are.
+-- What answers say of a board is in range if its drawops are.
 use Rattle.std.proofs.Common.{◌≡◌, ◌<◌, ◌≤◌, ◌^◌, ℕ, Bool, true, false, max, List, [], ◌∷◌, length, refl, sym, subst, arith, ◌⊎◌, inl, inr, ⊎_elim, ltb-true, eqb-true}
 use Rattle.std.specs.Prelude.{All, IsTrue, map, nat_eq, nat_lt, if◌then◌else◌}
 use Rattle.std.proofs.lemmas.List.Elements.{All-nil, All-head, All-tail, All-map, All-weaker, All-contains}

@@ -77,7 +77,7 @@ said_fits : (P : Datagram → Type 0) (r : Result Datagram WrongWord) → IfOk r
 said_fits P (Ok v) fit = fit
 said_fits P (Err wrong) fit = tt
 
--- ---- lines of a host that keeps itself
+-- ---- lines of a self-managing host
 
 abbrev IsKept : DriverLine → Type 0
 IsKept (Keep rate listen) = Unit {0}

@@ -125,7 +125,7 @@ module _ (numbers : ℕ → ℕ) (place : ℕ) (older : List Step) (honest : Are
       driven (Came now v) is = one (Came now v) honest
       driven (Add a) is = one (Add a) honest
 
-    -- ---- at one that keeps itself
+    -- ---- at a self-managing host
 
     module _ (k : Keeping) (there : host_at numbers older place ≡ k.host) (knows : (a : Adding) → line ≡ Add a → KnowsItsOwn (drawn_at numbers older place) (Some (Kept k)) a.page) where
       unless_denied : (fault : Option KeptFault) (doing : Transition) (text : List ℕ) → Goes (deeds_doing doing k) → Goes (deeds_by (kept_does fault doing text k) (deeds_doing doing k))

@@ -35,7 +35,7 @@ abbrev pub member_in : Host → Opened
 member_in (Driven host seed) = host
 member_in (Kept k) = k.host
 
--- It leads to the member after these deeds, and prints what they send, and then what is told; or it is refused.
+-- It leads to the member after these deeds, and prints what they send, and then its answer; or it is refused.
 abbrev pub LedTo : Opened → List Datagram → Reply → List ℕ → Type 0
 LedTo later sent (prints next text) told = IsMemberAt later next × (text ≡ sends_text sent ++ told)
 LedTo later sent (denies e) told = Unit {0}
@@ -43,7 +43,7 @@ LedTo later sent (denies e) told = Unit {0}
 abbrev pub Led : Opened → Reply → List Deed → List ℕ → Type 0
 Led host r deeds told = LedTo (after_deeds deeds host) (sent_by_deeds deeds host) r told
 
--- one deed sends these, and nothing is told behind them
+-- one deed sends these, and no answer follows them
 alone : (sent : List Datagram) → sends_text sent ≡ sends_text (sent ++ []) ++ []
 alone sent = sym (append-nil (sends_text (sent ++ [])) ∙ ap sends_text (append-nil sent))
 
@@ -112,7 +112,7 @@ module _ (host : Opened) (seed : Option ℕ) where
   driven_led (Came now v) = tt
   driven_led (Add adding) = tt
 
--- ---- at one that keeps itself
+-- ---- at a self-managing host
 
 module _ (k : Keeping) where
   does_led : (fault : Option KeptFault) (doing : Transition) (text : List ℕ) → Led k.host (kept_does fault doing text k) (deeds_doing doing k) text

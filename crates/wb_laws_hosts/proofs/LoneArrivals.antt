@@ -32,7 +32,7 @@ one_order (d ∷ e ∷ more) order few moved = absurd (omega arith)
 
 -- ---- how many arrivals wait
 
--- after a line that is such a part of its batch, where so many waited before it
+-- after a line that is such a part of its batch, if n waited before it
 abbrev pub waits_by : Option Part → ℕ → ℕ
 waits_by (Some (Arrival d)) n = n + 1
 waits_by (Some Nothing) n = n
@@ -87,7 +87,7 @@ has_batch cut n (line ∷ lines) = has_with (part_at cut n line) (content line) 
 abbrev pub IsLone : List (List ℕ) → Type 0
 IsLone batch = length batch ≤ 1
 
--- so many arrivals wait, and belong to the first batch
+-- n arrivals wait, and belong to the first batch
 abbrev pub Fits : ℕ → Batches → Type 0
 Fits n [] = ⊥
 Fits n (batch ∷ batches) = (n + length batch ≤ 1) × All IsLone batches

@@ -48,7 +48,7 @@ free_of (b ∷ word) e =
       feed : (b : ℕ) → not (nat_eq b 10) ≡ true → b ≢ 10
       feed b e = λ (is : b ≡ 10). let bad : not (nat_eq 10 10) ≡ true = subst (λ (c : ℕ). not (nat_eq c 10) ≡ true) is e in absurd cc
 
--- a word and a line behind it
+-- a word and a line after it
 said : (word x : List ℕ) → list_all (λ (b : ℕ). not (nat_eq b 10)) word ≡ true → Line x → Line (word ++ x)
 said word x free line = behind word x (free_of word free) line
 
@@ -153,7 +153,7 @@ fields (Aimed change t) h = tails (target_words t) (number_free t.source, (numbe
 page_free : (p : PageId) → NoLineFeed (page_word p)
 page_free p = NoLineFeed-append (decimal p.creator) (47 ∷ decimal p.number) (number_free p.creator) (omega arith, number_free p.number)
 
--- the words behind the first
+-- the words after the first
 abbrev behind_draw : DrawopValue → List (List ℕ)
 behind_draw d = name_words d.name (decimal d.time ∷ op_words d.op)
 

@@ -33,7 +33,7 @@ pub bound : {A B : Type 0} (P : A → Type 0) (Q : B → Type 0) (r : Result A L
 bound P Q (Ok x) f p q = q x p
 bound P Q (Err e) f p q = tt
 
--- the same where nothing is known of the step before it
+-- the same, whatever the step before it
 pub behind : {A B : Type 0} (Q : B → Type 0) (r : Result A LineFault) (f : A → Result B LineFault) → ((x : A) → IfOk (f x) Q) → IfOk (r >>= f) Q
 behind Q (Ok x) f q = q x
 behind Q (Err e) f q = tt

@@ -49,7 +49,7 @@ HoldsLines None = Unit {0}
 HoldsLines (Some (Driven host seed)) = AreOneLine host.is.held
 HoldsLines (Some (Kept k)) = AreOneLine k.host.is.held
 
--- No line but `show` prints a line that looks as if it closed the block, whether the host keeps itself or not.
+-- No line but `show` prints a line that looks as if it closed the block, whether the host is self-managing or not.
 abbrev pub BlocksCloseOnce : Type 0
 BlocksCloseOnce = (s : Hosting) (line : InputLine) → HoldsLines s.host → IsNoShow (says_line (met line)) → ArePlain (text_in (reply_of s (met line)))
 

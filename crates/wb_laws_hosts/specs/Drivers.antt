@@ -15,7 +15,7 @@ use Rattle.wb_laws_sessions.specs.Sessions.{AreApart}
 use Rattle.wb_laws_hosts.specs.Laws.{HandsIn, ReportsTellShowsAt}
 use Rattle.wb_laws_hosts.specs.Texts.{EventAt, HaveNumbers, Takes, hosting_at, steps_of_texts}
 
--- A host that keeps itself knows its own numbers of a page: the last that it holds or heard of is as
+-- A self-managing host knows its own numbers of a page: the last that it holds or heard of is as
 -- great as each that its member drew there, by all processes.
 abbrev pub KnowsItsOwn : List DrawopValue → Option Host → PageId → Type 0
 KnowsItsOwn drawn None page = Unit {0}
@@ -31,7 +31,7 @@ IsHeldOrNext drawn (Some (Driven host seed)) d = Contains host.is.held d ⊎ IsA
 IsHeldOrNext drawn (Some (Kept k)) d = Unit {0}
 
 -- A drawop that is handed in, from others or from a record, was on some member's board
--- (tests/live/test_keeping.py: check_old; tests/live/test_joins.py: check_join). A member whose host keeps itself
+-- (tests/live/test_keeping.py: check_old; tests/live/test_joins.py: check_join). A member whose host is self-managing
 -- knows its own numbers when it draws, since it is handed its record first, and listens if that may
 -- lack its last lines (tests/live/test_keeping.py: test_draw, check_listening; tests/browser/keeping.test.mjs:
 -- testDraw, testMarks). A driver that numbers drawings itself uses none twice (tests/sessions).

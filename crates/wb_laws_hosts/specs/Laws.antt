@@ -28,7 +28,7 @@ use Rattle.wb_laws_sessions.specs.Sessions.{AreApart, Performs}
 use Rattle.wb_laws_hosts.specs.Telling.{told_at}
 use Rattle.wb_laws_hosts.specs.Texts.{CameOut, Event, EventAt, HaveNumbers, Starts, Takes, deeds_at, hosting_at, sent_at, steps_of_texts}
 
--- this member is open, whether its driver drives it or it keeps itself
+-- this member is open, whether its driver drives it or it is self-managing
 abbrev pub IsOpenHost : Option Host → Opened → Type 0
 IsOpenHost None member = ⊥
 IsOpenHost (Some (Driven host seed)) member = host ≡ member
@@ -63,8 +63,8 @@ blocks_at (e ∷ older) i =
     if nat_eq e.place i then blocks_after e.event (hosting_at older i) (blocks_at older i)
     else blocks_at older i
 
--- Where the lines of a process are those of an input, which may be cut off, its blocks are the
--- transcript of that, whether the host keeps itself or not.
+-- If the lines of a process are those of an input, which may be cut off, its blocks are the
+-- transcript of that, whether the host is self-managing or not.
 abbrev pub BlocksAreTranscripts : Type 0
 BlocksAreTranscripts = (events : List EventAt) (i : ℕ) (cut : Bool) (input : List ℕ)
     → lines_at events i ≡ answered_lines cut (input_lines input)
@@ -116,7 +116,7 @@ BatchesCountNoClash =
 
 -- ---- what is sent, at once or as a repair
 
--- at some point a line is handed in by which this is sent
+-- at some point a line is handed in that sends this
 pub record WasSent (events : List EventAt) (v : Datagram) : Type 0 where
   pub newer : List EventAt
   pub e : EventAt
@@ -168,7 +168,7 @@ pub record AskOf (page : PageId) (width height : ℕ) (report gaps show view : I
 
 -- Two hosts that would print one answer to `report C N`, and `gaps 0` for `gaps C N`, print one
 -- answer to `show C N W H` and to `view C N`: each at a point of its own, in either order, whether
--- they keep themselves or not, and whichever process started anew between.
+-- they are self-managing or not, and whichever process started anew between.
 abbrev pub ReportsTellShowsAt : List EventAt → Type 0
 ReportsTellShowsAt events =
     (newer older newer' older' : List EventAt) (i j : ℕ)

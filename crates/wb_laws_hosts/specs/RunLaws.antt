@@ -21,7 +21,7 @@ IsWithoutOks [] text = text ≡ []
 IsWithoutOks (block ∷ blocks) text =
     (printed : List ℕ) × (rest : List ℕ) × (due : Option ℕ) × (block ≡ printed ++ ok_line due) × (text ≡ printed ++ rest) × IsWithoutOks blocks rest
 
--- the blocks of lines, where the timers have the constants of a script
+-- the blocks of lines, if the timers have the constants of a script
 abbrev pub blocks_of : List InputLine → List (List ℕ)
 blocks_of lines = blocks_from (unopened script_constants) lines
 
@@ -44,7 +44,7 @@ abbrev pub RunIsWithoutOks : Type 0
 RunIsWithoutOks = (workers : Option ℕ) (cut : Bool) (input text : List ℕ) (end : Result Summary RunFault) → IsRunOut end → ArriveAlone cut input → IsOutcome workers cut input (prints text end)
     → IsWithoutOks (blocks_of (answered_lines cut (input_lines input))) text
 
--- Where a line of it is refused, it prints what a host prints for the lines before that one.
+-- If a line of it is refused, it prints what a host prints for the lines before that one.
 abbrev pub RefusedIsWithoutOks : Type 0
 RefusedIsWithoutOks = (workers : Option ℕ) (cut : Bool) (input text : List ℕ) (number : ℕ) (fault : LineFault) → ArriveAlone cut input → IsOutcome workers cut input (prints text (Err (run_faults.Line number fault)))
     → IsWithoutOks (blocks_of (take (number - 1) (input_lines input))) text

@@ -45,7 +45,7 @@ told_driven (Ask name) host = ask_line (may_ask name host)
 told_driven (Stop name) host = stop_line (asks_for name host)
 told_driven line host = []
 
--- ---- at one that keeps itself
+-- ---- at a self-managing host
 
 abbrev pub told_kept_script : Command → Keeping → List ℕ
 told_kept_script (lines.Question query) k = answered query k.host

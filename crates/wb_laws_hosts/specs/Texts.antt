@@ -1,5 +1,5 @@
 -- Sessions of hosts that are driven by texts: what each line of an input makes of the host at its
--- place, and which deeds of a member that is. A host may be driven by its driver, or keep itself.
+-- place, and which deeds of a member that is. A host may be driven by its driver, or self-managing.
 use Rattle.std.specs.Prelude.{◌≡◌, ℕ, List, [], ◌∷◌, ◌++◌, Contains, map, Option, Some, None, Result, Ok, Err, nat_eq, if◌then◌else◌}
 use Rattle.wb_codec.specs.declared.datagram.Datagram.{Datagram}
 use Rattle.wb_recovery.specs.declared.tuning.Tuning.{Tuning}
@@ -67,7 +67,7 @@ deeds_driven (driver.Ask name) = Performs (Asks name) ∷ []
 deeds_driven (driver.Stop name) = Performs (Stops name) ∷ []
 deeds_driven line = []
 
--- at one that keeps itself: the lines of its policy
+-- at a self-managing host: the lines of its policy
 abbrev pub deeds_doing : Transition → Keeping → List Deed
 deeds_doing does k = map Performs (does (sees k.host) k.policy).lines
 
@@ -131,7 +131,7 @@ IsMemberAt member None = Unit {0}
 IsMemberAt member (Some (Driven host seed)) = host ≡ member
 IsMemberAt member (Some (Kept k)) = k.host ≡ member
 
--- The host at each place is the member there, whether its driver drives it or it keeps itself,
+-- The host at each place is the member there, whether its driver drives it or it is self-managing,
 -- through every start of its process.
 abbrev pub TextsAreSessions : Type 0
 TextsAreSessions = (numbers : ℕ → ℕ) (events : List EventAt) → HaveNumbers numbers events

@@ -7,9 +7,9 @@ ghost use Rattle.wb_laws_hosts.specs.Telling.{TextsTellSends};
 ghost use Rattle.wb_laws_hosts.specs.Texts.{TextsAreSessions};
 
 /// A session of texts is one of members: the host at each place is the member there, whether its
-/// driver drives it or it keeps itself, through every start of its process. So what holds of
-/// sessions of members holds of hosts. It keeps to the terms of these, if each drawop that is handed
-/// in was on some board, and a member draws above all its own numbers.
+/// driver drives it or it is self-managing, through every start of its process. So what holds of
+/// sessions of members holds of hosts. It keeps to the terms of these, if each drawop that is
+/// handed in was on some board, and a member draws above all its own numbers.
 pub fn texts_are_sessions()
     ensures same { TextsAreSessions }
     ensures honest { LinesAreHonestSteps }
@@ -26,7 +26,7 @@ pub fn blocks_are_transcripts()
 {}
 
 /// What a host prints for a line is a `send` line of each datagram that it sends, and then what
-/// else it tells.
+/// else it prints.
 pub fn texts_tell_sends()
     ensures { TextsTellSends }
 {}
@@ -53,7 +53,7 @@ pub fn repairs_are_what_was_said()
 
 /// Two hosts that would print one answer to `report C N`, and `gaps 0` for `gaps C N`, print one
 /// answer to `show C N W H` and to `view C N`, byte for byte: each at a point of its own, whether
-/// they keep themselves or not, and whichever process started anew between.
+/// they are self-managing or not, and whichever process started anew between.
 pub fn reports_tell_shows()
     ensures lines { HonestReportsTellShows }
     ensures steps { ReportsTellShows }

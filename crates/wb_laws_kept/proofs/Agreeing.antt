@@ -1,4 +1,4 @@
--- Equal reports and no gaps tell agreement of members that keep themselves.
+-- Equal reports and no gaps tell agreement of self-managing members.
 use Rattle.std.proofs.Common.{◌≡◌, ℕ, List, [], ◌∷◌, ◌++◌, ◌∙◌, ap, append_assoc, refl, subst, sym}
 use Rattle.std.specs.Prelude.{Contains}
 use Rattle.wb_names.specs.Values.{DrawopValue}

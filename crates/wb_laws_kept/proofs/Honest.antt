@@ -1,4 +1,4 @@
--- Members that keep themselves keep to the terms of a session, if what comes was held and they know their own numbers.
+-- Self-managing members keep to the terms of a session, if what comes was held and they know their own numbers.
 use Rattle.std.proofs.Common.{◌≡◌, ℕ, ◌<◌, ◌≤◌, Bool, true, false, cond, List, [], ◌∷◌, ◌++◌, ◌∙◌, ap, arith, inr, map, refl, subst, sym}
 use Rattle.std.specs.Prelude.{Contains, nat_eq}
 use Rattle.wb_names.specs.Values.{DrawopValue}
@@ -171,6 +171,6 @@ module _ (numbers : ℕ → ℕ) where
 pub kept_are_honest : KeptAreHonest
 kept_are_honest numbers calls taken were know = all_honest numbers calls taken were know
 
--- a member that keeps itself has the number of its place
+-- a self-managing member has the number of its place
 pub number_of_kept : (numbers : ℕ → ℕ) (calls : List CallAt) (i : ℕ) → (kept_at numbers calls i).host.is.number ≡ numbers i
 number_of_kept numbers calls i = ap (λ (h : Opened). h.is.number) (sym (kept_is_session numbers calls i)) ∙ number_at numbers (steps_of numbers calls) i

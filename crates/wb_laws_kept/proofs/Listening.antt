@@ -296,7 +296,7 @@ module _ (numbers : ℕ → ℕ) (page : PageId) where
     by true is rest = let one = after e.call (eqb-true e.place i is) refl in omega (arith, rest, one)
     by false is rest = rest
 
--- ---- a mark that is told
+-- ---- a mark of a report
 
 -- of ascending marks the one of a source that is believed is the only one of it
 its_mark : (me : ℕ) (marks : List MarkValue) (m : MarkValue) → Rises marks → Contains marks m → m.source ≡ me → m.high < 2147483648 → mark_of (own_marks me true marks) me ≡ m.high

@@ -1,4 +1,4 @@
--- Each mark that a member sends which keeps itself is of a drawop that it holds.
+-- Each mark that a self-managing member sends is of a drawop that it holds.
 use Rattle.std.proofs.Common.{◌≡◌, ◌⊎◌, ℕ, suc, zero, ◌<◌, ◌≤◌, Bool, true, false, cond, List, [], ◌∷◌, ◌++◌, ◌∙◌, Option, Some, None, ap, append_assoc, arith, eq-eqb, inl, inr, length, map, refl, subst, sym, ⊎_elim}
 use Rattle.std.specs.Prelude.{Contains, filter, nat_eq, take}
 use Rattle.std.specs.Option.{option_map}
@@ -187,7 +187,7 @@ both_tell k m n one other a b = record {
       subst (λ (h : Opened). TellsHeld h.is.held v) (sym (after_both one other k.host)) all;
 }
 
--- lines by which nothing is sent
+-- lines that send nothing
 abbrev IsSilent : Line → Type 0
 IsSilent (Ticks now) = ⊥
 IsSilent (Arrives d) = Unit {0}

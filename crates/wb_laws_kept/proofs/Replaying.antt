@@ -24,7 +24,7 @@ use Rattle.wb_laws_kept.specs.Restarts.{drawops_in}
 use Rattle.wb_laws_kept.proofs.Honest.{IsGiven, came_given, of_policy, timed_given}
 use Rattle.wb_laws_sessions.proofs.Sending.{one_draw}
 
--- ---- lines by which nothing comes
+-- ---- lines that bring nothing
 
 abbrev pub none : DrawopValue → Type 0
 none d = ⊥

@@ -1,4 +1,4 @@
--- Members that keep themselves are members of a session: calls are steps.
+-- Self-managing members are members of a session: calls are steps.
 use Rattle.std.proofs.Common.{◌≡◌, ℕ, Bool, true, false, cond, List, [], ◌∷◌, ◌++◌, ◌∙◌, ap, eqb-true, map, refl, sym}
 use Rattle.std.specs.Prelude.{nat_eq}
 use Rattle.wb_member.specs.Lines.{Ticks}

@@ -22,7 +22,7 @@ TellsMark (Request asker name) me page m = ⊥
 TellsMark (AskPages asker) me page m = ⊥
 TellsMark (PageState sender on marks) me page m = (sender ≢ me) × (on ≡ page) × Contains marks m
 
--- what a member that keeps itself hears of a datagram that comes at a moment: of marks and echoes
+-- what a self-managing member hears of a datagram that comes at a moment: of marks and echoes
 -- its own alone, and of these marks those that it believes
 abbrev pub heard_of : ℕ → Datagram → Keeping → Datagram
 heard_of now (Draw d) k = Draw d

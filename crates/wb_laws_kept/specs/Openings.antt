@@ -1,4 +1,4 @@
--- How a program starts a member that keeps itself: `board`, then moments (`tick`), then `keep`.
+-- How a program starts a self-managing member: `board`, then moments (`tick`), then `keep`.
 use Rattle.std.specs.Prelude.{ℕ, ◌≤◌, ◌≡◌, List, [], ◌∷◌, true, map}
 use Rattle.wb_recovery.specs.Timing.{are_constants}
 use Rattle.wb_recovery.specs.declared.tuning.Tuning.{Tuning}
@@ -8,7 +8,7 @@ use Rattle.wb_member.specs.Opened.{Opened, opened_with, present}
 use Rattle.wb_keeping.specs.Performing.{Keeping}
 use Rattle.wb_keeping.specs.Policy.{begun}
 
--- the constants of its timers, the cells of its board and its seed; the moments that it is told;
+-- the constants of its timers, the cells of its board and its seed; the moments of its ticks;
 -- its rate of reports, and for how long it listens
 pub record Opening : Type 0 where
   pub constants : Tuning
@@ -18,12 +18,12 @@ pub record Opening : Type 0 where
   pub rate : ℕ
   pub listen : ℕ
 
--- the host of the member of a number, once it was told the moments
+-- the host of the member of a number, once it took in the moments
 abbrev pub opened_host : ℕ → Opening → Opened
 opened_host number o =
     after_lines (map Ticks o.moments) (opened_with o.constants number o.cells o.seed)
 
--- and once it keeps itself
+-- and once it is self-managing
 abbrev pub opened : ℕ → Opening → Keeping
 opened number o =
     let host = opened_host number o in

@@ -88,13 +88,13 @@ ReportsTellAgreementAt numbers calls =
     report_of one.is.held page ≡ report_of other.is.held page
     → gaps_at page one ≡ [] → gaps_at page other ≡ [] → Agree one other page
 
--- So it is where members know their own numbers,
+-- So it is if members know their own numbers,
 abbrev pub KeptReportsTellAgreement : Type 0
 KeptReportsTellAgreement = (numbers : ℕ → ℕ) (calls : List CallAt)
     → AreApart numbers → AreTaken numbers calls → DrawopsWereHeld numbers calls
     → KnowTheirOwn numbers calls → ReportsTellAgreementAt numbers calls
 
--- and so where each record has what its member drew.
+-- and so if each record has what its member drew.
 abbrev pub RecordedReportsTellAgreement : Type 0
 RecordedReportsTellAgreement = (numbers : ℕ → ℕ) (calls : List CallAt)
     → AreApart numbers → AreTaken numbers calls → DrawopsWereHeld numbers calls

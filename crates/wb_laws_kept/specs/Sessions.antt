@@ -1,4 +1,4 @@
--- Sessions of members that keep themselves, as people run them. The program of a member starts, and
+-- Sessions of self-managing members, as people run them. The program of a member starts, and
 -- is handed what its record has (`came`); then it is called. It starts as often as one likes: after
 -- it ended, or with another build, or as a new member that is handed what an older one held. A line
 -- that is refused changes nothing (wb_keeping, clause `refused`), so it is left out.

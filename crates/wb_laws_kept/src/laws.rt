@@ -1,13 +1,13 @@
-//! Laws of members that keep themselves. Each function does nothing: its contract is a law, for
-//! proofs to cite.
+//! Laws of self-managing members. Each function does nothing: its contract is a law, for proofs to
+//! cite.
 
 ghost use Rattle.wb_laws_kept.specs.Examples.{Forgets, Listens, Restarts};
 ghost use Rattle.wb_laws_kept.specs.Listening.{ListeningTells};
 ghost use Rattle.wb_laws_kept.specs.Restarts.{KeptAreHonest, KeptNeverClash, KeptReportsTellAgreement, MarksWereDrawn, RecordedReportsTellAgreement, WholeRecordsTell};
 ghost use Rattle.wb_laws_kept.specs.Sessions.{KeptIsSession};
 
-/// Members that keep themselves are members of a session. What they do keeps to its terms, if what
-/// comes was held before, and if they know their own numbers.
+/// Self-managing members are members of a session. What they do keeps to its terms, if what comes
+/// was held before, and if they know their own numbers.
 pub fn kept_members_are_members()
     ensures same { KeptIsSession }
     ensures honest { KeptAreHonest }

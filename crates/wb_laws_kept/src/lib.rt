@@ -1,4 +1,4 @@
-//! What holds of sessions of members that keep themselves, through every start of their programs.
+//! What holds of sessions of self-managing members, through every start of their programs.
 //!
 //! Nothing here runs. `specs/Sessions.antt` says what such a session is, `specs/Openings.antt` how
 //! a program starts, `specs/Restarts.antt` what records have and what then holds, and

@@ -44,7 +44,7 @@ answers_held me history actions d c =
         by None e = cc
         by (Some x) e = cc
 
--- answers at once are no drawops
+-- no answer at once is a drawop
 pub no_answer : (me : ℕ) (history : List DrawopValue) (datagram : Datagram) (d : DrawopValue) → Contains (answers_to me history datagram) (Draw d) → ⊥
 no_answer me history datagram d c = from (asks_for_pages me datagram) c where
   other : (me : ℕ) (r : PageReport) → PageState me r.page r.marks ≡ Draw d → ⊥

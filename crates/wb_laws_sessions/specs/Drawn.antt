@@ -10,7 +10,7 @@ use Rattle.wb_member.specs.Lines.{Line, Ticks, Arrives, Hears, Asks, Stops, Sets
 use Rattle.wb_member.specs.Opened.{Opened, becomes}
 use Rattle.wb_laws_sessions.specs.Sessions.{AreApart, Deed, Looks, Opens, Performs, Reports, Step, host_at, sent}
 
--- a drawop that a member says is drawn where its board takes it anew
+-- a drawop that a member says is drawn if its board takes it anew
 abbrev pub new_where : DrawopValue → Outcome → List DrawopValue
 new_where d (Fresh place) = d ∷ []
 new_where d (Known place) = []

@@ -70,7 +70,7 @@ repaired =
     ∷ at 8 2 (Performs (Asks drawing.name))
     ∷ told
 
--- Such is the gap of 12 once it was told, and this is all that is sent, the newest first. At the
+-- Such is the gap of 12 after the report, and this is all that is sent, the newest first. At the
 -- end 12 lacks nothing.
 pub record IsRepaired : Type 0 where
   pub apart : AreApart numbers

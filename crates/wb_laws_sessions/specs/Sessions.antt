@@ -1,7 +1,7 @@
 -- Sessions of members, whoever drives them: a list of steps, the newest first. In each the member
 -- at a place does something at a time. What a member sends may be lost. It may also come to anyone,
 -- at any later step, any number of times, from a network, a file or a hand.
--- Where a program ended before it sent, recorded or showed anything of its last deeds, these may be
+-- If a program ended before it sent, recorded or showed anything of its last deeds, these may be
 -- left out of the list: when it starts again, only its number is left of it.
 use Rattle.std.specs.Prelude.{◌≡◌, ℕ, List, [], ◌∷◌, ◌++◌, nat_eq, if◌then◌else◌}
 use Rattle.wb_names.specs.declared.name.PageId.{PageId}
@@ -11,7 +11,7 @@ use Rattle.wb_member.specs.Lines.{Line, after_line, sent_by_line}
 use Rattle.wb_member.specs.Opened.{Opened, looked, message, opened_with, reported}
 
 -- What a member does: it performs a line, its driver has it look at a page or report all of it, or
--- its program starts, with an empty board of so many cells.
+-- its program starts, with an empty board of `cells` cells.
 pub data Deed : Type 0 where
   Performs : (line : Line) → Deed
   Looks : (page : PageId) → Deed

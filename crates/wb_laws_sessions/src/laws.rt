@@ -35,7 +35,7 @@ pub fn timers_tell_holdings()
     ensures answers { AnswersAreOfHeld }
 {}
 
-/// Of three members one loses a drawop, and gets it again from another than drew it.
+/// Of three members one loses a drawop, and gets it again from another than the one that drew it.
 pub fn a_loss_is_repaired()
     ensures { IsRepaired }
 {}

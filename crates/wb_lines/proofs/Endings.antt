@@ -61,7 +61,7 @@ input_of ended false (Some all) (Some rest) given c at_end = record { more = res
 input_from : (r : Ahead) (left left' : Option (List ℕ)) (failed failed' : Bool) (given : List ℕ) → Pulls fresh r left left' failed failed' given → Input r.ended failed' left left' given
 input_from r left left' failed failed' given pulls = input_of r.ended failed' left left' given pulls.consumes (pulls.at_end (λ e. absurd (false≢true e)))
 
--- where nothing was read or written
+-- if nothing was read or written
 input_none : (left : Option (List ℕ)) (failed : Bool) → Input false failed left left []
 input_none left failed = input_of false failed left left [] (Consumes-none left) (λ e. absurd (false≢true e))
 
@@ -124,7 +124,7 @@ all_met {S = S} {F = F} {a = a} {b = b} by Does most is_at s x y sent left endin
       may : MayCome b.lines input.more b.failed
       may = may_come b input.more is_true (m.pulls.working_at_end fresh_still) input.remains
 
--- nothing was said of a source or a sink at the start, so what is found later is true
+-- at the start nothing was found of a source or a sink, so what is found later is true
 pub true_later : {T : Type 0} {b : Moment T} (most : ℕ) (left taken : Option (List ℕ)) (failed stuck : Bool) (x : List ℕ) → Moves (moment (at_start most) [] left failed taken stuck) b x → IsTrue b
 true_later most left taken failed stuck x m = m.true_still (record { failed = λ e. absurd cc; stuck = λ e. absurd cc })
 

@@ -20,7 +20,7 @@ pub record Pulls (old new : Ahead) (left left' : Option (List ℕ)) (failed fail
   pub at_end : (old.ended ≡ true → IsAtEnd left) → new.ended ≡ true → IsAtEnd left'
   pub working_at_end : (old.ended ≡ true → failed ≡ false) → new.ended ≡ true → failed' ≡ false
 
--- What the next byte is, with the bytes that were pulled for it. Where nothing could be written, nothing is said.
+-- What the next byte is, with the bytes that were pulled for it. If writing failed, nothing is known.
 abbrev pub GivesByte : Ahead → Ahead → List ℕ → Bool → Pulled → Type 0
 GivesByte old new given failed (Byte b) = old.bytes ++ given ≡ b ∷ new.bytes
 GivesByte old new given failed End = (old.bytes ++ given ≡ []) × (new.bytes ≡ []) × (new.ended ≡ true)
@@ -40,7 +40,7 @@ pub record TakesRun (old new : Ahead) (line line' : List ℕ) : Type 0 where
   pub no_line_feed : NoLineFeed run
   pub short : length line' ≤ most_bytes + 1
 
--- So many bytes without a line feed were passed over, at the front of what is at hand.
+-- `count` bytes without a line feed were passed over, at the front of what is at hand.
 pub record PassesRun (old new : Ahead) (count : ℕ) : Type 0 where
   pub run : List ℕ
   pub from : old.bytes ≡ run ++ new.bytes
@@ -61,7 +61,7 @@ GivesLine old new given failed line founds.Failed = IsLine line × (old.bytes ++
 GivesLine old new given failed line founds.TooLong = NoLineFeed line × (length line ≡ most_bytes + 1) × (old.bytes ++ given ≡ line ++ new.bytes)
 GivesLine old new given failed line founds.Unwritten = Unit {0}
 
--- The same, where memory may run out: then nothing is said of the line.
+-- The same, unless memory runs out: then nothing is known of the line.
 abbrev pub MayGiveLine : {E : Type 0} → Ahead → Ahead → List ℕ → Bool → List ℕ → Result Found E → Type 0
 MayGiveLine old new given failed line (Ok found) = GivesLine old new given failed line found
 MayGiveLine old new given failed line (Err e) = Unit {0}

@@ -18,7 +18,7 @@ rules_of step most = record { step = step; most = most }
 pub data Outcome (F : Type 0) : Type 0 where
   writes : List ℕ → Result ℕ (DriveFault F) → Outcome F
 
--- an outcome, behind a text that was written before
+-- an outcome, after a text that was written before
 abbrev pub before : {F : Type 0} → List ℕ → Outcome F → Outcome F
 before text (writes rest end) = writes (text ++ rest) end
 
@@ -32,7 +32,7 @@ proceed number (goes text next) rest = before text (rest next)
 proceed number (stops text e) rest = before text (stop (Err (faults.Line number e)))
 proceed number (ends text) rest = before text (stop (Err faults.Endless))
 
--- After so many lines and in this state, the outcome of the lines that are left. Where the input is cut off, reading fails after them.
+-- After n lines and in this state, the outcome of the lines that are left. If the input is cut off, reading fails after them.
 abbrev pub outcome_from : {S F : Type 0} → Rules S F → Bool → ℕ → S → List InputLine → Outcome F
 outcome_from rules cut n s [] = stop (if cut then Err faults.Read else Ok n)
 outcome_from rules cut n s (line ∷ lines) =
@@ -42,20 +42,20 @@ outcome_from rules cut n s (line ∷ lines) =
     else stop (Err faults.Read))
     else stop (Err faults.Endless)
 
--- the outcome of an input from a state on, which is cut off where reading fails after it
+-- the outcome of an input from a state on; it is cut off if reading fails after it
 abbrev pub outcome : {S F : Type 0} → Rules S F → Bool → S → List ℕ → Outcome F
 outcome rules cut s input = outcome_from rules cut 0 s (input_lines input)
 
 -- ---- what is known of it
 
--- An input is what a source gave: all that it had left, or, where it failed, what it gave before. Where its bytes are not known, nothing is said.
+-- An input is what a source gave: all that it had left, or what it gave before it failed. If its bytes are not known, nothing is said.
 abbrev pub Gave : Option (List ℕ) → Option (List ℕ) → Bool → List ℕ → Type 0
 Gave (Some all) (Some rest) true input = all ≡ input ++ rest
 Gave (Some all) (Some rest) false input = all ≡ input
 Gave (Some all) None failed input = ⊥
 Gave None rest failed input = Unit {0}
 
--- want of memory or a failing sink, at which the text may stop anywhere
+-- an allocation or the sink failed: the text may stop anywhere
 abbrev pub IsStop : {F : Type 0} → DriveFault F → Type 0
 IsStop faults.Memory = Unit {0}
 IsStop faults.Write = Unit {0}
@@ -70,6 +70,6 @@ abbrev pub IsStopped : {F : Type 0} → Result ℕ (DriveFault F) → Type 0
 IsStopped (Ok n) = ⊥
 IsStopped (Err e) = IsStop e
 
--- The text of the outcome was written, and its end answered; or it stopped for want of memory or at a failing sink, and a front of the text was written.
+-- The text of the outcome was written, and its end answered; or an allocation or the sink failed, and a front of the text was written.
 abbrev pub Meets : {F : Type 0} → Outcome F → List ℕ → Result ℕ (DriveFault F) → Type 0
 Meets (writes text end) written result = ((written ≡ text) × (result ≡ end)) ⊎ (IsStopped result × BeginsWith text written)

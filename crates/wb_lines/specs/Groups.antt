@@ -42,6 +42,6 @@ IsOutcomeOf Does (over end) s o t = (o ≡ stop (answer_of end)) × (t ≡ s)
 IsOutcomeOf Does (group number met joined rest) s o t =
     (step : Step _ _) × Does s number met joined step × Proceeds number step (λ next. IsOutcomeOf Does rest next) o t
 
--- From a state on, it may come of an input, which is cut off where reading fails after it.
+-- From a state on, it may come of an input; this is cut off if reading fails after it.
 abbrev pub IsOutcome : {S F : Type 0} → GroupRules S F → Bool → S → List ℕ → Outcome F → S → Type 0
 IsOutcome rules cut s input o t = IsOutcomeOf rules.step (items rules.by rules.most cut (input_lines input)) s o t

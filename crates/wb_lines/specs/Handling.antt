@@ -9,7 +9,7 @@ pub data Met : Type 0 where
   whole : InputLine → Met
   too_long : Met
 
--- What a handler in a state of S does. It goes on, with a text and the state after it; or it stops behind a text, with a fault of F in the line; or it ends behind a text, and takes no more.
+-- What a handler in a state of S does. It goes on, with a text and the state after it; or it stops after a text, with a fault of F in the line; or it ends after a text, and takes no more.
 pub data Step (S F : Type 0) : Type 0 where
   goes : List ℕ → S → Step S F
   stops : List ℕ → F → Step S F
@@ -20,7 +20,7 @@ text_of (goes text next) = text
 text_of (stops text e) = text
 text_of (ends text) = text
 
--- What the code did for a step, where it is at some states afterwards: all of the step; or memory ran out, and it printed a front of the text.
+-- What the code did for a step, if it is at some states afterwards: all of the step; or memory ran out, and it printed a front of the text.
 abbrev pub Does : {S F U : Type 0} → (S → Type 0) → List ℕ → Result U (Stop F) → Step S F → Type 0
 Does is_at printed (Ok u) (goes text next) = (printed ≡ text) × is_at next
 Does is_at printed (Err (Fault f)) (stops text e) = (printed ≡ text) × (f ≡ e)

@@ -22,7 +22,7 @@ input_lines (b ∷ bytes) =
 abbrev pub content : InputLine → List ℕ
 content line = if line.ended then strip_carriage_return line.bytes else line.bytes
 
--- A line has at most so many bytes before its line feed.
+-- The most bytes that a line has before its line feed.
 abbrev pub most_bytes : ℕ
 most_bytes = 65536
 

@@ -4,7 +4,7 @@ use Rattle.wb_lines.specs.Input.{InputLine}
 use Rattle.wb_lines.specs.Handling.{Met, whole, too_long}
 use Rattle.wb_lines.specs.Taking.{is_short, is_passed}
 
--- Why no more lines are taken: so many were all; reading failed; or what is waited for has no end.
+-- Why no more lines are taken: all n were taken; reading failed; or what is waited for has no end.
 pub data InputEnd : Type 0 where
   finished : ℕ → InputEnd
   unreadable : InputEnd
@@ -37,24 +37,24 @@ begin number line = record { number = number; first = line; joined = [] }
 abbrev pub grown : Begun → InputLine → Begun
 grown g line = record { number = g.number; first = g.first; joined = g.joined ++ line ∷ [] }
 
--- the group is at its end, where there is one, and this follows
+-- the group is at its end, if there is one, and this follows
 abbrev pub closed : Option Begun → Items → Items
 closed None items = items
 closed (Some g) items = group g.number (whole g.first) g.joined items
 
--- the group that a line is of, behind so many lines
+-- the group that a line is of, after n lines
 abbrev pub and_line : Grouping → ℕ → Option Begun → InputLine → (Option Begun → Items) → Items
 and_line by n None line rest = rest (Some (begin (n + 1) line))
 and_line by n (Some g) line rest =
     if by.gathers g.first && by.joins line then rest (Some (grown g line)) else closed (Some g) (rest (Some (begin (n + 1) line)))
 
--- What stands behind so many lines: a line, one that is too long, of which the rest is passed over or not, or an end.
+-- What comes after n lines: a line; one that is too long, of which the rest is passed over or not; or an end.
 pub data Entry : Type 0 where
   short : Entry
   long : Bool → Entry
   none : InputEnd → Entry
 
--- Where the input is cut off, what stands behind the last line feed has no end.
+-- If the input is cut off, what follows the last line feed has no end.
 abbrev pub entry : ℕ → Bool → ℕ → InputLine → Entry
 entry most cut n line =
     if nat_lt n most
@@ -66,11 +66,11 @@ by_entry by n g line rest short = and_line by n g line rest
 by_entry by n g line rest (long passed) = closed g (group (n + 1) too_long [] (if passed then rest None else over endless))
 by_entry by n g line rest (none end) = closed g (over end)
 
--- Behind so many lines, of which the last may be of a group that goes on, what the lines that are left come to: at most so many are taken in all.
+-- What the lines that are left come to, after n lines of which the last may be of a group g that goes on: at most `most` are taken in all.
 abbrev pub items_from : Grouping → ℕ → Bool → ℕ → Option Begun → List InputLine → Items
 items_from by most cut n g [] = closed g (over (if cut then unreadable else finished n))
 items_from by most cut n g (line ∷ lines) = by_entry by n g line (λ next. items_from by most cut (n + 1) next lines) (entry most cut n line)
 
--- the items of some lines, which are cut off where reading fails after them
+-- the items of some lines; these are cut off if reading fails after them
 abbrev pub items : Grouping → ℕ → Bool → List InputLine → Items
 items by most cut lines = items_from by most cut 0 None lines

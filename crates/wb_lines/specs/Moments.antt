@@ -14,7 +14,7 @@ use Rattle.wb_lines.specs.Input.{InputLine, input_lines, standing, MayFollow, mo
 use Rattle.wb_lines.specs.Handling.{too_long}
 use Rattle.wb_lines.specs.Items.{finished, unreadable, endless, Items, over, group, Grouping, Begun, begin, closed, items_from}
 
--- How many lines were taken, of at most so many; what the reader has ahead; the line that was read last; and what was found behind those that were taken.
+-- How many lines were taken, and how many may be; what the reader has ahead; the line that was read last; and what was found after those that were taken.
 pub record LinesValue (S : Type 0) : Type 0 where
   pub done : ℕ
   pub most : ℕ
@@ -27,7 +27,7 @@ pub record StartsLong (front : List ℕ) : Type 0 where
   pub no_line_feed : NoLineFeed front
   pub long : length front ≡ most_bytes + 1
 
--- a line that was read, with what the reader has behind it
+-- a line that was read, with what the reader has after it
 pub record IsRead (line : InputLine) (reader : Ahead) : Type 0 where
   pub is_line : IsLine line.bytes
   pub last : line.ended ≡ false → (line.bytes ≢ []) × (reader.bytes ≡ []) × (reader.ended ≡ true)
@@ -65,7 +65,7 @@ MayComeTo seen ended more cut = MayFollow ended more cut
 abbrev pub MayCome : {S : Type 0} → LinesValue S → List ℕ → Bool → Type 0
 MayCome v more cut = MayComeTo v.seen v.reader.ended more cut
 
--- Where this is still pulled, these items follow, with the group that is begun. Where no more lines can be read, though there may be some, nothing is said.
+-- If this is still pulled, these items follow, with the group that is begun. If writing failed or memory ran out, no items are known to follow.
 abbrev pub RestBy : {S : Type 0} → Grouping → LinesValue S → Option Begun → List ℕ → Bool → Items → Seen S → Type 0
 RestBy by v g more cut is seens.End = is ≡ closed g (over (finished v.done))
 RestBy by v g more cut is seens.Failed = is ≡ closed g (over unreadable)
@@ -91,7 +91,7 @@ pub record Moment (S : Type 0) : Type 0 where
 abbrev pub moment : {S : Type 0} → LinesValue S → List ℕ → Option (List ℕ) → Bool → Option (List ℕ) → Bool → Moment S
 moment lines output left failed taken stuck = record { lines = lines; output = output; left = left; failed = failed; taken = taken; stuck = stuck }
 
--- It was found that the source failed, or the sink, only where it did.
+-- The source or the sink was found to have failed only if it did.
 pub record IsTrue {S : Type 0} (m : Moment S) : Type 0 where
   pub failed : m.lines.seen ≡ seens.Failed → m.failed ≡ true
   pub stuck : m.lines.seen ≡ seens.Unwritten → m.stuck ≡ true
@@ -112,7 +112,7 @@ abbrev pub grown_by : Option Begun → List InputLine → Option Begun
 grown_by None lines = None
 grown_by (Some g) lines = Some (record { number = g.number; first = g.first; joined = g.joined ++ lines })
 
--- A line has others join it, where there are some.
+-- If any lines join it, a line has others join it.
 abbrev pub HasJoined : Grouping → InputLine → List InputLine → Type 0
 HasJoined by first [] = Unit {0}
 HasJoined by first (line ∷ lines) = by.gathers first ≡ true
@@ -161,7 +161,7 @@ abbrev pub IsLineSeen : {S : Type 0} → Seen S → Type 0
 IsLineSeen (seens.Line said) = Unit {0}
 IsLineSeen seen = ⊥
 
--- The line that was looked at is taken, where there is one.
+-- The line that was looked at is taken, if there is one.
 abbrev pub TakesLine : {S : Type 0} → (InputLine → S → Type 0) → LinesValue S → LinesValue S → Option S → Type 0
 TakesLine says old new (Some said) = (old.seen ≡ seens.Line said) × (new ≡ with_one old) × (old.done < old.most) × IsRead old.line old.reader × says old.line said
 TakesLine says old new None = (IsLineSeen old.seen → ⊥) × (new ≡ old)
@@ -171,14 +171,14 @@ abbrev pub IsJoining : {S : Type 0} → Grouping → InputLine → Seen S → Bo
 IsJoining by line (seens.Line said) joins = joins ≡ by.joins line
 IsJoining by line seen joins = joins ≡ false
 
--- The next line is taken, where it joins those before it; else they are at their end, or no more lines can be read.
+-- The next line is taken if it joins those before it; else they are at their end, or no more lines can be read.
 abbrev pub TakesJoined : {S : Type 0} → (InputLine → S → Type 0) → Grouping → Moment S → Moment S → Option S → Type 0
 TakesJoined says by old new (Some said) = (line : InputLine) × says line said × (by.joins line ≡ true) × (old.lines.done < new.lines.done) × Reads by old new [] (line ∷ [])
 TakesJoined says by old new None = Reads by old new [] [] × IsBehind by new.lines.line new.lines.seen
 
 -- ---- what a driver takes next
 
--- How it ends by what was found, which is no line.
+-- How it ends after what was found, if that is not a line.
 abbrev pub EndsBy : {S F : Type 0} → Seen S → Result (Option (First S)) (DriveFault F) → Type 0
 EndsBy seens.End result = result ≡ Ok None
 EndsBy seens.Failed result = result ≡ Err faults.Read
@@ -187,7 +187,7 @@ EndsBy seens.Unwritten result = result ≡ Err faults.Write
 EndsBy seens.Memory result = result ≡ Err faults.Memory
 EndsBy seen result = ⊥
 
--- What was looked at is taken, where it is a line; or the driver ends by it.
+-- What was looked at is taken if it is a line; else the driver ends.
 abbrev pub TakesSeen : {S F : Type 0} → (InputLine → S → Type 0) → LinesValue S → LinesValue S → Result (Option (First S)) (DriveFault F) → Type 0
 TakesSeen says old new (Ok (Some (firsts.Line said))) = TakesLine says old new (Some said)
 TakesSeen says old new (Ok (Some firsts.TooLong)) = (old.seen ≡ seens.TooLong) × (new ≡ with_one old) × (old.done < old.most) × StartsLong old.line.bytes
@@ -198,7 +198,7 @@ abbrev pub IsFirst : {S : Type 0} → (InputLine → S → Type 0) → First S �
 IsFirst says (firsts.Line said) line = says line said
 IsFirst says firsts.TooLong line = StartsLong line.bytes
 
--- Where this is still pulled, these items follow the lines before it: the group that it begins; or a line that is too long, of which the rest was not read.
+-- If this is still pulled, these items follow the lines before it: the group that it begins; or a line that is too long, of which the rest was not read.
 abbrev pub RestOf : {S : Type 0} → Grouping → First S → ℕ → LinesValue S → List ℕ → Bool → Items → Type 0
 RestOf by (firsts.Line said) n v more cut is = Rest by v (Some (begin v.done v.line)) more cut is
 RestOf by firsts.TooLong n v more cut is = is ≡ items_from by v.most cut n None (input_lines (v.line.bytes ++ (v.reader.bytes ++ more)))

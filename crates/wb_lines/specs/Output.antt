@@ -6,6 +6,6 @@ use Rattle.std.specs.Io.KnownBytes.{Appends}
 abbrev pub most_waiting : ℕ
 most_waiting = 65536
 
--- Text was added behind what waited, and some of it was sent from the front: what the sink has taken since, with what waits now, is what waited before, with the text.
+-- Text was added after what waited, and some of it was sent from the front: what the sink has taken since, with what waits now, is what waited before, with the text.
 abbrev pub Sends : Option (List ℕ) → List ℕ → Option (List ℕ) → List ℕ → List ℕ → Type 0
 Sends taken waiting taken' waiting' text = (sent : List ℕ) × Appends taken taken' sent × (waiting ++ text ≡ sent ++ waiting')

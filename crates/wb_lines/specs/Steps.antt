@@ -13,7 +13,7 @@ use Rattle.wb_lines.specs.Driving.{Outcome, writes, before, stop, is_stop, IsSto
 use Rattle.wb_lines.specs.Groups.{Steps, IsOutcomeOf}
 use Rattle.wb_lines.specs.Moments.{LinesValue, MayCome, Rest, HasJoined, Joins, IsGroupEnd, is_broken, PassesLine, Moment, Moves}
 
--- why a driver stops where its handler does, at the line of this number
+-- why a driver stops when its handler does, at the line of this number
 abbrev pub fault_of : {F : Type 0} → ℕ → Stop F → DriveFault F
 fault_of number (handler_stops.Fault f) = faults.Line number f
 fault_of number handler_stops.Endless = faults.Endless
@@ -21,24 +21,24 @@ fault_of number handler_stops.Memory = faults.Memory
 
 -- ---- a handler
 
--- What the code did, where it may do some steps and is at some states afterwards: all of one; or memory ran out, and it printed a front of the text of one.
+-- What the code did, if it may do some steps and is at some states afterwards: all of one; or memory ran out, and it printed a front of the text of one.
 abbrev pub DoesOne : {S F U : Type 0} → (S → Type 0) → List ℕ → (Step S F → Type 0) → Result U (Stop F) → Type 0
 DoesOne is_at printed May (Ok u) = (next : _) × is_at next × May (goes printed next)
 DoesOne is_at printed May (Err (handler_stops.Fault f)) = May (stops printed f)
 DoesOne is_at printed May (Err handler_stops.Endless) = May (ends printed)
 DoesOne is_at printed May (Err handler_stops.Memory) = (step : _) × May step × BeginsWith (text_of step) printed
 
--- It took all of a group, or nothing where no more lines can be read.
+-- It took all of a group, or printed nothing if no more lines can be read.
 abbrev pub TakesAll : {S F T : Type 0} → Bool → Grouping → (S → Type 0) → List ℕ → (List InputLine → Step S F → Type 0) → InputLine → List InputLine → LinesValue T → Type 0
 TakesAll true by is_at printed May first joined v = printed ≡ []
 TakesAll false by is_at printed May first joined v = HasJoined by first joined × IsGroupEnd by first v × ((next : _) × is_at next × May joined (goes printed next))
 
--- What it did with a group, of which these lines were taken behind the first. Where it stops, it does so whichever lines join it.
+-- What it did with a group, of which these lines were taken after the first. If it stops, it does so whichever lines join it.
 abbrev pub DoesGroup : {S F U T : Type 0} → Grouping → (S → Type 0) → List ℕ → (List InputLine → Step S F → Type 0) → InputLine → List InputLine → LinesValue T → Result U (Stop F) → Type 0
 DoesGroup by is_at printed May first joined v (Ok u) = TakesAll (is_broken v.seen) by is_at printed May first joined v
 DoesGroup by is_at printed May first joined v (Err e) = (all : List InputLine) → DoesOne {U = Unit {0}} is_at printed (May all) (Err e)
 
--- What it did with what was taken. Where it went on behind a line that is too long, the rest of that was passed over.
+-- What it did with what was taken. If it went on after a line that is too long, the rest of that was passed over.
 abbrev pub HandlesBy : {S F U T : Type 0} → Grouping → Steps S F → (S → Type 0) → (S → Type 0) → First T → LinesValue T → LinesValue T → List ℕ → List ℕ → Result U (Stop F) → Type 0
 HandlesBy by Does was_at is_at (firsts.Line said) old new given printed result =
     (joined : List InputLine) × Joins by old new given joined
@@ -56,11 +56,11 @@ Handles by Does was_at is_at first old new result =
 abbrev pub Begins : {F : Type 0} → Outcome F → List ℕ → Type 0
 Begins (writes text end) written = BeginsWith text written
 
--- Behind what was taken, an outcome of the rest, from a state on.
+-- An outcome of the rest, after what was taken, from a state on.
 abbrev pub OutcomeAt : {S F T : Type 0} → Grouping → Steps S F → LinesValue T → S → List ℕ → Bool → Outcome F → S → Type 0
 OutcomeAt by Does v s more cut o t = (is : Items) × Rest by v None more cut is × IsOutcomeOf Does is s o t
 
--- Behind a text, the driver ends so: it is an outcome, or a front of the text of one where the driver has to stop.
+-- After a text, the driver ends so: it is an outcome, or a front of the text of one if the driver has to stop.
 abbrev pub Answers : {S F : Type 0} → (Outcome F → S → Type 0) → List ℕ → S → Result ℕ (DriveFault F) → Type 0
 Answers Whole written t (Err faults.Memory) = (o : _) × (u : _) × Whole o u × Begins o written
 Answers Whole written t (Err faults.Write) = (o : _) × (u : _) × Whole o u × Begins o written
@@ -81,7 +81,7 @@ DrivesAll by Does was_at is_at old new result = (printed : List ℕ) × (moves :
 
 -- ---- the end
 
--- Some text may wait to be written: none does where the end of the outcome is answered.
+-- Some text may wait to be written; none does if the end of the outcome is answered.
 abbrev pub Settles : {F : Type 0} → Outcome F → List ℕ → List ℕ → Result ℕ (DriveFault F) → Type 0
 Settles (writes text end) written waiting result = ((written ≡ text) × (waiting ≡ []) × (result ≡ end)) ⊎ (IsStopped result × BeginsWith text written)
 

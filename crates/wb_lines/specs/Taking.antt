@@ -10,7 +10,7 @@ is_short l = nat_le (length l.bytes) most_bytes
 abbrev pub met : InputLine → Met
 met l = if is_short l then whole l else too_long
 
--- A line is taken once its end is seen, or as soon as it is too long. Where the input is cut off, what stands behind the last line feed has no end.
+-- A line is taken once its end is seen, or as soon as it is too long. If the input is cut off, what follows the last line feed has no end.
 abbrev pub is_taken : Bool → InputLine → Bool
 is_taken cut l = not (is_short l) || (l.ended || not cut)
 

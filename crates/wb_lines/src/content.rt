@@ -13,8 +13,8 @@ pub fn without_carriage_return(line: &[u8]) -> &[u8]
     }
 }
 
-/// A line without its end, where a line feed is a part of it: the carriage return before it is one
-/// too.
+/// A line without its end. If a line feed ends it, a carriage return before that is a part of the
+/// end.
 pub fn without_end(line: &[u8], ended: bool) -> &[u8]
     ensures { result.now ≡ content (record { bytes = line.now; ended = ended }) }
 {

@@ -18,7 +18,7 @@ use crate::saying::Saying;
 use std::alloc::{AllocError, Global};
 use wb_names::{Sink, Source};
 
-/// Why the driver stops where its handler does, at the line of this number.
+/// Why the driver stops when its handler does, at the line of this number.
 pub fn fault_of<F>(number: u64, stop: Stop<F>) -> DriveFault<F>
     ensures fault { result ≡ fault_of number stop }
     ensures other { (result ≢ DriveFault.Read) × (result ≢ DriveFault.Write) }
@@ -53,8 +53,8 @@ impl Saying for Unread {
     }
 }
 
-/// Hands what was taken to the handler. Where that goes on behind a line that is too long, the rest
-/// of the line is passed over.
+/// Hands what was taken to the handler. If that goes on after a line that is too long, the rest of
+/// the line is passed over.
 fn hand_over<H: Handler, R: Source, W: Sink>(
     alloc: Global,
     first: First<Unread>,
@@ -145,10 +145,10 @@ pub fn close<F: Drop, W: Sink>(
 /// the first fault in their order, and then all is written that was printed before.
 ///
 /// The lines are taken up to the first at which the handler stops, and `most_lines` of them at
-/// most. A line that is too long is handed over as such; where the handler goes on, the rest of it
-/// is passed over.
+/// most. A line that is too long is handed over as such; if the handler goes on, the rest of it is
+/// passed over.
 ///
-/// Where memory runs out or the sink fails, a front of the text is written.
+/// If memory runs out or the sink fails, a front of the text is written.
 pub fn drive<H: Handler, R: Source, W: Sink>(
     alloc: Global,
     most_lines: u64,

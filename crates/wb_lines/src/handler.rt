@@ -45,8 +45,8 @@ pub trait Handler {
             ((s : Self.State) → is_at self.old s → Does (is_at self.new) printed result
             (step s number (whole (record { bytes = line.now; ended = ended })))) };
 
-    /// Is told of a line that is too long, before its end is read. Where it goes on, the rest of
-    /// the line is passed over.
+    /// Takes a line that is too long, before its end is read. If it goes on, the rest of the line
+    /// is passed over.
     fn take_too_long(
         &mut self,
         alloc: Global,

@@ -35,7 +35,7 @@ fn digit_value(byte: u8) -> u8
 }
 
 /// The bytes that a word stands for, if it is an even number of hexadecimal digits, of either case.
-/// It is gone through once; only where memory is refused are the digits looked at alone.
+/// It is gone through once; only if an allocation fails are the digits looked at alone.
 pub fn unhex(alloc: Global, word: &[u8]) -> Result<Option<Vec<u8>>, AllocError>
     ensures bytes { IfOk result (λ found. MatchOption found (is_hex word.now ≡ false)
         (λ bytes. (is_hex word.now ≡ true) × (decode_of word.now ≡ Ok bytes.items))) }

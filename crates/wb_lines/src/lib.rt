@@ -1,7 +1,7 @@
 //! Text that comes and goes line by line: what reads it, what stands in a line, and what waits to
 //! be written.
 //!
-//! `drive` hands the lines of a source to a handler, and writes what the handler prints. Who takes
+//! `drive` hands the lines of a source to a handler, and writes what it prints. A caller who takes
 //! several lines together pulls them from a `Progress`. Both stand on `LineReader`, which reads the
 //! lines, and on `Output`, which holds text until it is written. A line has words, numbers and
 //! hexadecimal digits, which stand in modules of their own. Nothing here knows what the lines say.

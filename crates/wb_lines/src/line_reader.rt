@@ -10,10 +10,10 @@ use std::alloc::{AllocError, Global};
 use std::marker::Model;
 use wb_names::{Sink, Source};
 
-/// So many bytes are asked of a source at once.
+/// How many bytes are asked of a source at once.
 const BLOCK_LEN: usize = 65_536;
 
-/// A line has at most so many bytes before its line feed.
+/// The most bytes that a line has before its line feed.
 const MAX_LINE_LEN: usize = 65_536;
 
 /// The next byte of a source, or why there is none.
@@ -44,7 +44,7 @@ pub enum Found {
     Unwritten,
 }
 
-/// How many bytes stand before the first line feed, or in all where there is none.
+/// How many bytes stand before the first line feed, or in all if there is none.
 fn len_before_line_feed(bytes: &[u8]) -> usize
     ensures within { result ≤ length bytes.now }
     ensures before { NoLineFeed (take result bytes.now) }
@@ -237,8 +237,8 @@ impl LineReader {
         count
     }
 
-    /// Passes over the rest of a line, with its line feed where there is one. Answers how it ended:
-    /// too long where it had more bytes than are counted.
+    /// Passes over the rest of a line, with its line feed if there is one. Answers how it ended:
+    /// too long if it had more bytes than are counted.
     pub(crate) fn pass_over<R: Source, W: Sink>(
         &mut self,
         source: &mut R,

@@ -12,10 +12,10 @@ use std::marker::Model;
 use std::mem::replace;
 use wb_names::{Sink, Source};
 
-/// What was found behind the lines that were taken.
+/// What was found after the lines that were taken.
 #[derive(Drop)]
 pub enum Seen<S> {
-    /// It was not looked.
+    /// Nobody has looked.
     Nothing,
     /// A line, and what it says.
     Line(S),
@@ -55,8 +55,8 @@ fn found_over<S>(found: Found) -> Seen<S>
 }
 
 /// Reads a source line by line, and counts the lines. The next line can be looked at before it is
-/// taken, so that who takes lines together leaves the one behind them. Each line is read once, when
-/// it is looked at.
+/// taken, so that a caller who takes lines together leaves the one after them. Each line is read
+/// once, when it is looked at.
 #[derive(Drop)]
 pub struct Lines<S: Saying> {
     reader: LineReader,
@@ -151,7 +151,7 @@ impl<S: Saying> Lines<S> {
         }
     }
 
-    /// What is found where more lines may be taken.
+    /// What is found if more lines may be taken.
     fn find_line<R: Source, W: Sink>(
         &mut self,
         alloc: Global,
@@ -179,7 +179,7 @@ impl<S: Saying> Lines<S> {
         }
     }
 
-    /// What is found behind as many lines as are taken at most.
+    /// What is found after the most lines that are taken.
     fn find_past_the_last<R: Source, W: Sink>(
         &mut self,
         source: &mut R,
@@ -203,7 +203,7 @@ impl<S: Saying> Lines<S> {
         }
     }
 
-    /// What is found behind the lines that were taken.
+    /// What is found after the lines that were taken.
     fn find<R: Source, W: Sink>(
         &mut self,
         alloc: Global,
@@ -227,7 +227,7 @@ impl<S: Saying> Lines<S> {
         }
     }
 
-    /// Looks at what stands behind the lines that were taken, unless it was looked at.
+    /// Looks at what stands after the lines that were taken, unless it was looked at.
     pub fn look<R: Source, W: Sink>(
         &mut self,
         alloc: Global,

@@ -2,7 +2,7 @@
 ghost use Rattle.std.specs.Prelude.{◌≡◌, ◌≤◌, IfSome};
 ghost use Rattle.wb_lines.specs.Words.{is_digit, number_of};
 
-/// The number that a word of decimal digits stands for, where it is from `low` to `high`.
+/// The number that a word of decimal digits stands for, if it is from `low` to `high`.
 pub fn number(word: &[u8], low: u64, high: u64) -> Option<u64>
     ensures value { result ≡ number_of low high word.now }
     ensures bound { IfSome result (λ n. (low ≤ n) × (n ≤ high)) }

@@ -54,7 +54,7 @@ impl Output {
         self.len() > MOST_WAITING
     }
 
-    /// Adds text behind what waits.
+    /// Adds text after what waits.
     pub fn add(&mut self, text: &[u8]) -> Result<(), AllocError>
         ensures ok { OnOk result (self.new ≡ self.old ++ text.now) }
         ensures err { OnErr result (self.new ≡ self.old) }

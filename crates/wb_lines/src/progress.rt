@@ -19,7 +19,7 @@ pub struct Progress<S: Saying> {
 
 impl<S: Saying> Progress<S> {
     /// Takes the next line, as the first of those that join it. Answers none at the end of the
-    /// input, and a fault where no more lines can be read.
+    /// input, and a fault if no more lines can be read.
     pub fn next_first<F, R: Source, W: Sink>(
         &mut self,
         alloc: Global,

@@ -1,4 +1,4 @@
--- The next number of a host is above all of its own that are held or were told.
+-- The next number of a host is above all of its own that are held or that others told.
 use Rattle.std.proofs.Common.{◌≡◌, ℕ, ◌+◌, ◌<◌, ◌≤◌, Bool, true, false, cond, List, Option, Some, None, ap, ◌∙◌, sym, arith, IfSome, max, nat_lt}
 use Rattle.wb_names.specs.Values.{MarkValue}
 use Rattle.wb_names.specs.History.{highest}

@@ -46,7 +46,7 @@ held p q h d o view sound whole cells b =
     ∙ ap (λ (ds : List DrawopValue). let k : Held = record { cells = p.cells; drawops = ds } in k) (t.1 ∙ ap (history_with p.seen d) (outcome_is p.cells p.seen d o sound.history t.0))
     ∙ ap (λ (k : Held). board_after k (d ∷ [])) view
 
--- the keeper was told of a batch that was taken in this order
+-- the keeper took in the names of a batch that was taken in this order
 pub told : (b b' : Held) (k k' : KeeperValue) (g : Lcg) (host : Opened) (batch order : List DrawopValue) (names : List NameValue) → IsOpenAt (member b k g) host → names ≡ names_of batch → b' ≡ board_after b order
     → Keeps (Arrive k.moment (filter (holds b'.drawops) names)) k k' → IsOpenAt (member b' k' g) (batched batch order host)
 told b b' k k' g host batch order names at named is keeps =

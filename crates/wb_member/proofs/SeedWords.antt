@@ -18,7 +18,7 @@ after_words-add g (suc a) b =
     let e : suc a + b ≡ suc (a + b) = omega arith in
     rw e (after_words-add (after_word g) a b)
 
--- so many words were taken
+-- `count` words were taken
 pub record AreTaken (old new : Lcg) (count : ℕ) (taken : List ℕ) : Type 0 where
   pub words : taken ≡ words_of old count
   pub rest : new ≡ after_words old count

@@ -29,7 +29,7 @@ MayBeOpenAt None None = Unit {0}
 MayBeOpenAt (Some v) (Some host) = IsOpenAt v host
 MayBeOpenAt member host = ⊥
 
--- what became of a drawop, by the reply to it: there is none where the board is full
+-- what became of a drawop, by the reply to it: there is none if the board is full
 abbrev pub outcome_in : Option Reply → Outcome
 outcome_in None = Left
 outcome_in (Some reply) = outcome reply

@@ -1,4 +1,4 @@
--- What a member shows to who judges for it.
+-- What a member shows to whoever judges for it.
 use Rattle.std.specs.Prelude.{ℕ, Bool, List, Option, length, nat_le}
 use Rattle.wb_names.specs.Values.{NameValue}
 use Rattle.wb_names.specs.History.{highest as highest_held}
@@ -27,7 +27,7 @@ holds host name = history_holds host.is.held name
 abbrev pub asked_names : Opened → List NameValue
 asked_names host = asking (names_of (events host)) (timers_of host.is.constants (events host))
 
--- how often the request timer of a name was backed off, where one stands
+-- how often the request timer of a name was backed off, if one stands
 abbrev pub level : Opened → NameValue → Option ℕ
 level host name = level_of (timers_of host.is.constants (events host)) name
 

@@ -28,7 +28,7 @@ after_saying (Request asker name) host = host
 after_saying (AskPages asker) host = host
 after_saying (PageState sender page marks) host = host
 
--- It is not sent where its name means another drawop, or the board is full.
+-- It is not sent if its name means another drawop, or the board is full.
 abbrev pub said_where : DrawopValue → Outcome → List Datagram
 said_where d (Fresh place) = Draw d ∷ []
 said_where d (Known place) = Draw d ∷ []

@@ -26,9 +26,9 @@ pub record Member : Type 0 where
   pub held : List DrawopValue
   pub calls : List KeeperCall
 
--- What a member does, where that has a moment of its clock and random words, with these. A batch of drawops arrives, and
+-- What a member does, with the moment of its clock and the random words that it takes for this. A batch of drawops arrives, and
 -- those of `order` are taken, in their order: all of the batch in some order, or none of it. Any other datagram is heard. A
--- call that is refused, or that ends for want of memory, is none of these.
+-- call that is refused, or in which an allocation fails, is none of these.
 pub data Act : Type 0 where
   Draws : (page : PageId) (time : ℕ) (op : Op) → Act
   Takes : (now : ℕ) (batch order : List DrawopValue) → Act

@@ -51,7 +51,7 @@ present host = moment_at host.is.calls
 abbrev pub events : Opened → List Event
 events host = events_of host.is.number host.is.calls
 
--- It does an act, which takes so many random words.
+-- It does an act, which takes `words` random words.
 abbrev pub doing : Act → ℕ → Opened → Opened
 doing act words host = record { is = after act host.is; random = after_words host.random words }
 
@@ -79,7 +79,7 @@ words_for v = if takes_word v then 1 else 0
 abbrev pub word_at : Datagram → Lcg → ℕ
 word_at v random = if takes_word v then word_of random else 0
 
--- A datagram is refused where the marks of its page would be too many.
+-- A datagram is refused if the marks of its page would be too many.
 abbrev pub has_room_for : Datagram → Opened → Bool
 has_room_for v host = is_own host.is.number v || has_room (marks_heard host.is.number host.is.calls) v
 
@@ -96,13 +96,13 @@ answered v host = answers_to host.is.number host.is.held v
 abbrev pub with_delay : ℕ → ℕ → Opened → Opened
 with_delay source micros host = doing (SetsDelay source micros) 0 host
 
--- What is set or backed off from now on is by other constants. A timer that stands keeps its moment.
+-- From now on timers are set and backed off by other constants. A timer that stands keeps its moment.
 abbrev pub with_constants : Tuning → Opened → Opened
 with_constants constants host = doing (SetsConstants constants) 0 host
 
 -- ---- time
 
--- the least moment at which one of its timers is due, or None where none stands
+-- the least moment at which one of its timers is due, or None if none stands
 abbrev pub next_due : Opened → Option ℕ
 next_due host = next_due_of host.is.constants (events host)
 
@@ -142,7 +142,7 @@ looked page host = doing (Misses (present host) (wanted_of page host) (words_of 
 abbrev pub may_ask : NameValue → Opened → Bool
 may_ask name host = not (holds host.is.held name || is_timed (timers_of host.is.constants (events host)) name)
 
--- It begins to miss the name, with one random word, where it may.
+-- It begins to miss the name, with one random word, if it may.
 abbrev pub with_asked : NameValue → Opened → Opened
 with_asked name host = if may_ask name host then doing (Misses (present host) (name ∷ []) (word_of host.random ∷ [])) 1 host else host
 
@@ -172,7 +172,7 @@ pages_known host = known_pages host.is.number host.is.calls host.is.held
 abbrev pub last_number : PageId → Opened → ℕ
 last_number page host = known_number host.is.number host.is.calls host.is.held page host.is.number
 
--- the number after the last, where there is one
+-- the number after the last, if there is one
 abbrev pub number_after : ℕ → Option ℕ
 number_after last = if nat_lt last greatest_number then Some (last + 1) else None
 

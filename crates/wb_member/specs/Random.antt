@@ -15,7 +15,7 @@ word_of g = (u64_via_u32 pcg32 g).0
 unfoldable pub after_word : Lcg → Lcg
 after_word g = (u64_via_u32 pcg32 g).1
 
--- the next so many words, and the generator after them
+-- the next `count` words, and the generator after them
 abbrev pub words_of : Lcg → ℕ → List ℕ
 words_of g zero = []
 words_of g (suc count) = word_of g ∷ words_of (after_word g) count
@@ -26,7 +26,7 @@ after_words g (suc count) = after_words (after_word g) count
 
 -- ---- laws
 
--- Words that are taken in two parts are those that are taken at once, so the words of a member are the first so many of its generator, however they are taken.
+-- Words that are taken in two parts are those that are taken at once, so the words of a member are the first of its generator, however they are taken.
 abbrev pub WordsFollowWords : Type 0
 WordsFollowWords = (g : Lcg) (a b : ℕ) → words_of g (a + b) ≡ words_of g a ++ words_of (after_words g a) b
 

@@ -16,7 +16,7 @@ use wb_host::{Board, Desk, Keeper};
 use wb_names::{Drawop, Name};
 
 /// A member whose board is handed out, for a batch to be taken there. It is a member again once its
-/// keeper is told of the batch, and no sooner.
+/// keeper knows of the batch, and no sooner.
 #[derive(Drop)]
 pub struct AwaitsBatch {
     /// For contracts alone: the board as it was.
@@ -58,7 +58,7 @@ impl Member {
 
 impl AwaitsBatch {
     /// Takes the board back, which took this batch in some order, and tells the keeper what
-    /// arrived, in the order of the batch. Without memory the member is gone.
+    /// arrived, in the order of the batch. If an allocation fails, the member is gone.
     pub fn take_back(
         self,
         alloc: Global,

@@ -10,7 +10,7 @@ pub fn views_are_one()
 {}
 
 /// Words that are taken in two parts are those that are taken at once, and each has 64 bits: what a
-/// member has taken is the first so many words of its seed, however it took them.
+/// member has taken is the first words of its seed, however it took them.
 pub fn words_follow_words()
     ensures words { WordsFollowWords }
     ensures rest { StepsFollowSteps }

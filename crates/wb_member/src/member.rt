@@ -40,7 +40,7 @@ impl Model for Member {
 }
 
 impl Member {
-    /// An empty board of so many cells, a keeper of the member that has heard nothing, with these
+    /// An empty board of `cells` cells, a keeper of the member that has heard nothing, with these
     /// constants of its timers, and the random words of a seed.
     pub fn open(
         alloc: Global,
@@ -86,8 +86,8 @@ impl Member {
         self.board.drawops().len() as u32
     }
 
-    /// A drawop arrives, as a batch of its own, and the keeper is told of it. Answers what became
-    /// of it: None where it is new and the board is full.
+    /// A drawop arrives, as a batch of its own, and the member tells its keeper. Answers what
+    /// became of it: None if it is new and the board is full.
     pub fn accept(&mut self, drawop: &Drawop) -> Result<Option<Reply>, AllocError>
         ensures accepted { IfOk result (λ reply. (host : Opened) → IsOpenAt self.old host →
             (outcome_in reply ≡ becomes drawop.now host) ×
@@ -100,7 +100,7 @@ impl Member {
     }
 
     /// A datagram other than a drawop is heard at the present moment. Answers what is sent at once.
-    /// Refused with `TooMany`, where a page would have marks of over 65,535 sources, or `Memory`.
+    /// Refused with `TooMany`, if a page would have marks of over 65,535 sources, or `Memory`.
     pub fn hear(&mut self, alloc: Global, datagram: &Datagram) -> Result<Vec<Datagram>, KeepFault>
         ensures fault { (host : Opened) → IsOpenAt self.old host →
             IsKeptBy (heard_fault datagram.now host) result }
@@ -129,8 +129,8 @@ impl Member {
         self.keeper.set_delay(source, micros)
     }
 
-    /// Gives its timers other constants, each 1 to 16: what is set or backed off from now on is by
-    /// them. A timer that stands keeps its moment. Refused with `Constant`.
+    /// Gives its timers other constants, each 1 to 16, for what is set or backed off from now on. A
+    /// timer that stands keeps its moment. Refused with `Constant`.
     pub fn set_constants(&mut self, constants: Tuning) -> Result<(), TuningFault>
         ensures constants { MatchResult result (λ _. IsTrue (are_constants constants))
             (λ e. are_constants constants ≡ false) }
@@ -142,7 +142,7 @@ impl Member {
     }
 
     /// The least moment at which a timer is due, and so when the next tick has something to do.
-    /// None where no timer stands.
+    /// None if no timer stands.
     pub fn next_due(&self) -> Option<u64>
         ensures { (host : Opened) → IsOpenAt self.now host → result ≡ next_due host }
     {
@@ -170,7 +170,7 @@ impl Member {
     }
 
     /// The number of its next drawop on a page: one above the greatest of its own that is held or
-    /// was heard of. None where that is 4,294,967,295, the last number.
+    /// was heard of. None if that is 4,294,967,295, the last number.
     pub fn next_number(&self, page: PageId) -> Option<u32>
         ensures number { (host : Opened) → IsOpenAt self.now host → result ≡ next_number page host }
         ensures unreached { IfSome result (λ number. (host : Opened) → IsOpenAt self.now host →

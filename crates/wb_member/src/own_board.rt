@@ -37,7 +37,7 @@ impl Model for OwnBoard {
 }
 
 impl OwnBoard {
-    /// An empty board of so many cells.
+    /// An empty board of `cells` cells.
     pub fn open(alloc: Global, cells: u32) -> Result<Self, AllocError>
         requires { IsCellCount cells }
         ensures { IfOk result (λ w. w ≡ record { cells = cells; drawops = [] }) }
@@ -57,8 +57,8 @@ impl OwnBoard {
         self.desk.list()
     }
 
-    /// The canvas of a page, so many cells wide and high. It is painted where the desk lends what
-    /// the page shows.
+    /// The canvas of a page, `width` cells wide and `height` high. It is painted from what the page
+    /// shows, which the desk lends.
     pub fn paint(
         &mut self,
         alloc: Global,
@@ -92,8 +92,8 @@ impl OwnBoard {
         self.desk.find(name).is_some()
     }
 
-    /// Accepts one drawop, and answers what became of it: None where the board is full. Without
-    /// memory it holds what it held.
+    /// Accepts one drawop, and answers what became of it: None if the board has no cell for it. If
+    /// an allocation fails, it holds what it held.
     pub fn accept(&mut self, drawop: &Drawop) -> Result<Option<Reply>, AllocError>
         ensures became { IfOk result
             (λ reply. outcome_in reply ≡ outcome_of self.old.cells self.old.drawops drawop.now) }

@@ -12,7 +12,7 @@ use wb_names::{Drawop, Gap, Marks, PageId};
 /// What a member is asked.
 #[derive(Clone, Copy, Debug, PartialEq, Eq)]
 pub enum Query {
-    /// The canvas of a page, so many cells wide and high.
+    /// The canvas of a page, `width` cells wide and `height` high.
     Canvas {
         page: PageId,
         width: u32,
@@ -28,7 +28,7 @@ pub enum Query {
     View(PageId),
     /// The pages that have a drawop or of which some mark was heard, ascending, each once.
     Known,
-    /// The number of its next drawop on a page. None where no number is left.
+    /// The number of its next drawop on a page. None if no number is left.
     Next(PageId),
 }
 

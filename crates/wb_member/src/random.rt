@@ -43,7 +43,7 @@ impl RandomWords {
         next_u64_via_u32(&mut self.generator)
     }
 
-    /// The next word, and the words behind it.
+    /// The next word, and the words after it.
     pub fn next_ahead(&self) -> Result<(u64, RandomWords), AllocError>
         ensures { IfOk result (λ r. (r.0 ≡ word_of self.now) × (r.1 ≡ after_word self.now)) }
     {
@@ -52,7 +52,7 @@ impl RandomWords {
         Ok((word, rest))
     }
 
-    /// The next so many words, and the words behind them.
+    /// The next `count` words, and the words after them.
     pub fn ahead(&self, alloc: Global, count: usize) -> Result<(Vec<u64>, RandomWords), AllocError>
         ensures { IfOk result (λ r. (r.0.items ≡ words_of self.now count) ×
             (length r.0.items ≡ count) × (r.1 ≡ after_words self.now count)) }
@@ -62,7 +62,7 @@ impl RandomWords {
         Ok((words, rest))
     }
 
-    /// Takes the next so many words. Without memory none is taken.
+    /// Takes the next `count` words. If an allocation fails, none is taken.
     fn take(&mut self, alloc: Global, count: usize) -> Result<Vec<u64>, AllocError>
         ensures words { IfOk result (λ words. words.items ≡ words_of self.old count) }
         ensures length { IfOk result (λ words. length words.items ≡ count) }

@@ -1,4 +1,4 @@
--- What becomes of arrivals at a whiteboard of one thread, whose board has so many cells.
+-- What becomes of arrivals at a whiteboard of one thread, whose board has `cells` cells.
 use Rattle.std.specs.Prelude.{◌≡◌, ℕ, ◌+◌, ◌<◌, ◌≤◌, List, [], ◌∷◌, ◌++◌, length, nat_lt, if◌then◌else◌}
 use Rattle.wb_names.specs.Values.{DrawopValue}
 use Rattle.wb_names.specs.Orders.{same_name}

@@ -1,4 +1,4 @@
--- What is said of a fault.
+-- The text of a fault.
 use Rattle.std.specs.Prelude.{ℕ, List, codes}
 use Rattle.wb_names.specs.declared.fault.FieldFault.{FieldFault}
 use Rattle.wb_names.specs.declared.fault.FieldFault.TheVariants.{SeqZero, Coordinate, Glyph, TextLength, TextByte, TargetZero, TargetSelf}

@@ -12,12 +12,12 @@ use std::marker::Model;
 /// The most entries that a list can have.
 pub const MAX_ENTRIES: usize = 65_535;
 
-/// What is told of one source. A list has at most one entry of each source.
+/// What a list says about one source. It has at most one entry of each source.
 pub trait Entry: Copy + Drop {
     /// The source.
     ghost source: { Self → ℕ };
 
-    /// That its number is at least 1, where it has one.
+    /// That its number is at least 1, if it has one.
     ghost IsPositive: { Self → Type 0 };
 
     /// The source that the entry is of.
@@ -87,8 +87,8 @@ impl Entries<Echo> {
 }
 
 impl<E: Entry> Entries<E> {
-    /// The list of these entries. It comes back with `TooMany` where there are over 65,535, else
-    /// with `Order` where the sources are not strictly ascending.
+    /// The list of these entries. It comes back with `TooMany` if there are over 65,535, else with
+    /// `Order` if the sources are not strictly ascending.
     pub fn new(entries: Vec<E>) -> Result<Entries<E>, (ListFault, Vec<E>)>
         ensures list { MatchResult result (λ m. m ≡ entries.items)
             (λ e. e.1.items ≡ entries.items) }

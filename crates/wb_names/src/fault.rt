@@ -12,11 +12,11 @@ pub enum FieldFault {
     SeqZero,
     /// A coordinate is over 4095 cells.
     Coordinate,
-    /// The glyph is no visible character of ASCII, `!` to `~`.
+    /// The glyph is not a visible character of ASCII, `!` to `~`.
     Glyph,
     /// A text has no bytes, or over 64.
     TextLength,
-    /// A byte of a text is no printable character of ASCII, space to `~`.
+    /// A byte of a text is not a printable character of ASCII, space to `~`.
     TextByte,
     /// A delete or a restore names the sequence number 0.
     TargetZero,
@@ -43,7 +43,7 @@ impl FieldFault {
         }
     }
 
-    /// What is said of the fault.
+    /// The text of the fault.
     pub fn text(&self) -> &'static str
         ensures { result.now ≡ field_text self.now }
     {

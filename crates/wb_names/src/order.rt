@@ -7,7 +7,7 @@ use crate::drawop::Drawop;
 use std::cmp::Ordering;
 
 /// The order in which drawops are displayed: by time, then by source, then by sequence number. On
-/// one page two drawops tie only where they have one name.
+/// one page two drawops tie only if they have one name.
 #[inline(always)]
 pub fn display_order(a: &Drawop, b: &Drawop) -> Ordering
     ensures { result ≡ display_cmp a.now b.now }

@@ -79,7 +79,7 @@ impl Op {
         }
     }
 
-    /// The bytes of a text, and none where the operation is no text.
+    /// The bytes of a text, and none if the operation is not a text.
     #[inline(always)]
     pub fn text(&self) -> &[u8]
         ensures { result.now ≡ text_of self.now }

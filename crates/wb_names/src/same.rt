@@ -7,7 +7,7 @@ ghost use Rattle.std.specs.Cmp.{partial_equiv_from_equiv};
 use crate::drawop::Drawop;
 use crate::parts::Op;
 
-/// Two operations are the same where they are of one kind and all fields are equal.
+/// Two operations are the same if they are of one kind and all fields are equal.
 impl PartialEq for Op {
     ghost eq = { same_op };
 
@@ -38,7 +38,7 @@ impl Eq for Op {
     ghost laws = { same_op_laws };
 }
 
-/// Two drawops are the same where their names, times and operations are.
+/// Two drawops are the same if their names, times and operations are.
 impl PartialEq for Drawop {
     ghost eq = { same_drawop };
 

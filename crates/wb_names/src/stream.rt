@@ -7,14 +7,14 @@ use std::io::{Read, Write};
 
 /// Where bytes come from. After it has failed it gives no more.
 pub trait Source {
-    /// The bytes that are left, where they are known.
+    /// The bytes that are left, if they are known.
     ghost left: { Self → Option (List ℕ) };
 
     /// Whether it has failed.
     ghost has_failed: { Self → Bool };
 
-    /// Moves bytes that are left to the front of the buffer, and says how many: 0 at the end alone.
-    /// `None` where it failed, and then nothing was moved.
+    /// Moves bytes that are left to the front of the buffer, and says how many: 0 only at the end.
+    /// `None` if it failed, and then nothing was moved.
     fn pull(&mut self, buffer: &mut [u8]) -> Option<usize>
         requires { 0 < length buffer.old }
         ensures bytes { Pulls (left self.old) (left self.new) result buffer.new }
@@ -24,14 +24,14 @@ pub trait Source {
 
 /// Where bytes go to. After it has failed it takes no more.
 pub trait Sink {
-    /// The bytes that it has taken, where they are known.
+    /// The bytes that it has taken, if they are known.
     ghost taken: { Self → Option (List ℕ) };
 
     /// Whether it has failed.
     ghost has_failed: { Self → Bool };
 
-    /// Takes bytes from the front, and says how many: at least one. `None` where it failed, and
-    /// then nothing was taken.
+    /// Takes bytes from the front, and says how many: at least one. `None` if it failed, and then
+    /// nothing was taken.
     fn push(&mut self, bytes: &[u8]) -> Option<usize>
         requires { 0 < length bytes.now }
         ensures bytes { Pushes (taken self.old) (taken self.new) result bytes.now }

@@ -16,7 +16,7 @@ use Rattle.wb_progress.proofs.Giving.{Spares, spares_held, desk_here, Called, ch
 use Rattle.wb_progress.proofs.Parts.{before_end, order_of, in_past, joined}
 
 module _ {MayStop : List Turn → Turn → NameValue → Type 0} (places : Places) (terms : Terms) (turns : List Turn) (is : KeepTimeBut MayStop places terms turns) where
-  -- what is sent behind one time comes behind each later one
+  -- what all hold after one time they hold after each later one
   pub sooner : (a b : ℕ) (n : NameValue) → a ≤ b → AllHoldBehind terms turns a n → AllHoldBehind terms turns b n
   sooner a b n le all newer later i split lt live = all newer later i split (omega (arith, le, lt)) live
 
@@ -157,7 +157,7 @@ module _ {MayStop : List Turn → Turn → NameValue → Type 0} (places : Place
                 (answered places terms turns is ((h.later ++ x ∷ []) ++ g.newer) g.older g.e j n f.0 at a.1 held_then f.1 g.called f.2)))
                 g.gives
 
-      -- an answer timer stands behind it
+      -- an answer timer stands after it
       from_timer : (answer : AnswerTimer) → (timers_at (places.me j) (places.constants j) (Hear h.now (Request asker n) h.word true ∷ (desk_at before j).calls) n).answer ≡ Some answer → answer.due ≤ h.now + ((longest terms).d1 + (longest terms).d2) * terms.far → AllHoldBehind terms turns end n
       from_timer answer stands due newest later i is_part lt live =
           let limit : ℕ = e.time + terms.delivery + terms.answering * terms.far + terms.late in

@@ -46,7 +46,7 @@ record IsMissed (far : ℕ) (bound : Tuning) (now : ℕ) (s next : Timers) : Typ
   new : s.ask ≡ None → IfSome next.ask (λ (ask : AskTimer). ask.due ≤ now + (bound.c1 + bound.c2) * far)
   lowest : s.ask ≡ None → IfSome next.ask (λ (ask : AskTimer). ask.level ≡ 0)
 
--- a tick of which it is no name that was stopped
+-- a tick that did not stop this name
 record IsTicked (call : KeeperCall) (s next : Timers) : Type 0 where
   now : ℕ
   words : List ℕ
@@ -384,7 +384,7 @@ missed_fresh far bound now s next ask m e = from s.ask refl where
   from (Some a) is = inl (is ∙ sym (m.stays a is) ∙ e)
   from None is = inr (subst (λ (o : Option AskTimer). IfSome o (λ (a : AskTimer). a.due ≤ now + (bound.c1 + bound.c2) * far)) e (m.new is))
 
--- Where no delay and no constants are above the bound, it stood so before, or its name is missed by the call.
+-- If no delay and no constants are above the bound, it stood so before, or its name is missed by the call.
 pub fresh_ask : (far me : ℕ) (bound t : Tuning) (call : KeeperCall) (calls : List KeeperCall) (n : NameValue) → ((source : ℕ) → delay_to me calls source ≤ far) → IsUnder bound (constants_at me t calls)
     → (ask : AskTimer) → (timers_at me t (call ∷ calls) n).ask ≡ Some ask → ask.level ≡ 0 → ((timers_at me t calls n).ask ≡ Some ask) ⊎ (Misses n call × (ask.due ≤ moment_at (call ∷ []) + (bound.c1 + bound.c2) * far))
 fresh_ask far me bound t call calls n short under ask is level = by (does far me bound t calls n short under call) where

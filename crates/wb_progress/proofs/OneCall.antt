@@ -220,7 +220,7 @@ given_up_is_idle me t calls now n none = from (is_asked (timers_of t (events_of 
       subst IsIdle (sym (timers_receipts t now (events_of me calls) received n)) (not_standing (got_each now n before received) (received_stops now n before received came))
   from false e = record { ask = no_ask (timers_of t (events_of me calls) n).ask (λ f. true≢false (sym f ∙ e)); answer = none }
 
--- a miss sets the timer where none stands
+-- a miss sets the timer if none stands
 pub sets_anew : (me : ℕ) (t : Tuning) (calls : List KeeperCall) (now word : ℕ) (n : NameValue) → (timers_at me t calls n).ask ≡ None → (timers_at me t (Miss now (n ∷ []) (word ∷ []) ∷ calls) n).ask ≡ Some (new_ask (constants_at me t calls) now (delay_to me calls n.source) word)
 sets_anew me t calls now word n none =
     let s = timers_at me t calls n in

@@ -54,7 +54,7 @@ missed_stand t now delays n (m ∷ names) (w ∷ words) events same h = missed_s
       (λ (stands : is_some s.ask ≡ true). inr (still stands))
       h
 
--- a name is among the first so many, or there are so many
+-- a name is among the first k, or there are k names
 in_take : (k : ℕ) (names : List NameValue) (n : NameValue) → Contains names n → Contains (take k names) n ⊎ (length (take k names) ≡ k)
 in_take zero [] n c = inr refl
 in_take zero (m ∷ names) n c = inr refl
@@ -143,7 +143,7 @@ module _ (places : Places) (terms : Terms) (turns : List Turn) (is : KeepTime pl
   abbrev start : ℕ
   start = known_from terms + (wait + repairing terms)
 
-  -- after so many rounds no live place lacks more than this
+  -- after k rounds no live place lacks more than this
   abbrev Claim : ℕ → Type 0
   Claim k = (i : ℕ) (newer part : List Turn) (names : List NameValue) → Contains terms.live i → turns ≡ newer ++ part → start + k * round terms < time_of part → AreApart names → AreLacked terms turns part i names → length names ≤ most - k * (64 - terms.unanswerable)
 

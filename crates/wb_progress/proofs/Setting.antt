@@ -1,4 +1,4 @@
--- A request timer that stands behind a time stood then, or was set since; so what it asks for comes in one round.
+-- A request timer that stands after a time stood then, or was set since; so what it asks for comes in one round.
 use Rattle.std.proofs.Common.{◌≡◌, ℕ, ◌+◌, ◌*◌, ◌<◌, ◌≤◌, List, [], ◌∷◌, ◌++◌, Option, Some, None, refl, sym, ap, ◌∙◌, subst, arith, ◌⊎◌, inl, inr, ⊎_elim, append_assoc}
 use Rattle.std.specs.Prelude.{Contains}
 use Rattle.std.proofs.Math.Nat.{mul-le-mul_right}

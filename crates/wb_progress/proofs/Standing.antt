@@ -71,7 +71,7 @@ requests_are_kept t n (e ∷ newer) older ask is = ⊎_elim
       from h false f true g = inr (newest (Ends t n) e newer older (inr g))
       from h false f false g = inl (request_stays t e (newer ++ older) n (no_set_ask t n e (newer ++ older) ask h) f g ∙ h)
 
--- the same cause, once the time until which the name is quiet is told in other words
+-- the same cause, for an equal time until which the name is quiet
 same_cause : (t : Tuning) (far : ℕ) (n : NameValue) (newer older : List Event) (a b : ℕ) → a ≡ b → Did (IsCause t far n a) newer older → Did (IsCause t far n b) newer older
 same_cause t far n newer older a b e h = subst (λ (q : ℕ). Did (IsCause t far n q) newer older) e h
 

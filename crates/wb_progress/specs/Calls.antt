@@ -9,7 +9,7 @@ use Rattle.wb_host.specs.Keeper.{KeeperCall, SetDelay, SetConstants, Hear, Arriv
 use Rattle.wb_progress.specs.Keepers.{AreWithin}
 use Rattle.wb_progress.specs.Repairs.{timers_at}
 
--- the name comes by the call: it arrives, a tick finds it held, or it is given up where a request timer stood for it
+-- the name comes by the call: it arrives, a tick finds it held, or it is given up while a request timer stood for it
 abbrev pub Brings : NameValue → KeeperCall → Type 0
 Brings n (SetDelay source micros) = ⊥
 Brings n (SetConstants constants) = ⊥
@@ -69,7 +69,7 @@ abbrev pub RequestsBegin : Type 0
 RequestsBegin = (far me : ℕ) (bound t : Tuning) (call : KeeperCall) (calls : List KeeperCall) (n : NameValue) (ask : AskTimer) → AreWithin far bound me t (call ∷ calls) → (timers_at me t calls n).ask ≡ None → (timers_at me t (call ∷ calls) n).ask ≡ Some ask
     → Misses n call × (ask.due ≤ moment_at (call ∷ calls) + (bound.c1 + bound.c2) * far) × (ask.level ≡ 0)
 
--- A request for a held name finds it quiet, or an answer timer stands behind it, due within the waits of an answer.
+-- A request for a held name finds it quiet, or an answer timer stands after it, due within the waits of an answer.
 abbrev pub RequestsAreHeard : Type 0
 RequestsAreHeard = (far me : ℕ) (bound t : Tuning) (calls : List KeeperCall) (now asker word : ℕ) (n : NameValue) → asker ≢ me → let heard = Hear now (Request asker n) word true ∷ calls in AreWithin far bound me t heard
     → (now < (timers_at me t calls n).quiet) ⊎ ((answer : AnswerTimer) × ((timers_at me t heard n).answer ≡ Some answer) × (answer.due ≤ now + (bound.d1 + bound.d2) * far))

@@ -1,4 +1,4 @@
--- By when what is lost comes, where keepers keep to stated times.
+-- By when what is lost comes, if keepers keep to stated times.
 use Rattle.std.specs.Prelude.{◌≡◌, ◌≢◌, ◌⊎◌, ℕ, ◌+◌, ◌-◌, ◌*◌, ◌/◌, ◌<◌, ◌≤◌, true, false, max, List, [], ◌∷◌, ◌++◌, length, Contains, Some}
 use Rattle.wb_names.specs.Values.{NameValue}
 use Rattle.wb_codec.specs.declared.datagram.Datagram.TheVariants.{Request}
@@ -37,12 +37,12 @@ abbrev pub RequestIsAnsweredBut : Type 0
 RequestIsAnsweredBut = (places : Places) (terms : Terms) (turns newer older : List Turn) (e : Turn) (asker : ℕ) (n : NameValue) → KeepTimeBut (IsOtherOrLacked n) places terms turns → turns ≡ newer ++ e ∷ older
     → settled_by terms < e.time → settled_by terms + 3 * terms.far ≤ e.time → Contains e.sent (Request asker n) → IsAnswerable terms turns n → AllHoldBehind terms turns (e.time + answering_by terms) n
 
--- A request timer of a name that is not given up, where others may be.
+-- A request timer of a name that is not given up, while others may be.
 abbrev pub TimerLeadsBut : Type 0
 TimerLeadsBut = (places : Places) (terms : Terms) (turns newer older : List Turn) (i : ℕ) (n : NameValue) (ask : AskTimer) (due : ℕ) → KeepTimeBut (λ older e m. m ≢ n) places terms turns → turns ≡ newer ++ older → Contains terms.live i → known_from terms ≤ time_of older
     → (timers_there places older i n).ask ≡ Some ask → ask.due ≤ due + terms.offset i → IsAnswerable terms turns n → AllHoldBehind terms turns (max (time_of older) due + repairing terms) n
 
--- a name is given up at a place behind a part, while its timer stands as it was
+-- a name is given up at a place after a part, while its timer stands as it was
 pub record IsGivenUp (places : Places) (turns base : List Turn) (i : ℕ) (n : NameValue) (ask : AskTimer) (by : ℕ) : Type 0 where
   pub front : List Turn
   pub e : Turn
@@ -66,7 +66,7 @@ TimerLeadsOrIsGivenUp = (places : Places) (terms : Terms) (turns newer older : L
 abbrev pub WaitsAtMost : Places → Terms → List Turn → ℕ → Type 0
 WaitsAtMost places terms turns wait = (i : ℕ) (n : NameValue) (ask : AskTimer) → Contains terms.live i → IsAnswerable terms turns n → (timers_there places (until (known_from terms) turns) i n).ask ≡ Some ask → ask.due ≤ known_from terms + wait + terms.offset i
 
--- What is asked for at a time behind those waits comes in one round.
+-- What is asked for at a time after those waits comes in one round.
 abbrev pub RoundsEnd : Type 0
 RoundsEnd = (places : Places) (terms : Terms) (turns newer older : List Turn) (i wait : ℕ) (n : NameValue) (ask : AskTimer) → KeepTime places terms turns → WaitsAtMost places terms turns wait → turns ≡ newer ++ older → Contains terms.live i → known_from terms + wait < time_of older
     → (timers_there places older i n).ask ≡ Some ask → IsAnswerable terms turns n → AllHoldBehind terms turns (time_of older + terms.asking * terms.far + repairing terms) n
@@ -82,7 +82,7 @@ AreApart (n ∷ names) = (Contains names n → ⊥) × AreApart names
 abbrev pub AreLacked : Terms → List Turn → List Turn → ℕ → List NameValue → Type 0
 AreLacked terms turns older i names = (n : NameValue) → Contains names n → (n.page ≡ terms.page) × IsAnswerable terms turns n × (has older i n ≡ false)
 
--- no live place lacks more of them than so many, once what was on its way has arrived
+-- no live place lacks more than `most` of them, once what was on its way has arrived
 abbrev pub LacksAtMost : Terms → List Turn → ℕ → Type 0
 LacksAtMost terms turns most = (i : ℕ) (names : List NameValue) → Contains terms.live i → AreApart names → AreLacked terms turns (until (settled_by terms) turns) i names → length names ≤ most
 
@@ -94,7 +94,7 @@ rounds terms most = (most + 63 - terms.unanswerable) / (64 - terms.unanswerable)
 abbrev pub round : Terms → ℕ
 round terms = terms.looking + terms.asking * terms.far + repairing terms
 
--- the time by which all hold all
+-- the time at which all hold all
 abbrev pub bound : Terms → ℕ → ℕ → ℕ
 bound terms wait most = known_from terms + (wait + repairing terms) + rounds terms most * round terms
 

@@ -31,7 +31,7 @@ abbrev pub TicksAsk : Type 0
 TicksAsk = (me : ℕ) (t : Tuning) (calls : List KeeperCall) (history : List DrawopValue) (now : ℕ) (n : NameValue) → is_ask_due now (timers_at me t calls n).ask ≡ true → holds history n ≡ false
     → Contains (sent_by_tick me t calls history now) (Request me n)
 
--- A tick sends a drawop that is held, once its answer timer is due, where no request timer stands for its name.
+-- A tick sends a drawop that is held, once its answer timer is due, if no request timer stands for its name.
 abbrev pub TicksAnswer : Type 0
 TicksAnswer = (me : ℕ) (t : Tuning) (calls : List KeeperCall) (history : List DrawopValue) (now : ℕ) (d : DrawopValue) → IsHistory history → Contains history d → (timers_at me t calls d.name).ask ≡ None → is_answer_due now (timers_at me t calls d.name).answer ≡ true
     → Contains (sent_by_tick me t calls history now) (Draw d)
@@ -56,7 +56,7 @@ abbrev pub TicksLeave : Type 0
 TicksLeave = (me : ℕ) (t : Tuning) (calls : List KeeperCall) (history : List DrawopValue) (now : ℕ) (words : List ℕ) (n : NameValue) → IsIdle (timers_at me t calls n)
     → timers_at me t (gone_on me t calls history now words) n ≡ timers_at me t calls n
 
--- A request of another member for a held name that is not quiet sets an answer timer, where no timer stands.
+-- A request of another member for a held name that is not quiet sets an answer timer, if no timer stands.
 abbrev pub RequestsSet : Type 0
 RequestsSet = (me : ℕ) (t : Tuning) (calls : List KeeperCall) (now asker word : ℕ) (n : NameValue) → (asker ≡ me → ⊥) → IsIdle (timers_at me t calls n) → (timers_at me t calls n).quiet ≤ now
     → timers_at me t (Hear now (Request asker n) word true ∷ calls) n ≡ record { ask = None; answer = Some (new_answer (constants_at me t calls) now (delay_to me calls asker) word); quiet = (timers_at me t calls n).quiet }
@@ -86,7 +86,7 @@ abbrev pub AskerAsks : Type 0
 AskerAsks = (me : ℕ) (t : Tuning) (calls : List KeeperCall) (history : List DrawopValue) (n : NameValue) → are_constants t ≡ true → AreOrderly calls → holds history n ≡ false → is_some (timers_at me t calls n).ask ≡ true
     → Contains (sent_by_tick me t calls history (moment_at calls + asking_wait)) (Request me n)
 
--- A name that is given up has no timer, where no answer timer stood.
+-- A name that is given up has no timer, if no answer timer stood.
 abbrev pub GivenUpIsIdle : Type 0
 GivenUpIsIdle = (me : ℕ) (t : Tuning) (calls : List KeeperCall) (now : ℕ) (n : NameValue) → (timers_at me t calls n).answer ≡ None → IsIdle (timers_at me t (gave_up me t calls now n) n)
 
@@ -100,8 +100,8 @@ AskedAnewIsSoon = (me : ℕ) (t : Tuning) (calls : List KeeperCall) (history : L
 abbrev pub AnswersAreSoon : Type 0
 AnswersAreSoon = (me : ℕ) (t : Tuning) (calls : List KeeperCall) (n : NameValue) → are_constants t ≡ true → AreOrderly calls → IfSome (timers_at me t calls n).answer (λ answer. answer.due ≤ moment_at calls + answering_wait)
 
--- The holder of a drawop is told the time twice, so that no timer of its name stands and it is not quiet; it hears a request
--- of another; and once time went on again it sends the drawop.
+-- The holder of a drawop gets two ticks, so that no timer of its name stands and it is not quiet; it hears a request of another;
+-- and once time went on again it sends the drawop.
 abbrev pub HolderAnswers : Type 0
 HolderAnswers = (me : ℕ) (t : Tuning) (calls : List KeeperCall) (history : List DrawopValue) (d : DrawopValue) (asker : ℕ) (words more : List ℕ) (word : ℕ) → are_constants t ≡ true → AreOrderly calls → IsHistory history → Contains history d → (asker ≡ me → ⊥)
     → let first = moment_at calls + answering_wait in

@@ -19,8 +19,8 @@ use Rattle.wb_progress.specs.Repairs.{timers_at}
 
 -- ---- the terms
 
--- Times in microseconds: from `quiet` on nobody draws; what is printed arrives within `delivery`; page states are told every `reporting`
--- and looked at every `looking`; a tick is at most `late`; no delay is above `far`. No request waits for more than `asking` delays at first, and no answer
+-- Times in microseconds: from `quiet` on nobody draws; what is printed arrives within `delivery`; each place reports its page every `reporting`
+-- and looks at it every `looking`; a tick is at most `late`; no delay is above `far`. No request waits for more than `asking` delays at first, and no answer
 -- for more than `answering`. At most `unanswerable` names are held by nobody. The moment of a place is the time and its offset.
 pub record Terms : Type 0 where
   pub live : List ℕ
@@ -51,7 +51,7 @@ pub record Desk : Type 0 where
   pub calls : List KeeperCall
   pub held : List DrawopValue
 
--- At a time it is the turn of the keeper at a place: it accepts a call or none, and sends datagrams. This is its desk behind it.
+-- At a time it is the turn of the keeper at a place: it accepts a call or none, and sends datagrams. This is its desk after it.
 pub record Turn : Type 0 where
   pub time : ℕ
   pub place : ℕ
@@ -95,7 +95,7 @@ until s (e ∷ older) = if nat_le e.time s then e ∷ older else until s older
 abbrev pub IsAnswerable : Terms → List Turn → NameValue → Type 0
 IsAnswerable terms turns n = (j : ℕ) × Contains terms.live j × (has (until (settled_by terms) turns) j n ≡ true)
 
--- each live place has the name once the turns have gone on behind a time
+-- each live place has the name once the turns have gone on after a time
 abbrev pub AllHoldBehind : Terms → List Turn → ℕ → NameValue → Type 0
 AllHoldBehind terms turns time n = (newer later : List Turn) (i : ℕ) → turns ≡ newer ++ later → time < time_of later → Contains terms.live i → has later i n ≡ true
 
@@ -116,17 +116,17 @@ pub record IsTurn (places : Places) (terms : Terms) (older : List Turn) (e : Tur
   pub sends : (now : ℕ) (words : List ℕ) (stopped : List NameValue) → Accepts older e (GoOn now words stopped)
       → (v : Datagram) → Contains (sent_by_tick (places.me e.place) (places.constants e.place) (desk_at older e.place).calls (desk_at older e.place).held now) v → Contains e.sent v
 
--- From `quiet` on a name with a request timer is given up only where it may be; what is sent is held, and what is asked for is not.
+-- From `quiet` on a name with a request timer is given up only if it may be; what is sent is held, and what is asked for is not.
 pub record IsQuietBut (MayStop : List Turn → Turn → NameValue → Type 0) (places : Places) (older : List Turn) (e : Turn) : Type 0 where
   pub goes_on : (now : ℕ) (n : NameValue) → Accepts older e (GiveUp now n true) → MayStop older e n
   pub held : (d : DrawopValue) → Contains e.sent (Draw d) → has older e.place d.name ≡ true
   pub asked : (asker : ℕ) (n : NameValue) → Contains e.sent (Request asker n) → (asker ≡ places.me e.place) × (has older e.place n ≡ false)
 
--- where it is none
+-- when none may be
 abbrev pub IsQuietTurn : Places → List Turn → Turn → Type 0
 IsQuietTurn places older e = IsQuietBut (λ older e n. ⊥) places older e
 
--- any other name, and this one where it is not held
+-- any other name, and this one if it is not held
 abbrev pub IsOtherOrLacked : NameValue → List Turn → Turn → NameValue → Type 0
 IsOtherOrLacked n older e m = m ≡ n → has older e.place n ≡ false
 
@@ -175,7 +175,7 @@ pub record AreNotOverdue (s : Timers) (now late : ℕ) : Type 0 where
   pub ask : IfSome s.ask (λ (ask : AskTimer). now ≤ ask.due + late)
   pub answer : IfSome s.answer (λ (answer : AnswerTimer). now ≤ answer.due + late)
 
--- a place looks at the page behind one time, and by another: it misses the names that it wants
+-- a place looks at the page after one time, and by another: it misses the names that it wants
 pub record LooksWithin (places : Places) (terms : Terms) (turns : List Turn) (i from to : ℕ) : Type 0 where
   pub newer : List Turn
   pub older : List Turn
@@ -200,7 +200,7 @@ pub record AreTurns (places : Places) (terms : Terms) (turns : List Turn) : Type
   pub history : (newer older : List Turn) (i : ℕ) → turns ≡ newer ++ older → Contains terms.live i → IsHistory (desk_at older i).held
   pub lacking : (newer older : List Turn) (i : ℕ) (n : NameValue) → turns ≡ newer ++ older → Contains terms.live i → has older i n ≡ true → (timers_there places older i n).ask ≡ None
 
--- They keep to the terms, and give up names only where they may.
+-- They keep to the terms, and give up names only if they may.
 pub record KeepTimeBut (MayStop : List Turn → Turn → NameValue → Type 0) (places : Places) (terms : Terms) (turns : List Turn) : Type 0 where
   pub order : AreInOrder turns
   pub reported : 1 ≤ terms.reporting

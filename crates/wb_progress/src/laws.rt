@@ -31,7 +31,7 @@ pub fn calls_tell_timers()
 {}
 
 /// A keeper that misses a name comes to ask for it, and one that holds it comes to send it to one
-/// who asks, if time goes on far enough.
+/// that asks, if time goes on far enough.
 pub fn repairs_come()
     ensures asker { AskerAsks }
     ensures anew { AskedAnewIsSoon }
@@ -59,9 +59,9 @@ pub fn calls_begin_and_end_timers()
     ensures heard { RequestsAreHeard }
 {}
 
-/// Where keepers, their drivers and the network keep to stated times: a request for what a live
-/// place held is answered to all, a request timer leads to one, what a look asks for comes in one
-/// round, and all of the page has come by a stated time.
+/// If keepers, their drivers and the network keep to stated times: a request for what a live place
+/// held is answered to all, a request timer leads to one, what a look asks for comes in one round,
+/// and all of the page has come by a stated time.
 pub fn all_comes_in_time()
     ensures answered { RequestIsAnswered }
     ensures leads { TimerLeads }
@@ -70,8 +70,8 @@ pub fn all_comes_in_time()
 {}
 
 /// The first two hold whatever other names are given up: a request for a name is answered to all if
-/// no place gives the name up that holds it, and a request timer leads to one if the name is not
-/// given up. If it is, the timer leads to one, or its own place gives it up first.
+/// no place that holds it gives it up, and a request timer leads to one if the name is not given
+/// up. If it is, the timer leads to one, or its own place gives it up first.
 pub fn what_is_not_given_up_comes()
     ensures answered { RequestIsAnsweredBut }
     ensures leads { TimerLeadsBut }

@@ -47,7 +47,7 @@ replaced_none value name = record {
   here n true e = ap (timers_in value) (sym (same_name-is name n e))
   here n false e = refl
 
--- an arrival, where a timer stands and where none does
+-- an arrival, while a timer runs and while none does
 pub got_standing : (now delay : ℕ) (s : Timers) → is_standing s ≡ true → record { ask = None; answer = None; quiet = now + 3 * delay } ≡ got now delay s
 got_standing now delay s h = ap (λ b. cond b (record { ask = None; answer = None; quiet = now + 3 * delay }) s) (sym h)
 

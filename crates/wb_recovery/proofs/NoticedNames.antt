@@ -58,7 +58,7 @@ unset_set n name value new t now delay word none r =
       from true e = back (record_in value name) none ∙ ap (record_in value) (same_name-is name n e)
       from false e = refl
 
--- the same, whether or not memory was refused
+-- the same, whether or not an allocation failed
 pub unset_started : {X E : Type 0} (r : Result X E) (n name : NameValue) (value new : RecoveryValue) (t : Tuning) (now delay word : ℕ) → is_some (timers_in value name).ask ≡ false
     → OnOk r ((m : NameValue) → record_in new m ≡ cond (same_name name m && is_none (timers_in value name).ask) (Some (noticed t now delay word (timers_in value name))) (record_in value m))
     → OnErr r (new ≡ value) → unset_at n (name, is_some (record_in value name)) (record_in new n) ≡ record_in value n

@@ -90,7 +90,7 @@ received_stops now n s (c ∷ received) h = from (received_stops now n s receive
   from rest true e = ap is_standing (stopped_stays now n (got now c.delay s) received (got_stops now c.delay s)) ∙ got_stops now c.delay s
   from rest false e = rest e
 
--- a test of timers that fails where none stands, by whether the name has come
+-- a test of timers that fails if none runs, by whether the name has come
 module _ (p : Timers → Bool) (fails : (s : Timers) → is_standing s ≡ false → p s ≡ false) where
   pub passes_after : (now : ℕ) (n : NameValue) (s : Timers) (received : List Received) → p (got_each now n s received) ≡ (not (is_received received n) && p s)
   passes_after now n s received = from (is_received received n) refl where

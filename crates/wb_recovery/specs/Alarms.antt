@@ -21,7 +21,7 @@ is_due_where test (Some e) = test e
 abbrev pub is_until : ℕ → Option ℕ → Bool
 is_until now = is_due_where (λ e. nat_le e now)
 
--- what is told of a name is what a test of it gives
+-- the result for a name is what a test of it gives
 abbrev pub Tells : (NameValue → Bool → Type 0) → (NameValue → Bool) → Type 0
 Tells told test = (n : NameValue) (b : Bool) → told n b → b ≡ test n
 

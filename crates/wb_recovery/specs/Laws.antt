@@ -7,7 +7,7 @@ use Rattle.wb_recovery.specs.Events.{Event, Notice, Asked, Got, Tick, Tune, name
 use Rattle.wb_recovery.specs.declared.tuning.Tuning.{Tuning}
 use Rattle.wb_recovery.specs.declared.timers.AskTimer.{AskTimer}
 
--- Some call starts a thing, and no call since then ends it. Each is told by the call and those before it.
+-- Some call starts a thing, and no call since then ends it. The call and those before it decide both.
 abbrev pub since : (Event → List Event → Bool) → (Event → List Event → Bool) → List Event → Bool
 since starts ends [] = false
 since starts ends (e ∷ events) = if ends e events then false else (starts e events || since starts ends events)

@@ -1,4 +1,4 @@
--- Names that have come, told of before a tick.
+-- Names that have come, handed in before a tick.
 use Rattle.std.specs.Prelude.{◌≡◌, ℕ, Bool, true, not, ◌&&◌, List, ◌∷◌, map, if◌then◌else◌}
 use Rattle.std.specs.List.{fold, list_all, list_any}
 use Rattle.wb_names.specs.Moments.{IsMoment}

@@ -21,8 +21,7 @@ use wb_names::Name;
 #[derive(Debug, Drop)]
 pub(crate) struct Alarms {
     dues: BTreeMap<Name, u64>,
-    /// No timer is due before this moment, so that up to it none is looked at. None where none
-    /// stands.
+    /// No timer is due before this moment, so that up to it none is looked at. None if none stands.
     soonest: Option<u64>,
     /// Whether that moment is known to be the first one. It is not once the alarm at it was moved
     /// or taken away.
@@ -158,7 +157,7 @@ impl Alarms {
         self.some_names(alloc, test)
     }
 
-    /// The same, told of the map.
+    /// The same, in terms of the map.
     fn some_names<F: Fn(&Name) -> bool>(
         &self,
         alloc: Global,
@@ -219,7 +218,7 @@ impl Alarms {
     }
 
     /// Moves the alarm of a name that has one, or takes it away, as one of many: `renew` comes
-    /// behind the last. It takes no memory.
+    /// after the last. It takes no memory.
     pub(crate) fn follow(&mut self, name: Name, due: Option<u64>)
         requires { IsSome (get name_cmp self.old.dues name) }
         ensures { (dues : NameValue → Option ℕ) → Keep dues self.old →
@@ -227,7 +226,7 @@ impl Alarms {
     {
         match due {
             Some(due) => {
-                // Only an insertion of a new name can want memory.
+                // Only an insertion of a new name can need memory.
                 let _ = self.dues.insert(name, due);
                 self.soonest = Some(earlier(self.soonest, due));
                 self.is_exact = false;
@@ -236,7 +235,7 @@ impl Alarms {
         }
     }
 
-    /// Takes the alarm of a name away, as one of many: `renew` comes behind the last.
+    /// Takes the alarm of a name away, as one of many: `renew` comes after the last.
     pub(crate) fn clear(&mut self, name: Name)
         ensures { (dues : NameValue → Option ℕ) → Keep dues self.old →
             Keep (with_due dues name none) self.new }
@@ -245,7 +244,7 @@ impl Alarms {
         self.is_exact = self.is_exact_without(old);
     }
 
-    /// The same alarms, with a bound that is exact. They are looked through only where the alarm at
+    /// The same alarms, with a bound that is exact. They are looked through only if the alarm at
     /// the bound was moved or taken away.
     pub(crate) fn renew(&mut self)
         ensures kept { (dues : NameValue → Option ℕ) → Keep dues self.old → Keep dues self.new }
@@ -257,7 +256,7 @@ impl Alarms {
         }
     }
 
-    /// Whether the bound is exact, and not this moment, at which an alarm is no more.
+    /// Whether the bound is exact, and not this moment, whose alarm was moved or taken away.
     fn is_exact_without(&self, old: Option<u64>) -> bool
         ensures exact { result ≡ true → self.now.is_exact ≡ true }
         ensures other { result ≡ true → old ≢ self.now.soonest }

@@ -36,8 +36,8 @@ pub(crate) fn actions(
     requests.chain(answers).collect(alloc)
 }
 
-/// What is kept of each of these names once its request timer has fired, where it is due, with its
-/// own word.
+/// What is kept of each of these names once its request timer has fired, if it is due, with its own
+/// word.
 pub(crate) fn asked_after(
     alloc: Global,
     tuning: Tuning,

@@ -77,10 +77,10 @@ impl Recovery {
         })
     }
 
-    /// Takes other constants: each timer that is set or backed off from now on is by them. A timer
-    /// that stands keeps its moment, and the present moment stays.
+    /// Takes other constants, for each timer that is set or backed off from now on. A timer that
+    /// stands keeps its moment, and the present moment stays.
     ///
-    /// Refused with `Constant` where one is not 1 to 16.
+    /// Refused with `Constant` if one is not 1 to 16.
     pub fn tune(&mut self, tuning: Tuning) -> Result<(), TuningFault>
         ensures constants { MatchResult result (λ done. IsTrue (are_constants tuning))
             (λ e. are_constants tuning ≡ false) }
@@ -117,8 +117,8 @@ impl Recovery {
         Ok(())
     }
 
-    /// Another member asks for a name. Where it is not held, a request timer of it that is not deaf
-    /// backs off; `delay` is that to the name's source. Where it is held, an answer timer is set,
+    /// Another member asks for a name. If it is not held, a request timer of it that is not deaf
+    /// backs off; `delay` is that to the name's source. If it is held, an answer timer is set,
     /// unless one stands or the name is quiet; `delay` is that to the member who asks. `now` and
     /// `delay` are in microseconds.
     ///
@@ -149,8 +149,8 @@ impl Recovery {
         Ok(())
     }
 
-    /// A name has come: its timers end, and where one stood the name is quiet for three delays to
-    /// its source. `now` and `delay` are in microseconds.
+    /// A name has come: its timers end, and if one stood the name is quiet for three delays to its
+    /// source. `now` and `delay` are in microseconds.
     ///
     /// Refused with `BackInTime` or `Range`, in this order. It takes no memory.
     pub fn got(&mut self, name: Name, now: u64, delay: u64) -> Result<(), RecoveryFault>
@@ -175,7 +175,7 @@ impl Recovery {
     ///
     /// A request timer that fires backs off with its own delay, and takes a word: the first word
     /// goes to the smallest name. An answer timer that fires takes none; it ends, and its name is
-    /// quiet for three of its delays. Where nothing is due, the timers are seldom looked at. The
+    /// quiet for three of its delays. If nothing is due, the timers are seldom looked at. The
     /// moment is in microseconds. There are at least as many words as `due_count` says at this
     /// moment.
     ///
@@ -199,7 +199,7 @@ impl Recovery {
     }
 
     /// How many request timers are due at a moment, in microseconds, and so how many words `tick`
-    /// then wants. Where none is due, the timers are seldom looked at.
+    /// then needs. If none is due, the timers are seldom looked at.
     pub fn due_count(&self, now: u64) -> usize
         ensures count { result ≡ length (due_asks (names_in self.now) (timers_in self.now) now) }
         ensures events { (constants : Constants) (events : List Event) →
@@ -220,7 +220,7 @@ impl Recovery {
     }
 
     /// The least moment at which a timer is due, in microseconds, and so when the next `tick` has
-    /// something to do: a moment that is kept. None where no timer stands.
+    /// something to do: a moment that is kept. None if no timer stands.
     pub fn next_due(&self) -> Option<u64>
         ensures { IsNextDue (timers_in self.now) result }
     {
@@ -293,7 +293,7 @@ impl Recovery {
         Ok(())
     }
 
-    /// Sets or moves the request timer of a name, where it is to be.
+    /// Sets or moves the request timer of a name, if one is given.
     fn set_ask(
         &mut self,
         name: Name,
@@ -323,7 +323,7 @@ impl Recovery {
         Ok(())
     }
 
-    /// Sets the answer timer of a name, where it is to be.
+    /// Sets the answer timer of a name, if one is given.
     fn set_answer(
         &mut self,
         name: Name,

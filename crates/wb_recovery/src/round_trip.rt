@@ -6,8 +6,8 @@ use crate::fault::DELAY_LIMIT;
 
 /// The delay to another member, in microseconds, from an echo of one's own session message: it was
 /// sent at `sent`, lay with the other member for `held`, and its echo is heard at `now`. It is half
-/// of the time on the way. None where the times do not fit together, or the delay would not be
-/// below 2^24.
+/// of the time on the way. None if the times do not fit together, or the delay would not be below
+/// 2^24.
 pub fn distance(sent: u64, held: u64, now: u64) -> Option<u64>
     ensures { result ≡ distance_of sent held now }
 {

@@ -68,7 +68,7 @@ impl Timers {
         quiet: 0,
     };
 
-    /// The name is missed: the request timer to set, where none stands.
+    /// The name is missed: the request timer to set, if none stands.
     pub(crate) fn noticed(
         &self,
         tuning: Tuning,
@@ -95,7 +95,7 @@ impl Timers {
         })
     }
 
-    /// Another member asks for the name, which is not held: the request timer backed off, where one
+    /// Another member asks for the name, which is not held: the request timer backed off, if one
     /// stands that is not deaf.
     pub(crate) fn overheard(
         &self,
@@ -116,8 +116,8 @@ impl Timers {
         }
     }
 
-    /// Another member asks for the name, which is held: the answer timer to set, where none stands
-    /// and the name is not quiet.
+    /// Another member asks for the name, which is held: the answer timer to set, if none stands and
+    /// the name is not quiet.
     pub(crate) fn asked_for(
         &self,
         tuning: Tuning,
@@ -161,8 +161,7 @@ impl Timers {
         self.ask.is_some() || self.answer.is_some()
     }
 
-    /// The timers once the request timer has fired, where it is due: it backs off with its own
-    /// delay.
+    /// The timers once the request timer has fired, if it is due: it backs off with its own delay.
     pub(crate) fn ask_fired(self, tuning: Tuning, now: u64, word: u64) -> Timers
         requires tuning { IsTrue (are_constants tuning) }
         requires moment { IsMoment now }
@@ -179,7 +178,7 @@ impl Timers {
         }
     }
 
-    /// The timers once the answer timer has fired, where it is due: it ends, and leaves the name
+    /// The timers once the answer timer has fired, if it is due: it ends, and leaves the name
     /// quiet.
     pub(crate) fn answer_fired(self, now: u64) -> Timers
         requires moment { IsMoment now }

@@ -38,7 +38,7 @@ DoAlike host drawops (does next text) (does next' text') = (board_of next ≡ bo
 DoAlike host drawops (fails e) (fails e') = e ≡ e'
 DoAlike host drawops one other = ⊥
 
--- once the keeper accepted a call, for which so many random words were taken
+-- once the keeper accepted a call, for which `words` random words were taken
 abbrev calling : KeeperCall → ℕ → Opened → Opened
 calling call words host = record { is = told call host.is; random = after_words host.random words }
 

@@ -17,7 +17,7 @@ use Rattle.wb_script.proofs.FreeArrivals.{AreAlike, after_alike, after_within, c
 use Rattle.wb_script.proofs.Members.{Among}
 use Rattle.wb_script.proofs.Telling.{told_alike}
 
--- They differ in the order of what is held, at most. The board has so many cells, and what it holds is among these arrivals.
+-- They differ in the order of what is held, at most. The board has `cells` cells, and what it holds is among these arrivals.
 pub record HostsAlike (cells : ℕ) (all : List DrawopValue) (one other : Opened) : Type 0 where
   pub same : other ≡ holding one other.is.held
   pub held : AreAlike one.is.held other.is.held

@@ -25,7 +25,7 @@ MayBeAlike cells all None None = Unit {0}
 MayBeAlike cells all (Some one) (Some other) = HostsAlike cells all one other
 MayBeAlike cells all one other = ⊥
 
--- the board is open, or the lines that follow open it with so many cells
+-- the board is open, or the lines that follow open it with `cells` cells
 abbrev pub AreCells : ℕ → Option Opened → ℕ → Type 0
 AreCells cells None later = later ≡ cells
 AreCells cells (Some host) later = Unit {0}

@@ -1,4 +1,4 @@
--- Where no arrivals clash and there are cells for all names, every order of the workers has the outcome of one thread.
+-- If no arrivals clash and there are cells for all names, every order of the workers has the outcome of one thread.
 use Rattle.std.proofs.Common.{◌≡◌, ℕ, ◌+◌, Bool, List, refl, sym, subst, ◌∙◌, IsPermutation}
 use Rattle.std.proofs.lemmas.List.Elements.{Contains-append_left, Contains-append_right}
 use Rattle.std.proofs.lemmas.List.Sorted.{IsPermutation-sym}

@@ -336,7 +336,7 @@ none_line cut line lines ih n s o t none of = at (entry most_lines cut n line) r
       by_fault cut n s line lines (ends_as endless) (shown o t) is (stops_so drive_faults.Endless run_faults.Endless refl h.0 refl)
   at (ends_as (finished k)) is = absurd (never_finished cut n k line is)
 
--- ---- a line behind a batch
+-- ---- a line after a batch
 
 arrivals_more : (js : List InputLine) (line : InputLine) → arrivals_of (js ++ line ∷ []) ≡ arrivals_of js ++ arrived_by (part_in line)
 arrivals_more [] line = append-nil (arrived_by (part_in line))

@@ -30,7 +30,7 @@ record Parses (does : Does) (line : InputLine) (said : Result Command LineFault)
   on_whole : does (whole line) ≡ parsed_step said
   on_long : does too_long ≡ ends []
 
--- one line and the rest, where nothing is cut off
+-- one line and the rest, if nothing is cut off
 abbrev course : Bool → Bool → Bool → ℕ → Does → InputLine → Outcome LineFault → Outcome LineFault
 course few short passed number does line rest =
     cond few (cond (not short || (line.ended || not false)) (proceed number (does (cond short (whole line) too_long)) (λ next. cond passed rest (stop (Err drive_faults.Endless)))) (stop (Err drive_faults.Read))) (stop (Err drive_faults.Endless))
@@ -67,7 +67,7 @@ passes few short passed number does line said rest p is_few is_short is_passed p
 
 -- ---- all lines
 
--- the answer of the lines that are left, after so many
+-- the answer of the lines that are left, after `n`
 abbrev checked_from : ℕ → List InputLine → Result ℕ RunFault
 checked_from n lines = answer_at_end (outcome_from (rules_of check_step most_lines) false n tt lines)
 

@@ -46,7 +46,7 @@ arrives_one a b c line d p q is = reads_one a b c line (d ∷ []) p q (ap arrive
 pub skips_then : (a b c : Moment Said) → Skips a b → Reads by_batches b c [] [] → Skips a c
 skips_then a b c p q = (p.0 ++ [], Reads-then by_batches a b c [] [] p.0 [] p.1 q, ap arrivals_of (append-nil p.0) ∙ p.2)
 
--- Where no line joins, the batch is at its end.
+-- If no line joins, the batch is at its end.
 pub none_joins : (says : InputLine → Said → Type 0) (a b : Moment Said) (result : Option Said) → ((said : Said) → result ≡ Some said → ⊥) → TakesJoined says by_batches a b result → Reads by_batches a b [] [] × IsBehind by_batches b.lines.line b.lines.seen
 none_joins says a b (Some said) other t = absurd (other said refl)
 none_joins says a b None other t = t

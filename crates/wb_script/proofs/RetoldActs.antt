@@ -1,4 +1,4 @@
--- Two hosts whose keepers were told the same names in other orders: each line prints the same there, and leads to two such hosts.
+-- Two hosts whose keepers learned the same names in other orders: each line prints the same there, and leads to two such hosts.
 use Rattle.std.proofs.Common.{◌≡◌, ℕ, Bool, true, false, cond, List, [], ◌∷◌, ◌++◌, length, Option, Some, None, refl, sym, ap, ap₂, ◌∙◌, subst, filter, map, nat_lt, ◌||◌}
 use Rattle.std.specs.List.{filter_map}
 use mathlib.Core.Logic.{inl, inr}
@@ -37,7 +37,7 @@ use Rattle.wb_script.proofs.Retold.{CallsAlike, EventsAlike, moment_alike, delay
 abbrev pub retold : Opened → List KeeperCall → Opened
 retold host calls = record { is = record host.is { calls = calls }; random = host.random }
 
--- The other is this host, but for the orders in which names were told.
+-- The other is this host, but for the orders in which it learned names.
 pub record HostsRetold (one other : Opened) : Type 0 where
   pub calls : List KeeperCall
   pub is : other ≡ retold one calls
@@ -49,7 +49,7 @@ DoRetold (does next text) (does next' text') = HostsRetold next next' × (text �
 DoRetold (fails e) (fails e') = e ≡ e'
 DoRetold one other = ⊥
 
--- once the keeper accepted a call, for which so many random words were taken
+-- once the keeper accepted a call, for which `words` random words were taken
 abbrev calling : KeeperCall → ℕ → Opened → Opened
 calling call words host = record { is = told call host.is; random = after_words host.random words }
 
@@ -151,7 +151,7 @@ module _ (host : Opened) (calls : List KeeperCall) (a : CallsAlike host.is.calls
       (look_line (length (wanted_of page host))) (look_line (length (wanted_of page other)))
       (ap₂ missing same_present (same_wanted page)) count (ap look_line count)
 
-  -- ---- what is heard, and what is told
+  -- ---- what is heard, and what is answered
 
   hears : (v : Datagram) → DoRetold (act (HearLine v) host) (act (HearLine v) other)
   hears v =

@@ -1,4 +1,4 @@
--- Two states whose hosts' keepers were told the same names in other orders: a script has the same outcomes from both.
+-- Two states whose hosts' keepers learned the same names in other orders: a script has the same outcomes from both.
 use Rattle.std.proofs.Common.{◌≡◌, ℕ, ◌+◌, Bool, cond, List, [], ◌∷◌, ◌++◌, Result, Ok, Err, Option, Some, None, refl, sym, ap, subst, ◌∙◌, IsPermutation, arith}
 use Rattle.std.proofs.lemmas.List.Sorted.{length_permutation}
 use mathlib.Core.Logic.{inl, inr}

@@ -18,7 +18,7 @@ StepsAlike Alike (refused s text e) (refused t text' e') = EndsAlike s t × (tex
 StepsAlike Alike (goes s text) (refused t text' e) = ⊥
 StepsAlike Alike (refused s text e) (goes t text') = ⊥
 
--- Where they are alike, they end alike, and each line that is taken leads to states that are alike.
+-- If they are alike, they end alike, and each line that is taken leads to states that are alike.
 pub record Simulates (cut : Bool) (Alike : ℕ → List InputLine → State → State → Type 0) : Type 0 where
   pub ends : (n : ℕ) (lines : List InputLine) (s t : State) → Alike n lines s t → EndsAlike s t
   pub steps : (n : ℕ) (line : InputLine) (lines : List InputLine) (s t : State) (order : List DrawopValue) → Alike n (line ∷ lines) s t → fault_at cut n line ≡ None → MayBeTaken s.workers s.waiting order

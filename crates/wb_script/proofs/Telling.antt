@@ -1,4 +1,4 @@
--- A keeper that was told the names of a batch in one order was told them in every order, and ascending.
+-- A keeper that learned the names of a batch in one order learned them in every order, and ascending.
 use Rattle.std.proofs.Common.{◌≡◌, ℕ, Bool, true, false, cond, List, [], ◌∷◌, refl, ap, ◌∙◌, sym, subst, arith, true≢false, Contains, IsPermutation, filter, is_eq}
 use Rattle.std.specs.Prelude.{◌↔◌}
 use Rattle.std.specs.declared.cmp.Ordering.TheVariants.{Equal}
@@ -36,7 +36,7 @@ names_moved p ds es moved n c =
     let here = Contains-from_filter p (names_of ds) n c in
     Contains-filter p (names_of es) n (Contains-permutation (names_of ds) (names_of es) n (IsPermutation-map (λ (d : DrawopValue). d.name) ds es moved) here.0) here.1
 
--- so the names of a batch are told alike, whatever its order
+-- so it learns the same names, whatever the order of a batch
 pub told_alike : (p : NameValue → Bool) (ds es : List DrawopValue) → IsPermutation ds es → sorted name_cmp (filter p (names_of ds)) ≡ sorted name_cmp (filter p (names_of es))
 told_alike p ds es moved = same_ascending name_total one_name (filter p (names_of ds)) (filter p (names_of es)) (names_moved p ds es moved) (names_moved p es ds (IsPermutation-sym ds es moved))
 
@@ -67,7 +67,7 @@ moment_alike delays now events [] (m ∷ other) up down = absurd (Contains-none 
 moment_alike delays now events (n ∷ names) [] up down = absurd (Contains-none n (up n (Contains-here n names)))
 moment_alike delays now events (n ∷ names) (m ∷ other) up down = moment_then delays now (delays n.source) events n names ∙ sym (moment_then delays now (delays m.source) events m other)
 
--- It is the same for names that are told in another order, or more than once.
+-- It is the same for names in another order, or more than once.
 stands_alike : (me : ℕ) (t : Tuning) (calls : List KeeperCall) (value : KeeperValue) (now : ℕ) (names other : List NameValue) → Among names other → Among other names
     → StandsFor me t (Arrive now names ∷ calls) value → StandsFor me t (Arrive now other ∷ calls) value
 stands_alike me t calls value now names other up down s = record {
@@ -102,7 +102,7 @@ names_told host batch order moved =
       λ n c. names_moved p order batch (IsPermutation-sym batch order moved) n (Contains-from_sorted name_cmp (filter p (names_of order)) n c),
     )
 
--- once a batch was taken in this order, and the keeper was told these names
+-- once a batch was taken in this order, and the keeper learned these names
 abbrev telling : Opened → List DrawopValue → List NameValue → Opened
 telling host order names = record { is = record host.is { held = history_after host.is.cells host.is.held order; calls = Arrive (present host) names ∷ host.is.calls }; random = host.random }
 
@@ -113,7 +113,7 @@ told_others host order v names other up down at =
 pub opens_alike : (host : Opened) (order : List DrawopValue) (v : MemberValue) (names other : List NameValue) → Among names other → Among other names → IsOpenAt v (telling host order names) ↔ IsOpenAt v (telling host order other)
 opens_alike host order v names other up down = (told_others host order v names other up down, told_others host order v other names down up)
 
--- that was told the names as they came
+-- that learned the names as they came
 pub settles : (host : Opened) (batch order : List DrawopValue) (v : MemberValue) → IsPermutation batch order → IsOpenAt v (host_after host batch order) → IsOpenAt v (taken order host)
 settles host [] [] v moved at = record { board = at.board; keeper = at.keeper; words = at.words }
 settles host [] (e ∷ es) v moved at = let long = length_permutation [] (e ∷ es) moved in absurd (omega (arith, long))
@@ -123,7 +123,7 @@ settles host (d ∷ ds) (e ∷ es) v moved at =
     let names = names_told host (d ∷ ds) (e ∷ es) moved in
     told_others host (e ∷ es) v (filter p (names_of (d ∷ ds))) (sorted name_cmp (filter p (names_of (e ∷ es)))) names.0 names.1 at
 
--- One that arrives alone is told as it came.
+-- It learns one that arrives alone as it came.
 one_ascending : (b : Bool) (n : NameValue) → sorted name_cmp (cond b (n ∷ []) []) ≡ cond b (n ∷ []) []
 one_ascending true n = refl
 one_ascending false n = refl

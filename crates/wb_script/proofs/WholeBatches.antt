@@ -13,7 +13,7 @@ use Rattle.wb_member.specs.Board.{Held, held_of, OwnsAll}
 use Rattle.wb_member.specs.Holding.{board_after}
 use Rattle.wb_script.specs.Script.{MayBeTaken}
 
--- A board has taken a batch by so many workers: it holds and counted what one thread makes of the batch in this order.
+-- A board has taken a batch by `workers` workers: it holds and counted what one thread makes of the batch in this order.
 pub record TakenAt (board : Held) (workers : ℕ) (batch : List DrawopValue) (after : Held) (counted : Counts) : Type 0 where
   pub order : List DrawopValue
   pub may : MayBeTaken (Some workers) batch order

@@ -1,4 +1,4 @@
--- How many lines a script has, where each of them parses, or else its first fault. Nothing is run.
+-- How many lines a script has, if each of them parses, or else its first fault. Nothing is run.
 use Rattle.std.specs.Prelude.{◌≡◌, ℕ, ◌≤◌, ◌↔◌, ◌⊎◌, List, [], length, All, Bool, false, Result, Ok, Err, IsOk}
 use Rattle.wb_lines.specs.declared.fault.DriveFault.{DriveFault}
 use Rattle.wb_lines.specs.declared.fault.DriveFault.TheVariants as drive_faults
@@ -36,7 +36,7 @@ answer_of (Err e) = Err (fault_of e)
 abbrev pub answer_at_end : Outcome LineFault → Result ℕ RunFault
 answer_at_end (writes text end) = answer_of end
 
--- What a check answers of an input: how many lines it has, or its first fault. Where the input is cut off, reading fails after it.
+-- What a check answers of an input: how many lines it has, or its first fault. If the input is cut off, reading fails after it.
 abbrev pub checked : Bool → List ℕ → Result ℕ RunFault
 checked cut input = answer_at_end (outcome (rules_of check_step most_lines) cut tt input)
 
@@ -46,7 +46,7 @@ Checks cut input result = (result ≡ checked cut input) ⊎ (result ≡ Err run
 
 -- ---- what it means
 
--- At most so many lines, and so many bytes in each.
+-- At most `most_lines` lines, and `most_bytes` bytes in each.
 pub record IsWithinLimits (input : List ℕ) : Type 0 where
   pub few : length (input_lines input) ≤ most_lines
   pub short : All (λ line. length line.bytes ≤ most_bytes) (input_lines input)
@@ -55,11 +55,11 @@ pub record IsWithinLimits (input : List ℕ) : Type 0 where
 abbrev pub EachLineParses : List ℕ → Type 0
 EachLineParses input = All (λ line. IsOk (line_of (content line))) (input_lines input)
 
--- A number is the answer exactly where it counts the lines, and the input is within the limits and each line parses.
+-- A number is the answer exactly if it counts the lines, and the input is within the limits and each line parses.
 abbrev pub CountsLines : Type 0
 CountsLines = (input : List ℕ) (n : ℕ) → (checked false input ≡ Ok n) ↔ ((n ≡ length (input_lines input)) × IsWithinLimits input × EachLineParses input)
 
--- A line that stops a driver of at most so many lines is one of those.
+-- A line that stops a driver of at most `most` lines is one of those.
 abbrev pub IsCounted : ℕ → DriveFault LineFault → Type 0
 IsCounted most (drive_faults.Line number e) = number ≤ most
 IsCounted most e = Unit {0}

@@ -20,8 +20,8 @@ opened member cells seed = opened_with script_constants member cells seed
 
 -- ---- the end of a batch, which is taken in some order
 
--- The keeper is told the names that arrived, in the order of the script, whatever the order in which they were taken. Of a batch
--- with no arrivals it is not told.
+-- The keeper learns the names that arrived, in the order of the script, whatever the order in which they were taken. From a batch
+-- with no arrivals it learns nothing.
 abbrev pub calls_after : Opened → List DrawopValue → List DrawopValue → List KeeperCall
 calls_after host [] order = host.is.calls
 calls_after host (d ∷ ds) order = (batched (d ∷ ds) order host).is.calls
@@ -29,8 +29,8 @@ calls_after host (d ∷ ds) order = (batched (d ∷ ds) order host).is.calls
 abbrev pub host_after : Opened → List DrawopValue → List DrawopValue → Opened
 host_after host batch order = record { is = record (batched batch order host).is { calls = calls_after host batch order }; random = host.random }
 
--- A keeper holds the same in whatever order it was told names, and however often. So those of a batch are written ascending, each
--- once: hosts that took a batch in two orders, and hold the same names then, were told the same.
+-- A keeper holds the same in whatever order it learned names, and however often. So those of a batch are written ascending, each
+-- once: hosts that took a batch in two orders, and hold the same names then, have the same calls.
 abbrev pub ascending : List KeeperCall → List KeeperCall
 ascending (Arrive now names ∷ calls) = Arrive now (sorted name_cmp names) ∷ calls
 ascending calls = calls

@@ -19,7 +19,7 @@ pub record IsBoardHistory (history : List DrawopValue) : Type 0 where
   pub once : IsHistory history
   pub few : length history ≤ MAX_CELLS
 
--- Members that hold the same drawops, whatever the order in which they came, answer each question the same, where they have one number
+-- Members that hold the same drawops, whatever the order in which they came, answer each question the same, if they have one number
 -- and heard the same.
 abbrev pub AnswersAreFree : Type 0
 AnswersAreFree = (number : ℕ) (marks : PageId → List MarkValue) (heard : List PageId) (one other : List DrawopValue) (query : Query) → IsBoardHistory one → IsBoardHistory other → IsPermutation one other
@@ -37,7 +37,7 @@ HasCells cells arrivals = (history : List DrawopValue) → IsHistory history →
 abbrev pub BatchesAreOne : Type 0
 BatchesAreOne = (cells : ℕ) (held some more : List DrawopValue) → history_after cells held (some ++ more) ≡ history_after cells (history_after cells held some) more
 
--- Arrivals that do not clash lead to the same drawops in every order, where there are cells for their names.
+-- Arrivals that do not clash lead to the same drawops in every order, if there are cells for their names.
 abbrev pub ArrivalsAreFree : Type 0
 ArrivalsAreFree = (cells : ℕ) (arrivals others : List DrawopValue) → IsPermutation arrivals others → NoneClash arrivals → HasCells cells arrivals → IsPermutation (history_after cells [] arrivals) (history_after cells [] others)
 

@@ -5,12 +5,12 @@ use Rattle.wb_lines.specs.Input.{InputLine, input_lines, content}
 use Rattle.wb_script.specs.Script.{Part, Arrival, Nothing, part_in, Outcome, outcome, fault_at, IsOutcome}
 use Rattle.wb_script.specs.ScriptLaws.{EachEnds}
 
--- What a line is to its batch, where it is taken: one that passes a limit or is cut off is not.
+-- What a line is to its batch, if it is taken: one that passes a limit or is cut off is not.
 abbrev pub part_unless : Option RunFault → InputLine → Option Part
 part_unless None line = Some (part_in line)
 part_unless (Some e) line = None
 
--- of the line behind so many lines
+-- of the line after `n` lines
 abbrev pub part_at : Bool → ℕ → InputLine → Option Part
 part_at cut n line = part_unless (fault_at cut n line) line
 
@@ -45,12 +45,12 @@ AreRearranged [] [] = Unit {0}
 AreRearranged (batch ∷ batches) (other ∷ others) = IsPermutation batch other × AreRearranged batches others
 AreRearranged batches others = ⊥
 
--- Inside each batch its arrivals change places with one another, as far as this is told of them, and every other line stays where it is.
+-- Inside each batch its arrivals change places with one another, as far as `form` shows them, and every other line stays where it is.
 pub record IsReorderedBy {X : Type 0} (form : InputLine → X) (cut : Bool) (lines reordered : List InputLine) : Type 0 where
   pub others : others_of cut 0 reordered ≡ others_of cut 0 lines
   pub batches : AreRearranged (batches_of form cut 0 lines) (batches_of form cut 0 reordered)
 
--- Of two scripts: the contents of the arrivals change places. A line feed ends a line of the one where it ends that of the other; and where one ends
+-- Of two scripts: the contents of the arrivals change places. A line of the one ends with a line feed if that of the other does; and if one ends
 -- each line, whole lines change places, with what stands before their line feeds.
 pub record IsReordered (cut : Bool) (input other : List ℕ) : Type 0 where
   pub contents : IsReorderedBy content cut (input_lines input) (input_lines other)

@@ -7,7 +7,7 @@ use Rattle.wb_script.specs.Script.{IsAlone, Outcome, outcome, IsOutcome, Meets}
 use Rattle.wb_script.specs.ScriptLaws.{workers_at_end}
 use Rattle.wb_script.specs.Reordering.{IsReordered}
 
--- A run by so many workers, where a number is given, and else by those of the board, meets an outcome of its input, which is cut off where reading fails after it. By one worker that is the outcome of one thread.
+-- A run by `workers` workers, or by those of the board if no number is given, meets an outcome of its input, which is cut off if reading fails after it. By one worker that is the outcome of one thread.
 -- By any number it is that of one thread for a script with the arrivals of each batch in some order.
 pub record Runs (workers : Option ℕ) (cut : Bool) (input written : List ℕ) (result : Result Summary RunFault) : Type 0 where
   pub some : (o : Outcome) × IsOutcome workers cut input o × Meets o written result

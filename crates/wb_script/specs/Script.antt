@@ -92,15 +92,15 @@ abbrev pub step_by : Option ℕ → List ℕ → Act → Opened → Step
 step_by workers text (does next printed) host = goes (record { host = Some next; workers = workers; waiting = [] }) (text ++ printed)
 step_by workers text (fails e) host = refused (record { host = Some host; workers = workers; waiting = [] }) text e
 
--- At the state after a batch, and behind its text. A board is opened once; a number of workers that was known before goes before that
--- of the board. Where no board is open, a line that a host would act on is refused.
+-- At the state after a batch, and after its text. A board is opened once; a number of workers that was known before goes before that
+-- of the board. If no board is open, a line that a host would act on is refused.
 abbrev pub closing_step : State → List ℕ → Closing → Step
 closing_step t text (Opens member cells workers seed) =
     by_host t.host (goes (record { host = Some (opened member cells seed); workers = Some (unwrap_or t.workers workers); waiting = [] }) text) (λ host. refused t text faults.SecondBoard)
 closing_step t text (Acts line) = by_host t.host (refused t text faults.NoBoard) (λ host. step_by t.workers text (act line host) host)
 closing_step t text (Faulty e) = refused t text e
 
--- Where no board is open, an arrival is refused. The present batch is taken in this order, where it ends.
+-- If no board is open, an arrival is refused. The present batch is taken in this order, if it ends here.
 abbrev pub part_step : State → List DrawopValue → Part → Step
 part_step s order (Arrival d) = by_host s.host (refused s [] faults.NoBoard) (λ host. goes (record { host = s.host; workers = s.workers; waiting = s.waiting ++ d ∷ [] }) [])
 part_step s order Nothing = goes s []
@@ -116,7 +116,7 @@ step_of s order bytes = said_step s order (line_of bytes)
 pub data Outcome : Type 0 where
   prints : List ℕ → Result Summary RunFault → Outcome
 
--- an outcome, behind a text that was printed before
+-- an outcome, after a text that was printed before
 abbrev pub before : List ℕ → Outcome → Outcome
 before text (prints rest end) = prints (text ++ rest) end
 
@@ -124,7 +124,7 @@ before text (prints rest end) = prints (text ++ rest) end
 abbrev pub held_count : State → ℕ
 held_count s = by_host s.host 0 (λ host. length host.is.held)
 
--- the answer of a script that had so many lines, or ended with a fault
+-- the answer of a script that had `lines` lines, or ended with a fault
 abbrev pub answer : State → Result ℕ RunFault → Result Summary RunFault
 answer s (Ok lines) = Ok (record { lines = lines; held = held_count s })
 answer s (Err e) = Err e
@@ -133,7 +133,7 @@ answer s (Err e) = Err e
 abbrev pub finish : State → List DrawopValue → Result ℕ RunFault → Outcome
 finish s order ending = closed s order (λ t text. prints text (answer t ending))
 
--- at most so many lines
+-- the most lines of a script
 abbrev pub most_lines : ℕ
 most_lines = 2 ^ 20
 
@@ -155,12 +155,12 @@ abbrev pub continue : Option RunFault → ℕ → State → List ℕ → (State 
 continue None number s bytes rest = proceed number (step_of s s.waiting bytes) rest
 continue (Some e) number s bytes rest = finish s s.waiting (Err e)
 
--- From a state, after so many lines, the outcome of the lines that are left. Where the input is cut off, reading fails after them.
+-- From a state, after `n` lines, the outcome of the lines that are left. If the input is cut off, reading fails after them.
 abbrev pub outcome_from : Bool → ℕ → State → List InputLine → Outcome
 outcome_from cut n s [] = finish s s.waiting (if cut then Err run_faults.Read else Ok n)
 outcome_from cut n s (line ∷ lines) = continue (fault_at cut n line) (n + 1) s (content line) (λ t. outcome_from cut (n + 1) t lines)
 
--- the outcome of an input, which is cut off where reading fails after it
+-- the outcome of an input, which is cut off if reading fails after it
 abbrev pub outcome : Option ℕ → Bool → List ℕ → Outcome
 outcome workers cut input = outcome_from cut 0 (start workers) (input_lines input)
 
@@ -170,7 +170,7 @@ outcome workers cut input = outcome_from cut 0 (start workers) (input_lines inpu
 abbrev pub Finishes : State → Result ℕ RunFault → Outcome → Type 0
 Finishes s ending o = InSomeOrder s (λ order. o ≡ finish s order ending)
 
--- it is an outcome of what follows a step, behind the text of the step
+-- it is an outcome of what follows a step, after the text of the step
 abbrev pub Proceeds : ℕ → (State → Outcome → Type 0) → Outcome → Step → Type 0
 Proceeds number Rest o (goes t text) = (next : Outcome) × Rest t next × (o ≡ before text next)
 Proceeds number Rest o (refused t text e) = (next : Outcome) × Finishes t (Err (run_faults.Line number e)) next × (o ≡ before text next)
@@ -184,13 +184,13 @@ abbrev pub IsOutcomeFrom : Bool → ℕ → State → List InputLine → Outcome
 IsOutcomeFrom cut n s [] o = Finishes s (if cut then Err run_faults.Read else Ok n) o
 IsOutcomeFrom cut n s (line ∷ lines) o = Continues (fault_at cut n line) (n + 1) s (content line) (λ t next. IsOutcomeFrom cut (n + 1) t lines next) o
 
--- It is an outcome of an input, by so many workers where a number is given, and else by those of the board.
+-- It is an outcome of an input, by `workers` workers, or by those of the board if no number is given.
 abbrev pub IsOutcome : Option ℕ → Bool → List ℕ → Outcome → Type 0
 IsOutcome workers cut input o = IsOutcomeFrom cut 0 (start workers) (input_lines input) o
 
 -- ---- a run that stops
 
--- want of memory or of a thread, or a failing sink, at which the text may stop anywhere
+-- an allocation or a thread that failed, or a failing sink, at which the text may stop anywhere
 abbrev pub is_stop : RunFault → Bool
 is_stop run_faults.Memory = true
 is_stop run_faults.Write = true
@@ -212,6 +212,6 @@ abbrev pub IsStopped : Result Summary RunFault → Type 0
 IsStopped (Ok s) = ⊥
 IsStopped (Err e) = IsStop e
 
--- A run meets an outcome: it wrote its text and answers its end; or it stops for want of memory or of a thread, or at a failing sink, and wrote a front of its text.
+-- A run meets an outcome: it wrote its text and answers its end; or an allocation, a thread or the sink failed, and it wrote a front of its text.
 abbrev pub Meets : Outcome → List ℕ → Result Summary RunFault → Type 0
 Meets (prints text end) written result = ((written ≡ text) × (result ≡ end)) ⊎ (IsStopped result × BeginsWith text written)

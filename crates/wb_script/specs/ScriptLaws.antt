@@ -16,7 +16,7 @@ abbrev pub EachEnds : List InputLine → Type 0
 EachEnds [] = Unit {0}
 EachEnds (line ∷ lines) = (line.ended ≡ true) × EachEnds lines
 
--- whether arrivals wait for the end of their batch after a line, where it is known whether some waited before it
+-- whether arrivals wait for the end of their batch after a line, if it is known whether some waited before it
 abbrev pub waits_after : Bool → Part → Bool
 waits_after waits (Arrival d) = true
 waits_after waits Nothing = waits
@@ -36,7 +36,7 @@ abbrev pub RefusedStays : Type 0
 RefusedStays = (workers : Option ℕ) (front more text : List ℕ) (cut : Bool) (fault : RunFault) → EachEnds (input_lines front)
     → outcome workers false front ≡ prints text (Err fault) → outcome workers cut (front ++ more) ≡ prints text (Err fault)
 
--- Where no arrival waits after whole lines, the text of each longer script begins with their text.
+-- If no arrival waits after whole lines, the text of each longer script begins with their text.
 abbrev pub PrintedStays : Type 0
 PrintedStays = (workers : Option ℕ) (front more text : List ℕ) (cut : Bool) (summary : Summary) → EachEnds (input_lines front) → waits_at_end false (input_lines front) ≡ false
     → outcome workers false front ≡ prints text (Ok summary) → Begins (outcome workers cut (front ++ more)) text

@@ -30,7 +30,7 @@ fn read_on<R: Source, W: Sink>(
     None
 }
 
-/// The first arrival of a batch, where it was not taken yet, and else that of a line that follows.
+/// The first arrival of a batch, if it was not taken yet, or else that of a line that follows.
 fn next_arrival<R: Source, W: Sink>(
     alloc: Global,
     progress: &mut Progress<Said>,

@@ -83,9 +83,9 @@ fn fault_of(fault: DriveFault<LineFault>) -> RunFault
     }
 }
 
-/// How many lines the script has that a source has left, skipped ones too, where each of them
-/// parses and the limits hold; else the first fault in the order of the lines, or want of memory.
-/// Nothing is run.
+/// How many lines the script has that a source has left, skipped ones too, if each of them parses
+/// and the limits hold; else the first fault in the order of the lines, or that an allocation
+/// failed. Nothing is run.
 pub fn check<R: Source>(alloc: Global, source: &mut R) -> Result<u32, RunFault>
     ensures script { (input : List ℕ)
         × Gave (R.left source.old) (R.left source.new) (R.has_failed source.new) input

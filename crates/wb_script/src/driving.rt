@@ -51,7 +51,7 @@ fn take_groups<T: Threads + Wait + Sync, R: Source, W: Sink, G: Gate + Sync>(
     Ok(progress.lines.done())
 }
 
-/// Hands the lines that a source has left to a host, so many at most, batch by batch, and writes
+/// Hands the lines that a source has left to a host, at most `most`, batch by batch, and writes
 /// what it prints to a sink. Answers how many lines there were, or why no more were taken.
 pub fn take_lines<T: Threads + Wait + Sync, R: Source, W: Sink, G: Gate + Sync>(
     alloc: Global,

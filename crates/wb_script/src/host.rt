@@ -49,7 +49,7 @@ impl<'a, T, G> Model for Host<'a, T, G> {
     ghost view = { λ h. record { member = h.member; workers = h.workers; refused = h.refused } };
 }
 
-/// What became of a line, for who hands it in.
+/// What became of a line, for whoever hands it in.
 fn faulted(taken: Result<(), Untaken>) -> Result<(), Stop<LineFault>>
     ensures { result ≡ faulted taken }
 {
@@ -61,7 +61,7 @@ fn faulted(taken: Result<(), Untaken>) -> Result<(), Stop<LineFault>>
 }
 
 impl<'a, T, G> Host<'a, T, G> {
-    /// No board is open. The number of workers, where there is one, goes before that of the board.
+    /// No board is open. The number of workers, if there is one, goes before that of the board.
     pub fn new(place: Place<'a, T, G>, workers: Option<u32>) -> Self
         ensures { result ≡ record { member = None; workers = workers; refused = false } }
     {
@@ -225,7 +225,7 @@ impl<T: Threads + Wait + Sync, G: Gate + Sync> Host<'_, T, G> {
     }
 }
 
-/// By how many workers a batch is taken: one, until a number is known, and from 1 to 8 in any case.
+/// How many workers take a batch: one, until a number is known, and from 1 to 8 in any case.
 fn worker_count(workers: Option<u32>) -> u32
     ensures range { IsWorkerCount result }
     ensures alone { IsAlone workers → result ≤ 1 }

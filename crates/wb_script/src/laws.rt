@@ -27,7 +27,7 @@ pub fn answers_are_one()
 {}
 
 /// Boards that hold the same drawops, whatever the order in which they came, print the same for
-/// each question, character for character, where the same marks were heard.
+/// each question, character for character, if the same marks were heard.
 pub fn order_is_free()
     ensures { AnswersAreFree }
 {}
@@ -57,7 +57,7 @@ pub fn shows_are_free()
 {}
 
 /// What whole lines printed stays, whatever follows them: nothing of a refused script changes, and
-/// where no arrival waits, each longer script's text begins with theirs.
+/// if no arrival waits, each longer script's text begins with theirs.
 pub fn printed_text_stays()
     ensures refused { RefusedStays }
     ensures printed { PrintedStays }
@@ -85,16 +85,16 @@ pub fn one_worker_is_one_thread()
 
 /// Whatever workers print for a script, one thread prints for a script with the arrivals reordered
 /// inside their batches: the contents of the arrivals of one batch change places, and all other
-/// lines and the line feeds stay. Where a line feed ends each line, whole lines change places. What
+/// lines and the line feeds stay. If a line feed ends each line, whole lines change places. What
 /// one thread prints for each script that is reordered so is an outcome by two workers or more.
 pub fn workers_are_one_thread()
     ensures scripts { WorkersAreOneThread }
     ensures each { EachReorderingIsOutcome }
 {}
 
-/// Where no arrivals clash and the board has a cell for each of their names, a script has one
-/// outcome, whatever the number of workers and in whatever order they take each batch: what one
-/// thread prints.
+/// If no arrivals clash and the board has a cell for each of their names, a script has one outcome,
+/// whatever the number of workers and in whatever order they take each batch: what one thread
+/// prints.
 pub fn workers_are_free()
     ensures orders { OrdersAreFree }
     ensures workers { WorkersAreFree }

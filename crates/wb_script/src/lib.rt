@@ -3,8 +3,8 @@
 //! A script stands in for the network and the clock of a host: its lines hand in the datagrams that
 //! arrive, set the moment, and ask for what a page shows. This crate runs lines, has workers take
 //! their batches, and writes exactly what one thread prints for them, each batch taken in some
-//! order: as it came, where one worker takes it. What one line says and does is of wb_commands, and
-//! what reads text of wb_lines.
+//! order: as it came, if one worker takes it. `wb_commands` has what one line says and does, and
+//! `wb_lines` what reads text.
 #![tactic(auto)]
 
 mod arriving;

@@ -44,14 +44,13 @@ fn ended_by(refused: bool, fault: DriveFault<LineFault>) -> RunFault
     }
 }
 
-/// Runs the script that a source has left, and writes what it prints to a sink. Each batch is taken
-/// by so many workers: the number that is handed in, or else that of the board; 0 counts as 1, and
-/// more than 8 as
-/// 8. They call the gate round each accept.
+/// Runs the script that a source has left, and writes what it prints to a sink. The number of
+/// workers that take each batch is the one that is handed in, or else that of the board; 0 counts
+/// as 1, and more than 8 as 8. They call the gate round each accept.
 ///
 /// What is written, and the answer, are those of the script, each of whose batches may be taken in
 /// any order: what one thread prints for its lines with the arrivals of each batch in some order.
-/// One worker takes a batch as it came, and then they are those of one thread for the script. Where
+/// One worker takes a batch as it came, and then they are those of one thread for the script. If
 /// memory runs out, a thread is refused or the sink fails, a front of it is written, and the answer
 /// is `Memory`, `Start` or `Write`.
 pub fn run<T: Threads + Wait + Sync, R: Source, W: Sink, G: Gate + Sync>(

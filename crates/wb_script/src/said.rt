@@ -7,7 +7,7 @@ use std::alloc::{AllocError, Global};
 use wb_commands::{Command, LineFault, Untaken, parse_line};
 use wb_lines::{Saying, without_end};
 
-/// A script has at most so many lines.
+/// The most lines of a script.
 pub const MAX_LINES: u32 = 1 << 20;
 
 /// What a line of a script says. Each line is parsed once, when it is looked at.

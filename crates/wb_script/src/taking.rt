@@ -47,9 +47,9 @@ impl<T: Drop> From<AllocFailed<T>> for Untaken {
     }
 }
 
-/// Has so many workers take the arrivals of a source at the board of a member, and tells its keeper
-/// what arrived. Answers the member, the counts, and the drawops as they came. Where that is
-/// refused the member is gone: rows of its board may be lost.
+/// Has `workers` workers take the arrivals of a source at the board of a member, and tells its
+/// keeper what arrived. Answers the member, the counts, and the drawops as they came. If that is
+/// refused, the member is gone: rows of its board may be lost.
 fn take_all<T: Threads + Wait + Sync, S: Arrivals, G: Gate + Sync>(
     place: &Place<'_, T, G>,
     member: Member,

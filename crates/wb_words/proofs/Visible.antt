@@ -88,7 +88,7 @@ echo e fits =
     cat (decimal e.source) (64 ∷ (decimal e.sent ++ 43 ∷ decimal e.held)) (number32 e.source fits.source)
     (put 64 (decimal e.sent ++ 43 ∷ decimal e.held) (omega arith) (cat (decimal e.sent) (43 ∷ decimal e.held) (number e.sent fits.sent) (put 43 (decimal e.held) (omega arith) (number e.held fits.held))))
 
--- words behind others of a line
+-- words after others of a line
 behind : (w : List ℕ) (ws : List (List ℕ)) → Visible w → Visible (tailed ws) → Visible (tailed (w ∷ ws))
 behind w ws p q = put 32 (w ++ tailed ws) (omega arith) (cat w (tailed ws) p q)
 

@@ -1,4 +1,4 @@
--- What is said of a word that is wrong, and of digits that are.
+-- The text of a wrong word, and of wrong digits.
 use Rattle.std.specs.Prelude.{ℕ, List, ◌++◌, codes, decimal}
 use Rattle.wb_names.specs.FaultTexts.{field_text}
 use Rattle.wb_codec.specs.Fault.{read_code}
@@ -27,7 +27,7 @@ word_text (words.Field fault) = field_text fault
 abbrev pub wrong_text : WrongWord → List ℕ
 wrong_text wrong = codes "word " ++ (decimal wrong.place ++ (codes ": " ++ word_text wrong.fault))
 
--- of digits that are no datagram for their line
+-- the text of digits that spell no datagram for their line
 abbrev pub digits_text : DigitsFault → List ℕ
 digits_text digit_faults.Hex = codes "hex"
 digits_text (digit_faults.Datagram fault) = codes "datagram " ++ decimal (read_code fault)

@@ -54,7 +54,7 @@ abbrev pub Gives : {X Y : Type 0} → (X → Y) → Result X WrongWord → Resul
 Gives view (Ok x) read = read ≡ Ok (view x)
 Gives view (Err wrong) read = read ≡ Err wrong
 
--- The same, where memory may run out: then nothing is said.
+-- The same, if an allocation may fail: then nothing is promised.
 abbrev pub MayGive : {X Y : Type 0} → (X → Y) → Result X WordsFault → Result Y WrongWord → Type 0
 MayGive view (Ok x) read = read ≡ Ok (view x)
 MayGive view (Err (words_faults.Word wrong)) read = read ≡ Err wrong

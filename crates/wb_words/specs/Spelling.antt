@@ -71,6 +71,6 @@ word_list (PageState sender page marks) = codes "page-state" ∷ decimal sender 
 abbrev pub spelled : Datagram → List ℕ
 spelled v = joined (word_list v)
 
--- these words behind others of a line: a space stands before each
+-- these words after others of a line: a space stands before each
 abbrev pub tailed : List (List ℕ) → List ℕ
 tailed ws = flat_map (λ w. 32 ∷ w) ws

@@ -31,7 +31,7 @@ pub struct Adding {
 /// How many words stand before the operation of a drawop, and do not before that of a drawing.
 const FEWER: u32 = 2;
 
-/// A name under which an operation is read that is no drawop yet.
+/// A name under which to read an operation that is not a drawop yet.
 fn some_name() -> Name {
     let page = PageId {
         creator: 0,
@@ -103,7 +103,7 @@ fn op_of(alloc: Global, word: &[u8], rest: Rest<'_>) -> Result<Op, WordsFault>
     }
 }
 
-/// A fault of the operation of a drawop, told of a drawing.
+/// A fault of the operation of a drawop, with its place among the words of a drawing.
 fn earlier(fault: WordsFault) -> WordsFault
     ensures { result ≡ earlier_fault fault }
 {
@@ -118,7 +118,7 @@ fn earlier(fault: WordsFault) -> WordsFault
 
 /// The drawing that words say, as `1000 500 7/1 line 0 0 4 0 *`: the moment, the time of its user's
 /// clock, its page, and what is drawn, as in the words of a drawop. Or the first word from the left
-/// that is wrong, or want of memory for a text.
+/// that is wrong, or `Memory` if a text finds none.
 #[tactic(auto, unfolding(crate::specs::Adding::adding_at))]
 pub fn read_adding(alloc: Global, line: &[u8]) -> Result<Adding, WordsFault>
     ensures reading { MayGive (λ a. a) result (adding_reading line.now) }

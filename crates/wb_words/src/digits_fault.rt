@@ -3,13 +3,13 @@
 use std::{error, fmt};
 use wb_codec::ReadFault;
 
-/// Why a word of hexadecimal digits is no datagram for its line: the first fault in the order of
+/// Why a word of hexadecimal digits is not a datagram for its line: the first fault in the order of
 /// the variants.
 #[derive(Clone, Copy, Debug, PartialEq, Eq)]
 pub enum DigitsFault {
-    /// The word is no even number of hexadecimal digits.
+    /// The word is not an even number of hexadecimal digits.
     Hex,
-    /// The bytes are no datagram.
+    /// The bytes are not a datagram.
     Datagram(ReadFault),
     /// The datagram is of a kind that the line does not take.
     Kind,

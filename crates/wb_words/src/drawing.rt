@@ -15,7 +15,7 @@ use wb_names::{Change, Drawop, Figure, Name, OpKind, Shape, Stroke, Target};
 
 // The operation of a drawop is the word at place 6, its fields begin at place 7.
 
-/// The drawop of this shape. A fault of it is told of the word at the place.
+/// The drawop of this shape. A fault of it is one of the word at the place.
 fn drawn(place: u32, name: Name, time: u64, shape: Shape<'_>) -> Result<Drawop, WrongWord>
     ensures { result ≡ drawn place name time (op_of shape.entry) }
 {

@@ -27,7 +27,7 @@ pub(crate) trait Worded: Entry {
     /// The word of an entry.
     ghost entry_word: { Self → List ℕ };
 
-    /// The entry that the word at a place is, where its source is above the one before it.
+    /// The entry that the word at a place is, if its source is above the one before it.
     fn read(place: u32, before: Option<u32>, word: &[u8]) -> Result<Self, WrongWord>
         ensures entry { result ≡ entry_at place before word.now }
         ensures above { IfOk result (λ x. above before (Self.source x) ≡ true) }

@@ -16,11 +16,11 @@ pub enum WordFault {
     Missing,
     /// The line should end before it.
     Extra,
-    /// The first word of the line is no kind of datagram.
+    /// The first word of the line is not a kind of datagram.
     Unknown,
-    /// The word is no operation.
+    /// The word is not an operation.
     Operation,
-    /// The word is no number in its range, in decimal digits without a zero in front.
+    /// The word is not a number in its range, in decimal digits without a zero in front.
     Number,
     /// The word is not `CREATOR/NUMBER`.
     Page,

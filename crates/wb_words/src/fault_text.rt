@@ -1,10 +1,10 @@
-//! What is said of a word that is wrong.
+//! The texts of faults of words.
 ghost use Rattle.std.specs.Prelude.{◌≡◌};
 ghost use Rattle.wb_words.specs.FaultText.{word_text};
 
 use crate::fault::WordFault;
 
-/// What is said of a fault of a word.
+/// The text of a fault of a word.
 pub(crate) fn word_text(fault: WordFault) -> &'static str
     ensures { result.now ≡ word_text fault }
 {

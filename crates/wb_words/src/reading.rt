@@ -121,7 +121,7 @@ fn datagram_of(alloc: Global, word: &[u8], rest: Rest<'_>) -> Result<Datagram, W
 }
 
 /// The datagram that a line of words says, which stands without its end; or the first word from the
-/// left that is wrong, or want of memory for a text or a list.
+/// left that is wrong, or `Memory` if a text or a list finds none.
 #[tactic(auto, using(crate::proofs::SpellingLaws::first_read, crate::proofs::SpellingLaws::answer_found))]
 pub fn read_words(alloc: Global, line: &[u8]) -> Result<Datagram, WordsFault>
     ensures found { IfOk result (Says line.now) }

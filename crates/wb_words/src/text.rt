@@ -12,7 +12,7 @@ pub(crate) fn is_special(byte: u8) -> bool
     byte == b'"' || byte == b'\\'
 }
 
-/// The text that stands in quotes, and `None` where the bytes are no text in quotes.
+/// The text that stands in quotes, and `None` if the bytes are not a text in quotes.
 pub(crate) fn text_in(alloc: Global, bytes: &[u8]) -> Result<Option<Vec<u8>>, AllocError>
     ensures { IfOk result (λ text. option_map (λ t. t.items) text ≡ text_in bytes.now) }
 {

@@ -24,7 +24,7 @@ impl Keeper {
         self.recovery.asked_where(alloc, |_| true)
     }
 
-    /// How often the request timer of a name was backed off since it was set, up to 16. None where
+    /// How often the request timer of a name was backed off since it was set, up to 16. None if
     /// none stands.
     pub fn level(&self, name: &Name) -> Option<u32>
         ensures { result ≡ level_of (timers_in self.now.recovery) name.now }

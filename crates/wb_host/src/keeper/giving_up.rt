@@ -12,10 +12,10 @@ use crate::keeper::Keeper;
 use wb_names::Name;
 
 impl Keeper {
-    /// Gives up asking for a name: whether a request timer stood for it. Where one did, its timers
-    /// end, as by `Recovery::got` with a delay of 0, so that it may be asked for and answered at
-    /// once again. Where none did, the call moves the moment alone. It takes no memory. The moment
-    /// is in microseconds.
+    /// Gives up asking for a name. Answers whether a request timer stood for it. If one did, its
+    /// timers end, as by `Recovery::got` with a delay of 0, so that it may be asked for and
+    /// answered at once again. If none did, the call only moves the moment. It takes no memory. The
+    /// moment is in microseconds.
     ///
     /// Refused with `BackInTime` or `Range`, in this order.
     pub fn give_up(&mut self, now: u64, name: &Name) -> Result<bool, KeepFault>

@@ -25,17 +25,17 @@ use wb_gaps::{MergeFault, merge_marks};
 use wb_names::{Mark, Marks};
 
 impl Keeper {
-    /// Hears a datagram, and answers what is to be sent at once: the page states where another
-    /// member asks which pages there are, and else nothing. It reads the history to its end first.
+    /// Hears a datagram, and answers what is to be sent at once: the page states if another member
+    /// asks which pages there are, and else nothing. It reads the history to its end first.
     ///
-    /// The marks of a session message or page state are merged with those heard of its page. Of a
-    /// session message its sender is remembered, up to 65,535 senders, and its echo of this member,
-    /// if it has one, may tell the delay to the sender. A request is told to the timers, with the
-    /// word. A drawop, and what this member sent itself, changes nothing but the moment.
+    /// The marks of a session message or page state are merged with those heard of its page. The
+    /// sender of a session message is remembered, up to 65,535 senders, and its echo of this
+    /// member, if it has one, may tell the delay to the sender. A request goes to the timers, with
+    /// the word. A drawop, and what this member sent itself, changes nothing but the moment.
     ///
     /// Refused with `BackInTime`, `Range`, `TooMany` (of the marks of its page) or `Memory`, in
-    /// this order. A refused call leaves the keeper as it was, and the desk too, but that it may
-    /// have seen more where memory ran out. The moment is in microseconds.
+    /// this order. A refused call leaves the keeper as it was, and the desk too, except that it may
+    /// have seen more if memory ran out. The moment is in microseconds.
     pub fn hear(
         &mut self,
         alloc: Global,
@@ -83,8 +83,8 @@ impl Keeper {
         }
     }
 
-    /// The marks of its page once those that it tells are merged with what was heard, where it
-    /// tells something new.
+    /// The marks of its page once those that it tells are merged with what was heard, if it tells
+    /// something new.
     fn merged(&self, alloc: Global, datagram: &Datagram) -> Result<Option<Marks>, KeepFault>
         ensures fault { IsKeptBy (first_of
             (fault_unless (has_room (marks_at self.now.marks) datagram.now) TooMany ∷ [])) result }
@@ -133,7 +133,7 @@ impl Keeper {
     }
 }
 
-/// Both lists of marks as one, or None where those that were heard have all that the others tell.
+/// Both lists of marks as one, or None if those that were heard have all that the others tell.
 fn merge(alloc: Global, heard: &Marks, told: &Marks) -> Result<Option<Marks>, KeepFault>
     ensures fault { IsKeptBy (first_of
         (fault_unless (nat_le (source_count heard.now told.now) MAX_ENTRIES) TooMany ∷ [])) result }

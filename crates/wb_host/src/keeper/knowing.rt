@@ -73,7 +73,7 @@ impl Keeper {
     }
 }
 
-/// A page, where there are marks of it.
+/// A page, if there are marks of it.
 fn page_where(page: PageId, marks: &Marks) -> Option<PageId>
     ensures { result ≡ page_where page marks.now }
 {

@@ -25,8 +25,8 @@ use wb_names::{Echo, Echoes, PageId};
 impl Keeper {
     /// The session message of this moment: the report of a page at the list that the desk then
     /// sees, and an echo to each member whose session messages are remembered. It reads the history
-    /// to its end first. A refused call leaves the keeper as it was, and the desk too, but that it
-    /// may have seen more where memory ran out. The moment is in microseconds.
+    /// to its end first. A refused call leaves the keeper as it was, and the desk too, except that
+    /// it may have seen more if memory ran out. The moment is in microseconds.
     ///
     /// Refused with `BackInTime`, `Range` or `Memory`, in this order.
     pub fn session(

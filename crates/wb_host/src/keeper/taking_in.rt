@@ -62,7 +62,7 @@ impl Keeper {
         }
     }
 
-    /// The delay that the echo of this member tells, where there is one and it tells a delay.
+    /// The delay that the echo of this member tells, if there is one and it tells a delay.
     fn delay_given(&self, echoes: &Echoes, now: u64) -> Option<u64>
         ensures { result ≡ distance_by now (find (λ e. nat_eq e.source self.now.me) echoes.now) }
     {
@@ -81,8 +81,8 @@ impl Keeper {
         }
     }
 
-    /// Keeps what a session message tells: the delay to its sender, where it tells one, when it was
-    /// heard, and the marks of its page, where they changed.
+    /// Keeps what a session message tells: the delay to its sender, if it tells one, when it was
+    /// heard, and the marks of its page, if they changed.
     fn note_session(
         &mut self,
         now: u64,
@@ -118,8 +118,8 @@ impl Keeper {
         Ok(())
     }
 
-    /// Keeps when the session message of a sender was heard, where the sender has a place, and the
-    /// marks of its page, where they changed.
+    /// Keeps when the session message of a sender was heard, if the sender has a place, and the
+    /// marks of its page, if they changed.
     fn note_sender(
         &mut self,
         now: u64,
@@ -158,8 +158,8 @@ impl Keeper {
         self.heard.contains_key(&sender) || self.heard.len() < Keeper::MOST_HEARD
     }
 
-    /// Tells the timers of a request: the delay that counts is that to the asker where the desk
-    /// holds the name, and else that to its source.
+    /// Tells the timers of a request: the delay that counts is that to the asker if the desk holds
+    /// the name, and else that to its source.
     fn note_request(
         &mut self,
         desk: &Desk,
@@ -193,7 +193,7 @@ impl Keeper {
         self.moment = now;
     }
 
-    /// Keeps the marks of a page, where they changed.
+    /// Keeps the marks of a page, if they changed.
     fn note_marks(
         &mut self,
         now: u64,

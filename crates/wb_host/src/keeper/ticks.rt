@@ -28,8 +28,8 @@ impl Keeper {
     /// timer fires, ascending, and then the drawop of each name whose answer timer fires,
     /// ascending. It reads the history to its end first, and the request timers of what is held
     /// then are stopped, as by `arrived`, before any fires. The first word goes to the smallest
-    /// name that is asked for. A refused call leaves the keeper as it was, and the desk too, but
-    /// that it may have seen more where memory ran out. The moment is in microseconds. There are at
+    /// name that is asked for. A refused call leaves the keeper as it was, and the desk too, except
+    /// that it may have seen more if memory ran out. The moment is in microseconds. There are at
     /// least as many words as `due_count` says at this moment.
     ///
     /// Refused with `BackInTime`, `Range` or `Memory`, in this order.

@@ -51,7 +51,7 @@ impl Judge {
         Verdict::TAKEN
     }
 
-    /// Whether a drawop is not ours that has our number.
+    /// Whether a drawop that has our number is not ours.
     #[tactic(auto, unfolding(crate::specs::Judging::is_forged_drawop))]
     fn is_forged_drawop(&self, known: bool, drawop: &Drawop, facts: &Facts) -> bool
         ensures { result ≡ is_forged_drawop known drawop.now facts.now self.now }

@@ -1,4 +1,4 @@
-//! What a member that keeps itself asks for.
+//! What a self-managing member asks for.
 ghost use Rattle.std.specs.Prelude.{◌≡◌, ◌≤◌, ◌<◌, ◌^◌, ◌∷◌, [], IfOk, OnErr, OnOk, IfSome, filter, length, nat_lt};
 ghost use Rattle.wb_recovery.specs.Delays.{IsDelay};
 ghost use Rattle.wb_keeping.specs.Kept.{Asks, and_then, end, ends_full, is_begun, is_unasked, learned, near_names, paid_for, performs, stops_one, turn, want, want_near, want_told};
@@ -20,8 +20,8 @@ use wb_gaps::Hole;
 use wb_names::Name;
 
 impl KeptMember {
-    /// A name is wanted; its timer may start anew where somebody says that he holds it, or it has
-    /// its turn. Answers whether it is asked for.
+    /// A name is wanted. Its timer may start anew if somebody says that they hold it, or if it has
+    /// its turn. Answers whether the member begins to ask for it.
     pub(super) fn want(
         &mut self,
         alloc: Global,
@@ -43,8 +43,8 @@ impl KeptMember {
         Ok(true)
     }
 
-    /// It begins to ask for a name, by a distance that is lent, where there is one to lend. Before
-    /// that there is room for its timer.
+    /// It makes room for the timer of a name, and begins to ask for it, with the distance that is
+    /// lent, if there is one to lend.
     fn begin(&mut self, alloc: Global, name: &Name, lent: Option<u64>) -> Result<(), AllocError>
         requires { IfSome lent IsDelay }
         ensures does { OnOk result (DoesQuietly (and_then (makes_room name.now)
@@ -76,7 +76,7 @@ impl KeptMember {
         }
     }
 
-    /// Whether a source told its distance.
+    /// Whether the distance to a source is known.
     fn is_known(&self, source: u32) -> bool
         ensures { (k : Keeping) → IsKeptAt self.now k →
             result ≡ is_known (view_of k.host) source }
@@ -84,7 +84,7 @@ impl KeptMember {
         self.member.delay(source) != UNKNOWN
     }
 
-    /// How often the timer of a name was backed off, where one stands.
+    /// How often the timer of a name was backed off, if one stands.
     fn level(&self, name: &Name) -> Option<u32>
         ensures { (k : Keeping) → IsKeptAt self.now k → result ≡ level (view_of k.host) name.now }
     {
@@ -99,7 +99,7 @@ impl KeptMember {
         self.level(name).is_some()
     }
 
-    /// The usual distance, where a source told none.
+    /// The usual distance, if that to a source is not known.
     pub(super) fn lent_to(&self, source: u32) -> Option<u64>
         ensures lent { (k : Keeping) → IsKeptAt self.now k →
             result ≡ lent_at ((view_of k.host).distance source) k.policy.usual }
@@ -112,7 +112,7 @@ impl KeptMember {
         }
     }
 
-    /// Stops the timer of a name that is asked for, and else the timer that gives way to another.
+    /// Stops the timer of a name, if it has one, or else the timer that gives way to another.
     fn make_room(&mut self, alloc: Global, name: &Name) -> Result<(), AllocError>
         ensures does { OnOk result (DoesQuietly (makes_room name.now) self.old self.new) }
         ensures err { OnErr result (self.new ≡ self.old) }
@@ -126,7 +126,7 @@ impl KeptMember {
         Ok(())
     }
 
-    /// Stops the one of some timers that gives way to another, where one does.
+    /// Stops the one of some timers that gives way to another, if one does.
     fn stop_one(&mut self, asked: &[AskedName])
         ensures { DoesQuietly (performs_all (stops_one (giving_way asked.now))) self.old self.new }
     {
@@ -171,8 +171,8 @@ impl KeptMember {
         Ok(())
     }
 
-    /// A drawop is new: its missing neighbours are wanted. Where none is missing and it was asked
-    /// for, another hole has its turn in its place.
+    /// A drawop is new: its missing neighbours are wanted. If none is missing and it was asked for,
+    /// another hole has its turn in its place.
     pub(super) fn learned(
         &mut self,
         alloc: Global,
@@ -241,7 +241,7 @@ impl KeptMember {
         !is_known
     }
 
-    /// These names are wanted that have no timer, up to the first that is not asked for.
+    /// Names that are neither held nor asked for are wanted, up to the first that `want` refuses.
     fn want_near(&mut self, alloc: Global, names: &[Name]) -> Result<(), AllocError>
         ensures does { OnOk result (DoesQuietly (want_near names.now) self.old self.new) }
         ensures left { OnErr result (LeavesSome (want_near names.now) self.old self.new) }
@@ -279,7 +279,7 @@ impl KeptMember {
         }
     }
 
-    /// Another round begins, and the first hole has its turn, where there is one.
+    /// Another round begins, and the first hole has its turn, if there is one.
     fn turn_again(&mut self, alloc: Global) -> Result<(), AllocError>
         ensures does { OnOk result (DoesQuietly turn_again self.old self.new) }
         ensures left { OnErr result (LeavesSome turn_again self.old self.new) }
@@ -311,7 +311,7 @@ impl KeptMember {
         Ok(())
     }
 
-    /// It gives up asking where its board is full.
+    /// It gives up asking if its board is full.
     pub(super) fn end_where_full(&mut self, alloc: Global) -> Result<(), AllocError>
         ensures does { OnOk result (DoesQuietly ends_full self.old self.new) }
         ensures err { OnErr result (self.new ≡ self.old) }

@@ -1,4 +1,4 @@
-//! What a member that keeps itself does with a datagram that came in.
+//! What a self-managing member does with a datagram that came in.
 ghost use Rattle.std.specs.Prelude.{◌≡◌, ◌≤◌, ◌<◌, ◌∷◌, ◌||◌, [], ℕ, IfOk, OnErr, OnOk, if◌then◌else◌};
 ghost use Rattle.wb_codec.specs.declared.datagram.Datagram.TheVariants.{PageState, Session};
 ghost use Rattle.wb_member.specs.Holding.{outcome_in};
@@ -77,8 +77,8 @@ impl KeptMember {
         self.member.holds(name) || self.member.is_full()
     }
 
-    /// A session message came. Of another member's the keeper hears the own marks that are
-    /// believed, and the own echo.
+    /// A session message came. If it is another member's, the keeper hears the marks of this member
+    /// that are believed, and its echo.
     fn hears_session(
         &mut self,
         alloc: Global,
@@ -115,7 +115,7 @@ impl KeptMember {
         Ok(())
     }
 
-    /// An echo told a distance, where it did.
+    /// An echo gave a distance, or none did.
     fn measures(&mut self, sender: u32, distance: Option<u64>) -> Result<(), AllocError>
         ensures does { OnOk result (DoesQuietly (measures sender distance) self.old self.new) }
         ensures left { OnErr result (LeavesSome (measures sender distance) self.old self.new) }
@@ -131,8 +131,8 @@ impl KeptMember {
         Ok(())
     }
 
-    /// A page state came. Of another member's the own marks that are believed are heard, and nobody
-    /// else answers.
+    /// A page state came. If it is another member's, the keeper hears the marks of this member that
+    /// are believed, and this member answers no question for pages for a second.
     fn hears_state(
         &mut self,
         alloc: Global,
@@ -157,7 +157,7 @@ impl KeptMember {
         Ok(())
     }
 
-    /// A page state with these marks is heard, where there are some.
+    /// The keeper hears a page state with these marks, if there are some.
     fn hears_some(
         &mut self,
         alloc: Global,
@@ -180,8 +180,8 @@ impl KeptMember {
         Ok(())
     }
 
-    /// A request came. Another member's is heard: of a name that is held by the distance to the
-    /// asker, and of another by that to its source. The usual one is lent, where that is unknown.
+    /// A request came. If it is another's, the keeper hears it, with the distance to the asker if
+    /// the name is held, or else to its source. The usual one is lent, if that is not known.
     fn hears_request(&mut self, alloc: Global, asker: u32, name: Name) -> Result<(), AllocError>
         ensures does { OnOk result
             (DoesQuietly (of_other asker (hears_request asker name)) self.old self.new) }
@@ -198,7 +198,7 @@ impl KeptMember {
         Ok(())
     }
 
-    /// Whose distance counts where a name is asked for: the asker's, if it is held.
+    /// Whose distance counts for a request: the asker's if the name is held, or else its source's.
     fn answered_to(&self, asker: u32, name: &Name) -> u32
         ensures { (k : Keeping) → IsKeptAt self.now k → result ≡
             (if holds (view_of k.host) name.now then asker else name.now.source) }

@@ -18,8 +18,8 @@ use wb_host::{KeepFault, Reply};
 use wb_names::{Drawop, Name};
 
 impl KeptMember {
-    /// Time goes on to a moment that is not before the present one, so that nothing but want of
-    /// memory refuses it. Answers what is to be sent.
+    /// Time goes on to a moment that is not before the present one, so that only a failed
+    /// allocation refuses it. Answers what is to be sent.
     pub(super) fn go_on(&mut self, alloc: Global, now: u64) -> Result<Vec<Datagram>, AllocError>
         requires { IsMoment now }
         ensures does { IfOk result
@@ -43,9 +43,9 @@ impl KeptMember {
         Ok(reply)
     }
 
-    /// A datagram is heard that is no question for pages, so that nothing is sent at once. Where
-    /// its marks would be too many it changes nothing. It is heard at the present moment, so that
-    /// nothing else but want of memory refuses it.
+    /// It hears a datagram that is not a question for pages, so that nothing is sent at once. If
+    /// its marks would be too many, it changes nothing. It is heard at the present moment, so that
+    /// only a failed allocation refuses it.
     pub(super) fn hear(&mut self, alloc: Global, datagram: &Datagram) -> Result<(), AllocError>
         requires { (me : ℕ) → asks_for_pages me datagram.now ≡ false }
         ensures does { OnOk result (DoesQuietly (performs (Hears datagram.now)) self.old self.new) }
@@ -96,7 +96,7 @@ impl KeptMember {
         }
     }
 
-    /// A distance is lent to a source, where there is one to lend.
+    /// A distance is lent to a source, if there is one to lend.
     pub(super) fn lend(&mut self, source: u32, lent: Option<u64>) -> Result<(), AllocError>
         requires { IfSome lent IsDelay }
         ensures does { OnOk result
@@ -112,7 +112,7 @@ impl KeptMember {
         }
     }
 
-    /// It is taken back: the source is unknown again.
+    /// What was lent is taken back: the distance to the source is not known again.
     pub(super) fn take_back(&mut self, source: u32, lent: Option<u64>) -> Result<(), AllocError>
         ensures does { OnOk result
             (DoesQuietly (performs_all (back_lines source lent)) self.old self.new) }
@@ -127,7 +127,7 @@ impl KeptMember {
         }
     }
 
-    /// It begins to ask for a name, to whose source this distance is lent, where there is one.
+    /// It begins to ask for a name, while this distance is lent to its source, if there is one.
     pub(super) fn ask_by(
         &mut self,
         alloc: Global,
@@ -147,8 +147,8 @@ impl KeptMember {
         Ok(())
     }
 
-    /// A datagram is heard that is no question for pages, while this distance is lent to a source,
-    /// where there is one.
+    /// It hears a datagram that is not a question for pages, while this distance is lent to a
+    /// source, if there is one.
     pub(super) fn hear_by(
         &mut self,
         alloc: Global,

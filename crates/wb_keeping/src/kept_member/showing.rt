@@ -1,4 +1,4 @@
-//! What a member that keeps itself answers. That changes nothing, and needs no moment.
+//! What a self-managing member answers. That changes nothing, and needs no moment.
 ghost use Rattle.std.specs.Prelude.{◌≡◌, IfOk};
 ghost use Rattle.wb_member.specs.Questions.{IsAnswerable, answer_to, told};
 ghost use Rattle.wb_keeping.specs.Performing.{IsKeptAt, Keeping};
@@ -18,7 +18,7 @@ impl KeptMember {
         self.member.answer(alloc, query)
     }
 
-    /// The member that keeps itself.
+    /// The member, without its policy.
     pub fn member(&self) -> &Member
         ensures { result.now ≡ self.now.member }
     {

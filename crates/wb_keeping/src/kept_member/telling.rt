@@ -1,4 +1,4 @@
-//! What a member that keeps itself tells others as time goes on.
+//! What a self-managing member sends others as time goes on.
 ghost use Rattle.std.specs.Prelude.{◌≡◌, ◌≤◌, ◌<◌, ◌+◌, ◌*◌, ◌++◌, ◌∷◌, [], IfOk, OnErr, OnOk, length, map, take};
 ghost use Rattle.wb_gaps.specs.Answers.{pages_of, report_of};
 ghost use Rattle.wb_keeping.specs.Kept.{answers, asks_pages, reports, reports_due, reports_next, reports_page, state_of, still, timed};
@@ -13,7 +13,7 @@ use std::alloc::{AllocError, Global};
 use wb_codec::Datagram;
 use wb_names::{Echoes, Marks, PageId};
 
-/// How many pages an answer tells.
+/// The most pages of an answer.
 const PAGES: usize = 64;
 
 impl KeptMember {
@@ -33,7 +33,7 @@ impl KeptMember {
         Ok(())
     }
 
-    /// A question for pages is answered, where that is due.
+    /// A question for pages is answered, if that is due.
     fn answers(&mut self, alloc: Global, sent: &mut Vec<Datagram>) -> Result<(), AllocError>
         ensures does { OnOk result (Does answers self.old self.new sent.old.items sent.new.items) }
         ensures left { OnErr result (LeavesSome answers self.old self.new) }
@@ -70,7 +70,7 @@ impl KeptMember {
         Ok(())
     }
 
-    /// The next marks of a page above a source that was told.
+    /// The next marks of a page: at most 64, of sources above `told`, or the first ones.
     fn slice(&mut self, alloc: Global, page: PageId, told: Option<u32>) -> Result<Marks, AllocError>
         ensures same { self.new ≡ self.old }
         ensures slice { IfOk result (λ slice. (k : Keeping) → IsKeptAt self.old k →
@@ -80,7 +80,7 @@ impl KeptMember {
         slice_of(alloc, told, &report)
     }
 
-    /// It asks for pages, where that is due.
+    /// It asks for pages, if that is due.
     fn asks_pages(&mut self, sent: &mut Vec<Datagram>) -> Result<(), AllocError>
         ensures does { OnOk result
             (Does asks_pages self.old self.new sent.old.items sent.new.items) }
@@ -94,7 +94,7 @@ impl KeptMember {
         Ok(())
     }
 
-    /// It reports, where that is due, and then a hole has its turn.
+    /// It reports, if that is due, and then a hole has its turn.
     fn reports_due(&mut self, alloc: Global, sent: &mut Vec<Datagram>) -> Result<(), AllocError>
         ensures does { OnOk result
             (Does reports_due self.old self.new sent.old.items sent.new.items) }
@@ -108,7 +108,7 @@ impl KeptMember {
         Ok(())
     }
 
-    /// It reports the rest of the page that is told, or the next page.
+    /// It reports what comes next of the page of its last report, or else the next page.
     fn reports(&mut self, alloc: Global, sent: &mut Vec<Datagram>) -> Result<(), AllocError>
         ensures does { OnOk result (Does reports self.old self.new sent.old.items sent.new.items) }
         ensures left { OnErr result (LeavesSome reports self.old self.new) }
@@ -124,7 +124,7 @@ impl KeptMember {
         Ok(())
     }
 
-    /// The next marks of the page that is told: none where its telling has ended.
+    /// The next marks of the page of the last report: none if its telling has ended.
     fn rest(&mut self, alloc: Global) -> Result<Marks, AllocError>
         ensures same { self.new ≡ self.old }
         ensures rest { IfOk result (λ rest. (k : Keeping) → IsKeptAt self.old k →

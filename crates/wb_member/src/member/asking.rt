@@ -19,7 +19,7 @@ impl Member {
         self.board.session(alloc, &mut self.keeper, page)
     }
 
-    /// Looks for what is missing of a page, and begins to miss it. Answers of how many drawops.
+    /// Looks for what is missing of a page, and begins to miss it. Answers how many drawops it is.
     pub fn look(&mut self, alloc: Global, page: PageId) -> Result<usize, AllocError>
         ensures looked { IfOk result (λ count. (host : Opened) → IsOpenAt self.old host →
             (count ≡ length (wanted_of page host)) × IsOpenAt self.new (looked page host)) }
@@ -38,7 +38,7 @@ impl Member {
         }
     }
 
-    /// Begins to miss a name: its request timer is set with the next random word. Where the name is
+    /// Begins to miss a name: its request timer is set with the next random word. If the name is
     /// held or has a timer, nothing changes and the answer is false.
     pub fn ask(&mut self, alloc: Global, name: &Name) -> Result<bool, AllocError>
         ensures asked { IfOk result (λ begun. (host : Opened) → IsOpenAt self.old host →
@@ -60,7 +60,7 @@ impl Member {
         }
     }
 
-    /// Gives up asking for a name: whether a request timer stood for it.
+    /// Gives up asking for a name. Answers whether a request timer stood for it.
     pub fn stop(&mut self, name: &Name) -> bool
         ensures { (host : Opened) → IsOpenAt self.old host →
             (result ≡ asks_for name.now host) × IsOpenAt self.new (with_stopped name.now host) }

@@ -1,5 +1,5 @@
-//! What a member shows to who judges for it: when it is to ask, and for what. None of it changes
-//! the member.
+//! What a member shows to whoever judges for it: when it is to ask, and for what. None of it
+//! changes the member.
 ghost use Rattle.std.specs.Prelude.{◌≡◌, ◌<◌, ◌≤◌, ◌^◌, length, IfOk, IfSome};
 ghost use Rattle.wb_recovery.specs.Delays.{IsDelay};
 ghost use Rattle.wb_host.specs.Counts.{MAX_CELLS};
@@ -35,7 +35,7 @@ impl Member {
         self.board.holds(name)
     }
 
-    /// The delay to a source in microseconds: the last that was set or told, and 100,000 before.
+    /// The delay to a source in microseconds: the last set or measured, or 100,000 before any.
     pub fn delay(&self, source: u32) -> u64
         ensures delay { (host : Opened) → IsOpenAt self.now host → result ≡ delay host source }
         ensures near { IsDelay result }
@@ -58,7 +58,7 @@ impl Member {
         self.keeper.asked_names(alloc)
     }
 
-    /// How often the request timer of a name was backed off since it was set, up to 16. None where
+    /// How often the request timer of a name was backed off since it was set, up to 16. None if
     /// none stands.
     pub fn level(&self, name: &Name) -> Option<u32>
         ensures { (host : Opened) → IsOpenAt self.now host → result ≡ level host name.now }

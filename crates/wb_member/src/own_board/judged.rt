@@ -1,4 +1,4 @@
-//! What a board shows to who judges for its member.
+//! What a board shows to whoever judges for its member.
 ghost use Rattle.std.specs.Prelude.{◌≡◌, IfOk};
 ghost use Rattle.wb_gaps.specs.Holes.{hole_after};
 ghost use Rattle.wb_names.specs.History.{highest};
@@ -17,7 +17,7 @@ impl OwnBoard {
         self.desk.rows_left() == 0
     }
 
-    /// The greatest number of a source on a page, or 0 where it has no drawop there.
+    /// The greatest number of a source on a page, or 0 if it has no drawop there.
     pub fn highest(&mut self, page: PageId, source: u32) -> Result<u32, AllocError>
         ensures same { self.new ≡ self.old }
         ensures number { IfOk result (λ number. number ≡ highest page source self.old.drawops) }

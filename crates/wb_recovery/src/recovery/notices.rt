@@ -26,8 +26,8 @@ use wb_names::Name;
 
 impl Recovery {
     /// Names are missed: sets the request timer of each, in order, unless one stands. All are set
-    /// or none: where memory runs out, those that were set are taken away again. `now` and the
-    /// delays are in microseconds.
+    /// or none: if memory runs out, those that were set are taken away again. `now` and the delays
+    /// are in microseconds.
     ///
     /// Refused with `BackInTime`, `Range` (a delay of any of them) or `Memory`, in this order.
     pub fn notice_all(
@@ -119,8 +119,8 @@ impl Recovery {
         }
     }
 
-    /// Takes the request timer of a name away, where one stands, and where the name had no record
-    /// the record too.
+    /// Takes the request timer of a name away, if one stands, and the record too if the name had
+    /// none before.
     fn unset_ask(&mut self, name: Name, had: bool)
         ensures back { (n : NameValue) →
             record_in self.new n ≡ unset_at n (name, had) (record_in self.old n) }

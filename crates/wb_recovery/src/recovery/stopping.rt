@@ -57,8 +57,8 @@ impl Recovery {
     }
 
     /// What `stop_and_tick` would do at this moment, in microseconds. It changes nothing: `commit`
-    /// does it. Where nothing is due and no name has come, it takes no memory. There are at least
-    /// as many words as `due_count` says at this moment.
+    /// does it. If nothing is due and no name has come, it takes no memory. There are at least as
+    /// many words as `due_count` says at this moment.
     ///
     /// Refused as `stop_and_tick`.
     pub fn plan(
@@ -111,7 +111,7 @@ impl Recovery {
     }
 
     /// The names for which a request timer stands and that pass a test, ascending. It copies these
-    /// alone, and takes no memory where none passes.
+    /// alone, and takes no memory if none passes.
     pub fn asked_where<F: Fn(&Name) -> bool>(
         &self,
         alloc: Global,

@@ -9,7 +9,7 @@ use Rattle.wb_script.specs.declared.fault.RunFault.TheVariants as run_faults
 use Rattle.wb_script.specs.Checking.{answer_of}
 use Rattle.wb_script.specs.Script.{State, Outcome, prints, answer}
 
--- why a run stops, where a thread may have been refused
+-- why a run stops, if a thread may have been refused
 abbrev pub ended_by : Bool → DriveFault LineFault → RunFault
 ended_by refused (drive_faults.Line number e) = run_faults.Line number e
 ended_by refused drive_faults.Read = run_faults.Read

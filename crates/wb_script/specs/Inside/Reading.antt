@@ -23,7 +23,7 @@ abbrev pub listed : Option DrawopValue → List DrawopValue
 listed None = []
 listed (Some d) = d ∷ []
 
--- so many can still come at most
+-- at most this many can still come
 abbrev pub most_of : ℕ → Option DrawopValue → ℕ
 most_of done first = (most_lines - done) + length (listed first)
 
@@ -46,7 +46,7 @@ pub record BatchReading : Type 0 where
   pub first : Option DrawopValue
   pub over : Bool
 
--- The script was read on, and these came. The first is not lost, and behind the last no line joins the batch.
+-- The script was read on, and these came. The first is not lost, and after the last no line joins the batch.
 pub record ReadsOn (old : BatchReading) (arrived : List DrawopValue) (new : BatchReading) : Type 0 where
   pub gathers : Gathers old.at old.first arrived new.at new.first
   pub ended : new.over ≡ true → (new.first ≡ None) × IsBehind by_batches new.at.lines.line new.at.lines.seen

@@ -47,7 +47,7 @@ abbrev pub MayTakeBatch : State → List DrawopValue → LineStep State LineFaul
 MayTakeBatch s batch step =
     InSomeOrder (with_more s batch) (λ order. step ≡ goes_on (closing_text (with_more s batch) order) (after_batch (with_more s batch) order))
 
--- Where a board is open, a batch begins with an arrival, and these lines join it.
+-- If a board is open, a batch begins with an arrival, and these lines join it.
 abbrev pub may_take_at : State → Option Opened → Part → List InputLine → LineStep State LineFault → Type 0
 may_take_at s (Some host) (Arrival d) joined step = MayTakeBatch s (d ∷ arrivals_of joined) step
 may_take_at s host part joined step = MayDo s part step

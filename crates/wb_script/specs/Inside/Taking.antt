@@ -15,7 +15,7 @@ use Rattle.wb_script.specs.Script.{MayBeTaken}
 use Rattle.wb_script.specs.Shows.{arrivals_of}
 use Rattle.wb_script.specs.Inside.Parts.{by_batches}
 
--- A member has taken a batch by so many workers: it counted what one thread makes of the batch in this order, and is what that leads to.
+-- A member has taken a batch by `workers` workers: it counted what one thread makes of the batch in this order, and is what that leads to.
 pub record TakesAll (member : MemberValue) (workers : ℕ) (batch : List DrawopValue) (counted : Counts) (after : MemberValue) : Type 0 where
   pub order : List DrawopValue
   pub may : MayBeTaken (Some workers) batch order

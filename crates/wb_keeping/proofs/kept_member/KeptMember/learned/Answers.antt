@@ -23,11 +23,11 @@ paid c k at =
     let was = c.args.was_asked in
     c.pay.ensures.policy ∙ ap (λ (v : KeptValue). paid_for was v.policy) c.near.ensures.same ∙ ap (paid_for was) at.policy
 
--- what it learns, where some name near by is lacked
+-- what it learns, if some name near by is lacked
 abbrev wants : After-lacks_some → Keeping → Doing
 wants c k = want_near (wanted.near_here c.args.name.now c.args.was_asked (sees k.host) k.policy) (sees k.host) (paid_for c.args.was_asked k.policy)
 
--- and where none is
+-- and if none is
 abbrev turns : After-lacks_some → Keeping → Bool → Doing
 turns c k was = let p = paid_for c.args.was_asked k.policy in cond was (turn (sees k.host) p) (still (sees k.host) k.policy)
 

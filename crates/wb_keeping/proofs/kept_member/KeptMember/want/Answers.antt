@@ -11,7 +11,7 @@ use Rattle.wb_member.specs.Opened.{present}
 use Rattle.wb_keeping.proofs.kept_member.KeptMember.want.Goals as goal
 use Rattle.wb_keeping.proofs.kept_member.KeptMember.want.Goals.{After-begin}
 
--- the lines by which it begins to ask, where the name is wanted
+-- the lines with which it begins to ask, if the name is wanted
 abbrev asking : After-begin → Transition
 asking c =
     let n = c.args.name.now in
