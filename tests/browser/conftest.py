@@ -2,6 +2,7 @@
 
 from __future__ import annotations
 
+import fcntl
 import os
 import shutil
 import subprocess
@@ -27,9 +28,18 @@ def found(package: str, *programs: str) -> str:
     return paths[0]
 
 
+def wait_for_the_build() -> None:
+    """Waits for the end of the build that ./test began beside the tests: it holds a lock while it is at work."""
+    building = os.environ.get("WB_PAGE_BUILDING")
+    if building:
+        with open(building) as lock:
+            fcntl.flock(lock, fcntl.LOCK_SH)
+
+
 @pytest.fixture(scope="session")
 def page(request: pytest.FixtureRequest) -> Path:
     """The folder that is tested, which is built if that is due and --build-page is among the words."""
+    wait_for_the_build()
     named = os.environ.get("WB_PAGE")
     if named:
         return Path(named)
