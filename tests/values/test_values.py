@@ -20,7 +20,7 @@ from ..host.memory import library
 
 TOP = Path(__file__).resolve().parents[2]
 CASES = TOP / "tests/value_cases"
-CRATES = "wb_script wb_commands wb_lines wb_filters wb_words wb_codec wb_gaps wb_display wb_recovery wb_history wb_host wb_feed wb_member wb_keeping wb_judge wb_names"
+CRATES = "wb_script wb_commands wb_lines wb_filters wb_words wb_codec wb_gaps wb_display wb_recovery wb_history wb_board wb_keeper wb_feed wb_member wb_keeping wb_judge wb_names"
 TESTS = "wb_value_tests"
 PATIENCE = 60  # seconds of one run
 SPARED = 20  # runs that come to nothing which is refused, until no further one is tried
@@ -67,7 +67,7 @@ scripts::refused::arrivals_by_four_workers_may_be_refused
 
 
 class Built(NamedTuple):
-    """The program of the tests, and what was said of each while it was built; nothing where it was there already."""
+    """The program of the tests, and what was printed of each while it was built; nothing if it was there already."""
 
     program: Path
     said: str

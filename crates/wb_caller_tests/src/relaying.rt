@@ -1,12 +1,12 @@
 //! Two threads relay on desks of one board, whose desks then meet.
 
 ghost use Rattle.std.specs.Prelude.{IfSome};
-ghost use Rattle.wb_host.specs.Desks.{IsPassOf, IsSamePass};
+ghost use Rattle.wb_board.specs.Desks.{IsPassOf, IsSamePass};
 
 use std::alloc::Global;
 use std::thread::{self, Threads};
+use wb_board::{Board, Desk};
 use wb_feed::relay;
-use wb_host::{Board, Desk};
 use wb_names::{Drawop, Name, PageId, Shape};
 
 const PAGE: PageId = PageId {

@@ -3,9 +3,9 @@ use Rattle.std.proofs.Common.{◌≡◌, ℕ, ◌<◌, ◌^◌, Bool, true, fals
 use Rattle.std.proofs.lemmas.Bool.Decides.{nat_tests}
 use Rattle.wb_names.specs.Faults.{first_of, fault_unless}
 use Rattle.wb_codec.specs.declared.datagram.Datagram.{Datagram}
-use Rattle.wb_host.specs.KeepFaults.{IsKeptBy}
-use Rattle.wb_host.specs.declared.keep_fault.KeepFault.{KeepFault}
-use Rattle.wb_host.specs.declared.keep_fault.KeepFault.TheVariants as keeping
+use Rattle.wb_keeper.specs.KeepFaults.{IsKeptBy}
+use Rattle.wb_keeper.specs.declared.keep_fault.KeepFault.{KeepFault}
+use Rattle.wb_keeper.specs.declared.keep_fault.KeepFault.TheVariants as keeping
 use Rattle.wb_member.specs.Holding.{IsOpenAt, MemberValue}
 use Rattle.wb_member.specs.Opened.{Opened, present, has_room_for, heard, heard_fault, answered, ticked_fault}
 use Rattle.wb_commands.specs.declared.fault.LineFault.TheVariants as faults

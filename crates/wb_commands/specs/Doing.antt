@@ -1,8 +1,8 @@
 -- What the code does for a line at an open member, by what the line is to do.
 use Rattle.std.specs.Prelude.{◌≡◌, List, ℕ, [], ◌++◌, Option, Some, None, Result, Ok, Err}
 use Rattle.wb_lines.specs.Input.{BeginsWith}
-use Rattle.wb_host.specs.declared.keep_fault.KeepFault.{KeepFault}
-use Rattle.wb_host.specs.declared.keep_fault.KeepFault.TheVariants as keeping
+use Rattle.wb_keeper.specs.declared.keep_fault.KeepFault.{KeepFault}
+use Rattle.wb_keeper.specs.declared.keep_fault.KeepFault.TheVariants as keeping
 use Rattle.wb_member.specs.Holding.{MemberValue, IsOpenAt}
 use Rattle.wb_member.specs.Opened.{Opened}
 use Rattle.wb_commands.specs.declared.fault.LineFault.TheVariants as faults

@@ -19,8 +19,8 @@ use Rattle.wb_recovery.specs.Delays.{IsDelay}
 use Rattle.wb_recovery.specs.Timing.{are_constants}
 use Rattle.wb_recovery.specs.declared.fault.TheConstants.{MAX_DELAY}
 use Rattle.wb_recovery.specs.declared.tuning.TheConstants.{MAX_CONSTANT}
-use Rattle.wb_host.specs.Counts.{IsCellCount, MAX_CELLS}
-use Rattle.wb_host.specs.declared.board.TheConstants.{MAX_WORKERS}
+use Rattle.wb_board.specs.Counts.{IsCellCount, MAX_CELLS}
+use Rattle.wb_board.specs.declared.board.TheConstants.{MAX_WORKERS}
 use Rattle.wb_commands.specs.Faults.{line_code}
 use Rattle.wb_commands.specs.declared.command.Command.{Command}
 use Rattle.wb_commands.specs.declared.command.Command.TheVariants.{Skip, Board, Arrive, Hear, Distance, Tune, Tick, Look, Session, Question}

@@ -16,7 +16,7 @@ use crate::fault::{LineFault, Untaken};
 use crate::sent_lines::{look_line, print_sends};
 use std::alloc::Global;
 use wb_codec::Datagram;
-use wb_host::KeepFault;
+use wb_keeper::KeepFault;
 use wb_lines::Output;
 use wb_member::{Member, Query};
 use wb_names::PageId;

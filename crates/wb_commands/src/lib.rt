@@ -25,4 +25,4 @@ pub use parsing::{
     datagram, four_words, no_words, number_word, one_word, page, parse_line, two_words, u32_word,
 };
 pub use sent_lines::{print_sends, send_line};
-pub use wb_host::MAX_WORKERS;
+pub use wb_board::MAX_WORKERS;

@@ -26,7 +26,7 @@ use Rattle.wb_keeping.specs.Refusing.{back_in_time, drawing_fault, is_unknown_of
 use Rattle.wb_keeping.specs.Reports.{rest_after}
 use Rattle.wb_keeping.specs.Turns.{name_in, nowhere}
 use Rattle.wb_keeping.specs.Wanting.{giving_way, is_wanted}
-use Rattle.wb_host.specs.declared.keep_fault.KeepFault.TheVariants.{BackInTime}
+use Rattle.wb_keeper.specs.declared.keep_fault.KeepFault.TheVariants.{BackInTime}
 use Rattle.wb_keeping.specs.declared.kept_fault.KeptFault.{KeptFault}
 use Rattle.wb_keeping.specs.declared.kept_fault.KeptFault.TheVariants as kept_faults
 use Rattle.wb_keeping.specs.declared.wanting.AskedName.{AskedName}

@@ -2,7 +2,7 @@
 use Rattle.std.proofs.Common.{◌≡◌, ℕ, List, [], ◌++◌, Option, Some, None, Result, Ok, Err, refl, sym, ap, subst, ◌∙◌, append-nil}
 use Rattle.std.specs.Prelude.{IsTrue, is_some}
 use Rattle.wb_codec.specs.declared.datagram.Datagram.{Datagram}
-use Rattle.wb_host.specs.declared.keep_fault.KeepFault.TheVariants as keep_faults
+use Rattle.wb_keeper.specs.declared.keep_fault.KeepFault.TheVariants as keep_faults
 use Rattle.wb_member.specs.Holding.{IsOpenAt, MemberValue}
 use Rattle.wb_member.specs.Opened.{Opened, next_due, present}
 use Rattle.wb_keeping.specs.Kept.{Transition}

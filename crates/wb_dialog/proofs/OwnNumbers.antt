@@ -4,7 +4,7 @@ use Rattle.std.specs.Prelude.{nat_lt, max, unwrap_or}
 use Rattle.wb_names.specs.History.{highest}
 use Rattle.wb_names.specs.Marks.{mark_of}
 use Rattle.wb_gaps.proofs.Reports.{greatest_held}
-use Rattle.wb_host.specs.Hearing.{marks_heard}
+use Rattle.wb_keeper.specs.Hearing.{marks_heard}
 use Rattle.wb_member.specs.Opened.{last_number}
 use Rattle.wb_dialog.specs.Laws.{NextIsNew}
 

@@ -6,7 +6,7 @@ use Rattle.wb_lines.specs.Input.{BeginsWith}
 use Rattle.wb_lines.specs.declared.fault.DriveFault.{DriveFault}
 use Rattle.wb_lines.specs.declared.fault.DriveFault.TheVariants as drive_faults
 use Rattle.wb_member.specs.Opened.{Opened}
-use Rattle.wb_host.specs.declared.keep_fault.KeepFault.TheVariants as keep_faults
+use Rattle.wb_keeper.specs.declared.keep_fault.KeepFault.TheVariants as keep_faults
 use Rattle.wb_keeping.specs.Performing.{IsKeptAt, Keeping, KeptValue}
 use Rattle.wb_keeping.specs.declared.kept_fault.KeptFault.{KeptFault}
 use Rattle.wb_keeping.specs.declared.kept_fault.KeptFault.TheVariants as kept_faults

@@ -6,7 +6,7 @@ use Rattle.wb_names.specs.declared.name.PageId.{PageId}
 use Rattle.wb_recovery.specs.declared.tuning.Tuning.{Tuning}
 use Rattle.wb_codec.specs.declared.datagram.Datagram.{Datagram}
 use Rattle.wb_codec.specs.Ranges.{IsDatagram}
-use Rattle.wb_host.specs.Hearing.{marks_heard}
+use Rattle.wb_keeper.specs.Hearing.{marks_heard}
 use Rattle.wb_lines.specs.Input.{InputLine, BeginsWith, input_lines}
 use Rattle.wb_lines.specs.Taking.{met}
 use Rattle.wb_member.specs.Opened.{Opened, next_number}

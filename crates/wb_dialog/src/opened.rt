@@ -1,6 +1,6 @@
 //! A host once its board is open: what a line does there.
 ghost use Rattle.std.specs.Prelude.{◌≡◌, ◌≤◌, ◌<◌, [], None, Some, Option, true, IfOk};
-ghost use Rattle.wb_host.specs.Counts.{IsCellCount};
+ghost use Rattle.wb_board.specs.Counts.{IsCellCount};
 ghost use Rattle.wb_recovery.specs.Timing.{are_constants};
 ghost use Rattle.wb_member.specs.Opened.{opened_with};
 ghost use Rattle.wb_dialog.specs.Dialog.{answer_at};

@@ -10,9 +10,9 @@ use mathlib.Core.List.{IsPrefix}
 use Rattle.wb_names.specs.Values.{DrawopValue}
 use Rattle.wb_names.specs.History.{HoldsName}
 use Rattle.wb_names.specs.Arrivals.{Fresh, Known, Clashed, Left, Counts, counts, counts_of}
-use Rattle.wb_host.specs.Desks.{PassValue, IsSound}
+use Rattle.wb_board.specs.Desks.{PassValue, IsSound}
 use Rattle.wb_feed.specs.declared.channel.ChannelView.{ChannelView}
-use Rattle.wb_host.specs.declared.reply.Reply.{Reply}
+use Rattle.wb_board.specs.declared.reply.Reply.{Reply}
 use Rattle.wb_feed.specs.declared.channel.Message.{Message}
 use Rattle.wb_feed.specs.declared.batch.Batch.{Batch}
 use Rattle.wb_feed.specs.Accepts.{Entry, Runs, drawops, tally}
@@ -21,7 +21,7 @@ use Rattle.wb_feed.specs.Workers.{nobody, worker, Work, Worked}
 use Rattle.wb_feed.specs.Channel.{once_below, IsComplete, AreRight, spots}
 use Rattle.wb_feed.specs.Marks.{unmarked, Marks, told_at, told_outcomes, AreOnce, filled, filed_outcomes, Files, Settles}
 use Rattle.wb_feed.specs.Served.{Spot, is_left, entries, accepted_at, offered, told_of, OffersRight, times_offered, Serves}
-use Rattle.wb_host.proofs.InOrder.{one_run}
+use Rattle.wb_board.proofs.InOrder.{one_run}
 use Rattle.wb_feed.proofs.Log.{is_taken, chosen, taken_or_left, tally-append, left_many, AreAnswered, Gathers, gathers_none, gathers_run, runs_empty, runs_sound}
 use Rattle.wb_feed.proofs.Members.{nothing, at_named}
 use Rattle.wb_feed.proofs.Numbers.{times}

@@ -5,9 +5,9 @@ use Rattle.std.proofs.lemmas.List.{append-nil, length-replicate, take_more, leng
 use Rattle.std.specs.Prelude.{replicate, is_some}
 use Rattle.wb_names.specs.Values.{DrawopValue}
 use Rattle.wb_names.specs.Arrivals.{Outcome, Counts, counts, counts_of}
-use Rattle.wb_host.specs.Desks.{PassValue}
-use Rattle.wb_host.specs.Replies.{outcome}
-use Rattle.wb_host.specs.declared.reply.Reply.{Reply}
+use Rattle.wb_board.specs.Desks.{PassValue}
+use Rattle.wb_board.specs.Replies.{outcome}
+use Rattle.wb_board.specs.declared.reply.Reply.{Reply}
 use Rattle.wb_feed.specs.Accepts.{LosesAtMost, Accepts, Entry}
 use Rattle.wb_feed.specs.declared.batch.Batch.{Batch}
 use Rattle.std.proofs.lemmas.Bool.{cases_eq}

@@ -3,7 +3,7 @@ use Rattle.std.proofs.Common.{◌≡◌, List, [], ◌∷◌, ◌++◌, length, 
 use Rattle.wb_names.specs.Values.{DrawopValue}
 use Rattle.wb_names.specs.History.{IsHistory}
 use Rattle.wb_names.specs.Arrivals.{Outcome, Fresh, Known, Clashed, Left, IsTaken, history_with, AreTaken}
-use Rattle.wb_host.specs.Desks.{PassValue, IsSound, IsWhole}
+use Rattle.wb_board.specs.Desks.{PassValue, IsSound, IsWhole}
 use Rattle.wb_feed.specs.Accepts.{Entry, Accepts, drawops, outcomes, Runs}
 use Rattle.wb_feed.proofs.Members.{history_mid}
 use Rattle.wb_feed.proofs.Log.{accept_leaves, leaves_whole}

@@ -11,13 +11,13 @@ use mathlib.Core.List.{IsPrefix}
 use Rattle.wb_names.specs.Values.{DrawopValue}
 use Rattle.wb_names.specs.History.{IsNewAt, IsAgainAt, IsClashAt}
 use Rattle.wb_names.specs.Arrivals.{Outcome, Fresh, Known, Clashed, Left, counts, AreTaken, IsBatch}
-use Rattle.wb_host.specs.Desks.{PassValue, IsSound, IsWhole}
-use Rattle.wb_host.specs.declared.reply.Reply.{Reply}
-use Rattle.wb_host.specs.declared.reply.Reply.TheVariants.{New, Again, Clash}
-use Rattle.wb_host.specs.Replies.{IsReply}
-use Rattle.wb_host.specs.Board.{Call, Accept, Answer, Replied, Step, IsAnswer, after_call, IsLegalFrom}
-use Rattle.wb_host.specs.Replies.{outcome}
-use Rattle.wb_host.specs.Runs.{Answered, AreAnsweredSince, Precedes, IsAnsweredSince, is_new_at, rank, placed, in_order, end_of, IsOneRun, OneRun, run_of}
+use Rattle.wb_board.specs.Desks.{PassValue, IsSound, IsWhole}
+use Rattle.wb_board.specs.declared.reply.Reply.{Reply}
+use Rattle.wb_board.specs.declared.reply.Reply.TheVariants.{New, Again, Clash}
+use Rattle.wb_board.specs.Replies.{IsReply}
+use Rattle.wb_board.specs.Board.{Call, Accept, Answer, Replied, Step, IsAnswer, after_call, IsLegalFrom}
+use Rattle.wb_board.specs.Replies.{outcome}
+use Rattle.wb_board.specs.Runs.{Answered, AreAnsweredSince, Precedes, IsAnsweredSince, is_new_at, rank, placed, in_order, end_of, IsOneRun, OneRun, run_of}
 use Rattle.wb_feed.specs.declared.batch.Batch.{Batch}
 use Rattle.wb_feed.specs.declared.channel.Message.{Message}
 use Rattle.wb_feed.specs.Accepts.{Entry, Accepts, Runs, drawops, outcomes, tally}

@@ -4,7 +4,7 @@ use Rattle.std.proofs.lemmas.Bool.{cases_lt}
 use mathlib.Core.List.{IsPrefix}
 use Rattle.wb_names.specs.Values.{DrawopValue}
 use Rattle.wb_names.specs.Arrivals.{Outcome, Fresh, Known, Clashed, Left, counts, AreTaken, IsBatch}
-use Rattle.wb_host.specs.Desks.{PassValue, IsSound, IsWhole}
+use Rattle.wb_board.specs.Desks.{PassValue, IsSound, IsWhole}
 use Rattle.wb_feed.specs.Accepts.{Entry, drawops, outcomes, tally, Runs}
 use Rattle.wb_feed.proofs.Prefixes.{prefix_whole, prefix_trans, prefix_length}
 use Rattle.wb_feed.proofs.Numbers.{test_apart, test_same, has_false, once_under, once_past}

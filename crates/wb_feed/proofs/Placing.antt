@@ -9,7 +9,7 @@ use Rattle.std.proofs.lemmas.List.Sorted.{IsPermutation-map}
 use mathlib.Core.List.{IsPrefix}
 use Rattle.wb_names.specs.Values.{DrawopValue}
 use Rattle.wb_names.specs.Arrivals.{Fresh, Known, Clashed, Left}
-use Rattle.wb_host.specs.Desks.{PassValue}
+use Rattle.wb_board.specs.Desks.{PassValue}
 use Rattle.wb_feed.specs.Accepts.{drawops}
 use Rattle.wb_feed.proofs.Prefixes.{prefix_get}
 use Rattle.wb_feed.proofs.Numbers.{times, times-append, times_apart, test_same, bool_cases, once_under, once_past, IsPermutation-times, times-range}

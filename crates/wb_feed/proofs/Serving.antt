@@ -4,10 +4,10 @@ use Rattle.std.proofs.lemmas.Grind.{flat_map-append}
 use Rattle.std.proofs.lemmas.List.{append-nil, map-append}
 use Rattle.wb_names.specs.Values.{DrawopValue}
 use Rattle.wb_names.specs.Arrivals.{Outcome}
-use Rattle.wb_host.specs.Desks.{PassValue}
-use Rattle.wb_host.specs.Replies.{outcome}
-use Rattle.wb_host.specs.declared.reply.Reply.{Reply}
-use Rattle.wb_host.specs.declared.reply.Reply.TheVariants.{New, Again, Clash}
+use Rattle.wb_board.specs.Desks.{PassValue}
+use Rattle.wb_board.specs.Replies.{outcome}
+use Rattle.wb_board.specs.declared.reply.Reply.{Reply}
+use Rattle.wb_board.specs.declared.reply.Reply.TheVariants.{New, Again, Clash}
 use Rattle.wb_feed.specs.Accepts.{LosesAtMost, Accepts}
 use Rattle.wb_feed.proofs.Log.{loses_is, loses_trans, runs_more}
 use Rattle.wb_feed.specs.declared.channel.Message.{Message}

@@ -5,8 +5,8 @@ use Rattle.std.specs.Prelude.{IfOk, OnOk}
 use Rattle.std.proofs.lemmas.List.{append-nil}
 use Rattle.crossbeam_channel.specs.Claims.{view}
 use Rattle.wb_names.specs.Values.{DrawopValue}
-use Rattle.wb_host.specs.Desks.{PassValue, IsSplit}
-use Rattle.wb_host.specs.declared.reply.Reply.{Reply}
+use Rattle.wb_board.specs.Desks.{PassValue, IsSplit}
+use Rattle.wb_board.specs.declared.reply.Reply.{Reply}
 use Rattle.wb_feed.specs.Accepts.{LosesAtMost}
 use Rattle.wb_feed.specs.declared.channel.ChannelView.{ChannelView}
 use Rattle.wb_feed.specs.declared.sender.Feeding.{Feeding}

@@ -4,10 +4,10 @@ use Rattle.std.specs.Prelude.{MatchResult}
 use Rattle.std.proofs.lemmas.List.{append-nil}
 use mathlib.Core.List.{IsPrefix}
 use Rattle.wb_names.specs.Values.{DrawopValue}
-use Rattle.wb_host.specs.Desks.{PassValue, longer, IsJoined}
-use Rattle.wb_host.specs.Replies.{Accepted}
-use Rattle.wb_host.specs.declared.reply.Reply.{Reply}
-use Rattle.wb_host.specs.declared.reply.Reply.TheVariants.{New, Again, Clash}
+use Rattle.wb_board.specs.Desks.{PassValue, longer, IsJoined}
+use Rattle.wb_board.specs.Replies.{Accepted}
+use Rattle.wb_board.specs.declared.reply.Reply.{Reply}
+use Rattle.wb_board.specs.declared.reply.Reply.TheVariants.{New, Again, Clash}
 use Rattle.wb_feed.specs.declared.relays.RelayFault.{RelayFault}
 use Rattle.wb_feed.specs.declared.relays.RelayFault.TheVariants.{NoRow, Memory}
 use Rattle.wb_feed.specs.Relays.{StandsAt, Relayed, NotRelayed, TellsOf, NotTold, Hears}

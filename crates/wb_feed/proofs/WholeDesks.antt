@@ -3,7 +3,7 @@ use Rattle.std.proofs.Common.{◌≡◌, ℕ, ◌+◌, ◌≤◌, List, [], ◌�
 use Rattle.wb_names.specs.Values.{DrawopValue}
 use Rattle.wb_names.specs.History.{HoldsName}
 use Rattle.wb_names.specs.Arrivals.{Fresh, Known, Clashed, Left}
-use Rattle.wb_host.specs.Desks.{PassValue, IsSound, IsWhole}
+use Rattle.wb_board.specs.Desks.{PassValue, IsSound, IsWhole}
 use Rattle.wb_feed.specs.Accepts.{Entry, drawops, Runs}
 use Rattle.wb_feed.specs.Channel.{once_below}
 use Rattle.wb_feed.specs.Served.{is_left}

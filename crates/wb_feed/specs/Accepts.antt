@@ -3,7 +3,7 @@ use Rattle.std.specs.Prelude.{◌≡◌, ℕ, ◌+◌, ◌≤◌, List, [], ◌�
 use mathlib.Core.List.{IsPrefix}
 use Rattle.wb_names.specs.Values.{DrawopValue}
 use Rattle.wb_names.specs.Arrivals.{Outcome, Counts, counts_of}
-use Rattle.wb_host.specs.Desks.{PassValue, IsSamePass, IsSound, Becomes}
+use Rattle.wb_board.specs.Desks.{PassValue, IsSamePass, IsSound, Becomes}
 
 -- whatever is answered, the desk is of the same board, and its list begins with what it was
 pub record Keeps (p q : PassValue) : Type 0 where

@@ -3,11 +3,11 @@ use Rattle.std.specs.Prelude.{ℕ, List, [], ◌∷◌, ◌++◌, length}
 use mathlib.Core.Logic.{inl, inr}
 use Rattle.wb_names.specs.Values.{DrawopValue}
 use Rattle.wb_names.specs.Arrivals.{Fresh, Known, Clashed, Left}
-use Rattle.wb_host.specs.Desks.{PassValue, IsSound, IsWhole}
-use Rattle.wb_host.specs.declared.reply.Reply.{Reply}
-use Rattle.wb_host.specs.declared.reply.Reply.TheVariants.{New, Again, Clash}
-use Rattle.wb_host.specs.Board.{Accept, Replied}
-use Rattle.wb_host.specs.Runs.{Answered, AreAnsweredSince, IsOneRun, run_of}
+use Rattle.wb_board.specs.Desks.{PassValue, IsSound, IsWhole}
+use Rattle.wb_board.specs.declared.reply.Reply.{Reply}
+use Rattle.wb_board.specs.declared.reply.Reply.TheVariants.{New, Again, Clash}
+use Rattle.wb_board.specs.Board.{Accept, Replied}
+use Rattle.wb_board.specs.Runs.{Answered, AreAnsweredSince, IsOneRun, run_of}
 use Rattle.wb_feed.specs.declared.channel.Message.{Message}
 use Rattle.wb_feed.specs.Accepts.{Entry, Runs}
 use Rattle.wb_feed.specs.Served.{Spot, entries}

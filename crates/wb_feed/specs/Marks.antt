@@ -2,9 +2,9 @@
 use Rattle.std.specs.Prelude.{◌≡◌, ℕ, ◌+◌, ◌<◌, ◌≤◌, ◌==◌, ◌||◌, Bool, false, cond, List, [], ◌∷◌, length, set, slice_index_or, Option, Some, None, map, is_some}
 use Rattle.wb_names.specs.Values.{DrawopValue}
 use Rattle.wb_names.specs.Arrivals.{Counts, counts_of, Outcome}
-use Rattle.wb_host.specs.Desks.{PassValue}
-use Rattle.wb_host.specs.Replies.{outcome}
-use Rattle.wb_host.specs.declared.reply.Reply.{Reply}
+use Rattle.wb_board.specs.Desks.{PassValue}
+use Rattle.wb_board.specs.Replies.{outcome}
+use Rattle.wb_board.specs.declared.reply.Reply.{Reply}
 use Rattle.wb_feed.specs.Accepts.{Entry, Runs, drawops, tally}
 use Rattle.wb_feed.specs.Channel.{once_below}
 use Rattle.wb_feed.specs.declared.batch.Batch.{Batch}

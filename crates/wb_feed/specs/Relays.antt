@@ -3,10 +3,10 @@ use Rattle.std.specs.Prelude.{◌≡◌, ◌⊎◌, [], List, Result, Ok, Err}
 use mathlib.Core.List.{IsPrefix}
 use Rattle.wb_names.specs.Values.{DrawopValue}
 use Rattle.wb_names.specs.History.{IsAgainAt, IsClashAt}
-use Rattle.wb_host.specs.Desks.{longer, PassValue, IsSamePass, KeepsRows, AddsNothing, HasNoRow, IsJoined}
-use Rattle.wb_host.specs.Replies.{Accepted}
-use Rattle.wb_host.specs.declared.reply.Reply.{Reply}
-use Rattle.wb_host.specs.declared.reply.Reply.TheVariants.{New, Again, Clash}
+use Rattle.wb_board.specs.Desks.{longer, PassValue, IsSamePass, KeepsRows, AddsNothing, HasNoRow, IsJoined}
+use Rattle.wb_board.specs.Replies.{Accepted}
+use Rattle.wb_board.specs.declared.reply.Reply.{Reply}
+use Rattle.wb_board.specs.declared.reply.Reply.TheVariants.{New, Again, Clash}
 use Rattle.wb_feed.specs.declared.relays.RelayFault.{RelayFault}
 use Rattle.wb_feed.specs.declared.relays.RelayFault.TheVariants.{NoRow, Memory}
 

@@ -3,9 +3,9 @@ use Rattle.std.specs.Prelude.{◌≡◌, ℕ, ◌+◌, ◌≤◌, ◌==◌, Bool
 use Rattle.std.specs.List.{flat_map}
 use Rattle.wb_names.specs.Values.{DrawopValue}
 use Rattle.wb_names.specs.Arrivals.{Outcome, Fresh, Known, Clashed, Left}
-use Rattle.wb_host.specs.Desks.{PassValue}
-use Rattle.wb_host.specs.declared.reply.Reply.{Reply}
-use Rattle.wb_host.specs.declared.reply.Reply.TheVariants.{New, Again, Clash}
+use Rattle.wb_board.specs.Desks.{PassValue}
+use Rattle.wb_board.specs.declared.reply.Reply.{Reply}
+use Rattle.wb_board.specs.declared.reply.Reply.TheVariants.{New, Again, Clash}
 use Rattle.wb_feed.specs.Accepts.{Accepts, Entry, LosesAtMost, Runs}
 use Rattle.wb_feed.specs.declared.channel.Message.{Message}
 use Rattle.wb_feed.specs.declared.channel.Message.TheVariants.{Take, End}

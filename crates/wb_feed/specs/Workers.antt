@@ -1,8 +1,8 @@
 -- Workers that each serve the channel.
 use Rattle.std.specs.Prelude.{◌≡◌, ◌⊎◌, ℕ, zero, suc, ◌*◌, ◌/◌, ◌<◌, false, if◌then◌else◌, nat_eq, List, [], ◌++◌, Result, Ok, Err, IfOk}
 use Rattle.crossbeam_channel.specs.Claims.{view}
-use Rattle.wb_host.specs.Desks.{PassValue, IsSamePass, IsSound, IsSplit, IsJoined}
-use Rattle.wb_host.specs.declared.reply.Reply.{Reply}
+use Rattle.wb_board.specs.Desks.{PassValue, IsSamePass, IsSound, IsSplit, IsJoined}
+use Rattle.wb_board.specs.declared.reply.Reply.{Reply}
 use Rattle.wb_feed.specs.declared.channel.Message.{Message}
 use Rattle.wb_feed.specs.declared.channel.ChannelView.{ChannelView}
 use Rattle.wb_feed.specs.declared.sender.Feeding.{Feeding}

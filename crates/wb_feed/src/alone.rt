@@ -2,7 +2,7 @@
 ghost use Rattle.std.specs.Prelude.{◌≡◌, ◌<◌, ◌^◌};
 ghost use Rattle.crossbeam_channel.specs.Claims.{view, IsSeatAt};
 ghost use Rattle.crossbeam_channel.specs.Ends.{sends_on, receives_on};
-ghost use Rattle.wb_host.specs.Desks.{IsPassOf};
+ghost use Rattle.wb_board.specs.Desks.{IsPassOf};
 ghost use Rattle.wb_feed.specs.Accepts.{LosesAtMost};
 ghost use Rattle.wb_feed.specs.Served.{Serves};
 ghost use Rattle.wb_feed.specs.Feeding.{IsReady, IsMerged, HasFed};
@@ -18,7 +18,7 @@ use std::mem::replace;
 use std::snapshot::Snapshot;
 use std::sync::Wait;
 use std::thread::{Scope, Threads};
-use wb_host::{Board, Desk};
+use wb_board::{Board, Desk};
 
 /// The desk that a worker's thread gives back, and the replies to the worker.
 fn give_back(

@@ -4,8 +4,8 @@ ghost use Rattle.crossbeam_channel.specs.Claims.{view};
 ghost use Rattle.crossbeam_channel.specs.Ends.{sends_on, receives_on};
 ghost use Rattle.wb_names.specs.Values.{DrawopValue};
 ghost use Rattle.wb_names.specs.Arrivals.{Outcome};
-ghost use Rattle.wb_host.specs.Counts.{IsWorkerCount};
-ghost use Rattle.wb_host.specs.Desks.{IsPassOf, IsSound};
+ghost use Rattle.wb_board.specs.Counts.{IsWorkerCount};
+ghost use Rattle.wb_board.specs.Desks.{IsPassOf, IsSound};
 ghost use Rattle.wb_feed.specs.Accepts.{Keeps, LosesAtMost, Accepts};
 ghost use Rattle.wb_feed.specs.Channel.{channel_view};
 ghost use Rattle.wb_feed.specs.Marks.{CountsOne, Files, IsPut, Settles};
@@ -24,7 +24,7 @@ use crossbeam_channel::bounded_with;
 use std::alloc::{AllocError, Global};
 use std::sync::Wait;
 use std::thread::Threads;
-use wb_host::{Board, BoardFault, Desk, MAX_WORKERS, Reply};
+use wb_board::{Board, BoardFault, Desk, MAX_WORKERS, Reply};
 use wb_names::Drawop;
 
 /// How many arrivals were new, were held already, had the name of another drawop, and were left for
@@ -38,7 +38,7 @@ pub struct Batch {
 }
 
 impl Batch {
-    ghost use Rattle.wb_host.specs.Replies.{outcome};
+    ghost use Rattle.wb_board.specs.Replies.{outcome};
 
     /// Counts a reply.
     fn count(&mut self, reply: Reply)

@@ -3,7 +3,7 @@
 
 ghost use Rattle.wb_feed.specs.Calls.{BatchIsOneRun};
 
-use wb_host::laws::one_run;
+use wb_board::laws::one_run;
 
 /// The replies of a batch are one run of a whiteboard of one thread, by the law of the board that
 /// serves all its callers. Its workers are callers, and so is the desk, which takes what they left:

@@ -2,7 +2,7 @@
 
 use crate::channel::ChannelReceiver;
 use std::alloc::{AllocError, Global};
-use wb_host::Board;
+use wb_board::Board;
 
 /// What all threads of a batch share: the handle, the allocator, the board, the end of the channel
 /// that they receive by, what is called round each accept, and how many workers there are.

@@ -2,14 +2,14 @@
 ghost use Rattle.std.specs.Prelude.{◌≡◌, MatchResult, IfOk};
 ghost use Rattle.std.specs.Thread.{IsSync};
 ghost use Rattle.wb_names.specs.Values.{DrawopValue};
-ghost use Rattle.wb_host.specs.Desks.{IsPassOf, IsSound};
+ghost use Rattle.wb_board.specs.Desks.{IsPassOf, IsSound};
 ghost use Rattle.wb_feed.specs.Accepts.{Keeps};
 ghost use Rattle.wb_feed.specs.Relays.{Relayed, NotRelayed, TellsOf, NotTold, Hears};
 
 use std::alloc::Global;
 use std::thread::{Threads, join_mut};
 use thiserror::Error;
-use wb_host::{Board, BoardFault, Desk, Reply};
+use wb_board::{Board, BoardFault, Desk, Reply};
 use wb_names::Drawop;
 
 /// Why a drawop was not relayed, in the order of the checks.

@@ -2,7 +2,7 @@
 ghost use Rattle.std.specs.Prelude.{◌≡◌, ◌<◌, ◌⊎◌, ◌++◌, false, [], OnOk, IfSome, IfNone};
 ghost use Rattle.crossbeam_channel.specs.Claims.{view, IsSeatAt};
 ghost use Rattle.crossbeam_channel.specs.Ends.{receives_on};
-ghost use Rattle.wb_host.specs.Desks.{IsPassOf};
+ghost use Rattle.wb_board.specs.Desks.{IsPassOf};
 ghost use Rattle.wb_feed.specs.declared.channel.Message.TheVariants.{Take, End};
 ghost use Rattle.wb_feed.specs.Accepts.{LosesAtMost};
 ghost use Rattle.wb_feed.specs.Channel.{channel_view, receives, Follows};
@@ -13,7 +13,7 @@ use crate::gate::Gate;
 use crate::place::Place;
 use std::alloc::{AllocError, Global};
 use std::sync::Wait;
-use wb_host::{Board, BoardFault, Desk, Reply};
+use wb_board::{Board, BoardFault, Desk, Reply};
 use wb_names::Drawop;
 
 /// The replies to what a worker accepted, each with the position of the arrival.

@@ -3,9 +3,9 @@ ghost use Rattle.std.specs.Prelude.{◌≡◌, ◌*◌, ◌/◌, ◌<◌, ◌≤
 ghost use Rattle.std.specs.Thread.{IsSync};
 ghost use Rattle.crossbeam_channel.specs.Claims.{view, IsSeatAt};
 ghost use Rattle.crossbeam_channel.specs.Ends.{sends_on, receives_on};
-ghost use Rattle.wb_host.specs.Counts.{IsWorkerCount};
-ghost use Rattle.wb_host.specs.declared.board.TheConstants.{MAX_WORKERS};
-ghost use Rattle.wb_host.specs.Desks.{IsPassOf};
+ghost use Rattle.wb_board.specs.Counts.{IsWorkerCount};
+ghost use Rattle.wb_board.specs.declared.board.TheConstants.{MAX_WORKERS};
+ghost use Rattle.wb_board.specs.Desks.{IsPassOf};
 ghost use Rattle.wb_feed.specs.Accepts.{LosesAtMost};
 ghost use Rattle.wb_feed.specs.Feeding.{IsReady, IsMerged, HasFed};
 ghost use Rattle.wb_feed.specs.Sent.{Stays};
@@ -22,7 +22,7 @@ use std::snapshot::Snapshot;
 use std::sync::Wait;
 use std::thread;
 use std::thread::{Promise, Scope, Threads};
-use wb_host::{Board, Desk, SplitFault};
+use wb_board::{Board, Desk, SplitFault};
 
 /// Why the workers did not take a batch.
 #[derive(Clone, Copy, Debug)]

@@ -12,7 +12,7 @@ use Rattle.wb_codec.specs.declared.datagram.Datagram.TheVariants.{Draw, Session,
 use Rattle.wb_gaps.specs.Answers.{pages_of}
 use Rattle.wb_recovery.specs.Timing.{are_constants, is_constant}
 use Rattle.wb_recovery.specs.declared.tuning.Tuning.{Tuning}
-use Rattle.wb_host.specs.Keeper.{delay_given, distance_by, newest}
+use Rattle.wb_keeper.specs.Keeper.{delay_given, distance_by, newest}
 use Rattle.wb_member.specs.Judged.{delay}
 use Rattle.wb_member.specs.Opened.{Opened, has_room_for, heard, may_ask, opened_with, present}
 use Rattle.wb_keeping.specs.Bounds.{new_keeping}

@@ -16,7 +16,7 @@ use Rattle.wb_member.specs.Opened.{Opened, events}
 use Rattle.wb_keeping.specs.Policy.{level}
 use Rattle.wb_recovery.specs.declared.timers.AskTimer.{AskTimer}
 use Rattle.wb_recovery.specs.declared.timers.Timers.{Timers}
-use Rattle.wb_host.specs.GivingUp.{level as level_in}
+use Rattle.wb_keeper.specs.GivingUp.{level as level_in}
 use Rattle.wb_keeping.specs.Kept.{Line, Stops}
 use Rattle.wb_keeping.specs.Performing.{asked_name, asked_with, view_of}
 use Rattle.wb_keeping.specs.declared.wanting.AskedName.{AskedName}

@@ -11,7 +11,7 @@ use Rattle.wb_codec.specs.declared.datagram.Datagram.TheVariants.{Draw, Session,
 use Rattle.wb_gaps.specs.Answers.{pages_of, report_of}
 use Rattle.wb_gaps.specs.Holes.{hole_after}
 use Rattle.wb_gaps.specs.declared.holes.Hole.{Hole}
-use Rattle.wb_host.specs.declared.keep_fault.KeepFault.TheVariants.{BackInTime, Range}
+use Rattle.wb_keeper.specs.declared.keep_fault.KeepFault.TheVariants.{BackInTime, Range}
 use Rattle.wb_member.specs.Opened.{Opened, present}
 use Rattle.wb_keeping.specs.Distances.{bounded, unknown}
 use Rattle.wb_recovery.specs.Timing.{are_constants}

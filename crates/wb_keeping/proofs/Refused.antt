@@ -4,7 +4,7 @@ use Rattle.std.specs.Prelude.{Option, None, Some, Result, Ok, Err, not}
 use Rattle.wb_names.specs.Faults.{fault_unless, first_of, value_unless}
 use Rattle.wb_codec.specs.declared.datagram.Datagram.{Datagram}
 use Rattle.wb_codec.specs.declared.datagram.Datagram.TheVariants.{Draw, Session, Request, AskPages, PageState}
-use Rattle.wb_host.specs.declared.keep_fault.KeepFault.TheVariants.{BackInTime, Memory}
+use Rattle.wb_keeper.specs.declared.keep_fault.KeepFault.TheVariants.{BackInTime, Memory}
 use Rattle.wb_member.specs.Opened.{Opened, ticked}
 use Rattle.wb_keeping.specs.Refusing.{IsRefusedBy, came_as}
 use Rattle.wb_keeping.specs.declared.kept_fault.KeptFault.{KeptFault}

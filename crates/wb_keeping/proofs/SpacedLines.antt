@@ -22,9 +22,9 @@ use Rattle.wb_recovery.specs.declared.timers.Timers.{Timers}
 use Rattle.wb_recovery.specs.declared.tuning.Tuning.{Tuning}
 use Rattle.wb_recovery.proofs.NameLists.{listed_of}
 use Rattle.wb_recovery.proofs.NameOrder.{name_decides}
-use Rattle.wb_host.specs.Hearing.{asks_for_held}
-use Rattle.wb_host.specs.Keeper.{asked_by, delay_to, given_up, holds, received_of}
-use Rattle.wb_host.specs.Ticks.{sent_for, stopped_after}
+use Rattle.wb_keeper.specs.Hearing.{asks_for_held}
+use Rattle.wb_keeper.specs.Keeper.{asked_by, delay_to, given_up, holds, received_of}
+use Rattle.wb_keeper.specs.Ticks.{sent_for, stopped_after}
 use Rattle.wb_member.specs.Judged.{delay}
 use Rattle.wb_member.specs.Members.{Misses}
 use Rattle.wb_member.specs.Opened.{Opened, accepted, asks_for, becomes, doing, due_count, events, has_room_for, heard, may_ask, present, word_at}

@@ -30,10 +30,10 @@ use Rattle.wb_recovery.proofs.NameLists.{listed_of}
 use Rattle.wb_recovery.proofs.NameOrder.{name_decides}
 use Rattle.wb_recovery.proofs.TimerLaws.{request_stands}
 use Rattle.wb_gaps.specs.declared.page_reports.PageReport.{PageReport}
-use Rattle.wb_host.specs.GivingUp.{is_asked, level as level_in}
-use Rattle.wb_host.specs.Hearing.{answers_to, asks_for_held, asks_for_pages, page_states}
-use Rattle.wb_host.specs.Keeper.{asked_by, delay_to, given_up, holds, received_of}
-use Rattle.wb_host.specs.Ticks.{drawop_of, sent_for, stopped_after}
+use Rattle.wb_keeper.specs.GivingUp.{is_asked, level as level_in}
+use Rattle.wb_keeper.specs.Hearing.{answers_to, asks_for_held, asks_for_pages, page_states}
+use Rattle.wb_keeper.specs.Keeper.{asked_by, delay_to, given_up, holds, received_of}
+use Rattle.wb_keeper.specs.Ticks.{drawop_of, sent_for, stopped_after}
 use Rattle.wb_member.specs.Judged.{asked_names}
 use Rattle.wb_member.specs.Members.{Misses}
 use Rattle.wb_member.specs.Opened.{Opened, becomes, doing, events, has_room_for, heard, may_ask, present, word_at}

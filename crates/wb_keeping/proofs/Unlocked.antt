@@ -16,9 +16,9 @@ use Rattle.wb_codec.specs.declared.datagram.Datagram.{Datagram}
 use Rattle.wb_codec.specs.declared.datagram.Datagram.TheVariants.{Draw, Session, Request, AskPages, PageState}
 use Rattle.wb_gaps.specs.Joining.{greater, joined, joined_at}
 use Rattle.wb_recovery.specs.declared.tuning.Tuning.{Tuning}
-use Rattle.wb_host.specs.Hearing.{asks_for_held, marks_heard, marks_in, marks_reported}
-use Rattle.wb_host.specs.Keeper.{KeeperCall, Hear, holds, is_own}
-use Rattle.wb_host.specs.declared.keep_fault.KeepFault.TheVariants.{BackInTime}
+use Rattle.wb_keeper.specs.Hearing.{asks_for_held, marks_heard, marks_in, marks_reported}
+use Rattle.wb_keeper.specs.Keeper.{KeeperCall, Hear, holds, is_own}
+use Rattle.wb_keeper.specs.declared.keep_fault.KeepFault.TheVariants.{BackInTime}
 use Rattle.wb_member.specs.Members.{Misses}
 use Rattle.wb_member.specs.Opened.{Opened, accepted, doing, has_room_for, heard, last_number, may_ask, opened_with, present, ticked, word_at}
 use Rattle.wb_member.specs.Random.{word_of}

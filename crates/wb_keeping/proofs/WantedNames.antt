@@ -14,10 +14,10 @@ use Rattle.wb_recovery.specs.Timing.{is_answer_due}
 use Rattle.wb_recovery.specs.declared.missed.Received.{Received}
 use Rattle.wb_recovery.specs.declared.tuning.Tuning.{Tuning}
 use Rattle.wb_recovery.proofs.TimerLaws.{answer_stands}
-use Rattle.wb_host.specs.GivingUp.{is_asked as is_asked_in}
-use Rattle.wb_host.specs.Hearing.{asks_for_held}
-use Rattle.wb_host.specs.Keeper.{asked_by, delay_to, given_up, holds, received_of}
-use Rattle.wb_host.specs.Ticks.{stopped_after}
+use Rattle.wb_keeper.specs.GivingUp.{is_asked as is_asked_in}
+use Rattle.wb_keeper.specs.Hearing.{asks_for_held}
+use Rattle.wb_keeper.specs.Keeper.{asked_by, delay_to, given_up, holds, received_of}
+use Rattle.wb_keeper.specs.Ticks.{stopped_after}
 use Rattle.wb_member.specs.Members.{Misses}
 use Rattle.wb_member.specs.Opened.{Opened, doing as doing_act, events, has_room_for, heard, may_ask, opened_with, present, word_at}
 use Rattle.wb_member.specs.Random.{word_of}

@@ -10,12 +10,12 @@ use Rattle.wb_names.specs.declared.parts.Op.{Op}
 use Rattle.wb_codec.specs.declared.datagram.Datagram.{Datagram}
 use Rattle.wb_recovery.specs.Timing.{are_constants}
 use Rattle.wb_recovery.specs.declared.tuning.Tuning.{Tuning}
-use Rattle.wb_host.specs.Counts.{MAX_CELLS}
+use Rattle.wb_board.specs.Counts.{MAX_CELLS}
 use Rattle.wb_member.specs.Opened.{last_number, opened_with, present}
 use Rattle.wb_keeping.specs.Kept.{Line, Ticks, Tunes, Transition, adds, came, drawing, last_heard, performs, still, ticks, want}
 use Rattle.wb_keeping.specs.Performing.{Keeping, after_doing, after_lines, sees, sent_by_doing, sent_by_lines, view_of}
 use Rattle.wb_keeping.specs.Refusing.{add_fault, came_fault, tick_fault}
-use Rattle.wb_host.specs.declared.keep_fault.KeepFault.TheVariants.{Range}
+use Rattle.wb_keeper.specs.declared.keep_fault.KeepFault.TheVariants.{Range}
 use Rattle.wb_keeping.specs.declared.kept_fault.KeptFault.{KeptFault}
 use Rattle.wb_keeping.specs.declared.kept_fault.KeptFault.TheVariants.{Host}
 use Rattle.wb_keeping.specs.Policy.{Policy, View, after_wanting, holds, is_known}

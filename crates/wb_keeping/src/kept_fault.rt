@@ -2,7 +2,7 @@
 
 use std::alloc::AllocError;
 use thiserror::Error;
-use wb_host::KeepFault;
+use wb_keeper::KeepFault;
 use wb_names::FieldFault;
 
 /// Why a self-managing member refuses a call.
@@ -38,7 +38,7 @@ impl From<KeepFault> for KeptFault {
 
 impl From<AllocError> for KeptFault {
     ghost use Rattle.std.specs.Prelude.{◌≡◌};
-    ghost use Rattle.wb_host.specs.declared.keep_fault.KeepFault.TheVariants as keep_faults;
+    ghost use Rattle.wb_keeper.specs.declared.keep_fault.KeepFault.TheVariants as keep_faults;
     ghost use Rattle.wb_keeping.specs.declared.kept_fault.KeptFault.TheVariants as kept_faults;
 
     ghost from_gives = { λ _ kept. kept ≡ kept_faults.Host keep_faults.Memory };

@@ -5,7 +5,7 @@ use Rattle.wb_names.specs.History.{IsHistory}
 use Rattle.wb_names.specs.Values.{DrawopValue}
 use Rattle.wb_names.specs.declared.name.PageId.{PageId}
 use Rattle.wb_display.specs.Canvas.{canvas_text}
-use Rattle.wb_host.proofs.KeptCalls.{holds_from}
+use Rattle.wb_keeper.proofs.KeptCalls.{holds_from}
 use Rattle.wb_progress.specs.Turns.{Terms}
 use Rattle.wb_progress.proofs.Giving.{held_as}
 use Rattle.wb_member.specs.Queries.{view_of}

@@ -6,7 +6,7 @@ use Rattle.wb_names.specs.Values.{NameValue}
 use Rattle.wb_recovery.specs.Events.{constants_after, timers_of}
 use Rattle.wb_recovery.specs.declared.timers.AskTimer.{AskTimer}
 use Rattle.wb_recovery.specs.declared.tuning.Tuning.{Tuning}
-use Rattle.wb_host.specs.Keeper.{KeeperCall, Miss, moment_at}
+use Rattle.wb_keeper.specs.Keeper.{KeeperCall, Miss, moment_at}
 use Rattle.wb_progress.specs.Bounds.{IsUnder}
 use Rattle.wb_progress.specs.Calls.{Misses}
 use Rattle.wb_progress.specs.Repairs.{timers_at}

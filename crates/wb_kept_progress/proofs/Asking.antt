@@ -13,9 +13,9 @@ use Rattle.wb_recovery.specs.Timing.{got, new_ask, noticed}
 use Rattle.wb_recovery.specs.declared.timers.AskTimer.{AskTimer}
 use Rattle.wb_recovery.specs.declared.timers.Timers.{Timers}
 use Rattle.wb_recovery.proofs.NameLists.{listed_of}
-use Rattle.wb_host.specs.GivingUp.{level as level_in}
-use Rattle.wb_host.specs.Keeper.{delay_to, given_up, holds as holds_in}
-use Rattle.wb_host.proofs.KeptCalls.{same_here}
+use Rattle.wb_keeper.specs.GivingUp.{level as level_in}
+use Rattle.wb_keeper.specs.Keeper.{delay_to, given_up, holds as holds_in}
+use Rattle.wb_keeper.proofs.KeptCalls.{same_here}
 use Rattle.wb_member.specs.Judged.{asked_names, level}
 use Rattle.wb_member.specs.Members.{Misses}
 use Rattle.wb_member.specs.Opened.{Opened, asks_for, doing, events, may_ask, present}

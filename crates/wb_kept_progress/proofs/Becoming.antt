@@ -9,11 +9,11 @@ use Rattle.wb_names.specs.Values.{DrawopValue, NameValue}
 use Rattle.std.proofs.lemmas.List.Elements.{Contains-append_left, Contains-append_right}
 use Rattle.wb_names.proofs.Listings.{Contains-cases, Contains-here, Contains-none, Contains-there}
 use Rattle.wb_codec.specs.declared.datagram.Datagram.TheVariants.{Draw, Session, Request, AskPages, PageState}
-use Rattle.wb_host.proofs.KeptCalls.{holds_from}
+use Rattle.wb_keeper.proofs.KeptCalls.{holds_from}
 use Rattle.wb_progress.specs.InTime.{known_from, repairing}
 use Rattle.wb_progress.specs.Turns.{Terms, settled_by}
 use Rattle.wb_progress.proofs.Giving.{held_as}
-use Rattle.wb_host.specs.Keeper.{holds as history_holds}
+use Rattle.wb_keeper.specs.Keeper.{holds as history_holds}
 use Rattle.wb_member.specs.Judged.{holds}
 use Rattle.wb_member.specs.Members.{Misses}
 use Rattle.wb_member.specs.Opened.{Opened, accepted, doing, has_room_for, heard, may_ask, present}

@@ -16,7 +16,7 @@ use Rattle.wb_gaps.specs.Gaps.{IsMissing}
 use Rattle.wb_gaps.proofs.HeldNames.{held-by, held-from}
 use Rattle.wb_gaps.proofs.PageAnswers.{has_source, pages_of_history}
 use Rattle.wb_gaps.proofs.Reports.{greatest_held}
-use Rattle.wb_host.specs.Keeper.{holds}
+use Rattle.wb_keeper.specs.Keeper.{holds}
 use Rattle.wb_progress.specs.Repairs.{asking_wait}
 use Rattle.wb_member.specs.Judged.{is_full}
 use Rattle.wb_member.specs.Opened.{Opened, asks_for, present}

@@ -4,7 +4,7 @@ use Rattle.std.proofs.lemmas.List.{length-append}
 use Rattle.wb_names.specs.Values.{NameValue}
 use Rattle.wb_recovery.specs.declared.timers.AskTimer.{AskTimer}
 use Rattle.wb_recovery.specs.declared.timers.Timers.{Timers}
-use Rattle.wb_host.specs.Keeper.{GiveUp}
+use Rattle.wb_keeper.specs.Keeper.{GiveUp}
 use Rattle.wb_progress.specs.InTime as keepers
 use Rattle.wb_progress.specs.InTime.{answering_by, known_from, repairing}
 use Rattle.wb_progress.specs.Turns.{Accepts, Terms, Turn, settled_by}

@@ -17,9 +17,9 @@ use Rattle.wb_recovery.specs.declared.timers.AskTimer.{AskTimer}
 use Rattle.wb_recovery.specs.declared.timers.Timers.{Timers}
 use Rattle.wb_recovery.specs.declared.tuning.Tuning.{Tuning}
 use Rattle.wb_recovery.proofs.StoppedNames.{not_received, received_stops, timers_receipts}
-use Rattle.wb_host.specs.GivingUp.{level as level_in}
-use Rattle.wb_host.specs.Keeper.{delay_to, received_of}
-use Rattle.wb_host.specs.Ticks.{stopped_after}
+use Rattle.wb_keeper.specs.GivingUp.{level as level_in}
+use Rattle.wb_keeper.specs.Keeper.{delay_to, received_of}
+use Rattle.wb_keeper.specs.Ticks.{stopped_after}
 use Rattle.wb_progress.specs.Bounds.{IsAskNear}
 use Rattle.wb_progress.specs.Keepers.{farthest, greatest_constants}
 use Rattle.wb_progress.specs.Repairs.{asking_wait}

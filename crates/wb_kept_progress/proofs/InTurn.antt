@@ -9,7 +9,7 @@ use Rattle.wb_names.proofs.Listings.{Contains-here}
 use Rattle.wb_codec.specs.declared.datagram.Datagram.{Datagram}
 use Rattle.wb_codec.specs.declared.datagram.Datagram.TheVariants.{Session}
 use Rattle.wb_gaps.specs.Answers.{report_of}
-use Rattle.wb_host.specs.Keeper.{holds}
+use Rattle.wb_keeper.specs.Keeper.{holds}
 use Rattle.wb_member.specs.Judged.{is_full}
 use Rattle.wb_member.specs.Opened.{present, asks_for}
 use Rattle.wb_keeping.specs.Fairness.{AnswersWhatIsHeld, Told, after_telling, after_turn, marks_in_turn, name_in_turn, page_in_turn}

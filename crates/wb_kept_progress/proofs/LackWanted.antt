@@ -12,7 +12,7 @@ use Rattle.wb_gaps.specs.Answers.{top_mark}
 use Rattle.wb_gaps.specs.Gaps.{IsMissing}
 use Rattle.wb_gaps.specs.Holes.{hole_on, holes_of}
 use Rattle.wb_gaps.proofs.HeldNames.{held-by, held-from}
-use Rattle.wb_host.specs.Keeper.{holds}
+use Rattle.wb_keeper.specs.Keeper.{holds}
 use Rattle.wb_progress.specs.InTime.{known_from, repairing}
 use Rattle.wb_progress.specs.Turns.{Terms, settled_by}
 use Rattle.wb_member.specs.Opened.{present}

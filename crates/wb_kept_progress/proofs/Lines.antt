@@ -12,7 +12,7 @@ use Rattle.wb_codec.specs.declared.datagram.Datagram.TheVariants.{Draw, Session,
 use Rattle.wb_recovery.specs.Events.{timers_of}
 use Rattle.wb_recovery.specs.Timing.{got, noticed}
 use Rattle.wb_recovery.specs.declared.timers.Timers.{Timers}
-use Rattle.wb_host.specs.Keeper.{delay_to, given_up, holds}
+use Rattle.wb_keeper.specs.Keeper.{delay_to, given_up, holds}
 use Rattle.wb_member.specs.Members.{Misses}
 use Rattle.wb_member.specs.Opened.{Opened, accepted, asks_for, doing, events, has_room_for, heard, may_ask, present}
 use Rattle.wb_member.specs.Random.{word_of}

@@ -4,7 +4,7 @@ use Rattle.std.specs.Prelude.{Contains, nat_eq, nat_le}
 use Rattle.std.proofs.lemmas.Bool.{cases_lt, le-leb}
 use Rattle.wb_names.specs.Values.{DrawopValue, NameValue}
 use Rattle.wb_codec.specs.declared.datagram.Datagram.TheVariants.{Draw}
-use Rattle.wb_host.proofs.KeptCalls.{holds_from}
+use Rattle.wb_keeper.proofs.KeptCalls.{holds_from}
 use Rattle.wb_progress.specs.Turns.{Terms, settled_by}
 use Rattle.wb_progress.proofs.Giving.{held_as}
 use Rattle.wb_member.specs.Judged.{holds}

@@ -19,10 +19,10 @@ use Rattle.wb_recovery.specs.declared.plan.Action.TheVariants.{Ask, Answer}
 use Rattle.wb_recovery.specs.declared.timers.AskTimer.{AskTimer}
 use Rattle.wb_recovery.specs.declared.timers.Timers.{Timers}
 use Rattle.wb_recovery.proofs.StoppedNames.{not_received, received_stops, timers_receipts}
-use Rattle.wb_host.specs.Hearing.{answers_to, asks_for_held, asks_for_pages, page_states}
-use Rattle.wb_host.specs.Keeper.{KeeperCall, SetDelay, SetConstants, Hear, Arrive, Miss, GoOn, Report, GiveUp, delay_to, events_of, holds, moment_at, received_of}
-use Rattle.wb_host.specs.Ticks.{drawop_of, sent_by_tick, sent_for, stopped_after}
-use Rattle.wb_host.proofs.TickSends.{sent_from}
+use Rattle.wb_keeper.specs.Hearing.{answers_to, asks_for_held, asks_for_pages, page_states}
+use Rattle.wb_keeper.specs.Keeper.{KeeperCall, SetDelay, SetConstants, Hear, Arrive, Miss, GoOn, Report, GiveUp, delay_to, events_of, holds, moment_at, received_of}
+use Rattle.wb_keeper.specs.Ticks.{drawop_of, sent_by_tick, sent_for, stopped_after}
+use Rattle.wb_keeper.proofs.TickSends.{sent_from}
 use Rattle.wb_progress.proofs.OneCall.{not_standing}
 use Rattle.wb_progress.specs.Repairs.{timers_at}
 use Rattle.wb_member.specs.Members.{Hears as Hearing, Misses, SetsConstants, SetsDelay, Takes, Ticks as Ticking, GivesUp}

@@ -20,9 +20,9 @@ use Rattle.wb_recovery.specs.Timing.{are_constants, is_answer_due, new_answer}
 use Rattle.wb_recovery.specs.declared.tuning.Tuning.{Tuning}
 use Rattle.wb_recovery.specs.declared.timers.AnswerTimer.{AnswerTimer}
 use Rattle.wb_recovery.specs.declared.timers.Timers.{Timers}
-use Rattle.wb_host.specs.Keeper.{Hear, delay_to, events_of, holds, is_own}
-use Rattle.wb_host.specs.declared.keep_fault.KeepFault.TheVariants.{BackInTime}
-use Rattle.wb_host.proofs.KeptCalls.{holds_from}
+use Rattle.wb_keeper.specs.Keeper.{Hear, delay_to, events_of, holds, is_own}
+use Rattle.wb_keeper.specs.declared.keep_fault.KeepFault.TheVariants.{BackInTime}
+use Rattle.wb_keeper.proofs.KeptCalls.{holds_from}
 use Rattle.wb_progress.specs.Repairs.{IsIdle, answering_wait, asking_wait, quiet_wait}
 use Rattle.wb_progress.proofs.KeeperBounds.{keepers_are_bounded}
 use Rattle.wb_progress.proofs.OneCall.{requests_set, ticks_answer, ticks_clear, ticks_leave}

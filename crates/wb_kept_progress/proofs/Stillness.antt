@@ -17,7 +17,7 @@ use Rattle.wb_progress.specs.Turns.{Terms, settled_by}
 use Rattle.wb_progress.proofs.NamesApart.{most_are, less_greater}
 use Rattle.wb_member.specs.Judged.{holds, level}
 use Rattle.wb_member.specs.Opened.{Opened}
-use Rattle.wb_host.specs.Keeper.{holds as history_holds}
+use Rattle.wb_keeper.specs.Keeper.{holds as history_holds}
 use Rattle.wb_keeping.specs.Kept.{Line, Asks, Tunes}
 use Rattle.wb_keeping.specs.Laws.{KeptLine, doing_of}
 use Rattle.wb_keeping.specs.Performing.{sees, view_of}

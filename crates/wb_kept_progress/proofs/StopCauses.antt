@@ -6,7 +6,7 @@ use Rattle.wb_names.specs.Values.{NameValue}
 use Rattle.wb_gaps.specs.Answers.{pages_of}
 use Rattle.wb_recovery.specs.Events.{timers_of}
 use Rattle.wb_recovery.specs.declared.timers.AskTimer.{AskTimer}
-use Rattle.wb_host.specs.GivingUp.{level as level_in}
+use Rattle.wb_keeper.specs.GivingUp.{level as level_in}
 use Rattle.wb_member.specs.Judged.{is_full}
 use Rattle.wb_member.specs.Opened.{Opened, events}
 use Rattle.wb_keeping.specs.Kept.{Arrives, Asks, Doing, Hears, Line, Says, SetsDistance, Tunes, Stops, Ticks, room_lines, still, stops_one, want, lending}

@@ -9,9 +9,9 @@ use Rattle.wb_codec.specs.declared.datagram.Datagram.{Datagram}
 use Rattle.wb_codec.specs.declared.datagram.Datagram.TheVariants.{Draw, Request}
 use Rattle.wb_recovery.specs.declared.timers.Timers.{Timers}
 use Rattle.wb_recovery.specs.declared.tuning.Tuning.{Tuning}
-use Rattle.wb_host.specs.Keeper.{KeeperCall, Arrive, GiveUp, GoOn, Hear, delay_to, holds, is_own, moment_at}
-use Rattle.wb_host.specs.Ticks.{sent_by_tick, stopped_after}
-use Rattle.wb_host.proofs.KeptCalls.{holds_from}
+use Rattle.wb_keeper.specs.Keeper.{KeeperCall, Arrive, GiveUp, GoOn, Hear, delay_to, holds, is_own, moment_at}
+use Rattle.wb_keeper.specs.Ticks.{sent_by_tick, stopped_after}
+use Rattle.wb_keeper.proofs.KeptCalls.{holds_from}
 use Rattle.wb_progress.specs.Bounds.{IsUnder}
 use Rattle.wb_progress.specs.Keepers.{AreWithin, constants_at}
 use Rattle.wb_progress.specs.Repairs.{timers_at}

@@ -16,10 +16,10 @@ use Rattle.wb_recovery.specs.declared.timers.Timers.{Timers}
 use Rattle.wb_recovery.specs.declared.tuning.Tuning.{Tuning}
 use Rattle.wb_recovery.proofs.AlarmReads.{is_set_to-here}
 use Rattle.wb_recovery.proofs.StoppedNames.{timers_receipts}
-use Rattle.wb_host.specs.Hearing.{asks_for_held}
-use Rattle.wb_host.specs.Keeper.{asked_by, delay_to, given_up, holds, received_of}
-use Rattle.wb_host.specs.Ticks.{stopped_after}
-use Rattle.wb_host.proofs.NextDues.{next_due_is_least}
+use Rattle.wb_keeper.specs.Hearing.{asks_for_held}
+use Rattle.wb_keeper.specs.Keeper.{asked_by, delay_to, given_up, holds, received_of}
+use Rattle.wb_keeper.specs.Ticks.{stopped_after}
+use Rattle.wb_keeper.proofs.NextDues.{next_due_is_least}
 use Rattle.wb_member.specs.Members.{Misses}
 use Rattle.wb_member.specs.Opened.{Opened, accepted, asks_for, doing, due_count, events, has_room_for, heard, may_ask, next_due, present, word_at}
 use Rattle.wb_member.specs.Random.{word_of, words_of}

@@ -16,9 +16,9 @@ use Rattle.wb_gaps.specs.declared.page_reports.PageReport.{PageReport}
 use Rattle.wb_gaps.proofs.Reports.{greatest_held}
 use Rattle.wb_recovery.specs.declared.plan.Action.{Action}
 use Rattle.wb_recovery.specs.declared.plan.Action.TheVariants.{Ask, Answer}
-use Rattle.wb_host.specs.Hearing.{answers_to, asks_for_pages, page_states}
-use Rattle.wb_host.specs.Ticks.{drawop_of, sent_for}
-use Rattle.wb_host.proofs.TickSends.{sent_from}
+use Rattle.wb_keeper.specs.Hearing.{answers_to, asks_for_pages, page_states}
+use Rattle.wb_keeper.specs.Ticks.{drawop_of, sent_for}
+use Rattle.wb_keeper.proofs.TickSends.{sent_from}
 use Rattle.wb_progress.proofs.NamesApart.{from_take}
 use Rattle.wb_member.specs.Opened.{Opened, becomes, has_room_for, present, sent_by}
 use Rattle.wb_keeping.specs.Kept.{Arrives, Asks, Hears, Line, Says, SetsDistance, Tunes, Stops, Ticks, last_heard, state_of, still, want}

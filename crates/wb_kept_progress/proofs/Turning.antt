@@ -18,8 +18,8 @@ use Rattle.wb_gaps.specs.declared.holes.Hole.{Hole}
 use Rattle.wb_gaps.proofs.MissingRanges.{gaps_of_page}
 use Rattle.wb_gaps.proofs.PageAnswers.{pages_of_history}
 use Rattle.wb_gaps.proofs.Reports.{greatest_held}
-use Rattle.wb_host.specs.Keeper.{holds}
-use Rattle.wb_host.proofs.KeptCalls.{holds_not}
+use Rattle.wb_keeper.specs.Keeper.{holds}
+use Rattle.wb_keeper.proofs.KeptCalls.{holds_not}
 use Rattle.wb_member.specs.Judged.{is_full}
 use Rattle.wb_member.specs.Opened.{Opened, asks_for, opened_with, present}
 use Rattle.wb_keeping.specs.Fairness.{AnswersWhatIsHeld, Told, after_telling, after_tellings, after_turn, after_turns, left_to_tell, marks_in_turn, name_in_turn, page_in_turn, where_left}

@@ -8,7 +8,7 @@ use Rattle.wb_names.proofs.Listings.{Contains-cases, Contains-none}
 use Rattle.wb_gaps.specs.Answers.{pages_of}
 use Rattle.wb_gaps.specs.Holes.{hole_after}
 use Rattle.wb_gaps.specs.declared.holes.Hole.{Hole}
-use Rattle.wb_host.specs.Keeper.{holds}
+use Rattle.wb_keeper.specs.Keeper.{holds}
 use Rattle.wb_member.specs.Judged.{is_full}
 use Rattle.wb_member.specs.Opened.{asks_for, present}
 use Rattle.wb_keeping.specs.Credit.{cost, has_credit}

@@ -14,7 +14,7 @@ use Rattle.wb_recovery.specs.Events.{names_of, timers_of}
 use Rattle.wb_recovery.specs.declared.timers.AskTimer.{AskTimer}
 use Rattle.wb_recovery.specs.declared.timers.Timers.{Timers}
 use Rattle.wb_recovery.proofs.NameLists.{listed_of}
-use Rattle.wb_host.specs.GivingUp.{level as level_in}
+use Rattle.wb_keeper.specs.GivingUp.{level as level_in}
 use Rattle.wb_progress.specs.InTime.{AreApart}
 use Rattle.wb_progress.proofs.NamesApart.{apart_of}
 use Rattle.wb_member.specs.Judged.{asked_names, level}

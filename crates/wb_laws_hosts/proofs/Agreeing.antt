@@ -8,7 +8,7 @@ use Rattle.wb_codec.specs.Ranges.{IsDrawop, IsMark}
 use Rattle.wb_gaps.specs.Answers.{gaps_of, report_of}
 use Rattle.wb_gaps.proofs.PageAnswers.{report_of_page}
 use Rattle.wb_recovery.specs.declared.tuning.Tuning.{Tuning}
-use Rattle.wb_host.specs.Hearing.{marks_heard}
+use Rattle.wb_keeper.specs.Hearing.{marks_heard}
 use Rattle.wb_lines.specs.Input.{InputLine}
 use Rattle.wb_lines.specs.Taking.{met}
 use Rattle.wb_commands.specs.Acts.{tells}

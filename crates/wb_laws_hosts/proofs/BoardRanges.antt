@@ -15,7 +15,7 @@ use Rattle.wb_gaps.specs.Answers.{report_of, pages_of, reports_of, sources_of, t
 use Rattle.wb_gaps.specs.declared.page_reports.PageReport.{PageReport}
 use Rattle.wb_gaps.proofs.PageAnswers.{report_of_page}
 use Rattle.wb_gaps.proofs.Sorting.{Contains-from_sorted}
-use Rattle.wb_host.specs.Hearing.{asks_for_pages, page_states, answers_to}
+use Rattle.wb_keeper.specs.Hearing.{asks_for_pages, page_states, answers_to}
 use Rattle.wb_laws_sessions.proofs.Holding.{all_from}
 
 -- ---- one number of a source

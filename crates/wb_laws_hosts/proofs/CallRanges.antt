@@ -21,12 +21,12 @@ use Rattle.wb_recovery.specs.declared.missed.Missed.{Missed}
 use Rattle.wb_recovery.specs.declared.timers.Timers.{Timers}
 use Rattle.wb_recovery.specs.declared.tuning.Tuning.{Tuning}
 use Rattle.wb_recovery.proofs.StoppedNames.{names_receipts}
-use Rattle.wb_host.specs.Hearing.{marks_in, marks_heard}
-use Rattle.wb_host.specs.Keeper.{KeeperCall, SetDelay, SetConstants, Hear, Arrive, Miss, GoOn, Report, GiveUp, now_of, newest, moment_at, is_own, high_in, high_reported, high_heard, delay_to, received_of, missed_of, asked_by, given_up, timer_calls, events_of}
-use Rattle.wb_host.specs.KeeperLaws.{AreOrderly}
-use Rattle.wb_host.specs.Missing.{IsWanted, wanted_of}
-use Rattle.wb_host.proofs.FirstWanted.{first_are_wanted}
-use Rattle.wb_host.proofs.MergedNumbers.{merged_are_greatest}
+use Rattle.wb_keeper.specs.Hearing.{marks_in, marks_heard}
+use Rattle.wb_keeper.specs.Keeper.{KeeperCall, SetDelay, SetConstants, Hear, Arrive, Miss, GoOn, Report, GiveUp, now_of, newest, moment_at, is_own, high_in, high_reported, high_heard, delay_to, received_of, missed_of, asked_by, given_up, timer_calls, events_of}
+use Rattle.wb_keeper.specs.KeeperLaws.{AreOrderly}
+use Rattle.wb_keeper.specs.Missing.{IsWanted, wanted_of}
+use Rattle.wb_keeper.proofs.FirstWanted.{first_are_wanted}
+use Rattle.wb_keeper.proofs.MergedNumbers.{merged_are_greatest}
 use Rattle.wb_laws_hosts.proofs.BoardRanges.{IsSmall, small_max, highest_small}
 use Rattle.wb_laws_sessions.proofs.Holding.{all_from}
 

@@ -27,12 +27,12 @@ use Rattle.wb_recovery.specs.declared.plan.Action.{Action}
 use Rattle.wb_recovery.specs.declared.plan.Action.TheVariants.{Ask, Answer}
 use Rattle.wb_recovery.specs.declared.tuning.Tuning.{Tuning}
 use Rattle.wb_recovery.proofs.StoppedNames.{names_receipts}
-use Rattle.wb_host.specs.Keeper.{KeeperCall, Hear, is_own, session_in, session_heard, remember, senders_of, last_heard, delay_to, received_of, events_of}
-use Rattle.wb_host.specs.Sessions.{echo_cmp, IsEchoTo, echo_to, echoes_of, message_of}
-use Rattle.wb_host.specs.Ticks.{drawop_of, sent_for, stopped_after, sent_by_tick}
-use Rattle.wb_host.specs.declared.keeper.Heard.{Heard}
-use Rattle.wb_host.proofs.FirstSenders.{first_senders_are_echoed}
-use Rattle.wb_host.proofs.MessageValue.{message_is_session}
+use Rattle.wb_keeper.specs.Keeper.{KeeperCall, Hear, is_own, session_in, session_heard, remember, senders_of, last_heard, delay_to, received_of, events_of}
+use Rattle.wb_keeper.specs.Sessions.{echo_cmp, IsEchoTo, echo_to, echoes_of, message_of}
+use Rattle.wb_keeper.specs.Ticks.{drawop_of, sent_for, stopped_after, sent_by_tick}
+use Rattle.wb_keeper.specs.declared.keeper.Heard.{Heard}
+use Rattle.wb_keeper.proofs.FirstSenders.{first_senders_are_echoed}
+use Rattle.wb_keeper.proofs.MessageValue.{message_is_session}
 use Rattle.wb_laws_hosts.proofs.BoardRanges.{report_fits}
 use Rattle.wb_laws_hosts.proofs.CallRanges.{Fits, names_fit}
 use Rattle.std.proofs.lemmas.Option.{same_Some}

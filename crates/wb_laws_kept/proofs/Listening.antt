@@ -18,8 +18,8 @@ use Rattle.wb_names.proofs.MarkLists.{Rises, here, rest_above, rest_rises}
 use Rattle.wb_codec.specs.declared.datagram.Datagram.{Datagram}
 use Rattle.wb_codec.specs.declared.datagram.Datagram.TheVariants.{Draw, Session, Request, AskPages, PageState}
 use Rattle.wb_gaps.specs.Joining.{greater, joined, joined_at}
-use Rattle.wb_host.specs.Hearing.{asks_for_held, marks_heard, marks_in, marks_reported}
-use Rattle.wb_host.specs.Keeper.{Hear, is_own}
+use Rattle.wb_keeper.specs.Hearing.{asks_for_held, marks_heard, marks_in, marks_reported}
+use Rattle.wb_keeper.specs.Keeper.{Hear, is_own}
 use Rattle.wb_member.specs.Lines.{Line, Ticks, Arrives, Hears, Asks, Stops, SetsDistance, Tunes, Says, after_line, after_lines}
 use Rattle.wb_member.specs.Members.{Misses}
 use Rattle.wb_member.specs.Opened.{Opened, doing, has_room_for, heard, last_number, may_ask, opened_with, present, word_at}

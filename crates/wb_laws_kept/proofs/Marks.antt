@@ -22,9 +22,9 @@ use Rattle.wb_gaps.proofs.Reports.{greatest_held}
 use Rattle.wb_recovery.specs.declared.plan.Action.{Action}
 use Rattle.wb_recovery.specs.declared.plan.Action.TheVariants.{Ask, Answer}
 use Rattle.wb_recovery.specs.declared.tuning.Tuning.{Tuning}
-use Rattle.wb_host.specs.Hearing.{answers_to, asks_for_pages, marks_in, page_states}
-use Rattle.wb_host.specs.Ticks.{drawop_of, sent_for, sends_for}
-use Rattle.wb_host.proofs.TickSends.{sent_from}
+use Rattle.wb_keeper.specs.Hearing.{answers_to, asks_for_pages, marks_in, page_states}
+use Rattle.wb_keeper.specs.Ticks.{drawop_of, sent_for, sends_for}
+use Rattle.wb_keeper.proofs.TickSends.{sent_from}
 use Rattle.wb_member.specs.Lines.{Line, Ticks, Arrives, Hears, Asks, Stops, SetsDistance, Tunes, Says, after_line, after_lines, said_where, sent_by_line, sent_by_lines}
 use Rattle.wb_member.specs.Judged.{echoes}
 use Rattle.wb_member.specs.Opened.{Opened, becomes, has_room_for, opened_with, present}
@@ -39,7 +39,7 @@ use Rattle.wb_keeping.proofs.EachStep.{HoldsOfDue, HoldsOfSteps, all_hold, havin
 use Rattle.wb_keeping.proofs.KeptHosts.{kept_hosts_are_hosts}
 use Rattle.wb_keeping.proofs.Performed.{after_both, sent_by_both}
 use Rattle.wb_keeping.proofs.Wanted.{is_wanted_here, lines_wanted}
-use Rattle.wb_host.specs.Counts.{MAX_CELLS}
+use Rattle.wb_board.specs.Counts.{MAX_CELLS}
 use Rattle.wb_laws_sessions.specs.Drawn.{WasHeld}
 use Rattle.wb_laws_sessions.specs.Sessions.{Deed, Opens, Performs, Step, after_deed, host_at, sent, sent_by_deed, steps_then}
 use Rattle.wb_laws_sessions.proofs.Deeds.{Fits, fits_after}

@@ -5,7 +5,7 @@ use Rattle.wb_names.specs.Values.{MarkValue}
 use Rattle.wb_names.specs.declared.name.PageId.{PageId}
 use Rattle.wb_codec.specs.declared.datagram.Datagram.{Datagram}
 use Rattle.wb_codec.specs.declared.datagram.Datagram.TheVariants.{Draw, Session, Request, AskPages, PageState}
-use Rattle.wb_host.specs.Hearing.{marks_in}
+use Rattle.wb_keeper.specs.Hearing.{marks_in}
 use Rattle.wb_member.specs.Opened.{has_room_for, last_number, ticked}
 use Rattle.wb_keeping.specs.Kept.{own_echo, own_marks}
 use Rattle.wb_keeping.specs.Laws.{Came}

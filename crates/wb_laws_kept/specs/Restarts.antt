@@ -9,7 +9,7 @@ use Rattle.wb_names.specs.declared.parts.Op.{Op}
 use Rattle.wb_codec.specs.declared.datagram.Datagram.{Datagram}
 use Rattle.wb_codec.specs.declared.datagram.Datagram.TheVariants.{Draw, Session, Request, AskPages, PageState}
 use Rattle.wb_gaps.specs.Answers.{report_of}
-use Rattle.wb_host.specs.Hearing.{marks_in}
+use Rattle.wb_keeper.specs.Hearing.{marks_in}
 use Rattle.wb_member.specs.Opened.{becomes, gaps_at, last_number}
 use Rattle.wb_keeping.specs.Laws.{Added}
 use Rattle.wb_laws_kept.specs.Openings.{Opening}

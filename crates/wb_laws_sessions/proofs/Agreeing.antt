@@ -12,7 +12,7 @@ use Rattle.wb_gaps.specs.Gaps.{Covers}
 use Rattle.wb_gaps.proofs.MissingRanges.{gaps_of_page}
 use Rattle.wb_gaps.proofs.PageAnswers.{report_of_page}
 use Rattle.wb_display.specs.Canvas.{canvas_text}
-use Rattle.wb_host.specs.Hearing.{marks_heard}
+use Rattle.wb_keeper.specs.Hearing.{marks_heard}
 use Rattle.wb_member.specs.Opened.{Opened, gaps_at, shown}
 use Rattle.wb_laws_sessions.specs.Agreement.{Agree, ReportsTellAgreement, WholeBoardsAgree}
 use Rattle.wb_laws_sessions.specs.Drawn.{AreHonest, WasDrawn}

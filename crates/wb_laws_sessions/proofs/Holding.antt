@@ -21,17 +21,17 @@ use Rattle.wb_recovery.specs.declared.tuning.Tuning.{Tuning}
 use Rattle.wb_recovery.specs.declared.timers.AnswerTimer.{AnswerTimer}
 use Rattle.wb_recovery.specs.declared.timers.Timers.{Timers}
 use Rattle.wb_recovery.proofs.StoppedNames.{received_stops, timers_receipts}
-use Rattle.wb_host.specs.GivingUp.{is_asked}
-use Rattle.wb_host.specs.Hearing.{asks_for_held}
-use Rattle.wb_host.specs.Keeper.{delay_to, received_of, missed_of, asked_by, given_up, events_of, holds}
-use Rattle.wb_host.specs.Ticks.{stopped_after}
-use Rattle.wb_host.proofs.KeptCalls.{holds_from}
+use Rattle.wb_keeper.specs.GivingUp.{is_asked}
+use Rattle.wb_keeper.specs.Hearing.{asks_for_held}
+use Rattle.wb_keeper.specs.Keeper.{delay_to, received_of, missed_of, asked_by, given_up, events_of, holds}
+use Rattle.wb_keeper.specs.Ticks.{stopped_after}
+use Rattle.wb_keeper.proofs.KeptCalls.{holds_from}
 use Rattle.wb_member.specs.Members.{Member, Act, Draws, Takes, Hears, SetsDelay, SetsConstants, Misses, GivesUp, Ticks, Reports, AsksForPages, after}
-use Rattle.wb_host.specs.GivingUp.{is_timed}
-use Rattle.wb_host.specs.Hearing.{marks_heard}
-use Rattle.wb_host.specs.Missing.{IsWanted}
-use Rattle.wb_host.proofs.FirstWanted.{first_are_wanted}
-use Rattle.wb_host.proofs.KeptCalls.{holds_not}
+use Rattle.wb_keeper.specs.GivingUp.{is_timed}
+use Rattle.wb_keeper.specs.Hearing.{marks_heard}
+use Rattle.wb_keeper.specs.Missing.{IsWanted}
+use Rattle.wb_keeper.proofs.FirstWanted.{first_are_wanted}
+use Rattle.wb_keeper.proofs.KeptCalls.{holds_not}
 use Rattle.wb_member.specs.Lines as lines
 use Rattle.wb_member.specs.Opened.{Opened, accepted, doing, events, has_room_for, heard, may_ask, present, wanted_of}
 use Rattle.wb_member.specs.Random.{word_of}

@@ -8,7 +8,7 @@ use Rattle.wb_names.specs.Orders.{same_name}
 use Rattle.wb_names.specs.Same.{same_drawop, same_drawop-Decides}
 use Rattle.wb_names.proofs.Listings.{Contains-here, Contains-there, Contains-cases, Contains-none}
 use Rattle.wb_names.proofs.Orders.{same_name-is}
-use Rattle.wb_host.proofs.KeptCalls.{same_here}
+use Rattle.wb_keeper.proofs.KeptCalls.{same_here}
 
 -- by what became of it: none has its name; it is held; another with its name is
 abbrev pub Found : List DrawopValue → DrawopValue → Outcome → Type 0

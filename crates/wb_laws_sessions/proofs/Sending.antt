@@ -15,9 +15,9 @@ use Rattle.wb_gaps.specs.Answers.{reports_of}
 use Rattle.wb_gaps.specs.declared.page_reports.PageReport.{PageReport}
 use Rattle.wb_recovery.specs.declared.plan.Action.{Action}
 use Rattle.wb_recovery.specs.declared.plan.Action.TheVariants.{Ask, Answer}
-use Rattle.wb_host.specs.Hearing.{answers_to, asks_for_pages, page_states}
-use Rattle.wb_host.specs.Ticks.{drawop_of, sent_for, sends_for}
-use Rattle.wb_host.proofs.TickSends.{sent_from}
+use Rattle.wb_keeper.specs.Hearing.{answers_to, asks_for_pages, page_states}
+use Rattle.wb_keeper.specs.Ticks.{drawop_of, sent_for, sends_for}
+use Rattle.wb_keeper.proofs.TickSends.{sent_from}
 use Rattle.wb_member.specs.Lines.{Ticks, Arrives, Hears, Asks, Stops, SetsDistance, Tunes, Says, said_where}
 use Rattle.wb_member.specs.Opened.{Opened, has_room_for}
 use Rattle.wb_laws_sessions.specs.Drawn.{SentWasHeld}

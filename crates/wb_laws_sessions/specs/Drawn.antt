@@ -4,7 +4,7 @@ use Rattle.wb_names.specs.Arrivals.{Outcome, Fresh, Known, Clashed, Left}
 use Rattle.wb_names.specs.History.{IsHistory}
 use Rattle.wb_names.specs.Values.{DrawopValue, NameValue}
 use Rattle.wb_codec.specs.declared.datagram.Datagram.TheVariants.{Draw, Session, Request, AskPages, PageState}
-use Rattle.wb_host.specs.Counts.{MAX_CELLS}
+use Rattle.wb_board.specs.Counts.{MAX_CELLS}
 use Rattle.wb_recovery.specs.declared.tuning.Tuning.{Tuning}
 use Rattle.wb_member.specs.Lines.{Line, Ticks, Arrives, Hears, Asks, Stops, SetsDistance, Tunes, Says}
 use Rattle.wb_member.specs.Opened.{Opened, becomes}

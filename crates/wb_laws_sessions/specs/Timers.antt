@@ -2,7 +2,7 @@
 use Rattle.std.specs.Prelude.{◌≡◌, ℕ, List, true, is_some, None}
 use Rattle.wb_names.specs.Values.{NameValue}
 use Rattle.wb_recovery.specs.Events.{timers_of}
-use Rattle.wb_host.specs.Keeper.{holds}
+use Rattle.wb_keeper.specs.Keeper.{holds}
 use Rattle.wb_member.specs.Opened.{events}
 use Rattle.wb_laws_sessions.specs.Sessions.{Step, host_at}
 

@@ -8,12 +8,12 @@ use Rattle.wb_recovery.specs.Timing.{is_standing}
 use Rattle.wb_recovery.specs.Values.{timers_in}
 use Rattle.wb_recovery.specs.Stopping.{receipts}
 use Rattle.rand_pcg.specs.Lcg.{Lcg}
-use Rattle.wb_host.specs.Hearing.{marks_heard}
-use Rattle.wb_host.specs.GivingUp.{is_timed}
-use Rattle.wb_host.specs.Keeper.{KeeperCall, Miss, GoOn, received_of, delay_to, holds}
-use Rattle.wb_host.specs.Keeping.{KeeperValue, StandsFor, Keeps}
-use Rattle.wb_host.specs.Missing.{wanted_of as names_wanted}
-use Rattle.wb_host.specs.Ticks.{sends_for, stopped_in, stopped_after}
+use Rattle.wb_keeper.specs.Hearing.{marks_heard}
+use Rattle.wb_keeper.specs.GivingUp.{is_timed}
+use Rattle.wb_keeper.specs.Keeper.{KeeperCall, Miss, GoOn, received_of, delay_to, holds}
+use Rattle.wb_keeper.specs.Keeping.{KeeperValue, StandsFor, Keeps}
+use Rattle.wb_keeper.specs.Missing.{wanted_of as names_wanted}
+use Rattle.wb_keeper.specs.Ticks.{sends_for, stopped_in, stopped_after}
 use Rattle.wb_member.specs.Board.{Held}
 use Rattle.wb_member.specs.Holding.{IsOpenAt, MemberValue}
 use Rattle.wb_member.specs.Members.{calling}

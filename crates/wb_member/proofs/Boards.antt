@@ -2,12 +2,12 @@
 use Rattle.std.proofs.Common.{◌≡◌, ℕ, ◌+◌, ◌≤◌, List, length, sym, ap, ◌∙◌, subst, arith, ◌⊎◌, inl, inr, Result, Ok, Err, IfOk}
 use Rattle.wb_names.specs.Values.{DrawopValue, MarkValue}
 use Rattle.wb_names.specs.declared.name.PageId.{PageId}
-use Rattle.wb_host.specs.Desks.{HistoryValue, PassValue, IsSamePass, IsSound, KeepsRows, ReadsOn}
+use Rattle.wb_board.specs.Desks.{HistoryValue, PassValue, IsSamePass, IsSound, KeepsRows, ReadsOn}
 use Rattle.wb_names.specs.declared.gap.Gap.{Gap}
 use Rattle.wb_gaps.specs.Answers.{gaps_of, report_of, pages_of}
 use Rattle.wb_gaps.proofs.MissingRanges.{only_gaps}
 use Rattle.wb_gaps.proofs.PageAnswers.{only_report, only_pages}
-use Rattle.wb_host.specs.Board.{IsAnswer, AskGaps, AskReport, AskPages, AskView, Gaps, Marks, Pages, Shown}
+use Rattle.wb_board.specs.Board.{IsAnswer, AskGaps, AskReport, AskPages, AskView, Gaps, Marks, Pages, Shown}
 use Rattle.wb_member.specs.Board.{Held, held_of, OwnsAll}
 use Rattle.wb_member.specs.Queries.{view_of}
 use Rattle.wb_member.proofs.Queries.{only_view}

@@ -3,10 +3,10 @@ use Rattle.std.proofs.Common.{◌≡◌, ℕ, Bool, false, cond, List, Result, O
 use Rattle.wb_names.specs.Values.{DrawopValue}
 use Rattle.wb_codec.specs.declared.datagram.Datagram.{Datagram}
 use Rattle.rand_pcg.specs.Lcg.{Lcg}
-use Rattle.wb_host.specs.Hearing.{answers_to, asks_for_held}
-use Rattle.wb_host.specs.Keeper.{Hear}
-use Rattle.wb_host.specs.Keeping.{KeeperValue, Keeps}
-use Rattle.wb_host.specs.declared.keep_fault.KeepFault.{KeepFault}
+use Rattle.wb_keeper.specs.Hearing.{answers_to, asks_for_held}
+use Rattle.wb_keeper.specs.Keeper.{Hear}
+use Rattle.wb_keeper.specs.Keeping.{KeeperValue, Keeps}
+use Rattle.wb_keeper.specs.declared.keep_fault.KeepFault.{KeepFault}
 use Rattle.wb_member.specs.Board.{Held}
 use Rattle.wb_member.specs.Holding.{IsOpenAt}
 use Rattle.wb_member.specs.Opened.{Opened, present, takes_word, words_for, word_at, heard, answered}

@@ -5,9 +5,9 @@ use Rattle.wb_names.specs.History.{highest}
 use Rattle.wb_names.specs.Marks.{mark_of}
 use Rattle.wb_names.specs.declared.name.PageId.{PageId}
 use Rattle.wb_gaps.proofs.Reports.{greatest_held}
-use Rattle.wb_host.specs.Hearing.{marks_heard}
-use Rattle.wb_host.specs.Keeper.{high_heard}
-use Rattle.wb_host.proofs.HeardNumbers.{marks_are_greatest}
+use Rattle.wb_keeper.specs.Hearing.{marks_heard}
+use Rattle.wb_keeper.specs.Keeper.{high_heard}
+use Rattle.wb_keeper.proofs.HeardNumbers.{marks_are_greatest}
 use Rattle.wb_member.specs.Opened.{Opened, last_number, next_number}
 use Rattle.wb_member.specs.Holding.{MemberValue, IsOpenAt, IsUnreached}
 

@@ -5,9 +5,9 @@ use Rattle.wb_names.specs.Values.{NameValue, DrawopValue}
 use Rattle.wb_names.specs.History.{HoldsName}
 use Rattle.wb_names.specs.Arrivals.{Outcome, Fresh, Known, Clashed, Left, IsTaken, history_with, outcome_of}
 use Rattle.wb_names.proofs.Arrivals.{outcome_is}
-use Rattle.wb_host.specs.Desks.{PassValue, IsSound, IsWhole, Becomes}
-use Rattle.wb_host.specs.Keeper.{KeeperCall, Arrive, holds}
-use Rattle.wb_host.specs.Keeping.{KeeperValue, StandsFor, Keeps}
+use Rattle.wb_board.specs.Desks.{PassValue, IsSound, IsWhole, Becomes}
+use Rattle.wb_keeper.specs.Keeper.{KeeperCall, Arrive, holds}
+use Rattle.wb_keeper.specs.Keeping.{KeeperValue, StandsFor, Keeps}
 use Rattle.rand_pcg.specs.Lcg.{Lcg}
 use Rattle.wb_member.specs.Board.{Held, held_of}
 use Rattle.wb_member.specs.Holding.{IsOpenAt, board_after}

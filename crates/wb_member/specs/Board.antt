@@ -1,7 +1,7 @@
 -- The board of a member.
 use Rattle.std.specs.Prelude.{ℕ, List}
 use Rattle.wb_names.specs.Values.{DrawopValue}
-use Rattle.wb_host.specs.Desks.{HistoryValue, PassValue, IsPassOf, IsWhole, IsSound}
+use Rattle.wb_board.specs.Desks.{HistoryValue, PassValue, IsPassOf, IsWhole, IsSound}
 
 -- how many drawops a board holds at most, and those that it holds
 pub record Held : Type 0 where

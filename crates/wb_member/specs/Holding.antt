@@ -5,10 +5,10 @@ use Rattle.wb_names.specs.Arrivals.{Outcome, Left, history_after}
 use Rattle.wb_names.specs.History.{IsHeld}
 use Rattle.wb_names.specs.declared.name.PageId.{PageId}
 use Rattle.rand_pcg.specs.Lcg.{Lcg}
-use Rattle.wb_host.specs.declared.reply.Reply.{Reply}
-use Rattle.wb_host.specs.Keeping.{KeeperValue, StandsFor}
-use Rattle.wb_host.specs.KeeperLaws.{IsReported}
-use Rattle.wb_host.specs.Replies.{outcome}
+use Rattle.wb_board.specs.declared.reply.Reply.{Reply}
+use Rattle.wb_keeper.specs.Keeping.{KeeperValue, StandsFor}
+use Rattle.wb_keeper.specs.KeeperLaws.{IsReported}
+use Rattle.wb_board.specs.Replies.{outcome}
 use Rattle.wb_member.specs.Board.{Held}
 use Rattle.wb_member.specs.Opened.{Opened, board_of}
 

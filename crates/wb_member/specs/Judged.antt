@@ -7,9 +7,9 @@ use Rattle.wb_names.specs.declared.name.PageId.{PageId}
 use Rattle.wb_gaps.specs.Holes.{hole_after as hole_held_after}
 use Rattle.wb_gaps.specs.declared.holes.Hole.{Hole}
 use Rattle.wb_recovery.specs.Events.{asking, timers_of, names_of}
-use Rattle.wb_host.specs.GivingUp.{level_of}
-use Rattle.wb_host.specs.Keeper.{delay_to, holds as history_holds}
-use Rattle.wb_host.specs.Sessions.{echoes_of}
+use Rattle.wb_keeper.specs.GivingUp.{level_of}
+use Rattle.wb_keeper.specs.Keeper.{delay_to, holds as history_holds}
+use Rattle.wb_keeper.specs.Sessions.{echoes_of}
 use Rattle.wb_member.specs.Board.{Held}
 use Rattle.wb_member.specs.Opened.{Opened, events, present}
 

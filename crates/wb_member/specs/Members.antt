@@ -9,11 +9,11 @@ use Rattle.wb_codec.specs.declared.datagram.Datagram.{Datagram}
 use Rattle.wb_codec.specs.declared.datagram.Datagram.TheVariants.{Draw, AskPages}
 use Rattle.wb_recovery.specs.Events.{timers_of}
 use Rattle.wb_recovery.specs.declared.tuning.Tuning.{Tuning}
-use Rattle.wb_host.specs.GivingUp.{is_asked}
-use Rattle.wb_host.specs.Keeper.{KeeperCall, SetDelay, SetConstants, Hear, Arrive, Miss, GoOn, Report, GiveUp, events_of, holds}
-use Rattle.wb_host.specs.Hearing.{asks_for_held, answers_to}
-use Rattle.wb_host.specs.Sessions.{message_of}
-use Rattle.wb_host.specs.Ticks.{sent_by_tick, stopped_after}
+use Rattle.wb_keeper.specs.GivingUp.{is_asked}
+use Rattle.wb_keeper.specs.Keeper.{KeeperCall, SetDelay, SetConstants, Hear, Arrive, Miss, GoOn, Report, GiveUp, events_of, holds}
+use Rattle.wb_keeper.specs.Hearing.{asks_for_held, answers_to}
+use Rattle.wb_keeper.specs.Sessions.{message_of}
+use Rattle.wb_keeper.specs.Ticks.{sent_by_tick, stopped_after}
 
 -- The number of a member, the cells of its board and the constants of its timers at first; what it drew, the newest first; what its
 -- board holds, the newest last; and the calls that its keeper accepted, the newest first. A board is one history, however

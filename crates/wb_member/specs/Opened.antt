@@ -11,17 +11,17 @@ use Rattle.wb_recovery.specs.declared.tuning.Tuning.{Tuning}
 use Rattle.wb_gaps.specs.Answers.{gaps_of}
 use Rattle.wb_names.specs.declared.gap.Gap.{Gap}
 use Rattle.rand_pcg.specs.Lcg.{Lcg}
-use Rattle.wb_host.specs.declared.keep_fault.KeepFault.{KeepFault}
-use Rattle.wb_host.specs.declared.keep_fault.KeepFault.TheVariants.{TooMany}
-use Rattle.wb_host.specs.Dues.{next_due_of}
-use Rattle.wb_host.specs.GivingUp.{is_asked, is_timed}
-use Rattle.wb_host.specs.Hearing.{marks_heard, has_room, answers_to}
-use Rattle.wb_host.specs.Keeper.{moment_at, is_own, events_of, holds}
-use Rattle.wb_host.specs.KeepFaults.{moment_fault}
-use Rattle.wb_host.specs.Known.{known_pages, known_number}
-use Rattle.wb_host.specs.Missing.{wanted_of as names_wanted}
-use Rattle.wb_host.specs.Sessions.{message_of}
-use Rattle.wb_host.specs.Ticks.{sent_by_tick}
+use Rattle.wb_keeper.specs.declared.keep_fault.KeepFault.{KeepFault}
+use Rattle.wb_keeper.specs.declared.keep_fault.KeepFault.TheVariants.{TooMany}
+use Rattle.wb_keeper.specs.Dues.{next_due_of}
+use Rattle.wb_keeper.specs.GivingUp.{is_asked, is_timed}
+use Rattle.wb_keeper.specs.Hearing.{marks_heard, has_room, answers_to}
+use Rattle.wb_keeper.specs.Keeper.{moment_at, is_own, events_of, holds}
+use Rattle.wb_keeper.specs.KeepFaults.{moment_fault}
+use Rattle.wb_keeper.specs.Known.{known_pages, known_number}
+use Rattle.wb_keeper.specs.Missing.{wanted_of as names_wanted}
+use Rattle.wb_keeper.specs.Sessions.{message_of}
+use Rattle.wb_keeper.specs.Ticks.{sent_by_tick}
 use Rattle.wb_member.specs.Board.{Held}
 use Rattle.wb_member.specs.Members.{Member, Act, Takes, Hears, SetsDelay, SetsConstants, Misses, GivesUp, Ticks, Reports, after}
 use Rattle.wb_member.specs.Queries.{view_of}

@@ -8,8 +8,8 @@ use Rattle.wb_names.specs.declared.name.PageId.{PageId}
 use Rattle.wb_display.specs.Canvas.{canvas_text, is_canvas_size}
 use Rattle.wb_gaps.specs.Answers.{gaps_of, report_of, pages_of}
 use Rattle.wb_gaps.specs.Sorting.{sorted}
-use Rattle.wb_host.specs.Hearing.{marks_heard}
-use Rattle.wb_host.specs.Known.{pages_heard}
+use Rattle.wb_keeper.specs.Hearing.{marks_heard}
+use Rattle.wb_keeper.specs.Known.{pages_heard}
 use Rattle.wb_member.specs.Opened.{Opened, number_after}
 use Rattle.wb_member.specs.Queries.{view_of}
 use Rattle.wb_member.specs.declared.questions.Query.{Query}

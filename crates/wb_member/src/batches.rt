@@ -12,7 +12,8 @@ use crate::random::RandomWords;
 use std::alloc::{AllocError, Global};
 use std::marker::Model;
 use std::snapshot::Snapshot;
-use wb_host::{Board, Desk, Keeper};
+use wb_board::{Board, Desk};
+use wb_keeper::Keeper;
 use wb_names::{Drawop, Name};
 
 /// A member whose board is handed out, for a batch to be taken there. It is a member again once its

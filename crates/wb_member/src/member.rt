@@ -1,9 +1,9 @@
 //! A member: what it is handed, and what follows.
 ghost use Rattle.std.specs.Prelude.{◌≡◌, ◌<◌, ◌≤◌, ◌^◌, false, true, length, IfOk, OnErr, IfSome, IsTrue, MatchResult};
 ghost use Rattle.wb_names.specs.Moments.{IsMoment};
-ghost use Rattle.wb_host.specs.Counts.{IsCellCount};
+ghost use Rattle.wb_board.specs.Counts.{IsCellCount};
 ghost use Rattle.wb_recovery.specs.Timing.{are_constants};
-ghost use Rattle.wb_host.specs.KeepFaults.{IsKeptBy, delay_fault};
+ghost use Rattle.wb_keeper.specs.KeepFaults.{IsKeptBy, delay_fault};
 ghost use Rattle.wb_member.specs.Holding.{IsOpenAt, IsUnreached, outcome_in};
 ghost use Rattle.wb_member.specs.Opened.{Opened, opened_with, present, becomes, accepted, heard, heard_fault, takes_word, answered, with_delay, with_constants, next_due, ticked, ticked_fault, sent_by, next_number};
 
@@ -15,8 +15,9 @@ use crate::own_board::OwnBoard;
 use crate::random::RandomWords;
 use std::alloc::{AllocError, Global};
 use std::marker::Model;
+use wb_board::Reply;
 use wb_codec::Datagram;
-use wb_host::{KeepFault, Keeper, Reply};
+use wb_keeper::{KeepFault, Keeper};
 use wb_names::{Drawop, PageId};
 use wb_recovery::{Tuning, TuningFault};
 

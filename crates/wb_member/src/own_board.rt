@@ -1,9 +1,9 @@
 //! The board of a member, with the desk that owns all of its rows.
 ghost use Rattle.std.specs.Prelude.{◌≡◌, ◌≤◌, ◌<◌, ◌∷◌, [], length, true, IfOk, OnOk, OnErr};
 ghost use Rattle.wb_names.specs.Arrivals.{outcome_of};
-ghost use Rattle.wb_host.specs.Counts.{IsCellCount, MAX_CELLS};
-ghost use Rattle.wb_host.specs.Keeper.{holds};
-ghost use Rattle.wb_host.specs.Keeping.{marks_at};
+ghost use Rattle.wb_board.specs.Counts.{IsCellCount, MAX_CELLS};
+ghost use Rattle.wb_keeper.specs.Keeper.{holds};
+ghost use Rattle.wb_keeper.specs.Keeping.{marks_at};
 ghost use Rattle.wb_display.specs.Canvas.{canvas_text, is_canvas_size};
 ghost use Rattle.wb_gaps.specs.Answers.{gaps_of, report_of, pages_of};
 ghost use Rattle.wb_member.specs.Board.{OwnsAll, held_of};
@@ -15,8 +15,9 @@ mod keeping;
 
 use std::alloc::{AllocError, Global};
 use std::marker::Model;
+use wb_board::{Board, BoardFault, Desk, OpenFault, Reply};
 use wb_display::{Canvas, CanvasFault};
-use wb_host::{Board, BoardFault, Desk, Keeper, OpenFault, Reply};
+use wb_keeper::Keeper;
 use wb_names::{Drawop, Gap, Marks, Name, PageId};
 
 /// A board and the one desk that was ever made of it.

@@ -5,7 +5,7 @@ use Rattle.std.proofs.Math.Nat.{mul-le-mul_right}
 use Rattle.wb_names.specs.Values.{NameValue}
 use Rattle.wb_codec.specs.declared.datagram.Datagram.TheVariants.{Request}
 use Rattle.wb_recovery.specs.declared.timers.AnswerTimer.{AnswerTimer}
-use Rattle.wb_host.specs.Keeper.{KeeperCall, Hear}
+use Rattle.wb_keeper.specs.Keeper.{KeeperCall, Hear}
 use Rattle.wb_progress.specs.Calls.{Brings, Fires, Answers}
 use Rattle.wb_progress.specs.InTime.{answering_by, RequestIsAnswered, RequestIsAnsweredBut}
 use Rattle.wb_progress.specs.Keepers.{AreWithin}

@@ -17,7 +17,7 @@ use Rattle.wb_recovery.specs.declared.timers.AskTimer.{AskTimer}
 use Rattle.wb_recovery.specs.declared.timers.AnswerTimer.{AnswerTimer}
 use Rattle.wb_recovery.specs.declared.timers.Timers.{Timers}
 use Rattle.wb_recovery.proofs.StoppedNames.{not_received, received_stops, timers_receipts}
-use Rattle.wb_host.specs.Keeper.{KeeperCall, SetDelay, SetConstants, Hear, Arrive, Miss, GoOn, Report, GiveUp, moment_at, delay_to, received_of, missed_of, events_of}
+use Rattle.wb_keeper.specs.Keeper.{KeeperCall, SetDelay, SetConstants, Hear, Arrive, Miss, GoOn, Report, GiveUp, moment_at, delay_to, received_of, missed_of, events_of}
 use Rattle.wb_progress.specs.Bounds.{IsUnder, AreSteady}
 use Rattle.wb_progress.specs.Calls.{Brings, Fires, Requests, Misses, AnswersGoOn, RequestsGoOn, Answers, QuietBegins, RequestsBegin, RequestsAreHeard}
 use Rattle.wb_progress.specs.Keepers.{AreWithin, constants_at}

@@ -10,8 +10,8 @@ use Rattle.wb_recovery.specs.Events.{names_of, timers_of, asking}
 use Rattle.wb_recovery.specs.Timing.{is_answer_due}
 use Rattle.wb_recovery.specs.declared.timers.AskTimer.{AskTimer}
 use Rattle.wb_recovery.specs.declared.timers.AnswerTimer.{AnswerTimer}
-use Rattle.wb_host.specs.Ticks.{sent_by_tick}
-use Rattle.wb_host.specs.Keeper.{KeeperCall, SetDelay, SetConstants, Hear, Arrive, Miss, GoOn, Report, GiveUp, moment_at, events_of, holds}
+use Rattle.wb_keeper.specs.Ticks.{sent_by_tick}
+use Rattle.wb_keeper.specs.Keeper.{KeeperCall, SetDelay, SetConstants, Hear, Arrive, Miss, GoOn, Report, GiveUp, moment_at, events_of, holds}
 use Rattle.wb_progress.specs.Calls.{Brings, Fires, Answers}
 use Rattle.wb_progress.specs.Keepers.{AreWithin}
 use Rattle.wb_progress.specs.Repairs.{timers_at}

@@ -6,8 +6,8 @@ use Rattle.wb_names.specs.Values.{NameValue}
 use Rattle.wb_codec.specs.declared.datagram.Datagram.TheVariants.{Request}
 use Rattle.wb_recovery.specs.Timing.{is_ask_due}
 use Rattle.wb_recovery.specs.declared.timers.AskTimer.{AskTimer}
-use Rattle.wb_host.specs.Keeper.{KeeperCall, GiveUp}
-use Rattle.wb_host.specs.Ticks.{sent_by_tick}
+use Rattle.wb_keeper.specs.Keeper.{KeeperCall, GiveUp}
+use Rattle.wb_keeper.specs.Ticks.{sent_by_tick}
 use Rattle.wb_progress.specs.Calls.{Brings, Fires, Requests}
 use Rattle.wb_progress.specs.InTime.{answering_by, repairing, known_from, IsGivenUp, TimerLeads, TimerLeadsBut, TimerLeadsOrIsGivenUp}
 use Rattle.wb_progress.specs.Keepers.{AreWithin}

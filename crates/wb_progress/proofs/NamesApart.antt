@@ -11,7 +11,7 @@ use Rattle.wb_names.specs.Values.{NameValue}
 use Rattle.wb_names.specs.Orders.{name_cmp, same_name}
 use Rattle.wb_names.proofs.Orders.{name_total, same_name-is}
 use Rattle.wb_names.proofs.Listings.{Contains-here, Contains-there, Contains-cases, Contains-none, below_all}
-use Rattle.wb_host.proofs.KeptCalls.{same_here}
+use Rattle.wb_keeper.proofs.KeptCalls.{same_here}
 use Rattle.wb_progress.specs.InTime.{AreApart}
 
 pub less_greater : ◌≡◌ {A = Ordering} Less Greater → ⊥

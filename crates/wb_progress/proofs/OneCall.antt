@@ -21,12 +21,12 @@ use Rattle.wb_recovery.specs.declared.timers.AnswerTimer.{AnswerTimer}
 use Rattle.wb_recovery.specs.declared.timers.Timers.{Timers}
 use Rattle.wb_recovery.proofs.NameLists.{listed_of}
 use Rattle.wb_recovery.proofs.StoppedNames.{not_received, received_stops, timers_receipts}
-use Rattle.wb_host.specs.GivingUp.{is_asked}
-use Rattle.wb_host.specs.Keeper.{KeeperCall, Miss, delay_to, received_of, given_up, events_of, holds}
-use Rattle.wb_host.specs.Ticks.{sent_for, sent_by_tick, stopped_after}
-use Rattle.wb_host.proofs.FoundDrawops.{found_member}
-use Rattle.wb_host.proofs.KeptCalls.{same_here}
-use Rattle.wb_host.proofs.TickSends.{sent_by}
+use Rattle.wb_keeper.specs.GivingUp.{is_asked}
+use Rattle.wb_keeper.specs.Keeper.{KeeperCall, Miss, delay_to, received_of, given_up, events_of, holds}
+use Rattle.wb_keeper.specs.Ticks.{sent_for, sent_by_tick, stopped_after}
+use Rattle.wb_keeper.proofs.FoundDrawops.{found_member}
+use Rattle.wb_keeper.proofs.KeptCalls.{same_here}
+use Rattle.wb_keeper.proofs.TickSends.{sent_by}
 use Rattle.wb_progress.specs.Keepers.{constants_at}
 use Rattle.wb_progress.specs.Repairs.{timers_at, gone_on, IsIdle, TicksAsk, TicksAnswer, TicksClear, TicksEnd, TicksLeave, RequestsSet, MissesStand, GivenUpIsIdle}
 use Rattle.std.proofs.lemmas.Bool.{le-leb, false_from_ne_true}

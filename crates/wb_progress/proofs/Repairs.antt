@@ -11,9 +11,9 @@ use Rattle.wb_recovery.specs.declared.tuning.Tuning.{Tuning}
 use Rattle.wb_recovery.specs.declared.timers.AskTimer.{AskTimer}
 use Rattle.wb_recovery.specs.declared.timers.AnswerTimer.{AnswerTimer}
 use Rattle.wb_recovery.specs.declared.timers.Timers.{Timers}
-use Rattle.wb_host.specs.Keeper.{KeeperCall, Hear, Miss, moment_at, delay_to, holds}
-use Rattle.wb_host.specs.Ticks.{sent_by_tick}
-use Rattle.wb_host.proofs.KeptCalls.{holds_from}
+use Rattle.wb_keeper.specs.Keeper.{KeeperCall, Hear, Miss, moment_at, delay_to, holds}
+use Rattle.wb_keeper.specs.Ticks.{sent_by_tick}
+use Rattle.wb_keeper.proofs.KeptCalls.{holds_from}
 use Rattle.wb_progress.specs.Bounds.{IsAskNear, IsAnswerNear}
 use Rattle.wb_progress.specs.Keepers.{farthest, greatest_constants, constants_at, AreOrderly}
 use Rattle.wb_progress.specs.Repairs.{timers_at, gone_on, gave_up, IsIdle, first_wait, asking_wait, answering_wait, quiet_wait, AskerAsks, AskedAnewIsSoon, AnswersAreSoon, HolderAnswers}

@@ -13,11 +13,11 @@ use Rattle.wb_recovery.specs.declared.tuning.Tuning.{Tuning}
 use Rattle.wb_recovery.specs.declared.timers.AskTimer.{AskTimer}
 use Rattle.wb_recovery.specs.declared.timers.Timers.{Timers}
 use Rattle.wb_recovery.proofs.NameLists.{listed_of}
-use Rattle.wb_host.specs.Hearing.{marks_heard}
-use Rattle.wb_host.specs.Keeper.{KeeperCall, Miss, delay_to, missed_of, events_of}
-use Rattle.wb_host.specs.Missing.{IsWanted, wanted_of}
-use Rattle.wb_host.proofs.FirstWanted.{first_are_wanted}
-use Rattle.wb_host.proofs.KeptCalls.{same_here}
+use Rattle.wb_keeper.specs.Hearing.{marks_heard}
+use Rattle.wb_keeper.specs.Keeper.{KeeperCall, Miss, delay_to, missed_of, events_of}
+use Rattle.wb_keeper.specs.Missing.{IsWanted, wanted_of}
+use Rattle.wb_keeper.proofs.FirstWanted.{first_are_wanted}
+use Rattle.wb_keeper.proofs.KeptCalls.{same_here}
 use Rattle.wb_progress.specs.InTime.{repairing, known_from, WaitsAtMost, AreApart, AreLacked, LacksAtMost, rounds, round, bound, AllComes}
 use Rattle.wb_progress.specs.Turns.{Terms, settled_by, Turn, Places, desk_at, has, timers_there, time_of, AreInOrder, until, IsAnswerable, AllHoldBehind, LooksWithin, KeepTime, KeepLooking}
 use Rattle.wb_progress.proofs.Giving.{desk_here, keeps}

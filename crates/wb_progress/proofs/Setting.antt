@@ -5,7 +5,7 @@ use Rattle.std.proofs.Math.Nat.{mul-le-mul_right}
 use Rattle.std.proofs.lemmas.List.{append_cancel_right}
 use Rattle.wb_names.specs.Values.{NameValue}
 use Rattle.wb_recovery.specs.declared.timers.AskTimer.{AskTimer}
-use Rattle.wb_host.specs.Keeper.{KeeperCall, moment_at}
+use Rattle.wb_keeper.specs.Keeper.{KeeperCall, moment_at}
 use Rattle.wb_progress.specs.Calls.{Misses}
 use Rattle.wb_progress.specs.InTime.{answering_by, repairing, known_from, WaitsAtMost, RoundsEnd}
 use Rattle.wb_progress.specs.Keepers.{AreWithin}

@@ -11,7 +11,7 @@ use Rattle.wb_recovery.specs.declared.tuning.Tuning.{Tuning}
 use Rattle.wb_recovery.specs.declared.timers.AskTimer.{AskTimer}
 use Rattle.wb_recovery.specs.declared.timers.AnswerTimer.{AnswerTimer}
 use Rattle.wb_recovery.specs.declared.timers.Timers.{Timers}
-use Rattle.wb_host.proofs.KeptCalls.{same_here}
+use Rattle.wb_keeper.proofs.KeptCalls.{same_here}
 use Rattle.wb_recovery.proofs.TimerLaws.{request_stays, answer_stays_set, quiet_stays_left}
 use Rattle.wb_progress.specs.Bounds.{AreSteady, IsAnswerNear}
 use Rattle.wb_progress.specs.Standing.{Did, AnswersAreKept, RequestsAreKept, IsCause, QuietHasCause, RequestsAreTaken, IsRecent, RequestsLeadOn}

@@ -3,7 +3,7 @@ use Rattle.std.specs.Prelude.{◌≡◌, ◌≢◌, ◌⊎◌, ℕ, ◌+◌, ◌
 use Rattle.wb_names.specs.Values.{NameValue}
 use Rattle.wb_codec.specs.declared.datagram.Datagram.TheVariants.{Request}
 use Rattle.wb_recovery.specs.declared.timers.AskTimer.{AskTimer}
-use Rattle.wb_host.specs.Keeper.{GiveUp}
+use Rattle.wb_keeper.specs.Keeper.{GiveUp}
 use Rattle.wb_progress.specs.Turns.{Terms, settled_by, Turn, Places, has, timers_there, time_of, until, Accepts, IsAnswerable, AllHoldBehind, IsOtherOrLacked, KeepTime, KeepTimeBut, KeepLooking}
 
 -- ---- spans, in microseconds

@@ -7,9 +7,9 @@ use Rattle.wb_recovery.specs.Events.{timers_of}
 use Rattle.wb_recovery.specs.Timing.{are_constants, is_ask_due, is_answer_due, new_answer}
 use Rattle.wb_recovery.specs.declared.tuning.Tuning.{Tuning}
 use Rattle.wb_recovery.specs.declared.timers.Timers.{Timers}
-use Rattle.wb_host.specs.GivingUp.{is_asked}
-use Rattle.wb_host.specs.Keeper.{KeeperCall, Hear, Miss, GoOn, GiveUp, moment_at, delay_to, events_of, holds}
-use Rattle.wb_host.specs.Ticks.{sent_by_tick, stopped_after}
+use Rattle.wb_keeper.specs.GivingUp.{is_asked}
+use Rattle.wb_keeper.specs.Keeper.{KeeperCall, Hear, Miss, GoOn, GiveUp, moment_at, delay_to, events_of, holds}
+use Rattle.wb_keeper.specs.Ticks.{sent_by_tick, stopped_after}
 use Rattle.wb_progress.specs.Keepers.{AreOrderly, constants_at}
 
 -- the timers of a name at a keeper

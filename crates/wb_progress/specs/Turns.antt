@@ -10,10 +10,10 @@ use Rattle.wb_recovery.specs.declared.tuning.Tuning.{Tuning}
 use Rattle.wb_recovery.specs.declared.timers.AskTimer.{AskTimer}
 use Rattle.wb_recovery.specs.declared.timers.AnswerTimer.{AnswerTimer}
 use Rattle.wb_recovery.specs.declared.timers.Timers.{Timers}
-use Rattle.wb_host.specs.Hearing.{marks_heard}
-use Rattle.wb_host.specs.Keeper.{KeeperCall, Hear, Arrive, Miss, GoOn, GiveUp, moment_at, events_of, holds}
-use Rattle.wb_host.specs.Missing.{wanted_of}
-use Rattle.wb_host.specs.Ticks.{sent_by_tick, stopped_after}
+use Rattle.wb_keeper.specs.Hearing.{marks_heard}
+use Rattle.wb_keeper.specs.Keeper.{KeeperCall, Hear, Arrive, Miss, GoOn, GiveUp, moment_at, events_of, holds}
+use Rattle.wb_keeper.specs.Missing.{wanted_of}
+use Rattle.wb_keeper.specs.Ticks.{sent_by_tick, stopped_after}
 use Rattle.wb_progress.specs.Keepers.{AreWithin}
 use Rattle.wb_progress.specs.Repairs.{timers_at}
 

@@ -9,15 +9,15 @@ use Rattle.wb_gaps.specs.declared.page_reports.PageReport.{PageReport}
 use Rattle.wb_recovery.specs.declared.plan.Action.{Action}
 use Rattle.wb_recovery.specs.Events.{asking, actions_of, timers_of, names_of as timer_names}
 use Rattle.wb_recovery.specs.Stopping.{receipts}
-use Rattle.wb_host.specs.Keeper.{KeeperCall, Hear, Miss, GoOn, delay_to, received_of, holds}
-use Rattle.wb_host.specs.Hearing.{marks_heard, asks_for_held, asks_for_pages, answers_to}
-use Rattle.wb_host.specs.Sessions.{echoes_of}
-use Rattle.wb_host.specs.Missing.{wanted, names_in_gaps}
+use Rattle.wb_keeper.specs.Keeper.{KeeperCall, Hear, Miss, GoOn, delay_to, received_of, holds}
+use Rattle.wb_keeper.specs.Hearing.{marks_heard, asks_for_held, asks_for_pages, answers_to}
+use Rattle.wb_keeper.specs.Sessions.{echoes_of}
+use Rattle.wb_keeper.specs.Missing.{wanted, names_in_gaps}
 use Rattle.wb_commands.specs.declared.fault.LineFault.TheVariants as faults
 use Rattle.wb_commands.specs.declared.command.Command.{Command}
 use Rattle.wb_commands.specs.declared.command.Command.TheVariants.{Hear as HearLine, Tick, Look, Session, Question}
 use Rattle.wb_commands.specs.Answers.{answer_text}
-use Rattle.wb_host.specs.Known.{pages_heard}
+use Rattle.wb_keeper.specs.Known.{pages_heard}
 use Rattle.wb_member.specs.Questions.{Told, answer_to}
 use Rattle.wb_member.specs.declared.questions.Query.{Query}
 use Rattle.wb_member.specs.Members.{calling as told}

@@ -5,7 +5,7 @@ use Rattle.wb_names.specs.Values.{NameValue, DrawopValue}
 use Rattle.wb_names.specs.Arrivals.{counts_of, outcomes_of, history_after}
 use Rattle.wb_names.specs.Orders.{name_cmp}
 use Rattle.wb_gaps.specs.Sorting.{sorted}
-use Rattle.wb_host.specs.Keeper.{Arrive, holds}
+use Rattle.wb_keeper.specs.Keeper.{Arrive, holds}
 use Rattle.wb_commands.specs.Answers.{batch_line}
 use Rattle.wb_member.specs.Members.{names_of}
 use Rattle.wb_member.specs.Opened.{Opened, present, board_of}

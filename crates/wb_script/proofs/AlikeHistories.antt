@@ -28,10 +28,10 @@ use Rattle.wb_gaps.proofs.Starts.{page_is}
 use Rattle.wb_gaps.specs.Sorting.{sorted}
 use Rattle.wb_recovery.specs.declared.plan.Action.{Action}
 use Rattle.wb_recovery.specs.declared.plan.Action.TheVariants.{Ask, Answer}
-use Rattle.wb_host.specs.Keeper.{holds}
-use Rattle.wb_host.specs.Hearing.{asks_for_held}
-use Rattle.wb_host.specs.Ticks.{drawop_of, sent_for}
-use Rattle.wb_host.proofs.FoundDrawops.{found_member, found_none}
+use Rattle.wb_keeper.specs.Keeper.{holds}
+use Rattle.wb_keeper.specs.Hearing.{asks_for_held}
+use Rattle.wb_keeper.specs.Ticks.{drawop_of, sent_for}
+use Rattle.wb_keeper.proofs.FoundDrawops.{found_member, found_none}
 use Rattle.wb_commands.specs.Answers.{answer_text}
 use Rattle.wb_member.specs.Opened.{number_after}
 use Rattle.wb_member.specs.Questions.{answer_by}

@@ -11,8 +11,8 @@ use Rattle.wb_names.specs.Arrivals.{Outcome, Fresh, Known, history_with, Counts,
 use Rattle.wb_names.proofs.Arrivals.{outcome_is, history_with-is}
 use Rattle.wb_names.proofs.Listings.{Contains-here, Contains-there, Contains-none}
 use Rattle.wb_names.proofs.Orders.{same_name-is}
-use Rattle.wb_host.specs.Keeper.{holds}
-use Rattle.wb_host.proofs.KeptCalls.{holds_from}
+use Rattle.wb_keeper.specs.Keeper.{holds}
+use Rattle.wb_keeper.proofs.KeptCalls.{holds_from}
 use Rattle.wb_script.specs.Laws.{NoneClash, HasCells, BatchesAreOne, ArrivalsAreFree}
 use Rattle.wb_script.proofs.BatchLaws.{counts_add_up, held_stays}
 use Rattle.wb_script.proofs.Members.{Among, rearranged, among_both, same_members}

@@ -23,12 +23,12 @@ use Rattle.wb_recovery.specs.declared.missed.Received.{Received}
 use Rattle.wb_recovery.specs.declared.timers.Timers.{Timers}
 use Rattle.wb_recovery.specs.declared.tuning.Tuning.{Tuning}
 use Rattle.wb_recovery.proofs.StoppedNames.{constants_receipts}
-use Rattle.wb_host.specs.Hearing.{marks_heard, marks_reported}
-use Rattle.wb_host.specs.Keeper.{KeeperCall, SetDelay, SetConstants, Hear, Arrive, Miss, GoOn, Report, GiveUp, newest, now_of, moment_at, delay_given, delay_to, session_heard, remember, senders_of, heard_by, last_heard, missed_of, received_of, timer_calls, events_of}
-use Rattle.wb_host.specs.Known.{page_named, pages_heard}
-use Rattle.wb_host.specs.Sessions.{echo_cmp, echo_to, echoes_of}
-use Rattle.wb_host.specs.declared.keeper.Heard.{Heard}
-use Rattle.wb_host.proofs.FreeArrivals.{timers_alike}
+use Rattle.wb_keeper.specs.Hearing.{marks_heard, marks_reported}
+use Rattle.wb_keeper.specs.Keeper.{KeeperCall, SetDelay, SetConstants, Hear, Arrive, Miss, GoOn, Report, GiveUp, newest, now_of, moment_at, delay_given, delay_to, session_heard, remember, senders_of, heard_by, last_heard, missed_of, received_of, timer_calls, events_of}
+use Rattle.wb_keeper.specs.Known.{page_named, pages_heard}
+use Rattle.wb_keeper.specs.Sessions.{echo_cmp, echo_to, echoes_of}
+use Rattle.wb_keeper.specs.declared.keeper.Heard.{Heard}
+use Rattle.wb_keeper.proofs.FreeArrivals.{timers_alike}
 use Rattle.wb_script.proofs.Members.{Among}
 use Rattle.wb_script.proofs.Telling.{comes_alike}
 

@@ -14,12 +14,12 @@ use Rattle.wb_recovery.specs.declared.plan.Action.{Action}
 use Rattle.wb_recovery.specs.declared.plan.Action.TheVariants.{Ask, Answer}
 use Rattle.wb_recovery.specs.declared.timers.Timers.{Timers}
 use Rattle.wb_recovery.specs.declared.tuning.Tuning.{Tuning}
-use Rattle.wb_host.specs.Hearing.{marks_heard, asks_for_held, answers_to, has_room}
-use Rattle.wb_host.specs.Keeper.{KeeperCall, Hear, Miss, GoOn, Report, SetDelay, SetConstants, delay_to, received_of, holds, is_own}
-use Rattle.wb_host.specs.Known.{pages_heard}
-use Rattle.wb_host.specs.Missing.{wanted, names_in_gaps}
-use Rattle.wb_host.specs.Sessions.{echoes_of}
-use Rattle.wb_host.specs.Ticks.{sends_for, stopped_after}
+use Rattle.wb_keeper.specs.Hearing.{marks_heard, asks_for_held, answers_to, has_room}
+use Rattle.wb_keeper.specs.Keeper.{KeeperCall, Hear, Miss, GoOn, Report, SetDelay, SetConstants, delay_to, received_of, holds, is_own}
+use Rattle.wb_keeper.specs.Known.{pages_heard}
+use Rattle.wb_keeper.specs.Missing.{wanted, names_in_gaps}
+use Rattle.wb_keeper.specs.Sessions.{echoes_of}
+use Rattle.wb_keeper.specs.Ticks.{sends_for, stopped_after}
 use Rattle.wb_commands.specs.Acts.{Act, does, fails, tells, asked, act}
 use Rattle.wb_commands.specs.Answers.{answer_text}
 use Rattle.wb_commands.specs.SentLines.{sends_text, look_line}

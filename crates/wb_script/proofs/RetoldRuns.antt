@@ -7,7 +7,7 @@ use Rattle.wb_names.specs.Arrivals.{history_after}
 use Rattle.wb_names.specs.Orders.{name_cmp}
 use Rattle.wb_names.specs.Values.{NameValue, DrawopValue}
 use Rattle.wb_gaps.specs.Sorting.{sorted}
-use Rattle.wb_host.specs.Keeper.{KeeperCall, Arrive, holds}
+use Rattle.wb_keeper.specs.Keeper.{KeeperCall, Arrive, holds}
 use Rattle.wb_lines.specs.Input.{InputLine, content}
 use Rattle.wb_commands.specs.Acts.{Act, does, fails, act}
 use Rattle.wb_commands.specs.declared.command.Command.{Command}

@@ -16,10 +16,10 @@ use Rattle.wb_recovery.proofs.StoppedNames.{constants_receipts}
 use Rattle.wb_recovery.specs.Events.{Event, Got, moment_of}
 use Rattle.wb_recovery.specs.Stopping.{receipts}
 use Rattle.wb_recovery.specs.declared.tuning.Tuning.{Tuning}
-use Rattle.wb_host.specs.Keeper.{KeeperCall, Arrive, holds, received_of, events_of, delay_to}
-use Rattle.wb_host.specs.Keeping.{KeeperValue, StandsFor}
-use Rattle.wb_host.proofs.FreeArrivals.{comes, timers_alike}
-use Rattle.wb_host.proofs.KeptCalls.{same_here}
+use Rattle.wb_keeper.specs.Keeper.{KeeperCall, Arrive, holds, received_of, events_of, delay_to}
+use Rattle.wb_keeper.specs.Keeping.{KeeperValue, StandsFor}
+use Rattle.wb_keeper.proofs.FreeArrivals.{comes, timers_alike}
+use Rattle.wb_keeper.proofs.KeptCalls.{same_here}
 use Rattle.wb_member.specs.Holding.{MemberValue, IsOpenAt}
 use Rattle.wb_member.specs.Members.{names_of}
 use Rattle.wb_member.specs.Opened.{Opened, present, accepted}

@@ -5,7 +5,7 @@ use Rattle.std.proofs.lemmas.List.Sorted.{IsPermutation-refl}
 use Rattle.wb_names.specs.Values.{DrawopValue}
 use Rattle.wb_names.specs.Arrivals.{Counts, counts_of, outcomes_of}
 use Rattle.wb_names.proofs.Arrivals.{batch_is}
-use Rattle.wb_host.specs.Desks.{HistoryValue, PassValue, IsSound}
+use Rattle.wb_board.specs.Desks.{HistoryValue, PassValue, IsSound}
 use Rattle.wb_feed.specs.declared.batch.Batch.{Batch}
 use Rattle.wb_feed.specs.Accepts.{Keeps as DeskKeeps}
 use Rattle.wb_feed.specs.Batches.{counts_in, IsInOrder, Takes}

@@ -6,7 +6,7 @@ use Rattle.wb_names.specs.Arrivals.{outcomes_of, counts_of}
 use Rattle.wb_names.specs.Orders.{name_cmp}
 use Rattle.wb_gaps.specs.Sorting.{sorted}
 use Rattle.wb_recovery.specs.declared.tuning.Tuning.{Tuning}
-use Rattle.wb_host.specs.Keeper.{KeeperCall, Arrive}
+use Rattle.wb_keeper.specs.Keeper.{KeeperCall, Arrive}
 use Rattle.wb_member.specs.Board.{Held}
 use Rattle.wb_member.specs.Opened.{Opened, opened_with, batched}
 use Rattle.wb_commands.specs.Answers.{batch_line}

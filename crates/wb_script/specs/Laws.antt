@@ -4,7 +4,7 @@ use Rattle.wb_names.specs.Values.{DrawopValue, MarkValue}
 use Rattle.wb_names.specs.History.{IsHistory}
 use Rattle.wb_names.specs.Arrivals.{history_after}
 use Rattle.wb_names.specs.declared.name.PageId.{PageId}
-use Rattle.wb_host.specs.Counts.{MAX_CELLS}
+use Rattle.wb_board.specs.Counts.{MAX_CELLS}
 use Rattle.wb_commands.specs.Answers.{answer_text}
 use Rattle.wb_member.specs.Opened.{Opened, batched}
 use Rattle.wb_member.specs.Questions.{answer_by}

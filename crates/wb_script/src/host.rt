@@ -6,7 +6,7 @@ ghost use Rattle.wb_lines.specs.Input.{InputLine};
 ghost use Rattle.wb_lines.specs.Handling.{whole};
 ghost use Rattle.wb_lines.specs.Moments.{moment, Reads};
 ghost use Rattle.wb_lines.specs.Steps.{DoesGroup};
-ghost use Rattle.wb_host.specs.Counts.{IsCellCount, IsWorkerCount};
+ghost use Rattle.wb_board.specs.Counts.{IsCellCount, IsWorkerCount};
 ghost use Rattle.wb_commands.specs.Parsing.{IsWithin};
 ghost use Rattle.wb_script.specs.Script.{State, IsAlone, Acts, Arrival, End, part_in, part_of, held_count, part_step, said_step};
 ghost use Rattle.wb_script.specs.Inside.Parts.{by_batches, EndsBatchAt, Says};

@@ -1,7 +1,7 @@
 //! A batch that is read from its script as workers take it.
 ghost use Rattle.std.specs.Prelude.{◌≡◌, ◌≤◌, ◌<◌, ℕ, [], List, true, false, IfOk, OnOk};
 ghost use Rattle.wb_names.specs.Values.{DrawopValue};
-ghost use Rattle.wb_host.specs.Counts.{IsWorkerCount};
+ghost use Rattle.wb_board.specs.Counts.{IsWorkerCount};
 ghost use Rattle.wb_lines.specs.Input.{InputLine};
 ghost use Rattle.wb_lines.specs.Moments.{moment, Reads};
 ghost use Rattle.wb_feed.specs.Batches.{counts_in};

@@ -11,8 +11,8 @@ ghost use Rattle.wb_keeping.specs.Refusing.{came_as};
 use crate::choices::{distance_in, own_echo, own_marks, told_names};
 use crate::kept_member::KeptMember;
 use std::alloc::{AllocError, Global};
+use wb_board::Reply;
 use wb_codec::Datagram;
-use wb_host::Reply;
 use wb_names::{Drawop, Echoes, Marks, Name, PageId};
 
 impl KeptMember {

@@ -3,7 +3,7 @@ ghost use Rattle.std.specs.Prelude.{◌≡◌, ◌≤◌, ◌<◌, ◌^◌, ◌+
 ghost use Rattle.wb_names.specs.Moments.{IsMoment};
 ghost use Rattle.wb_recovery.specs.Delays.{IsDelay};
 ghost use Rattle.wb_codec.specs.declared.datagram.Datagram.TheVariants.{Draw};
-ghost use Rattle.wb_host.specs.Hearing.{asks_for_pages};
+ghost use Rattle.wb_keeper.specs.Hearing.{asks_for_pages};
 ghost use Rattle.wb_member.specs.Holding.{outcome_in};
 ghost use Rattle.wb_member.specs.Opened.{becomes};
 ghost use Rattle.wb_keeping.specs.Kept.{Arrives, Asks, Hears, Says, SetsDistance, Stops, Ticks, performs};
@@ -13,8 +13,9 @@ ghost use Rattle.wb_keeping.specs.Steps.{back_lines, lends_for, performs_all, se
 use crate::distances::UNKNOWN;
 use crate::kept_member::KeptMember;
 use std::alloc::{AllocError, Global};
+use wb_board::Reply;
 use wb_codec::Datagram;
-use wb_host::{KeepFault, Reply};
+use wb_keeper::KeepFault;
 use wb_names::{Drawop, Name};
 
 impl KeptMember {

@@ -1,11 +1,13 @@
 //! What a self-managing member answers. That changes nothing, and needs no moment.
-ghost use Rattle.std.specs.Prelude.{◌≡◌, IfOk};
+ghost use Rattle.std.specs.Prelude.{◌≡◌, IfOk, nat_lt};
+ghost use Rattle.wb_member.specs.Judged.{highest};
 ghost use Rattle.wb_member.specs.Questions.{IsAnswerable, answer_to, told};
 ghost use Rattle.wb_keeping.specs.Performing.{IsKeptAt, Keeping};
 
 use crate::kept_member::KeptMember;
 use std::alloc::{AllocError, Global};
 use wb_member::{Answer, Member, Query};
+use wb_names::PageId;
 
 impl KeptMember {
     /// Answers a question, as its member does.
@@ -23,5 +25,20 @@ impl KeptMember {
         ensures { result.now ≡ self.now.member }
     {
         &self.member
+    }
+    /// Whether it listens at a moment, and adds nothing yet.
+    pub fn is_listening(&self, now: u64) -> bool
+        ensures { (k : Keeping) → IsKeptAt self.now k → result ≡ nat_lt now k.policy.ready }
+    {
+        self.policy.is_listening(now)
+    }
+
+    /// The greatest number of a source on a page that is held, or 0.
+    pub fn highest(&mut self, page: PageId, source: u32) -> Result<u32, AllocError>
+        ensures same { self.new ≡ self.old }
+        ensures number { IfOk result (λ number. (k : Keeping) → IsKeptAt self.old k →
+            number ≡ highest page source k.host) }
+    {
+        self.member.highest(page, source)
     }
 }

@@ -6,7 +6,7 @@ ghost use Rattle.wb_member.specs.Opened.{Opened, reported, message, looked, want
 use crate::member::Member;
 use std::alloc::{AllocError, Global};
 use wb_codec::Datagram;
-use wb_host::KeepFault;
+use wb_keeper::KeepFault;
 use wb_names::{Name, PageId};
 
 impl Member {

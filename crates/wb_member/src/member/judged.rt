@@ -2,7 +2,7 @@
 //! changes the member.
 ghost use Rattle.std.specs.Prelude.{◌≡◌, ◌<◌, ◌≤◌, ◌^◌, length, IfOk, IfSome};
 ghost use Rattle.wb_recovery.specs.Delays.{IsDelay};
-ghost use Rattle.wb_host.specs.Counts.{MAX_CELLS};
+ghost use Rattle.wb_board.specs.Counts.{MAX_CELLS};
 ghost use Rattle.wb_member.specs.Holding.{IsOpenAt};
 ghost use Rattle.wb_member.specs.Judged.{is_full, holds, asked_names, level, delay, echoes, highest, hole_after};
 ghost use Rattle.wb_member.specs.Opened.{Opened};

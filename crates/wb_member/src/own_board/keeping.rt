@@ -5,19 +5,19 @@ ghost use Rattle.wb_recovery.specs.Events.{actions_of, due_asks};
 ghost use Rattle.wb_recovery.specs.Stopping.{receipts};
 ghost use Rattle.wb_recovery.specs.Values.{timers_in, names_in};
 ghost use Rattle.wb_recovery.specs.declared.tuning.Tuning.{Tuning as Constants};
-ghost use Rattle.wb_host.specs.Hearing.{answers_to, asks_for_held, hear_fault, marks_heard};
-ghost use Rattle.wb_host.specs.Keeper.{KeeperCall, Arrive, GoOn, Hear, Report, received_of, delay_to, events_of, holds};
-ghost use Rattle.wb_host.specs.Keeping.{Keeps, StandsFor, marks_at};
-ghost use Rattle.wb_host.specs.KeepFaults.{IsKeptBy, moment_fault};
-ghost use Rattle.wb_host.specs.Known.{known_pages, known_number};
-ghost use Rattle.wb_host.specs.Missing.{wanted_of};
-ghost use Rattle.wb_host.specs.Sessions.{message_of};
-ghost use Rattle.wb_host.specs.Ticks.{sends_for, stopped_in};
+ghost use Rattle.wb_keeper.specs.Hearing.{answers_to, asks_for_held, hear_fault, marks_heard};
+ghost use Rattle.wb_keeper.specs.Keeper.{KeeperCall, Arrive, GoOn, Hear, Report, received_of, delay_to, events_of, holds};
+ghost use Rattle.wb_keeper.specs.Keeping.{Keeps, StandsFor, marks_at};
+ghost use Rattle.wb_keeper.specs.KeepFaults.{IsKeptBy, moment_fault};
+ghost use Rattle.wb_keeper.specs.Known.{known_pages, known_number};
+ghost use Rattle.wb_keeper.specs.Missing.{wanted_of};
+ghost use Rattle.wb_keeper.specs.Sessions.{message_of};
+ghost use Rattle.wb_keeper.specs.Ticks.{sends_for, stopped_in};
 
 use crate::own_board::OwnBoard;
 use std::alloc::{AllocError, Global};
 use wb_codec::Datagram;
-use wb_host::{KeepFault, Keeper};
+use wb_keeper::{KeepFault, Keeper};
 use wb_names::{Name, PageId};
 
 impl OwnBoard {

@@ -1,6 +1,6 @@
 use Rattle.std.proofs.Common.{rules, ◌≡◌, Err, ap, subst}
 use Rattle.crossbeam_channel.specs.Claims.{view}
-use Rattle.wb_host.specs.Desks.{PassValue}
+use Rattle.wb_board.specs.Desks.{PassValue}
 use Rattle.wb_feed.specs.declared.workers.WorkFault.TheVariants.{Start}
 use Rattle.wb_feed.specs.Served.{Served}
 use Rattle.wb_feed.proofs.TakingBack.{fed_none, one_fed, one_kept, refused_worked}

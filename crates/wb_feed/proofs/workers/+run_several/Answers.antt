@@ -1,6 +1,6 @@
 use Rattle.std.proofs.Common.{rules, arith, ◌≡◌, ◌<◌, ◌-◌, suc, Err, refl, ap, subst}
 use Rattle.crossbeam_channel.specs.Claims.{view}
-use Rattle.wb_host.specs.Desks.{PassValue, IsSplit}
+use Rattle.wb_board.specs.Desks.{PassValue, IsSplit}
 use Rattle.wb_feed.specs.declared.workers.WorkFault.TheVariants.{Start}
 use Rattle.wb_feed.specs.Served.{Served}
 use Rattle.wb_feed.proofs.Log.{loses_is}

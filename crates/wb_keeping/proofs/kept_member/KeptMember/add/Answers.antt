@@ -11,7 +11,7 @@ use Rattle.wb_keeping.proofs.Refused.{failed_by, fault_is, refused_by, taken_by,
 use Rattle.wb_codec.specs.declared.datagram.Datagram.TheVariants.{Draw}
 use Rattle.wb_names.specs.Shapes.{op_of}
 use Rattle.wb_keeping.specs.Refusing.{add_fault, drawing_fault}
-use Rattle.wb_host.specs.declared.keep_fault.KeepFault.TheVariants.{Memory}
+use Rattle.wb_keeper.specs.declared.keep_fault.KeepFault.TheVariants.{Memory}
 use Rattle.wb_keeping.specs.declared.kept_fault.KeptFault.TheVariants.{Host}
 use Rattle.wb_keeping.specs.declared.kept_member.Done.{Done}
 use Rattle.wb_keeping.proofs.kept_member.KeptMember.add.Goals as goal

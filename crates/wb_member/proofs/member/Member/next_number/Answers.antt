@@ -1,6 +1,6 @@
 use Rattle.std.proofs.Common.{rules, ◌≡◌, ◌∙◌, List, ap, sym, subst}
 use Rattle.wb_names.specs.Values.{DrawopValue}
-use Rattle.wb_host.specs.Known.{known_number}
+use Rattle.wb_keeper.specs.Known.{known_number}
 use Rattle.wb_member.specs.Holding.{MemberValue, IsOpenAt}
 use Rattle.wb_member.specs.Opened.{last_number}
 use Rattle.wb_member.proofs.Acts.{same_history}

@@ -1,5 +1,5 @@
 use Rattle.std.proofs.Common.{◌∙◌, sym, subst}
-use Rattle.wb_host.proofs.StoppedTimers.{stopped_by_calls}
+use Rattle.wb_keeper.proofs.StoppedTimers.{stopped_by_calls}
 use Rattle.wb_member.specs.Board.{Held}
 use Rattle.wb_member.specs.Holding.{MemberValue, IsOpenAt}
 use Rattle.wb_member.specs.Opened.{ticked}

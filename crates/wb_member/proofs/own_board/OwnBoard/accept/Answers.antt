@@ -1,5 +1,5 @@
 use Rattle.wb_names.specs.Arrivals.{Left}
-use Rattle.wb_host.specs.Replies.{outcome}
+use Rattle.wb_board.specs.Replies.{outcome}
 use Rattle.wb_member.proofs.OneArrival.{became, held}
 use Rattle.wb_member.proofs.own_board.OwnBoard.accept.Goals.{in-Ok, in-Err-NoRow, in-Err-Memory}
 use Rattle.wb_member.proofs.own_board.OwnBoard.accept.Goals as goal

@@ -1,4 +1,4 @@
-use Rattle.wb_host.specs.Keeping.{marks_at}
+use Rattle.wb_keeper.specs.Keeping.{marks_at}
 use Rattle.wb_member.proofs.Boards.{gaps_here, if_ok}
 use Rattle.wb_member.proofs.own_board.OwnBoard.gaps.Goals as goal
 

@@ -1,6 +1,6 @@
 use Rattle.std.proofs.Common.{◌∙◌, ap}
-use Rattle.wb_host.specs.Keeper.{holds}
-use Rattle.wb_host.proofs.KeptCalls.{found_by, holds_from, holds_not}
+use Rattle.wb_keeper.specs.Keeper.{holds}
+use Rattle.wb_keeper.proofs.KeptCalls.{found_by, holds_from, holds_not}
 use Rattle.wb_member.specs.Board.{Held}
 use Rattle.wb_member.proofs.own_board.OwnBoard.holds.Goals as goal
 

@@ -1,6 +1,6 @@
 use Rattle.std.proofs.Common.{◌≡◌, List}
 use Rattle.wb_names.specs.Values.{MarkValue}
-use Rattle.wb_host.specs.Board.{IsAnswer, AskReport, Marks}
+use Rattle.wb_board.specs.Board.{IsAnswer, AskReport, Marks}
 use Rattle.wb_gaps.specs.Answers.{report_of}
 use Rattle.wb_member.proofs.Boards.{report_here, if_ok}
 use Rattle.wb_member.proofs.own_board.OwnBoard.report.Goals as goal

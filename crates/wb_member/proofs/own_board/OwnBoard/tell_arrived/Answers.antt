@@ -1,7 +1,7 @@
 use Rattle.std.proofs.Common.{ap, subst, ℕ, List, ◌∷◌, filter}
 use Rattle.wb_names.specs.Values.{DrawopValue}
-use Rattle.wb_host.specs.Keeper.{Arrive, holds}
-use Rattle.wb_host.specs.Keeping.{StandsFor}
+use Rattle.wb_keeper.specs.Keeper.{Arrive, holds}
+use Rattle.wb_keeper.specs.Keeping.{StandsFor}
 use Rattle.wb_member.specs.Board.{Held}
 use Rattle.wb_member.proofs.own_board.OwnBoard.tell_arrived.Goals as goal
 

@@ -1,0 +1,10 @@
+pub mod Replies
+pub mod Faults
+pub mod Layers
+pub mod Held
+pub mod Board
+pub mod Desks
+pub mod Counts
+pub mod Borrows
+pub mod Runs
+pub mod Laws

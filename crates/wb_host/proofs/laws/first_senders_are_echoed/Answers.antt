@@ -1,5 +1,0 @@
-use Rattle.wb_host.proofs.FirstSenders.{first_senders_are_echoed}
-use Rattle.wb_host.proofs.laws.first_senders_are_echoed.Goals as goal
-
-pub returns : goal.returns
-returns c = first_senders_are_echoed

@@ -1,5 +1,0 @@
-use Rattle.wb_host.proofs.KeeperAnswers.{one_sent, one_wanted, answers_are_sent, wanted_of_page}
-use Rattle.wb_host.proofs.laws.keepers_answer_alike.Goals as goal
-
-pub returns : goal.returns
-returns c = record { sent = one_sent; wanted = one_wanted; answers = answers_are_sent; names = wanted_of_page }

@@ -1,5 +1,0 @@
-use Rattle.wb_host.proofs.KnownThings.{known_pages_are_known}
-use Rattle.wb_host.proofs.laws.known_pages_are_known.Goals as goal
-
-pub returns : goal.returns
-returns c = known_pages_are_known

@@ -1,5 +1,0 @@
-use Rattle.wb_host.proofs.NextDues.{next_due_is_least}
-use Rattle.wb_host.proofs.laws.next_due_is_least.Goals as goal
-
-pub returns : goal.returns
-returns c = next_due_is_least

@@ -1,6 +1,0 @@
-use Rattle.wb_host.proofs.MessageValue.{message_is_session}
-use Rattle.wb_host.proofs.OneMessage.{one_session}
-use Rattle.wb_host.proofs.laws.one_session.Goals as goal
-
-pub returns : goal.returns
-returns c = record { one = one_session; message = message_is_session }

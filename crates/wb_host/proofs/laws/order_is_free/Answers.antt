@@ -1,5 +1,0 @@
-use Rattle.wb_host.proofs.Agreement.{answers_converge, canvases_converge}
-use Rattle.wb_host.proofs.laws.order_is_free.Goals as goal
-
-pub returns : goal.returns
-returns c = record { answers = answers_converge; canvases = canvases_converge }

@@ -1,0 +1,12 @@
+pub mod Keeper
+pub mod Hearing
+pub mod Keeping
+pub mod GivingUp
+pub mod Known
+pub mod Dues
+pub mod Missing
+pub mod TakingIn
+pub mod KeepFaults
+pub mod Sessions
+pub mod Ticks
+pub mod KeeperLaws
