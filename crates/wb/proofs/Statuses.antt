@@ -1,5 +1,5 @@
 -- Statuses of failures, and ends that nothing was written to.
-use Rattle.std.proofs.Common.{◌≡◌, ◌⊎◌, ℕ, List, [], Option, Some, None, sym, ◌∙◌, refl, append-nil, inl, inr, arith}
+use Rattle.std.proofs.Common.{◌≡◌, ◌⊎◌, ℕ, List, [], Option, Some, None, Result, Ok, Err, sym, ap, ◌∙◌, refl, append-nil, inl, inr, arith}
 use Rattle.std.specs.Io.KnownBytes.{Appends}
 use Rattle.clap.specs.Words.{Text, kind_of}
 use Rattle.clap.specs.declared.error.Error.{Error}
@@ -12,7 +12,7 @@ use Rattle.wb_filters.specs.declared.fault.LineFault.{LineFault}
 use Rattle.wb_dialog.specs.declared.fault.HostFault.{HostFault}
 use Rattle.wb_dialog.specs.declared.fault.HostFault.TheVariants as host_faults
 use Rattle.wb.specs.CommandLine.{Asks}
-use Rattle.wb.specs.Serving.{failure_status, filter_status, host_status, run_status}
+use Rattle.wb.specs.Serving.{failure_status, filter_status, host_status, run_status, status_by}
 use Rattle.wb.specs.declared.command.Task.{Task}
 use Rattle.wb.specs.declared.serving.Failure.{Failure}
 use Rattle.wb.specs.declared.serving.Failure.TheVariants as failures
@@ -69,6 +69,10 @@ run_lost run_faults.Read e = inl refl
 run_lost run_faults.Write e = inr refl
 run_lost run_faults.Memory e = absurd (omega (arith, e))
 run_lost run_faults.Start e = absurd (omega (arith, e))
+
+pub script_lost : {X : Type 0} (r : Result X RunFault) → status_by run_status r ≡ 3 → (r ≡ Err run_faults.Read) ⊎ (r ≡ Err run_faults.Write)
+script_lost (Ok x) e = absurd (omega (arith, e))
+script_lost (Err fault) e = elim (run_lost fault e) [ inl read ↦ inl (ap Err read) | inr write ↦ inr (ap Err write) ]
 
 pub filter_lost : (fault : DriveFault LineFault) → filter_status fault ≡ 3 → (fault ≡ filter_faults.Read) ⊎ (fault ≡ filter_faults.Write)
 filter_lost (filter_faults.Line number fault) e = absurd (omega (arith, e))

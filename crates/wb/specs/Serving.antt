@@ -1,5 +1,5 @@
 -- What the program does for its words, and the status that tells how it ended.
-use Rattle.std.specs.Prelude.{◌≡◌, ◌⊎◌, ℕ, ◌^◌, ◌-◌, List, [], ◌++◌, Bool, Option, Result, Ok, Err, codes}
+use Rattle.std.specs.Prelude.{◌≡◌, ◌⊎◌, ℕ, ◌^◌, ◌-◌, List, [], ◌++◌, Bool, true, Option, Result, Ok, Err, codes}
 use Rattle.std.specs.Fmt.{decimal}
 use Rattle.std.specs.Io.KnownBytes.{Appends}
 use Rattle.wb_lines.specs.Driving.{Gave, Meets}
@@ -86,27 +86,44 @@ Performs (tasks.Host tuning) cut input written status =
     (r : Result (Unit {0}) HostFault) × Writes (transcript tuning cut input) written r
     × (r ≡ Err host_faults.Endless → IsEndless (2 ^ 64 - 1) (input_lines input)) × (status ≡ status_by host_status r)
 
--- ---- the program
+-- ---- the ends
 
--- What the source has left before and after, and whether it has failed then; and what the sink has taken before and after.
-pub record Ends : Type 0 where
+-- what a source has left before and after, and whether it has failed then
+pub record Reading : Type 0 where
   pub left : Option (List ℕ)
   pub rest : Option (List ℕ)
-  pub cut : Bool
+  pub has_failed : Bool
+
+abbrev pub reading : Option (List ℕ) → Option (List ℕ) → Bool → Reading
+reading left rest has_failed = record { left = left; rest = rest; has_failed = has_failed }
+
+-- what a sink has taken before and after, and whether it has failed then
+pub record Writing : Type 0 where
   pub before : Option (List ℕ)
   pub after : Option (List ℕ)
+  pub has_failed : Bool
 
--- The task was begun: what the source gave is its input, and what it wrote went to the sink.
-abbrev pub IsBegun : Task → Ends → ℕ → Type 0
-IsBegun task ends status = (input : List ℕ) × (written : List ℕ)
-    × Gave ends.left ends.rest ends.cut input × Appends ends.before ends.after written
-    × Performs task ends.cut input written status
+abbrev pub writing : Option (List ℕ) → Option (List ℕ) → Bool → Writing
+writing before after has_failed = record { before = before; after = after; has_failed = has_failed }
+
+-- ---- the program
+
+-- A task was performed between a source and a sink: it read an input, wrote what it performs of that, and answered this status, which is
+-- 3 only if an end has failed.
+pub record Performed (task : Task) (source : Reading) (sink : Writing) (status : ℕ) : Type 0 where
+  pub input : List ℕ
+  pub written : List ℕ
+  pub read : Gave source.left source.rest source.has_failed input
+  pub wrote : Appends sink.before sink.after written
+  pub answered : Performs task source.has_failed input written status
+  pub failed : status ≡ 3 → (source.has_failed ≡ true) ⊎ (sink.has_failed ≡ true)
 
 -- Nothing was read or written, since an allocation failed (4), or the words ask for no task (2).
-pub record IsIdle (words : List Text) (ends : Ends) (status : ℕ) : Type 0 where
-  pub unread : ends.rest ≡ ends.left
-  pub unwritten : ends.after ≡ ends.before
+pub record IsIdle (words : List Text) (source : Reading) (sink : Writing) (status : ℕ) : Type 0 where
+  pub unread : source.rest ≡ source.left
+  pub unwritten : sink.after ≡ sink.before
   pub reason : (status ≡ 4) ⊎ ((status ≡ 2) × ((task : Task) → Asks words task → ⊥))
 
-abbrev pub Serves : List Text → Ends → ℕ → Type 0
-Serves words ends status = ((task : Task) × Asks words task × IsBegun task ends status) ⊎ IsIdle words ends status
+-- The task that the words ask for was performed, or nothing was read or written.
+abbrev pub Serves : List Text → Reading → Writing → ℕ → Type 0
+Serves words source sink status = ((task : Task) × Asks words task × Performed task source sink status) ⊎ IsIdle words source sink status

@@ -1,12 +1,10 @@
 //! What the program does for each of its commands, and the exit status that tells how it ended.
-ghost use Rattle.std.specs.Prelude.{◌≡◌, ◌≢◌, ◌⊎◌, ℕ, List, Result, true, map, IfOk, Err};
+ghost use Rattle.std.specs.Prelude.{◌≡◌, ◌≢◌, ◌⊎◌, ℕ, List, true, map, IfOk, Err};
 ghost use Rattle.std.specs.String.{string_bytes};
 ghost use Rattle.std.specs.Io.KnownBytes.{Appends};
 ghost use Rattle.clap.specs.Words.{kind_of};
-ghost use Rattle.wb_lines.specs.Driving.{Gave};
 ghost use Rattle.wb_recovery.specs.Timing.{are_constants};
-ghost use Rattle.wb_script.specs.Checking.{Checks};
-ghost use Rattle.wb.specs.Serving.{Approves, IsWritten, Performs, Serves, approval, failure_status, status_by};
+ghost use Rattle.wb.specs.Serving.{IsWritten, Performed, Serves, approval, failure_status, reading, run_status, status_by, writing};
 
 use crate::command::{Task, task_of};
 use clap::Error;
@@ -159,13 +157,10 @@ fn check_lines<R: Source, W: Sink>(
     source: &mut R,
     sink: &mut W,
 ) -> Result<(), RunFault>
-    ensures text { (input : List ℕ) × (written : List ℕ)
-        × Gave (R.left source.old) (R.left source.new) (R.has_failed source.new) input
-        × Appends (W.taken sink.old) (W.taken sink.new) written
-        × (checked : Result ℕ RunFault) × Checks (R.has_failed source.new) input checked
-        × Approves checked written result }
-    ensures read { result ≡ Err RunFault.Read → R.has_failed source.new ≡ true }
-    ensures write { result ≡ Err RunFault.Write → W.has_failed sink.new ≡ true }
+    ensures { Performed Task.Check
+        (reading (R.left source.old) (R.left source.new) (R.has_failed source.new))
+        (writing (W.taken sink.old) (W.taken sink.new) (W.has_failed sink.new))
+        (status_by run_status result) }
 {
     let lines = check(alloc, source)?;
     approve(alloc, sink, lines)
@@ -179,13 +174,10 @@ fn perform_run<T: Threads + Wait + Sync, R: Source, W: Sink>(
     source: &mut R,
     sink: &mut W,
 ) -> Result<(), Failure>
-    ensures begun { (input : List ℕ) × (written : List ℕ)
-        × Gave (R.left source.old) (R.left source.new) (R.has_failed source.new) input
-        × Appends (W.taken sink.old) (W.taken sink.new) written
-        × Performs (Task.Run workers) (R.has_failed source.new) input written
+    ensures { Performed (Task.Run workers)
+        (reading (R.left source.old) (R.left source.new) (R.has_failed source.new))
+        (writing (W.taken sink.old) (W.taken sink.new) (W.has_failed sink.new))
         (status_by failure_status result) }
-    ensures failed { status_by failure_status result ≡ 3
-        → (R.has_failed source.new ≡ true) ⊎ (W.has_failed sink.new ≡ true) }
 {
     match run(rt, alloc, source, sink, workers, &NoGate) {
         Ok(_) => Ok(()),
@@ -199,13 +191,10 @@ fn perform_check<R: Source, W: Sink>(
     source: &mut R,
     sink: &mut W,
 ) -> Result<(), Failure>
-    ensures begun { (input : List ℕ) × (written : List ℕ)
-        × Gave (R.left source.old) (R.left source.new) (R.has_failed source.new) input
-        × Appends (W.taken sink.old) (W.taken sink.new) written
-        × Performs Task.Check (R.has_failed source.new) input written
+    ensures { Performed Task.Check
+        (reading (R.left source.old) (R.left source.new) (R.has_failed source.new))
+        (writing (W.taken sink.old) (W.taken sink.new) (W.has_failed sink.new))
         (status_by failure_status result) }
-    ensures failed { status_by failure_status result ≡ 3
-        → (R.has_failed source.new ≡ true) ⊎ (W.has_failed sink.new ≡ true) }
 {
     match check_lines(alloc, source, sink) {
         Ok(_) => Ok(()),
@@ -220,13 +209,10 @@ fn perform_turn<R: Source, W: Sink>(
     source: &mut R,
     sink: &mut W,
 ) -> Result<(), Failure>
-    ensures begun { (input : List ℕ) × (written : List ℕ)
-        × Gave (R.left source.old) (R.left source.new) (R.has_failed source.new) input
-        × Appends (W.taken sink.old) (W.taken sink.new) written
-        × Performs (Task.Turn filter) (R.has_failed source.new) input written
+    ensures { Performed (Task.Turn filter)
+        (reading (R.left source.old) (R.left source.new) (R.has_failed source.new))
+        (writing (W.taken sink.old) (W.taken sink.new) (W.has_failed sink.new))
         (status_by failure_status result) }
-    ensures failed { status_by failure_status result ≡ 3
-        → (R.has_failed source.new ≡ true) ⊎ (W.has_failed sink.new ≡ true) }
 {
     match run_filter(alloc, filter, source, sink) {
         Ok(_) => Ok(()),
@@ -242,13 +228,10 @@ fn perform_host<R: Source, W: Sink>(
     sink: &mut W,
 ) -> Result<(), Failure>
     requires { are_constants tuning ≡ true }
-    ensures begun { (input : List ℕ) × (written : List ℕ)
-        × Gave (R.left source.old) (R.left source.new) (R.has_failed source.new) input
-        × Appends (W.taken sink.old) (W.taken sink.new) written
-        × Performs (Task.Host tuning) (R.has_failed source.new) input written
+    ensures { Performed (Task.Host tuning)
+        (reading (R.left source.old) (R.left source.new) (R.has_failed source.new))
+        (writing (W.taken sink.old) (W.taken sink.new) (W.has_failed sink.new))
         (status_by failure_status result) }
-    ensures failed { status_by failure_status result ≡ 3
-        → (R.has_failed source.new ≡ true) ⊎ (W.has_failed sink.new ≡ true) }
 {
     match host(alloc, tuning, source, sink) {
         Ok(_) => Ok(()),
@@ -264,13 +247,10 @@ fn perform<T: Threads + Wait + Sync, R: Source, W: Sink>(
     source: &mut R,
     sink: &mut W,
 ) -> Result<(), Failure>
-    ensures begun { (input : List ℕ) × (written : List ℕ)
-        × Gave (R.left source.old) (R.left source.new) (R.has_failed source.new) input
-        × Appends (W.taken sink.old) (W.taken sink.new) written
-        × Performs task (R.has_failed source.new) input written
+    ensures { Performed task
+        (reading (R.left source.old) (R.left source.new) (R.has_failed source.new))
+        (writing (W.taken sink.old) (W.taken sink.new) (W.has_failed sink.new))
         (status_by failure_status result) }
-    ensures failed { status_by failure_status result ≡ 3
-        → (R.has_failed source.new ≡ true) ⊎ (W.has_failed sink.new ≡ true) }
 {
     match task {
         Task::Run { workers } => perform_run(rt, alloc, workers, source, sink),
@@ -289,12 +269,9 @@ fn finish<T: Threads + Wait + Sync, R: Source, W: Sink, E: Sink>(
     sink: &mut W,
     errors: &mut E,
 ) -> u8
-    ensures begun { (input : List ℕ) × (written : List ℕ)
-        × Gave (R.left source.old) (R.left source.new) (R.has_failed source.new) input
-        × Appends (W.taken sink.old) (W.taken sink.new) written
-        × Performs task (R.has_failed source.new) input written result }
-    ensures failed { result ≡ 3
-        → (R.has_failed source.new ≡ true) ⊎ (W.has_failed sink.new ≡ true) }
+    ensures performed { Performed task
+        (reading (R.left source.old) (R.left source.new) (R.has_failed source.new))
+        (writing (W.taken sink.old) (W.taken sink.new) (W.has_failed sink.new)) result }
     ensures quiet { result ≡ 0 → E.taken errors.new ≡ E.taken errors.old }
 {
     match perform(rt, alloc, task, source, sink) {
@@ -315,13 +292,8 @@ pub fn serve<T: AllocGlobal + Threads + Wait + Sync, R: Source, W: Sink, E: Sink
     errors: &mut E,
 ) -> u8
     ensures served { Serves (map (λ word. word.now) words.now)
-        (record {
-          left = R.left source.old;
-          rest = R.left source.new;
-          cut = R.has_failed source.new;
-          before = W.taken sink.old;
-          after = W.taken sink.new;
-        }) result }
+        (reading (R.left source.old) (R.left source.new) (R.has_failed source.new))
+        (writing (W.taken sink.old) (W.taken sink.new) (W.has_failed sink.new)) result }
     ensures failed { result ≡ 3
         → (R.has_failed source.new ≡ true) ⊎ (W.has_failed sink.new ≡ true) }
     ensures quiet { result ≡ 0 → E.taken errors.new ≡ E.taken errors.old }

@@ -80,6 +80,15 @@ MayBeAt (Some v) (Some h) = IsHostAt v h
 MayBeAt None (Some h) = ⊥
 MayBeAt (Some v) None = ⊥
 
+-- the member of a self-managing host, and such a host
+abbrev pub kept_in : Option HostValue → Option KeptValue
+kept_in None = None
+kept_in (Some (values.Driven member seed)) = None
+kept_in (Some (values.Kept kept)) = Some kept
+
+abbrev pub host_of : KeptValue → Option HostValue
+host_of kept = Some (values.Kept kept)
+
 -- the text of a reply before its block is closed
 abbrev pub text_in : Reply → List ℕ
 text_in (prints s text) = text

@@ -4,7 +4,7 @@ ghost use Rattle.wb_recovery.specs.Timing.{are_constants};
 ghost use Rattle.wb_dialog.specs.Lines.{IsWithin, line_of};
 ghost use Rattle.wb_dialog.specs.Dialog.{ok_line};
 ghost use Rattle.wb_dialog.specs.Hosting.{Host as HostState, due_at, keep_reply, reply, reply_to, taken_reply};
-ghost use Rattle.wb_dialog.specs.Doing.{DoesReply, MayBeAt, Prints, Adds, DoesHost, BlocksAt};
+ghost use Rattle.wb_dialog.specs.Doing.{DoesReply, MayBeAt, Prints, Adds, DoesHost, BlocksAt, host_of, kept_in};
 
 use crate::blocks::{print_ok, refused_line};
 use crate::fault::{Refusal, Unanswered};
@@ -15,6 +15,7 @@ use std::alloc::{AllocError, Global};
 use std::convert::Infallible;
 use std::marker::Model;
 use wb_commands::{Command, LineFault};
+use wb_keeping::KeptMember;
 use wb_lines::{Handler, Output, Stop, without_end};
 use wb_recovery::Tuning;
 
@@ -50,13 +51,38 @@ impl Dialog {
 
     /// The next moment at which the host has something to do, in microseconds. None if there is
     /// none.
-    fn next_due(&self) -> Option<u64>
+    pub fn next_due(&self) -> Option<u64>
         ensures { (s : Option HostState) → MayBeAt self.now.host s → result ≡ due_at s }
     {
         match &self.host {
             Some(host) => host.next_due(),
             None => None,
         }
+    }
+
+    /// Takes the member out of a self-managing host, for calls of its own. It is put back by
+    /// `put_kept` before this dialog gets another line, which would find no board open. None if the
+    /// host is not self-managing.
+    pub fn take_kept(&mut self) -> Option<KeptMember>
+        ensures kept { result ≡ kept_in self.old.host }
+        ensures tuning { self.new.tuning ≡ self.old.tuning }
+        ensures none { result ≡ None → self.new ≡ self.old }
+    {
+        match self.host.take() {
+            Some(Host::Kept(kept)) => Some(kept),
+            Some(Host::Driven { member, seed }) => {
+                self.host = Some(Host::Driven { member, seed });
+                None
+            }
+            None => None,
+        }
+    }
+
+    /// From now on this self-managing member is the host.
+    pub fn put_kept(&mut self, kept: KeptMember)
+        ensures { self.new ≡ record { tuning = self.old.tuning; host = host_of kept } }
+    {
+        self.host = Some(Host::Kept(kept));
     }
 
     /// What a line does before a board is open.

@@ -128,7 +128,7 @@ fn came(
 }
 
 /// An operation as it is handed in.
-fn shape_of(op: &Op) -> Shape<'_>
+pub fn shape_of(op: &Op) -> Shape<'_>
     ensures { op_of result ≡ op.now }
 {
     match op {

@@ -9,7 +9,7 @@ use Rattle.wb_names.specs.Values.{DrawopValue}
 use Rattle.wb_names.specs.History.{IsAgainAt, IsClashAt}
 use Rattle.wb_names.specs.Arrivals.{Outcome, Fresh, Known, Clashed, Left, Counts, counts, counts_of}
 use Rattle.wb_board.specs.Desks.{PassValue, KeepsRows, AddsNothing, IsSound, IsWhole, IsSplit}
-use Rattle.wb_feed.specs.Accepts.{Keeps, LosesAtMost, Accepts, Entry, drawops, outcomes, tally, Runs}
+use Rattle.wb_feed.specs.Accepts.{Keeps, Loses, LosesAtMost, Accepts, Entry, drawops, outcomes, tally, Runs}
 use Rattle.wb_feed.proofs.Prefixes.{prefix_self, prefix_is, prefix_trans, prefix_get}
 use Rattle.wb_feed.specs.Channel.{once_below}
 use Rattle.wb_feed.specs.Served.{is_left}
@@ -199,8 +199,9 @@ rows_stay p q k r = record { kept = k; places = prefix_is p.mine q.mine r.0; non
 pub loses_is : (p q : PassValue) → q ≡ p → LosesAtMost 0 p q
 loses_is p q e = rows_stay p q (keeps_is p q e) (ap (λ (x : PassValue). x.mine) e, ap (λ (x : PassValue). x.free) e)
 
-pub loses_more : (m n : ℕ) (p q : PassValue) → m ≤ n → LosesAtMost m p q → LosesAtMost n p q
-loses_more m n p q le l = record { kept = l.kept; places = l.places; none_more = l.none_more; rows = omega (arith, le, l.rows) }
+-- none is lost
+pub loses_none : (p q : PassValue) → LosesAtMost 0 p q → Loses 0 p q
+loses_none p q l = record { kept = l.kept; places = l.places; rows = omega (arith, l.none_more, l.rows) }
 
 -- one loss after another
 pub loses_trans : (m n k : ℕ) (p q r : PassValue) → m + n ≤ k → LosesAtMost m p q → LosesAtMost n q r → LosesAtMost k p r
@@ -210,6 +211,9 @@ loses_trans m n k p q r le a b = record {
   none_more = omega (arith, a.none_more, b.none_more);
   rows = omega (arith, le, a.rows, b.rows);
 }
+
+pub lost_both : (m n : ℕ) (p q r : PassValue) → Loses m p q → Loses n q r → Loses (m + n) p r
+lost_both m n p q r a b = record { kept = keeps_trans p q r a.kept b.kept; places = prefix_trans p.mine q.mine r.mine a.places b.places; rows = omega (arith, a.rows, b.rows) }
 
 -- a desk that owns all rows still does
 pub leaves_whole : (p q : PassValue) (es : List Entry) → Leaves p es q → IsWhole p → IsWhole q

@@ -17,6 +17,12 @@ pub record LosesAtMost (most : ℕ) (p q : PassValue) : Type 0 where
   pub none_more : q.free + length q.mine ≤ p.free + length p.mine
   pub rows : p.free + length p.mine ≤ (q.free + length q.mine) + most
 
+-- the same, and this many rows are lost
+pub record Loses (lost : ℕ) (p q : PassValue) : Type 0 where
+  pub kept : Keeps p q
+  pub places : IsPrefix p.mine q.mine
+  pub rows : p.free + length p.mine ≡ (q.free + length q.mine) + lost
+
 -- one accept, in which d had this outcome
 pub record Accepts (p : PassValue) (d : DrawopValue) (o : Outcome) (q : PassValue) : Type 0 where
   pub kept : Keeps p q

@@ -1,11 +1,13 @@
 -- What a batch leaves: p is the desk before it, given the drawops that came, q the desk after it, and b the counts.
-use Rattle.std.specs.Prelude.{◌≡◌, ℕ, ◌+◌, ◌<◌, ◌≤◌, Bool, List, ◌++◌, length, All}
+use Rattle.std.specs.Prelude.{◌≡◌, ℕ, ◌+◌, ◌<◌, ◌≤◌, Bool, List, ◌++◌, length, All, Result, Ok, Err}
 use Rattle.std.specs.List.Sorted.{IsPermutation}
 use Rattle.wb_names.specs.Values.{DrawopValue}
 use Rattle.wb_names.specs.History.{HoldsName}
 use Rattle.wb_names.specs.Arrivals.{Counts, counts, IsBatch}
 use Rattle.wb_board.specs.Desks.{PassValue, IsWhole}
 use Rattle.wb_feed.specs.declared.batch.Batch.{Batch}
+use Rattle.wb_feed.specs.declared.fault.FeedFault.{FeedFault}
+use Rattle.wb_feed.specs.declared.fault.FeedFault.TheVariants.{Workers, Start, Memory}
 use Rattle.wb_feed.specs.declared.channel.Message.{Message}
 use Rattle.wb_feed.specs.Accepts.{Entry, Runs, drawops, tally}
 use Rattle.wb_feed.specs.Marks.{Marks, unmarked}
@@ -15,6 +17,13 @@ use Rattle.wb_feed.specs.Workers.{Work}
 
 abbrev pub counts_in : Batch → Counts
 counts_in b = counts b.fresh b.again b.clash b.left
+
+-- how many rows are lost, by the answer
+abbrev pub lost_by : {X : Type 0} → Result X FeedFault → ℕ
+lost_by (Ok x) = 0
+lost_by (Err Workers) = 0
+lost_by (Err Start) = 0
+lost_by (Err (Memory lost)) = lost
 
 -- one thread that takes the drawops in this order comes from the list of p to that of q, and to these counts
 abbrev pub IsInOrder : PassValue → List DrawopValue → PassValue → Batch → Type 0

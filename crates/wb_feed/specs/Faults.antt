@@ -8,7 +8,7 @@ use Rattle.wb_feed.specs.declared.relays.RelayFault.TheVariants as relaying
 abbrev pub feed_code : FeedFault → ℕ
 feed_code feeding.Workers = 1
 feed_code feeding.Start = 2
-feed_code feeding.Memory = 3
+feed_code (feeding.Memory lost) = 3
 
 abbrev pub relay_code : RelayFault → ℕ
 relay_code relaying.NoRow = 1

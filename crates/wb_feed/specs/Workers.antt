@@ -1,5 +1,5 @@
 -- Workers that each serve the channel.
-use Rattle.std.specs.Prelude.{◌≡◌, ◌⊎◌, ℕ, zero, suc, ◌*◌, ◌/◌, ◌<◌, false, if◌then◌else◌, nat_eq, List, [], ◌++◌, Result, Ok, Err, IfOk}
+use Rattle.std.specs.Prelude.{◌≡◌, ◌⊎◌, ℕ, zero, suc, ◌+◌, ◌*◌, ◌/◌, ◌<◌, ◌≤◌, false, if◌then◌else◌, nat_eq, List, [], ◌++◌, Result, Ok, Err, IfOk}
 use Rattle.crossbeam_channel.specs.Claims.{view}
 use Rattle.wb_board.specs.Desks.{PassValue, IsSamePass, IsSound, IsSplit, IsJoined}
 use Rattle.wb_board.specs.declared.reply.Reply.{Reply}
@@ -10,7 +10,7 @@ use Rattle.wb_feed.specs.declared.worker.Done.{Done}
 use Rattle.wb_feed.specs.declared.worker.Told.{Told}
 use Rattle.wb_feed.specs.declared.workers.WorkFault.{WorkFault}
 use Rattle.wb_feed.specs.declared.workers.WorkFault.TheVariants.{Start, Memory}
-use Rattle.wb_feed.specs.Accepts.{LosesAtMost}
+use Rattle.wb_feed.specs.Accepts.{Loses}
 use Rattle.wb_feed.specs.Served.{Spot, Serves, told_of}
 
 -- the desk took back another one
@@ -35,11 +35,11 @@ Work n p log gots q = ((n ≡ 1) × Serves p log gots q) ⊎ ((1 < n) × Workers
 abbrev pub handed_out : ℕ → ℕ → ℕ
 handed_out n free = if nat_eq n 1 then 0 else n * (free / n)
 
--- rows are lost only if an allocation failed, and then at most n
-abbrev pub most_lost : {X : Type 0} → ℕ → Result X WorkFault → ℕ
-most_lost n (Ok x) = 0
-most_lost n (Err Start) = 0
-most_lost n (Err Memory) = n
+-- how many rows are lost: none, unless an allocation failed
+abbrev pub lost_in : {X : Type 0} → Result X WorkFault → ℕ
+lost_in (Ok x) = 0
+lost_in (Err Start) = 0
+lost_in (Err (Memory lost)) = lost
 
 -- What the workers did, and the replies to it. The pass h of the channel has what they received, and the parts that g had
 pub record Worked (Did : List Spot → List Message → Type 0) (g h : ChannelView) (told : List (ℕ × Reply)) : Type 0 where
@@ -54,18 +54,20 @@ pub record Worked (Did : List Spot → List Message → Type 0) (g h : ChannelVi
 abbrev pub HasWorked : (List Spot → List Message → PassValue → Type 0) → Feeding → Feeding → PassValue → Result Told WorkFault → Type 0
 HasWorked Did f g q r = IfOk r (λ told. Worked (λ log gots. Did log gots q) (view f.pass) (view g.pass) told.replies.items)
 
--- the desk p, of which n workers had their rows, is q, and r was answered
-abbrev pub MayLose : {X : Type 0} → ℕ → PassValue → Result X WorkFault → PassValue → Type 0
-MayLose n p r q = LosesAtMost (most_lost (handed_out n p.free) r) p q
+-- the desk p is q, and has lost as many rows as the answer r tells, of those that were handed out
+pub record MayLose {X : Type 0} (out : ℕ) (p : PassValue) (r : Result X WorkFault) (q : PassValue) : Type 0 where
+  pub rows : Loses (lost_in r) p q
+  pub few : lost_in r ≤ out
 
--- the desk p took back a worker's, unless an allocation failed, and is q; others has the replies to the others, and the last those to all
-abbrev pub TakesBack : PassValue → Done → Result Told WorkFault → PassValue → Result Told WorkFault → Type 0
-TakesBack p d others q (Ok all) = (d.failed ≡ false) × IsBack p d.desk q × (o : Told) × (others ≡ Ok o) × (all.replies.items ≡ d.told.replies.items ++ o.replies.items)
-TakesBack p d others q (Err Start) = (others ≡ Err Start) × IsBack p d.desk q
-TakesBack p d others q (Err Memory) = IsBack p d.desk q ⊎ (q ≡ p)
+-- The desk p took back a worker's, and is q; or an allocation failed, and the rows of the worker are lost. others is what the others
+-- were told, and the last what all were
+abbrev pub TakesBack : PassValue → ℕ → Done → Result Told WorkFault → PassValue → Result Told WorkFault → Type 0
+TakesBack p rows d others q (Ok all) = (d.failed ≡ false) × IsBack p d.desk q × (o : Told) × (others ≡ Ok o) × (all.replies.items ≡ d.told.replies.items ++ o.replies.items)
+TakesBack p rows d others q (Err Start) = (others ≡ Err Start) × IsBack p d.desk q
+TakesBack p rows d others q (Err (Memory lost)) = (IsBack p d.desk q × (lost ≡ lost_in others)) ⊎ ((q ≡ p) × (lost ≡ rows + lost_in others))
 
 -- the desk of the one worker comes back as q; fed is what feeding it answered, and the last has the replies to the worker
 abbrev pub ComesBack : Done → Result Told WorkFault → PassValue → Result Told WorkFault → Type 0
 ComesBack d fed q (Ok all) = (q ≡ d.desk) × (d.failed ≡ false) × (all ≡ d.told) × (o : Told) × (fed ≡ Ok o)
 ComesBack d fed q (Err Start) = (q ≡ d.desk) × (fed ≡ Err Start)
-ComesBack d fed q (Err Memory) = q ≡ d.desk
+ComesBack d fed q (Err (Memory lost)) = (q ≡ d.desk) × (lost ≡ lost_in fed)

@@ -3,10 +3,9 @@ ghost use Rattle.std.specs.Prelude.{◌≡◌, ◌<◌, ◌^◌};
 ghost use Rattle.crossbeam_channel.specs.Claims.{view, IsSeatAt};
 ghost use Rattle.crossbeam_channel.specs.Ends.{sends_on, receives_on};
 ghost use Rattle.wb_board.specs.Desks.{IsPassOf};
-ghost use Rattle.wb_feed.specs.Accepts.{LosesAtMost};
 ghost use Rattle.wb_feed.specs.Served.{Serves};
 ghost use Rattle.wb_feed.specs.Feeding.{IsReady, IsMerged, HasFed};
-ghost use Rattle.wb_feed.specs.Workers.{HasWorked, ComesBack};
+ghost use Rattle.wb_feed.specs.Workers.{HasWorked, MayLose, ComesBack};
 
 use crate::arrivals::Arrivals;
 use crate::gate::Gate;
@@ -39,7 +38,7 @@ fn give_back(
     feeding.absorb(pass);
     match fed {
         Err(fault) => (desk, Err(fault)),
-        Ok(_) if failed => (desk, Err(WorkFault::Memory)),
+        Ok(_) if failed => (desk, Err(WorkFault::Memory { lost: 0 })),
         Ok(_) => (desk, Ok(told)),
     }
 }
@@ -58,7 +57,7 @@ fn work_with<'s, 'e: 's, R: Threads + Wait + Sync, S: Arrivals, G: Gate + Sync>(
     requires channel { receives_on place.end.now ≡ sends_on feeding.old.channel }
     requires ready { IsReady 1 feeding.old }
     requires few { S.most_to_come arrivals.old < 2 ^ 32 }
-    ensures kept { LosesAtMost 0 desk result.0 }
+    ensures kept { MayLose 0 desk result.1 result.0 }
     ensures fed { HasFed S.gives S.most_to_come S.has_ended feeding.old arrivals.old
         feeding.new arrivals.new result.1 }
     ensures ok { HasWorked (Serves desk) feeding.old feeding.new result.0 result.1 }
@@ -115,13 +114,13 @@ pub(crate) fn run_one<'s, 'e: 's, R: Threads + Wait + Sync, S: Arrivals, G: Gate
     requires channel { receives_on place.end.now ≡ sends_on feeding.old.channel }
     requires ready { IsReady 1 feeding.old }
     requires few { S.most_to_come arrivals.old < 2 ^ 32 }
-    ensures kept { LosesAtMost 0 root.old root.new }
+    ensures kept { MayLose 0 root.old result root.new }
     ensures fed { HasFed S.gives S.most_to_come S.has_ended feeding.old arrivals.old
         feeding.new arrivals.new result }
     ensures ok { HasWorked (Serves root.old) feeding.old feeding.new root.new result }
 {
     let Ok((_, stand_in)) = Board::open(place.alloc, 1) else {
-        return Err(WorkFault::Memory);
+        return Err(WorkFault::Memory { lost: 0 });
     };
     let desk = replace(root, stand_in);
     let (desk, told) = work_with(scope, place, desk, feeding, arrivals);

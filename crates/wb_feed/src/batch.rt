@@ -1,17 +1,17 @@
 //! A batch: the workers take what comes, and the desk takes again what none of them accepted.
-ghost use Rattle.std.specs.Prelude.{◌≡◌, ◌≢◌, ◌+◌, ◌<◌, ◌≤◌, ◌^◌, ◌⊎◌, ◌↔◌, true, List, [], Err, length, IfOk, OnOk};
+ghost use Rattle.std.specs.Prelude.{◌≡◌, ◌+◌, ◌<◌, ◌≤◌, ◌^◌, ◌⊎◌, ◌↔◌, true, List, [], Err, length, IfOk, OnOk};
 ghost use Rattle.crossbeam_channel.specs.Claims.{view};
 ghost use Rattle.crossbeam_channel.specs.Ends.{sends_on, receives_on};
 ghost use Rattle.wb_names.specs.Values.{DrawopValue};
 ghost use Rattle.wb_names.specs.Arrivals.{Outcome};
 ghost use Rattle.wb_board.specs.Counts.{IsWorkerCount};
 ghost use Rattle.wb_board.specs.Desks.{IsPassOf, IsSound};
-ghost use Rattle.wb_feed.specs.Accepts.{Keeps, LosesAtMost, Accepts};
+ghost use Rattle.wb_feed.specs.Accepts.{Keeps, Loses, LosesAtMost, Accepts};
 ghost use Rattle.wb_feed.specs.Channel.{channel_view};
 ghost use Rattle.wb_feed.specs.Marks.{CountsOne, Files, IsPut, Settles};
 ghost use Rattle.wb_feed.specs.Feeding.{HasFed};
 ghost use Rattle.wb_feed.specs.Workers.{handed_out, MayLose};
-ghost use Rattle.wb_feed.specs.Batches.{Takes, IsSettled, SharesAndCounts};
+ghost use Rattle.wb_feed.specs.Batches.{Takes, IsSettled, SharesAndCounts, lost_by};
 
 use crate::arrivals::Arrivals;
 use crate::channel::{ChannelView, EachOnce, Message};
@@ -66,8 +66,8 @@ const CAPACITY: usize = 64;
 ///
 /// With a number of workers out of range nothing is taken. After `Start` nothing was taken, and
 /// each row and place is kept. After `Memory` any part of the arrivals may have been taken; one
-/// worker then loses no row, and of more, a worker's desk whose join was refused is dropped with
-/// its rows, and all others are joined back.
+/// worker then loses no row. Of more, a worker's desk whose join was refused is dropped with its
+/// rows, and all others are joined back; the fault tells how many rows are lost.
 pub fn run_batch<R: Threads + Wait + Sync, S: Arrivals, G: Gate + Sync>(
     rt: &R,
     alloc: Global,
@@ -80,13 +80,13 @@ pub fn run_batch<R: Threads + Wait + Sync, S: Arrivals, G: Gate + Sync>(
     requires desk { IsPassOf board.now desk.old }
     ensures kept { Keeps desk.old desk.new }
     ensures sound { IsSound desk.new }
-    ensures rows { LosesAtMost (handed_out workers desk.old.free) desk.old desk.new }
-    ensures every_row { result ≢ Err FeedFault.Memory → LosesAtMost 0 desk.old desk.new }
+    ensures rows { Loses (lost_by result) desk.old desk.new }
+    ensures few_rows { lost_by result ≤ handed_out workers desk.old.free }
     ensures workers { (result ≡ Err FeedFault.Workers) ↔ ((workers ≡ 0) ⊎ (MAX_WORKERS < workers)) }
     ensures untouched { (workers ≡ 0) ⊎ (MAX_WORKERS < workers)
         → (desk.new ≡ desk.old) × (arrivals.new ≡ arrivals.old) }
     ensures started { result ≡ Err FeedFault.Start
-        → (arrivals.new ≡ arrivals.old) × LosesAtMost 0 desk.old desk.new }
+        → (arrivals.new ≡ arrivals.old) × Loses 0 desk.old desk.new }
     ensures arrived { (given : List DrawopValue) × S.gives arrivals.old given arrivals.new }
     ensures given { IfOk result (λ r. S.gives arrivals.old r.1.items arrivals.new) }
     ensures few { IfOk result
@@ -105,7 +105,7 @@ pub fn run_batch<R: Threads + Wait + Sync, S: Arrivals, G: Gate + Sync>(
     let Ok((channel, end, pass)) = bounded_with::<Message, ChannelView, EachOnce, Global>(
         alloc, capacity,
     ) else {
-        return Err(FeedFault::Memory);
+        return Err(FeedFault::Memory { lost: 0 });
     };
     let place = Place {
         rt,
@@ -121,7 +121,7 @@ pub fn run_batch<R: Threads + Wait + Sync, S: Arrivals, G: Gate + Sync>(
     match taken {
         Ok(batch) => Ok((batch, feeding.into_arrived())),
         Err(WorkFault::Start) => Err(FeedFault::Start),
-        Err(WorkFault::Memory) => Err(FeedFault::Memory),
+        Err(WorkFault::Memory { lost }) => Err(FeedFault::Memory { lost }),
     }
 }
 
@@ -138,7 +138,8 @@ fn take_batch<R: Threads + Wait + Sync, S: Arrivals, G: Gate + Sync>(
     requires first { (view feeding.old.pass ≡ channel_view 16 true [] [])
         × (feeding.old.arrived.items ≡ []) × (feeding.old.going ≡ true) }
     requires few { S.most_to_come arrivals.old < 2 ^ 32 }
-    ensures kept { MayLose place.entry.workers desk.old result desk.new }
+    ensures kept { MayLose (handed_out place.entry.workers desk.old.free) desk.old result
+        desk.new }
     ensures fed { HasFed S.gives S.most_to_come S.has_ended feeding.old arrivals.old
         feeding.new arrivals.new result }
     ensures settled { IfOk result
@@ -149,12 +150,12 @@ fn take_batch<R: Threads + Wait + Sync, S: Arrivals, G: Gate + Sync>(
     feeding.learn_all();
     let count = feeding.arrived.len();
     let Ok(filed) = file(place.alloc, told.replies.as_slice(), count) else {
-        return Err(WorkFault::Memory);
+        return Err(WorkFault::Memory { lost: 0 });
     };
     let arrived = feeding.arrived.as_slice();
     match settle(place.board, desk, filed.as_slice(), arrived) {
         Ok(batch) => Ok(batch),
-        Err(_) => Err(WorkFault::Memory),
+        Err(_) => Err(WorkFault::Memory { lost: 0 }),
     }
 }
 

@@ -9,12 +9,13 @@ pub enum FeedFault {
     /// The number of workers is not from 1 to 8. Nothing was taken.
     #[error("workers not from 1 to 8")]
     Workers,
-    /// A thread was refused. Any part of the arrivals may have been taken.
+    /// A thread was refused. Nothing was taken.
     #[error("no thread")]
     Start,
-    /// An allocation failed. Any part of the arrivals may have been taken.
+    /// An allocation failed. Any part of the arrivals may have been taken. The desk has lost this
+    /// number of its rows: those of workers whose desks could not be joined.
     #[error("out of memory")]
-    Memory,
+    Memory { lost: u32 },
 }
 
 impl FeedFault {
@@ -27,7 +28,7 @@ impl FeedFault {
         match self {
             FeedFault::Workers => 1,
             FeedFault::Start => 2,
-            FeedFault::Memory => 3,
+            FeedFault::Memory { .. } => 3,
         }
     }
 }

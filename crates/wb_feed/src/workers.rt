@@ -1,15 +1,14 @@
 //! The workers of a batch: they are started, fed, and joined, one level of a recursion for each.
-ghost use Rattle.std.specs.Prelude.{◌≡◌, ◌*◌, ◌/◌, ◌<◌, ◌≤◌, ◌^◌, [], IfOk};
+ghost use Rattle.std.specs.Prelude.{◌≡◌, ◌+◌, ◌*◌, ◌/◌, ◌<◌, ◌≤◌, ◌^◌, [], IfOk};
 ghost use Rattle.std.specs.Thread.{IsSync};
 ghost use Rattle.crossbeam_channel.specs.Claims.{view, IsSeatAt};
 ghost use Rattle.crossbeam_channel.specs.Ends.{sends_on, receives_on};
 ghost use Rattle.wb_board.specs.Counts.{IsWorkerCount};
 ghost use Rattle.wb_board.specs.declared.board.TheConstants.{MAX_WORKERS};
 ghost use Rattle.wb_board.specs.Desks.{IsPassOf};
-ghost use Rattle.wb_feed.specs.Accepts.{LosesAtMost};
 ghost use Rattle.wb_feed.specs.Feeding.{IsReady, IsMerged, HasFed};
 ghost use Rattle.wb_feed.specs.Sent.{Stays};
-ghost use Rattle.wb_feed.specs.Workers.{Workers, Work, HasWorked, MayLose, most_lost, TakesBack};
+ghost use Rattle.wb_feed.specs.Workers.{Workers, Work, HasWorked, MayLose, handed_out, lost_in, TakesBack};
 
 use crate::alone::run_one;
 use crate::arrivals::Arrivals;
@@ -29,8 +28,19 @@ use wb_board::{Board, Desk, SplitFault};
 pub(crate) enum WorkFault {
     /// A thread was refused.
     Start,
-    /// An allocation failed.
-    Memory,
+    /// An allocation failed, and this number of rows is lost: those of desks that could not be
+    /// joined.
+    Memory { lost: u32 },
+}
+
+/// The number of rows that are lost, by what the workers were told.
+fn lost_in(told: &Result<Told, WorkFault>) -> u32
+    ensures { result ≡ lost_in told.now }
+{
+    match told {
+        Ok(_) | Err(WorkFault::Start) => 0,
+        Err(WorkFault::Memory { lost }) => *lost,
+    }
 }
 
 /// The desk that a worker begins with, and the channel that it serves.
@@ -61,27 +71,31 @@ pub(crate) fn feed_all<R: Wait, S: Arrivals, G>(
         feeding.new arrivals.new result }
     ensures same { Stays (view feeding.old.pass) (view feeding.new.pass) }
     ensures none { IfOk result (λ told. told.replies.items ≡ []) }
+    ensures every_row { lost_in result ≡ 0 }
 {
     let fed = feeding.feed(place.rt, arrivals);
     feeding.end_all(place.rt, place.workers);
     match fed {
         Ok(()) => Ok(Told::new(place.alloc)),
-        Err(_) => Err(WorkFault::Memory),
+        Err(_) => Err(WorkFault::Memory { lost: 0 }),
     }
 }
 
-/// Takes back what a worker's thread has, and puts its replies before those of the others.
+/// Takes back what a worker's thread has, and puts its replies before those of the others. The
+/// worker's rows are lost if its desk can't be joined.
 fn take_back(
     board: &Board,
     root: &mut Desk,
+    rows: u32,
     feeding: &mut Feeding,
     done: Done,
     others: Result<Told, WorkFault>,
 ) -> Result<Told, WorkFault>
     requires desks { IsPassOf board.now root.old × IsPassOf board.now done.desk }
+    requires few { rows + lost_in others < 2 ^ 32 }
     requires seat { IsSeatAt (sends_on feeding.old.channel) done.pass }
     ensures pass { IsMerged feeding.old (view done.pass) feeding.new }
-    ensures back { TakesBack root.old done others root.new result }
+    ensures back { TakesBack root.old rows done others root.new result }
 {
     let Done {
         desk,
@@ -91,15 +105,16 @@ fn take_back(
     } = done;
     feeding.absorb(pass);
     let Ok(()) = board.join(root, desk) else {
-        return Err(WorkFault::Memory);
+        let lost = rows + lost_in(&others);
+        return Err(WorkFault::Memory { lost });
     };
     let others = others?;
     if failed {
-        return Err(WorkFault::Memory);
+        return Err(WorkFault::Memory { lost: 0 });
     }
     match told.and(others) {
         Ok(both) => Ok(both),
-        Err(_) => Err(WorkFault::Memory),
+        Err(_) => Err(WorkFault::Memory { lost: 0 }),
     }
 }
 
@@ -121,7 +136,7 @@ fn run_several<'s, 'e: 's, R: Threads + Wait + Sync, S: Arrivals, G: Gate + Sync
     requires channel { receives_on place.end.now ≡ sends_on feeding.old.channel }
     requires ready { IsReady left feeding.old }
     requires few { S.most_to_come arrivals.old < 2 ^ 32 }
-    ensures kept { LosesAtMost (most_lost (rows * left) result) root.old root.new }
+    ensures kept { MayLose (rows * left) root.old result root.new }
     ensures fed { HasFed S.gives S.most_to_come S.has_ended feeding.old arrivals.old
         feeding.new arrivals.new result }
     ensures ok { HasWorked (Workers rows left root.old) feeding.old feeding.new root.new result }
@@ -135,7 +150,7 @@ fn run_several<'s, 'e: 's, R: Threads + Wait + Sync, S: Arrivals, G: Gate + Sync
         Err(SplitFault::TooMany(_)) => unreachable!(),
         Err(SplitFault::Memory) => {
             feeding.end_all(place.rt, worker);
-            return Err(WorkFault::Memory);
+            return Err(WorkFault::Memory { lost: 0 });
         }
     };
     let theirs = feeding.cut();
@@ -167,12 +182,26 @@ fn run_several<'s, 'e: 's, R: Threads + Wait + Sync, S: Arrivals, G: Gate + Sync
     match scope.spawn_with(promise, work) {
         Ok(child) => {
             let others = run_several(scope, place, root, rows, left - 1, feeding, arrivals);
-            take_back(place.board, root, feeding, child.join(place.rt), others)
+            take_back(
+                place.board,
+                root,
+                rows,
+                feeding,
+                child.join(place.rt),
+                others,
+            )
         }
         Err(refused) => {
             feeding.end_all(place.rt, worker + 1);
             let work = refused.value;
-            take_back(place.board, root, feeding, work(), Err(WorkFault::Start))
+            take_back(
+                place.board,
+                root,
+                rows,
+                feeding,
+                work(),
+                Err(WorkFault::Start),
+            )
         }
     }
 }
@@ -192,7 +221,8 @@ fn run_some<'s, 'e: 's, R: Threads + Wait + Sync, S: Arrivals, G: Gate + Sync>(
     requires channel { receives_on place.end.now ≡ sends_on feeding.old.channel }
     requires ready { IsReady place.workers feeding.old }
     requires few { S.most_to_come arrivals.old < 2 ^ 32 }
-    ensures kept { MayLose place.entry.workers root.old result root.new }
+    ensures kept { MayLose (handed_out place.entry.workers root.old.free) root.old result
+        root.new }
     ensures fed { HasFed S.gives S.most_to_come S.has_ended feeding.old arrivals.old
         feeding.new arrivals.new result }
     ensures ok { HasWorked
@@ -219,7 +249,8 @@ pub(crate) fn run_all<R: Threads + Wait + Sync, S: Arrivals, G: Gate + Sync>(
     requires channel { receives_on place.end.now ≡ sends_on feeding.old.channel }
     requires ready { IsReady place.workers feeding.old }
     requires few { S.most_to_come arrivals.old < 2 ^ 32 }
-    ensures kept { MayLose place.entry.workers root.old result root.new }
+    ensures kept { MayLose (handed_out place.entry.workers root.old.free) root.old result
+        root.new }
     ensures fed { HasFed S.gives S.most_to_come S.has_ended feeding.old arrivals.old
         feeding.new arrivals.new result }
     ensures ok { HasWorked
@@ -236,7 +267,8 @@ pub(crate) fn run_all<R: Threads + Wait + Sync, S: Arrivals, G: Gate + Sync>(
             ensures names { (result.0.ghost_name ≡ root.entry.ghost_name)
                 × (result.1.ghost_name ≡ feeding.entry.ghost_name)
                 × (result.2.ghost_name ≡ arrivals.entry.ghost_name) }
-            ensures kept { MayLose place.entry.workers root.entry.now result.3 result.0.now }
+            ensures kept { MayLose (handed_out place.entry.workers root.entry.now.free)
+                root.entry.now result.3 result.0.now }
             ensures fed { HasFed S.gives S.most_to_come S.has_ended feeding.entry.now
                 arrivals.entry.now result.1.now result.2.now result.3 }
             ensures ok { HasWorked (Work place.entry.workers root.entry.now) feeding.entry.now

@@ -21,3 +21,4 @@ pub mod PlainTexts
 pub mod BlockEnds
 pub mod LoneArrivals
 pub mod RunTexts
+pub mod AddedUp

@@ -29,7 +29,7 @@ use Rattle.wb_dialog.proofs.ScriptLines.{script_lines_are_read}
 use Rattle.std.proofs.lemmas.Bool.{or_right}
 
 -- what the end of the present batch prints
-abbrev closing : Board → List ℕ
+abbrev pub closing : Board → List ℕ
 closing s = closing_text s s.waiting
 
 -- the host once the present batch has ended
@@ -40,7 +40,7 @@ host_of s = (after_batch s s.waiting).host
 abbrev beside : Board → State
 beside s = record { tuning = script_constants; host = host_of s }
 
-abbrev board : Option ℕ → Option Opened → List DrawopValue → Board
+abbrev pub board : Option ℕ → Option Opened → List DrawopValue → Board
 board k host waiting = record { host = host; workers = k; waiting = waiting }
 
 -- ---- one line
@@ -82,7 +82,7 @@ line_as k (Some host) waiting (lines.Session page) none = let next = taken waiti
 line_as k (Some host) waiting (lines.Question query) none = let next = taken waiting host in acts_as k (board k (Some host) waiting) (act (lines.Question query) next) next
 
 -- what a host answers to a line that is not too long, and that a script takes
-answer_is : (s : State) (line : InputLine) (said : Command) → is_short line ≡ true → script_line_of (content line) ≡ Ok said → answer_of s (met line) ≡ answer_to s.tuning s.host (Script said)
+pub answer_is : (s : State) (line : InputLine) (said : Command) → is_short line ≡ true → script_line_of (content line) ≡ Ok said → answer_of s (met line) ≡ answer_to s.tuning s.host (Script said)
 answer_is s line said short is =
     ap (λ (t : Bool). answer_of s (if t then whole line else too_long)) short
     ∙ ap (answer s.tuning s.host) (script_lines_are_read (content line) said is)
@@ -131,7 +131,7 @@ module _ (s t : Board) (line : InputLine) (x printed : List ℕ) (is : answer_of
   agrees_on cut n lines (prints text (Err run_faults.Endless)) taken f = tt
 
 -- nothing more is printed at the end of a batch that has ended
-closing_again : (s : Board) → closing s ++ closing (after_batch s s.waiting) ≡ closing s
+pub closing_again : (s : Board) → closing s ++ closing (after_batch s s.waiting) ≡ closing s
 closing_again s = at s.host where
   at : (host : Option Opened) → closing (board s.workers host s.waiting) ++ closing (after_batch (board s.workers host s.waiting) s.waiting) ≡ closing (board s.workers host s.waiting)
   at None = refl
@@ -148,11 +148,11 @@ step_agrees : (cut : Bool) (n : ℕ) (s : Board) (line : InputLine) (lines : Lis
 step_agrees cut n s line lines (goes t text) rest taken alike on = agrees_on s t line text alike.0 alike.1 alike.2 cut n lines (rest t) taken (on t text refl)
 step_agrees cut n s line lines (refused t text e) rest taken alike on = refused_here cut n s t (line ∷ lines) text e alike
 
-and_right : (a b : Bool) → (a && b) ≡ true → b ≡ true
+pub and_right : (a b : Bool) → (a && b) ≡ true → b ≡ true
 and_right true b e = e
 and_right false b e = absurd cc
 
-neither : (short complete : Bool) → short ≡ true → complete ≡ false → (not short || complete) ≡ false
+pub neither : (short complete : Bool) → short ≡ true → complete ≡ false → (not short || complete) ≡ false
 neither true complete is off = off
 neither false complete is off = absurd cc
 

@@ -1,13 +1,15 @@
--- Laws of scripts in which each arrival is a batch of its own: what a run of one prints, and what a host prints for its lines.
-use Rattle.std.specs.Prelude.{◌≡◌, ◌≤◌, ◌-◌, ℕ, List, [], ◌∷◌, ◌++◌, length, take, All, Bool, Option, Result, Ok, Err}
+-- Laws of scripts: what a run of one prints, and what a host prints for its lines.
+use Rattle.std.specs.Prelude.{◌≡◌, ◌≤◌, ◌+◌, ◌-◌, ℕ, List, [], ◌∷◌, ◌++◌, length, take, All, Bool, Option, Some, None, Result, Ok, Err}
+use Rattle.wb_names.specs.Arrivals.{Counts, counts}
 use Rattle.wb_lines.specs.Input.{InputLine, input_lines, content}
+use Rattle.wb_commands.specs.Answers.{batch_line}
 use Rattle.wb_commands.specs.declared.fault.LineFault.{LineFault}
 use Rattle.wb_script.specs.declared.fault.RunFault.{RunFault}
 use Rattle.wb_script.specs.declared.fault.RunFault.TheVariants as run_faults
 use Rattle.wb_script.specs.declared.running.Summary.{Summary}
 use Rattle.wb_script.specs.Hosts.{script_constants}
-use Rattle.wb_script.specs.Reordering.{batches_of}
-use Rattle.wb_script.specs.Script.{Outcome, prints, outcome, IsOutcome}
+use Rattle.wb_script.specs.Reordering.{IsReordered, batches_of}
+use Rattle.wb_script.specs.Script.{Part, Arrival, Nothing, End, part_in, Outcome, prints, outcome, IsOutcome}
 use Rattle.wb_dialog.specs.Dialog.{answered_lines, ok_line}
 use Rattle.wb_dialog.specs.Hosting.{blocks_from, unopened}
 
@@ -48,3 +50,55 @@ RunIsWithoutOks = (workers : Option ℕ) (cut : Bool) (input text : List ℕ) (e
 abbrev pub RefusedIsWithoutOks : Type 0
 RefusedIsWithoutOks = (workers : Option ℕ) (cut : Bool) (input text : List ℕ) (number : ℕ) (fault : LineFault) → ArriveAlone cut input → IsOutcome workers cut input (prints text (Err (run_faults.Line number fault)))
     → IsWithoutOks (blocks_of (take (number - 1) (input_lines input))) text
+
+-- ---- batches of several arrivals
+
+-- what is printed at the end of a batch that counted this, if it has arrivals
+abbrev pub counted_text : Option Counts → List ℕ
+counted_text None = []
+counted_text (Some n) = batch_line n
+
+-- what a batch counted, with what its next arrival does
+abbrev pub counted_with : Option Counts → Counts → Counts
+counted_with None n = n
+counted_with (Some m) n = counts (m.fresh + n.fresh) (m.again + n.again) (m.clash + n.clash) (m.left + n.left)
+
+-- A block prints this before the line `ok DUE` that closes it.
+abbrev pub Prints : List ℕ → List ℕ → Type 0
+Prints block printed = (due : Option ℕ) × (block ≡ printed ++ ok_line due)
+
+-- A line with this block stands in a text, after a batch that counted this so far: what an arrival counts is added, what is skipped
+-- prints nothing, and any other line first ends the batch.
+abbrev pub AddsUp : Part → List ℕ → Option Counts → List ℕ → (Option Counts → List ℕ → Type 0) → Type 0
+AddsUp (Arrival d) block so_far text Rest = (n : Counts) × Prints block (batch_line n) × Rest (Some (counted_with so_far n)) text
+AddsUp Nothing block so_far text Rest = Prints block [] × Rest so_far text
+AddsUp (End c) block so_far text Rest = (printed : List ℕ) × (rest : List ℕ) × Prints block printed × (text ≡ counted_text so_far ++ (printed ++ rest)) × Rest None rest
+
+-- A text is what the blocks of lines print, but that a batch prints one line, with the sums of what its arrivals count.
+abbrev pub IsAddedUp : List InputLine → List (List ℕ) → Option Counts → List ℕ → Type 0
+IsAddedUp [] [] so_far text = text ≡ counted_text so_far
+IsAddedUp (line ∷ lines) (block ∷ blocks) so_far text = AddsUp (part_in line) block so_far text (λ n rest. IsAddedUp lines blocks n rest)
+IsAddedUp lines blocks so_far text = ⊥
+
+-- A text is what a host prints for lines so, none of which it refuses.
+abbrev pub PrintsAddedUp : List InputLine → List ℕ → Type 0
+PrintsAddedUp lines text = IsAddedUp lines (blocks_of lines) None text
+
+-- An outcome is what a host prints so: for the lines of the input, where the run came to their end, or to where reading fails; or for
+-- those before the one that is refused.
+abbrev pub IsTold : Bool → List ℕ → Outcome → Type 0
+IsTold cut input (prints text (Ok summary)) = PrintsAddedUp (answered_lines cut (input_lines input)) text
+IsTold cut input (prints text (Err run_faults.Read)) = PrintsAddedUp (answered_lines cut (input_lines input)) text
+IsTold cut input (prints text (Err (run_faults.Line number fault))) = PrintsAddedUp (take (number - 1) (input_lines input)) text
+IsTold cut input (prints text (Err run_faults.Write)) = Unit {0}
+IsTold cut input (prints text (Err run_faults.Memory)) = Unit {0}
+IsTold cut input (prints text (Err run_faults.Start)) = Unit {0}
+IsTold cut input (prints text (Err run_faults.Endless)) = Unit {0}
+
+-- What one thread prints for a script is so.
+abbrev pub ThreadIsTold : Type 0
+ThreadIsTold = (workers : Option ℕ) (cut : Bool) (input : List ℕ) → IsTold cut input (outcome workers cut input)
+
+-- What any number of workers print is so for a script with the arrivals of each batch in some order.
+abbrev pub RunIsTold : Type 0
+RunIsTold = (workers : Option ℕ) (cut : Bool) (input : List ℕ) (o : Outcome) → IsOutcome workers cut input o → (other : List ℕ) × IsReordered cut input other × IsTold cut other o

@@ -18,7 +18,7 @@ use Rattle.wb_script.specs.Script.{State, start, Outcome, prints, answer, held_c
 use Rattle.wb_script.specs.Runs.{Runs}
 use Rattle.wb_script.specs.Inside.Parts.{by_batches}
 use Rattle.wb_script.specs.Inside.Steps.{HostValue, IsAt, may_take}
-use Rattle.wb_script.specs.Inside.Ending.{ended_by, shown}
+use Rattle.wb_script.specs.Inside.Ending.{ended_by, ended_with, shown}
 use Rattle.wb_script.proofs.Batches.{batches_are_outcomes}
 use Rattle.wb_script.proofs.Counted.{EndsCounted, counted_before, few_after, meets_counted}
 use Rattle.wb_script.proofs.OneWorker.{one_worker_is_one_thread}
@@ -124,16 +124,21 @@ runs_so k cut input written result o is meets =
       reordered = (other.0, other.1, subst Meeting other.2 meets);
     }
 
-pub runs_ok : (h : HostValue) (k : Option ℕ) (cut : Bool) (input written : List ℕ) (n held : ℕ) → Met_of h (start k) cut input written (Ok n) → ((s : State) → IsAt h s → held ≡ held_count s) → Runs k cut input written (Ok (record { lines = n; held = held }))
+runs_ok : (h : HostValue) (k : Option ℕ) (cut : Bool) (input written : List ℕ) (n held : ℕ) → Met_of h (start k) cut input written (Ok n) → ((s : State) → IsAt h s → held ≡ held_count s) → Runs k cut input written (Ok (record { lines = n; held = held }))
 runs_ok h k cut input written n held m count =
     runs_so k cut input written (Ok (record { lines = n; held = held })) (shown m.0 m.1) (batches_are_outcomes cut (start k) (input_lines input) m.0 m.1 refl m.2) (met_ok m.1 m.0 written n held (count m.1 m.3) m.4)
 
-pub runs_err : (h : HostValue) (k : Option ℕ) (cut : Bool) (input written : List ℕ) (e : DriveFault LineFault) (refused : Bool) → Met_of h (start k) cut input written (Err e) → Runs k cut input written (Err (ended_by refused e))
+runs_err : (h : HostValue) (k : Option ℕ) (cut : Bool) (input written : List ℕ) (e : DriveFault LineFault) (refused : Bool) → Met_of h (start k) cut input written (Err e) → Runs k cut input written (Err (ended_by refused e))
 runs_err h k cut input written e refused m =
     runs_so k cut input written (Err (ended_by refused e)) (shown m.0 m.1) (batches_are_outcomes cut (start k) (input_lines input) m.0 m.1 refl m.2) (met_err m.1 refused m.0 written e m.4)
 
+pub runs_end : (h : HostValue) (k : Option ℕ) (cut : Bool) (input written : List ℕ) (held : ℕ) (refused : Bool) (ending : Result ℕ (DriveFault LineFault))
+    → Met_of h (start k) cut input written ending → ((s : State) → IsAt h s → held ≡ held_count s) → Runs k cut input written (ended_with held refused ending)
+runs_end h k cut input written held refused (Ok n) m count = runs_ok h k cut input written n held m count
+runs_end h k cut input written held refused (Err e) m count = runs_err h k cut input written e refused m
+
 -- it fails to read, or to write, only where its driver does
-pub ended_reads : (refused : Bool) (e : DriveFault LineFault) → ended_by refused e ≡ run_faults.Read → e ≡ faults.Read
+ended_reads : (refused : Bool) (e : DriveFault LineFault) → ended_by refused e ≡ run_faults.Read → e ≡ faults.Read
 ended_reads refused faults.Read h = refl
 ended_reads refused (faults.Line number f) h = absurd cc
 ended_reads refused faults.Write h = absurd cc
@@ -141,10 +146,18 @@ ended_reads true faults.Memory h = absurd cc
 ended_reads false faults.Memory h = absurd cc
 ended_reads refused faults.Endless h = absurd cc
 
-pub ended_writes : (refused : Bool) (e : DriveFault LineFault) → ended_by refused e ≡ run_faults.Write → e ≡ faults.Write
+ended_writes : (refused : Bool) (e : DriveFault LineFault) → ended_by refused e ≡ run_faults.Write → e ≡ faults.Write
 ended_writes refused faults.Write h = refl
 ended_writes refused (faults.Line number f) h = absurd cc
 ended_writes refused faults.Read h = absurd cc
 ended_writes true faults.Memory h = absurd cc
 ended_writes false faults.Memory h = absurd cc
 ended_writes refused faults.Endless h = absurd cc
+
+pub ends_reads : (held : ℕ) (refused : Bool) (ending : Result ℕ (DriveFault LineFault)) → ended_with held refused ending ≡ Err run_faults.Read → ending ≡ Err faults.Read
+ends_reads held refused (Ok n) h = absurd cc
+ends_reads held refused (Err e) h = let is : ended_by refused e ≡ run_faults.Read = cc in ap Err (ended_reads refused e is)
+
+pub ends_writes : (held : ℕ) (refused : Bool) (ending : Result ℕ (DriveFault LineFault)) → ended_with held refused ending ≡ Err run_faults.Write → ending ≡ Err faults.Write
+ends_writes held refused (Ok n) h = absurd cc
+ends_writes held refused (Err e) h = let is : ended_by refused e ≡ run_faults.Write = cc in ap Err (ended_writes refused e is)

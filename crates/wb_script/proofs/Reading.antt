@@ -3,7 +3,7 @@ use Rattle.std.proofs.Common.{◌≡◌, ℕ, List, [], ◌∷◌, ◌++◌, tru
 use Rattle.std.proofs.lemmas.Bool.{false≢true}
 use Rattle.wb_names.specs.Values.{DrawopValue}
 use Rattle.wb_lines.specs.Input.{InputLine}
-use Rattle.wb_lines.specs.Moments.{Moment, Reads, IsBehind, TakesJoined}
+use Rattle.wb_lines.specs.Moments.{LinesValue, Moment, Reads, IsBehind, TakesJoined, is_broken}
 use Rattle.wb_lines.proofs.Moments.{Reads-none, Reads-then, Reads-prints}
 use Rattle.wb_script.specs.declared.part.Part.{Part as ReadPart}
 use Rattle.wb_script.specs.declared.part.Part.TheVariants as parts
@@ -12,7 +12,7 @@ use Rattle.wb_script.specs.declared.taking.Untaken.{Untaken}
 use Rattle.wb_feed.specs.declared.batch.Batch.{Batch}
 use Rattle.wb_feed.specs.Batches.{counts_in}
 use Rattle.wb_member.specs.Holding.{MemberValue}
-use Rattle.wb_script.specs.Inside.Taking.{TakesAll, TakesFrom, TakesArrivals}
+use Rattle.wb_script.specs.Inside.Taking.{PrintsTaken, TakesAll, TakesFrom, TakesArrivals, TakesBatch}
 use Rattle.wb_script.specs.Script.{Part, Arrival, Nothing, End, part_in}
 use Rattle.wb_script.specs.Shows.{arrived_by, arrivals_of}
 use Rattle.wb_script.specs.Inside.Parts.{IsPart, joins, joins_batch, by_batches}
@@ -124,3 +124,11 @@ takes_arrivals member workers old new first arrived r (Ok p) is t = record {
   behind = (r.ended t.1).1;
 }
 takes_arrivals member workers old new first arrived r (Err e) is t = tt
+
+-- and its counts were printed, which changes nothing of the lines
+pub takes_printed : (member : MemberValue) (workers : ℕ) (first : DrawopValue) (joined : List InputLine) (printed : List ℕ) (old new : LinesValue Said) (taken : Result (MemberValue × Batch) Untaken) (result : Result MemberValue Untaken)
+    → new ≡ old → TakesArrivals member workers first joined old taken → PrintsTaken (is_broken old.seen) printed result taken → TakesBatch member workers first joined printed new result
+takes_printed member workers first joined printed old new (Ok r) (Ok after) same t p =
+    rw (same, p.0) (counts_in r.1, t, p.1)
+takes_printed member workers first joined printed old new (Err e) (Ok after) same t p = absurd p
+takes_printed member workers first joined printed old new taken (Err e) same t p = p

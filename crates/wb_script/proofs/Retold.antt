@@ -1,11 +1,11 @@
--- Calls of which some tell a keeper the same names in another order, or more than once: what is read off them is the same.
-use Rattle.std.proofs.Common.{◌≡◌, ℕ, Bool, true, false, cond, List, [], ◌∷◌, Option, Some, None, refl, ap, ap₂, ◌∙◌, sym, subst, ◌⊎◌, unwrap_or}
+-- Calls of which some tell a keeper the same names in another order, more than once, or one after another: what is read off them is
+-- the same.
+use Rattle.std.proofs.Common.{◌≡◌, ℕ, Bool, true, false, cond, List, [], ◌∷◌, ◌++◌, Option, None, refl, ap, ap₂, ◌∙◌, sym, subst, unwrap_or}
 use Rattle.std.specs.BTreeSet.{insert_key}
 use Rattle.std.specs.List.{cons_option, filter_map, list_any}
 use Rattle.std.specs.Option.{option_map, option_or}
 use Rattle.std.specs.Prelude.{◌-◌, nat_eq}
 use Rattle.std.proofs.Math.Path.{fun_ext}
-use mathlib.Core.Logic.{inl, inr}
 use Rattle.wb_names.specs.Values.{NameValue, MarkValue}
 use Rattle.wb_names.specs.Orders.{same_name, name_cmp}
 use Rattle.wb_names.specs.declared.name.PageId.{PageId}
@@ -29,91 +29,9 @@ use Rattle.wb_keeper.specs.Known.{page_named, pages_heard}
 use Rattle.wb_keeper.specs.Sessions.{echo_cmp, echo_to, echoes_of}
 use Rattle.wb_keeper.specs.declared.keeper.Heard.{Heard}
 use Rattle.wb_keeper.proofs.FreeArrivals.{timers_alike}
+use Rattle.wb_keeper.specs.declared.keeper.TheConstants.Keeper.{FIRST_DELAY}
 use Rattle.wb_script.proofs.Members.{Among}
 use Rattle.wb_script.proofs.Telling.{comes_alike}
-
--- both tell at one moment that names arrived, and these are the same names
-pub record ToldAs (one other : KeeperCall) : Type 0 where
-  pub now : ℕ
-  pub names : List NameValue
-  pub others : List NameValue
-  pub one_is : one ≡ Arrive now names
-  pub other_is : other ≡ Arrive now others
-  pub up : Among names others
-  pub down : Among others names
-
-abbrev pub CallAlike : KeeperCall → KeeperCall → Type 0
-CallAlike one other = (one ≡ other) ⊎ ToldAs one other
-
-abbrev pub CallsAlike : List KeeperCall → List KeeperCall → Type 0
-CallsAlike [] [] = Unit {0}
-CallsAlike (one ∷ calls) (other ∷ others) = CallAlike one other × CallsAlike calls others
-CallsAlike calls others = ⊥
-
-pub call_back : (one other : KeeperCall) → CallAlike one other → CallAlike other one
-call_back one other (inl e) = inl (sym e)
-call_back one other (inr t) = inr (record { now = t.now; names = t.others; others = t.names; one_is = t.other_is; other_is = t.one_is; up = t.down; down = t.up })
-
-pub calls_back : (calls others : List KeeperCall) → CallsAlike calls others → CallsAlike others calls
-calls_back [] [] a = tt
-calls_back (one ∷ calls) (other ∷ others) a = (call_back one other a.0, calls_back calls others a.1)
-calls_back [] (other ∷ others) a = absurd a
-calls_back (one ∷ calls) [] a = absurd a
-
-pub calls_same : (calls : List KeeperCall) → CallsAlike calls calls
-calls_same [] = tt
-calls_same (call ∷ calls) = (inl refl, calls_same calls)
-
--- ---- what does not look at the names that arrived
-
-abbrev IsFree : {X : Type 0} → (KeeperCall → X) → Type 0
-IsFree read = (now : ℕ) (names others : List NameValue) → read (Arrive now names) ≡ read (Arrive now others)
-
-read_alike : {X : Type 0} (read : KeeperCall → X) → IsFree read → (one other : KeeperCall) → CallAlike one other → read one ≡ read other
-read_alike read free one other (inl e) = ap read e
-read_alike read free one other (inr t) = ap read t.one_is ∙ free t.now t.names t.others ∙ sym (ap read t.other_is)
-
-newest_alike : {X : Type 0} (tells : KeeperCall → Option X) → IsFree tells → (calls others : List KeeperCall) → CallsAlike calls others → newest tells calls ≡ newest tells others
-newest_alike tells free [] [] a = refl
-newest_alike tells free (one ∷ calls) (other ∷ others) a = ap₂ option_or (read_alike tells free one other a.0) (newest_alike tells free calls others a.1)
-newest_alike tells free [] (other ∷ others) a = absurd a
-newest_alike tells free (one ∷ calls) [] a = absurd a
-
-pub moment_alike : (calls others : List KeeperCall) → CallsAlike calls others → moment_at calls ≡ moment_at others
-moment_alike calls others a = ap (λ (o : Option ℕ). unwrap_or o 0) (newest_alike now_of (λ now names others. refl) calls others a)
-
-pub delays_alike : (me : ℕ) (calls others : List KeeperCall) → CallsAlike calls others → delay_to me calls ≡ delay_to me others
-delays_alike me calls others a = fun_ext (λ source. ap (λ (o : Option ℕ). unwrap_or o 100000) (newest_alike (delay_given me source) (λ now names others. refl) calls others a))
-
-marks_at : (me : ℕ) (page : PageId) (calls others : List KeeperCall) → CallsAlike calls others → marks_heard me calls page ≡ marks_heard me others page
-marks_at me page [] [] a = refl
-marks_at me page (one ∷ calls) (other ∷ others) a = ap₂ joined (read_alike (marks_reported me page) (λ now names others. refl) one other a.0) (marks_at me page calls others a.1)
-marks_at me page [] (other ∷ others) a = absurd a
-marks_at me page (one ∷ calls) [] a = absurd a
-
-pub marks_alike : (me : ℕ) (calls others : List KeeperCall) → CallsAlike calls others → marks_heard me calls ≡ marks_heard me others
-marks_alike me calls others a = fun_ext (λ page. marks_at me page calls others a)
-
-pub pages_alike : (me : ℕ) (calls others : List KeeperCall) → CallsAlike calls others → pages_heard me calls ≡ pages_heard me others
-pages_alike me [] [] a = refl
-pages_alike me (one ∷ calls) (other ∷ others) a = ap₂ (λ (page : Option PageId) (pages : List PageId). cons_option page pages) (read_alike (page_named me) (λ now names others. refl) one other a.0) (pages_alike me calls others a.1)
-pages_alike me [] (other ∷ others) a = absurd a
-pages_alike me (one ∷ calls) [] a = absurd a
-
-senders_alike : (me : ℕ) (calls others : List KeeperCall) → CallsAlike calls others → senders_of me calls ≡ senders_of me others
-senders_alike me [] [] a = refl
-senders_alike me (one ∷ calls) (other ∷ others) a = ap₂ remember (read_alike (session_heard me) (λ now names others. refl) one other a.0) (senders_alike me calls others a.1)
-senders_alike me [] (other ∷ others) a = absurd a
-senders_alike me (one ∷ calls) [] a = absurd a
-
-last_alike : (me : ℕ) (calls others : List KeeperCall) → CallsAlike calls others → last_heard me calls ≡ last_heard me others
-last_alike me calls others a = fun_ext (λ source. ap₂ (λ (senders : List ℕ) (h : Option Heard). cond (list_any (nat_eq source) senders) h None)
-    (senders_alike me calls others a) (newest_alike (λ call. heard_by source (session_heard me call)) (λ now names others. refl) calls others a))
-
-pub echoes_alike : (me : ℕ) (calls others : List KeeperCall) (now : ℕ) → CallsAlike calls others → echoes_of me calls now ≡ echoes_of me others now
-echoes_alike me calls others now a =
-    ap₂ (λ (last : ℕ → Option Heard) (senders : List ℕ). sorted echo_cmp (filter_map (λ source. option_map (λ (h : Heard). let e : Echo = record { source = source; sent = h.sent; held = now - h.at } in e) (last source)) senders))
-    (last_alike me calls others a) (senders_alike me calls others a)
 
 -- ---- the timers
 
@@ -195,17 +113,102 @@ call_after me delays (Report now) one other a = a
 call_after me delays (GiveUp now name true) one other a = receipts_alike now (received_of (λ source. 0) (name ∷ [])) one other a
 call_after me delays (GiveUp now name false) one other a = a
 
-pub events_alike : (me : ℕ) (calls others : List KeeperCall) → CallsAlike calls others → EventsAlike (events_of me calls) (events_of me others)
-events_alike me [] [] a = events_same []
-events_alike me (one ∷ calls) (other ∷ others) (inl e, a) =
-    subst (λ (call : KeeperCall). EventsAlike (events_of me (one ∷ calls)) (events_of me (call ∷ others))) e
-    (subst (λ (delays : ℕ → ℕ). EventsAlike (timer_calls me (delay_to me calls) one (events_of me calls)) (timer_calls me delays one (events_of me others))) (delays_alike me calls others a)
-    (call_after me (delay_to me calls) one (events_of me calls) (events_of me others) (events_alike me calls others a)))
-events_alike me (one ∷ calls) (other ∷ others) (inr t, a) =
-    subst (λ (call : KeeperCall). EventsAlike (events_of me (call ∷ calls)) (events_of me (other ∷ others))) (sym t.one_is)
-    (subst (λ (call : KeeperCall). EventsAlike (events_of me (Arrive t.now t.names ∷ calls)) (events_of me (call ∷ others))) (sym t.other_is)
-    (events_then _ _ _ (receipts_alike t.now (received_of (delay_to me calls) t.names) (events_of me calls) (events_of me others) (events_alike me calls others a))
-    (subst (λ (delays : ℕ → ℕ). EventsAlike (receipts t.now (events_of me others) (received_of (delay_to me calls) t.names)) (receipts t.now (events_of me others) (received_of delays t.others))) (delays_alike me calls others a)
-    (arrivals_alike (delay_to me calls) t.now t.names t.others (events_of me others) t.up t.down))))
-events_alike me [] (other ∷ others) a = absurd a
-events_alike me (one ∷ calls) [] a = absurd a
+-- and names that come one after another
+apart_alike : (delays : ℕ → ℕ) (now : ℕ) (some more : List NameValue) (events : List Event)
+    → EventsAlike (receipts now (receipts now events (received_of delays some)) (received_of delays more)) (receipts now events (received_of delays (some ++ more)))
+apart_alike delays now [] more events = events_same (receipts now events (received_of delays more))
+apart_alike delays now (n ∷ some) more events = apart_alike delays now some more (Got n now (delays n.source) ∷ events)
+
+-- ---- the calls
+
+-- What is read off the one is what is read off the other.
+pub record CallsAlike (calls others : List KeeperCall) : Type 0 where
+  pub moment : newest now_of calls ≡ newest now_of others
+  pub delays : (me source : ℕ) → newest (delay_given me source) calls ≡ newest (delay_given me source) others
+  pub marks : (me : ℕ) (page : PageId) → marks_heard me calls page ≡ marks_heard me others page
+  pub pages : (me : ℕ) → pages_heard me calls ≡ pages_heard me others
+  pub senders : (me : ℕ) → senders_of me calls ≡ senders_of me others
+  pub heard : (me source : ℕ) → newest (λ call. heard_by source (session_heard me call)) calls ≡ newest (λ call. heard_by source (session_heard me call)) others
+  pub events : (me : ℕ) → EventsAlike (events_of me calls) (events_of me others)
+
+pub moment_alike : (calls others : List KeeperCall) → CallsAlike calls others → moment_at calls ≡ moment_at others
+moment_alike calls others a = ap (λ (o : Option ℕ). unwrap_or o 0) a.moment
+
+pub delays_alike : (me : ℕ) (calls others : List KeeperCall) → CallsAlike calls others → delay_to me calls ≡ delay_to me others
+delays_alike me calls others a = fun_ext (λ source. ap (λ (o : Option ℕ). unwrap_or o FIRST_DELAY) (a.delays me source))
+
+pub marks_alike : (me : ℕ) (calls others : List KeeperCall) → CallsAlike calls others → marks_heard me calls ≡ marks_heard me others
+marks_alike me calls others a = fun_ext (a.marks me)
+
+last_alike : (me : ℕ) (calls others : List KeeperCall) → CallsAlike calls others → last_heard me calls ≡ last_heard me others
+last_alike me calls others a = fun_ext (λ source. ap₂ (λ (senders : List ℕ) (h : Option Heard). cond (list_any (nat_eq source) senders) h None) (a.senders me) (a.heard me source))
+
+pub echoes_alike : (me : ℕ) (calls others : List KeeperCall) (now : ℕ) → CallsAlike calls others → echoes_of me calls now ≡ echoes_of me others now
+echoes_alike me calls others now a =
+    ap₂ (λ (last : ℕ → Option Heard) (senders : List ℕ). sorted echo_cmp (filter_map (λ source. option_map (λ (h : Heard). let e : Echo = record { source = source; sent = h.sent; held = now - h.at } in e) (last source)) senders))
+    (last_alike me calls others a) (a.senders me)
+
+-- ---- which calls are alike
+
+pub calls_same : (calls : List KeeperCall) → CallsAlike calls calls
+calls_same calls = record { moment = refl; delays = λ me source. refl; marks = λ me page. refl; pages = λ me. refl; senders = λ me. refl; heard = λ me source. refl; events = λ me. events_same (events_of me calls) }
+
+pub calls_back : (calls others : List KeeperCall) → CallsAlike calls others → CallsAlike others calls
+calls_back calls others a = record {
+  moment = sym a.moment;
+  delays = λ me source. sym (a.delays me source);
+  marks = λ me page. sym (a.marks me page);
+  pages = λ me. sym (a.pages me);
+  senders = λ me. sym (a.senders me);
+  heard = λ me source. sym (a.heard me source);
+  events = λ me. let e = a.events me in record { names = sym e.names; constants = λ t. sym (e.constants t); timers = λ t. sym (e.timers t) };
+}
+
+pub calls_then : (a b c : List KeeperCall) → CallsAlike a b → CallsAlike b c → CallsAlike a c
+calls_then a b c x y = record {
+  moment = x.moment ∙ y.moment;
+  delays = λ me source. x.delays me source ∙ y.delays me source;
+  marks = λ me page. x.marks me page ∙ y.marks me page;
+  pages = λ me. x.pages me ∙ y.pages me;
+  senders = λ me. x.senders me ∙ y.senders me;
+  heard = λ me source. x.heard me source ∙ y.heard me source;
+  events = λ me. events_then (events_of me a) (events_of me b) (events_of me c) (x.events me) (y.events me);
+}
+
+-- one call behind them
+pub calls_after : (call : KeeperCall) (calls others : List KeeperCall) → CallsAlike calls others → CallsAlike (call ∷ calls) (call ∷ others)
+calls_after call calls others a = record {
+  moment = ap (option_or (now_of call)) a.moment;
+  delays = λ me source. ap (option_or (delay_given me source call)) (a.delays me source);
+  marks = λ me page. ap (joined (marks_reported me page call)) (a.marks me page);
+  pages = λ me. ap (cons_option (page_named me call)) (a.pages me);
+  senders = λ me. ap (remember (session_heard me call)) (a.senders me);
+  heard = λ me source. ap (option_or (heard_by source (session_heard me call))) (a.heard me source);
+  events = λ me.
+      subst (λ (delays : ℕ → ℕ). EventsAlike (timer_calls me (delay_to me calls) call (events_of me calls)) (timer_calls me delays call (events_of me others))) (delays_alike me calls others a)
+      (call_after me (delay_to me calls) call (events_of me calls) (events_of me others) (a.events me));
+}
+
+-- that tells the same names
+pub arrived_alike : (now : ℕ) (names others : List NameValue) (calls : List KeeperCall) → Among names others → Among others names → CallsAlike (Arrive now names ∷ calls) (Arrive now others ∷ calls)
+arrived_alike now names others calls up down = record {
+  moment = refl;
+  delays = λ me source. refl;
+  marks = λ me page. refl;
+  pages = λ me. refl;
+  senders = λ me. refl;
+  heard = λ me source. refl;
+  events = λ me. arrivals_alike (delay_to me calls) now names others (events_of me calls) up down;
+}
+
+-- Names are told one after another, or at once.
+pub arrived_apart : (now : ℕ) (some more : List NameValue) (calls : List KeeperCall) → CallsAlike (Arrive now more ∷ Arrive now some ∷ calls) (Arrive now (some ++ more) ∷ calls)
+arrived_apart now some more calls = record {
+  moment = refl;
+  delays = λ me source. refl;
+  marks = λ me page. refl;
+  pages = λ me. refl;
+  senders = λ me. refl;
+  heard = λ me source. refl;
+  events = λ me. apart_alike (delay_to me calls) now some more (events_of me calls);
+}

@@ -1,7 +1,6 @@
 -- Two hosts whose keepers learned the same names in other orders: each line prints the same there, and leads to two such hosts.
 use Rattle.std.proofs.Common.{◌≡◌, ℕ, Bool, true, false, cond, List, [], ◌∷◌, ◌++◌, length, Option, Some, None, refl, sym, ap, ap₂, ◌∙◌, subst, filter, map, nat_lt, ◌||◌}
 use Rattle.std.specs.List.{filter_map}
-use mathlib.Core.Logic.{inl, inr}
 use Rattle.wb_names.specs.Values.{NameValue, DrawopValue, MarkValue}
 use Rattle.wb_names.specs.declared.name.PageId.{PageId}
 use Rattle.wb_names.specs.declared.echo.Echo.{Echo}
@@ -31,7 +30,7 @@ use Rattle.wb_member.specs.Opened.{Opened, present, events, due_count, sent_by, 
 use Rattle.wb_member.specs.Questions.{Told, answer_by, answer_to}
 use Rattle.wb_member.specs.Random.{words_of, after_words}
 use Rattle.wb_member.specs.declared.questions.Query.{Query}
-use Rattle.wb_script.proofs.Retold.{CallsAlike, EventsAlike, moment_alike, delays_alike, marks_alike, pages_alike, echoes_alike, events_alike, receipts_alike}
+use Rattle.wb_script.proofs.Retold.{CallsAlike, EventsAlike, calls_after, moment_alike, delays_alike, marks_alike, echoes_alike, receipts_alike}
 
 -- a host whose keeper accepted these calls in place of its own
 abbrev pub retold : Opened → List KeeperCall → Opened
@@ -61,7 +60,7 @@ module _ (host : Opened) (calls : List KeeperCall) (a : CallsAlike host.is.calls
   same_present = moment_alike host.is.calls calls a
 
   same_events : EventsAlike (events host) (events other)
-  same_events = events_alike host.is.number host.is.calls calls a
+  same_events = a.events host.is.number
 
   same_marks : marks_heard host.is.number host.is.calls ≡ marks_heard host.is.number calls
   same_marks = marks_alike host.is.number host.is.calls calls a
@@ -80,7 +79,7 @@ module _ (host : Opened) (calls : List KeeperCall) (a : CallsAlike host.is.calls
     record {
       calls = call' ∷ calls;
       is = ap (λ (n : ℕ). calling call' n other) (sym count);
-      alike = (inl same, a);
+      alike = subst (λ (c : KeeperCall). CallsAlike (call ∷ host.is.calls) (c ∷ calls)) same (calls_after call host.is.calls calls a);
     },
     printed,
   )
@@ -92,7 +91,7 @@ module _ (host : Opened) (calls : List KeeperCall) (a : CallsAlike host.is.calls
 
   same_answer : (query : Query) → answer_to query host ≡ answer_to query other
   same_answer query =
-      ap₂ (λ (marks : PageId → List MarkValue) (heard : List PageId). answer_by host.is.number marks heard host.is.held query) same_marks (pages_alike host.is.number host.is.calls calls a)
+      ap₂ (λ (marks : PageId → List MarkValue) (heard : List PageId). answer_by host.is.number marks heard host.is.held query) same_marks (a.pages host.is.number)
 
   asks : (query : Query) → DoRetold (asked query host) (asked query other)
   asks query = subst (λ (said : Told). DoRetold (asked query host) (tells other (answer_text said))) (same_answer query) (by (answer_text (answer_to query host))) where

@@ -1,7 +1,6 @@
 -- Two states whose hosts' keepers learned the same names in other orders: a script has the same outcomes from both.
 use Rattle.std.proofs.Common.{◌≡◌, ℕ, ◌+◌, Bool, cond, List, [], ◌∷◌, ◌++◌, Result, Ok, Err, Option, Some, None, refl, sym, ap, subst, ◌∙◌, IsPermutation, arith}
 use Rattle.std.proofs.lemmas.List.Sorted.{length_permutation}
-use mathlib.Core.Logic.{inl, inr}
 use Rattle.std.specs.Prelude.{◌↔◌, filter}
 use Rattle.wb_names.specs.Arrivals.{history_after}
 use Rattle.wb_names.specs.Orders.{name_cmp}
@@ -21,7 +20,7 @@ use Rattle.wb_script.specs.Script.{State, MayBeTaken, Closing, Opens, Acts, Faul
 use Rattle.wb_script.specs.declared.fault.RunFault.{RunFault}
 use Rattle.wb_script.specs.declared.fault.RunFault.TheVariants as run_faults
 use Rattle.wb_script.proofs.ReorderedLines.{state}
-use Rattle.wb_script.proofs.Retold.{CallsAlike, calls_back, calls_same, moment_alike}
+use Rattle.wb_script.proofs.Retold.{CallsAlike, calls_after, calls_back, calls_same, moment_alike, arrived_alike}
 use Rattle.wb_script.proofs.RetoldActs.{HostsRetold, DoRetold, retold, act_retold}
 use Rattle.wb_script.proofs.Telling.{names_told, opens_alike}
 
@@ -73,7 +72,8 @@ module _ (k : Option ℕ) where
     at (d ∷ ds) = record {
       calls = told (d ∷ ds) (retold one h.calls);
       is = refl;
-      alike = (inl (ap (λ (now : ℕ). Arrive now (sorted name_cmp (filter (holds (history_after one.is.cells one.is.held (d ∷ ds))) (names_of (d ∷ ds))))) (moment_alike one.is.calls h.calls h.alike)), h.alike);
+      alike = subst (λ (now : ℕ). CallsAlike (told (d ∷ ds) one) (Arrive now (sorted name_cmp (filter (holds (history_after one.is.cells one.is.held (d ∷ ds))) (names_of (d ∷ ds)))) ∷ h.calls)) (moment_alike one.is.calls h.calls h.alike)
+          (calls_after (Arrive (present one) (sorted name_cmp (filter (holds (history_after one.is.cells one.is.held (d ∷ ds))) (names_of (d ∷ ds))))) one.is.calls h.calls h.alike);
     }
 
   same_text : (order : List DrawopValue) (one other : Opened) → HostsRetold one other → batch_text (board_of one) order ≡ batch_text (board_of other) order
@@ -152,6 +152,6 @@ batches_are_told_as_said host d ds (e ∷ es) moved =
       outcomes = go_on (batched (d ∷ ds) (e ∷ es) host) (taken (e ∷ es) host) (record {
         calls = told (e ∷ es) host;
         is = refl;
-        alike = (inr (record { now = present host; names = _; others = _; one_is = refl; other_is = refl; up = names.0; down = names.1 }), calls_same host.is.calls);
+        alike = arrived_alike (present host) (filter p (names_of (d ∷ ds))) (sorted name_cmp (filter p (names_of (e ∷ es)))) host.is.calls names.0 names.1;
       });
     }

@@ -1,9 +1,10 @@
 //! A script is run, line by line and batch by batch.
-ghost use Rattle.std.specs.Prelude.{◌≡◌, List, ℕ, true, Err};
+ghost use Rattle.std.specs.Prelude.{◌≡◌, ◌≤◌, List, ℕ, true, Err};
+ghost use Rattle.std.specs.Result.{ForOk, ForErr};
 ghost use Rattle.std.specs.Io.KnownBytes.{Appends};
 ghost use Rattle.wb_lines.specs.Driving.{Gave};
 ghost use Rattle.wb_script.specs.Checking.{IsCounted};
-ghost use Rattle.wb_script.specs.Inside.Ending.{ended_by};
+ghost use Rattle.wb_script.specs.Inside.Ending.{ended_by, ended_with};
 ghost use Rattle.wb_script.specs.Runs.{Runs};
 ghost use Rattle.wb_script.specs.Script.{most_lines};
 
@@ -44,6 +45,25 @@ fn ended_by(refused: bool, fault: DriveFault<LineFault>) -> RunFault
     }
 }
 
+/// How a run ends, by how its driver does, and by how many drawops are held then.
+fn ended_with(
+    held: u32,
+    refused: bool,
+    ending: Result<u64, DriveFault<LineFault>>,
+) -> Result<Summary, RunFault>
+    requires few { ForOk ending (λ lines. lines ≤ most_lines) }
+    requires counted { ForErr ending (IsCounted most_lines) }
+    ensures { result ≡ ended_with held refused ending }
+{
+    match ending {
+        Ok(lines) => Ok(Summary {
+            lines: lines as u32,
+            held,
+        }),
+        Err(fault) => Err(ended_by(refused, fault)),
+    }
+}
+
 /// Runs the script that a source has left, and writes what it prints to a sink. The number of
 /// workers that take each batch is the one that is handed in, or else that of the board; 0 counts
 /// as 1, and more than 8 as 8. They call the gate round each accept.
@@ -70,11 +90,6 @@ pub fn run<T: Threads + Wait + Sync, R: Source, W: Sink, G: Gate + Sync>(
 {
     let mut host = Host::new(Place { rt, alloc, gate }, workers);
     let most_lines = u64::from(MAX_LINES);
-    match take_lines(alloc, most_lines, &mut host, source, sink) {
-        Ok(lines) => Ok(Summary {
-            lines: lines as u32,
-            held: host.held(),
-        }),
-        Err(fault) => Err(ended_by(host.is_refused(), fault)),
-    }
+    let ending = take_lines(alloc, most_lines, &mut host, source, sink);
+    ended_with(host.held(), host.is_refused(), ending)
 }

@@ -1,19 +1,19 @@
 //! A batch that is read from its script as workers take it.
-ghost use Rattle.std.specs.Prelude.{◌≡◌, ◌≤◌, ◌<◌, ℕ, [], List, true, false, IfOk, OnOk};
+ghost use Rattle.std.specs.Prelude.{◌≡◌, ◌≤◌, ◌<◌, ◌++◌, ℕ, [], List, true, false, IfOk, OnOk};
 ghost use Rattle.wb_names.specs.Values.{DrawopValue};
 ghost use Rattle.wb_board.specs.Counts.{IsWorkerCount};
 ghost use Rattle.wb_lines.specs.Input.{InputLine};
-ghost use Rattle.wb_lines.specs.Moments.{moment, Reads};
+ghost use Rattle.wb_lines.specs.Moments.{moment, is_broken, Reads};
 ghost use Rattle.wb_feed.specs.Batches.{counts_in};
 ghost use Rattle.wb_script.specs.declared.taking.Untaken.TheVariants as untaken;
 ghost use Rattle.wb_script.specs.Inside.Parts.{by_batches};
 ghost use Rattle.wb_script.specs.Inside.Reading.{ReadsOn};
-ghost use Rattle.wb_script.specs.Inside.Taking.{TakesAll, TakesFrom, TakesArrivals, TakesBatch};
+ghost use Rattle.wb_script.specs.Inside.Taking.{PrintsTaken, TakesAll, TakesFrom, TakesArrivals, TakesBatch};
 
 use crate::arriving::BatchSource;
 use crate::place::Place;
 use crate::said::Said;
-use std::alloc::{AllocError, AllocFailed};
+use std::alloc::{AllocError, AllocFailed, Global};
 use std::sync::Wait;
 use std::thread::Threads;
 use wb_commands::batch_line;
@@ -78,7 +78,7 @@ fn take_all<T: Threads + Wait + Sync, S: Arrivals, G: Gate + Sync>(
             Ok((member, batch, drawops))
         }
         Err(FeedFault::Start) => Err(Untaken::Start),
-        Err(FeedFault::Memory) => Err(Untaken::Memory),
+        Err(FeedFault::Memory { .. }) => Err(Untaken::Memory),
         Err(FeedFault::Workers) => unreachable!(),
     }
 }
@@ -165,17 +165,26 @@ pub fn take_batch<T: Threads + Wait + Sync, R: Source, W: Sink, G: Gate + Sync>(
         (W.taken sink.new) (W.has_failed sink.new)) printed joined ×
         TakesBatch member workers first joined printed progress.new.lines result }
 {
-    let (member, batch) = take_arrivals(place, member, workers, first, progress, source, sink)?;
+    let taken = take_arrivals(place, member, workers, first, progress, source, sink);
+    print_taken(place.alloc, progress, taken)
+}
+
+/// Prints the counts of a batch that was taken, unless no more lines can be read. Answers the
+/// member.
+fn print_taken(
+    alloc: Global,
+    progress: &mut Progress<Said>,
+    taken: Result<(Member, Batch), Untaken>,
+) -> Result<Member, Untaken>
+    ensures lines { progress.new.lines ≡ progress.old.lines }
+    ensures printed { (printed : List ℕ) × (progress.new.output ≡ progress.old.output ++ printed)
+        × PrintsTaken (is_broken progress.old.lines.seen) printed result taken }
+{
+    let (member, batch) = taken?;
     if progress.lines.is_broken() {
         return Ok(member);
     }
-    let text = batch_line(
-        place.alloc,
-        batch.fresh,
-        batch.again,
-        batch.clash,
-        batch.left,
-    )?;
+    let text = batch_line(alloc, batch.fresh, batch.again, batch.clash, batch.left)?;
     progress.output.add(text.as_bytes())?;
     Ok(member)
 }

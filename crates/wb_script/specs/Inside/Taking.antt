@@ -45,3 +45,9 @@ abbrev pub TakesBatch : MemberValue → ℕ → DrawopValue → List InputLine �
 TakesBatch member workers first joined printed lines (Ok after) =
     (counted : Counts) × TakesLines member workers first joined lines counted after × Prints (is_broken lines.seen) printed counted
 TakesBatch member workers first joined printed lines (Err e) = printed ≡ []
+
+-- What is printed of a batch, where the member is answered that took it: nothing, unless it was taken.
+abbrev pub PrintsTaken : Bool → List ℕ → Result MemberValue Untaken → Result (MemberValue × Batch) Untaken → Type 0
+PrintsTaken broken printed (Ok after) (Ok taken) = (after ≡ taken.0) × Prints broken printed (counts_in taken.1)
+PrintsTaken broken printed (Ok after) (Err e) = ⊥
+PrintsTaken broken printed (Err e) taken = printed ≡ []

@@ -2,22 +2,22 @@ use Rattle.std.proofs.Common.{Ok, Err, ap, arith, inl, inr, refl}
 use Rattle.wb.proofs.Statuses.{host_lost}
 use Rattle.wb.proofs.serving.perform_host.Goals as goal
 
-pub returns-in-Ok-clause-begun : goal.returns-in-Ok-clause-begun
-returns-in-Ok-clause-begun g c =
+pub returns-in-Ok : goal.returns-in-Ok
+returns-in-Ok g c =
     let s = c.in-Ok.ensures.text in
-    (s.0, s.1, s.2, s.3, (Ok c.in-Ok.field-0, s.4, s.5, refl))
+    record { input = s.0; written = s.1; read = s.2; wrote = s.3; answered = (Ok c.in-Ok.field-0, s.4, s.5, refl); failed = λ e. absurd (omega (arith, e)) }
 
-pub returns-in-Ok-clause-failed : goal.returns-in-Ok-clause-failed
-returns-in-Ok-clause-failed g c = λ e. absurd (omega (arith, e))
-
-pub returns-in-Err-clause-begun : goal.returns-in-Err-clause-begun
-returns-in-Err-clause-begun g c =
+pub returns-in-Err : goal.returns-in-Err
+returns-in-Err g c =
     let s = c.in-Err.ensures.text in
-    (s.0, s.1, s.2, s.3, (Err c.in-Err.fault, s.4, s.5, refl))
-
-pub returns-in-Err-clause-failed : goal.returns-in-Err-clause-failed
-returns-in-Err-clause-failed g c = λ e.
-    elim (host_lost c.in-Err.fault e) [
-      | inl read ↦ inl (c.in-Err.ensures.read (ap Err read))
-      | inr write ↦ inr (c.in-Err.ensures.write (ap Err write))
-    ]
+    record {
+      input = s.0;
+      written = s.1;
+      read = s.2;
+      wrote = s.3;
+      answered = (Err c.in-Err.fault, s.4, s.5, refl);
+      failed = λ e. elim (host_lost c.in-Err.fault e) [
+        | inl read ↦ inl (c.in-Err.ensures.read (ap Err read))
+        | inr write ↦ inr (c.in-Err.ensures.write (ap Err write))
+      ];
+    }

@@ -3,7 +3,10 @@ use Rattle.wb.proofs.Statuses.{misused, reason}
 use Rattle.wb.proofs.serving.serve.Goals as goal
 
 pub returns-in-Ok-clause-served : goal.returns-in-Ok-clause-served
-returns-in-Ok-clause-served g c = inl (c.in-Ok.task, c.in-Ok.ensures.asked, c.finish.ensures.begun)
+returns-in-Ok-clause-served g c = inl (c.in-Ok.task, c.in-Ok.ensures.asked, c.finish.ensures.performed)
+
+pub returns-in-Ok-clause-failed : goal.returns-in-Ok-clause-failed
+returns-in-Ok-clause-failed g c = c.finish.ensures.performed.failed
 
 pub returns-in-Err-clause-served : goal.returns-in-Err-clause-served
 returns-in-Err-clause-served g c =

@@ -1,10 +1,10 @@
-use Rattle.std.proofs.Common.{rules, arith, ◌≡◌, ◌<◌, ◌-◌, suc, Err, refl, ap, subst}
+use Rattle.std.proofs.Common.{rules, arith, ◌≡◌, ◌<◌, ◌-◌, ◌*◌, suc, Err, refl, ap, subst}
 use Rattle.crossbeam_channel.specs.Claims.{view}
 use Rattle.wb_board.specs.Desks.{PassValue, IsSplit}
 use Rattle.wb_feed.specs.declared.workers.WorkFault.TheVariants.{Start}
 use Rattle.wb_feed.specs.Served.{Served}
 use Rattle.wb_feed.proofs.Log.{loses_is}
-use Rattle.wb_feed.proofs.TakingBack.{several_kept, several_fed, several_worked, nobody_all, refused_back, fed_none}
+use Rattle.wb_feed.proofs.TakingBack.{kept_whole, several_kept, several_fed, several_worked, nobody_all, refused_back, fed_none}
 use Rattle.wb_feed.proofs.workers.+run_several.Goals as goal
 
 pub returns-then-left-eq0-clause-ok : goal.returns-then-left-eq0-clause-ok
@@ -36,13 +36,13 @@ returns-in-Err-clause-kept g t c =
     let served : Served c.in-Ok.desk c.work.result.desk (view c.work.result.pass) c.work.result.told.replies.items c.work.result.failed = search rules in
     let next : c.args.left ≡ suc (c.args.left - 1) = omega (arith, c.if-left-eq0.false) in
     several_kept c.args.rows (c.args.left - 1) c.args.left _ c.split.new.desk c.split.new.desk _ c.in-Ok.desk c.work.result (view c.work.result.pass) (Err Start) c.take_back-in-Err.result next parts served
-    (loses_is c.split.new.desk c.split.new.desk refl) c.take_back-in-Err.ensures.back
+    (kept_whole (c.args.rows * (c.args.left - 1)) c.split.new.desk c.split.new.desk (Err Start) refl (loses_is c.split.new.desk c.split.new.desk refl)) c.take_back-in-Err.ensures.back
 
 pub returns-in-Err-clause-fed : goal.returns-in-Err-clause-fed
 returns-in-Err-clause-fed g t c =
-    several_fed _ _ _ _ _ _ _ _ _ _ _ _ _ c.work.result (Err Start) _ c.cut-theirs.ensures.left
+    several_fed _ _ _ _ _ _ _ _ _ _ _ _ _ c.args.rows c.work.result (Err Start) _ c.cut-theirs.ensures.left
     (fed_none _ _ _ _ _ _ _ c.end_all-in-Err.ensures.channel (ap (λ d. d.items) c.end_all-in-Err.ensures.arrived) (g.met.S.Arrivals.gives_none _) tt)
     c.take_back-in-Err.ensures.pass c.take_back-in-Err.ensures.back
 
 pub returns-in-Err-clause-ok : goal.returns-in-Err-clause-ok
-returns-in-Err-clause-ok g t c = refused_back _ _ c.work.result _ Start _ c.take_back-in-Err.ensures.back
+returns-in-Err-clause-ok g t c = refused_back _ _ c.args.rows c.work.result _ Start _ c.take_back-in-Err.ensures.back
