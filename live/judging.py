@@ -10,6 +10,7 @@ from .clock import SECOND, wall
 from .inbox import Arrival
 from .joining import Joining
 from .judge import Facts, Judge, Other, Verdict
+from .tails import Tails
 from .views import Datagram, Drawop, Name, Question, Report, datagram_of
 from .wire import with_echo
 
@@ -48,6 +49,7 @@ class Judging:
     def __init__(self, member: Member) -> None:
         self.member = member
         self.joining = Joining(member)
+        self.tails = Tails(member.me)
         self.patience = GONE_AFTER
         options, board = member.options, member.board
         # under a key nobody is a stranger for long, and what came before is replayed from outside
@@ -58,7 +60,8 @@ class Judging:
     def plan(self) -> List[Tuple[int, Callable[[], Any]]]:
         """What is to be done, each with its moment."""
         board = self.member.board
-        plan: List[Tuple[int, Callable[[], Any]]] = [] if board.due is None else [(board.due, self.member.tick)]
+        moments = [(board.due, self.member.tick), (self.tails.due(), self.member.repeat)]
+        plan: List[Tuple[int, Callable[[], Any]]] = [(moment, act) for moment, act in moments if moment is not None]
         return plan if self.member.is_ready else [*plan, (board.ready_at, self.member.people.begin)]
 
     # ---- what comes in
@@ -82,6 +85,9 @@ class Judging:
         verdict = self.verdict(datagram, origin)
         if verdict.why is not None:
             return WHYS[verdict.why]
+        now = self.member.board.now()
+        if self.judge.is_known(origin, now):
+            self.tails.hear(datagram, now)
         if isinstance(datagram, Drawop):
             return self.take([datagram], origin, sent)
         block = self.member.board.came([digits])[0]
@@ -171,8 +177,9 @@ class Judging:
     def outgoing(self, digits: str) -> Optional[str]:
         """What goes out for a datagram of the host, if anything: no request while a stream brings what it asks for, and a report of ours echoes
         the last one under our number that is not ours."""
-        if digits.startswith(REQUEST) and self.joining.is_coming():
-            return None
+        if digits.startswith(REQUEST):
+            self.tails.asked(self.member.board.now())
+            return None if self.joining.is_coming() else digits
         if not digits.startswith(SESSION):
             return digits
         now, member = self.member.board.now(), self.member

@@ -36,8 +36,8 @@ FAULTS = (BoardFault, HostEnded, InvitationFault, KeyFault, NetworkFault, NoProg
 
 
 PLAIN = (
-    "wb-live: the page goes over the network by plain HTTP: who can read there has its key, and draws. docs/LIVE.md, Behind a proxy, has three lines "
-    "that seal it"
+    "wb-live: the page uses plain HTTP, so whoever can read the network's traffic learns its address, and can draw. docs/LIVE.md, Behind a proxy, has "
+    "a recipe for TLS"
 )
 
 

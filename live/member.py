@@ -157,6 +157,12 @@ class Member:
         """The host does what is due."""
         self.tell("tick %d" % self.board.now())
 
+    def repeat(self) -> None:
+        """What we drew last goes out once more, which the record has already. Alone, there is nobody who could lack it."""
+        taken = self.judging.tails.take(self.board.now())
+        if self.judging.present():
+            self.send_all(taken)
+
     def send_all(self, many: Sequence[str]) -> None:
         for digits in many:
             self.send(digits)

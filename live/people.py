@@ -101,6 +101,7 @@ class People:
             raise Refused(re.sub("(?<=^word )[0-9]+", lambda place: str(int(place[0]) - WORDS_BEFORE), block.fault))
         if drawop is None:
             raise Refused("full")
+        member.judging.tails.drew(drawop, member.board.moment)
         return {"source": member.me, "seq": drawop.name[2], "page": page_text(page), "words": drawop.words}
 
     def turn_to(self, page: Page) -> Dict[str, Any]:

@@ -61,7 +61,7 @@ class Stage:
         return UNPROVED + (BESIDE if self.is_beside else ALONE)
 
     def progress(self) -> str:
-        """As `5 of 13 crates proved, 12 min: wb_host 34 of 128`."""
+        """As `5 of 13 crates proved, 12 min: wb_board 34 of 128`."""
         if self.is_proved or self.fault or not self.many:
             return ""
         return "%d of %d crates proved, %d min%s" % (self.crates, self.many, self.minutes, self.at and ": " + self.at)
@@ -76,7 +76,7 @@ class Stage:
 
 
 def read_progress(path: Path) -> Tuple[int, int, int, str]:
-    """How far the proof is, as the launcher writes it: `5 13 12 wb_host 34 of 128`."""
+    """How far the proof is, as the launcher writes it: `5 13 12 wb_board 34 of 128`."""
     try:
         words = path.read_text().split(None, 3)
         return int(words[0]), int(words[1]), int(words[2]), words[3].strip() if len(words) > 3 else ""

@@ -22,7 +22,7 @@ export function testPackets() {
   judge('a length that does not end', fault(() => parted(new Uint8Array([0x30, 128, 128, 128, 128, 128]), 6)), 'a packet that is too long');
 }
 
-/** A socket that remembers what is sent, and says what it is told to. */
+/** A socket that remembers what is sent, and says what a test has it say. */
 class Socket {
   static OPEN = 1;
   static all = [];

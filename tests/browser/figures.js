@@ -1,4 +1,4 @@
-// Measures the modules in the browser that opens this, by a host that keeps itself: the milliseconds to a first answer, the microseconds of a
+// Measures the modules in the browser that opens this, with a self-managing host: the milliseconds to a first answer, the microseconds of a
 // datagram that came, the milliseconds of a canvas and of a start from a record, and the bytes of the memory. The datagrams are made by the
 // modules themselves, by `wb hex`.
 const folder = new URL(document.body.dataset.folder, location.href);
@@ -51,7 +51,7 @@ async function measure(wide) {
     canvas: median(await rounds(() => host.ask('show 7 1 80 25'))), tick: await ticks(host), again, memory: host.start.exports.memory.buffer.byteLength, held };
 }
 
-/** A board whose host keeps itself. */
+/** A board with a self-managing host. */
 async function begin(host) {
   await host.ask('board 1 65535 1 42');
   await host.ask('keep 4000 0');

@@ -1,4 +1,4 @@
-// Tests what stands between a member and its judge: what of the host it is told, and what comes of what it decides. The member is none. What the
+// Tests what is between a member and its judge: what it hears of the host, and what comes of what it decides. There is no member here. What the
 // judge decides the table of cases says (table.mjs).
 import { Alarms } from '../../web/member/alarms.js';
 import { Board } from '../../web/member/board.js';
@@ -131,7 +131,7 @@ async function testOwnMarks() {
     [true, 2, 4, ['a report tells of a drawing of ours that we did not make']]);
 }
 
-/** What the host holds is told to the judge: by it our own marks are no forgeries, and who asks for it is answered. */
+/** The judge hears what the host holds: so our own marks are not taken for forgeries, and whoever asks for it gets an answer. */
 async function testHeld() {
   const member = memberOf();
   await meet(member);
@@ -218,6 +218,28 @@ async function testTime() {
     ['ahead of the clock', 'ahead of the clock']);
 }
 
+/** What we drew last goes out again when it is due, unless we heard of it; that we ask for something tells of losses. */
+async function testLast() {
+  const member = memberOf(), { judging } = member, repeated = [];
+  member.repeat = async () => { repeated.push(...judging.tails.take(member.board.moment)); };
+  await meet(member);
+  member.board.moment = SECOND;
+  judging.tails.drew(drawopOf(drawing(1, 1), 'one'), SECOND);
+  const [[moment, act]] = judging.plan();
+  member.board.moment = moment;
+  await act();
+  judge('a drawing that nothing follows', [moment, repeated, judging.plan().length], [1.25 * SECOND, ['one'], 1]);
+  judging.leaving(unhex('57420103000000140000000100000007000000070000000100000003'));
+  member.board.moment = 2 * SECOND;
+  await judging.plan()[0][1]();
+  judge('goes a last time where something was lost', [repeated, judging.plan()], [['one', 'one'], []]);
+  judging.tails.drew(drawopOf(drawing(1, 2), 'two'), 2 * SECOND);
+  await heed(member, 'request 8 1 7/1 3', 'z');
+  judge('a request that is not handed in changes nothing', judging.plan().length, 1);
+  await heed(member, 'session-message 9 78 7/1 1=2');
+  judge('what a report tells of is known', judging.plan(), []);
+}
+
 /** Pages of members are listed before any of strangers, however many these are: of a record, since no more than sixteen come. */
 async function testPages() {
   const names = Array.from({ length: 1_499 }, (_, i) => `900 0/${i + 1} 1`), member = memberOf({ cells: 65_535, strange: names });
@@ -234,5 +256,5 @@ async function testPages() {
 }
 
 export async function testJudging() {
-  for (const test of [testHost, testRecord, testPatience, testNotice, testOwnMarks, testHeld, testRefused, testTwins, testRoom, testTime, testPages]) await test();
+  for (const test of [testHost, testRecord, testPatience, testNotice, testOwnMarks, testHeld, testRefused, testTwins, testRoom, testTime, testLast, testPages]) await test();
 }

@@ -1,9 +1,9 @@
-// A member over the module that WB_MODULE names: what its host keeps by itself, and what its record has of it. From any record of before a start goes
+// A member over the module that WB_MODULE names: what its host keeps by itself, and what its record has of it. From any earlier record a start goes
 // on with all that is held.
 import fs from 'node:fs';
 import test from 'node:test';
 import { Board, NoRoom } from '../../web/member/board.js';
-import { unhex } from '../../web/member/datagram.js';
+import { readDatagram, unhex } from '../../web/member/datagram.js';
 import { heldOf } from '../../web/member/held.js';
 import { HostEnded, Program } from '../../web/member/host.js';
 import { Inbox } from '../../web/member/inbox.js';
@@ -87,7 +87,7 @@ async function testDraw(program) {
   judge('what is shown', (await board.view(PAGE)).map(({ seq }) => seq), [1, 2, 5]);
 }
 
-/** Where the record can't have a drawing, nor has the host. */
+/** What the record can't have, the host does not have either. */
 async function testNoRoom(program) {
   const record = new Record(null, 'here', 1), { board, held } = await boardOf(program, record), { write } = record;
   await board.draw(PAGE, 1, 50, 'line 0 0 4 0 +');
@@ -181,6 +181,29 @@ async function testStrangers(program) {
   for (const member of [again, other]) await member.end();
 }
 
+/** The last drawing before a pause is lost, and is there soon: its member sends it again, after its record has it, and alone it does not. */
+async function testTail(program) {
+  const network = new Map(), record = new Record(null, 'here', 11), one = await memberOf(program, network, 11, record), sent = [];
+  const send = one.transport.send, isKept = ({ words }) => record.lines().then((lines) => lines.includes(`say ${words}`));
+  one.transport.send = (bytes) => {
+    const datagram = readDatagram(bytes);
+    if (datagram?.kind === 'draw') sent.push([datagram.seq, isKept(datagram)]);
+    send(bytes);
+  };
+  await one.people.draw(PAGE, 'line 0 0 4 0 a');
+  await comes(() => one.judging.tails.due() === null, 5);
+  judge('alone', sent.map(([seq]) => seq), [1]);
+  const other = await memberOf(program, network, 12, new Record(null, 'here', 12)), { worse } = other.inbox;
+  await comes(() => other.drawn.total === 1 && one.judging.present(one.board.now()).length === 1);
+  other.inbox.worse = { ...worse, lose: 1 };
+  await one.people.draw(PAGE, 'line 0 1 4 1 a');
+  other.inbox.worse = { ...worse, lose: 0 };
+  judge('the other has it soon', await comes(() => other.drawn.total === 2, 10), true);
+  await comes(() => one.judging.tails.due() === null, 5);
+  judge('it goes twice more at most, and the record has it before', [sent.filter(([seq]) => seq === 2).length <= 3, await Promise.all(sent.map(([, kept]) => kept))], [true, sent.map(() => true)]);
+  for (const member of [one, other]) await member.end();
+}
+
 /** Two members of one number see it, and do not draw. A report of an earlier start shows no twin. */
 async function testTwins(program) {
   const network = new Map(), heard = [], twins = [];
@@ -198,4 +221,4 @@ async function testTwins(program) {
 }
 
 const program = new Program(await WebAssembly.compile(fs.readFileSync(file)), false);
-for (const each of [testOld, testMarks, testClock, testDraw, testNoRoom, testEnds, testSession, testStrangers, testTwins]) test(each.name.slice('test'.length), () => each(program));
+for (const each of [testOld, testMarks, testClock, testDraw, testNoRoom, testEnds, testSession, testStrangers, testTail, testTwins]) test(each.name.slice('test'.length), () => each(program));

@@ -34,7 +34,7 @@ CARRIES = frame(BINARY, CONNACK + SUBACK)
 
 
 class Way(NamedTuple):
-    """Whether the WebSocket is answered, what is sent then, and whether the connection is ended behind that. Where it is not, whoever hears
+    """Whether the WebSocket is answered, what is sent then, and whether the connection is ended after that. If it is not, whoever hears
     what is no MQTT has to end it."""
 
     is_answered: bool

@@ -78,7 +78,7 @@ def draw_with_live(facts: Facts, live: Window, windows: list[Window]) -> None:
 
 
 def check_stranger(facts: Facts, browser: Ordinary, folder: Folder, broker: Broker, windows: list[Window]) -> None:
-    """Who has no key, or another, is not heard and hears nothing."""
+    """A member without the key, or with another, is not heard and hears nothing."""
     strangers = [Window(browser, folder.address(fragment(broker))), Window(browser, folder.address(fragment(broker, key="B" * 42 + "E")))]
     before = windows[0].drawings()
     for stranger in strangers:

@@ -16,6 +16,7 @@ import { testDatagrams, testEchoes } from './datagrams.mjs';
 import { fault, judge } from '../judge.mjs';
 import { testJudging, testReported } from './judging.mjs';
 import { datagramOf, testTable } from './table.mjs';
+import { testTails } from './tails.mjs';
 
 function testBlocks() {
   const taken = new Block(['send 01ff', 'batch 1 0 0 0'], 'ok 34890'), refused = new Block([], 'refused word 3');
@@ -161,7 +162,7 @@ function testInbox() {
   }
 }
 
-/** By a clock that goes when it is told. */
+/** With a clock that a test moves. */
 function takeAll(clock) {
   const inbox = new Inbox();
   for (let i = 0; i < 2_100; i += 1) inbox.take(new Uint8Array([i & 255]), NOWHERE);
@@ -192,7 +193,7 @@ function testWire() {
   judge('what went by', wire.counts, { in: 3, out: 1, lost: 1, twice: 0, refused: 1, requests: 0, repairs: 1 });
 }
 
-/** What is told of a datagram, and how much of all is remembered. */
+/** What the page says of a datagram, and how much of all is remembered. */
 function testWireBounds() {
   const wire = new Wire(), came = (words, more = {}) => wire.came(datagramOf(words), { origin: NOWHERE, isLost: false, isSecond: false, ...more }, null);
   const request = (seq) => `request 9 7 7/1 ${seq}`, repair = (seq) => datagramOf(`draw 7 7/1 ${seq} 11 line 0 0 1 1 *`);
@@ -279,5 +280,5 @@ async function testRecords() {
 }
 
 const TESTS = [testBlocks, testWords, testDatagrams, testEchoes, testDrawn, testInvitations, testSeal, testEnvelope, testSealed, testCounters, testPackets, testBrokers, testInbox, testWire, testWireBounds,
-  testPresence, testPresences, testAlarms, testRecords, testReported, testTable, testJudging];
+  testPresence, testPresences, testAlarms, testRecords, testReported, testTable, testJudging, testTails];
 for (const each of TESTS) test(each.name.slice('test'.length), each);

@@ -19,7 +19,7 @@ class Ordinary(Browser):
 
     def __init__(self, program: str, patience: float) -> None:
         super().__init__(program, patience)
-        self.attached: list[str] = []  # the sessions of workers, as they are told
+        self.attached: list[str] = []  # the sessions of workers, as the browser names them
 
     def options(self) -> list[str]:
         return [option for option in super().options() if option not in FOR_TESTS_ALONE]
@@ -115,7 +115,7 @@ class Window:
 
 
 def agree(windows: list[Window], drawings: int, seconds: float = 3 * PATIENCE) -> bool:
-    """Whether all windows come to show the same rows of so many drawings."""
+    """Whether all windows come to show the same rows of this many drawings."""
     end = time.monotonic() + seconds
     while time.monotonic() < end:
         if all(window.drawings() == drawings for window in windows) and len({json.dumps(window.rows()) for window in windows}) == 1:

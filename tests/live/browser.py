@@ -17,7 +17,7 @@ from typing import Any
 # the names under which Debian and others install it
 NAMES = ("chromium", "chromium-browser", "google-chrome")
 
-# what has to come is waited for so many seconds, on a slow machine too
+# for how many seconds a test waits for what has to come, on a slow machine too
 PATIENCE = 120.0
 
 # the bits of the protocol for keys that are held

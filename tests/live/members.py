@@ -68,7 +68,7 @@ class Process:
         return self.get("/%s/" % self.token)
 
     def watch(self) -> None:
-        """Takes in what is told, until the process ends."""
+        """Takes in what the process says, until it ends."""
         try:
             for name, value in messages("/%s/events?token=%s" % (self.token, self.token), self.port):
                 self.learn(name, value)
@@ -86,7 +86,7 @@ class Process:
             self.changed.notify_all()
 
     def wait_for(self, is_so: Callable[[Dict[str, Any]], Any], seconds: float = PATIENCE) -> bool:
-        """Whether something comes to be so, of the states that are told."""
+        """Whether something comes to be so, of the states that the member sends."""
         with self.changed:
             return self.changed.wait_for(lambda: self.holds(is_so), seconds)
 

@@ -43,7 +43,7 @@ def follow(lines: List[str], environment: Dict[str, str]) -> List[Process]:
     members: List[Process] = []
     invitation = ""
     for line in lines:
-        words = shlex.split(line)
+        words = shlex.split(line, comments=True)
         if words[0] != "./wb-live":
             raise ValueError("%s is no start of wb-live" % line)
         words = [invitation if word.endswith("key=..") and invitation.startswith(word[:-2]) else word for word in words[1:]]

@@ -51,7 +51,7 @@ def fault_of(where: BrokerSession) -> str:
 
 
 def check_refusals(facts: Facts, room: BrokerFiles) -> None:
-    """Who does not come in, and what he is told. The certificate is for the address and for a name that is not asked for here."""
+    """Who does not come in, and what the program says then. The certificate is for the address and for a name that is not asked for here."""
     cases = {
         "a certificate of nobody we trust": (place(room, "m1", "other"), "has no certificate that is taken: .*--ca FILE"),
         "one that the system does not trust": (place(room, "m1", None), "has no certificate that is taken: self.signed"),
@@ -66,7 +66,7 @@ def check_refusals(facts: Facts, room: BrokerFiles) -> None:
 
 
 def check_names(facts: Facts, room: BrokerFiles) -> None:
-    """A name writes its own topic alone, hears the others, and is told of when it goes."""
+    """A name writes to its own topic alone, hears the others, and learns when one goes."""
     kept = {name: Kept() for name in ("m1", "m2", "mallory")}
     carriers = {name: MqttCarrier(place(room, name), GONE + name.encode()) for name in kept}
     for name, carrier in carriers.items():
@@ -93,7 +93,7 @@ def check_names(facts: Facts, room: BrokerFiles) -> None:
 
 
 def check_outage(facts: Facts, room: BrokerFiles) -> None:
-    """A broker that goes is told of, and found again when it is back."""
+    """A member says that its broker went, and finds it again when it is back."""
     broker = room.brokers[0]
     one, two, kept, other = MqttCarrier(place(room, "m1"), b"x"), MqttCarrier(place(room, "m2"), b"x"), Kept(), Kept()
     one.begin(kept)
@@ -147,7 +147,7 @@ class Relay:
 
 
 def check_broken(facts: Facts, room: BrokerFiles) -> None:
-    """A connection that breaks in another way than by an end is told of too, and made again."""
+    """A member also says it, and reconnects, if a connection breaks in another way than by an end."""
     relay, kept, other = Relay(), Kept(), Kept()
     one, two = MqttCarrier(place(room, "m1", port=relay.port), b"x"), MqttCarrier(place(room, "m2"), b"x")
     one.begin(kept)

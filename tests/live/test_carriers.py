@@ -80,7 +80,7 @@ class Kept:
         self.troubles.append(trouble)
 
     def wait_for(self, data: bytes, seconds: float = PATIENCE) -> Optional[Origin]:
-        """Where a datagram came from, once it has come."""
+        """The origin of a datagram, once it has come."""
         end = time.monotonic() + seconds
         while time.monotonic() < end:
             for each, origin in list(self.came):

@@ -23,7 +23,7 @@ def now() -> int:
 
 
 def sent_since(member: Process, start: int, kind: str) -> List[Dict[str, Any]]:
-    """What a member has sent of a kind since so many entries."""
+    """What a member has sent of a kind since an entry."""
     return [entry for entry in member.entries[start:] if entry["way"] == "out" and entry["kind"] == kind]
 
 

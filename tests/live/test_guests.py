@@ -320,7 +320,7 @@ def test_newcomers(facts: Facts) -> None:
 
 
 def test_pace(facts: Facts) -> None:
-    """New members of one address: so many at once, and then one in each pause."""
+    """New members of one address: some at once, and then one in each pause."""
     guests = Guests.__new__(Guests)
     guests.paid = {}
     facts("so many at once", [guests.admits("a") for _ in range(MOST_NEW + 1)], [True] * MOST_NEW + [False])
@@ -370,7 +370,7 @@ def test_faults(facts: Facts) -> None:
             facts("after %s no file is open" % name, opened(), files)
             facts("after %s its place is free, and its browser is told" % name, (len(guests.guests), guest.events.is_ended), (0, True))
         files = opened()
-        options.rate = -1  # no host keeps itself by that
+        options.rate = -1  # no host takes that with `keep`
         try:
             facts("one that can't start is none", guests.begin("127.0.0.1"), None)
         except NoPlace as told:

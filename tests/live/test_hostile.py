@@ -92,7 +92,7 @@ class Attacker:
             self.socket.sendto(datagram, self.target)
 
     def reach(self, member: Process, datagrams: List[bytes]) -> bool:
-        """Sends datagrams, so many at a time as its socket has room for. Whether all came in or were dropped: a few fewer, where the
+        """Sends datagrams, each time as many as its socket has room for. Whether all came in or were dropped: a few fewer, if the
         member hears others meanwhile."""
         member.wait_for(lambda states: "health" in states)
         count, room = came(member), ROOM

@@ -135,7 +135,7 @@ def test_orders(facts: Facts) -> None:
 
 
 def long_board(many: int) -> List[Dict[str, Any]]:
-    """A stroke of so many texts."""
+    """A stroke of several texts."""
     return [{"source": 7, "number": number, "time": number, "row": 4000, "text": "~sHb!->!XBYYYE"} for number in range(1, many + 1)]
 
 

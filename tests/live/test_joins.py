@@ -31,7 +31,7 @@ MOST_LATENCY = 100
 
 
 def write_board(path: Path, me: int, drawops: int) -> None:
-    """The record of a member that holds so many drawops of three others, on a page."""
+    """The record of a member that holds drawops of three others, on a page."""
     words = [
         "draw %d 1/1 %d %d line %d %d %d %d %s" % (SOURCES[n % 3], n // 3 + 1, n, n % 190, n // 7 % 90, n % 190 + 5, n // 7 % 90, "*+o"[n % 3])
         for n in range(drawops)
@@ -67,7 +67,7 @@ def check_join(facts: Facts, full: Process, drawops: int) -> Process:
 
 
 class Watcher:
-    """What one browser is told of a page, and when it first had a line of a row. As a browser does, it connects again when it was cut off."""
+    """What one browser hears of a page, and when it first had a line of a row. As a browser does, it connects again when it was cut off."""
 
     def __init__(self, member: Process) -> None:
         self.rows: Dict[int, float] = {}
@@ -102,7 +102,7 @@ class Watcher:
 
 
 def check_line(facts: Facts, member: Process, drawops: int) -> None:
-    """A line on a page of so many, in so many browsers."""
+    """A line on a page of many drawops, in many browsers."""
     watchers = [Watcher(member) for _ in range(WATCHERS)]
     began = time.monotonic()
     there = max(watcher.is_told(None, began + LONGEST) for watcher in watchers) - began

@@ -1,4 +1,4 @@
-"""What stands between a member and its judge, over a host that answers as it is told: what the judge hears of the host, and what comes of what it
+"""What is between a member and its judge, over a host that answers as the test says: what the judge hears of the host, and what comes of what it
 decides. What the judge decides the table of cases says (test_judgements.py)."""
 from __future__ import annotations
 
@@ -98,7 +98,7 @@ def test_reports(facts: Facts) -> None:
 
 
 def test_held(facts: Facts) -> None:
-    """What the host holds is told to the judge: by it our own marks are no forgeries, and who asks for it is answered."""
+    """The judge hears what the host holds: so our own marks are not taken for forgeries, and whoever asks for it gets an answer."""
     one = One()
     one.meet()
     for seq in (1, 2, 3):

@@ -1,4 +1,4 @@
-"""What a host that keeps itself says, and what its record has of it: from any record of before it starts with all that is held."""
+"""What a self-managing host says, and what its record has of it: from any earlier record it starts with all that is held."""
 from __future__ import annotations
 
 import os
@@ -84,7 +84,7 @@ def held_lines(path: Path) -> List[str]:
 
 
 def check_others(facts: Facts, folder: Path) -> None:
-    """A record that a host which keeps itself had of another driver, and one with lines that are none."""
+    """A record that a self-managing host had of another driver, and one with invalid lines."""
     path = folder / "other.wb"
     path.write_text("board 7 100 1 42\nkeep 4000 0\nadd 5 5 1/1 line 0 0 4 0 o\n")
     other = Process(["--ports", str(FIRST_PORT), "--record", str(path)], web=False)
@@ -185,7 +185,7 @@ def test_repair(facts: Facts) -> None:
 
 
 def check_listening(facts: Facts, folder: Path) -> None:
-    """Who listens, and for how long: the first drawing waits."""
+    """Which member listens, and for how long: its first drawing waits."""
     path = str(folder / "a.wb")
     words = ["--ports", str(FIRST_PORT), "--speed", "10", "--record", path]
     member = Process([*words, "--me", "7"])

@@ -89,7 +89,7 @@ class Liar:
         self.link.sendall(self.frame(len(data)) + data)
 
     def frame(self, size: int) -> bytes:
-        """The head of a frame of so many bytes, where there are frames."""
+        """The head of a frame of this many bytes, or nothing if there are no frames."""
         return b"\x82\x7f" + size.to_bytes(8, "big") if self.is_web else b""
 
     def pour(self, head: bytes, more: bytes) -> None:

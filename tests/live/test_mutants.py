@@ -63,7 +63,7 @@ def seed_of() -> int:
 
 
 def bounded(count: int, found: Dict[str, int], name: str) -> Iterator[int]:
-    """Counts up, until there are so many or the time is over; how many there were is put down."""
+    """Counts up, until the count or the time is over, and notes how many there were."""
     end = time.monotonic() + SECONDS
     for number in range(count):
         if time.monotonic() > end:
@@ -154,7 +154,7 @@ def check_datagrams(facts: Facts, chance: random.Random, found: Dict[str, int]) 
         if status == 422 and "number" in told.get("fault", ""):  # one of them was a report of ours
             status = member.post("/number", {"new": True})[0] and member.draw(PAGE, "line 0 9 4 9 z")[0]
         facts("after mutated datagrams one draws: %s" % told.get("fault", ""), status, 200)
-        time.sleep(2.5)  # what is told is compared with what the host shows
+        time.sleep(2.5)  # then the page is compared with what the host shows
         counts = member.counts()
         facts("the host is the first, and agrees", (counts["starts"], counts["differences"]), (1, 0))
     finally:

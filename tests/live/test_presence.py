@@ -18,7 +18,7 @@ POINT = Point(7, (1, 2), (3, 4), ["line 0 0 1 1 *", 'text 0 0 "a"'])
 
 
 class LastTold:
-    """In the place of events: what was told last."""
+    """In the place of events: what was said last."""
 
     def __init__(self) -> None:
         self.others: List[Dict[str, Any]] = []
@@ -70,7 +70,7 @@ def point(member: Process, column: int) -> None:
 
 
 def sees(member: Process, number: int, column: int) -> bool:
-    """Whether a member comes to be told that another points at a column, and of nobody else."""
+    """Whether a member comes to hear that another points at a column, and of nobody else."""
     wanted = [(number, [column, 1])]
     return member.wait_for(lambda states: [(other["member"], other["cell"]) for other in states["presence"]["others"]] == wanted)
 

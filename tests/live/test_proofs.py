@@ -26,7 +26,7 @@ case $1 in
             [ ! -e "$top/stage" ] || cp "$top/stage" "$top/out/progress"
             [ ! -e "$top/fast" ] || { rm "$top/fast"; cp "$top/out/unproved/wb" "$top/new" && mv "$top/new" "$top/out/unproved/wb"; }
             [ ! -e "$top/ends-0" ] || exit 0
-            [ ! -e "$top/ends-5" ] || { echo "wb: wb_host is not proved; the log is out/logs/1/wb_host.log" >&2; exit 5; }
+            [ ! -e "$top/ends-5" ] || { echo "wb: wb_board is not proved; the log is out/logs/1/wb_board.log" >&2; exit 5; }
             sleep 0.1
         done ;;
 esac
@@ -73,8 +73,8 @@ def test_change(facts: Facts) -> None:
     facts("a member begins by a build that is not proved", hosts_of(one), [str(place.top / "out/unproved/wb")])
     facts("and says so on standard output", one.lines[0].startswith("NOT PROVED YET: this board runs by a build that is checked while it runs"), True)
     facts("and on the page", one.wait_for(lambda states: states["hello"]["proof"]["text"].startswith("NOT PROVED YET") and not states["hello"]["proof"]["proved"]), True)
-    place.say("stage", "5 13 12 wb_host 34 of 128")
-    facts("the page has crates and minutes", one.wait_for(lambda states: states["hello"]["proof"]["progress"] == "5 of 13 crates proved, 12 min: wb_host 34 of 128"), True)
+    place.say("stage", "5 13 12 wb_board 34 of 128")
+    facts("the page has crates and minutes", one.wait_for(lambda states: states["hello"]["proof"]["progress"] == "5 of 13 crates proved, 12 min: wb_board 34 of 128"), True)
     facts("and a bar of them", one.wait_for(lambda states: (states["hello"]["proof"]["crates"], states["hello"]["proof"]["many"]) == (5, 13)), True)
     facts("people draw meanwhile", one.draw("1/1", "line 0 0 4 0 *")[0], 200)
     place.say("fast")
@@ -96,7 +96,7 @@ def test_failure(facts: Facts) -> None:
     one = place.start("--ports", "27880")
     one.draw("1/1", "line 0 0 4 0 *")
     place.say("ends-5")
-    text = "NOT PROVED: wb_host is not proved; the log is out/logs/1/wb_host.log. This board goes on by a build that is checked while it runs."
+    text = "NOT PROVED: wb_board is not proved; the log is out/logs/1/wb_board.log. This board goes on by a build that is checked while it runs."
     facts("where a crate is not proved, the page says which", one.wait_for(lambda states: states["hello"]["proof"]["text"] == text), True)
     facts("and the member goes on", (one.draw("1/1", 'text 0 1 "on"')[0], hosts_of(one)), (200, [str(place.top / "out/unproved/wb")]))
     one.end()

@@ -37,7 +37,7 @@ def status_of(words: List[str]) -> int:
 
 
 def check_files(facts: Facts, folder: Path) -> None:
-    """Files that are no records stay as they are."""
+    """Files that do not begin as records stay as they are."""
     texts = {"one line": "shopping list", "two lines": "milk\nbread", "a script": "#!/bin/bash\necho hello", "a long one": "x" * 300_000}
     for name, text in texts.items():
         path = folder / "text"
@@ -82,7 +82,7 @@ def refused(words: List[str], environment: Dict[str, str]) -> Tuple[int, str]:
         started.end()
 
 
-# lines that are none of a record, each with what is said of it
+# lines that no record has, each with what the start says about it
 WRONG = {
     "tick abc": "it is no moment of a board that goes on",
     "tick -1": "it is no moment of a board that goes on",
@@ -108,7 +108,7 @@ def begun(path: Path) -> None:
 
 
 def refusal_of(path: Path) -> List[str]:
-    """What is said of a record that is to be drawn on, and of one that is to be shown."""
+    """What the start says about a record that is to be drawn on, and about one that is to be shown."""
     told: List[str] = []
     uses: List[Callable[[], Any]] = [lambda: begun(path), lambda: checked(os.environ["WB_PROGRAM"], read_played(str(path)))]
     for use in uses:
@@ -121,7 +121,7 @@ def refusal_of(path: Path) -> List[str]:
 
 
 def check_malformed(facts: Facts, folder: Path) -> None:
-    """A line that is none is told by the record's name, its number and its words; the record stays as it is, and is not shown either."""
+    """For an invalid line the start gives the record's name, its number and its words; the record stays as it is, and is not shown either."""
     for number, (line, why) in enumerate(WRONG.items()):
         path = folder / ("wrong-%d.wb" % number)
         text = "board 7 100 1 42\n\n# a comment\n%s\ntick 5\n" % line
@@ -140,7 +140,7 @@ def check_malformed(facts: Facts, folder: Path) -> None:
 
 
 def check_links(facts: Facts, folder: Path) -> None:
-    """No link is followed to a record, and what is no file is no record; all other records of the folder are taken as before."""
+    """No link is followed to a record, and only a file is one; all other records of the folder are taken as before."""
     state = {"XDG_STATE_HOME": str(folder / "linked")}
     words = ["--ports", str(FIRST_PORT), "--speed", "10"]
     first = Process(words, environment=state)
@@ -251,7 +251,7 @@ def check_noise(facts: Facts, folder: Path) -> None:
 
 
 def check_full_disk(facts: Facts, folder: Path) -> None:
-    """A record that can't grow: it is told, nothing is drawn, and then there is room again."""
+    """A record that can't grow: the member says so and draws nothing, and then there is room again."""
     path = folder / "full.wb"
     member = Process(["--ports", str(FIRST_PORT), "--speed", "10", "--record", str(path)],
                      limits=lambda: resource.setrlimit(resource.RLIMIT_FSIZE, (FULL, resource.RLIM_INFINITY)))

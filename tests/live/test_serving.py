@@ -146,7 +146,7 @@ def test_recipe(facts: Facts) -> None:
 
 
 def stream(own: Path, token: str, cookie: str) -> bytes:
-    """What a WebSocket over TLS is told first."""
+    """What a WebSocket over TLS gets first."""
     link = Sealed(own)
     link.connect()
     assert link.sock

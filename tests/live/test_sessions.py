@@ -32,7 +32,7 @@ def operation(chance: random.Random, drawn: List[int], me: int) -> str:
 
 
 def draw_all(member: Process, count: int, faults: List[str]) -> None:
-    """A member draws so many drawops on each page, one after another."""
+    """A member draws drawops on each page, one after another."""
     chance = random.Random(member.me)
     drawn: Dict[str, List[int]] = {page: [] for page in PAGES}
     for turn in range(count * len(PAGES)):
@@ -56,7 +56,7 @@ def draw_together(members: List[Process], count: int) -> List[str]:
 
 
 def is_whole(member: Process, drawops: int) -> bool:
-    """It holds so many drawops on both pages, and misses none."""
+    """It holds this many drawops on both pages, and misses none."""
     held = {page["page"]: page["drawn"] for page in member.states["pages"]["pages"]}
     return all(held.get(page) == drawops for page in PAGES)
 

@@ -34,7 +34,7 @@ MINUTES, MANY_DRAWINGS = 10.0, 30_000
 # seconds between two looks whether all boards are equal
 PAUSE = 2
 
-# one drawing in so many of a guest is its last before its window is closed and its page opened again
+# how many drawings of a guest there are for one that is its last before its window is closed and its page opened again
 LEAVES = 30
 
 # what draws glyphs, so that its member may delete it

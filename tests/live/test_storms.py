@@ -134,7 +134,7 @@ def are_equal(records: List[str], honest: Set[int]) -> bool:
 
 
 def wait_until_equal(records: List[str], honest: Set[int], seconds: float) -> bool:
-    """Whether they come to be so; else it is told in what they differ."""
+    """Whether they come to be so; else it prints in what they differ."""
     end = time.monotonic() + seconds
     while time.monotonic() < end:
         if are_equal(records, honest):

@@ -204,7 +204,7 @@ def test_pages(facts: Facts) -> None:
 
 
 def test_recorded_pages(facts: Facts) -> None:
-    """A record has more pages of strangers than are told."""
+    """A record has more pages of strangers than are listed."""
     with tempfile.TemporaryDirectory() as folder:
         record = Path(folder) / "a.wb"
         record.write_text("board 7 65535 1 42\ntick 5\n" + "".join("draw 900 0/%d 1 5 line 0 0 4 0 p\n" % number for number in range(1, 1_201)))

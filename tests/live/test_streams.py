@@ -119,7 +119,7 @@ def check_whole(facts: Facts, how: str, relay: bool) -> None:
 
 
 def test_strangers(facts: Facts) -> None:
-    """Who has no key gets no stream."""
+    """A member without the key gets no stream."""
     if not HAS_SEALS:
         return
     from live.carriers.sealed import Seal
@@ -302,7 +302,7 @@ def test_accepting(facts: Facts) -> None:
     ports.end()
 
 
-# ---- what is no fault of the network
+# ---- faults that are not the network's
 
 
 def joining(outcome: BaseException) -> Tuple[Joining, List[Any]]:
@@ -355,7 +355,7 @@ def test_coming(facts: Facts) -> None:
 
 
 def test_faults(facts: Facts) -> None:
-    """A stream that breaks off is nobody's fault; a fault of this program is told. After either the next stream can be asked for."""
+    """A stream that breaks off is nobody's fault; a fault of this program is reported. After either the next stream can be asked for."""
     for name, outcome, wanted in (("a busy member", Refused("busy"), 0), ("a network", ConnectionResetError(), 0), ("this program", ZeroDivisionError("ours"), 1)):
         made, found = joining(outcome)
         facts("of %s so many faults are told" % name, len(found), wanted)

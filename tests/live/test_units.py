@@ -1,4 +1,4 @@
-"""Parts by themselves: words and their fields, who is heard, what is told, the record, the inbox."""
+"""Parts by themselves: words and their fields, who is heard, what the page is sent, the record, the inbox."""
 from __future__ import annotations
 
 import contextlib
@@ -118,7 +118,7 @@ def test_order(facts: Facts) -> None:
 
 
 class Entries:
-    """In the place of events: the entries that were told."""
+    """In the place of events: the entries that were sent."""
 
     def __init__(self) -> None:
         self.entries: List[Dict[str, Any]] = []
@@ -128,7 +128,7 @@ class Entries:
 
 
 def test_wire(facts: Facts) -> None:
-    """What is told of a datagram that goes by, which request a repair answers, and how much is remembered."""
+    """What the page hears of a datagram that goes by, which request a repair answers, and how much is remembered."""
     told = Entries()
     wire = Wire(told)  # type: ignore[arg-type]
 
@@ -336,7 +336,7 @@ def test_options(facts: Facts) -> None:
 
 
 def test_security(facts: Facts) -> None:
-    """Each test is there by which docs/SECURITY.md says that something holds."""
+    """Each test that docs/SECURITY.md names exists."""
     named = sorted(set(re.findall(r"`([a-z_]+)\.((?:test|check)\w+)`", (TOP / "docs" / "SECURITY.md").read_text())))
     files = [*(TOP / "tests").glob("**/*.py"), *(TOP / "tests" / "browser").glob("*.mjs")]
     texts = {part: [file.read_text() for file in files if file.name.split(".")[0] == part] for part, _ in named}

@@ -33,7 +33,7 @@ from .members import program
 WALL = 1_764_000_000 * SECOND
 PAGE = (1, 1)
 
-# one datagram in so many is lost, and each takes so many microseconds
+# the share of datagrams that are lost, and how many microseconds each takes
 LOSS, DELAY = 0.05, 2_000
 
 # drawings of those that join, a few in each second from the first
@@ -180,7 +180,7 @@ class World:
 
 
 class Joined(NamedTuple):
-    """The part of pairs that know each other after so many seconds; what was sent in the first 30; and when all drawings had come."""
+    """The part of pairs that know each other after these seconds; what was sent in the first 30; and when all drawings had come."""
 
     pairs: Dict[int, float]
     requests: int
@@ -240,7 +240,7 @@ class AfterForgeries(NamedTuple):
 
 
 def beside_forged_pages(forged: int, longest: int = 240) -> AfterForgeries:
-    """Strangers begin so many pages with two members. Then one of these draws, and the other has to be told of it."""
+    """Strangers begin pages with two members. Then one of these draws, and the other has to hear of it."""
     with World(forged) as world:
         members = [world.join(1), world.join(2)]
         world.run(20)
@@ -268,7 +268,7 @@ class Departed(NamedTuple):
 
 
 def among_departed(drawops: int, newcomers: int, pages: int = 4, longest: int = 120) -> Departed:
-    """One member has the record of that board, and so many others come."""
+    """One member has the record of that board, and others come."""
     with tempfile.TemporaryDirectory() as folder, World(drawops) as world:
         path = Path(folder) / "full.wb"
         digits = [drawn(100 + n % 12, 1 + n // 12, WALL - n, n % 90, b"*", (100 + n % pages, 1)).hex() for n in range(drawops)]
@@ -310,7 +310,7 @@ def test_strangers(facts: Facts) -> None:
 
 
 def test_pages(facts: Facts) -> None:
-    """A host tells its pages in turn, so what is lost beside many pages is told late: strangers begin few."""
+    """A host reports its pages in turn, so beside many pages a loss is reported late: strangers begin few."""
     told = beside_forged_pages(250)
     print("beside 250 pages that strangers begin, of which %d are kept, a lost drawing is there after %s s" % told[::-1])
     facts("strangers have few pages", told.pages <= STRANGE_PAGES, True)

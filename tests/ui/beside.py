@@ -13,7 +13,7 @@ PAIRS = [("ink", "paper"), ("ink", "panel"), ("ink", "soft"), ("quiet", "panel")
          ("on-accent", "accent"), ("good", "panel"), ("good", "paper"), ("good", "soft"), ("warn", "panel"), ("warn", "paper"), ("bad", "panel"), ("bad", "paper"),
          ("bad", "bad-soft"), ("warn", "warn-soft"), *((member, ground) for member in range(60) for ground in ("paper", "soft"))]
 
-# looks whether it is night between all that the page does, until it is told to look no more
+# looks whether it is night between all that the page does, until the test says to look no more
 LOOKS = """(() => {
     const { port1, port2 } = new MessageChannel();
     port1.onmessage = () => { wb.painter.isNight(); if (window.looks) port2.postMessage(0); };

@@ -48,7 +48,7 @@ class Windows:
     other: Sheet
 
     def show(self, tally: Tally, flow: Flow) -> None:
-        """A flow of both windows. No fault is told by a page, and nothing covers what is pressed."""
+        """A flow of both windows. No page reports a fault, and nothing covers what is pressed."""
         flow(tally, self.one, self.other)
         self.is_quiet(tally)
 

@@ -1,4 +1,4 @@
-"""Where others point, before they let go; and a record as a film."""
+"""What others point at, before they let go; and a record as a film."""
 from __future__ import annotations
 
 import json
@@ -14,7 +14,7 @@ from .tools import USUAL, WINDOWS, has, on_a_new_page
 DRAWN, PAUSE = 12, 0.2
 INK = 'text 64 4000 "~v%0!({!/&!dOOdO}"'
 
-# a jump plays the record from its beginning, for up to so many seconds on a busy machine
+# a jump plays the record from its beginning, which may take this many seconds on a busy machine
 JUMPS = 300.0
 
 # what lies over the middle of what a film is moved by

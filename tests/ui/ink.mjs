@@ -10,6 +10,7 @@ import { readLetters, writeLetters } from '../../live/ui/inkletters.js';
 import { svgOfInk } from '../../live/ui/inksvg.js';
 import { FIRST_ROW, PAGE_HIGH, PAGE_WIDE, numberOf, spelled, valueFor, wayOf } from '../../live/ui/inksigns.js';
 import { keptInks, movedInk, placed, writeLink, writeShape, writeStroke, writeWords } from '../../live/ui/inkwriting.js';
+import { awayFrom } from './away.mjs';
 
 const wrong = [];
 let judged = 0;
@@ -119,15 +120,6 @@ function testCurves({ curves }) {
   judge('points of a cubic', [at(0), at(0.5), at(1)], [{ x: 0, y: 0 }, { x: 50, y: 75 }, { x: 100, y: 0 }]);
   judge('how far off a way', [{ x: 5, y: 3 }, { x: -3, y: 4 }, { x: 13, y: -4 }].map((point) => off(point, { x: 0, y: 0 }, { x: 10, y: 0 })), [3, 5, 5]);
   judge('of no length', off({ x: 3, y: 4 }, { x: 0, y: 0 }, { x: 0, y: 0 }), 5);
-}
-
-/** How far points are from the curve of a stroke, in units. */
-function awayFrom(points, stroke) {
-  const parts = stroke.slice(1).flatMap((to, i) => {
-    const [b, c] = bend(stroke, i), at = Array.from({ length: 17 }, (_, k) => along(stroke[i], b, c, to, k / 16));
-    return to.up ? [] : at.slice(1).map((end, k) => [at[k], end]);
-  });
-  return Math.max(...points.map((point) => Math.min(...parts.map(([a, b]) => off(point, a, b)))));
 }
 
 /** Points of the screen, of 6.4 units each: what a mouse tells at 100 %. */

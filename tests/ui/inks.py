@@ -67,12 +67,12 @@ def send(sheet: Sheet) -> None:
 
 
 def is_settled(sheet: Sheet, items: int) -> bool:
-    """Whether the page comes to show so many items, and nothing waits."""
+    """Whether the page comes to show this many items, and nothing waits."""
     return sheet.page.wait(f"{ITEMS} === {items} && !wb.session.waiting.size && !wb.ink.waiting.length")
 
 
 def are_settled(one: Sheet, other: Sheet, items: int) -> bool:
-    """The same of both: who drew last may be told of it last."""
+    """The same of both: who drew last may hear of it last."""
     return is_settled(one, items) and is_settled(other, items)
 
 

@@ -11,7 +11,7 @@ SIZES = ((1920, 1080, "mouse"), (1600, 1000, "mouse"), (1280, 720, "mouse"), (10
 # points of a side of what is pressed, but for faces
 TARGET, FACE = 40, 36
 
-# names of tools by which the row of style differs
+# names of tools that have their own row of style
 TOOLS = ("pen", "marker", "frame", "text", "note")
 
 # what lies on what, what goes out of the window, what is smaller than it may be, and what has no name
@@ -35,7 +35,7 @@ FAULTS = """(([target, face]) => {
 })"""
 
 
-# what has no name that is told to those who listen
+# what has no name for screen readers
 NAMELESS = """[...document.querySelectorAll('button, select, textarea, input:not([hidden])')].filter((each) =>
     !(each.getAttribute('aria-label') || each.getAttribute('aria-labelledby') || each.textContent.trim() || each.labels?.length)).map(({ outerHTML }) => outerHTML)"""
 

@@ -5,9 +5,12 @@ from __future__ import annotations
 import json
 import os
 import time
+from collections.abc import Iterator
+from contextlib import contextmanager
 from pathlib import Path
+from typing import NamedTuple
 
-from ..live.browser import CONTROL, PATIENCE, Browser
+from ..live.browser import CONTROL, PATIENCE, Browser, BrowserFault
 
 from .inks import DRAWN, PICTURE, at, draw
 from .people import introduce
@@ -155,44 +158,67 @@ def pictures(one: Sheet, other: Sheet, folder: Path) -> None:
     one.look("ink")
 
 
-def test_lesson(tally: Tally, browser: Browser, room: Path, ports: int) -> None:
-    members = [Member(room, ports, words=["--ports", str(ports), "--teach", "--lose", "0.33"]) for _ in range(2)]
+class Lesson(NamedTuple):
+    """Seconds that a lesson took to draw, and from its last stroke to one picture in both windows, or None; its drawops; and how many datagrams
+    one of the windows has lost."""
+
+    drawn: float
+    equal: float | None
+    drawops: int
+    lost: int
+
+    def __str__(self) -> str:
+        told = "both show another picture" if self.equal is None else f"both show one picture {self.equal:.1f} s after the last stroke"
+        return f"a lesson of {self.drawn:.0f} s by two hands that lose a third: {self.drawops} drawops, {self.lost} datagrams lost on purpose; {told}, with a load of {os.getloadavg()[0]:.1f}"
+
+
+@contextmanager
+def two_windows(browser: Browser, room: Path, ports: int) -> Iterator[tuple[Sheet, Sheet]]:
+    """Two members that lose a third of all datagrams, and the window of each, on one page."""
+    members: list[Member] = []
     try:
+        members += [Member(room, ports, words=["--ports", str(ports), "--teach", "--lose", "0.33"]) for _ in range(2)]
         one, other = (Sheet(browser.open(member.address, WIDTH, HEIGHT, first=BY_CELLS)) for member in members)
         for sheet, name, colour in ((one, "Anna Berg", "blue"), (other, "Tom", "violet")):
-            tally.judge("it may draw", sheet.page.wait("wb.session.hello.ready && wb.session.board.page"))
+            if not sheet.page.wait("wb.session.hello.ready && wb.session.board.page"):
+                raise BrowserFault("a member may not draw")
             sheet.look("ink")
             sheet.page.value("wb.view.fit(); wb.view.home(); wb.view.goTo(0, 0); 0")
             introduce(sheet, name, colour)
             sheet.fold()
         other.page.value(f"wb.session.goToPage({json.dumps(one.page.value('wb.session.board.page'))}); 0")
-        judge_lesson(tally, one, other)
-        if os.environ.get("WB_PICTURES"):
-            for sheet, text in ((other, "Is the leaf warm?"), (one, "Good question! Put your hand on one at noon.")):
-                sheet.page.value(f"wb.notes.say({json.dumps(text)}); 0")
-                one.page.wait(f"wb.notes.told.said.some((said) => said.text === {json.dumps(text)})")
-            pictures(one, other, Path(os.environ["WB_PICTURES"]))
+        yield one, other
     finally:
         for member in members:
             member.end()
 
 
-def judge_lesson(tally: Tally, one: Sheet, other: Sheet) -> None:
+def give_lesson(one: Sheet, other: Sheet) -> Lesson:
+    """Draws it, and waits until both windows show one picture."""
     began = time.monotonic()
     draw_lesson(Teacher(one), Teacher(other))
     one.page.value("wb.pen.flush(); 0")
     ended = time.monotonic()
-    is_equal = False
-    while not is_equal and time.monotonic() - ended < 3 * PATIENCE:
+    equal = None
+    while equal is None and time.monotonic() - ended < 3 * PATIENCE:
         one.page.wait("!wb.session.waiting.size && !wb.ink.waiting.length", 0.2)
-        is_equal = one.page.value(PICTURE) == other.page.value(PICTURE)
-    took = time.monotonic() - ended
+        if one.page.value(PICTURE) == other.page.value(PICTURE):
+            equal = time.monotonic() - ended
     other.page.wait(f"{LOST} > 0")
-    lost = other.page.value(LOST)
-    print(f"a lesson of {ended - began:.0f} s by two hands that lose a third: {one.page.value(DRAWN)} drawops, {lost} datagrams lost on purpose; "
-          f"both show one picture {took:.1f} s after the last stroke, with a load of {os.getloadavg()[0]:.1f}")
-    tally.judge("both show one picture, point by point", is_equal)
-    if os.environ.get("WB_MEASURE"):
-        tally.judge(f"within {SOON} s of the last stroke", took < SOON, str(took))
-    tally.judge("something was lost", lost > 0)
-    tally.judge("all letters are there", other.page.value("['sugar', 'E = h\u00b7\u03bd = h\u00b7c/\u03bb'].every((letters) => wb.ink.items.some((item) => item.letters === letters))"))
+    return Lesson(ended - began, equal, int(one.page.value(DRAWN)), int(other.page.value(LOST)))
+
+
+def test_lesson(tally: Tally, browser: Browser, room: Path, ports: int) -> None:
+    with two_windows(browser, room, ports) as (one, other):
+        lesson = give_lesson(one, other)
+        print(lesson)
+        tally.judge("both show one picture, point by point", lesson.equal is not None)
+        if os.environ.get("WB_MEASURE"):
+            tally.judge(f"within {SOON} s of the last stroke", lesson.equal is not None and lesson.equal < SOON, str(lesson.equal))
+        tally.judge("something was lost", lesson.lost > 0)
+        tally.judge("all letters are there", other.page.value("['sugar', 'E = h\u00b7\u03bd = h\u00b7c/\u03bb'].every((letters) => wb.ink.items.some((item) => item.letters === letters))"))
+        if os.environ.get("WB_PICTURES"):
+            for sheet, text in ((other, "Is the leaf warm?"), (one, "Good question! Put your hand on one at noon.")):
+                sheet.page.value(f"wb.notes.say({json.dumps(text)}); 0")
+                one.page.wait(f"wb.notes.told.said.some((said) => said.text === {json.dumps(text)})")
+            pictures(one, other, Path(os.environ["WB_PICTURES"]))

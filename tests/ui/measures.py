@@ -17,7 +17,7 @@ MANY = 5_000
 FRAME = 1000 / 60
 MOST_MEDIAN = 20.0
 
-# a page of so many drawings, as if the member told it
+# a page of many drawings, as if the member had sent it
 LARGE = """((count) => {
     let seed = 7;
     const draw = (most) => { seed = (seed * 1103515245 + 12345) % 2147483648; return seed % most; };

@@ -14,7 +14,7 @@ def test_proof(tally: Tally, browser: Browser, ports: int) -> None:
     try:
         page = browser.open("http://127.0.0.1:%d/%s/" % (member.port, member.token))
         tally.judge("the page says that its program is not proved yet", page.wait(f"!{LINE}.hidden && {LINE}.textContent.startsWith('NOT PROVED YET')"))
-        place.say("stage", "5 13 12 wb_host 34 of 128")
+        place.say("stage", "5 13 12 wb_board 34 of 128")
         tally.judge("with a bar", page.wait(f"{LINE}.querySelector('progress').value === 5 && {LINE}.querySelector('progress').max === 13"))
         tally.judge("and with crates and minutes", page.wait(f"{LINE}.textContent.includes('5 of 13 crates proved, 12 min')"))
         tally.judge("the sheet has room beside it", page.value("document.getElementById('sheet').getBoundingClientRect().height > 300"))

@@ -12,7 +12,7 @@ from .sheets import BY_CELLS, TOP, Member, Sheet, Tally
 
 
 def test_tabs(tally: Tally, browser: Browser, member: Member) -> None:
-    """Eight tabs of one member: each is told, and each draws."""
+    """Eight tabs of one member: each hears of drawings, and each draws."""
     tabs = [Sheet(browser.open(member.address, first=BY_CELLS)) for _ in range(8)]
     tally.judge("eight tabs are told", all(tab.page.wait("typeof wb !== 'undefined' && wb.session.isLinked && wb.session.board.page") for tab in tabs))
     tabs[0].page.value("wb.session.goToPage(null)")

@@ -49,7 +49,7 @@ class Member:
 BY_CELLS = "localStorage.getItem('wb-look') ?? localStorage.setItem('wb-look', 'cells'); localStorage.setItem('wb-asked', 'no');"
 
 
-# what was to be pressed and stayed covered for so many seconds, in all windows
+# what was to be pressed and stayed covered for some seconds, in all windows
 COVERED_FOR = 10.0
 COVERED: list[str] = []
 
@@ -164,7 +164,7 @@ class Sheet:
         self.page.value(f"wb.sight.setLook({json.dumps(look == 'ink')}); 0")
 
     def shows(self, x: int, y: int, text: str, seconds: float = PATIENCE) -> bool:
-        """Whether a row comes to show a text from a column on. Where nothing stands, it is spaces."""
+        """Whether a row comes to show a text from a column on. An empty place is a space."""
         row = f"(document.getElementById('text').textContent.split('\\n')[{y}] ?? '')"
         return self.page.wait(f"{row}.padEnd(300).substr({x}, {len(text)}) === {json.dumps(text)}", seconds)
 
@@ -199,7 +199,7 @@ class Tally:
 
     @contextmanager
     def told(self, where: str) -> Iterator[None]:
-        """Facts that are wrong meanwhile are told with these words."""
+        """Facts that are wrong meanwhile are printed with these words."""
         self.where = f" ({where})"
         yield
         self.where = ""

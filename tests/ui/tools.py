@@ -46,12 +46,12 @@ def count(sheet: Sheet) -> int:
 
 
 def has(sheet: Sheet, drawn: int) -> bool:
-    """Whether the page comes to show so many drawings, and no more soon after."""
+    """Whether the page comes to show this many drawings, and no more soon after."""
     return sheet.page.wait(f"wb.session.board.drawops.length === {drawn} && !wb.session.waiting.size")
 
 
 def both_have(one: Sheet, other: Sheet, drawn: int) -> bool:
-    """The same of both: who drew last may be told of it last."""
+    """The same of both: who drew last may hear of it last."""
     return has(one, drawn) and has(other, drawn)
 
 
@@ -264,7 +264,7 @@ def test_zoom(tally: Tally, one: Sheet, other: Sheet) -> None:
 
 
 def test_palm(tally: Tally, one: Sheet, other: Sheet) -> None:
-    """Where there is a stylus, a finger and the palm of the hand draw nothing."""
+    """If there is a stylus, a finger and the palm of the hand draw nothing."""
     on_a_new_page(one, other)
     one.keys("l")
     (x, y), (far, _) = one.point(10, 5), one.point(20, 5)

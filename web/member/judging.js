@@ -3,6 +3,7 @@
 import { NEW, lineOf } from './board.js';
 import { readDatagram, withEcho } from './datagram.js';
 import { Judge } from './judge.js';
+import { Tails } from './tails.js';
 import { drawopOf } from './views.js';
 
 /** @typedef {import('./datagram.js').Datagram} Datagram */
@@ -44,6 +45,7 @@ const wall = () => Date.now() * 1_000;
  * @property {import('./telling.js').Telling} telling
  * @property {import('./transports.js').Transport} transport
  * @property {() => Promise<void>} tick   the host does what is due
+ * @property {() => Promise<void>} repeat   what we drew last goes out once more
  * @property {() => Promise<void>} begin   from now on it may draw */
 
 export class Judging {
@@ -53,6 +55,7 @@ export class Judging {
     this.member = member;
     this.judge = new Judge({ me, cells: board.cells, now: board.moment, wall: wall(), here, strangers });
     for (const name of board.strange) this.judge.remember(name);
+    this.tails = new Tails(me);
     this.patience = GONE_AFTER;
   }
 
@@ -63,9 +66,10 @@ export class Judging {
   /** What is to be done, each with its moment.
    * @returns {[number, () => Promise<void>][]} */
   plan() {
-    const { member, member: { board } } = this;
+    const { member, member: { board } } = this, tail = this.tails.due();
     /** @type {[number, () => Promise<void>][]} */
     const plan = board.due === null ? [] : [[board.due, () => member.tick()]];
+    if (tail !== null) plan.push([tail, () => member.repeat()]);
     return member.isReady ? plan : [...plan, [board.readyAt, () => member.begin()]];
   }
 
@@ -94,6 +98,7 @@ export class Judging {
     if (warn !== null) this.warn(warn, datagram.speaker);
     if (judge.strange !== before) this.keepAnew(before);
     if (why !== null) return WHY[why];
+    if (judge.isKnown(origin, now)) this.tails.hear(datagram, now);
     if (datagram.kind === 'draw') return this.take(drawopOf(datagram.words, digits), origin, now, sent);
     if (datagram.kind === 'session-message') wire.learn(origin.place, datagram.speaker);
     const block = await board.came(digits);
@@ -151,6 +156,7 @@ export class Judging {
    * @param {Uint8Array} bytes */
   leaving(bytes) {
     const { judge, member: { board, telling } } = this, datagram = readDatagram(bytes);
+    if (datagram?.kind === 'request') this.tails.asked(board.moment);
     if (datagram?.kind !== 'session-message') return { bytes, datagram };
     judge.reported(datagram.sent);
     this.patience = Math.max(GONE_AFTER, GONE_AFTER_REPORTS * this.interval(bytes.length));

@@ -137,6 +137,12 @@ export class Member {
     for (const digits of block.sent()) await this.send(digits);
   }
 
+  /** What we drew last goes out once more, which the record has already. Alone, there is nobody who could lack it. */
+  async repeat() {
+    const now = this.board.now(), taken = this.judging.tails.take(now);
+    if (this.judging.present(now).length) for (const digits of taken) await this.send(digits);
+  }
+
   /** The network was gone and is back: a host that starts from the record asks at once, without the waits that have grown. */
   beginAgain() {
     return this.people.call(async () => {

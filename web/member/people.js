@@ -73,6 +73,7 @@ export class People {
     for (const digits of block.sent()) await member.send(digits);
     if (block.fault !== null) throw new Refused(block.fault.replace(/^(word )(\d+)/, (_all, word, place) => word + (Number(place) - WORDS_BEFORE)));
     if (drawop === null) throw new Refused('full');
+    judging.tails.drew(drawop, board.moment);
     return { source: member.me, seq };
   }
 
