@@ -12,7 +12,7 @@ fi
 # the shell stays, as the first process there, and takes in those that nobody waits for
 inside='ip link set lo up && ip link set lo multicast on && ip route add 224.0.0.0/4 dev lo && "$@"; exit $?'
 for way in '' --map-root-user; do
-    # shellcheck disable=SC2086 # no word where none is meant
+    # shellcheck disable=SC2086 # an empty variable gives no word
     if unshare $way --net --pid --fork --kill-child --mount-proc sh -c "$inside" sh true 2>/dev/null; then
         exec unshare $way --net --pid --fork --kill-child --mount-proc sh -c "$inside" sh "$@"
     fi

@@ -79,7 +79,7 @@ def pytest_collection_modifyitems(config: pytest.Config, items: list[pytest.Item
 
 
 def pytest_terminal_summary(terminalreporter: Any) -> None:
-    """What tests measured and printed is told, though they passed."""
+    """Prints what tests measured and printed, though they passed."""
     for report in terminalreporter.getreports("passed"):
         if report.when == "call" and report.capstdout:
             terminalreporter.write_line(report.capstdout.rstrip("\n"))

@@ -2,7 +2,7 @@
 
 from __future__ import annotations
 
-LONGEST = 600  # characters of a value that are told
+LONGEST = 600  # characters of a value that are printed
 
 
 def told(value: object) -> str:
@@ -33,7 +33,7 @@ class Facts:
             self.wrong.append(f"{name}: {told_apart(found, wanted)}")
 
     def holds(self, name: str, found: object, told: object = "") -> None:
-        """What has to be so; what else there was is told if it is not."""
+        """What has to be so; if it is not, the fault says what there was."""
         self(name, True if found else f"{told}", True)
 
     def status(self) -> int:

@@ -1,4 +1,4 @@
-"""The seeds of tests at random: the same ones each time, or new ones with `--fresh`, of which the first is told."""
+"""The seeds of tests at random: the same ones each time, or new ones with `--fresh`, of which the first is printed."""
 
 from __future__ import annotations
 

@@ -230,8 +230,8 @@ class BareMember(HostMember):
 
 
 class KeptMember(HostMember):
-    """A member that keeps itself whole. Its driver does four things alone: it hands in what comes, ticks, draws and asks; and a fifth where
-    constants follow the session, behind `keep`."""
+    """A member with a self-managing host. Its driver does four things alone: it hands in what comes, ticks, draws and asks; and a fifth if
+    constants follow the session, after `keep`."""
 
     def __init__(self, number: int, host: Host, opening: str, clock: Clock, rate: int, tuner: Tuner | None = None) -> None:
         super().__init__(number, host, opening, clock, tuner)

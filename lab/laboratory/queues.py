@@ -1,4 +1,4 @@
-"""Links that carry so many bytes a second: what comes faster waits in a queue, and what finds the queue full is lost."""
+"""Links that carry a number of bytes a second: what comes faster waits in a queue, and what finds the queue full is lost."""
 from __future__ import annotations
 
 from dataclasses import dataclass, field, replace
@@ -25,7 +25,7 @@ class Hop:
 
 @dataclass
 class Queues:
-    """Each direction of each link has a queue with room for so many bytes, with those of what it is sending."""
+    """Each direction of each link has a queue with room for a number of bytes, with those of what it is sending."""
 
     network: Network
     rate: int  # bytes a second
@@ -56,7 +56,7 @@ class Queues:
         return onward, lost
 
     def send(self, moment: int, node: int, link: int, size: int) -> int | None:
-        """When so many bytes are at the node at the end of a link, or None where its queue has no room for them."""
+        """When these bytes are at the node at the end of a link, or None if its queue has no room for them."""
         free = max(self.free.get((link, node), 0.0), moment)
         waiting = (free - moment) * self.rate / SECOND
         if waiting + size > self.room:

@@ -37,7 +37,7 @@ class Settings:
     from these on: by the number of `members`, or as `published`. `judge` says who judges for hosts: the members themselves (`keep`, whose
     reports have `rate` bytes a second together), or the laboratory by today's lines (`looks`). The first drawing is at `start`. `late`
     members come at `join`, or when half is drawn; `leaving` members go then; `coming` members go and come, for `gone` seconds at a time.
-    `fast` lets each member's clock gain or lose up to so many microseconds in a million. Links carry `bandwidth` bytes a second, where it
+    `fast` lets each member's clock gain or lose at most as many microseconds in a million. Links carry `bandwidth` bytes a second, if it
     is not 0, and queue `queue` bytes. The run goes on to `lasts`, also if all is well.
     """
 
@@ -173,7 +173,7 @@ def start_hosts(path: str, settings: Settings, network: Network, plan: Plan, rea
 
 
 def make_tuner(settings: Settings, network: Network, plan: Plan, read: Read, number: int) -> Tuner | None:
-    """The driver of a host whose constants follow the session. A host that keeps itself counts no distance as less than 10 ms or more than a
+    """The driver of a host whose constants follow the session. A self-managing host counts no distance as less than 10 ms or more than a
     second."""
     if settings.adapt == "fixed":
         return None

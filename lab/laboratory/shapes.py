@@ -49,7 +49,7 @@ def bounded_pairs(nodes: int, degree: int) -> list[tuple[int, int]]:
 
 
 def labelled_pairs(nodes: int, chance: random.Random) -> list[tuple[int, int]]:
-    """Each labelled tree of so many nodes is equally likely: the links are read off a random sequence of nodes, as Pruefer did."""
+    """Each labelled tree of this many nodes is equally likely: the links are read off a random sequence of nodes, as Pruefer did."""
     if nodes < 2:
         return []
     sequence = [chance.randrange(nodes) for _ in range(nodes - 2)]

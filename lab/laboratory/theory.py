@@ -3,7 +3,7 @@ from __future__ import annotations
 
 
 def published_requests(group: int, c2: int) -> float:
-    """Requests for a loss on the source's link of a star of so many members."""
+    """Requests for a loss on the source's link of a star with this many members."""
     return 1 + (group - 2) / c2
 
 
@@ -13,7 +13,7 @@ def published_first_request(group: int, c1: int, c2: int) -> float:
 
 
 def exact_senders(timers: int, width: int, reach: float = 1) -> float:
-    """How many of so many timers fire, where each is uniform over `width` distances and the first stops those more than one distance later.
+    """How many of these timers fire, if each is uniform over `width` distances and the first stops those more than one distance later.
 
     With n timers and p = 1/width: 1 + n p - p^n. Where timers take a distance for longer than it is, `reach` is the true one in it, and
     p = reach/width.

@@ -118,7 +118,7 @@ class TimerMember:
         ask.deaf = moment + (ask.due - moment) // 2
 
     def tick(self, moment: int) -> None:
-        """What is due fires. The policy sees it behind that, since a host is told nothing between a request and its back-off."""
+        """What is due fires. The policy sees it afterwards, since a host takes no line between a request and its back-off."""
         self.ticked = moment
         asked = sorted(name for name, ask in self.asks.items() if ask.due <= moment)
         for name in asked:

@@ -39,19 +39,20 @@ FORBIDDEN = {
 }
 PATTERNS = {re.compile(pattern.replace(" ", r"\s+"), re.MULTILINE): plainer for pattern, plainer in FORBIDDEN.items()}
 
-# the documents that are not plain yet; a new one is plain from the beginning
-LATER = {"CHANGELOG.md"}
-PLAIN = [name for document in DOCUMENTS if (name := short(document)) not in LATER]
+PLAIN = [short(document) for document in DOCUMENTS]
 LONGEST_LINE = 100
 
 # where comments are plain, of each the first line
 COMMENTED = [
-    *("examples", "javascript", "live", "python", "tools", "web", "tests/documents"),
+    *("examples", "javascript", "lab", "live", "python", "tests", "tools", "web"),
     *sorted(short(it) for part in ("src", "specs", "proofs") for it in (TOP / "crates").glob(f"*/{part}")),
 ]
 ENDINGS = (".py", ".js", ".mjs", ".ts", ".bash", ".sh", ".in", ".rt", ".antt")
 # the texts of --help in the sources
-HELPING = ["crates/wb/src/command.rt", "live/options.py", "tests/take-figures", "tools/vendor", "wb", "wb-live", "test"]
+HELPING = [
+    *("crates/wb/src/command.rt", "lab/figures", "lab/wb-lab", "live/options.py", "tests/gate-cost", "tests/take-figures", "tools/vendor"),
+    *("test", "wb", "wb-live"),
+]
 
 
 def without_code(text: str) -> str:
@@ -107,10 +108,13 @@ def comments_of_lines(source: str) -> Iterator[tuple[int, str]]:
         was_comment = bool(comment)
 
 
+def is_python(path: Path, source: str) -> bool:
+    return path.suffix == ".py" or source.startswith("#!/usr/bin/env python3")
+
+
 def comments(path: Path) -> Iterator[tuple[int, str]]:
     source = path.read_text()
-    is_python = path.suffix == ".py" or source.startswith("#!/usr/bin/env python3")
-    return comments_of_python(source) if is_python else comments_of_lines(source)
+    return comments_of_python(source) if is_python(path, source) else comments_of_lines(source)
 
 
 def is_source(path: Path) -> bool:
@@ -126,14 +130,17 @@ def texts(path: Path) -> Iterator[str]:
     source = path.read_text()
     if path.suffix == ".rt":
         yield from re.findall(r'"((?:[^"\\]|\\.)*)"', source)
-    elif path.suffix == ".py":
+    elif is_python(path, source):
         strings = [token.string for token in tokenize.generate_tokens(io.StringIO(source).readline) if token.type == tokenize.STRING]
         yield from strings
     else:
         yield "\n".join(re.sub(r"^# ?", "", line) for line in itertools.takewhile(lambda it: it.startswith("#"), source.splitlines()))
 
 
-COMMENTS = sorted(path for folder in COMMENTED for path in (TOP / folder).rglob("*") if is_source(path))
+# a new comment has its crate proved anew, so these are mended with the next change of theirs
+LATER = {TOP / "crates/wb_feed/src/workers.rt", TOP / "crates/wb_script/proofs/Retold.antt"}
+
+COMMENTS = sorted({path for part in COMMENTED for path in [TOP / part, *(TOP / part).rglob("*")] if is_source(path)} - LATER)
 
 
 @pytest.mark.parametrize("page", PLAIN)

@@ -41,14 +41,14 @@ def pinned(threads: int) -> Command:
 
 
 def rounds_of(program: Command, case: str, threads: int, rounds: int) -> list[Round]:
-    """Runs so many rounds."""
+    """Runs a number of rounds."""
     words = [program[0], case, str(threads), str(rounds), *program[1:]]
     printed = subprocess.run(pinned(threads) + words, stdout=subprocess.PIPE, text=True, check=True).stdout
     return [[int(word) for word in line.split()] for line in printed.splitlines()]
 
 
 def instructions(program: Command, case: str, threads: int, rounds: int) -> int:
-    """How many instructions so many rounds take, with the start of the program."""
+    """How many instructions the rounds take, with the start of the program."""
     with TemporaryDirectory() as room:
         tool = ["valgrind", "--tool=callgrind", f"--callgrind-out-file={Path(room) / 'out'}"]
         words = [program[0], case, str(threads), str(rounds), *program[1:]]

@@ -15,7 +15,7 @@ import sys
 from collections.abc import Callable
 
 ARRIVALS = 26_500
-LATE = 1_459  # of the arrivals that were lost, so many come after all
+LATE = 1_459  # how many of the lost arrivals come after all
 REQUESTS = 4_000
 REPORTS = 7_500
 STATES = 400
@@ -55,7 +55,7 @@ class Session:
             self.lost.append(line)
 
     def late(self) -> str:
-        """A drawop that was lost, or the next one where none is."""
+        """A drawop that was lost, or the next one if there is none."""
         return self.lost.pop(self.numbers.randrange(len(self.lost))) if self.lost else self.draw()
 
     def request(self) -> str:

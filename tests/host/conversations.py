@@ -1,4 +1,4 @@
-"""Conversations with a host, written as docs/HOST.md has them: each line given stands behind `> `, its block below it."""
+"""Conversations with a host, written as docs/HOST.md has them: each line given is after `> `, its block below it."""
 
 from __future__ import annotations
 

@@ -208,7 +208,7 @@ class Model:
         self.end_timers(name, 0)
         return "stop 1\n"
 
-    # ---- what is told
+    # ---- what it reports
 
     def highest(self, page: Page) -> list[Mark]:
         """The greatest number that is held of each source of the page."""

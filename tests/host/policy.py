@@ -1,4 +1,4 @@
-"""A host that keeps itself, in plain Python, from docs/KEEPING.md: what each of its lines prints. It stands on the host of
+"""A self-managing host, in plain Python, from docs/KEEPING.md: what each of its lines prints. It stands on the host of
 `model`, which performs today's lines."""
 
 from __future__ import annotations
@@ -320,7 +320,7 @@ class Kept:
         self.sent.append(f"send {digits}\n")
 
     def report(self) -> None:
-        """The rest of the page that is told, or the next page."""
+        """The rest of the page that is being reported, or the next page."""
         now, pages = self.host.now, self.host.drawn_on()
         page, is_telling = self.told_page, 0 <= self.told < self.until
         marks = [mark for mark in self.host.highest(page) if mark[0] > self.told][:MARKS] if is_telling else []

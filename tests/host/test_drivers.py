@@ -1,4 +1,4 @@
-"""The smallest drivers of a host that keeps itself, over UDP on this machine, of which each third datagram is lost."""
+"""The smallest drivers of a self-managing host, over UDP on this machine, of which each third datagram is lost."""
 
 from __future__ import annotations
 

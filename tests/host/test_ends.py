@@ -110,7 +110,7 @@ def test_sinks() -> None:
 
 
 def closed_after(count: int) -> tuple[int, bytes]:
-    """How a host ends whose output is closed once so many bytes were read of much more: its status, and what it tells."""
+    """How a host ends whose output is closed once some bytes were read of much more: its status, and what it prints."""
     dialog = Dialog()
     writer = threading.Thread(target=write_all, args=(dialog, (BOARD + "show 7 1 200 100\n" * 100).encode()))
     writer.start()

@@ -21,7 +21,7 @@ REFUSED = mistyped() | no_datagrams() | wrong_words() | AT_THIS_HOST
 
 
 def full_of_marks(sources: int) -> str:
-    """Lines that tell marks of so many sources of page 4/4, as many a line as fit it."""
+    """Lines that report marks of this many sources of page 4/4, as many a line as fit it."""
     lines = ""
     for first in range(0, sources, 4000):
         marks: list[Mark] = [(source, 1) for source in range(first, min(first + 4000, sources))]

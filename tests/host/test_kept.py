@@ -1,4 +1,4 @@
-"""A host that keeps itself: its lines, with values worked out here, each refusal, and lines at random beside `policy`."""
+"""A self-managing host: its lines, with values worked out here, each refusal, and lines at random beside `policy`."""
 
 from __future__ import annotations
 
@@ -347,7 +347,7 @@ ok {drawn(40_000, (7 * 20_000 + 19_500) // 8, TIMERS[1], 1, 1)}
 """,
 }
 
-# what a host that keeps itself takes no more
+# lines that a self-managing host refuses
 ACTING = [
     f"arrive {STARS}",
     f"datagram {STARS}",
@@ -439,7 +439,7 @@ def test_refused() -> None:
 
 
 def test_kept_or_not() -> None:
-    """When a host may begin to keep itself, and what is refused where it does not."""
+    """When a host may become self-managing, and what is refused if it may not."""
     opened = f"board 1 16 1 {SEED}\n"
     drawing = "add 5 0 7/1 line 0 0 4 0 *"
     for line in ["keep 4000 0", f"came 5 {STARS}", drawing]:
@@ -459,7 +459,7 @@ def test_kept_or_not() -> None:
 
 
 class KeptSession(Session):
-    """Lines at random at a host that keeps itself, and what it is to print for each."""
+    """Lines at random at a self-managing host, and what it is to print for each."""
 
     def __init__(self, numbers: random.Random) -> None:
         super().__init__(numbers)
@@ -660,7 +660,7 @@ def test_holes() -> None:
 
 
 def heard_by(count: int, together: int) -> Iterator[tuple[str, list[tuple[int, int]]]]:
-    """Senders in three orders, each with the moment at which it is heard: so many at a moment."""
+    """Senders in three orders, each with the moment at which it is heard: some at each moment."""
     rising = list(range(2, count + 2))
     orders = {"rising": rising, "falling": rising[::-1], "mixed": random.Random(count).sample(rising, count)}
     for name, senders in orders.items():
@@ -668,7 +668,7 @@ def heard_by(count: int, together: int) -> Iterator[tuple[str, list[tuple[int, i
 
 
 def hearing(heard: list[tuple[int, int]]) -> str:
-    """The lines of a host that keeps itself and hears these senders at these moments."""
+    """The lines of a self-managing host that hears these senders at these moments."""
     came = [f"came {at} {session(sender, sender, PAGE, [], [])}\n" for sender, at in heard]
     return f"board 1 100 1 {SEED}\nkeep 4000 0\n" + "".join(came)
 

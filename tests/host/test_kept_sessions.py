@@ -1,4 +1,4 @@
-"""Sessions of hosts that keep themselves, over a network that loses, doubles and delays: all become whole, also beside who forges.
+"""Sessions of self-managing hosts, over a network that loses, doubles and delays: all become whole, also beside forgers.
 
 Time is simulated: each member has a clock that begins at 0 when it joins, and its driver does four things alone. It hands in what
 comes, ticks up to 2 ms after DUE, says what its user draws, and shows pages.

@@ -21,14 +21,14 @@ SILENCE, PATIENCE = 600 * SECOND, 192 * SECOND
 # origins that are known, and numbers that were heard
 MOST_KNOWN, MOST_OTHERS = 1_024, 1_024
 
-# One cell in so many is for all that no known origin gave, and one in so many for what one such origin gave, but so many at least.
+# All that no known origin gave has one cell in STRANGERS, and one such origin one in OF_ORIGIN, but LEAST_SHARE at least.
 STRANGERS, OF_ORIGIN, LEAST_SHARE = 16, 128, 16
 
 # Pages on which drawops stand that no known origin gave, and sources that they have, summed over the pages: a host tells its pages in turn, and the
 # sources of a page in parts, so each keeps what members draw from being told for a while.
 STRANGE_PAGES, STRANGE_ROWS = 16, 256
 
-# one cell in so many is kept for deletes and restores of members
+# one cell in RESERVE is kept for deletes and restores of members
 RESERVE = 32
 
 # So many at once, and then one in each pause: numbers that are heard first, those that answer us, and requests and questions of origins that
@@ -36,7 +36,7 @@ RESERVE = 32
 MOST_NEW, MOST_ANSWERING, NEW_PAUSE = 256, 256, SECOND
 MOST_ASKED, ASKED_PAUSE = 64, SECOND // 16
 
-# Who lacks so many numbers takes a stream, unless one began so lately, or one of that member.
+# A member that lacks LACKING numbers takes a stream, unless one began lately, or one of that member.
 LACKING, FETCH_PAUSE, FETCH_AGAIN = 500, 10 * SECOND, 60 * SECOND
 
 # A number of ours that is so far above what we hold is forged, and so is any from here on.
@@ -139,7 +139,7 @@ class Judge:
         self.fetch_at = 0
         self.has_twin = False
 
-    # ---- what is told
+    # ---- what the judge hears of the host
 
     def tell_time(self, now: int, wall: int) -> None:
         """The time of day at a moment."""
@@ -261,7 +261,7 @@ class Judge:
         self.strange = {name: each for name, each in self.strange.items() if each != origin}
 
     def fetch(self, number: int, facts: Facts) -> Optional[Origin]:
-        """Who lacks much takes a stream, of a member that has answered us, from where it speaks."""
+        """A member that lacks much takes a stream, from another that has answered us, at the origin of that."""
         other, now = self.others[number], facts.now
         if other.answered is None or facts.lacking < LACKING or now < self.fetch_at:
             return None
@@ -319,7 +319,7 @@ class Judge:
         return "full" if is_drawing and self.is_full(held) else None
 
     def order_of(self, held: Sequence[Name]) -> List[str]:
-        """The pages of what is held, which is told in the order in which it came: first those of ours, then those with drawops of members, then
+        """The pages of what is held, in the order in which it came, sorted: first those of ours, then those with drawops of members, then
         those of strangers alone. Of each kind the one comes first on which was drawn last."""
         ranks: Dict[str, Tuple[int, int]] = {}
         for at, name in enumerate(held):

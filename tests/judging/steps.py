@@ -21,12 +21,12 @@ def case(name: str, *steps: Any, **start: Any) -> Dict[str, Any]:
 
 
 def came(now: int, origin: str, words: str, want: str, **facts: Any) -> Step:
-    """A datagram in words came from an origin. What is told of the host, and `want` what becomes of it."""
+    """A datagram in words came from an origin, with facts about the host; `want` is what becomes of it."""
     return {"now": now, "from": origin, "came": words, **facts, "want": want}
 
 
 def loop(first: int, last: int, pause: int, step: Step) -> Step:
-    """The step once for each number, which stands for `{}`, so many microseconds apart."""
+    """The step once for each number, which replaces `{}`, with a pause in microseconds."""
     return {"for": [first, last, pause], **step}
 
 

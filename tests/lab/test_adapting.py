@@ -1,4 +1,4 @@
-"""Tests of constants that follow the session: the rules of each policy, and the lines by which a driver gives them to its host."""
+"""Tests of constants that follow the session: the rules of each policy, and the lines with which a driver gives them to its host."""
 
 from __future__ import annotations
 
@@ -130,7 +130,7 @@ def test_a_tuning_line_is_given_behind_the_sixth_request() -> None:
 
 
 class Noting(Policy):
-    """Notes what it is told."""
+    """Notes what it sees."""
 
     def __init__(self) -> None:
         super().__init__((2, 2, 1, 1))
@@ -175,7 +175,7 @@ def test_a_driver_knows_when_its_host_begins_to_ask_and_to_answer() -> None:
 
 
 def test_kept_members_take_other_constants_behind_keep() -> None:
-    """Nine members of whom one comes late and one leaves. A host that keeps itself is given nothing else but `tuning`, and that behind `keep`."""
+    """Nine members of whom one comes late and one leaves. A self-managing host gets no other line than `tuning`, and that after `keep`."""
     settings = Settings(judge="keep", members=9, start=12, draws=12, drawers=2, late=1, leaving=1, loss="share-all:0.1")
     for adapt in ("members", "published"):
         found = [verbs(lines).split() for lines in lines_of(replace(settings, adapt=adapt))]

@@ -1,4 +1,4 @@
-"""Members that keep themselves whole."""
+"""Members with self-managing hosts."""
 
 from __future__ import annotations
 
@@ -56,7 +56,7 @@ def test_kept_members_report_as_often_as_they_may() -> None:
 
 
 def test_kept_members_join_and_heal() -> None:
-    """A newcomer gets 100 drawops of others, each asked for once by it alone where nothing is lost. Halves that drew apart are whole again
+    """A newcomer gets 100 drawops of others, each asked for once by it alone if nothing is lost. Halves that drew apart are whole again
     within a minute, and each lacked what the other drew meanwhile: four members draw every 2 s for 20 s, so 10 times each."""
     result = run(replace(KEPT, members=4, start=5, draws=100, every=0.05, late=1, join=15, loss="none"), program())
     assert len(result.rows) == 100 and all(row.lost == 1 and row.requests >= 1 for row in result.rows), result.totals

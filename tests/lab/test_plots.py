@@ -32,7 +32,7 @@ def test_plots_join_what_follows_and_name_each_series() -> None:
 
 
 def test_long_words_stand_on_two_lines() -> None:
-    """Below seven networks there is room for six letters each. Where there are more, the next word stands 15 lower; no word is cut."""
+    """Below seven networks there is room for six letters each. If there are more, the next word is 15 lower; no word is cut."""
     series = [Series("s", [Point(place, 1) for place in range(3)])]
     root = xml.fromstring(Plot("t", [Panel("", "", "y", series, words=("one machine", "5 to 50 ms", "indivisible"))]).svg())
     found = {part.text: float(part.get("y", "0")) for part in root.iter() if part.get("text-anchor") == "middle" and part.text}

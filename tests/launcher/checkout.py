@@ -104,7 +104,7 @@ class Checkout:
         return child
 
     def told(self) -> str:
-        """What was told by what was started last."""
+        """What the last start printed."""
         return (self.room / "told").read_text()
 
     def begun(self) -> list[str]:

@@ -42,7 +42,7 @@ class Host:
         self.calls.wb_close(ctypes.byref(self.held))
 
     def line(self, line: bytes, room: int) -> tuple[int, int, bytes]:
-        """The status, the size that was told, and the whole buffer, which was full of dots."""
+        """The status, the size that came back, and the whole buffer, which was full of dots."""
         buffer, size = ctypes.create_string_buffer(b"." * room, max(room, 1)), ctypes.c_size_t(77)
         status = self.calls.wb_line(ctypes.byref(self.held), line, ctypes.c_size_t(len(line)), buffer, ctypes.c_size_t(room), ctypes.byref(size))
         return int(status), size.value, buffer.raw[:room]

@@ -1,4 +1,4 @@
-"""What reads the sources and runs nothing: types, names, scripts and layout. A tool that is not there is told with its package."""
+"""What reads the sources and runs nothing: types, names, scripts and layout. A tool that is missing is named with its package."""
 
 from __future__ import annotations
 

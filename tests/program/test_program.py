@@ -58,7 +58,7 @@ def misuse(words: list[str | bytes]) -> tuple[int, bytes, bytes, bytes]:
 
 @pytest.mark.parametrize("words", MISUSES, ids=str)
 def test_misuse(words: list[str | bytes]) -> None:
-    """Words that are not understood end with 2, are told, and leave the input unread."""
+    """Words that are not understood end with 2, are named, and leave the input unread."""
     status, printed, told, left = misuse(words)
     assert (status, printed, left) == (2, b"", b"draw") and told
 
@@ -86,7 +86,7 @@ def test_source_that_fails() -> None:
 
 @pytest.mark.parametrize("end, given, status", [("stdout", b"pages", 3), ("stderr", b"draw", 1)])
 def test_sink_that_fails(end: str, given: bytes, status: int) -> None:
-    """/dev/full can't be written. A fault that can't be told leaves its status."""
+    """/dev/full can't be written. A fault that can't be printed leaves its status."""
     with open("/dev/full", "wb") as full:
         ends = {"stdout": subprocess.PIPE, "stderr": subprocess.PIPE, end: full}
         ended = subprocess.run([program(), "check"], input=given, **ends, check=False)  # type: ignore[call-overload]

@@ -69,7 +69,7 @@ def answers(holder: Host) -> None:
 
 
 class Kept(Host):
-    """A host that keeps itself."""
+    """A self-managing host."""
 
     def __init__(self, member: int) -> None:
         super().__init__(member)

@@ -1,4 +1,4 @@
-"""Lines bring what is lost: to hosts that their drivers drive, and, as is proved (`AskedCanCome`), to hosts that keep themselves, of which one has a
+"""Lines bring what is lost: to hosts that their drivers drive, and, as is proved (`AskedCanCome`), to self-managing hosts, of which one has a
 request timer and the other heard of nothing yet."""
 
 from __future__ import annotations

@@ -6,7 +6,7 @@ from .hosts import MOST_DIGITS, PAGE, PLACE, Host, answers, lost_to_the_first, r
 
 
 def test_untold_time() -> None:
-    """Only `tick` moves the moment: a holder that is told no time is quiet for ever."""
+    """Only `tick` moves the moment: a holder that gets no tick is quiet for ever."""
     _, _, holder, drawn = lost_to_the_first()
     holder.tick(1_000_000)
     answers(holder)
@@ -81,7 +81,7 @@ def test_long_messages() -> None:
 
 
 def test_last_moment() -> None:
-    """Moments end at 2^48: a timer may be due later than the last moment that can be told."""
+    """Moments end at 2^48: a timer may be due later than the last moment that a line can have."""
     first, _, _, _ = lost_to_the_first()
     first.tell("distance 7 16777215")
     first.tick(2**48 - 1)
@@ -101,7 +101,7 @@ def test_held_by_nobody() -> None:
 
 
 def test_on_its_way() -> None:
-    """A drawing that comes to one host behind its session message is told of by the next one."""
+    """If a drawing comes to one host after its session message, the next one reports it."""
     first, other, source = Host(1), Host(2), Host(7)
     drawn = source.draw(1)
     early = first.sends(f"session {PLACE}")[0]

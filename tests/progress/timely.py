@@ -18,7 +18,7 @@ DRAWOP, REQUEST = "01", "03"  # the kind of a datagram, in the digits of its byt
 
 PAGE = "7 1"
 QUIET, DELIVERY, REPORTING, LOOKING, LATE = 1_000_000, 50_000, 400_000, 300_000, 10_000
-FAR = 100_000  # the delay to each source where none was told
+FAR = 100_000  # the delay to each source that told no distance
 ASKING, ANSWERING = 4, 2  # delays that a request waits at first, and an answer, by the constants 2,2,1,1
 SETTLED = QUIET + DELIVERY
 ANSWERED = ANSWERING * FAR + 2 * DELIVERY + LATE
@@ -27,7 +27,7 @@ KNOWN = SETTLED + DELIVERY + max(REPORTING, 3 * FAR)
 
 
 def bound(wait: int, most: int, unanswerable: int) -> int:
-    """The time by which all hold all: no request timer waits for longer at `KNOWN`, none lacks more, and so few are held by nobody."""
+    """The time at which all hold all: no request timer waits for longer at `KNOWN`, none lacks more, and no more are held by nobody."""
     rounds = -(-most // (64 - unanswerable))
     return KNOWN + wait + REPAIRING + rounds * (LOOKING + ASKING * FAR + REPAIRING)
 

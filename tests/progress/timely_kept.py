@@ -1,4 +1,4 @@
-"""A session of hosts that keep themselves, in time that a list of events stands for, whose drivers and network keep to stated times.
+"""A session of self-managing hosts, in time that a list of events stands for, whose drivers and network keep to stated times.
 
 The terms are those of docs/PROGRESS.md, in microseconds. Until `QUIET` members draw and may join, what they send may be lost, and some datagrams are
 forged. From then on what one sends comes to each other within `DELIVERY`, now and then twice. Each host is called at the latest
@@ -51,7 +51,7 @@ def step(sizes: Sizes, most: int) -> int:
 
 
 def whole_by(sizes: Sizes, wait: int, most: int) -> int:
-    """The time by which all hold all: no request timer waits for longer at `KNOWN`, and all together lack no more."""
+    """The time at which all hold all: no request timer waits for longer at `KNOWN`, and all together lack no more."""
     return KNOWN + wait + REPAIRING + (most + 1) * step(sizes, most)
 
 

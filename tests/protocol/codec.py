@@ -103,7 +103,7 @@ KINDS = {Drawop: 1, SessionMessage: 2, Request: 3, AskPages: 4, PageState: 5}
 
 
 class NotOne(Exception):
-    """The bytes are no datagram."""
+    """The bytes are not a datagram."""
 
 
 # Values to bytes

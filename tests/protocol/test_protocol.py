@@ -47,7 +47,7 @@ def script_of(page: Page, came: list[Drawop]) -> list[str]:
 
 
 def told_by_program(page: Page, came: list[Drawop]) -> dict[str, object]:
-    """The rows, the marks and what is missing. A script's arrivals are told in one line."""
+    """The rows, the marks and what is missing. One line answers a script's arrivals."""
     lines = iter(asked(["run"], script_of(page, came))[1:])
     rows = [next(lines) for _ in range(HEIGHT)]
     marks = [next(lines) for _ in range(int(next(lines).split()[1]))]

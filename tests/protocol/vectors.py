@@ -57,7 +57,7 @@ def changed(datagram: Datagram, at: int, value: str) -> str:
     return digits[:2 * at] + value + digits[2 * at + len(value):]
 
 
-# what is no datagram: the digits, the number of the fault in docs/FORMAT.md, and why
+# what is not a datagram: the digits, the number of the fault in docs/FORMAT.md, and why
 BASE, MARKS = DATAGRAMS[0], DATAGRAMS[-1]
 NOT_DATAGRAMS = [
     ("574201", 1, "fewer than 8 bytes"),

@@ -1,4 +1,4 @@
-"""./wb --release: what it packs, that it is the same from everywhere, and that it runs where nothing else of wb is."""
+"""./wb --release: what it packs, that it is the same from everywhere, and that it runs on a machine that has nothing else of wb."""
 
 from __future__ import annotations
 

@@ -47,7 +47,7 @@ def dot(seq: int) -> str:
 
 
 def told(high: int) -> str:
-    """Member 8 tells that source 7 drew so many dots."""
+    """Member 8 reports that source 7 drew this many dots."""
     return session(8, 0, DOTS, [(7, high)], [])
 
 

@@ -8,7 +8,7 @@ from ..host.program import Ended, run
 from .table import DRAWN, KNOWN, NOT_WORDED, ORDERS, RANDOM, REFUSED, VERSIONS, WORDED, Script
 
 WORKERS = range(1, 9)
-# a script has at most so many lines
+# the most lines of a script
 MOST_LINES = 1_048_576
 # faults that a line has only where it is run
 OF_RUNS = ("no board", "second board", "back in time", "too many")

@@ -1,4 +1,4 @@
-"""Sessions of hosts that keep themselves and start anew from their records, over a bad network, beside strangers who forge all but drawings.
+"""Sessions of self-managing hosts that start anew from their records, over a bad network, beside strangers who forge all but drawings.
 
 What they print is held to what is proved of them: wherever two answer one `report` of a page, and `gaps 0`, they answer one
 `view`, whoever is asked and when; no name means two drawops; and no batch counts a clash. A record has all that its member drew,
@@ -41,7 +41,7 @@ class Member:
     host: Host = field(init=False)
 
     def start(self) -> list[Block]:
-        """Starts a host that keeps itself, which listens for a microsecond, and gives it the record: the blocks of that."""
+        """Starts a self-managing host, which listens for a microsecond, and gives it the record: the blocks of that."""
         if self.starts:
             self.host.end()
         self.starts += 1

@@ -1,4 +1,4 @@
-"""Sessions over a bad network: of hosts whose drivers look and report, and of hosts that keep themselves and start anew from their records."""
+"""Sessions over a bad network: of hosts whose drivers look and report, and of self-managing hosts that start anew from their records."""
 
 from __future__ import annotations
 

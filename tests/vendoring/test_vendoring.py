@@ -131,7 +131,7 @@ def test_interrupt_leaves_no_folder_of_the_name(tmp_path: Path) -> None:
 
 
 def test_handles(tmp_path: Path) -> None:
-    """HANDLES without what is used is told, and nothing is copied; what uses none comes there; and HANDLES comes with threads."""
+    """If HANDLES lacks what is used, that is reported and nothing copied; what uses none comes there; and HANDLES comes with threads."""
     workspace = tmp_path / "handles"
     workspace.mkdir()
     (workspace / "HANDLES").write_text("Handles allowed: none.\n")

@@ -73,8 +73,8 @@ def adaptive(scale: Scale) -> Figure:
             steady = [r for r in own if r["round"] == half]
             fewer = sorted(NETWORKS[r["network"]][0] for r in steady if r["policy"] == "adapting" and r["more_datagrams"] is not None
                            and r["more_datagrams"] + r["more_datagrams_95"] < 0)
-            text = f"""In rounds {half - width + 1} to {half} adapting timers send fewer datagrams than fixed 2,2,1,1 on these networks, by an
-                interval that excludes 0: {'; '.join(fewer) or 'none'}. The table has these rounds, and the last ones, after half of the group left."""
+            text = f"""In rounds {half - width + 1} to {half} adapting timers send fewer datagrams than fixed 2,2,1,1 on these networks:
+                {'; '.join(fewer) or 'none'}. {'The table also has the last rounds, after half of the group left.' if regime == 'same' else ''}"""
             heads = ("Network", "Members", "Policy", "Requests", "Repairs", "Seconds", "Datagrams beside fixed")
             cells = table_of(heads, own, lambda r: [NETWORKS[r["network"]][0], str(r["members"]), POLICIES[r["policy"]],
                                                     *(sure(r, c) for c in ("requests", "repairs", "seconds", "more_datagrams"))])

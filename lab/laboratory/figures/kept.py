@@ -37,7 +37,7 @@ PLACES = {
 
 
 def places(scale: Scale) -> Figure:
-    """Where all are at one distance or on a star, the source's link and one member's lose in turn; else a link by chance."""
+    """If all are at one distance or on a star, the source's link and one member's lose in turn; else a link by chance."""
     groups = (min(10, scale.group), scale.group)
     keys = [(group, place, tuning) for group in groups for place, of in PLACES.items() for tuning in (TUNING, of.tuning)]
 
@@ -79,16 +79,13 @@ def places(scale: Scale) -> Figure:
         first, live, near = of["broker", TUNING], of["broker", LEVEL_TUNING], of["radio", NEAR_TUNING]
         columns = ("source_requests", "member_repairs")
         few = "at most" if all(r[column] <= 6 for r in (live, near) for column in columns) else "more than"
-        text = picture("places", "Self-managing members, by network", f"""{groups[-1]} members at one distance of 40 ms, as with a broker: with {TUNING} a loss
-            on the source's link takes {sure(first, columns[0])} requests, and one on a member's link {sure(first, columns[1])} repairs. With
-            {LEVEL_TUNING}, which wb-live uses there, they take {sure(live, columns[0])} and {sure(live, columns[1])}, {few} 6 of each on average,
-            and the last member has the drawop after {sure(live, 'seconds')} s instead of {sure(first, 'seconds')}. On a LAN, and for members of
-            browsers, wb-live uses {NEAR_TUNING}: on a LAN by radio, 5 ms apart, they take {sure(near, columns[0])} and
-            {sure(near, columns[1])}, and the last member has it after {sure(near, 'seconds')} s. On one computer and on a wired LAN, distances
-            count as 10 ms at least, so a request is heard long before most timers are due. If members are at many distances, {LEVEL_TUNING}
-            saves less and waits longer: in domains {sure(of['domains', LEVEL_TUNING], 'seconds')} s instead of
-            {sure(of['domains', TUNING], 'seconds')}, and on a tree {sure(of['tree', LEVEL_TUNING], 'seconds')} instead of
-            {sure(of['tree', TUNING], 'seconds')}.""")
+        text = picture("places", "Self-managing members, by network", f"""With {TUNING}, {groups[-1]} members at one distance of 40 ms, as with a broker,
+            send {sure(first, columns[0])} requests for a loss on the source's link, and {sure(first, columns[1])} repairs for one on a member's
+            link. With the constants of wb-live they send {few} 6 of each on average, there ({LEVEL_TUNING}) and on a LAN by radio
+            ({NEAR_TUNING}); the last member has the drawop after {sure(live, 'seconds')} s instead of {sure(first, 'seconds')} there. On one
+            computer and on a wired LAN, distances count as 10 ms at least, so a request is heard long before most timers are due. If members
+            are at many distances, {LEVEL_TUNING} saves less and waits longer: in domains {sure(of['domains', LEVEL_TUNING], 'seconds')} s instead
+            of {sure(of['domains', TUNING], 'seconds')}.""")
         heads = ("Members", "Network", "Constants", "Requests, if many lack it", "Repairs, if one does", "Seconds, of all losses")
         cells = table_of(heads, records, lambda r: [str(r["group"]), PLACES[r["network"]].words, r["tuning"].replace(" ", ","),
                                                     *(sure(r, column) for column in ("source_requests", "member_repairs", "seconds"))])

@@ -2,7 +2,6 @@
 from __future__ import annotations
 
 import textwrap
-from collections.abc import Callable
 from dataclasses import replace
 from typing import NamedTuple
 
@@ -87,8 +86,9 @@ def kept_adapting(scale: Scale) -> Figure:
 
     def section(records: list[Record]) -> str:
         settled = [r for r in records if r["part"] in (PARTS // 2, PARTS)]
-        beside = f"""Compared with the fixed constants {LIVE}, in the {draws // PARTS // 2} losses before the group changes and in as many at the end, by
-            intervals of {min(RUNS, scale.runs)} runs that exclude 0 (what is not named does not differ):"""
+        cases = sum(r["policy"] == "live" for r in settled)
+        beside = f"""In the {draws // PARTS // 2} losses before the group changes and in as many at the end: in how many of {cases} cases a policy differs
+            from the fixed constants {LIVE}, by an interval of {min(RUNS, scale.runs)} runs that excludes 0:"""
         found = [bullet(f"{words[0].upper()}{words[1:]}: {told(policy, settled)}.") for policy, words in POLICIES.items() if policy != "live"]
         cells = table_of(("Network", "Members", "Constants", *COLUMNS.values()), settled, lambda r: [
             PLACES[r["network"]].words, members_told(r), POLICIES[r["policy"]], *(sure(r, column) for column in COLUMNS)])
@@ -137,23 +137,16 @@ def members_told(record: Record) -> str:
 
 
 def told(policy: str, records: list[Record]) -> str:
-    """Where a policy sends fewer or more datagrams than the constants of wb-live, and is sooner or later whole."""
+    """In how many cases a policy sends fewer or more datagrams than the constants of wb-live, and is sooner or later whole."""
     own = [r for r in records if r["policy"] == policy]
 
-    def where(column: str, is_so: Callable[[float, float], bool]) -> str:
-        found = [f"{PLACES[r['network']].words} ({members_told(r)})" for r in own if r[column] is not None and is_so(r[column], r[f"{column}_95"])]
-        return "everywhere" if len(found) == len(own) else ", ".join(found) or "nowhere"
+    def counted(column: str, sign: int) -> int:
+        return sum(sign * r[column] > r[f"{column}_95"] for r in own if r[column] is not None)
 
-    def below(value: float, half: float) -> bool:
-        return value + half < 0
-
-    def above(value: float, half: float) -> bool:
-        return value - half > 0
-
-    parts = [f"{words}: {places}" for words, column, is_so in (
-        ("fewer datagrams", "more_datagrams", below), ("more datagrams", "more_datagrams", above),
-        ("sooner", "more_seconds", below), ("later", "more_seconds", above)) if (places := where(column, is_so)) != "nowhere"]
-    return "; ".join(parts) or "no difference"
+    parts = [f"{words} in {cases}" for words, column, sign in (
+        ("fewer datagrams", "more_datagrams", -1), ("more datagrams", "more_datagrams", 1),
+        ("sooner", "more_seconds", -1), ("later", "more_seconds", 1)) if (cases := counted(column, sign))]
+    return ", ".join(parts) or "no difference"
 
 
 def bullet(text: str) -> str:

@@ -15,7 +15,7 @@ from laboratory.runs import Settings
 from laboratory.theory import exact_senders
 from live.options import LEVEL_TUNING, NEAR_TUNING, TUNING
 
-FEW = 6  # of a loss, at most so many requests, and so many repairs
+FEW = 6  # the most requests of a loss, and the most repairs
 DISTANCES = (1, 5, 40)  # milliseconds
 SEARCHED = {5: NEAR_TUNING, 40: LEVEL_TUNING}
 LOSSES, TRIED = 40, 5
@@ -43,7 +43,7 @@ class Key(NamedTuple):
         return Case(settings, runs, run_level)
 
     def record(self, measured: Measured, losses: int) -> Record:
-        """What a point measured, with where it is; what adapts counts once it has seen so many losses."""
+        """What a point measured, and where; adapting timers count after as many losses again."""
         first = losses if self.policy == ADAPTING else 0
 
         def counts(row: Row) -> bool:
@@ -57,7 +57,7 @@ class Key(NamedTuple):
 
 
 def least_width(group: int, distance: int) -> int:
-    """The least spread of timers by which so few fire, by the exact mean of one round."""
+    """The least spread of timers of which only few fire, by the exact mean of one round."""
     return next((width for width in range(1, MOST) if exact_senders(group - 1, width, min(1, distance * 1_000 / LEAST)) <= FEW), MOST)
 
 

@@ -67,8 +67,7 @@ def tunings(network: str, scale: Scale) -> Figure:
         best = [min((r for r in records if r["group"] == group), key=lambda r: float(r["datagrams"] * r["seconds"])) for group in scale.classes]
         told = ", ".join(f"{r['constants'].replace(' ', ',')} for {r['group']}" for r in best)
         text = picture(f"tunings-{network}", f"Constants, {words}", f"""A point is the mean of both kinds of losses. The smallest product of wait
-            and datagrams have {told}. The last column of the table compares the datagrams with those of 2,2,1,1 with the same seeds; the two
-            differ if the interval excludes 0.""")
+            and datagrams have {told}. The last column of the table compares the datagrams with those of 2,2,1,1.""")
         return f"{text}\n\n{cells}"
 
     return Figure(f"tunings-{network}", {f"{g} {t}": Case(settings(g, t), scale.runs) for g, t in keys}, table, plots, section)
