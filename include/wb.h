@@ -10,11 +10,14 @@
  *     wb_line(&host, "board 1 100 1 42", 16, block, sizeof block, &size);   // "ok never\n"
  *     wb_close(&host);
  *
+ * A host that is self-managing (the line `keep`) takes datagrams, moments, drawings and questions by bytes too, without a line or a digit:
+ * wb_came, wb_tick, wb_add and wb_ask. What follows are events, which wb_event fetches one by one. Calls by lines and by bytes may be mixed.
+ *
  * What is proved of the calls, and what their caller owes, is in docs/proofs/wb_c.md. What a caller owes, nobody checks:
  *
  * - A `wb_host` is WB_HOST_CLOSED at first, is not copied, and nothing but these calls writes it.
  * - One call at a time is made for a host. Its calls are made by one thread, or go from one to another in an order that a lock or a join gives.
- * - No pointer is NULL, also where a length is 0, and the line, the buffer and the size lie apart from one another.
+ * - No pointer is NULL, also where a length is 0, and what the pointers of one call point to lies apart from one another.
  * - No call is made by a signal handler, or by the child of a fork of a process with threads.
  */
 #ifndef WB_H
@@ -36,15 +39,55 @@ typedef struct wb_host {
 
 #define WB_HOST_CLOSED {0, 0}
 
-/* What a call answers. */
+/* What a call answers. A call that gives none of the first two and not WB_MEMORY changed nothing. */
 enum {
-    WB_DONE = 0,     /* it is done */
-    WB_WAITS = 1,    /* the line was taken, and its block waits for a buffer of `size` bytes: fetch it by wb_block */
-    WB_NOT_DONE = 2, /* the line was not taken, since the block of an earlier one waits */
-    WB_CLOSED = 3,   /* the host is closed */
-    WB_MEMORY = 4,   /* there was no memory; the host is closed now, and what it held is gone */
-    WB_OPEN = 5      /* the host is open already */
+    WB_DONE = 0,          /* it is done */
+    WB_WAITS = 1,         /* the block or the event waits for a buffer of `size` bytes */
+    WB_NOT_DONE = 2,      /* the line was not taken, since the block of an earlier one waits */
+    WB_CLOSED = 3,        /* the host is closed */
+    WB_MEMORY = 4,        /* there was no memory; the host is closed now, and what it held is gone */
+    WB_OPEN = 5,          /* the host is open already */
+    WB_NOTHING = 6,       /* no event waits */
+    WB_NOT_KEPT = 7,      /* the host is not self-managing */
+    WB_NO_MOMENT = 8,     /* the moment is not below 2^48 */
+    WB_BACK_IN_TIME = 9,  /* the moment is before the present one */
+    WB_LISTENING = 10,    /* nothing is added yet */
+    WB_OURS = 11,         /* a drawop of our own number of 2^31 or more that is not held: forged */
+    WB_NUMBERS = 12,      /* no number is left on the page */
+    WB_NO_DRAWOP = 13,    /* the datagram is no drawop */
+    WB_NO_QUESTION = 14,  /* there is no such question, or no canvas of that size */
+    WB_NO_DATAGRAM = 100, /* and with the number of the fault, 1 to 9 (docs/FORMAT.md): the bytes are no datagram */
+    WB_NO_OPERATION = 200 /* and with the number of the fault, 1 to 7: under its next number the operation is none of a drawop */
 };
+
+/* The kinds of events, and the bytes of each. Datagrams are as on the network (docs/FORMAT.md), and numbers have four bytes, big-endian. */
+enum {
+    WB_SENT = 1,     /* a datagram, which is to be sent to all others */
+    WB_NEW = 2,      /* no bytes: the drawop that came or was drawn is new, and held now */
+    WB_AGAIN = 3,    /* no bytes: it was held already */
+    WB_CLASH = 4,    /* no bytes: another drawop of its name is held, and stays */
+    WB_LEFT = 5,     /* no bytes: it is new, and the board is full */
+    WB_SHOWN = 6,    /* the datagram of a drawop that the page shows */
+    WB_MISSING = 7,  /* a range that is missing: its source, its first number and its last */
+    WB_GREATEST = 8, /* a source and its greatest number */
+    WB_PAGE = 9,     /* a page: its creator and its number */
+    WB_NEXT = 10,    /* the number of our next drawop on the page; no event if no number is left */
+    WB_PAINTED = 11  /* the rows of a canvas, each with its line feed */
+};
+
+/* The questions, each that of the line of its name (docs/HOST-LINES.md). */
+enum {
+    WB_ASK_NEXT = 1,   /* one event WB_NEXT, or none */
+    WB_ASK_VIEW = 2,   /* WB_SHOWN for each drawop that the page shows, in the order of display */
+    WB_ASK_GAPS = 3,   /* WB_MISSING for each range */
+    WB_ASK_REPORT = 4, /* WB_GREATEST for each source of the page */
+    WB_ASK_PAGES = 5,  /* WB_PAGE for each page that has a drawop; the page that is given does not matter */
+    WB_ASK_KNOWN = 6,  /* the same, also of pages that were only heard of */
+    WB_ASK_CANVAS = 7  /* one event WB_PAINTED; `show` is its line, and only this question looks at width and height */
+};
+
+/* What wb_due gives if nothing is due. */
+#define WB_NEVER UINT64_MAX
 
 /* Opens a host: WB_DONE, WB_MEMORY or WB_OPEN. It has no board until the line `board`. */
 uint32_t wb_open(wb_host *host);
@@ -57,6 +100,33 @@ uint32_t wb_line(wb_host *host, const void *line, size_t length, void *buffer, s
 
 /* Fetches the block that waits; where none does, `size` is 0. WB_DONE, WB_WAITS or WB_CLOSED. */
 uint32_t wb_block(wb_host *host, void *buffer, size_t room, size_t *size);
+
+/* A datagram of `length` bytes came in at a moment, in microseconds: the line `came`. For each datagram that is to be sent an event WB_SENT
+ * is added behind those that wait, in order, and then, if a drawop came in, what became of it.
+ * WB_DONE, WB_NO_MOMENT, WB_NO_DATAGRAM + FAULT, WB_NOT_KEPT, WB_BACK_IN_TIME, WB_OURS, WB_CLOSED or WB_MEMORY. */
+uint32_t wb_came(wb_host *host, uint64_t now, const void *datagram, size_t length);
+
+/* Time goes on to a moment: the line `tick`. Events as above. WB_DONE, WB_NO_MOMENT, WB_NOT_KEPT, WB_BACK_IN_TIME, WB_CLOSED or WB_MEMORY. */
+uint32_t wb_tick(wb_host *host, uint64_t now);
+
+/* The user draws: the line `add`. The bytes are the datagram of a drawop with the page, the time and the operation of the drawing; its source
+ * and its number do not matter, as the drawing gets a name of its own. Events as above: the drawing is among what is to be sent, unless it
+ * clashes or the board is full.
+ * WB_DONE, WB_NO_MOMENT, WB_NO_DATAGRAM + FAULT, WB_NO_DRAWOP, WB_NOT_KEPT, WB_BACK_IN_TIME, WB_LISTENING, WB_NUMBERS, WB_NO_OPERATION +
+ * FAULT, WB_CLOSED or WB_MEMORY. */
+uint32_t wb_add(wb_host *host, uint64_t now, const void *drawop, size_t length);
+
+/* Asks a question about a page, which changes nothing; an event for each item of the answer is added behind those that wait.
+ * WB_DONE, WB_NO_QUESTION, WB_NOT_KEPT, WB_CLOSED or WB_MEMORY. */
+uint32_t wb_ask(wb_host *host, uint32_t question, uint32_t creator, uint32_t number, uint32_t width, uint32_t height);
+
+/* Fetches the next event: its kind, and its bytes at the front of the buffer. `size` tells how many these are, also where the buffer has no
+ * room for them: then nothing is written, and the event waits. Each event is fetched once, and they come in the order of the calls.
+ * WB_DONE, WB_WAITS, WB_NOTHING, WB_CLOSED or WB_MEMORY. */
+uint32_t wb_event(wb_host *host, uint32_t *kind, void *buffer, size_t room, size_t *size);
+
+/* The next moment at which a tick is due, in microseconds, or WB_NEVER. */
+uint64_t wb_due(wb_host *host);
 
 /* Closes a host, and frees what it has. A closed one stays closed, and any may be opened anew. */
 void wb_close(wb_host *host);

@@ -2,7 +2,6 @@
 
 from __future__ import annotations
 
-import ctypes
 import random
 import re
 import shutil
@@ -15,42 +14,11 @@ from ..host.conversations import documented, parted
 from ..host.program import program
 from ..host.sessions import Session
 from ..host.test_kept import KeptSession
+from .calls import CALLS, Host
 from .conftest import TOP, run
 
 DONE, WAITS, NOT_DONE, CLOSED, MEMORY, OPEN = range(6)
-CALLS = ["wb_block", "wb_close", "wb_line", "wb_open"]
 CONVERSATIONS = 60
-
-
-class Held(ctypes.Structure):
-    _fields_ = [("at", ctypes.c_void_p), ("is_open", ctypes.c_bool)]
-
-
-class Host:
-    """A host of the library, by its calls."""
-
-    def __init__(self, library: Path) -> None:
-        self.calls = ctypes.CDLL(str(library / "lib/libwb.so.0"))
-        for call in CALLS:
-            getattr(self.calls, call).restype = ctypes.c_uint32
-        self.held = Held(None, False)
-
-    def open(self) -> int:
-        return int(self.calls.wb_open(ctypes.byref(self.held)))
-
-    def close(self) -> None:
-        self.calls.wb_close(ctypes.byref(self.held))
-
-    def line(self, line: bytes, room: int) -> tuple[int, int, bytes]:
-        """The status, the size that came back, and the whole buffer, which was full of dots."""
-        buffer, size = ctypes.create_string_buffer(b"." * room, max(room, 1)), ctypes.c_size_t(77)
-        status = self.calls.wb_line(ctypes.byref(self.held), line, ctypes.c_size_t(len(line)), buffer, ctypes.c_size_t(room), ctypes.byref(size))
-        return int(status), size.value, buffer.raw[:room]
-
-    def block(self, room: int) -> tuple[int, int, bytes]:
-        buffer, size = ctypes.create_string_buffer(b"." * room, max(room, 1)), ctypes.c_size_t(77)
-        status = self.calls.wb_block(ctypes.byref(self.held), buffer, ctypes.c_size_t(room), ctypes.byref(size))
-        return int(status), size.value, buffer.raw[:room]
 
 
 @pytest.fixture
@@ -155,12 +123,16 @@ def test_the_same_blocks_as_the_program(host_in_c: Path) -> None:
 # ---- what is built over it
 
 
-def test_board_in_c(library: Path, compiler: str, tmp_path: Path) -> None:
-    words: list[str | Path] = ["-std=c11", "-D_POSIX_C_SOURCE=200809L", "-Wall", "-Wextra", "-Werror", f"-I{library}/include", TOP / "examples/c/board.c"]
+PRINTED = {"board": "*****     \ndrawn in C\n", "bytes": "2 drawings came, and a tick is due later\n--|--\n  |  \n  |  \n"}
+
+
+@pytest.mark.parametrize("example", PRINTED)
+def test_examples_in_c(library: Path, compiler: str, tmp_path: Path, example: str) -> None:
+    words: list[str | Path] = ["-std=c11", "-D_POSIX_C_SOURCE=200809L", "-Wall", "-Wextra", "-Werror", f"-I{library}/include", TOP / f"examples/c/{example}.c"]
     run([compiler, *words, library / "lib/libwb.a", "-o", tmp_path / "static"])
     run([compiler, *words, f"-L{library}/lib", "-lwb", f"-Wl,-rpath,{library}/lib", "-o", tmp_path / "shared"])
     for made in ("static", "shared"):
-        assert run([tmp_path / made]) == "*****     \ndrawn in C\n"
+        assert run([tmp_path / made]) == PRINTED[example]
 
 
 def test_pkg_config(library: Path) -> None:
@@ -188,12 +160,23 @@ def test_only_the_calls_are_offered(library: Path, compiler: str) -> None:
 
 def test_header_is_that_of_the_calls() -> None:
     """The header declares what the crate exports, with as many parameters as C sees: a slice is two, and the allocator none."""
-    header, source = (TOP / "include/wb.h").read_text(), (TOP / "crates/wb_c/src/calls.rt").read_text()
-    declared = {name: len(rest.split(",")) for name, rest in re.findall(r"^(?:uint32_t|void) (wb_\w+)\(([^)]*)\);", header, re.MULTILINE)}
+    header, folder = (TOP / "include/wb.h").read_text(), TOP / "crates/wb_c/src"
+    declared = {name: len(rest.split(",")) for name, rest in re.findall(r"^(?:uint32_t|uint64_t|void) (wb_\w+)\(([^)]*)\);", header, re.MULTILINE)}
     exported = {}
-    for name, rest in re.findall(r'extern "C" fn (\w+)\(([^)]*)\)', source):
-        words = [word.split(":")[1] for word in rest.split(",") if ":" in word]
-        exported[name] = sum(0 if "Global" in word else 2 if "[u8]" in word else 1 for word in words)
-    assert declared == exported
-    statuses = dict(re.findall(r"WB_(\w+) = (\d)", header))
-    assert statuses == dict(re.findall(r"const (\w+): u32 = (\d);", source))
+    for source in ("calls.rt", "by_bytes.rt"):
+        for name, rest in re.findall(r'extern "C" fn (\w+)\(([^)]*)\)', (folder / source).read_text()):
+            words = [word.split(":")[1] for word in rest.split(",") if ":" in word]
+            exported[name] = sum(0 if "Global" in word else 2 if "[u8]" in word else 1 for word in words)
+    assert declared == exported and sorted(exported) == CALLS
+    statuses = dict(re.findall(r"^    WB_(\w+) = (\d+)", header.split("enum {")[1], re.MULTILINE))
+    assert statuses == dict(re.findall(r"const (\w+): u32 = (\d+);", (folder / "status.rt").read_text()))
+
+
+def test_header_has_each_event_and_question() -> None:
+    header, folder = (TOP / "include/wb.h").read_text(), TOP / "crates/wb_c/src"
+    kinds = dict(re.findall(r"^    WB_(\w+) = (\d+)", header.split("enum {")[2], re.MULTILINE))
+    events = re.findall(r"Event::(\w+)(?:\(_\))? => (\d+),", (folder / "event.rt").read_text())
+    assert kinds == {name.upper(): number for name, number in events} and len(kinds) == 11
+    asked = re.findall(r"^    WB_ASK_(\w+) = (\d+)", header.split("enum {")[3], re.MULTILINE)
+    questions = re.findall(r"question == (\d) \{\s*return (?:Some\(Query::)?(\w+)", (folder / "query.rt").read_text())
+    assert asked == [(name.upper(), number) for number, name in questions] and len(asked) == 7

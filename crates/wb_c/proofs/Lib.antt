@@ -1,2 +1,4 @@
 mod AsBox
 mod Lines
+mod Performed
+mod Served

@@ -17,7 +17,15 @@ reply_to_line s line = reply_of s (met (record { bytes = line; ended = true }))
 abbrev pub Took : DialogValue → DialogValue → List ℕ → List ℕ → Type 0
 Took old new line block = (s : Hosting) → IsAt old s → IsAt new (hosting_after s (reply_to_line s line)) × (block ≡ block_of (reply_to_line s line))
 
--- A block was handed over whole, at the front of the buffer, and nothing waits; or there is no room for it, and it waits as it did.
+-- Bytes were written at the front of a buffer; or there is no room for them, and it is as it was.
+abbrev pub Writes : List ℕ → List ℕ → List ℕ → Bool → Type 0
+Writes bytes before after true = (length bytes ≤ length before) × (after ≡ bytes ++ drop (length bytes) before)
+Writes bytes before after false = (length before < length bytes) × (after ≡ before)
+
+-- A block was handed over whole, and nothing waits; or there is no room for it, and it waits as it did.
+abbrev pub Leaves : List ℕ → List ℕ → Bool → Type 0
+Leaves block left true = left ≡ []
+Leaves block left false = left ≡ block
+
 abbrev pub HandsOver : List ℕ → List ℕ → List ℕ → List ℕ → Bool → Type 0
-HandsOver block left before after true = (length block ≤ length before) × (after ≡ block ++ drop (length block) before) × (left ≡ [])
-HandsOver block left before after false = (length before < length block) × (after ≡ before) × (left ≡ block)
+HandsOver block left before after whole = Writes block before after whole × Leaves block left whole

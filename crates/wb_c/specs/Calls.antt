@@ -1,34 +1,13 @@
--- What each call does, by what was held before and what is held after it, and which status it gives.
+-- What each call by lines does, by what was held before and what is held after it, and which status it gives.
 use Rattle.std.specs.Prelude.{◌≡◌, ℕ, List, [], ◌∷◌, length, Bool, true, false, Option, Some, None}
 use Rattle.wb_dialog.specs.Doing.{DialogValue}
 use Rattle.wb_c.specs.declared.room.Room.{Room}
 use Rattle.wb_c.specs.Blocks.{HandsOver, Took, fresh}
-
--- ---- the statuses
-
-abbrev pub done : ℕ
-done = 0
-
-abbrev pub waits : ℕ
-waits = 1
-
-abbrev pub not_done : ℕ
-not_done = 2
-
-abbrev pub closed : ℕ
-closed = 3
-
-abbrev pub memory : ℕ
-memory = 4
-
-abbrev pub open_already : ℕ
-open_already = 5
-
--- ---- the calls
+use Rattle.wb_c.specs.Statuses.{closed, done, memory, not_done, open_already, waits}
 
 -- It is open now, or memory ran out; one that was open is as it was.
 abbrev pub Opens : Option Room → Option Room → ℕ → Type 0
-Opens None (Some room) status = (status ≡ done) × (room.dialog ≡ fresh) × (room.block.items ≡ [])
+Opens None (Some room) status = (status ≡ done) × (room.dialog ≡ fresh) × (room.block.items ≡ []) × (room.events.items ≡ [])
 Opens None None status = status ≡ memory
 Opens (Some room) new status = (status ≡ open_already) × (new ≡ Some room)
 
@@ -37,9 +16,9 @@ abbrev pub status_of : Bool → ℕ
 status_of true = done
 status_of false = waits
 
--- The block that waits is handed over, or there is no room for it. The call answers its size. The host stays.
+-- The block that waits is handed over, or there is no room for it. The call answers its size. The host stays, and so do the events that wait.
 abbrev pub Fetches : Room → Room → List ℕ → List ℕ → ℕ → ℕ → Type 0
-Fetches old new before after size status = (new.dialog ≡ old.dialog) × (size ≡ length old.block.items)
+Fetches old new before after size status = (new.dialog ≡ old.dialog) × (new.events ≡ old.events) × (size ≡ length old.block.items)
     × ((whole : Bool) × (status ≡ status_of whole) × HandsOver old.block.items new.block.items before after whole)
 
 -- The call writes nothing, and answers no size.
@@ -53,7 +32,7 @@ FetchesFrom (Some old) (Some new) before after size status = Fetches old new bef
 
 -- A line was taken once, and its block was handed over or waits.
 abbrev pub Taken : Room → Room → List ℕ → List ℕ → List ℕ → ℕ → ℕ → Type 0
-Taken old new line before after size status = (kept : Room) × Took old.dialog kept.dialog line kept.block.items × Fetches kept new before after size status
+Taken old new line before after size status = (kept : Room) × Took old.dialog kept.dialog line kept.block.items × (kept.events ≡ old.events) × Fetches kept new before after size status
 
 -- While the block of an earlier line waits, the call does nothing, and answers its size.
 abbrev pub LineAt : List ℕ → Room → Room → List ℕ → List ℕ → List ℕ → ℕ → ℕ → Type 0

@@ -1,23 +1,11 @@
-//! The calls, as `include/wb.h` declares them.
+//! The calls by lines, as `include/wb.h` declares them.
 ghost use Rattle.std.specs.Prelude.{◌≡◌, IfSome, None};
 ghost use Rattle.wb_c.specs.Calls.{Fetches, FetchesFrom, LineAt, Nothing, Opens, TakesLine};
 
 use crate::held::Host;
 use crate::room::Room;
+use crate::status::{CLOSED, DONE, MEMORY, NOT_DONE, OPEN, WAITS};
 use std::alloc::Global;
-
-/// The call did what it says.
-const DONE: u32 = 0;
-/// The block waits, since there is no room for it.
-const WAITS: u32 = 1;
-/// The line was not taken, since the block of an earlier one waits.
-const NOT_DONE: u32 = 2;
-/// The host is closed.
-const CLOSED: u32 = 3;
-/// An allocation failed, and the host is closed.
-const MEMORY: u32 = 4;
-/// The host is open already.
-const OPEN: u32 = 5;
 
 /// Hands over the block that waits, and says how large it is.
 fn fetch(room: &mut Room, buffer: &mut [u8], size: &mut usize) -> u32

@@ -6,8 +6,15 @@
 //! the caller's buffer, or is kept until there is one with room for it.
 #![tactic(auto)]
 
+mod by_bytes;
 mod calls;
+mod event;
 mod held;
 mod parts;
+mod performing;
+mod query;
 mod room;
+mod serving;
+mod status;
 mod taken;
+mod told;

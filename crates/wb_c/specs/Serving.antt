@@ -1,0 +1,109 @@
+-- What each call by bytes does, by what was held before and what is held after it, and which status it gives.
+use Rattle.std.specs.Prelude.{◌≡◌, ℕ, List, [], ◌∷◌, length, Bool, true, false, nat_lt, Option, Some, None, unwrap_or, Result, Ok, Err}
+use Rattle.wb_names.specs.Values.{DrawopValue}
+use Rattle.wb_names.specs.declared.moment.TheConstants.{MOMENT_LIMIT}
+use Rattle.wb_names.specs.declared.name.PageId.{PageId}
+use Rattle.wb_codec.specs.declared.datagram.Datagram.{Datagram}
+use Rattle.wb_codec.specs.declared.datagram.Datagram.TheVariants as datagrams
+use Rattle.wb_codec.specs.declared.fault.ReadFault.{ReadFault}
+use Rattle.wb_member.specs.declared.questions.Query.{Query}
+use Rattle.wb_keeping.specs.Laws.{Added, Came, Ticked}
+use Rattle.wb_keeping.specs.Performing.{KeptValue}
+use Rattle.wb_dialog.specs.Doing.{IsAt, host_of, kept_in}
+use Rattle.wb_dialog.specs.Hosting.{Hosting, due_at}
+use Rattle.wb_c.specs.Asking.{query_of}
+use Rattle.wb_c.specs.Blocks.{Writes}
+use Rattle.wb_c.specs.Calls.{status_of}
+use Rattle.wb_c.specs.Events.{bytes_of, kind_of}
+use Rattle.wb_c.specs.Performing.{Answers, Performs}
+use Rattle.wb_c.specs.Statuses.{closed, memory, no_drawop, no_moment, no_question, not_kept, nothing, read_status}
+use Rattle.wb_c.specs.declared.event.Event.{Event}
+use Rattle.wb_c.specs.declared.room.Room.{Room}
+
+-- ---- at an open host
+
+-- Nothing is done, and a status says why.
+abbrev pub Refuses : ℕ → Room → Room → ℕ → Type 0
+Refuses why old new status = (status ≡ why) × (new ≡ old)
+
+-- what a member does, at a host that is self-managing
+abbrev pub AtKept : (KeptValue → KeptValue → List Event → List Event → ℕ → Type 0) → Option KeptValue → Room → Room → ℕ → Type 0
+AtKept does None old new status = Refuses not_kept old new status
+AtKept does (Some kept) old new status =
+    (after : KeptValue) × (new.dialog ≡ record { tuning = old.dialog.tuning; host = host_of after }) × (new.block ≡ old.block) × does kept after old.events.items new.events.items status
+
+abbrev pub AtMember : (KeptValue → KeptValue → List Event → List Event → ℕ → Type 0) → Room → Room → ℕ → Type 0
+AtMember does old new status = AtKept does (kept_in old.dialog.host) old new status
+
+-- a moment is below the limit
+abbrev pub InTime : Bool → (Room → Room → ℕ → Type 0) → Room → Room → ℕ → Type 0
+InTime true does old new status = does old new status
+InTime false does old new status = Refuses no_moment old new status
+
+-- the datagram that was read, or the status that says why there is none
+abbrev pub read_by : Result Datagram ReadFault → Result Datagram ℕ
+read_by (Ok v) = Ok v
+read_by (Err fault) = Err (read_status fault)
+
+abbrev pub Draws : ℕ → DrawopValue → Room → Room → ℕ → Type 0
+Draws now d old new status = AtMember (Performs (Added now d.name.page d.time d.op)) old new status
+
+abbrev pub Takes : ℕ → Result Datagram ℕ → Room → Room → ℕ → Type 0
+Takes now (Ok v) old new status = AtMember (Performs (Came now v)) old new status
+Takes now (Err why) old new status = Refuses why old new status
+
+-- What a drawop does is drawn; any other datagram is none.
+abbrev pub Adds : ℕ → Result Datagram ℕ → Room → Room → ℕ → Type 0
+Adds now (Ok (datagrams.Draw d)) old new status = Draws now d old new status
+Adds now (Ok v) old new status = Refuses no_drawop old new status
+Adds now (Err why) old new status = Refuses why old new status
+
+abbrev pub CameBy : ℕ → Result Datagram ReadFault → Room → Room → ℕ → Type 0
+CameBy now read old new status = InTime (nat_lt now MOMENT_LIMIT) (Takes now (read_by read)) old new status
+
+abbrev pub AddsBy : ℕ → Result Datagram ReadFault → Room → Room → ℕ → Type 0
+AddsBy now read old new status = InTime (nat_lt now MOMENT_LIMIT) (Adds now (read_by read)) old new status
+
+abbrev pub TicksBy : ℕ → Room → Room → ℕ → Type 0
+TicksBy now old new status = InTime (nat_lt now MOMENT_LIMIT) (AtMember (Performs (Ticked now))) old new status
+
+abbrev pub AsksBy : Option Query → Room → Room → ℕ → Type 0
+AsksBy (Some query) old new status = AtMember (Answers query) old new status
+AsksBy None old new status = Refuses no_question old new status
+
+abbrev pub Asks : ℕ → PageId → ℕ → ℕ → Room → Room → ℕ → Type 0
+Asks question page width height old new status = AsksBy (query_of question page width height) old new status
+
+-- ---- at a host that is open or closed
+
+-- The same; or an allocation failed, and the host is closed.
+abbrev pub Serves : (Room → Room → ℕ → Type 0) → Option Room → Option Room → ℕ → Type 0
+Serves does None new status = (status ≡ closed) × (new ≡ None)
+Serves does (Some old) None status = status ≡ memory
+Serves does (Some old) (Some new) status = does old new status
+
+-- ---- events
+
+-- The bytes of an event are at the front of the buffer, and it waits no more; or there is no room for them, and it waits.
+abbrev pub HandsEvent : Event → List Event → List Event → Bool → Type 0
+HandsEvent event rest left true = left ≡ rest
+HandsEvent event rest left false = left ≡ event ∷ rest
+
+-- The next event is handed over, if there is room for its bytes. The call answers its kind and its size in any case; 0 and 0 if no event waits.
+abbrev pub GivesEvent : List Event → List Event → List ℕ → List ℕ → ℕ → ℕ → ℕ → Type 0
+GivesEvent [] left before after kind size status = (status ≡ nothing) × (left ≡ []) × (after ≡ before) × (kind ≡ 0) × (size ≡ 0)
+GivesEvent (event ∷ rest) left before after kind size status = (kind ≡ kind_of event) × (size ≡ length (bytes_of event))
+    × ((whole : Bool) × (status ≡ status_of whole) × Writes (bytes_of event) before after whole × HandsEvent event rest left whole)
+
+-- The same; or an allocation failed, and the host is closed.
+abbrev pub FetchesEvent : Option Room → Option Room → List ℕ → List ℕ → ℕ → ℕ → ℕ → Type 0
+FetchesEvent None new before after kind size status = (status ≡ closed) × (new ≡ None) × (after ≡ before) × (kind ≡ 0) × (size ≡ 0)
+FetchesEvent (Some old) None before after kind size status = status ≡ memory
+FetchesEvent (Some old) (Some new) before after kind size status = (new.dialog ≡ old.dialog) × (new.block ≡ old.block) × GivesEvent old.events.items new.events.items before after kind size status
+
+-- ---- the next moment
+
+-- the next moment at which a tick is due, or 2^64 - 1
+abbrev pub IsDue : Option Room → ℕ → Type 0
+IsDue None due = due ≡ 18446744073709551615
+IsDue (Some room) due = (s : Hosting) → IsAt room.dialog s → due ≡ unwrap_or (due_at s.host) 18446744073709551615

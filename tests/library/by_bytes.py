@@ -1,0 +1,132 @@
+"""The calls by bytes of the library, and the blocks that lines would have for them: what came as events is written as `wb host` writes it."""
+
+from __future__ import annotations
+
+import ctypes
+import subprocess
+from pathlib import Path
+
+from ..host.program import program
+from .calls import Host
+
+SENT, NEW, AGAIN, CLASH, LEFT, SHOWN, MISSING, GREATEST, PAGE, NEXT, PAINTED = range(1, 12)
+NEVER = 2**64 - 1
+BATCHES = {NEW: "batch 1 0 0 0", AGAIN: "batch 0 1 0 0", CLASH: "batch 0 0 1 0", LEFT: "batch 0 0 0 1"}
+QUESTIONS = {"next": 1, "view": 2, "gaps": 3, "report": 4, "pages": 5, "known": 6, "show": 7}
+REFUSED = {7: "not kept", 8: "number", 9: "back in time", 10: "listening", 11: "ours", 12: "too many"}
+FIELDS = ["sequence number 0", "coordinate over 4095", "glyph outside ! to ~", "text of 0 or over 64 bytes", "text byte outside space to ~",
+          "target sequence number 0", "target is the drawop itself"]
+# the name of a drawing that is handed in: the drawing gets another, and is aimed at no such name
+DRAFT = "draw 4294967295 {page} 4294967295 {time} {operation}"
+
+
+def refusal(status: int) -> str:
+    if status >= 200:
+        return f"word 6: {FIELDS[status - 201]}"
+    return f"datagram {status - 100}" if status >= 100 else REFUSED[status]
+
+
+def in_hex(lines: list[str]) -> list[str]:
+    """The digits of datagrams in words, by `wb hex`."""
+    told = subprocess.run([program(), "hex"], input="".join(f"{line}\n" for line in lines), stdout=subprocess.PIPE, text=True, check=True).stdout
+    return [line.split()[1] for line in told.splitlines()]
+
+
+def in_words(digits: list[str]) -> list[str]:
+    told = subprocess.run([program(), "words"], input="".join(f"send {it}\n" for it in digits), stdout=subprocess.PIPE, text=True, check=True).stdout
+    return [line.removeprefix("send ") for line in told.splitlines()]
+
+
+def drafts(lines: list[str]) -> dict[str, bytes]:
+    """For each line `add` the drawop whose page, time and operation it names."""
+    adds = [line for line in dict.fromkeys(lines) if line.startswith("add ")]
+    parts = [line.split(" ", 4) for line in adds]
+    made = in_hex([DRAFT.format(time=time, page=page, operation=operation) for _, _, time, page, operation in parts]) if adds else []
+    return {line: bytes.fromhex(digits) for line, digits in zip(adds, made)}
+
+
+def numbers(told: bytes) -> list[int]:
+    return [int.from_bytes(told[at:at + 4], "big") for at in range(0, len(told), 4)]
+
+
+class ByBytes(Host):
+    """A host whose lines `came`, `tick`, `add` and questions become calls by bytes, and the events make each block."""
+
+    def __init__(self, library: Path) -> None:
+        super().__init__(library)
+        self.calls.wb_due.restype = ctypes.c_uint64
+        self.drafts: dict[str, bytes] = {}
+        self.made = 0
+
+    def events(self) -> list[tuple[int, bytes]]:
+        """All events that wait. A buffer without room for one leaves it, and says how large it is."""
+        found = []
+        buffer = ctypes.create_string_buffer(1)
+        while (event := self.event(buffer))[0] != 6:
+            status, kind, size = event
+            assert status == (size > len(buffer))
+            if status == 0:
+                found.append((kind, buffer.raw[:size]))
+            else:
+                buffer = ctypes.create_string_buffer(size)
+        return found
+
+    def event(self, buffer: ctypes.Array[ctypes.c_char]) -> tuple[int, int, int]:
+        """Fetches the next event: the status, the kind and the size."""
+        kind, size = ctypes.c_uint32(77), ctypes.c_size_t(77)
+        status = self.calls.wb_event(ctypes.byref(self.held), ctypes.byref(kind), buffer, ctypes.c_size_t(len(buffer)), ctypes.byref(size))
+        return int(status), kind.value, size.value
+
+    def due(self) -> str:
+        due = int(self.calls.wb_due(ctypes.byref(self.held)))
+        return "ok never" if due == NEVER else f"ok {due}"
+
+    def said(self, status: int, rows: list[str]) -> str:
+        """A block: these rows, and the next moment that is due; or why the call was refused."""
+        self.made += 1
+        assert not (status and rows)
+        return "\n".join([*rows, f"refused {refusal(status)}" if status else self.due()]) + "\n"
+
+    def told(self, status: int, is_drawing: bool) -> str:
+        rows = []
+        for kind, its in self.events():
+            if kind == SENT:
+                rows.append(f"send {its.hex()}")
+            elif not is_drawing or kind in (CLASH, LEFT):
+                rows.append(BATCHES[kind])
+        return self.said(status, rows)
+
+    def came(self, now: int, datagram: bytes) -> int:
+        return int(self.calls.wb_came(ctypes.byref(self.held), ctypes.c_uint64(now), datagram, ctypes.c_size_t(len(datagram))))
+
+    def add(self, now: int, drawop: bytes) -> int:
+        return int(self.calls.wb_add(ctypes.byref(self.held), ctypes.c_uint64(now), drawop, ctypes.c_size_t(len(drawop))))
+
+    def tick(self, now: int) -> int:
+        return int(self.calls.wb_tick(ctypes.byref(self.held), ctypes.c_uint64(now)))
+
+    def ask(self, word: str, arguments: list[int]) -> str:
+        given = (*arguments, 0, 0, 0, 0)[:4]
+        status = int(self.calls.wb_ask(ctypes.byref(self.held), ctypes.c_uint32(QUESTIONS[word]), *(ctypes.c_uint32(it) for it in given)))
+        events = [its for _, its in self.events()]
+        if word == "show":
+            return self.said(status, events[0].decode().splitlines())
+        if word == "next":
+            return self.said(status, [f"next {numbers(its)[0]}" for its in events])
+        rows = in_words([its.hex() for its in events]) if word == "view" and events else [" ".join(map(str, numbers(its))) for its in events]
+        return self.said(status, [f"{word} {len(rows)}", *rows])
+
+    def block_of(self, line: str) -> str:
+        """The block of a line, by a call by bytes where there is one for it."""
+        word, *arguments = line.split(" ")
+        if word == "came":
+            return self.told(self.came(int(arguments[0]), bytes.fromhex(arguments[1])), False)
+        if word == "add":
+            return self.told(self.add(int(arguments[0]), self.drafts[line]), True)
+        if word == "tick":
+            return self.told(self.tick(int(arguments[0])), True)
+        if word in QUESTIONS:
+            return self.ask(word, [int(it) for it in arguments])
+        status, size, block = self.line(line.encode(), 1 << 16)
+        assert status == 0
+        return block[:size].decode()
