@@ -2,6 +2,7 @@
 
 from __future__ import annotations
 
+import fcntl
 import os
 import random
 import sys
@@ -62,6 +63,10 @@ def pytest_report_header() -> str:
 BY_FILE = ("live", "ui", "browser")
 
 
+# the folders whose tests take the program that is built beside them, as `./test --quick` names them
+OVER_PROGRAM = [tuple(name.split("/")) for name in os.environ.get("WB_OVER_PROGRAM", "").split()]
+
+
 # before xdist reads the groups
 @pytest.hookimpl(tryfirst=True)  # type: ignore[misc]
 def pytest_collection_modifyitems(config: pytest.Config, items: list[pytest.Item]) -> None:
@@ -76,6 +81,22 @@ def pytest_collection_modifyitems(config: pytest.Config, items: list[pytest.Item
         for item in items:
             if item.get_closest_marker("measures"):
                 item.add_marker(pytest.mark.skip(reason="it judges by the clock, where WB_MEASURE is set"))
+
+
+@pytest.hookimpl(tryfirst=True)  # type: ignore[misc]
+def pytest_runtest_setup(item: pytest.Item) -> None:
+    """`./test --quick` builds a program beside the tests. Those that take it wait until it is there, and no other sees it."""
+    building, program = os.environ.get("WB_QUICK_BUILDING"), os.environ.get("WB_QUICK_PROGRAM", "")
+    if building is None:
+        return
+    if item.path.relative_to(item.config.rootpath).parts[:2] not in OVER_PROGRAM:
+        os.environ.pop("WB_PROGRAM", None)
+        return
+    with open(building) as lock:
+        fcntl.flock(lock, fcntl.LOCK_SH)
+    if not os.path.exists(program + ".of"):
+        pytest.fail("the program was not built: ./test --quick said why", pytrace=False)
+    os.environ["WB_PROGRAM"] = program
 
 
 def pytest_terminal_summary(terminalreporter: Any) -> None:

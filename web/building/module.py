@@ -20,7 +20,7 @@ STACK_BYTES = 1 << 20
 
 # The least of WebAssembly, and copies of memory and conversions that each engine has had for years. As in the build for x86-64,
 # where the compiler knows that no control comes, it puts a trap.
-FLAGS = ["--target=wasm64-unknown-unknown", "-O3", "-mcpu=mvp", "-mbulk-memory", "-mnontrapping-fptoint", "-msign-ext", "-mmutable-globals",
+FLAGS = ["--target=wasm64-unknown-unknown", "-mcpu=mvp", "-mbulk-memory", "-mnontrapping-fptoint", "-msign-ext", "-mmutable-globals",
          "-mllvm", "-trap-unreachable", "-mllvm", "-no-trap-after-noreturn", "-ffunction-sections", "-fdata-sections", "-Wno-override-module"]
 C_FLAGS = ["-ffreestanding", "-fno-builtin", "-nostdinc", "-std=c17", "-x", "c"]
 FEATURES = ["--enable-bulk-memory", "--enable-nontrapping-float-to-int", "--enable-sign-ext", "--enable-mutable-globals"]
@@ -60,16 +60,16 @@ def write_bitcode(needs: Needs, build_words: list[str], crate: Path, room: Path)
     return kept
 
 
-def compile_wasm(needs: Needs, bitcode: Path, room: Path) -> Path:
-    """A module with a 64-bit memory, of an LLVM module for x86-64."""
-    text, wasm, clang = room / "program.ll", room / "wb.wasm", needs.clang
+def compile_wasm(needs: Needs, bitcode: Path, room: Path, level: str) -> Path:
+    """A module with a 64-bit memory, of an LLVM module for x86-64, optimised as the level says."""
+    text, wasm, clang, flags = room / "program.ll", room / "wb.wasm", needs.clang, [*FLAGS, level]
     run([clang, "--target=x86_64-unknown-linux-gnu", "-x", "ir", bitcode, "-S", "-emit-llvm", "-Xclang", "-disable-llvm-passes", "-o", text], room)
     text.write_text(retarget(text.read_text()))
-    run([clang, *FLAGS, "-x", "ir", "-c", text, "-o", room / "program.o"], room)
+    run([clang, *flags, "-x", "ir", "-c", text, "-o", room / "program.o"], room)
     objects = [room / "program.o"]
     for source in sorted(HERE.glob("*.c")):
         objects.append(room / (source.stem + ".o"))
-        run([clang, *FLAGS, *C_FLAGS, "-c", source, "-o", objects[-1]], room)
+        run([clang, *flags, *C_FLAGS, "-c", source, "-o", objects[-1]], room)
     # the toolchain's programs are one, which goes by the name that it is called by
     linker = room / "wasm-ld"
     linker.unlink(missing_ok=True)
