@@ -17,19 +17,22 @@ use Rattle.wb_gaps.specs.declared.holes.Hole.{Hole}
 use Rattle.wb_member.specs.Members.{Misses}
 use Rattle.wb_member.specs.Opened.{Opened, answered, becomes, doing, has_room_for, heard, may_ask, present, sent_by}
 use Rattle.wb_member.specs.Random.{word_of}
-use Rattle.wb_keeping.specs.Kept.{Doing, Line, Ticks, Arrives, Hears, Asks, Stops, SetsDistance, Tunes, Says, Transition, and_then, answers, asks_pages, distance_in, draws_it, end, ends_full, hears, hears_session, hears_some, hears_state, is_begun, is_unasked, learned, measures, near_names, of_other, own_echo, own_marks, paid_for, performs, reports, reports_due, reports_rest, room_lines, state_of, still, stops_one, takes, takes_question, timed, told_names, turn, turn_to, want, want_near, want_told, hears_request, lending}
-use Rattle.wb_keeping.specs.Distances.{bounded, unknown}
+use Rattle.wb_policy.specs.Choices.{distance_in, near_names, own_echo, own_marks, told_names}
+use Rattle.wb_keeping.specs.Kept.{Doing, Line, Ticks, Arrives, Hears, Asks, Stops, SetsDistance, Tunes, Says, Transition, and_then, answers, asks_pages, draws_it, end, ends_full, hears, hears_session, hears_some, hears_state, is_begun, is_unasked, learned, measures, of_other, paid_for, performs, reports, reports_due, reports_rest, room_lines, state_of, still, stops_one, takes, takes_question, timed, turn, turn_to, want, want_near, want_told, hears_request, lending}
+use Rattle.wb_policy.specs.Distances.{bounded}
+use Rattle.wb_policy.specs.declared.limits.TheConstants.{UNKNOWN_DISTANCE}
 use Rattle.wb_keeping.specs.Performing.{Keeping, after_line, after_lines, after_saying, said, said_where, sees, sent_by_line}
-use Rattle.wb_keeping.specs.Policy.{Policy, View, after_answer, after_question, after_state, after_taking_up, after_turn, after_wanting, holds, in_next_round, is_asked, is_full, level, is_known}
-use Rattle.wb_keeping.specs.Questions.{is_due, is_to_answer}
+use Rattle.wb_policy.specs.Policy.{Policy, after_answer, after_question, after_state, after_taking_up, after_turn, after_wanting, in_next_round}
+use Rattle.wb_keeping.specs.Views.{View, holds, is_asked, is_full, level, is_known}
+use Rattle.wb_policy.specs.Questions.{is_due, is_to_answer}
 use Rattle.wb_keeping.specs.Refusing.{back_in_time, drawing_fault, is_unknown_of_ours, waits_fault}
-use Rattle.wb_keeping.specs.Reports.{rest_after}
-use Rattle.wb_keeping.specs.Turns.{name_in, nowhere}
-use Rattle.wb_keeping.specs.Wanting.{giving_way, is_wanted}
+use Rattle.wb_policy.specs.Reports.{rest_after}
+use Rattle.wb_policy.specs.Turns.{name_in, nowhere}
+use Rattle.wb_policy.specs.Wanting.{giving_way, is_wanted}
 use Rattle.wb_keeper.specs.declared.keep_fault.KeepFault.TheVariants.{BackInTime}
 use Rattle.wb_keeping.specs.declared.kept_fault.KeptFault.{KeptFault}
 use Rattle.wb_keeping.specs.declared.kept_fault.KeptFault.TheVariants as kept_faults
-use Rattle.wb_keeping.specs.declared.wanting.AskedName.{AskedName}
+use Rattle.wb_policy.specs.declared.wanting.AskedName.{AskedName}
 use Rattle.wb_commands.specs.SentLines.{send_line, sends_text}
 use Rattle.wb_dialog.specs.Dialog.{after, answer_at, goes_out, said_text, speaker}
 use Rattle.wb_dialog.specs.Doing.{text_of}
@@ -87,7 +90,7 @@ module _ (n : ℕ) where
     at (Some a) = (tt, tt)
 
   own_lending : (source distance usual : ℕ) (line : Line) → AllOwn n (line ∷ []) → AllOwn n (lending source distance usual line)
-  own_lending source distance usual line own = own_lines n (nat_eq distance unknown) (SetsDistance source usual ∷ line ∷ SetsDistance source unknown ∷ []) (line ∷ []) (tt, (own.0, (tt, tt))) own
+  own_lending source distance usual line own = own_lines n (nat_eq distance UNKNOWN_DISTANCE) (SetsDistance source usual ∷ line ∷ SetsDistance source UNKNOWN_DISTANCE ∷ []) (line ∷ []) (tt, (own.0, (tt, tt))) own
 
   own_want : (name : NameValue) (anew : Bool) → Owns n (want name anew)
   own_want name anew see p same =

@@ -7,7 +7,7 @@ use Rattle.wb_member.specs.Holding.{IsOpenAt, MemberValue}
 use Rattle.wb_member.specs.Opened.{Opened, next_due, present}
 use Rattle.wb_keeping.specs.Kept.{Transition}
 use Rattle.wb_keeping.specs.Performing.{IsKeptAt, Keeping, KeptValue, after_doing, due as kept_due, sent_by_doing}
-use Rattle.wb_keeping.specs.Policy.{begun}
+use Rattle.wb_policy.specs.Policy.{begun}
 use Rattle.wb_keeping.specs.Refusing.{IsRefusedBy}
 use Rattle.wb_keeping.specs.declared.kept_fault.KeptFault.{KeptFault}
 use Rattle.wb_keeping.specs.declared.kept_fault.KeptFault.TheVariants as kept_faults

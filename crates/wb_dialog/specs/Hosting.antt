@@ -13,7 +13,7 @@ use Rattle.wb_recovery.specs.declared.tuning.Tuning.{Tuning}
 use Rattle.wb_member.specs.Opened.{Opened, next_due, present}
 use Rattle.wb_keeping.specs.Kept.{Transition, Tunes, adds, came, performs, ticks}
 use Rattle.wb_keeping.specs.Performing.{Keeping, after_doing, due as kept_due, sent_by_doing}
-use Rattle.wb_keeping.specs.Policy.{begun}
+use Rattle.wb_policy.specs.Policy.{begun}
 use Rattle.wb_keeping.specs.Refusing.{add_fault, came_as, came_fault, drawn_as, tick_fault}
 use Rattle.wb_keeping.specs.declared.kept_fault.KeptFault.{KeptFault}
 use Rattle.wb_keeping.specs.declared.kept_fault.KeptFault.TheVariants as kept_faults

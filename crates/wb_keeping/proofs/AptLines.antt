@@ -16,12 +16,15 @@ use Rattle.wb_keeper.specs.Keeper.{delay_given, distance_by, newest}
 use Rattle.wb_member.specs.Judged.{delay}
 use Rattle.wb_member.specs.Opened.{Opened, has_room_for, heard, may_ask, opened_with, present}
 use Rattle.wb_keeping.specs.Bounds.{new_keeping}
-use Rattle.wb_keeping.specs.Distances.{bounded, known, unknown, usual_with}
-use Rattle.wb_keeping.specs.Kept.{Arrives, Asks, Doing, Hears, Line, Says, SetsDistance, Stops, Ticks, Tunes, distance_in, measures, own_echo, still, want}
+use Rattle.wb_policy.specs.Distances.{bounded, known, usual_with}
+use Rattle.wb_policy.specs.declared.limits.TheConstants.{UNKNOWN_DISTANCE}
+use Rattle.wb_policy.specs.Choices.{distance_in, own_echo}
+use Rattle.wb_keeping.specs.Kept.{Arrives, Asks, Doing, Hears, Line, Says, SetsDistance, Stops, Ticks, Tunes, measures, still, want}
 use Rattle.wb_keeping.specs.Laws.{AreTaken, KeptLine, expand}
 use Rattle.wb_keeping.specs.Performing.{Keeping, after_doing, after_line, after_lines, sees, view_of}
-use Rattle.wb_keeping.specs.Policy.{Policy, after_wanting, holds, is_full, level, with_distance, is_known}
-use Rattle.wb_keeping.specs.Wanting.{is_wanted}
+use Rattle.wb_policy.specs.Policy.{Policy, after_wanting, with_distance}
+use Rattle.wb_keeping.specs.Views.{holds, is_full, level, is_known}
+use Rattle.wb_policy.specs.Wanting.{is_wanted}
 use Rattle.wb_keeping.proofs.EachStep.{HoldsOfParts, all_parts_hold, doing, having, having_done}
 use Rattle.wb_keeping.proofs.Performed.{after_both}
 use Rattle.wb_keeping.proofs.SpacedLines.{AreApt, IsSpacedHost, either_host, missing, tick_spaced}
@@ -91,7 +94,7 @@ wanted_safe : (name : NameValue) (anew : Bool) (k : Keeping) → 10000 ≤ k.pol
     → IsSafe (lines_wanted name anew (sees k.host) k.policy) k.host
 wanted_safe name anew k long = all_safe (lines_wanted name anew (sees k.host) k.policy) k.host
     (wanted_each IsSafeLine stops_safe name (λ host far. ((far name.source, tt), asks_far name host far)) anew (sees k.host) k.policy
-    (λ host far. ((tt, tt), sets_far name.source k.policy.usual host long far)) (λ host far. ((tt, tt), sets_far name.source unknown host (omega arith) far)))
+    (λ host far. ((tt, tt), sets_far name.source k.policy.usual host long far)) (λ host far. ((tt, tt), sets_far name.source UNKNOWN_DISTANCE host (omega arith) far)))
 
 -- ---- each step
 
@@ -144,8 +147,8 @@ own_told me now (e ∷ echoes) = by (nat_eq e.source me) refl (own_told me now e
 bounded_long : (micros : ℕ) → 10000 ≤ bounded micros
 bounded_long micros = by (min (max micros 10000) 1000000) (omega arith) where
   by : (m : ℕ) → 10000 ≤ m → 10000 ≤ known m
-  by m le = either (nat_eq m unknown) where
-    either : (b : Bool) → 10000 ≤ cond b (unknown + 1) m
+  by m le = either (nat_eq m UNKNOWN_DISTANCE) where
+    either : (b : Bool) → 10000 ≤ cond b (UNKNOWN_DISTANCE + 1) m
     either true = omega arith
     either false = le
 
@@ -245,7 +248,7 @@ parts_keep_apt = record {
       (λ far. ((tt, tt), heard_far (PageState sender page marks) k.host (λ source. none_told (nat_eq sender k.host.is.number) (told_last source k.host) (far source)) far)) (λ u. u);
   hears_distance = λ sender sent page marks echoes k other. record { at = refl; apt = λ ready. distance_apt sender sent page marks echoes k other ready };
   lends = λ source k. record { at = refl; apt = λ ready. (((tt, tt), record { far = sets_far source k.policy.usual k.host ready.usual ready.far; usual = ready.usual })) };
-  takes_back = λ source k. safely k (SetsDistance source unknown ∷ []) k.policy (λ far. ((tt, tt), sets_far source unknown k.host (omega arith) far)) (λ u. u);
+  takes_back = λ source k. safely k (SetsDistance source UNKNOWN_DISTANCE ∷ []) k.policy (λ far. ((tt, tt), sets_far source UNKNOWN_DISTANCE k.host (omega arith) far)) (λ u. u);
   stops = λ name k full. safely k (Stops name ∷ []) k.policy (stops_safe name k.host) (λ u. u);
   tunes = λ constants k within. safely k (Tunes constants ∷ []) k.policy (λ far. ((first_constant constants within, tt), λ source. far source)) (λ u. u);
   draws = λ d k. safely k (Says (Draw d) ∷ []) k.policy (λ far. ((tt, tt), λ source. far source)) (λ u. u);

@@ -13,13 +13,13 @@ use Rattle.std.proofs.lemmas.Bool.Decides.{nat_tests}
 use Rattle.std.proofs.lemmas.List.Folds.{list_any_at}
 use Rattle.wb_member.specs.Judged.{asked_names, level as member_level}
 use Rattle.wb_member.specs.Opened.{Opened, events}
-use Rattle.wb_keeping.specs.Policy.{level}
+use Rattle.wb_keeping.specs.Views.{level}
 use Rattle.wb_recovery.specs.declared.timers.AskTimer.{AskTimer}
 use Rattle.wb_recovery.specs.declared.timers.Timers.{Timers}
 use Rattle.wb_keeper.specs.GivingUp.{level as level_in}
 use Rattle.wb_keeping.specs.Kept.{Line, Stops}
 use Rattle.wb_keeping.specs.Performing.{asked_name, asked_with, view_of}
-use Rattle.wb_keeping.specs.declared.wanting.AskedName.{AskedName}
+use Rattle.wb_policy.specs.declared.wanting.AskedName.{AskedName}
 
 abbrev pub is_of : NameValue → AskedName → Bool
 is_of x a = same_name a.name x

@@ -8,14 +8,17 @@ use Rattle.wb_codec.specs.declared.datagram.Datagram.TheVariants.{Session, AskPa
 use Rattle.wb_gaps.specs.Answers.{pages_of, report_of}
 use Rattle.wb_gaps.specs.Holes.{hole_after}
 use Rattle.wb_gaps.specs.declared.holes.Hole.{Hole}
-use Rattle.wb_keeping.specs.Distances.{bounded, unknown}
-use Rattle.wb_keeping.specs.Kept.{Asks, Doing, Line, Says, SetsDistance, Stops, Transition, and_then, answers, asks_pages, end, ends_full, is_begun, is_unasked, learned, measures, paid_for, reports, reports_due, reports_rest, room_lines, state_of, still, stops_one, timed, turn, turn_to, want, want_near, want_told, Arrives, Hears, distance_in, hears, hears_session, hears_some, hears_state, of_other, own_echo, own_marks, performs, takes, takes_question, told_names, lending, hears_request}
-use Rattle.wb_keeping.specs.Policy.{Policy, View, after_answer, after_question, after_turn, after_wanting, in_next_round, is_asked, is_full, after_state, after_taking_up, holds}
-use Rattle.wb_keeping.specs.Questions.{is_due, is_to_answer}
-use Rattle.wb_keeping.specs.Reports.{rest_after, slice_after}
-use Rattle.wb_keeping.specs.Turns.{name_in, nowhere}
-use Rattle.wb_keeping.specs.Wanting.{giving_way}
-use Rattle.wb_keeping.specs.declared.wanting.AskedName.{AskedName}
+use Rattle.wb_policy.specs.Distances.{bounded}
+use Rattle.wb_policy.specs.declared.limits.TheConstants.{UNKNOWN_DISTANCE}
+use Rattle.wb_policy.specs.Choices.{distance_in, own_echo, own_marks, told_names}
+use Rattle.wb_keeping.specs.Kept.{Asks, Doing, Line, Says, SetsDistance, Stops, Transition, and_then, answers, asks_pages, end, ends_full, is_begun, is_unasked, learned, measures, paid_for, reports, reports_due, reports_rest, room_lines, state_of, still, stops_one, timed, turn, turn_to, want, want_near, want_told, Arrives, Hears, hears, hears_session, hears_some, hears_state, of_other, performs, takes, takes_question, lending, hears_request}
+use Rattle.wb_policy.specs.Policy.{Policy, after_answer, after_question, after_turn, after_wanting, in_next_round, after_state, after_taking_up}
+use Rattle.wb_keeping.specs.Views.{View, is_asked, is_full, holds}
+use Rattle.wb_policy.specs.Questions.{is_due, is_to_answer}
+use Rattle.wb_policy.specs.Reports.{rest_after}
+use Rattle.wb_policy.specs.Turns.{name_in, nowhere}
+use Rattle.wb_policy.specs.Wanting.{giving_way}
+use Rattle.wb_policy.specs.declared.wanting.AskedName.{AskedName}
 use Rattle.wb_keeping.proofs.Wanted.{is_wanted_here, lacks_here, lines_wanted, near_here, with_room_done}
 use Rattle.wb_codec.specs.declared.datagram.Datagram.{Datagram}
 
@@ -53,15 +56,15 @@ module _ (P : Line → Type 0) where
     by false = one_each stops (giving_way v.asked)
 
   -- a line to which the usual distance is lent
-  pub lent_each : (source distance usual : ℕ) (line : Line) → P (SetsDistance source usual) → P line → P (SetsDistance source unknown)
+  pub lent_each : (source distance usual : ℕ) (line : Line) → P (SetsDistance source usual) → P line → P (SetsDistance source UNKNOWN_DISTANCE)
       → Each P (lending source distance usual line)
-  lent_each source distance usual line lends is takes = by (nat_eq distance unknown) where
-    by : (b : Bool) → Each P (cond b (SetsDistance source usual ∷ line ∷ SetsDistance source unknown ∷ []) (line ∷ []))
+  lent_each source distance usual line lends is takes = by (nat_eq distance UNKNOWN_DISTANCE) where
+    by : (b : Bool) → Each P (cond b (SetsDistance source usual ∷ line ∷ SetsDistance source UNKNOWN_DISTANCE ∷ []) (line ∷ []))
     by true = (lends, (is, (takes, tt)))
     by false = (is, tt)
 
   pub wanted_each : ((name : NameValue) → P (Stops name)) → (name : NameValue) → P (Asks name) → (anew : Bool) (see : List Line → View) (p : Policy)
-      → P (SetsDistance name.source p.usual) → P (SetsDistance name.source unknown) → Each P (lines_wanted name anew see p)
+      → P (SetsDistance name.source p.usual) → P (SetsDistance name.source UNKNOWN_DISTANCE) → Each P (lines_wanted name anew see p)
   wanted_each stops name asks anew see p lends takes =
       let v = see [] in
       each_both (room_lines name v) (lending name.source (v.distance name.source) p.usual (Asks name)) (room_each stops name v)
@@ -89,7 +92,7 @@ module _ (P : Line → Type 0) (is : OfPolicy P) where
   pub want_each : (name : NameValue) (anew : Bool) → DoesEach P (want name anew)
   want_each name anew see p =
       choose P (is_wanted_here name anew see p) (record { policy = after_wanting (see []).now p; lines = lines_wanted name anew see p }) (still see p)
-      (wanted_each P is.stops name (is.asks name) anew see p (is.sets name.source p.usual) (is.sets name.source unknown)) tt
+      (wanted_each P is.stops name (is.asks name) anew see p (is.sets name.source p.usual) (is.sets name.source UNKNOWN_DISTANCE)) tt
 
   pub told_each : (names : List NameValue) → DoesEach P (want_told names)
   told_each [] see p = tt
@@ -202,7 +205,7 @@ module _ (P : Line → Type 0) (is : OfPolicy P) (heard : (v : Datagram) → P (
   request_each asker name see p =
       let v = see [] in
       let source = cond (holds v name) asker name.source in
-      lent_each P source (v.distance source) p.usual (Hears (Request asker name)) (is.sets source p.usual) (heard (Request asker name)) (is.sets source unknown)
+      lent_each P source (v.distance source) p.usual (Hears (Request asker name)) (is.sets source p.usual) (heard (Request asker name)) (is.sets source UNKNOWN_DISTANCE)
 
   question_each : DoesEach P takes_question
   question_each see p =

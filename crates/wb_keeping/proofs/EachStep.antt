@@ -13,20 +13,23 @@ use Rattle.wb_gaps.specs.Holes.{hole_after}
 use Rattle.wb_gaps.specs.declared.holes.Hole.{Hole}
 use Rattle.wb_keeper.specs.declared.keep_fault.KeepFault.TheVariants.{BackInTime, Range}
 use Rattle.wb_member.specs.Opened.{Opened, present}
-use Rattle.wb_keeping.specs.Distances.{bounded, unknown}
+use Rattle.wb_policy.specs.Distances.{bounded}
+use Rattle.wb_policy.specs.declared.limits.TheConstants.{UNKNOWN_DISTANCE}
 use Rattle.wb_recovery.specs.Timing.{are_constants}
 use Rattle.wb_recovery.specs.declared.tuning.Tuning.{Tuning}
-use Rattle.wb_keeping.specs.Kept.{Arrives, Doing, Hears, Line, Says, SetsDistance, Tunes, Stops, Ticks, Transition, and_then, answers, asks_pages, distance_in, draws_it, drawing, end, ends_full, hears, hears_session, hears_some, hears_state, is_begun, is_unasked, learned, measures, own_echo, own_marks, performs, reports, reports_due, reports_page, reports_rest, state_of, still, takes, takes_question, timed, told_names, turn, turn_to, want, want_near, want_told, until_in, hears_request}
+use Rattle.wb_policy.specs.Choices.{distance_in, own_echo, own_marks, told_names, until_in}
+use Rattle.wb_keeping.specs.Kept.{Arrives, Doing, Hears, Line, Says, SetsDistance, Tunes, Stops, Ticks, Transition, and_then, answers, asks_pages, draws_it, drawing, end, ends_full, hears, hears_session, hears_some, hears_state, is_begun, is_unasked, learned, measures, performs, reports, reports_due, reports_page, reports_rest, state_of, still, takes, takes_question, timed, turn, turn_to, want, want_near, want_told, hears_request}
 use Rattle.wb_keeping.specs.Laws.{Added, AreTaken, Came, KeptLine, Ticked, Tuned, after_kept, doing_of, expand, fault_of}
 use Rattle.wb_keeping.specs.Performing.{Keeping, after_doing, after_line, after_lines, sees, view_of}
-use Rattle.wb_keeping.specs.Policy.{Policy, View, after_answer, after_came, after_question, after_state, after_taking_up, after_turn, holds, in_next_round, is_asked, is_full, with_distance}
-use Rattle.wb_keeping.specs.Questions.{is_due, is_to_answer}
-use Rattle.wb_keeping.specs.Reports.{is_telling, page_after, rest_after, slice_after}
-use Rattle.wb_keeping.specs.Turns.{name_in, nowhere}
+use Rattle.wb_policy.specs.Policy.{Policy, after_answer, after_came, after_question, after_state, after_taking_up, after_turn, in_next_round, with_distance}
+use Rattle.wb_keeping.specs.Views.{View, holds, is_asked, is_full}
+use Rattle.wb_policy.specs.Questions.{is_due, is_to_answer}
+use Rattle.wb_policy.specs.Reports.{is_telling, page_after, rest_after, slice_after}
+use Rattle.wb_policy.specs.Turns.{name_in, nowhere}
 use Rattle.wb_keeping.specs.declared.kept_fault.KeptFault.{KeptFault}
 use Rattle.wb_keeping.specs.declared.kept_fault.KeptFault.TheVariants.{Host}
-use Rattle.wb_keeping.specs.declared.turns.Turns.{Turns}
-use Rattle.wb_keeping.specs.declared.wanting.AskedName.{AskedName}
+use Rattle.wb_policy.specs.declared.turns.Turns.{Turns}
+use Rattle.wb_policy.specs.declared.wanting.AskedName.{AskedName}
 use Rattle.wb_keeping.proofs.Performed.{after_both, seen_then}
 use Rattle.wb_keeping.proofs.Wanted.{lacks_here, near_here, with_room_done}
 
@@ -68,7 +71,7 @@ pub record HoldsOfSteps (R : Keeping → List Line → Keeping → Type 0) : Typ
   pub stops : (name : NameValue) (k : Keeping) → is_full (view_of k.host) ≡ true → R k (Stops name ∷ []) (having (Stops name) k)
   pub sets : (source micros : ℕ) (k : Keeping) → R k (SetsDistance source (bounded micros) ∷ []) (having (SetsDistance source (bounded micros)) k)
   pub lends : (source : ℕ) (k : Keeping) → R k (SetsDistance source k.policy.usual ∷ []) (having (SetsDistance source k.policy.usual) k)
-  pub takes_back : (source : ℕ) (k : Keeping) → R k (SetsDistance source unknown ∷ []) (having (SetsDistance source unknown) k)
+  pub takes_back : (source : ℕ) (k : Keeping) → R k (SetsDistance source UNKNOWN_DISTANCE ∷ []) (having (SetsDistance source UNKNOWN_DISTANCE) k)
   pub tunes : (constants : Tuning) (k : Keeping) → are_constants constants ≡ true → R k (Tunes constants ∷ []) (having (Tunes constants) k)
   pub draws : (d : DrawopValue) (k : Keeping) → R k (Says (Draw d) ∷ []) (having (Says (Draw d)) k)
   pub measured : (micros : ℕ) (k : Keeping) → R k [] (with_policy (with_distance micros k.policy) k)
@@ -83,7 +86,7 @@ pub record HoldsOfParts (R : Keeping → List Line → Keeping → Type 0) : Typ
   pub answered : (d : DrawopValue) (k : Keeping) → holds (view_of k.host) d.name ≡ false → is_asked (view_of k.host) d.name ≡ true → R k (Arrives d ∷ []) (with_policy (after_came k.policy) (having (Arrives d) k))
   pub hears_request : (asker : ℕ) (name : NameValue) (k : Keeping) → R k (Hears (Request asker name) ∷ []) (having (Hears (Request asker name)) k)
   pub lends : (source : ℕ) (k : Keeping) → R k (SetsDistance source k.policy.usual ∷ []) (having (SetsDistance source k.policy.usual) k)
-  pub takes_back : (source : ℕ) (k : Keeping) → R k (SetsDistance source unknown ∷ []) (having (SetsDistance source unknown) k)
+  pub takes_back : (source : ℕ) (k : Keeping) → R k (SetsDistance source UNKNOWN_DISTANCE ∷ []) (having (SetsDistance source UNKNOWN_DISTANCE) k)
   pub hears_marks : (sender : ℕ) (page : PageId) (marks : List MarkValue) (k : Keeping) → R k (Hears (PageState sender page marks) ∷ []) (having (Hears (PageState sender page marks)) k)
   pub hears_distance : (sender sent : ℕ) (page : PageId) (marks : List MarkValue) (echoes : List Echo) (k : Keeping) → nat_eq sender k.host.is.number ≡ false
       → let echo = own_echo k.host.is.number echoes in
@@ -319,20 +322,20 @@ module _ (R : Keeping → List Line → Keeping → Type 0) (is : HoldsOfParts R
       (λ takes. is.takes_up k takes) (λ not_taken. is.due.nothing k)
 
   request_holds : (asker : ℕ) (name : NameValue) → Holds R (hears_request asker name)
-  request_holds asker name k = by (nat_eq ((view_of k.host).distance source) unknown) where
+  request_holds asker name k = by (nat_eq ((view_of k.host).distance source) UNKNOWN_DISTANCE) where
     source : ℕ
     source = cond (holds (view_of k.host) name) asker name.source
 
     v : Datagram
     v = Request asker name
 
-    by : (b : Bool) → HoldsOf R k (doing k.policy (cond b (SetsDistance source k.policy.usual ∷ Hears v ∷ SetsDistance source unknown ∷ []) (Hears v ∷ [])))
+    by : (b : Bool) → HoldsOf R k (doing k.policy (cond b (SetsDistance source k.policy.usual ∷ Hears v ∷ SetsDistance source UNKNOWN_DISTANCE ∷ []) (Hears v ∷ [])))
     by true =
         let one = having (SetsDistance source k.policy.usual) k in
         let two = having (Hears v) one in
-        let three = having (SetsDistance source unknown) two in
-        is.due.both k one three (SetsDistance source k.policy.usual ∷ []) (Hears v ∷ SetsDistance source unknown ∷ []) (is.lends source k)
-        (is.due.both one two three (Hears v ∷ []) (SetsDistance source unknown ∷ []) (is.hears_request asker name one) (is.takes_back source two))
+        let three = having (SetsDistance source UNKNOWN_DISTANCE) two in
+        is.due.both k one three (SetsDistance source k.policy.usual ∷ []) (Hears v ∷ SetsDistance source UNKNOWN_DISTANCE ∷ []) (is.lends source k)
+        (is.due.both one two three (Hears v ∷ []) (SetsDistance source UNKNOWN_DISTANCE ∷ []) (is.hears_request asker name one) (is.takes_back source two))
     by false = is.hears_request asker name k
 
   of_other_holds : (sender : ℕ) (does : Transition) (k : Keeping) → (nat_eq sender k.host.is.number ≡ false → HoldsAt R does k) → HoldsOf R k (cond (nat_eq sender k.host.is.number) (still (sees k.host) k.policy) (does (sees k.host) k.policy))

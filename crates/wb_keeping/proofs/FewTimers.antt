@@ -11,13 +11,14 @@ use Rattle.wb_recovery.specs.declared.tuning.Tuning.{Tuning}
 use Rattle.wb_member.specs.Judged.{asked_names}
 use Rattle.wb_member.specs.Opened.{Opened, events, opened_with, present}
 use Rattle.wb_keeping.specs.Bounds.{FewRequestsAtOnce, FewTimersStand, is_ask, new_keeping, timer_count}
-use Rattle.wb_keeping.specs.Distances.{unknown}
+use Rattle.wb_policy.specs.declared.limits.TheConstants.{UNKNOWN_DISTANCE}
 use Rattle.wb_keeping.specs.Kept.{Asks, Line, Stops, Ticks, room_lines, still, stops_one, want, lending, SetsDistance}
 use Rattle.wb_keeping.specs.Laws.{AreTaken, KeptLine, expand}
 use Rattle.wb_keeping.specs.Performing.{Keeping, after_line, after_lines, sees, view_of}
-use Rattle.wb_keeping.specs.Policy.{Policy, after_wanting, holds, is_asked, is_full, level, is_known}
-use Rattle.wb_keeping.specs.Wanting.{gives_way, giving_way, is_old, is_wanted, older}
-use Rattle.wb_keeping.specs.declared.wanting.AskedName.{AskedName}
+use Rattle.wb_policy.specs.Policy.{Policy, after_wanting}
+use Rattle.wb_keeping.specs.Views.{holds, is_asked, is_full, level, is_known}
+use Rattle.wb_policy.specs.Wanting.{gives_way, giving_way, is_old, is_wanted, older}
+use Rattle.wb_policy.specs.declared.wanting.AskedName.{AskedName}
 use Rattle.wb_keeping.proofs.AskedTimers.{count_seen, named}
 use Rattle.wb_keeping.proofs.EachStep.{HoldsOfSteps, all_hold, doing}
 use Rattle.wb_keeping.proofs.Performed.{after_both}
@@ -71,14 +72,14 @@ asks_one : (name : NameValue) (host : Opened) → timer_count host ≤ 63 → (t
 asks_one name host few = let le = one_more name host in (omega (arith, few), omega (arith, le, few))
 
 lent_few : (source distance usual : ℕ) (name : NameValue) (host : Opened) → timer_count host ≤ 63 → AreFew (lending source distance usual (Asks name)) host
-lent_few source distance usual name host few = by (nat_eq distance unknown) where
-  by : (b : Bool) → AreFew (cond b (SetsDistance source usual ∷ Asks name ∷ SetsDistance source unknown ∷ []) (Asks name ∷ [])) host
+lent_few source distance usual name host few = by (nat_eq distance UNKNOWN_DISTANCE) where
+  by : (b : Bool) → AreFew (cond b (SetsDistance source usual ∷ Asks name ∷ SetsDistance source UNKNOWN_DISTANCE ∷ []) (Asks name ∷ [])) host
   by false = asks_one name host few
   by true =
       let one = after_line (SetsDistance source usual) host in
       let less = no_more (SetsDistance source usual) host refl in
       let asks = asks_one name one (omega (arith, less, few)) in
-      let then = no_more (SetsDistance source unknown) (after_line (Asks name) one) refl in
+      let then = no_more (SetsDistance source UNKNOWN_DISTANCE) (after_line (Asks name) one) refl in
       let last = asks.1 in
       (omega (arith, few), (asks.0, (asks.1, omega (arith, then, last))))
 

@@ -1,22 +1,17 @@
 -- The lines of a kept host.
-use Rattle.std.proofs.Common.{◌≡◌, ◌⊎◌, Bool, true, false, cond, [], arith, filter, inl, inr, refl, sym, true≢false}
+use Rattle.std.proofs.Common.{◌≡◌, ◌⊎◌, Bool, true, false, cond, [], inl, inr, refl, sym, true≢false}
 use Rattle.std.specs.Prelude.{IsTrue, not, ◌&&◌, ◌||◌}
-use Rattle.std.proofs.lemmas.List.{length-take}
-use Rattle.wb_names.specs.Values.{MarkValue}
 use Rattle.wb_keeping.specs.Kept.{Doing}
-use Rattle.wb_keeping.specs.Laws.{NothingIsDue, SlicesAreShort, TimeComesFirst, WantedIsPaid}
-use Rattle.wb_keeping.specs.Policy.{Policy, holds, is_full, level, is_known}
-use Rattle.wb_keeping.specs.Wanting.{goes_on, is_paid, is_wanted}
-use Rattle.wb_keeping.specs.Reports.{is_untold}
+use Rattle.wb_keeping.specs.Laws.{NothingIsDue, TimeComesFirst, WantedIsPaid}
+use Rattle.wb_policy.specs.Policy.{Policy}
+use Rattle.wb_keeping.specs.Views.{holds, is_full, level, is_known}
+use Rattle.wb_policy.specs.Wanting.{goes_on, is_paid, is_wanted}
 
 pub time_comes_first : TimeComesFirst
 time_comes_first now v see p = (_, refl)
 
 pub nothing_is_due : NothingIsDue
 nothing_is_due now see p answer ask report = simp (answer, ask, report)
-
-pub slices_are_short : SlicesAreShort
-slices_are_short told marks = let few = length-take 64 (filter (λ (m : MarkValue). is_untold told m.source) marks) in omega arith
 
 -- ---- what is wanted
 

@@ -7,7 +7,8 @@ use Rattle.wb_member.specs.Holding.{IsOpenAt, MemberValue}
 use Rattle.wb_member.specs.Opened.{Opened}
 use Rattle.wb_keeping.specs.Kept.{Doing, Line, Transition, and_then, is_begun, is_unasked, still, want, want_near, want_told}
 use Rattle.wb_keeping.specs.Performing.{Does, DoesQuietly, IsKeptAt, Keeping, KeptValue, LeavesSome, after_doing, after_lines, sees, view_of}
-use Rattle.wb_keeping.specs.Policy.{Policy, View}
+use Rattle.wb_policy.specs.Policy.{Policy}
+use Rattle.wb_keeping.specs.Views.{View}
 use Rattle.wb_keeping.proofs.Performed.{after_both, seen_then}
 use Rattle.wb_keeping.proofs.OneByOne.{at_next, begun_first, ended_by, passed_by}
 

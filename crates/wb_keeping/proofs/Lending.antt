@@ -3,19 +3,19 @@ use Rattle.std.proofs.Common.{◌≡◌, ℕ, Bool, true, false, cond, List, [],
 use Rattle.std.specs.Prelude.{nat_eq}
 use Rattle.wb_names.specs.Values.{NameValue}
 use Rattle.wb_codec.specs.declared.datagram.Datagram.TheVariants.{Request}
-use Rattle.wb_keeping.specs.Distances.{unknown}
+use Rattle.wb_policy.specs.declared.limits.TheConstants.{UNKNOWN_DISTANCE}
 use Rattle.wb_keeping.specs.Kept.{Doing, Hears, Line, SetsDistance, hears_request, lending, of_other, still}
 use Rattle.wb_keeping.specs.Performing.{Keeping, sees, view_of}
-use Rattle.wb_keeping.specs.Policy.{holds}
+use Rattle.wb_keeping.specs.Views.{holds}
 use Rattle.wb_keeping.specs.Steps.{back_lines, lends_for, lent_at, set_lines}
 
 -- what is lent is what the lines say
 pub lent_is : (source distance usual : ℕ) (line : Line) → set_lines source (lent_at distance usual) ++ (line ∷ back_lines source (lent_at distance usual)) ≡ lending source distance usual line
-lent_is source distance usual line = by (nat_eq distance unknown) where
+lent_is source distance usual line = by (nat_eq distance UNKNOWN_DISTANCE) where
   given : Bool → Option ℕ
   given b = cond b (Some usual) None
 
-  by : (b : Bool) → set_lines source (given b) ++ (line ∷ back_lines source (given b)) ≡ cond b (SetsDistance source usual ∷ line ∷ SetsDistance source unknown ∷ []) (line ∷ [])
+  by : (b : Bool) → set_lines source (given b) ++ (line ∷ back_lines source (given b)) ≡ cond b (SetsDistance source usual ∷ line ∷ SetsDistance source UNKNOWN_DISTANCE ∷ []) (line ∷ [])
   by true = refl
   by false = refl
 

@@ -14,20 +14,23 @@ use Rattle.wb_member.specs.Members.{Misses}
 use Rattle.wb_member.specs.Opened.{Opened, doing as doing_act, has_room_for, heard, may_ask, present}
 use Rattle.wb_member.specs.Random.{word_of}
 use Rattle.wb_keeping.specs.Bounds.{FewNamesAreAsked, LittleIsSaid, answer_count, ask_count, is_ask, is_question, is_report, is_state}
-use Rattle.wb_keeping.specs.Credit.{has_credit}
-use Rattle.wb_keeping.specs.Distances.{bounded, unknown}
-use Rattle.wb_keeping.specs.Kept.{Arrives, Asks, Doing, Hears, Line, Says, SetsDistance, Tunes, Stops, Ticks, last_heard, reports_page, room_lines, state_of, still, want, lending}
+use Rattle.wb_policy.specs.Credit.{has_credit}
+use Rattle.wb_policy.specs.Distances.{bounded}
+use Rattle.wb_policy.specs.declared.limits.TheConstants.{UNKNOWN_DISTANCE}
+use Rattle.wb_policy.specs.Choices.{last_heard}
+use Rattle.wb_keeping.specs.Kept.{Arrives, Asks, Doing, Hears, Line, Says, SetsDistance, Tunes, Stops, Ticks, reports_page, room_lines, state_of, still, want, lending}
 use Rattle.wb_keeping.specs.Laws.{AreTaken, KeptLine, after_kept, expand}
 use Rattle.wb_keeping.specs.Performing.{Keeping, after_doing, after_line, after_lines, sees, view_of}
-use Rattle.wb_keeping.specs.Policy.{Policy, View, after_answer, after_came, after_question, after_state, after_taking_up, after_wanting, draws, holds, is_asked, is_full, level, is_known}
-use Rattle.wb_keeping.specs.Questions.{answered_at, heard_at, is_due, is_to_answer, to_answer}
-use Rattle.wb_keeping.specs.Reports.{mean_time, members_in, slice_after}
-use Rattle.wb_keeping.specs.Wanting.{goes_on, is_paid, is_wanted}
-use Rattle.wb_keeping.specs.declared.questions.Questions.{Questions}
+use Rattle.wb_policy.specs.Policy.{Policy, after_answer, after_came, after_question, after_state, after_taking_up, after_wanting, draws}
+use Rattle.wb_keeping.specs.Views.{View, holds, is_asked, is_full, level, is_known}
+use Rattle.wb_policy.specs.Questions.{answered_at, heard_at, is_due, is_to_answer, to_answer}
+use Rattle.wb_policy.specs.Reports.{mean_time, members_in, slice_after}
+use Rattle.wb_policy.specs.Wanting.{goes_on, is_paid, is_wanted}
+use Rattle.wb_policy.specs.declared.questions.Questions.{Questions}
 use Rattle.wb_keeping.proofs.EachStep.{HoldsOfSteps, all_hold, doing, having, having_done, with_policy}
 use Rattle.wb_keeping.proofs.KeptLines.{all_hold as all_four}
 use Rattle.wb_keeping.proofs.Performed.{after_both}
-use Rattle.wb_keeping.proofs.Spending.{IsPaid, has_place, one_asked, one_came}
+use Rattle.wb_policy.proofs.Spending.{IsPaid, has_place, one_asked, one_came}
 use Rattle.wb_keeping.proofs.EachLine.{Each, room_each}
 use Rattle.wb_keeping.proofs.Saying.{says_after}
 
@@ -330,18 +333,18 @@ asks_keep name k credit = record {
 -- and so where a distance is lent for that
 lent_keeps : (source distance : ℕ) (name : NameValue) (k : Keeping) → IsTrue (has_credit k.policy.owed (present k.host))
     → Keeps k (lending source distance k.policy.usual (Asks name)) (having_done (doing (after_wanting (present k.host) k.policy) (lending source distance k.policy.usual (Asks name))) k)
-lent_keeps source distance name k credit = by (nat_eq distance unknown) where
+lent_keeps source distance name k credit = by (nat_eq distance UNKNOWN_DISTANCE) where
   p : Policy
   p = after_wanting (present k.host) k.policy
 
-  by : (b : Bool) → let lines = cond b (SetsDistance source k.policy.usual ∷ Asks name ∷ SetsDistance source unknown ∷ []) (Asks name ∷ []) in Keeps k lines (having_done (doing p lines) k)
+  by : (b : Bool) → let lines = cond b (SetsDistance source k.policy.usual ∷ Asks name ∷ SetsDistance source UNKNOWN_DISTANCE ∷ []) (Asks name ∷ []) in Keeps k lines (having_done (doing p lines) k)
   by false = asks_keep name k credit
   by true =
       let one = having (SetsDistance source k.policy.usual) k in
       let two = with_policy p (having (Asks name) one) in
-      let three = having (SetsDistance source unknown) two in
-      both_keep k one three (SetsDistance source k.policy.usual ∷ []) (Asks name ∷ SetsDistance source unknown ∷ []) (plainly k (SetsDistance source k.policy.usual ∷ []) (tt, tt))
-      (both_keep one two three (Asks name ∷ []) (SetsDistance source unknown ∷ []) (asks_keep name one credit) (plainly two (SetsDistance source unknown ∷ []) (tt, tt)))
+      let three = having (SetsDistance source UNKNOWN_DISTANCE) two in
+      both_keep k one three (SetsDistance source k.policy.usual ∷ []) (Asks name ∷ SetsDistance source UNKNOWN_DISTANCE ∷ []) (plainly k (SetsDistance source k.policy.usual ∷ []) (tt, tt))
+      (both_keep one two three (Asks name ∷ []) (SetsDistance source UNKNOWN_DISTANCE ∷ []) (asks_keep name one credit) (plainly two (SetsDistance source UNKNOWN_DISTANCE ∷ []) (tt, tt)))
 
 wants_keep : (name : NameValue) (anew : Bool) (k : Keeping) → Keeps k (want name anew (sees k.host) k.policy).lines (after_doing (want name anew) k)
 wants_keep name anew k = by (is_wanted (holds v name) (is_full v) anew (is_known v name.source) (level v name) k.policy.owed (present k.host)) refl where
@@ -559,7 +562,7 @@ steps_keep = record {
   stops = λ name k full. plainly k (Stops name ∷ []) (tt, tt);
   sets = λ source micros k. plainly k (SetsDistance source (bounded micros) ∷ []) (tt, tt);
   lends = λ source k. plainly k (SetsDistance source k.policy.usual ∷ []) (tt, tt);
-  takes_back = λ source k. plainly k (SetsDistance source unknown ∷ []) (tt, tt);
+  takes_back = λ source k. plainly k (SetsDistance source UNKNOWN_DISTANCE ∷ []) (tt, tt);
   tunes = λ constants k within. plainly k (Tunes constants ∷ []) (tt, tt);
   draws = draws_keep;
   measured = λ micros k. quietly k [] _ (plain_nothing [] k.host tt) refl refl refl refl;

@@ -4,7 +4,8 @@ use Rattle.std.proofs.lemmas.List.{drop_all}
 use Rattle.wb_names.specs.Values.{NameValue}
 use Rattle.wb_keeping.specs.Kept.{Doing, Line, Stops, and_then, is_begun, is_unasked, still, want, want_near, want_told}
 use Rattle.wb_keeping.specs.Performing.{DoesQuietly, IsKeptAt, Keeping, KeptValue, sees, view_of}
-use Rattle.wb_keeping.specs.Policy.{Policy, View}
+use Rattle.wb_policy.specs.Policy.{Policy}
+use Rattle.wb_keeping.specs.Views.{View}
 use Rattle.wb_keeping.specs.Steps.{performs_all}
 use Rattle.wb_keeping.proofs.Performed.{quiet_as, quiet_more, quiet_then}
 use Rattle.wb_keeping.proofs.Wanted.{not_begun}

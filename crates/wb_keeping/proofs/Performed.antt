@@ -5,7 +5,8 @@ use Rattle.wb_member.specs.Holding.{IsOpenAt, MemberValue}
 use Rattle.wb_member.specs.Opened.{Opened}
 use Rattle.wb_keeping.specs.Kept.{Doing, Line, Transition, and_then, performs, still}
 use Rattle.wb_keeping.specs.Performing.{Does, DoesQuietly, IsKeptAt, Keeping, KeptValue, after_doing, after_line, after_lines, sees, sent_by_doing, sent_by_line, sent_by_lines, view_of}
-use Rattle.wb_keeping.specs.Policy.{Policy, View}
+use Rattle.wb_policy.specs.Policy.{Policy}
+use Rattle.wb_keeping.specs.Views.{View}
 use Rattle.wb_keeping.specs.Steps.{performs_all}
 
 -- ---- lines after lines

@@ -5,7 +5,7 @@ use Rattle.wb_member.specs.Opened.{Opened}
 use Rattle.wb_names.specs.declared.name.PageId.{PageId}
 use Rattle.wb_keeping.specs.Kept.{Line, Says, state_of}
 use Rattle.wb_keeping.specs.Performing.{after_lines, sent_by_lines}
-use Rattle.wb_keeping.specs.Policy.{View}
+use Rattle.wb_keeping.specs.Views.{View}
 
 abbrev pub says : View → List PageId → List Line
 says v pages = map (λ (page : PageId). Says (state_of v page)) pages

@@ -41,7 +41,7 @@ use Rattle.wb_member.specs.Random.{word_of}
 use Rattle.wb_keeping.specs.Bounds.{is_ask, is_request, timer_count}
 use Rattle.wb_keeping.specs.Kept.{Arrives, Asks, Hears, Line, Says, SetsDistance, Tunes, Stops, Ticks}
 use Rattle.wb_keeping.specs.Performing.{after_line, said_where, sent_by_line, view_of}
-use Rattle.wb_keeping.specs.Policy.{is_asked as is_asked_by}
+use Rattle.wb_keeping.specs.Views.{is_asked as is_asked_by}
 use Rattle.wb_names.specs.Arrivals.{Outcome, Fresh, Known, Clashed, Left}
 use Rattle.wb_keeping.proofs.AskedTimers.{level_seen}
 

@@ -22,12 +22,14 @@ use Rattle.wb_keeper.specs.declared.keep_fault.KeepFault.TheVariants.{BackInTime
 use Rattle.wb_member.specs.Members.{Misses}
 use Rattle.wb_member.specs.Opened.{Opened, accepted, doing, has_room_for, heard, last_number, may_ask, opened_with, present, ticked, word_at}
 use Rattle.wb_member.specs.Random.{word_of}
-use Rattle.wb_keeping.specs.Distances.{unknown}
-use Rattle.wb_keeping.specs.Kept.{Arrives, Asks, Doing, Hears, Line, Says, SetsDistance, Tunes, Stops, Ticks, Transition, and_then, distance_in, draws_it, drawing, ends_full, hears, hears_session, hears_some, hears_state, learned, measures, own_echo, own_marks, performs, still, takes, takes_question, timed, told_names, want_told, hears_request}
+use Rattle.wb_policy.specs.declared.limits.TheConstants.{UNKNOWN_DISTANCE}
+use Rattle.wb_policy.specs.Choices.{distance_in, own_echo, own_marks, told_names}
+use Rattle.wb_keeping.specs.Kept.{Arrives, Asks, Doing, Hears, Line, Says, SetsDistance, Tunes, Stops, Ticks, Transition, and_then, draws_it, drawing, ends_full, hears, hears_session, hears_some, hears_state, learned, measures, performs, still, takes, takes_question, timed, want_told, hears_request}
 use Rattle.wb_keeping.specs.Laws.{ANumberIsLeft, Added, AreTaken, Came, KeptLine, Ticked, Tuned, after_kept, doing_of, fault_of}
 use Rattle.wb_keeping.specs.Performing.{Keeping, after_doing, after_line, after_lines, sees, view_of}
-use Rattle.wb_keeping.specs.Policy.{after_state, after_taking_up, holds as holds_in, is_asked, is_full}
-use Rattle.wb_keeping.specs.Questions.{is_to_answer}
+use Rattle.wb_policy.specs.Policy.{after_state, after_taking_up}
+use Rattle.wb_keeping.specs.Views.{holds as holds_in, is_asked, is_full}
+use Rattle.wb_policy.specs.Questions.{is_to_answer}
 use Rattle.wb_keeping.specs.Refusing.{is_unknown, is_unknown_of_ours}
 use Rattle.wb_keeping.specs.declared.kept_fault.KeptFault.TheVariants.{Host, Ours}
 use Rattle.wb_keeping.proofs.Performed.{then_after}
@@ -296,18 +298,18 @@ bounded_state sender page marks k b =
     bounded_then (hears_some sender page own) third there (bounded_doing third (told_each IsQuiet are_quiet (told_names v.me page marks)) (after_doing (hears_some sender page own) there) (bounded_some sender page own there (own_below v.me (nat_lt v.now k.policy.ready) marks) b))
 
 bounded_request : (asker : ℕ) (name : NameValue) (k : Keeping) → IsBounded k.host → IsBounded (after_doing (hears_request asker name) k).host
-bounded_request asker name k b = by (nat_eq ((view_of k.host).distance source) unknown) where
+bounded_request asker name k b = by (nat_eq ((view_of k.host).distance source) UNKNOWN_DISTANCE) where
   source : ℕ
   source = cond (holds_in (view_of k.host) name) asker name.source
 
   line : Line
   line = Hears (Request asker name)
 
-  by : (lends : Bool) → IsBounded (after_lines (cond lends (SetsDistance source k.policy.usual ∷ line ∷ SetsDistance source unknown ∷ []) (line ∷ [])) k.host)
+  by : (lends : Bool) → IsBounded (after_lines (cond lends (SetsDistance source k.policy.usual ∷ line ∷ SetsDistance source UNKNOWN_DISTANCE ∷ []) (line ∷ [])) k.host)
   by true =
       let one = after_line (SetsDistance source k.policy.usual) k.host in
       let two = after_line line one in
-      bounded_line (SetsDistance source unknown) two (bounded_line line one (bounded_line (SetsDistance source k.policy.usual) k.host b (tame_quiet (SetsDistance source k.policy.usual) k.host tt)) (λ p. tt)) (tame_quiet (SetsDistance source unknown) two tt)
+      bounded_line (SetsDistance source UNKNOWN_DISTANCE) two (bounded_line line one (bounded_line (SetsDistance source k.policy.usual) k.host b (tame_quiet (SetsDistance source k.policy.usual) k.host tt)) (λ p. tt)) (tame_quiet (SetsDistance source UNKNOWN_DISTANCE) two tt)
   by false = bounded_line line k.host b (λ p. tt)
 
 bounded_hears : (v : Datagram) (k : Keeping) → is_unknown_of_ours v k.host ≡ false → IsBounded k.host → IsBounded (after_doing (hears v) k).host
@@ -320,10 +322,10 @@ bounded_hears (AskPages asker) k known b = bounded_either (nat_eq asker k.host.i
 
 -- ---- its lines
 
-none_of : (past unknown : Bool) → first_of (fault_unless past (Host BackInTime) ∷ fault_unless (not unknown) Ours ∷ []) ≡ None → unknown ≡ false
+none_of : (past UNKNOWN_DISTANCE : Bool) → first_of (fault_unless past (Host BackInTime) ∷ fault_unless (not UNKNOWN_DISTANCE) Ours ∷ []) ≡ None → UNKNOWN_DISTANCE ≡ false
 none_of true false e = refl
 none_of true true e = absurd cc
-none_of false unknown e = absurd cc
+none_of false UNKNOWN_DISTANCE e = absurd cc
 
 later_known : (v : Datagram) (now : ℕ) (host : Opened) → is_unknown_of_ours v (ticked now host) ≡ is_unknown_of_ours v host
 later_known (Draw d) now host = refl

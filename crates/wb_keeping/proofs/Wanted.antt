@@ -1,30 +1,33 @@
 -- A name that is wanted.
-use Rattle.std.proofs.Common.{◌≡◌, ℕ, suc, ◌+◌, ◌<◌, Bool, true, false, cond, List, [], ◌∷◌, ◌++◌, ◌∙◌, ap, append_assoc, arith, length, length-append, map, refl, sym, true≢false, ◌-◌}
-use Rattle.std.specs.Prelude.{Option, Some, filter, nat_le, nat_lt, nat_eq}
+use Rattle.std.proofs.Common.{◌≡◌, ℕ, ◌+◌, Bool, true, false, cond, List, [], ◌∷◌, ◌++◌, ◌∙◌, ap, arith, length, length-append, refl, sym, true≢false, ◌-◌}
+use Rattle.std.specs.Prelude.{Option, Some, filter, nat_lt, nat_eq}
 use Rattle.std.proofs.lemmas.Bool.{lt-ltb}
 use Rattle.std.proofs.lemmas.Bool.Decides.{nat_tests}
 use Rattle.wb_names.specs.Values.{NameValue}
 use Rattle.wb_names.specs.History.{highest}
 use Rattle.wb_gaps.specs.Holes.{hole_after}
 use Rattle.wb_gaps.specs.declared.holes.Hole.{Hole}
-use Rattle.wb_keeping.specs.Kept.{Asks, Doing, Line, SetsDistance, Stops, downwards, end, is_begun, is_unasked, learned, measures, near_names, paid_for, performs, room_lines, still, stops_one, turn, turn_to, want, want_near, lending}
-use Rattle.wb_keeping.specs.Distances.{bounded, unknown}
-use Rattle.wb_keeping.specs.Policy.{Policy, View, after_wanting, holds, is_asked, is_full, level, with_distance, is_known}
+use Rattle.wb_policy.specs.Choices.{near_names}
+use Rattle.wb_keeping.specs.Kept.{Asks, Doing, Line, SetsDistance, Stops, end, is_begun, is_unasked, learned, measures, paid_for, performs, room_lines, still, stops_one, turn, turn_to, want, want_near, lending}
+use Rattle.wb_policy.specs.Distances.{bounded}
+use Rattle.wb_policy.specs.declared.limits.TheConstants.{UNKNOWN_DISTANCE}
+use Rattle.wb_policy.specs.Policy.{Policy, after_wanting, with_distance}
+use Rattle.wb_keeping.specs.Views.{View, holds, is_asked, is_full, level, is_known}
 use Rattle.wb_keeping.specs.Steps.{makes_room, performs_all, want_in}
-use Rattle.wb_keeping.specs.Turns.{nowhere}
-use Rattle.wb_keeping.specs.Wanting.{giving_way, is_wanted}
+use Rattle.wb_policy.specs.Turns.{nowhere}
+use Rattle.wb_policy.specs.Wanting.{giving_way, is_wanted}
 
 -- ---- a line to which a distance is lent, and those before it and behind it
 
 abbrev pub lent_first : ℕ → ℕ → ℕ → List Line
-lent_first source distance usual = cond (nat_eq distance unknown) (SetsDistance source usual ∷ []) []
+lent_first source distance usual = cond (nat_eq distance UNKNOWN_DISTANCE) (SetsDistance source usual ∷ []) []
 
 abbrev pub taken_back : ℕ → ℕ → List Line
-taken_back source distance = cond (nat_eq distance unknown) (SetsDistance source unknown ∷ []) []
+taken_back source distance = cond (nat_eq distance UNKNOWN_DISTANCE) (SetsDistance source UNKNOWN_DISTANCE ∷ []) []
 
 pub lending_parts : (source distance usual : ℕ) (line : Line) → lending source distance usual line ≡ lent_first source distance usual ++ line ∷ taken_back source distance
-lending_parts source distance usual line = by (nat_eq distance unknown) where
-  by : (b : Bool) → cond b (SetsDistance source usual ∷ line ∷ SetsDistance source unknown ∷ []) (line ∷ []) ≡ cond b (SetsDistance source usual ∷ []) [] ++ line ∷ cond b (SetsDistance source unknown ∷ []) []
+lending_parts source distance usual line = by (nat_eq distance UNKNOWN_DISTANCE) where
+  by : (b : Bool) → cond b (SetsDistance source usual ∷ line ∷ SetsDistance source UNKNOWN_DISTANCE ∷ []) (line ∷ []) ≡ cond b (SetsDistance source usual ∷ []) [] ++ line ∷ cond b (SetsDistance source UNKNOWN_DISTANCE ∷ []) []
   by true = refl
   by false = refl
 
@@ -51,7 +54,7 @@ module _ (name : NameValue) (anew : Bool) (see : List Line → View) (p : Policy
   some_lines one false first line last = let a = length-append one (line ∷ []) in lt-ltb _ _ (omega (arith, a))
 
   pub begun : is_wanted_here ≡ true → is_begun (want name anew see p) ≡ true
-  begun e = ap is_begun (is_asked_for e) ∙ some_lines (room_lines name (see [])) (nat_eq ((see []).distance name.source) unknown) _ _ _
+  begun e = ap is_begun (is_asked_for e) ∙ some_lines (room_lines name (see [])) (nat_eq ((see []).distance name.source) UNKNOWN_DISTANCE) _ _ _
 
   pub not_begun : is_begun (want name anew see p) ≡ false → want name anew see p ≡ still see p
   not_begun e = by is_wanted_here refl where
@@ -115,13 +118,3 @@ measured sender distance micros near see p d n ne =
 pub same_wanted : (held here full room anew known told : Bool) (old new : Option ℕ) (owed due then now : ℕ) → held ≡ here → full ≡ room → known ≡ told → old ≡ new → owed ≡ due → then ≡ now
     → is_wanted held full anew known old owed then ≡ is_wanted here room anew told new due now
 same_wanted held here full room anew known told old new owed due then now h f k l o n = λ i. is_wanted (h i) (f i) anew (k i) (l i) (o i) (n i)
-
--- ---- names, one below the other
-
-pub down_next : (f : ℕ → NameValue) (names : List NameValue) (high count below : ℕ) → below < count → (names ++ f (high - below) ∷ []) ++ map f (downwards (high - (below + 1)) (count - (below + 1))) ≡ names ++ map f (downwards (high - below) (count - below))
-down_next f names high count below lt =
-    let left : count - below ≡ suc (count - (below + 1)) = omega arith in
-    let next : high - below - 1 ≡ high - (below + 1) = omega arith in
-    append_assoc names (f (high - below) ∷ []) (map f (downwards (high - (below + 1)) (count - (below + 1))))
-    ∙ ap (λ (h : ℕ). names ++ f (high - below) ∷ map f (downwards h (count - (below + 1)))) (sym next)
-    ∙ ap (λ (n : ℕ). names ++ map f (downwards (high - below) n)) (sym left)

@@ -1,6 +1,6 @@
 -- A name that is wanted has a request timer then, where there is credit.
 use Rattle.std.proofs.Common.{◌≡◌, ℕ, Bool, true, false, cond, List, [], ◌∷◌, ◌++◌, ◌∙◌, Option, Some, None, ap, inl, inr, refl, subst, sym, true≢false, ⊎_elim}
-use Rattle.std.specs.Prelude.{◌⊎◌, ◌&&◌, ◌||◌, filter, is_none, is_some, length, nat_eq, nat_le, not}
+use Rattle.std.specs.Prelude.{◌⊎◌, ◌&&◌, ◌||◌, filter, is_none, is_some, nat_eq, nat_le, not}
 use Rattle.wb_names.specs.Arrivals.{Outcome, Fresh, Known, Clashed, Left, history_with, outcome_of}
 use Rattle.wb_names.specs.Orders.{same_name}
 use Rattle.wb_names.specs.Values.{DrawopValue, NameValue}
@@ -22,11 +22,12 @@ use Rattle.wb_member.specs.Members.{Misses}
 use Rattle.wb_member.specs.Opened.{Opened, doing as doing_act, events, has_room_for, heard, may_ask, opened_with, present, word_at}
 use Rattle.wb_member.specs.Random.{word_of}
 use Rattle.wb_keeping.specs.Fairness.{OnlyHeldIsAnswered, WantedIsAsked, is_answering}
-use Rattle.wb_keeping.specs.Distances.{unknown}
+use Rattle.wb_policy.specs.declared.limits.TheConstants.{UNKNOWN_DISTANCE}
 use Rattle.wb_keeping.specs.Kept.{Arrives, Asks, Doing, Hears, Line, Says, SetsDistance, Tunes, Stops, Ticks, room_lines, still, stops_one, lending}
 use Rattle.wb_keeping.specs.Performing.{after_line, after_lines, sees, view_of}
-use Rattle.wb_keeping.specs.Policy.{View, after_wanting, is_asked, is_full, level, is_known}
-use Rattle.wb_keeping.specs.Wanting.{giving_way, goes_on, is_paid, is_wanted}
+use Rattle.wb_policy.specs.Policy.{after_wanting}
+use Rattle.wb_keeping.specs.Views.{View, is_asked, is_full, level, is_known}
+use Rattle.wb_policy.specs.Wanting.{giving_way, goes_on, is_paid, is_wanted}
 use Rattle.wb_keeping.proofs.AskedTimers.{level_seen}
 use Rattle.wb_keeping.proofs.EachStep.{doing}
 use Rattle.wb_keeping.proofs.Performed.{after_both}
@@ -205,15 +206,15 @@ asks_stand name host lacks unasked unanswered =
 -- a name that is asked for while a distance is lent
 lent_stands : (source distance usual : ℕ) (name : NameValue) (host : Opened) → holds host.is.held name ≡ false → (Stands host name → ⊥) → (is_answering host name ≡ true → ⊥)
     → is_asked (view_of (after_lines (lending source distance usual (Asks name)) host)) name ≡ true
-lent_stands source distance usual name host lacks unasked unanswered = by (nat_eq distance unknown) where
+lent_stands source distance usual name host lacks unasked unanswered = by (nat_eq distance UNKNOWN_DISTANCE) where
   asked_at : (host : Opened) → Stands host name → is_asked (view_of host) name ≡ true
   asked_at host stands = ap is_some (level_seen host name) ∙ is_some_level (timers_of host.is.constants (events host) name).ask ∙ stands
 
-  by : (b : Bool) → is_asked (view_of (after_lines (cond b (SetsDistance source usual ∷ Asks name ∷ SetsDistance source unknown ∷ []) (Asks name ∷ [])) host)) name ≡ true
+  by : (b : Bool) → is_asked (view_of (after_lines (cond b (SetsDistance source usual ∷ Asks name ∷ SetsDistance source UNKNOWN_DISTANCE ∷ []) (Asks name ∷ [])) host)) name ≡ true
   by false = asked_at (after_line (Asks name) host) (asks_stand name host lacks unasked unanswered)
   by true =
       let one = after_line (SetsDistance source usual) host in
-      asked_at (after_line (SetsDistance source unknown) (after_line (Asks name) one)) (asks_stand name one lacks unasked unanswered)
+      asked_at (after_line (SetsDistance source UNKNOWN_DISTANCE) (after_line (Asks name) one)) (asks_stand name one lacks unasked unanswered)
 
 wanted_or : (full on credit : Bool) → full ≡ false → credit ≡ true → (not full && (not on && credit)) ≡ false → on ≡ true
 wanted_or false true true a b e = refl

@@ -1,5 +1,5 @@
 -- Bounds on what a self-managing host asks for and says, whatever comes in.
-use Rattle.std.specs.Prelude.{◌≡◌, ℕ, ◌+◌, ◌-◌, ◌*◌, ◌≤◌, Bool, true, false, not, ◌&&◌, List, [], ◌∷◌, ◌++◌, Contains, filter, length, map, take, if◌then◌else◌}
+use Rattle.std.specs.Prelude.{◌≡◌, ℕ, ◌+◌, ◌-◌, ◌*◌, ◌/◌, ◌≤◌, Bool, true, false, not, ◌&&◌, List, [], ◌∷◌, ◌++◌, Contains, filter, length, map, take, if◌then◌else◌}
 use Rattle.wb_names.specs.Orders.{same_name}
 use Rattle.wb_names.specs.Values.{NameValue}
 use Rattle.wb_codec.specs.declared.datagram.Datagram.{Datagram}
@@ -8,11 +8,13 @@ use Rattle.wb_recovery.specs.Timing.{are_constants}
 use Rattle.wb_recovery.specs.declared.tuning.Tuning.{Tuning}
 use Rattle.wb_member.specs.Judged.{asked_names}
 use Rattle.wb_member.specs.Opened.{Opened, opened_with, present}
-use Rattle.wb_keeping.specs.Credit.{cost}
+use Rattle.wb_policy.specs.declared.limits.TheConstants.{COST, FIRST_WAIT, LEAST_DISTANCE, MOST_PAGES, MOST_TIMERS, PAYS, PLACES, QUIET, SHORTEST_PAUSE}
 use Rattle.wb_keeping.specs.Kept.{Line, Ticks, Arrives, Asks, Says}
 use Rattle.wb_keeping.specs.Laws.{AreTaken, KeptLine, after_kept, expand}
 use Rattle.wb_keeping.specs.Performing.{Keeping, after_line, after_lines, sent_by_line, sent_by_lines, view_of}
-use Rattle.wb_keeping.specs.Policy.{Policy, holds, is_asked}
+use Rattle.wb_policy.specs.Policy.{Policy}
+use Rattle.wb_keeping.specs.Views.{holds, is_asked}
+use Rattle.wb_keeping.specs.declared.limits.TheConstants.{MINUTES, MOST_REQUESTS}
 
 -- ---- timers
 
@@ -31,7 +33,7 @@ new_keeping constants number cells seed moments policy = record {
 abbrev pub FewTimersStand : Type 0
 FewTimersStand = (constants : Tuning) (number cells seed : ℕ) (moments : List ℕ) (policy : Policy) (lines : List KeptLine) (some : ℕ)
     → let start = new_keeping constants number cells seed moments policy in
-    AreTaken lines start → timer_count (after_lines (take some (expand lines start)) start.host) ≤ 64
+    AreTaken lines start → timer_count (after_lines (take some (expand lines start)) start.host) ≤ MOST_TIMERS
 
 -- ---- requests
 
@@ -43,7 +45,7 @@ is_request v = false
 abbrev pub FewRequestsAtOnce : Type 0
 FewRequestsAtOnce = (constants : Tuning) (number cells seed : ℕ) (moments : List ℕ) (policy : Policy) (lines : List KeptLine) (before later : List Line) (line : Line)
     → let start = new_keeping constants number cells seed moments policy in
-    AreTaken lines start → expand lines start ≡ before ++ line ∷ later → length (filter is_request (sent_by_line line (after_lines before start.host))) ≤ 64
+    AreTaken lines start → expand lines start ≡ before ++ line ∷ later → length (filter is_request (sent_by_line line (after_lines before start.host))) ≤ MOST_TIMERS
 
 -- ---- requests for one name
 
@@ -60,10 +62,10 @@ abbrev pub NamesAreSeldomRequested : Type 0
 NamesAreSeldomRequested = (constants : Tuning) (number cells seed : ℕ) (moments : List ℕ) (policy : Policy) (lines : List KeptLine) (before : List Line) (first : Line) (part later : List Line) (n : NameValue)
     → let start = new_keeping constants number cells seed moments policy in
     let host = after_lines before start.host in
-    are_constants constants ≡ true → 10000 ≤ policy.usual → AreTaken lines start
+    are_constants constants ≡ true → LEAST_DISTANCE ≤ policy.usual → AreTaken lines start
     → expand lines start ≡ before ++ ((first ∷ part) ++ later) → ¬ Contains (first ∷ part) (Asks n)
-    → present (after_lines (first ∷ part) host) ≤ present (after_line first host) + 600000000
-    → request_count n (sent_by_lines (first ∷ part) host) ≤ 15
+    → present (after_lines (first ∷ part) host) ≤ present (after_line first host) + MINUTES
+    → request_count n (sent_by_lines (first ∷ part) host) ≤ MOST_REQUESTS
 
 -- ---- names that are asked for
 
@@ -89,7 +91,7 @@ answer_count (line ∷ lines) host = (if is_answer line host then 1 else 0) + an
 -- two more for each that it asked for and that came.
 abbrev pub FewNamesAreAsked : Type 0
 FewNamesAreAsked = (lines : List KeptLine) (k : Keeping) → AreTaken lines k
-    → ask_count (expand lines k) * cost ≤ (64 + 2 * answer_count (expand lines k) k.host) * cost + (present (after_kept lines k).host - present k.host)
+    → ask_count (expand lines k) * COST ≤ (PLACES + PAYS * answer_count (expand lines k) k.host) * COST + (present (after_kept lines k).host - present k.host)
 
 -- ---- what is said
 
@@ -108,10 +110,10 @@ is_question line = false
 -- Whatever comes in, reports are a second apart or more, page states come at most 64 at once and then a second apart or more, and
 -- questions for pages are half a second apart or more.
 pub record IsRarelySaid (lines : List Line) (micros : ℕ) : Type 0 where
-  pub reports : length (filter is_report lines) * 1000000 ≤ 1000000 + micros
-  pub states : length (filter is_state lines) * 1000000 ≤ 64 * (1000000 + micros)
-  pub questions : length (filter is_question lines) * 500000 ≤ 500000 + micros
+  pub reports : length (filter is_report lines) * SHORTEST_PAUSE ≤ SHORTEST_PAUSE + micros
+  pub states : length (filter is_state lines) * QUIET ≤ MOST_PAGES * (QUIET + micros)
+  pub questions : length (filter is_question lines) * (FIRST_WAIT / 2) ≤ FIRST_WAIT / 2 + micros
 
 abbrev pub LittleIsSaid : Type 0
-LittleIsSaid = (lines : List KeptLine) (k : Keeping) → 1000000 ≤ k.policy.questions.wait → AreTaken lines k
+LittleIsSaid = (lines : List KeptLine) (k : Keeping) → FIRST_WAIT ≤ k.policy.questions.wait → AreTaken lines k
     → IsRarelySaid (expand lines k) (present (after_kept lines k).host - present k.host)

@@ -3,10 +3,11 @@ use Rattle.std.specs.Prelude.{ℕ, ◌+◌, ◌-◌, ◌^◌, Bool, ◌&&◌, Li
 use Rattle.wb_names.specs.Orders.{same_page}
 use Rattle.wb_names.specs.Values.{DrawopValue}
 use Rattle.wb_names.specs.declared.name.PageId.{PageId}
+use Rattle.wb_keeping.specs.declared.limits.TheConstants.{AHEAD}
 
 -- on the page, with a time less than two days after this one
 abbrev pub is_near : PageId → ℕ → DrawopValue → Bool
-is_near page time d = same_page d.name.page page && nat_lt d.time (time + 172800000000)
+is_near page time d = same_page d.name.page page && nat_lt d.time (time + AHEAD)
 
 -- one more than the greatest of some times, or 0 if there is none
 abbrev pub after_all : List ℕ → ℕ

@@ -1,8 +1,6 @@
 -- A self-managing host as a whole: what it does for a datagram that comes, as time goes on, and for a drawing. Each is a list of lines
 -- that a host performs, one after the other. So a kept host is a host whose driver hands in these lines.
-use Rattle.std.specs.Prelude.{ℕ, zero, suc, ◌+◌, ◌-◌, ◌*◌, Bool, true, false, not, ◌&&◌, ◌||◌, List, [], ◌∷◌, ◌++◌, Option, Some, None, filter, length, map, max, min, nat_eq, nat_le, nat_lt, take, unwrap_or, if◌then◌else◌}
-use Rattle.std.specs.List.{count_by}
-use Rattle.std.specs.Ordering.{is_lt, nat_cmp, ordering_then}
+use Rattle.std.specs.Prelude.{ℕ, ◌+◌, Bool, true, false, not, ◌||◌, List, [], ◌∷◌, ◌++◌, Option, Some, None, filter, length, map, nat_eq, nat_le, nat_lt, take, if◌then◌else◌}
 use Rattle.wb_names.specs.History.{highest, name_of}
 use Rattle.wb_names.specs.Values.{NameValue, DrawopValue, MarkValue}
 use Rattle.wb_names.specs.declared.echo.Echo.{Echo}
@@ -13,17 +11,18 @@ use Rattle.wb_codec.specs.declared.datagram.Datagram.TheVariants.{Draw, Session,
 use Rattle.wb_gaps.specs.Answers.{pages_of, report_of}
 use Rattle.wb_gaps.specs.Holes.{hole_after}
 use Rattle.wb_gaps.specs.declared.holes.Hole.{Hole}
-use Rattle.wb_recovery.specs.Distance.{distance_of}
-use Rattle.wb_recovery.specs.declared.tuning.Tuning.{Tuning}
 pub use Rattle.wb_member.specs.Lines.{Line, Ticks, Arrives, Hears, Asks, Stops, SetsDistance, Tunes, Says}
-use Rattle.wb_keeping.specs.Distances.{bounded, unknown}
+use Rattle.wb_policy.specs.Choices.{distance_in, last_heard, last_source, near_names, own_echo, own_marks, told_names, until_in}
+use Rattle.wb_policy.specs.Distances.{bounded}
+use Rattle.wb_policy.specs.declared.limits.TheConstants.{MOST_PAGES, UNKNOWN_DISTANCE}
 use Rattle.wb_keeping.specs.Drawings.{drawing_time}
-use Rattle.wb_keeping.specs.Policy.{Policy, View, after_answer, after_came, after_question, after_report, after_state, after_taking_up, after_turn, after_wanting, holds, in_next_round, is_asked, is_full, level, with_distance, is_known}
-use Rattle.wb_keeping.specs.Questions.{is_due, is_to_answer}
-use Rattle.wb_keeping.specs.Reports.{members_in, page_after, rest_after, slice_after}
-use Rattle.wb_keeping.specs.Turns.{name_in, nowhere}
-use Rattle.wb_keeping.specs.Wanting.{giving_way, is_wanted}
-use Rattle.wb_keeping.specs.declared.wanting.AskedName.{AskedName}
+use Rattle.wb_policy.specs.Policy.{Policy, after_answer, after_came, after_question, after_report, after_state, after_taking_up, after_turn, after_wanting, in_next_round, with_distance}
+use Rattle.wb_keeping.specs.Views.{View, holds, is_asked, is_full, level, is_known}
+use Rattle.wb_policy.specs.Questions.{is_due, is_to_answer}
+use Rattle.wb_policy.specs.Reports.{members_in, page_after, rest_after, slice_after, report_bytes}
+use Rattle.wb_policy.specs.Turns.{name_in, nowhere}
+use Rattle.wb_policy.specs.Wanting.{giving_way, is_wanted}
+use Rattle.wb_policy.specs.declared.wanting.AskedName.{AskedName}
 
 -- what a policy does: the lines that its host performs, and the policy afterwards
 pub record Doing : Type 0 where
@@ -41,42 +40,7 @@ room_lines name v = if is_asked v name then Stops name ∷ [] else stops_one (gi
 
 -- A source that told no distance has the usual one for one line: it is lent, and then taken back.
 abbrev pub lending : ℕ → ℕ → ℕ → Line → List Line
-lending source distance usual line = if nat_eq distance unknown then SetsDistance source usual ∷ line ∷ SetsDistance source unknown ∷ [] else line ∷ []
-
--- the marks of this member that are believed: while it listens, below 2^31
-abbrev pub own_marks : ℕ → Bool → List MarkValue → List MarkValue
-own_marks me listens marks = filter (λ m. nat_eq m.source me && (listens && nat_lt m.high 2147483648)) marks
-
-abbrev pub own_echo : ℕ → List Echo → List Echo
-own_echo me echoes = filter (λ e. nat_eq e.source me) echoes
-
--- the distance that an echo of this member tells, if it tells one
-abbrev pub distance_in : ℕ → List Echo → Option ℕ
-distance_in now [] = None
-distance_in now (e ∷ echoes) = distance_of e.sent e.held now
-
--- the names of the marks of a page, but for numbers of this member from 2^31 on
-abbrev pub told_names : ℕ → PageId → List MarkValue → List NameValue
-told_names me page marks = map (λ m. name_of page m.source m.high) (filter (λ m. not (nat_eq m.source me && nat_le 2147483648 m.high)) marks)
-
--- the 32 senders that were heard last, ascending
-abbrev pub heard_later : Echo → Echo → Bool
-heard_later e f = is_lt (ordering_then (nat_cmp e.held f.held) (nat_cmp e.source f.source))
-
-abbrev pub last_heard : List Echo → List Echo
-last_heard echoes = filter (λ e. nat_lt (count_by (λ f. heard_later f e) echoes) 32) echoes
-
--- `count` numbers, from n down
-abbrev pub downwards : ℕ → ℕ → List ℕ
-downwards n zero = []
-downwards n (suc count) = n ∷ downwards (n - 1) count
-
--- The numbers near one, from 64 above to 64 below, as far as the source is known.
-abbrev pub near_names : NameValue → ℕ → List NameValue
-near_names name top =
-    let high = min (name.seq + 64) (top - 1) in
-    let low = max 1 (name.seq - 64) in
-    map (name_of name.page name.source) (downwards high (high + 1 - low))
+lending source distance usual line = if nat_eq distance UNKNOWN_DISTANCE then SetsDistance source usual ∷ line ∷ SetsDistance source UNKNOWN_DISTANCE ∷ [] else line ∷ []
 
 -- ---- transitions
 
@@ -162,7 +126,7 @@ abbrev pub answers : Transition
 answers see p =
     let v = see [] in
     if is_due v.now p.questions.answer
-    then record { policy = after_answer v.now p; lines = map (λ page. Says (state_of v page)) (take 64 (pages_of v.held)) }
+    then record { policy = after_answer v.now p; lines = map (λ page. Says (state_of v page)) (take MOST_PAGES (pages_of v.held)) }
     else still see p
 
 abbrev pub asks_pages : Transition
@@ -172,21 +136,13 @@ asks_pages see p =
     then record { policy = after_question v.now p; lines = Says (AskPages v.me) ∷ [] }
     else still see p
 
-abbrev pub last_source : Option ℕ → List MarkValue → Option ℕ
-last_source told [] = told
-last_source told (m ∷ marks) = last_source (Some m.source) marks
-
--- the source at which the telling of a page with these marks ends
-abbrev pub until_in : List MarkValue → ℕ
-until_in marks = unwrap_or (last_source None marks) 0
-
 -- It reports a page, whose telling ends at a source. A report is the session message of its member, with at most 64 of its marks and 32 of its echoes.
 abbrev pub reports_page : PageId → ℕ → List MarkValue → Transition
 reports_page page until marks see p =
     let v = see [] in
     let echoes = last_heard v.echoes in
     record {
-      policy = after_report v.now page (last_source None marks) until (members_in v.echoes) (32 + 8 * length marks + 20 * length echoes) p;
+      policy = after_report v.now page (last_source None marks) until (members_in v.echoes) (report_bytes marks echoes) p;
       lines = Says (Session v.me v.now page marks echoes) ∷ [];
     }
 

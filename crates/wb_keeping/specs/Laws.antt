@@ -1,10 +1,8 @@
 -- Laws of a policy.
-use Rattle.std.specs.Prelude.{◌≡◌, ◌⊎◌, ℕ, ◌+◌, ◌-◌, ◌*◌, ◌≤◌, ◌<◌, Bool, false, List, [], ◌∷◌, ◌++◌, IsTrue, Option, None, length, map, nat_le, ◌||◌}
-use Rattle.wb_names.specs.Ascending.{AreEchoes}
+use Rattle.std.specs.Prelude.{◌≡◌, ◌⊎◌, ℕ, ◌+◌, ◌≤◌, ◌<◌, Bool, false, List, [], ◌∷◌, ◌++◌, IsTrue, Option, None, map, nat_le, ◌||◌}
 use Rattle.wb_names.specs.Drawing.{op_fault}
 use Rattle.wb_names.specs.Faults.{fault_unless}
-use Rattle.wb_names.specs.Values.{MarkValue, NameValue}
-use Rattle.wb_names.specs.declared.echo.Echo.{Echo}
+use Rattle.wb_names.specs.Values.{NameValue, greatest_number}
 use Rattle.wb_names.specs.declared.name.PageId.{PageId}
 use Rattle.wb_names.specs.declared.parts.Op.{Op}
 use Rattle.wb_codec.specs.declared.datagram.Datagram.{Datagram}
@@ -12,49 +10,16 @@ use Rattle.wb_recovery.specs.Timing.{are_constants}
 use Rattle.wb_recovery.specs.declared.tuning.Tuning.{Tuning}
 use Rattle.wb_board.specs.Counts.{MAX_CELLS}
 use Rattle.wb_member.specs.Opened.{last_number, opened_with, present}
-use Rattle.wb_keeping.specs.Kept.{Line, Ticks, Tunes, Transition, adds, came, drawing, last_heard, performs, still, ticks, want}
+use Rattle.wb_keeping.specs.Kept.{Line, Ticks, Tunes, Transition, adds, came, drawing, performs, still, ticks, want}
 use Rattle.wb_keeping.specs.Performing.{Keeping, after_doing, after_lines, sees, sent_by_doing, sent_by_lines, view_of}
 use Rattle.wb_keeping.specs.Refusing.{add_fault, came_fault, tick_fault}
 use Rattle.wb_keeper.specs.declared.keep_fault.KeepFault.TheVariants.{Range}
 use Rattle.wb_keeping.specs.declared.kept_fault.KeptFault.{KeptFault}
 use Rattle.wb_keeping.specs.declared.kept_fault.KeptFault.TheVariants.{Host}
-use Rattle.wb_keeping.specs.Policy.{Policy, View, after_wanting, holds, is_known}
-use Rattle.wb_keeping.specs.Questions.{is_due}
-use Rattle.wb_keeping.specs.Reports.{slice_after}
-use Rattle.wb_keeping.specs.Credit.{cost, has_credit, repaid, spent}
-use Rattle.wb_keeping.specs.Wanting.{is_paid}
-
--- a name is asked for at a moment; one that was asked for comes
-pub data Spending : Type 0 where
-  Asks : (now : ℕ) → Spending
-  Comes : Spending
-
--- what is owed after some of these, the newest first
-abbrev pub owed_after : ℕ → List Spending → ℕ
-owed_after owed [] = owed
-owed_after owed (Asks now ∷ before) = spent (owed_after owed before) now
-owed_after owed (Comes ∷ before) = repaid (owed_after owed before)
-
--- how many names were asked for, and how many came
-abbrev pub asks_in : List Spending → ℕ
-asks_in [] = 0
-asks_in (Asks now ∷ before) = asks_in before + 1
-asks_in (Comes ∷ before) = asks_in before
-
-abbrev pub comes_in : List Spending → ℕ
-comes_in [] = 0
-comes_in (Asks now ∷ before) = comes_in before
-comes_in (Comes ∷ before) = comes_in before + 1
-
--- names were asked for from one moment to another, each when there was credit
-abbrev pub IsSpent : ℕ → ℕ → ℕ → List Spending → Type 0
-IsSpent owed start end [] = start ≤ end
-IsSpent owed start end (Asks now ∷ before) = (now ≤ end) × IsTrue (has_credit (owed_after owed before) now) × IsSpent owed start now before
-IsSpent owed start end (Comes ∷ before) = IsSpent owed start end before
-
--- From one moment to another at most 64 names are asked for, one more for each quarter of a second, and two more for each that came.
-abbrev pub FewAreAsked : Type 0
-FewAreAsked = (owed start end : ℕ) (spending : List Spending) → IsSpent owed start end spending → asks_in spending * cost ≤ (64 + 2 * comes_in spending) * cost + (end - start)
+use Rattle.wb_policy.specs.Policy.{Policy, after_wanting}
+use Rattle.wb_keeping.specs.Views.{View, holds, is_known}
+use Rattle.wb_policy.specs.Questions.{is_due}
+use Rattle.wb_policy.specs.Wanting.{is_paid}
 
 -- ---- a kept host
 
@@ -72,10 +37,6 @@ NothingIsDue = (now : ℕ) (see : List Line → View) (p : Policy)
 abbrev pub WantedIsPaid : Type 0
 WantedIsPaid = (name : NameValue) (anew : Bool) (see : List Line → View) (p : Policy)
     → (want name anew see p ≡ still see p) ⊎ (IsTrue (is_paid (anew || is_known (see []) name.source) p.owed (see []).now) × (holds (see []) name ≡ false) × ((want name anew see p).policy ≡ after_wanting (see []).now p))
-
--- a report or a page state has at most 64 marks, whatever is held
-abbrev pub SlicesAreShort : Type 0
-SlicesAreShort = (told : Option ℕ) (marks : List MarkValue) → length (slice_after told marks) ≤ 64
 
 -- ---- a kept host, line by line
 
@@ -125,15 +86,11 @@ KeptHostsAreHosts = (lines : List KeptLine) (k : Keeping)
 abbrev pub ANumberIsLeft : Type 0
 ANumberIsLeft = (constants : Tuning) (number cells seed : ℕ) (moments : List ℕ) (policy : Policy) (lines : List KeptLine)
     → let start : Keeping = record { host = after_lines (map Ticks moments) (opened_with constants number cells seed); policy = policy } in
-    cells ≤ MAX_CELLS → AreTaken lines start → (page : PageId) → last_number page (after_kept lines start).host < 4294967295
+    cells ≤ MAX_CELLS → AreTaken lines start → (page : PageId) → last_number page (after_kept lines start).host < greatest_number
 
 -- So a drawing is refused before the present moment, while the member listens, and if its operation is none of a drawop under the
 -- next number, and at no other time.
 abbrev pub DrawingIsNotLocked : Type 0
 DrawingIsNotLocked = (now : ℕ) (page : PageId) (time : ℕ) (op : Op) (k : Keeping)
-    → last_number page k.host < 4294967295 → present k.host ≤ now → k.policy.ready ≤ now → op_fault (drawing (view_of k.host) page time op).name op ≡ None
+    → last_number page k.host < greatest_number → present k.host ≤ now → k.policy.ready ≤ now → op_fault (drawing (view_of k.host) page time op).name op ≡ None
     → add_fault now page time op k ≡ None
-
--- A report has at most 64 marks and 32 echoes, and so at most 1,184 bytes.
-abbrev pub ReportsAreSmall : Type 0
-ReportsAreSmall = (told : Option ℕ) (marks : List MarkValue) (echoes : List Echo) → AreEchoes echoes → 32 + 8 * length (slice_after told marks) + 20 * length (last_heard echoes) ≤ 1184

@@ -1,12 +1,5 @@
-pub mod Words
-pub mod Credit
-pub mod Distances
-pub mod Questions
-pub mod Reports
-pub mod Turns
-pub mod Wanting
 pub mod Drawings
-pub mod Policy
+pub mod Views
 pub mod Kept
 pub mod Performing
 pub mod Refusing

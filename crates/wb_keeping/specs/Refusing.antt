@@ -3,7 +3,7 @@ use Rattle.std.specs.Prelude.{◌≡◌, ℕ, Bool, false, not, ◌&&◌, [], �
 use Rattle.std.specs.Option.{option_map}
 use Rattle.wb_names.specs.Arrivals.{Outcome, Left}
 use Rattle.wb_names.specs.Drawing.{op_fault}
-use Rattle.wb_names.specs.Values.{NameValue}
+use Rattle.wb_names.specs.Values.{NameValue, greatest_number}
 use Rattle.wb_names.specs.Faults.{fault_unless, first_of}
 use Rattle.wb_names.specs.declared.name.PageId.{PageId}
 use Rattle.wb_names.specs.declared.parts.Op.{Op}
@@ -16,6 +16,7 @@ use Rattle.wb_keeping.specs.Kept.{drawing}
 use Rattle.wb_keeping.specs.Performing.{Keeping, view_of}
 use Rattle.wb_keeping.specs.declared.kept_fault.KeptFault.{KeptFault}
 use Rattle.wb_keeping.specs.declared.kept_fault.KeptFault.TheVariants.{Host, Listening, Ours, Numbers, Operation}
+use Rattle.wb_policy.specs.declared.limits.TheConstants.{FIRST_FORGED}
 
 -- ---- refusals: the first fault of each call
 
@@ -25,7 +26,7 @@ back_in_time now k = fault_unless (nat_le (present k.host) now) (Host BackInTime
 
 -- a name of this member's own that it does not hold, of a number from 2^31 on, to which it would never come
 abbrev pub is_unknown : NameValue → Opened → Bool
-is_unknown name host = nat_eq name.source host.is.number && (nat_le 2147483648 name.seq && not (holds host name))
+is_unknown name host = nat_eq name.source host.is.number && (nat_le FIRST_FORGED name.seq && not (holds host name))
 
 abbrev pub is_unknown_of_ours : Datagram → Opened → Bool
 is_unknown_of_ours (Draw d) host = is_unknown d.name host
@@ -47,7 +48,7 @@ waits_fault now k = first_of (back_in_time now k ∷ fault_unless (not (nat_lt n
 -- under no number, or with an operation that its name may not carry
 abbrev pub drawing_fault : PageId → ℕ → Op → Keeping → Option KeptFault
 drawing_fault page time op k = first_of (
-    fault_unless (nat_lt (last_number page k.host) 4294967295) Numbers
+    fault_unless (nat_lt (last_number page k.host) greatest_number) Numbers
     ∷ option_map Operation (op_fault (drawing (view_of k.host) page time op).name op)
     ∷ [])
 

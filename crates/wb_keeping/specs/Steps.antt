@@ -3,10 +3,10 @@ use Rattle.std.specs.Prelude.{ℕ, true, List, [], ◌∷◌, Option, Some, None
 use Rattle.wb_names.specs.Values.{NameValue}
 use Rattle.wb_gaps.specs.Holes.{hole_after}
 use Rattle.wb_gaps.specs.declared.holes.Hole.{Hole}
-use Rattle.wb_keeping.specs.Distances.{unknown}
+use Rattle.wb_policy.specs.declared.limits.TheConstants.{UNKNOWN_DISTANCE}
 use Rattle.wb_keeping.specs.Kept.{Line, SetsDistance, Transition, room_lines, turn_to, want, and_then, performs}
-use Rattle.wb_keeping.specs.Policy.{after_turn}
-use Rattle.wb_keeping.specs.Turns.{name_in, nowhere}
+use Rattle.wb_policy.specs.Policy.{after_turn}
+use Rattle.wb_policy.specs.Turns.{name_in, nowhere}
 
 -- these lines, whatever is seen
 abbrev pub performs_all : List Line → Transition
@@ -18,7 +18,7 @@ makes_room name see p = record { policy = p; lines = room_lines name (see []) }
 
 -- what is lent to a source whose distance is this one, and the lines that lend it and take it back
 abbrev pub lent_at : ℕ → ℕ → Option ℕ
-lent_at distance usual = if nat_eq distance unknown then Some usual else None
+lent_at distance usual = if nat_eq distance UNKNOWN_DISTANCE then Some usual else None
 
 abbrev pub set_lines : ℕ → Option ℕ → List Line
 set_lines source None = []
@@ -26,7 +26,7 @@ set_lines source (Some micros) = SetsDistance source micros ∷ []
 
 abbrev pub back_lines : ℕ → Option ℕ → List Line
 back_lines source None = []
-back_lines source (Some micros) = SetsDistance source unknown ∷ []
+back_lines source (Some micros) = SetsDistance source UNKNOWN_DISTANCE ∷ []
 
 -- a line between these
 abbrev pub lends_for : ℕ → Option ℕ → Line → Transition

@@ -3,11 +3,8 @@
 ghost use Rattle.std.specs.Prelude.{◌≡◌};
 ghost use Rattle.wb_keeping.specs.Drawings.{drawing_time, is_near, later};
 
+use crate::limits::AHEAD;
 use wb_names::{Drawop, PageId};
-
-/// How far ahead times are believed, in microseconds: two days, so that a drawing also comes after
-/// those of a member whose clock shows tomorrow.
-const AHEAD: u64 = 172_800_000_000;
 
 /// The time of a drawing on a page of a list, if its user's clock shows `time`: it comes after all
 /// that the page has, except for what is two days or more ahead. It costs a walk over the list.

@@ -1,5 +1,5 @@
 //! A self-managing member: it does what its policy judges, and hands out what is to be sent.
-ghost use Rattle.std.specs.Prelude.{◌≡◌, ◌≤◌, ◌<◌, ◌^◌, [], IfOk, OnErr, IsTrue, MatchResult, false, is_some, nat_le};
+ghost use Rattle.std.specs.Prelude.{◌≡◌, ◌≤◌, ◌<◌, [], IfOk, OnErr, IsTrue, MatchResult, false, is_some, nat_le};
 ghost use Rattle.wb_names.specs.Moments.{IsMoment};
 ghost use Rattle.wb_recovery.specs.Timing.{are_constants};
 ghost use Rattle.wb_names.specs.Faults.{value_unless};
@@ -8,7 +8,8 @@ ghost use Rattle.wb_member.specs.Holding.{IsOpenAt, outcome_in};
 ghost use Rattle.wb_member.specs.Opened.{Opened, present};
 ghost use Rattle.wb_keeping.specs.Kept.{Tunes, adds, came, drawing, performs, ticks};
 ghost use Rattle.wb_keeping.specs.Performing.{IsKeptAt, Keeping, LeavesSome, after_doing, due, sent_by_doing, view_of};
-ghost use Rattle.wb_keeping.specs.Policy.{begun};
+ghost use Rattle.wb_policy.specs.Policy.{begun};
+ghost use Rattle.wb_policy.specs.declared.limits.TheConstants.{LISTEN_LIMIT};
 ghost use Rattle.wb_keeping.specs.Refusing.{IsRefusedBy, add_fault, came_as, came_fault, drawing_fault, drawn_as, is_unknown, is_unknown_of_ours, tick_fault};
 
 mod asking;
@@ -19,7 +20,6 @@ mod telling;
 
 use crate::drawings::time_of;
 use crate::kept_fault::KeptFault;
-use crate::policy::{Policy, sooner};
 use std::alloc::Global;
 use std::marker::Model;
 use wb_board::Reply;
@@ -27,10 +27,9 @@ use wb_codec::Datagram;
 use wb_keeper::KeepFault;
 use wb_member::Member;
 use wb_names::{Drawop, Name, PageId, Shape};
+use wb_policy::limits::FIRST_FORGED;
+use wb_policy::{Policy, sooner};
 use wb_recovery::{Tuning, TuningFault};
-
-/// The member would never give a drawop of its own this number, or a greater one.
-const FORGED: u32 = 1 << 31;
 
 /// A member of a session, and the policy that manages it: it is handed datagrams, moments and
 /// drawings, and gives what is to be sent.
@@ -69,7 +68,7 @@ impl KeptMember {
     /// is added. The seed is that of the member.
     pub fn keep(member: Member, rate: u64, listen: u64, seed: u64) -> KeptMember
         requires rate { 1 ≤ rate }
-        requires listen { listen < 2 ^ 32 }
+        requires listen { listen < LISTEN_LIMIT }
         ensures { (host : Opened) → IsOpenAt member host → IsKeptAt result
             (record { host = host; policy = begun (present host) rate listen seed }) }
     {
@@ -206,7 +205,7 @@ impl KeptMember {
     fn is_unknown(&self, name: Name) -> bool
         ensures { (k : Keeping) → IsKeptAt self.now k → result ≡ is_unknown name k.host }
     {
-        name.source() == self.member.me() && name.seq() >= FORGED && !self.member.holds(&name)
+        name.source() == self.member.me() && name.seq() >= FIRST_FORGED && !self.member.holds(&name)
     }
 
     /// Its next drawing on a page.

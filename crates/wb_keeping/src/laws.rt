@@ -1,16 +1,18 @@
-//! What follows from a policy, proved for all runs of it. The functions do nothing: each stands
-//! here for its clause.
+//! What follows from a policy that is performed, proved for all runs of it. The functions do
+//! nothing: each stands here for its clause.
 
+ghost use Rattle.std.specs.Prelude.{◌≡◌};
 ghost use Rattle.wb_keeping.specs.Bounds.{FewNamesAreAsked, FewRequestsAtOnce, FewTimersStand, LittleIsSaid, NamesAreSeldomRequested};
-ghost use Rattle.wb_keeping.specs.Fairness.{EachHoleHasItsTurn, EachMarkIsTold, EachNumberHasItsTurn, OnlyHeldIsAnswered, ReportsTell, TellingsRise, TurnsAreTaken, WantedIsAsked};
-ghost use Rattle.wb_keeping.specs.Laws.{ANumberIsLeft, DrawingIsNotLocked, FewAreAsked, KeptHostsAreHosts, NothingIsDue, ReportsAreSmall, SlicesAreShort, TimeComesFirst, WantedIsPaid};
+ghost use Rattle.wb_keeping.specs.Fairness.{OnlyHeldIsAnswered, ReportsTell, TurnsAreTaken, WantedIsAsked};
+ghost use Rattle.wb_keeping.specs.Laws.{ANumberIsLeft, DrawingIsNotLocked, KeptHostsAreHosts, NothingIsDue, TimeComesFirst, WantedIsPaid};
+ghost use Rattle.wb_keeper.specs.declared.keeper.TheConstants.Keeper.{FIRST_DELAY, MOST_ASKS};
+ghost use Rattle.wb_policy.specs.declared.limits.TheConstants.{MOST_TIMERS, UNKNOWN_DISTANCE};
+ghost use Rattle.wb_keeping.specs.declared.limits.TheConstants.{AHEAD, MINUTES, MOST_REQUESTS};
 
-/// Whatever comes in, from one moment to another at most 64 names are asked for, one more for each
-/// quarter of a second, and two more for each that was asked for and came. A name that is wanted is
-/// asked for only if there is credit, and costs.
-pub fn few_are_asked()
-    ensures few { FewAreAsked }
-    ensures paid { WantedIsPaid }
+/// A name that is wanted is asked for only if it is not held and there is credit, and then it costs.
+/// Else nothing is done.
+pub fn wanted_is_paid()
+    ensures { WantedIsPaid }
 {}
 
 /// A self-managing host takes what comes in as a host does whose driver ticks first. If nothing of
@@ -18,13 +20,6 @@ pub fn few_are_asked()
 pub fn time_goes_on()
     ensures first { TimeComesFirst }
     ensures alone { NothingIsDue }
-{}
-
-/// A report or a page state has at most 64 marks, whatever is held. A report has at most 32 echoes
-/// besides, whoever was heard, and so at most 1,184 bytes.
-pub fn slices_are_short()
-    ensures marks { SlicesAreShort }
-    ensures bytes { ReportsAreSmall }
 {}
 
 /// A self-managing host is a host whose driver hands in lines: for each list of what comes, ticks
@@ -69,22 +64,11 @@ pub fn little_is_said()
     ensures { LittleIsSaid }
 {}
 
-/// While what is held stays as it is, each of R holes has its turn among each R turns, and each of
-/// the n numbers of a hole among each 2 R n turns.
-pub fn turns_are_fair()
-    ensures taken { TurnsAreTaken }
-    ensures holes { EachHoleHasItsTurn }
-    ensures numbers { EachNumberHasItsTurn }
-{}
-
-/// While what is held stays as it is, each mark of a board of S slices is reported within S
-/// reports, and as many more as the page of the last report has slices. Whatever comes in while the
-/// telling of a page goes on, each report has sources of it above those before, 64 or all that
-/// there are: so sources that come keep a telling from its end for as many reports as they fill.
-pub fn each_mark_is_told()
-    ensures told { ReportsTell }
-    ensures marks { EachMarkIsTold }
-    ensures rise { TellingsRise }
+/// A turn is that of the hole that comes next among those of what is held, and a report tells what
+/// comes next of the marks of that.
+pub fn turns_are_taken()
+    ensures turns { TurnsAreTaken }
+    ensures reports { ReportsTell }
 {}
 
 /// A name that is wanted has a request timer then, unless it is held, the board is full, or there
@@ -92,4 +76,17 @@ pub fn each_mark_is_told()
 pub fn wanted_names_are_asked_for()
     ensures answers { OnlyHeldIsAnswered }
     ensures asked { WantedIsAsked }
+{}
+
+/// The limit of requests.
+pub fn limits()
+    ensures { MOST_REQUESTS ≡ 15 }
+{}
+
+/// The other numbers, in microseconds. The delay of a source that told none is the distance that a
+/// policy takes for unknown, and as many timers stand as the keeper sets by itself.
+pub fn numbers()
+    ensures times { (AHEAD ≡ 172800000000) × (MINUTES ≡ 600000000) }
+    ensures unknown { UNKNOWN_DISTANCE ≡ FIRST_DELAY }
+    ensures timers { MOST_TIMERS ≡ MOST_ASKS }
 {}

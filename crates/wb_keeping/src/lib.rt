@@ -1,41 +1,22 @@
-//! The whole judgement of a self-managing host: when it reports, how much of a page at a time, what
-//! it asks for and how fast, which distance it takes for one that it does not know, and which time
-//! a drawing gets.
+//! A self-managing member of a session: a board and its keeper, and the policy that manages them.
+//! The policy is the crate wb_policy. Here is who performs what it decides, and which time a
+//! drawing gets.
 //!
-//! It follows Floyd, Jacobson, Liu, McCanne and Zhang, "A Reliable Multicast Framework for
-//! Light-weight Sessions and Application Level Framing", 1997, where that leaves the choice to the
-//! application. Its state is a fixed number of integers, whatever comes in. It has no clock, no
-//! board and no timers: moments, which are in microseconds, and what a member holds are handed in.
+//! It has no clock and no network: it is handed datagrams, moments, which are in microseconds, and
+//! drawings, and gives what is to be sent. What it does for each of them is a list of lines of
+//! `specs/Kept.antt`, which any host could be handed by its driver.
 //!
-//! In reading order: `words` are its random words; `credit` says how much may be asked for,
-//! `wanting` which names, and `turns` which hole comes next; `questions` asks for pages and answers
-//! others; `reports` says when a report is due, and which marks it has; `distances` bounds what
-//! echoes give; `drawings` has the time of a drawing; `policy` joins what is remembered. `laws`
-//! says what follows, and `specs/Kept.antt` what a host does that takes these decisions.
+//! In reading order: `limits` has the numbers; `drawings` has the time of a drawing; `kept_fault`
+//! says why a call is refused; `kept_member` performs what the policy decides. `laws` says what
+//! follows for all that may come in.
 #![tactic(auto)]
 
-mod choices;
-mod credit;
-mod distances;
 mod drawings;
 mod kept_fault;
 mod kept_member;
 pub mod laws;
-mod policy;
-mod questions;
-mod reports;
-mod turns;
-mod wanting;
-mod words;
+mod limits;
 
-pub use credit::Credit;
-pub use distances::Distances;
 pub use drawings::time_of;
 pub use kept_fault::KeptFault;
 pub use kept_member::{Done, KeptMember};
-pub use policy::Policy;
-pub use questions::Questions;
-pub use reports::{Reports, is_telling, members, page_after, slice_after};
-pub use turns::Turns;
-pub use wanting::{AskedName, Candidate, giving_way, oldest};
-pub use words::PolicyWords;

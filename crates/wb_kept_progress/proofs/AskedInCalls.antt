@@ -10,12 +10,15 @@ use Rattle.wb_names.proofs.Listings.{Contains-cases, Contains-here, Contains-non
 use Rattle.wb_codec.specs.declared.datagram.Datagram.{Datagram}
 use Rattle.wb_codec.specs.declared.datagram.Datagram.TheVariants.{Draw, Session, Request, AskPages, PageState}
 use Rattle.wb_member.specs.Opened.{has_room_for, heard, present, Opened}
-use Rattle.wb_keeping.specs.Distances.{bounded, unknown}
-use Rattle.wb_keeping.specs.Kept.{Arrives, Asks, Doing, Hears, Line, Says, SetsDistance, Tunes, Stops, Ticks, Transition, and_then, distance_in, hears, hears_session, hears_some, hears_state, learned, measures, of_other, own_echo, own_marks, performs, room_lines, still, takes, takes_question, told_names, want, want_told, lending, hears_request}
+use Rattle.wb_policy.specs.Distances.{bounded}
+use Rattle.wb_policy.specs.declared.limits.TheConstants.{UNKNOWN_DISTANCE}
+use Rattle.wb_policy.specs.Choices.{distance_in, own_echo, own_marks, told_names}
+use Rattle.wb_keeping.specs.Kept.{Arrives, Asks, Doing, Hears, Line, Says, SetsDistance, Tunes, Stops, Ticks, Transition, and_then, hears, hears_session, hears_some, hears_state, learned, measures, of_other, performs, room_lines, still, takes, takes_question, want, want_told, lending, hears_request}
 use Rattle.wb_keeping.specs.Performing.{Keeping, after_doing, after_line, after_lines, sees, view_of}
-use Rattle.wb_keeping.specs.Policy.{Policy, View, after_state, after_taking_up, after_wanting, holds, is_asked, is_full, level, with_distance, is_known}
-use Rattle.wb_keeping.specs.Questions.{is_to_answer}
-use Rattle.wb_keeping.specs.Wanting.{is_wanted}
+use Rattle.wb_policy.specs.Policy.{Policy, after_state, after_taking_up, after_wanting, with_distance}
+use Rattle.wb_keeping.specs.Views.{View, holds, is_asked, is_full, level, is_known}
+use Rattle.wb_policy.specs.Questions.{is_to_answer}
+use Rattle.wb_policy.specs.Wanting.{is_wanted}
 use Rattle.wb_keeping.proofs.EachStep.{doing, having, having_done, with_policy}
 use Rattle.wb_keeping.proofs.Performed.{seen_then, then_after}
 use Rattle.wb_keeping.proofs.Wanted.{lines_wanted, lending_parts, lent_first, taken_back}
@@ -193,7 +196,7 @@ module _ (P : NameValue → Type 0) where
     by false = record { stays = record { held = refl; now = refl; turns = refl; due = refl }; asks = (tt, tt); owed = inr refl }
 
   request_asks : (asker : ℕ) (name : NameValue) (k : Keeping) → At (hears_request asker name) k
-  request_asks asker name k = by (nat_eq ((view_of k.host).distance source) unknown) where
+  request_asks asker name k = by (nat_eq ((view_of k.host).distance source) UNKNOWN_DISTANCE) where
     source : ℕ
     source = cond (holds (view_of k.host) name) asker name.source
 
@@ -203,11 +206,11 @@ module _ (P : NameValue → Type 0) where
     one : Opened
     one = after_line (SetsDistance source k.policy.usual) k.host
 
-    heard_stays : (b : Bool) → Stays k (record { host = after_line (SetsDistance source unknown) (cond b (heard v one) one); policy = k.policy })
+    heard_stays : (b : Bool) → Stays k (record { host = after_line (SetsDistance source UNKNOWN_DISTANCE) (cond b (heard v one) one); policy = k.policy })
     heard_stays true = record { held = refl; now = refl; turns = refl; due = refl }
     heard_stays false = record { held = refl; now = refl; turns = refl; due = refl }
 
-    by : (b : Bool) → let lines = cond b (SetsDistance source k.policy.usual ∷ Hears v ∷ SetsDistance source unknown ∷ []) (Hears v ∷ []) in AsksFor P k lines (having_done (doing k.policy lines) k)
+    by : (b : Bool) → let lines = cond b (SetsDistance source k.policy.usual ∷ Hears v ∷ SetsDistance source UNKNOWN_DISTANCE ∷ []) (Hears v ∷ []) in AsksFor P k lines (having_done (doing k.policy lines) k)
     by true = record { stays = heard_stays (has_room_for v one); asks = (tt, (tt, (tt, tt))); owed = inr refl }
     by false = hear_asks v k
 

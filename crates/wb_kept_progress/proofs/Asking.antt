@@ -20,20 +20,21 @@ use Rattle.wb_member.specs.Judged.{asked_names, level}
 use Rattle.wb_member.specs.Members.{Misses}
 use Rattle.wb_member.specs.Opened.{Opened, asks_for, doing, events, may_ask, present}
 use Rattle.wb_member.specs.Random.{word_of}
-use Rattle.wb_keeping.specs.Credit.{cost, has_credit}
+use Rattle.wb_policy.specs.Credit.{has_credit}
+use Rattle.wb_policy.specs.declared.limits.TheConstants.{COST, UNKNOWN_DISTANCE}
 use Rattle.wb_keeping.specs.Fairness.{AnswersWhatIsHeld}
-use Rattle.wb_keeping.specs.Distances.{unknown}
 use Rattle.wb_keeping.specs.Kept.{Asks, Doing, Line, SetsDistance, Tunes, Stops, room_lines, still, stops_one, want, want_told, lending}
 use Rattle.wb_keeping.specs.Performing.{Keeping, after_doing, after_line, after_lines, asked_name, asked_with, sees, view_of}
-use Rattle.wb_keeping.specs.Policy.{View, after_wanting, holds, is_asked, is_full, level as level_by, is_known}
-use Rattle.wb_keeping.specs.Wanting.{gives_way, giving_way, goes_on, is_old, is_wanted, older}
-use Rattle.wb_keeping.specs.declared.wanting.AskedName.{AskedName}
+use Rattle.wb_policy.specs.Policy.{after_wanting}
+use Rattle.wb_keeping.specs.Views.{View, holds, is_asked, is_full, level as level_by, is_known}
+use Rattle.wb_policy.specs.Wanting.{gives_way, giving_way, goes_on, is_old, is_wanted, older}
+use Rattle.wb_policy.specs.declared.wanting.AskedName.{AskedName}
 use Rattle.wb_keeping.proofs.AskedTimers.{level_seen, named}
 use Rattle.wb_keeping.proofs.Performed.{after_both, then_after}
 use Rattle.wb_keeping.proofs.StandingTimers.{as_many}
 use Rattle.wb_keeping.proofs.Wanted.{lines_wanted, lending_parts, lent_first, taken_back}
 use Rattle.wb_keeping.proofs.WantedNames.{lines_answer_held, wanted_is_asked, AreSettings, IsSetting}
-use Rattle.wb_keeping.proofs.Spending.{has_place}
+use Rattle.wb_policy.proofs.Spending.{has_place}
 use Rattle.wb_kept_progress.proofs.Lines.{lines_of, lines_rest, IsSmall, are_small}
 use Rattle.wb_keeping.proofs.EachLine.{want_each, room_each, wanted_each}
 use Rattle.std.proofs.lemmas.Option.{none-some}
@@ -242,18 +243,18 @@ oldest_is_old host names all few a later e many new =
 -- The timers that are new are of these names, and each was paid for.
 pub record AreNew (k : Keeping) (names : List NameValue) : Type 0 where
   pub all : (m : NameValue) → IsNew k.host m → Contains names m
-  pub paid : present k.host + length names * cost ≤ max k.policy.owed (present k.host)
+  pub paid : present k.host + length names * COST ≤ max k.policy.owed (present k.host)
 
 -- distances move no timer
 lent_levels : (source distance usual : ℕ) (n : NameValue) (host : Opened) → level (after_lines (lent_first source distance usual) host) n ≡ level host n
-lent_levels source distance usual n host = by (nat_eq distance unknown) where
+lent_levels source distance usual n host = by (nat_eq distance UNKNOWN_DISTANCE) where
   by : (b : Bool) → level (after_lines (cond b (SetsDistance source usual ∷ []) []) host) n ≡ level host n
   by true = refl
   by false = refl
 
 back_levels : (source distance : ℕ) (n : NameValue) (host : Opened) → level (after_lines (taken_back source distance) host) n ≡ level host n
-back_levels source distance n host = by (nat_eq distance unknown) where
-  by : (b : Bool) → level (after_lines (cond b (SetsDistance source unknown ∷ []) []) host) n ≡ level host n
+back_levels source distance n host = by (nat_eq distance UNKNOWN_DISTANCE) where
+  by : (b : Bool) → level (after_lines (cond b (SetsDistance source UNKNOWN_DISTANCE ∷ []) []) host) n ≡ level host n
   by true = refl
   by false = refl
 
@@ -283,7 +284,7 @@ module _ (name : NameValue) (anew : Bool) (k : Keeping) where
   room_sets = room_each IsSetting (λ name. tt) name v
 
   usual_sets : AreSettings usual
-  usual_sets = by (nat_eq (v.distance name.source) unknown) where
+  usual_sets = by (nat_eq (v.distance name.source) UNKNOWN_DISTANCE) where
     by : (b : Bool) → AreSettings (cond b (SetsDistance name.source k.policy.usual ∷ []) [])
     by true = (tt, tt)
     by false = tt
@@ -333,14 +334,14 @@ module _ (name : NameValue) (anew : Bool) (k : Keeping) where
       },
       omega arith,
     ) where
-      paid_then : (owed now later n : ℕ) → now + n * cost ≤ max owed now → later ≡ now → later + suc n * cost ≤ max (max owed now + cost) later
+      paid_then : (owed now later n : ℕ) → now + n * COST ≤ max owed now → later ≡ now → later + suc n * COST ≤ max (max owed now + COST) later
       paid_then owed now later n p e = omega (arith, p, e)
 
     -- one that is new stays so
     module _ (n : NameValue) (new : IsNew k.host n) where
       few : has_credit k.policy.owed (present k.host) ≡ true → length names ≤ 63
       few e = let le = leb-true _ _ e in let p = are.paid in under k.policy.owed (present k.host) (length names) le p where
-        under : (owed now n : ℕ) → max owed now - now ≤ 63 * cost → now + n * cost ≤ max owed now → n ≤ 63
+        under : (owed now n : ℕ) → max owed now - now ≤ 63 * COST → now + n * COST ≤ max owed now → n ≤ 63
         under owed now n le p = omega (arith, le, p)
 
       another : goes_on anew (level_by v name) ≡ false → same_name name n ≡ false
@@ -427,7 +428,7 @@ pub record MayBeAsked (k : Keeping) (n : NameValue) (used : ℕ) : Type 0 where
   pub lacks : holds (view_of k.host) n ≡ false
   pub room : is_full (view_of k.host) ≡ false
   pub answers : AnswersWhatIsHeld k.host
-  pub paid : k.policy.owed ≤ present k.host + used * cost
+  pub paid : k.policy.owed ≤ present k.host + used * COST
 
 -- it is asked for, since the timers that are new are few
 pub record IsAskedAnew (k : Keeping) (n : NameValue) : Type 0 where
@@ -440,17 +441,17 @@ stays_asked name anew k n is =
     let more = then_are_new name anew k is.names is.are in
     record { names = more.0; are = more.1; new = new_stays name anew k is.names is.are n is.new }
 
-owed_then : (name : NameValue) (anew : Bool) (k : Keeping) (used : ℕ) → k.policy.owed ≤ present k.host + used * cost → (after_doing (want name anew) k).policy.owed ≤ present k.host + suc used * cost
+owed_then : (name : NameValue) (anew : Bool) (k : Keeping) (used : ℕ) → k.policy.owed ≤ present k.host + used * COST → (after_doing (want name anew) k).policy.owed ≤ present k.host + suc used * COST
 owed_then name anew k used le = by (is_wanted (holds (view_of k.host) name) (is_full (view_of k.host)) anew (is_known (view_of k.host) name.source) (level_by (view_of k.host) name) k.policy.owed (present k.host)) where
   wanted : Doing
   wanted = record { policy = after_wanting (present k.host) k.policy; lines = lines_wanted name anew (sees k.host) k.policy }
 
-  by : (b : Bool) → (let d : Doing = cond b wanted (still (sees k.host) k.policy) in d.policy.owed) ≤ present k.host + suc used * cost
+  by : (b : Bool) → (let d : Doing = cond b wanted (still (sees k.host) k.policy) in d.policy.owed) ≤ present k.host + suc used * COST
   by true = more k.policy.owed (present k.host) used le where
-    more : (owed now used : ℕ) → owed ≤ now + used * cost → max owed now + cost ≤ now + suc used * cost
+    more : (owed now used : ℕ) → owed ≤ now + used * COST → max owed now + COST ≤ now + suc used * COST
     more owed now used le = omega (arith, le)
   by false = less k.policy.owed (present k.host) used le where
-    less : (owed now used : ℕ) → owed ≤ now + used * cost → owed ≤ now + suc used * cost
+    less : (owed now used : ℕ) → owed ≤ now + used * COST → owed ≤ now + suc used * COST
     less owed now used le = omega (arith, le)
 
 passes : (name : NameValue) (k : Keeping) (n : NameValue) (used : ℕ) → same_name name n ≡ false → MayBeAsked k n used → MayBeAsked (after_doing (want name true) k) n (suc used)
@@ -466,7 +467,7 @@ passes name k n used other may =
       lacks = ap (λ (h : List DrawopValue). holds_in h n) rests.held ∙ may.lacks;
       room = ap (λ (h : List DrawopValue). nat_le (after_doing (want name true) k).host.is.cells (length h)) rests.held ∙ ap (λ (c : ℕ). nat_le c (length k.host.is.held)) of.cells ∙ may.room;
       answers = λ x. lines_answer_held x d.lines k.host (may.answers x);
-      paid = subst (λ (t : ℕ). (after_doing (want name true) k).policy.owed ≤ t + suc used * cost) (sym rests.now) (owed_then name true k used may.paid);
+      paid = subst (λ (t : ℕ). (after_doing (want name true) k).policy.owed ≤ t + suc used * COST) (sym rests.now) (owed_then name true k used may.paid);
     }
 
 is_taken : (k : Keeping) (n : NameValue) (used : ℕ) → used ≤ 63 → MayBeAsked k n used → IsAskedAnew (after_doing (want n true) k) n
@@ -474,7 +475,7 @@ is_taken k n used few may =
     let more = then_are_new n true k may.names may.are in
     let credit : has_credit k.policy.owed (present k.host) ≡ true = le-leb _ _ (within k.policy.owed (present k.host) used few may.paid) in
     record { names = more.0; are = more.1; new = set_anew n true k may.none (wanted_is_asked n true k may.answers may.lacks may.room credit) } where
-      within : (owed now used : ℕ) → used ≤ 63 → owed ≤ now + used * cost → max owed now - now ≤ 63 * cost
+      within : (owed now used : ℕ) → used ≤ 63 → owed ≤ now + used * COST → max owed now - now ≤ 63 * COST
       within owed now used few le = omega (arith, few, le)
 
 pub stay_asked : (names : List NameValue) (k : Keeping) (n : NameValue) → IsAskedAnew k n → IsAskedAnew (after_doing (want_told names) k) n

@@ -8,12 +8,13 @@ use Rattle.wb_names.proofs.Listings.{Contains-cases, Contains-none}
 use Rattle.wb_gaps.specs.Answers.{pages_of}
 use Rattle.wb_member.specs.Opened.{Opened, asks_for}
 use Rattle.wb_keeping.specs.Fairness.{AnswersWhatIsHeld}
-use Rattle.wb_keeping.specs.Distances.{unknown}
+use Rattle.wb_policy.specs.declared.limits.TheConstants.{UNKNOWN_DISTANCE}
 use Rattle.wb_keeping.specs.Kept.{Arrives, Asks, Doing, Hears, Line, Stops, Ticks, Tunes, room_lines, still, want, lending, SetsDistance}
 use Rattle.wb_keeping.specs.Laws.{KeptLine, doing_of, fault_of}
 use Rattle.wb_keeping.specs.Performing.{Keeping, after_doing, after_lines, sees, view_of}
-use Rattle.wb_keeping.specs.Policy.{View, after_wanting, holds, is_full, level, is_known}
-use Rattle.wb_keeping.specs.Wanting.{goes_on, is_wanted}
+use Rattle.wb_policy.specs.Policy.{after_wanting}
+use Rattle.wb_keeping.specs.Views.{View, holds, is_full, level, is_known}
+use Rattle.wb_policy.specs.Wanting.{goes_on, is_wanted}
 use Rattle.wb_keeping.proofs.EachStep.{HoldsOfSteps, line_holds}
 use Rattle.wb_keeping.proofs.Performed.{after_both}
 use Rattle.wb_keeping.proofs.StandingTimers.{stands_asked}
@@ -88,14 +89,14 @@ wants_stand name anew k = record { at = refl; stand = λ answers_held n c. by an
   same_name n e = cc
 
   usual_asks : AskNothing usual
-  usual_asks = by (nat_eq (v.distance name.source) unknown) where
+  usual_asks = by (nat_eq (v.distance name.source) UNKNOWN_DISTANCE) where
     by : (b : Bool) → AskNothing (cond b (SetsDistance name.source k.policy.usual ∷ []) [])
     by true = (tt, tt)
     by false = tt
 
   back_asks : AskNothing back
-  back_asks = by (nat_eq (v.distance name.source) unknown) where
-    by : (b : Bool) → AskNothing (cond b (SetsDistance name.source unknown ∷ []) [])
+  back_asks = by (nat_eq (v.distance name.source) UNKNOWN_DISTANCE) where
+    by : (b : Bool) → AskNothing (cond b (SetsDistance name.source UNKNOWN_DISTANCE ∷ []) [])
     by true = (tt, tt)
     by false = tt
 
@@ -113,8 +114,8 @@ wants_stand name anew k = record { at = refl; stand = λ answers_held n c. by an
 
   -- what takes a distance back leaves the timers
   asks_back : (host : Opened) → asks_for name (after_lines back host) ≡ asks_for name host
-  asks_back host = by (nat_eq (v.distance name.source) unknown) where
-    by : (b : Bool) → asks_for name (after_lines (cond b (SetsDistance name.source unknown ∷ []) []) host) ≡ asks_for name host
+  asks_back host = by (nat_eq (v.distance name.source) UNKNOWN_DISTANCE) where
+    by : (b : Bool) → asks_for name (after_lines (cond b (SetsDistance name.source UNKNOWN_DISTANCE ∷ []) []) host) ≡ asks_for name host
     by true = refl
     by false = refl
 

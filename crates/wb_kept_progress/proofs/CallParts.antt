@@ -7,7 +7,7 @@ use Rattle.wb_member.specs.Judged.{holds}
 use Rattle.wb_member.specs.Opened.{Opened, next_due}
 use Rattle.wb_keeping.specs.Kept.{Line}
 use Rattle.wb_keeping.specs.Performing.{Keeping, due, sooner_of}
-use Rattle.wb_keeping.specs.Policy.{next_moment, sooner}
+use Rattle.wb_policy.specs.Policy.{next_moment, sooner}
 use Rattle.wb_kept_progress.specs.Sessions.{Opening}
 use Rattle.wb_kept_progress.specs.Timed.{AreInOrder, Performed, TimedLine, called_at, host_after, performed, performed_then, start_of, time_of, until}
 use Rattle.wb_kept_progress.specs.Whole.{AreCalledInOrder, there}

@@ -10,7 +10,7 @@ use Rattle.wb_codec.specs.declared.datagram.Datagram.TheVariants.{Draw, Session,
 use Rattle.wb_gaps.proofs.HeldNames.{held-from}
 use Rattle.wb_progress.specs.Turns.{Terms, settled_by}
 use Rattle.wb_keeper.specs.Keeper.{holds as history_holds}
-use Rattle.wb_keeping.specs.Kept.{told_names}
+use Rattle.wb_policy.specs.Choices.{told_names}
 use Rattle.wb_keeping.specs.Laws.{Added, Came, KeptLine, Ticked, Tuned, doing_of}
 use Rattle.wb_keeping.specs.Performing.{Keeping, after_doing}
 use Rattle.wb_kept_progress.specs.Sessions.{AreTaken, Opening}

@@ -20,10 +20,11 @@ use Rattle.wb_keeper.specs.Keeper.{holds}
 use Rattle.wb_progress.specs.Repairs.{asking_wait}
 use Rattle.wb_member.specs.Judged.{is_full}
 use Rattle.wb_member.specs.Opened.{Opened, asks_for, present}
-use Rattle.wb_keeping.specs.Kept.{came, told_names}
+use Rattle.wb_policy.specs.Choices.{told_names}
+use Rattle.wb_keeping.specs.Kept.{came}
 use Rattle.wb_keeping.specs.Laws.{Came, fault_of}
 use Rattle.wb_keeping.specs.Performing.{Keeping, after_doing}
-use Rattle.wb_keeping.proofs.ToldMarks.{each_mark_is_told}
+use Rattle.wb_policy.proofs.ToldMarks.{each_mark_is_told}
 use Rattle.wb_kept_progress.specs.Repairs.{ComesToTell, HasCome, IsBrought, IsLost, LostCanCome, MarksComeToBeTold, host_at, repair}
 use Rattle.wb_kept_progress.specs.Sessions.{AreHosts, AreSent, AreTaken, LineAt, Opening, at, kept_at}
 use Rattle.wb_kept_progress.proofs.Hearing.{report_asks, report_holds}

@@ -12,16 +12,17 @@ use Rattle.wb_gaps.specs.Answers.{pages_of, report_of}
 use Rattle.wb_gaps.specs.Holes.{hole_after}
 use Rattle.wb_gaps.specs.declared.holes.Hole.{Hole}
 use Rattle.wb_member.specs.Opened.{present}
-use Rattle.wb_keeping.specs.Credit.{spent}
-use Rattle.wb_keeping.specs.Fairness.{led_to, name_in_turn}
+use Rattle.wb_policy.specs.Credit.{spent}
+use Rattle.wb_policy.specs.Fairness.{led_to, name_in_turn}
 use Rattle.wb_keeping.specs.Kept.{Asks, Doing, Line, Says, Ticks, Transition, and_then, answers, asks_pages, came, hears, performs, reports, reports_due, reports_rest, state_of, still, ticks, timed, turn, turn_to, want}
 use Rattle.wb_keeping.specs.Performing.{Keeping, after_doing, sees, view_of}
-use Rattle.wb_keeping.specs.Policy.{Policy, View, after_answer, after_question, after_turn, after_wanting, holds, in_next_round, is_full, level, is_known}
-use Rattle.wb_keeping.specs.Questions.{is_due}
-use Rattle.wb_keeping.specs.Reports.{rest_after}
-use Rattle.wb_keeping.specs.Turns.{name_in, nowhere}
-use Rattle.wb_keeping.specs.Wanting.{is_wanted}
-use Rattle.wb_keeping.specs.declared.turns.Turns.{Turns}
+use Rattle.wb_policy.specs.Policy.{Policy, after_answer, after_question, after_turn, after_wanting, in_next_round}
+use Rattle.wb_keeping.specs.Views.{View, holds, is_full, level, is_known}
+use Rattle.wb_policy.specs.Questions.{is_due}
+use Rattle.wb_policy.specs.Reports.{rest_after}
+use Rattle.wb_policy.specs.Turns.{name_in, nowhere}
+use Rattle.wb_policy.specs.Wanting.{is_wanted}
+use Rattle.wb_policy.specs.declared.turns.Turns.{Turns}
 use Rattle.wb_keeping.proofs.EachStep.{doing, having, having_done}
 use Rattle.wb_keeping.proofs.Performed.{then_after}
 use Rattle.wb_keeping.proofs.Wanted.{lines_wanted}

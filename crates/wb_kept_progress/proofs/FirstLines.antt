@@ -8,12 +8,14 @@ use Rattle.wb_names.specs.declared.parts.Op.{Op}
 use Rattle.wb_codec.specs.declared.datagram.Datagram.{Datagram}
 use Rattle.wb_codec.specs.declared.datagram.Datagram.TheVariants.{Draw, Session, Request, AskPages, PageState}
 use Rattle.wb_member.specs.Opened.{Opened}
-use Rattle.wb_keeping.specs.Distances.{unknown}
-use Rattle.wb_keeping.specs.Kept.{Arrives, Asks, Doing, Hears, Line, Says, SetsDistance, Tunes, Stops, Ticks, Transition, and_then, came, distance_in, drawing, ends_full, hears, hears_some, learned, measures, own_echo, own_marks, performs, still, takes_question, timed, told_names, want_told, hears_request}
+use Rattle.wb_policy.specs.declared.limits.TheConstants.{UNKNOWN_DISTANCE}
+use Rattle.wb_policy.specs.Choices.{distance_in, own_echo, own_marks, told_names}
+use Rattle.wb_keeping.specs.Kept.{Arrives, Asks, Doing, Hears, Line, Says, SetsDistance, Tunes, Stops, Ticks, Transition, and_then, came, drawing, ends_full, hears, hears_some, learned, measures, performs, still, takes_question, timed, want_told, hears_request}
 use Rattle.wb_keeping.specs.Laws.{KeptLine, Came, Ticked, Added, Tuned, doing_of}
 use Rattle.wb_keeping.specs.Performing.{Keeping, after_line, after_lines, sees, view_of}
-use Rattle.wb_keeping.specs.Policy.{Policy, View, after_state, after_taking_up, holds, is_asked, is_full}
-use Rattle.wb_keeping.specs.Questions.{is_to_answer}
+use Rattle.wb_policy.specs.Policy.{Policy, after_state, after_taking_up}
+use Rattle.wb_keeping.specs.Views.{View, holds, is_asked, is_full}
+use Rattle.wb_policy.specs.Questions.{is_to_answer}
 use Rattle.wb_kept_progress.proofs.Lines.{AreSmall, IsSmall, are_small}
 use Rattle.wb_keeping.proofs.EachLine.{learned_each, measures_each, timed_each, told_each, each_both, ends_each, then_each}
 
@@ -179,15 +181,15 @@ module _ (now : ℕ) (start : Opened) where
         one_first call start host (Hears (PageState sender page (m ∷ own))) (want_told names (sees heard) q).lines tt (told_each IsSmall are_small names (sees heard) q)
 
   request_first : (asker : ℕ) (name : NameValue) (p : Policy) → HasFirst (Came now (Request asker name)) start host (hears_request asker name (sees host) p).lines
-  request_first asker name p = by (nat_eq ((view_of host).distance source) unknown) where
+  request_first asker name p = by (nat_eq ((view_of host).distance source) UNKNOWN_DISTANCE) where
     source : ℕ
     source = cond (holds (view_of host) name) asker name.source
 
     line : Line
     line = Hears (Request asker name)
 
-    by : (b : Bool) → HasFirst (Came now (Request asker name)) start host (cond b (SetsDistance source p.usual ∷ line ∷ SetsDistance source unknown ∷ []) (line ∷ []))
-    by true = record { first = SetsDistance source p.usual ∷ line ∷ []; rest = SetsDistance source unknown ∷ []; split = refl; fine = (tt, ((now, refl), tt)); small = (tt, tt) }
+    by : (b : Bool) → HasFirst (Came now (Request asker name)) start host (cond b (SetsDistance source p.usual ∷ line ∷ SetsDistance source UNKNOWN_DISTANCE ∷ []) (line ∷ []))
+    by true = record { first = SetsDistance source p.usual ∷ line ∷ []; rest = SetsDistance source UNKNOWN_DISTANCE ∷ []; split = refl; fine = (tt, ((now, refl), tt)); small = (tt, tt) }
     by false = one_first (Came now (Request asker name)) start host line [] (now, refl) tt
 
   hears_first : (v : Datagram) (p : Policy) → HasFirst (Came now v) start host (hears v (sees host) p).lines
@@ -243,7 +245,7 @@ drawop_begins now d k = by (holds (view_of host) d.name) (is_full (view_of host)
 
 pub request_begins : (now asker : ℕ) (name : NameValue) (k : Keeping) → nat_eq asker k.host.is.number ≡ false
     → (before : List Line) × (rest : List Line) × ((came now (Request asker name) (sees k.host) k.policy).lines ≡ (Ticks now ∷ before) ++ Hears (Request asker name) ∷ rest)
-request_begins now asker name k other = by (nat_eq asker k.host.is.number) (nat_eq ((view_of host).distance source) unknown) other where
+request_begins now asker name k other = by (nat_eq asker k.host.is.number) (nat_eq ((view_of host).distance source) UNKNOWN_DISTANCE) other where
   host : Opened
   host = after_line (Ticks now) k.host
 
@@ -254,7 +256,7 @@ request_begins now asker name k other = by (nat_eq asker k.host.is.number) (nat_
   line = Hears (Request asker name)
 
   lent : Bool → Doing
-  lent lends = record { policy = k.policy; lines = cond lends (SetsDistance source k.policy.usual ∷ line ∷ SetsDistance source unknown ∷ []) (line ∷ []) }
+  lent lends = record { policy = k.policy; lines = cond lends (SetsDistance source k.policy.usual ∷ line ∷ SetsDistance source UNKNOWN_DISTANCE ∷ []) (line ∷ []) }
 
   heard : Bool → Bool → Doing
   heard own lends = cond own (still (sees host) k.policy) (lent lends)

@@ -10,12 +10,14 @@ use Rattle.wb_member.specs.Members.{Misses}
 use Rattle.wb_member.specs.Opened.{Opened, doing, has_room_for, heard, may_ask, opened_with, present}
 use Rattle.wb_member.specs.Random.{word_of}
 use Rattle.wb_progress.specs.Keepers.{AreOrderly, farthest}
-use Rattle.wb_keeping.specs.Distances.{bounded, first_usual, unknown, usual_with}
+use Rattle.wb_policy.specs.Distances.{bounded, usual_with}
+use Rattle.wb_policy.specs.declared.limits.TheConstants.{FIRST_DISTANCE, UNKNOWN_DISTANCE}
 use Rattle.wb_keeping.specs.Kept.{Arrives, Asks, Doing, Hears, Line, Says, SetsDistance, Tunes, Stops, Ticks, still, want}
 use Rattle.wb_keeping.specs.Laws.{KeptLine, doing_of, fault_of}
 use Rattle.wb_keeping.specs.Performing.{Keeping, after_doing, after_line, after_lines, sees, view_of}
-use Rattle.wb_keeping.specs.Policy.{Policy, View, after_wanting, holds, is_full, level, is_known}
-use Rattle.wb_keeping.specs.Wanting.{is_wanted}
+use Rattle.wb_policy.specs.Policy.{Policy, after_wanting}
+use Rattle.wb_keeping.specs.Views.{View, holds, is_full, level, is_known}
+use Rattle.wb_policy.specs.Wanting.{is_wanted}
 use Rattle.wb_keeping.proofs.EachStep.{HoldsOfSteps, line_holds}
 use Rattle.wb_keeping.proofs.Performed.{after_both}
 use Rattle.wb_keeping.proofs.Wanted.{lines_wanted}
@@ -82,12 +84,12 @@ hears_orderly v host is = by (has_room_for v host) where
   by true = (itself (present host), tt, is)
   by false = is
 
-unknown_fits : unknown ≤ farthest
+unknown_fits : UNKNOWN_DISTANCE ≤ farthest
 unknown_fits = omega arith
 
 bounded_near : (micros : ℕ) → bounded micros ≤ 1000000
-bounded_near micros = by (nat_eq (min (max micros 10000) 1000000) unknown) where
-  by : (b : Bool) → cond b (unknown + 1) (min (max micros 10000) 1000000) ≤ 1000000
+bounded_near micros = by (nat_eq (min (max micros 10000) 1000000) UNKNOWN_DISTANCE) where
+  by : (b : Bool) → cond b (UNKNOWN_DISTANCE + 1) (min (max micros 10000) 1000000) ≤ 1000000
   by true = omega arith
   by false = omega arith
 
@@ -149,7 +151,7 @@ opening_goes : (moments : List ℕ) (host : Opened) (now : ℕ) → present host
 opening_goes [] host now e on is = is
 opening_goes (moment ∷ moments) host now e on is = opening_goes moments (after_line (Ticks moment) host) moment refl on.1 (subst (λ (n : ℕ). n ≤ moment) (sym e) on.0, tt, is)
 
-first_near : first_usual ≤ 1000000
+first_near : FIRST_DISTANCE ≤ 1000000
 first_near = omega arith
 
 pub kept_goes : (hosts : ℕ → Opening) → AreHosts hosts → (lines : List LineAt) → AreTaken hosts lines → (i : ℕ) → Goes (kept_at hosts lines i)

@@ -28,12 +28,14 @@ use Rattle.wb_progress.proofs.OneCall.{not_standing}
 use Rattle.wb_member.specs.Judged.{is_full, level}
 use Rattle.wb_member.specs.Opened.{Opened, asks_for, due_count, events, has_room_for, heard, present, ticked}
 use Rattle.wb_member.specs.Random.{words_of}
-use Rattle.wb_keeping.specs.Credit.{cost}
-use Rattle.wb_keeping.specs.Distances.{bounded}
+use Rattle.wb_policy.specs.declared.limits.TheConstants.{COST}
+use Rattle.wb_policy.specs.Distances.{bounded}
 use Rattle.wb_keeping.specs.Fairness.{AnswersWhatIsHeld}
-use Rattle.wb_keeping.specs.Kept.{Hears, SetsDistance, Ticks, Transition, and_then, came, distance_in, hears, hears_session, measures, own_echo, own_marks, performs, still, timed, told_names, want_told, Line}
+use Rattle.wb_policy.specs.Choices.{distance_in, own_echo, own_marks, told_names}
+use Rattle.wb_keeping.specs.Kept.{Hears, SetsDistance, Ticks, Transition, and_then, came, hears, hears_session, measures, performs, still, timed, want_told, Line}
 use Rattle.wb_keeping.specs.Performing.{Keeping, after_doing, after_lines, sees, view_of}
-use Rattle.wb_keeping.specs.Policy.{Policy, holds, with_distance}
+use Rattle.wb_policy.specs.Policy.{Policy, with_distance}
+use Rattle.wb_keeping.specs.Views.{holds}
 use Rattle.wb_keeping.proofs.EachStep.{having, HoldsOfDue, having_done, timed_holds}
 use Rattle.wb_keeping.proofs.Performed.{then_after}
 use Rattle.wb_keeping.proofs.StandingTimers.{keeps}
@@ -149,7 +151,7 @@ asked_as k m n same owed is = record {
   };
   new = subst (λ (h : Opened). IsNew h n) (sym same) is.new;
 } where
-  at_most : (now later owed owes names : ℕ) → now + names * cost ≤ max owed now → later ≡ now → owes ≡ owed → later + names * cost ≤ max owes later
+  at_most : (now later owed owes names : ℕ) → now + names * COST ≤ max owed now → later ≡ now → owes ≡ owed → later + names * COST ≤ max owes later
   at_most now later owed owes names p e f = omega (arith, p, e, f)
 
 abbrev StaysAsked : NameValue → Keeping → List Line → Keeping → Type 0
@@ -210,10 +212,10 @@ module _ (k : Keeping) (fine : IsFine k) (answering : AnswersWhatIsHeld k.host) 
     answers = λ x. lines_answer_held x (Ticks now ∷ []) k.host (answering x);
     paid = upto now k.policy.owed owed;
   } where
-    nothing : (now owed : ℕ) → now + 0 * cost ≤ max owed now
+    nothing : (now owed : ℕ) → now + 0 * COST ≤ max owed now
     nothing now owed = omega arith
 
-    upto : (now owed : ℕ) → owed ≤ now → owed ≤ now + 0 * cost
+    upto : (now owed : ℕ) → owed ≤ now → owed ≤ now + 0 * COST
     upto now owed le = omega (arith, le)
 
   abbrev one : Keeping

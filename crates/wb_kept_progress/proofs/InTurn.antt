@@ -12,19 +12,22 @@ use Rattle.wb_gaps.specs.Answers.{report_of}
 use Rattle.wb_keeper.specs.Keeper.{holds}
 use Rattle.wb_member.specs.Judged.{is_full}
 use Rattle.wb_member.specs.Opened.{present, asks_for}
-use Rattle.wb_keeping.specs.Fairness.{AnswersWhatIsHeld, Told, after_telling, after_turn, marks_in_turn, name_in_turn, page_in_turn}
-use Rattle.wb_keeping.specs.Kept.{Doing, Line, Transition, and_then, answers, asks_pages, last_heard, reports, reports_due, still, timed, turn}
+use Rattle.wb_policy.specs.Fairness.{Told, after_telling, after_turn, marks_in_turn, name_in_turn, page_in_turn}
+use Rattle.wb_keeping.specs.Fairness.{AnswersWhatIsHeld}
+use Rattle.wb_policy.specs.Choices.{last_heard}
+use Rattle.wb_keeping.specs.Kept.{Doing, Line, Transition, and_then, answers, asks_pages, reports, reports_due, still, timed, turn}
 use Rattle.wb_keeping.specs.Performing.{Keeping, after_doing, after_lines, sees, sent_by_doing, sent_by_lines, view_of}
-use Rattle.wb_keeping.specs.Policy.{Policy}
-use Rattle.wb_keeping.specs.Reports.{rest_after}
-use Rattle.wb_keeping.proofs.FairTurns.{turns_are_taken}
+use Rattle.wb_policy.specs.Policy.{Policy}
+use Rattle.wb_policy.specs.Reports.{rest_after}
+use Rattle.wb_keeping.proofs.TakenTurns.{turns_are_taken}
 use Rattle.wb_keeping.proofs.Performed.{then_after, then_sent}
-use Rattle.wb_keeping.proofs.ToldMarks.{reports_tell}
+use Rattle.wb_keeping.proofs.ToldReports.{reports_tell}
 use Rattle.wb_kept_progress.proofs.Lines.{IsOf, Rests, lines_of, IsSmall, are_small, does_rest}
 use Rattle.wb_kept_progress.proofs.WantedIn.{IsAskedIn, IsAskedInCall, LacksCredit, IsWantedIn, MayBeWanted, turn_wants, wanted_later, IsAskedThen, asked_at_end, turn_owed, same_may}
 use Rattle.wb_keeping.proofs.EachLine.{answers_each, asks_pages_each, reports_each, turn_each}
 use Rattle.wb_kept_progress.proofs.Leaving.{Leaves, answers_leave, asks_leave, rest_late, rest_leaves, rest_soon, told_of, turn_tells}
-use Rattle.wb_keeping.specs.Credit.{cost, has_credit}
+use Rattle.wb_policy.specs.Credit.{has_credit}
+use Rattle.wb_policy.specs.declared.limits.TheConstants.{COST}
 use Rattle.std.proofs.lemmas.Bool.{false_from_ne_true, le-leb}
 
 -- ---- what a policy tells and whose turn it is
@@ -276,7 +279,7 @@ module _ (m : Keeping) where
           (λ (without : LacksCredit x). absurd (true≢false (sym (has_credit_then x.policy.owed (present x.host) (present m.host) owed_turn now) ∙ without)))
           (asked_r n may in_turn) where
             has_credit_then : (owed now then : ℕ) → owed ≤ then + 250000 → now ≡ then → has_credit owed now ≡ true
-            has_credit_then owed now then le e = le-leb (max owed now - now) (63 * cost) (omega (arith, le, e))
+            has_credit_then owed now then le e = le-leb (max owed now - now) (63 * COST) (omega (arith, le, e))
 
 -- ---- the whole call
 

@@ -14,7 +14,8 @@ use Rattle.wb_member.specs.Opened.{Opened, events}
 use Rattle.wb_keeping.specs.Kept.{Line, Ticks, Tunes}
 use Rattle.wb_keeping.specs.Laws.{KeptLine, Came, Ticked, Added, Tuned, doing_of}
 use Rattle.wb_keeping.specs.Performing.{after_line, after_lines, sees, sent_by_line, sent_by_lines}
-use Rattle.wb_keeping.specs.Policy.{Policy, View}
+use Rattle.wb_policy.specs.Policy.{Policy}
+use Rattle.wb_keeping.specs.Views.{View}
 use Rattle.wb_kept_progress.specs.Sessions.{Opening, kept_at}
 use Rattle.wb_kept_progress.specs.Timed.{AllHoldBehind, AllKeptHoldBehind, IsGivenUp, IsKeptTimely, KeptRequestIsAnswered, KeptTimerLeadsOrIsGivenUp, Performed, Start, TimedLine, called_at, host_after, lines_of, performed, performed_then, start_of, time_of}
 use Rattle.wb_kept_progress.proofs.Performed.{after_all, kept_is_performed}

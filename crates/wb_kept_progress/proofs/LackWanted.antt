@@ -16,13 +16,14 @@ use Rattle.wb_keeper.specs.Keeper.{holds}
 use Rattle.wb_progress.specs.InTime.{known_from, repairing}
 use Rattle.wb_progress.specs.Turns.{Terms, settled_by}
 use Rattle.wb_member.specs.Opened.{present}
-use Rattle.wb_keeping.specs.Fairness.{Told, after_tellings, after_turns, marks_in_turn, name_in_turn, page_in_turn, slices_of, slices_on}
-use Rattle.wb_keeping.specs.Kept.{came, told_names}
+use Rattle.wb_policy.specs.Fairness.{Told, after_tellings, after_turns, marks_in_turn, name_in_turn, page_in_turn, slices_of, slices_on}
+use Rattle.wb_policy.specs.Choices.{told_names}
+use Rattle.wb_keeping.specs.Kept.{came}
 use Rattle.wb_keeping.specs.Laws.{KeptLine, doing_of}
 use Rattle.wb_keeping.specs.Performing.{Keeping, after_doing, sent_by_doing}
-use Rattle.wb_keeping.specs.Policy.{Policy}
-use Rattle.wb_keeping.proofs.FairTurns.{each_number_has_its_turn}
-use Rattle.wb_keeping.proofs.ToldMarks.{each_mark_is_told}
+use Rattle.wb_policy.specs.Policy.{Policy}
+use Rattle.wb_policy.proofs.FairTurns.{each_number_has_its_turn}
+use Rattle.wb_policy.proofs.ToldMarks.{each_mark_is_told}
 use Rattle.wb_kept_progress.specs.Sessions.{Opening}
 use Rattle.wb_kept_progress.specs.Timed.{IsTold, TimedLine, called_at, host_after, lines_of, performed, start_of, until}
 use Rattle.wb_kept_progress.specs.Whole.{AreCalledInOrder, AreWithin, IsHandedIn, IsHeldBySome, IsTimelySession, Sizes, report_span, there}

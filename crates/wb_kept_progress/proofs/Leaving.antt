@@ -9,14 +9,17 @@ use Rattle.wb_codec.specs.declared.datagram.Datagram.TheVariants.{Draw, Session,
 use Rattle.wb_gaps.specs.Answers.{pages_of}
 use Rattle.wb_gaps.specs.Holes.{hole_after}
 use Rattle.wb_gaps.specs.declared.holes.Hole.{Hole}
-use Rattle.wb_keeping.specs.Fairness.{AnswersWhatIsHeld, Told}
-use Rattle.wb_keeping.specs.Kept.{Arrives, Doing, Hears, Line, Says, Transition, and_then, answers, asks_pages, distance_in, end, hears, hears_session, hears_some, hears_state, is_begun, is_unasked, learned, measures, of_other, own_echo, own_marks, paid_for, performs, reports_rest, state_of, still, takes, takes_question, told_names, turn, turn_to, want, want_near, want_told, hears_request}
+use Rattle.wb_policy.specs.Fairness.{Told}
+use Rattle.wb_keeping.specs.Fairness.{AnswersWhatIsHeld}
+use Rattle.wb_policy.specs.Choices.{distance_in, own_echo, own_marks, told_names}
+use Rattle.wb_keeping.specs.Kept.{Arrives, Doing, Hears, Line, Says, Transition, and_then, answers, asks_pages, end, hears, hears_session, hears_some, hears_state, is_begun, is_unasked, learned, measures, of_other, paid_for, performs, reports_rest, state_of, still, takes, takes_question, turn, turn_to, want, want_near, want_told, hears_request}
 use Rattle.wb_keeping.specs.Performing.{Keeping, after_doing, sees}
-use Rattle.wb_keeping.specs.Policy.{Policy, View, after_answer, after_question, after_state, after_taking_up, after_turn, after_wanting, holds, in_next_round, is_asked, is_full}
-use Rattle.wb_keeping.specs.Questions.{is_due, is_to_answer}
-use Rattle.wb_keeping.specs.Reports.{next_report}
-use Rattle.wb_keeping.specs.Turns.{name_in, nowhere}
-use Rattle.wb_keeping.specs.Words.{word_of}
+use Rattle.wb_policy.specs.Policy.{Policy, after_answer, after_question, after_state, after_taking_up, after_turn, after_wanting, in_next_round}
+use Rattle.wb_keeping.specs.Views.{View, holds, is_asked, is_full}
+use Rattle.wb_policy.specs.Questions.{is_due, is_to_answer}
+use Rattle.wb_policy.specs.Reports.{next_report}
+use Rattle.wb_policy.specs.Turns.{name_in, nowhere}
+use Rattle.wb_policy.specs.Words.{word_of}
 use Rattle.wb_keeping.proofs.Wanted.{is_wanted_here, lacks_here, lines_wanted, near_here, with_room_done}
 use Rattle.wb_keeping.proofs.WantedNames.{lines_answer_held}
 

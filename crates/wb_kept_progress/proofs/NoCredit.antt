@@ -7,11 +7,12 @@ use Rattle.wb_names.specs.Values.{NameValue}
 use Rattle.wb_progress.specs.InTime.{known_from, repairing}
 use Rattle.wb_progress.specs.Turns.{Terms, settled_by}
 use Rattle.wb_member.specs.Opened.{present}
-use Rattle.wb_keeping.specs.Credit.{cost, has_credit, spent}
+use Rattle.wb_policy.specs.Credit.{has_credit, spent}
+use Rattle.wb_policy.specs.declared.limits.TheConstants.{COST}
 use Rattle.wb_keeping.specs.Kept.{Asks}
 use Rattle.wb_keeping.specs.Laws.{doing_of, fault_of}
 use Rattle.wb_keeping.specs.Performing.{Keeping, after_doing, sees}
-use Rattle.wb_keeping.specs.Policy.{Policy}
+use Rattle.wb_policy.specs.Policy.{Policy}
 use Rattle.wb_kept_progress.specs.Sessions.{AreTaken, Opening}
 use Rattle.wb_kept_progress.specs.Timed.{Performed, TimedLine, called_at, lines_of, time_of}
 use Rattle.wb_kept_progress.specs.Whole.{IsHeldBySome, IsTimelySession, there}
@@ -43,7 +44,7 @@ covered_report : (owed owes due later now then last : ℕ) → owes ≤ max owed
 covered_report owed owes due later now then last le due_then next after before covered = omega (arith, le, due_then, next, after, before, covered)
 
 covered_last : (owed due last : ℕ) → 21000000 ≤ last → IsCovered owed due last last → has_credit owed last ≡ true
-covered_last owed due last long covered = le-leb (max owed last - last) (63 * cost) (omega (arith, long, covered))
+covered_last owed due last long covered = le-leb (max owed last - last) (63 * COST) (omega (arith, long, covered))
 
 -- ---- in a window in which what is held stays
 

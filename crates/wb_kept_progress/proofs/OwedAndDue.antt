@@ -7,14 +7,15 @@ use Rattle.wb_codec.specs.declared.datagram.Datagram.{Datagram}
 use Rattle.wb_gaps.specs.Answers.{pages_of}
 use Rattle.wb_progress.specs.Turns.{Terms}
 use Rattle.wb_member.specs.Opened.{has_room_for, heard, opened_with, present}
-use Rattle.wb_keeping.specs.Credit.{cost}
+use Rattle.wb_policy.specs.declared.limits.TheConstants.{COST}
 use Rattle.wb_keeping.specs.Kept.{Doing, Hears, Line, Says, Ticks, state_of, still, want}
 use Rattle.wb_keeping.specs.Laws.{doing_of, fault_of}
 use Rattle.wb_keeping.specs.Performing.{Keeping, after_doing, after_lines, sees, view_of}
-use Rattle.wb_keeping.specs.Policy.{View, after_answer, after_wanting, holds, is_full, level, is_known}
-use Rattle.wb_keeping.specs.Wanting.{goes_on, is_wanted}
-use Rattle.wb_keeping.specs.Words.{started, word_of}
-use Rattle.wb_keeping.proofs.Spending.{has_place}
+use Rattle.wb_policy.specs.Policy.{after_answer, after_wanting}
+use Rattle.wb_keeping.specs.Views.{View, holds, is_full, level, is_known}
+use Rattle.wb_policy.specs.Wanting.{goes_on, is_wanted}
+use Rattle.wb_policy.specs.Words.{started, word_of}
+use Rattle.wb_policy.proofs.Spending.{has_place}
 use Rattle.wb_keeping.proofs.EachStep.{HoldsOfSteps, doing, having, having_done, line_holds}
 use Rattle.wb_keeping.proofs.Saying.{says_after}
 use Rattle.wb_keeping.proofs.Wanted.{lines_wanted}
@@ -65,7 +66,7 @@ wants_near name anew k n = record {
   now : present (after_doing (want name anew) k).host ≡ present k.host
   now = (does_rest (want name anew) (want_each IsSmall are_small name anew) k).now
 
-  one_more : (owed now : ℕ) → max owed now - now ≤ 63 * cost → max owed now + cost ≤ now + 16000000
+  one_more : (owed now : ℕ) → max owed now - now ≤ 63 * COST → max owed now + COST ≤ now + 16000000
   one_more owed now le = omega (arith, le)
 
   by : (b : Bool) → is_wanted (holds v name) (is_full v) anew (is_known v name.source) (level v name) k.policy.owed v.now ≡ b
@@ -76,7 +77,7 @@ wants_near name anew k n = record {
       let two = and_parts (not (is_full v)) _ one.1 in
       let three = and_parts (not (goes_on anew (level v name))) _ two.1 in
       let place = has_place (anew || is_known v name.source) k.policy.owed v.now three.1 in
-      one_more k.policy.owed v.now (leb-true (max k.policy.owed v.now - v.now) (63 * cost) place)
+      one_more k.policy.owed v.now (leb-true (max k.policy.owed v.now - v.now) (63 * COST) place)
 
   due_by : (b : Bool) → (let d : Doing = cond b wanted (still (sees k.host) k.policy) in d.policy.reports.due) ≡ k.policy.reports.due
   due_by true = refl

@@ -9,7 +9,8 @@ use Rattle.wb_member.specs.Opened.{opened_with, present}
 use Rattle.wb_keeping.specs.Kept.{Line, Doing, Hears, Tunes, Ticks, Transition, adds, and_then, came, draws_it, ends_full, hears, ticks, timed}
 use Rattle.wb_keeping.specs.Laws.{KeptLine, Came, Ticked, Added, Tuned, doing_of}
 use Rattle.wb_keeping.specs.Performing.{Keeping, after_doing, after_line, after_lines, sees}
-use Rattle.wb_keeping.specs.Policy.{Policy, View}
+use Rattle.wb_policy.specs.Policy.{Policy}
+use Rattle.wb_keeping.specs.Views.{View}
 use Rattle.wb_kept_progress.specs.Sessions.{Opening, kept_at}
 use Rattle.wb_kept_progress.specs.Timed.{IsTold, KeptIsPerformed, KeptKeepsMoments, Performed, Start, TellTimes, TimedLine, host_after, lines_of, performed, performed_then, start_of}
 use Rattle.wb_kept_progress.proofs.PerLine.{line_moment}

@@ -30,11 +30,11 @@ use Rattle.wb_progress.proofs.Repairs.{answers_are_soon, asker_asks}
 use Rattle.wb_member.specs.Judged.{is_full}
 use Rattle.wb_member.specs.Opened.{Opened, asks_for, due_count, events, heard, opened_with, present, sent_by, ticked, word_at}
 use Rattle.wb_member.specs.Random.{words_of}
-use Rattle.wb_keeping.specs.Distances.{unknown}
+use Rattle.wb_policy.specs.declared.limits.TheConstants.{UNKNOWN_DISTANCE}
 use Rattle.wb_keeping.specs.Kept.{Arrives, Doing, Hears, Ticks, and_then, came, hears, learned, performs, still, takes, ticks, timed, Line, SetsDistance, hears_request}
 use Rattle.wb_keeping.specs.Laws.{Came, KeptLine, Ticked, doing_of, fault_of}
 use Rattle.wb_keeping.specs.Performing.{Keeping, after_doing, after_line, after_lines, sees, sent_by_doing, view_of}
-use Rattle.wb_keeping.specs.Policy.{holds as holds_by, is_asked}
+use Rattle.wb_keeping.specs.Views.{holds as holds_by, is_asked}
 use Rattle.wb_keeping.specs.Refusing.{is_unknown}
 use Rattle.wb_keeping.specs.declared.kept_fault.KeptFault.TheVariants.{Host, Ours}
 use Rattle.wb_keeping.proofs.EachStep.{having}
@@ -71,12 +71,12 @@ heard_source asker n host = cond (holds_by (view_of host) n) asker n.source
 
 -- a host while the usual distance is lent to a source, where that told none
 abbrev lending_host : ℕ → ℕ → Opened → Opened
-lending_host source usual host = cond (nat_eq ((view_of host).distance source) unknown) (after_line (SetsDistance source usual) host) host
+lending_host source usual host = cond (nat_eq ((view_of host).distance source) UNKNOWN_DISTANCE) (after_line (SetsDistance source usual) host) host
 
 pub request_rests : (now asker : ℕ) (n : NameValue) (k : Keeping) → (asker ≡ k.host.is.number → ⊥)
     → let host = ticked now k.host in
     Rests (after_line (Hears (Request asker n)) (lending_host (heard_source asker n host) k.policy.usual host)) (after_doing (came now (Request asker n)) k).host
-request_rests now asker n k other = subst (λ (x : Keeping). Rests (after_line line (lending_host source k.policy.usual m.host)) x.host) (sym there) (by (nat_eq ((view_of m.host).distance source) unknown)) where
+request_rests now asker n k other = subst (λ (x : Keeping). Rests (after_line line (lending_host source k.policy.usual m.host)) x.host) (sym there) (by (nat_eq ((view_of m.host).distance source) UNKNOWN_DISTANCE)) where
   m : Keeping
   m = having (Ticks now) k
 
@@ -87,19 +87,19 @@ request_rests now asker n k other = subst (λ (x : Keeping). Rests (after_line l
   source = heard_source asker n m.host
 
   with_it : Bool → Doing
-  with_it lends = record { policy = k.policy; lines = cond lends (SetsDistance source k.policy.usual ∷ line ∷ SetsDistance source unknown ∷ []) (line ∷ []) }
+  with_it lends = record { policy = k.policy; lines = cond lends (SetsDistance source k.policy.usual ∷ line ∷ SetsDistance source UNKNOWN_DISTANCE ∷ []) (line ∷ []) }
 
-  heard_so : after_doing (hears (Request asker n)) m ≡ done m (with_it (nat_eq ((view_of m.host).distance source) unknown))
+  heard_so : after_doing (hears (Request asker n)) m ≡ done m (with_it (nat_eq ((view_of m.host).distance source) UNKNOWN_DISTANCE))
   heard_so = ap (λ (b : Bool). done m (cond b (still (sees m.host) m.policy) (hears_request asker n (sees m.host) m.policy))) (false_from_ne_true (nat_eq asker k.host.is.number) (λ same. other (eqb-true asker k.host.is.number same)))
 
-  there : after_doing (came now (Request asker n)) k ≡ after_doing timed (done m (with_it (nat_eq ((view_of m.host).distance source) unknown)))
+  there : after_doing (came now (Request asker n)) k ≡ after_doing timed (done m (with_it (nat_eq ((view_of m.host).distance source) UNKNOWN_DISTANCE)))
   there = came_after now (Request asker n) k ∙ ap (after_doing timed) heard_so
 
   by : (lends : Bool) → Rests (after_line line (cond lends (after_line (SetsDistance source k.policy.usual) m.host) m.host)) (after_doing timed (done m (with_it lends))).host
   by true =
       let g = after_line line (after_line (SetsDistance source k.policy.usual) m.host) in
       let last = done m (with_it true) in
-      rests_then g last.host (after_doing timed last).host (line_rests (SetsDistance source unknown) g tt) (does_rest timed (timed_each IsSmall are_small) last)
+      rests_then g last.host (after_doing timed last).host (line_rests (SetsDistance source UNKNOWN_DISTANCE) g tt) (does_rest timed (timed_each IsSmall are_small) last)
   by false = does_rest timed (timed_each IsSmall are_small) (done m (with_it false))
 
 -- a drawop that is not held is taken into a lt-ltb cell
@@ -379,7 +379,7 @@ module _ (o : Keeping) (fine : IsFine o) (d : DrawopValue) (held : Contains o.ho
   g3 = after_line (Hears (Request asker n)) (lending_host (heard_source asker n h3) o2.policy.usual h3)
 
   heard_3 : Heard h3 g3
-  heard_3 = by (nat_eq ((view_of h3).distance (heard_source asker n h3)) unknown) where
+  heard_3 = by (nat_eq ((view_of h3).distance (heard_source asker n h3)) UNKNOWN_DISTANCE) where
     lent : Opened
     lent = after_line (SetsDistance (heard_source asker n h3) o2.policy.usual) h3
 

@@ -9,7 +9,7 @@ use Rattle.wb_member.specs.Opened.{present}
 use Rattle.wb_keeping.specs.Kept.{Ticks, came, hears, performs, ticks, timed}
 use Rattle.wb_keeping.specs.Laws.{KeptLine, Came, Ticked, Added, Tuned, doing_of}
 use Rattle.wb_keeping.specs.Performing.{Keeping, after_doing, sees}
-use Rattle.wb_keeping.specs.Policy.{draws}
+use Rattle.wb_policy.specs.Policy.{draws}
 use Rattle.wb_keeping.proofs.EachStep.{having}
 use Rattle.wb_keeping.proofs.Performed.{then_after}
 use Rattle.wb_kept_progress.specs.Timed.{IsTold}

@@ -2,7 +2,7 @@
 use Rattle.std.proofs.Common.{◌≡◌, ℕ, ◌+◌, ◌≤◌, ◌∷◌, arith, inl, inr, ⊎_elim}
 use Rattle.std.specs.Prelude.{◌⊎◌, Contains}
 use Rattle.wb_names.specs.Values.{NameValue}
-use Rattle.wb_keeping.specs.Credit.{spent}
+use Rattle.wb_policy.specs.Credit.{spent}
 use Rattle.wb_keeping.specs.Kept.{Asks}
 use Rattle.wb_kept_progress.specs.Whole.{IsHeldBySome, there}
 use Rattle.wb_kept_progress.proofs.Causes.{goes}

@@ -12,9 +12,10 @@ use Rattle.wb_member.specs.Opened.{Opened, events}
 use Rattle.wb_keeping.specs.Kept.{Arrives, Asks, Doing, Hears, Line, Says, SetsDistance, Tunes, Stops, Ticks, room_lines, still, stops_one, want, lending}
 use Rattle.wb_keeping.specs.Laws.{fault_of}
 use Rattle.wb_keeping.specs.Performing.{Keeping, after_line, after_lines, sees, view_of}
-use Rattle.wb_keeping.specs.Policy.{Policy, View, after_wanting, holds, level, is_full as shows_full, is_known}
-use Rattle.wb_keeping.specs.Wanting.{gives_way, goes_on, is_old, is_paid, is_wanted, oldest, way_of}
-use Rattle.wb_keeping.specs.declared.wanting.AskedName.{AskedName}
+use Rattle.wb_policy.specs.Policy.{Policy, after_wanting}
+use Rattle.wb_keeping.specs.Views.{View, holds, level, is_full as shows_full, is_known}
+use Rattle.wb_policy.specs.Wanting.{gives_way, goes_on, is_old, is_paid, is_wanted, oldest, way_of}
+use Rattle.wb_policy.specs.declared.wanting.AskedName.{AskedName}
 use Rattle.wb_keeping.proofs.AskedTimers.{level_seen}
 use Rattle.wb_keeping.proofs.EachStep.{HoldsOfSteps, doing, line_holds}
 use Rattle.wb_keeping.proofs.Performed.{after_both}

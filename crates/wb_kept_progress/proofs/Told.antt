@@ -7,7 +7,8 @@ use Rattle.wb_names.specs.declared.name.PageId.{PageId}
 use Rattle.wb_codec.specs.declared.datagram.Datagram.{Datagram}
 use Rattle.wb_codec.specs.declared.datagram.Datagram.TheVariants.{Session}
 use Rattle.wb_member.specs.Opened.{has_room_for, heard}
-use Rattle.wb_keeping.specs.Kept.{Doing, Hears, Ticks, Transition, and_then, came, distance_in, hears, hears_session, measures, own_echo, own_marks, performs, still, timed, told_names, want_told}
+use Rattle.wb_policy.specs.Choices.{distance_in, own_echo, own_marks, told_names}
+use Rattle.wb_keeping.specs.Kept.{Doing, Hears, Ticks, Transition, and_then, came, hears, hears_session, measures, performs, still, timed, want_told}
 use Rattle.wb_keeping.specs.Performing.{Keeping, after_doing, after_lines, sees}
 use Rattle.wb_keeping.proofs.EachStep.{having}
 use Rattle.wb_keeping.proofs.Performed.{then_after}

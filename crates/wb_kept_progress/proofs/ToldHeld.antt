@@ -21,12 +21,14 @@ use Rattle.wb_keeper.specs.Ticks.{drawop_of, sent_for}
 use Rattle.wb_keeper.proofs.TickSends.{sent_from}
 use Rattle.wb_progress.proofs.NamesApart.{from_take}
 use Rattle.wb_member.specs.Opened.{Opened, becomes, has_room_for, present, sent_by}
-use Rattle.wb_keeping.specs.Kept.{Arrives, Asks, Hears, Line, Says, SetsDistance, Tunes, Stops, Ticks, last_heard, state_of, still, want}
+use Rattle.wb_policy.specs.Choices.{last_heard}
+use Rattle.wb_keeping.specs.Kept.{Arrives, Asks, Hears, Line, Says, SetsDistance, Tunes, Stops, Ticks, state_of, still, want}
 use Rattle.wb_keeping.specs.Laws.{KeptLine, doing_of, fault_of}
 use Rattle.wb_keeping.specs.Performing.{Keeping, after_doing, after_line, after_lines, said_where, sees, sent_by_doing, sent_by_line, sent_by_lines, view_of}
-use Rattle.wb_keeping.specs.Policy.{Policy, View, after_wanting, holds, is_full, level, is_known}
-use Rattle.wb_keeping.specs.Reports.{is_untold, slice_after}
-use Rattle.wb_keeping.specs.Wanting.{is_wanted}
+use Rattle.wb_policy.specs.Policy.{Policy, after_wanting}
+use Rattle.wb_keeping.specs.Views.{View, holds, is_full, level, is_known}
+use Rattle.wb_policy.specs.Reports.{is_untold, slice_after}
+use Rattle.wb_policy.specs.Wanting.{is_wanted}
 use Rattle.wb_keeping.proofs.EachStep.{HoldsOfSteps, doing, line_holds}
 use Rattle.wb_keeping.proofs.Performed.{after_both, sent_by_both}
 use Rattle.wb_keeping.proofs.Wanted.{lines_wanted}

@@ -22,16 +22,17 @@ use Rattle.wb_keeper.specs.Keeper.{holds}
 use Rattle.wb_keeper.proofs.KeptCalls.{holds_not}
 use Rattle.wb_member.specs.Judged.{is_full}
 use Rattle.wb_member.specs.Opened.{Opened, asks_for, opened_with, present}
-use Rattle.wb_keeping.specs.Fairness.{AnswersWhatIsHeld, Told, after_telling, after_tellings, after_turn, after_turns, left_to_tell, marks_in_turn, name_in_turn, page_in_turn, where_left}
+use Rattle.wb_policy.specs.Fairness.{Told, after_telling, after_tellings, after_turn, after_turns, left_to_tell, marks_in_turn, name_in_turn, page_in_turn, where_left}
+use Rattle.wb_keeping.specs.Fairness.{AnswersWhatIsHeld}
 use Rattle.wb_keeping.specs.Kept.{Ticks, performs, ticks, timed}
 use Rattle.wb_keeping.specs.Laws.{Added, Came, KeptLine, Ticked, Tuned, doing_of}
 use Rattle.wb_keeping.specs.Performing.{Keeping, after_doing, sees, sent_by_doing}
-use Rattle.wb_keeping.specs.Reports.{is_telling, page_after, slice_after}
-use Rattle.wb_keeping.specs.declared.turns.Turns.{Turns}
+use Rattle.wb_policy.specs.Reports.{is_telling, page_after, slice_after}
+use Rattle.wb_policy.specs.declared.turns.Turns.{Turns}
 use Rattle.wb_keeping.specs.Refusing.{is_unknown}
 use Rattle.wb_keeping.proofs.EachStep.{having}
-use Rattle.wb_keeping.proofs.FairTurns.{a_number_has_its_turn, each_number_has_its_turn}
-use Rattle.wb_keeping.proofs.KeptLines.{slices_are_short}
+use Rattle.wb_policy.proofs.FairTurns.{a_number_has_its_turn, each_number_has_its_turn}
+use Rattle.wb_policy.proofs.Latest.{slices_are_short}
 use Rattle.wb_keeping.proofs.Performed.{then_after}
 use Rattle.wb_keeping.proofs.WantedNames.{lines_answer_held}
 use Rattle.wb_kept_progress.specs.Repairs.{AreTicks, ComesToAsk, ComesToTell, IsBrought, IsLost, MissingCanCome, MissingIsAsked, MissingIsAskedSoon, host_at, ready_at, repair}

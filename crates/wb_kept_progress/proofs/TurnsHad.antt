@@ -5,7 +5,7 @@ use Rattle.std.proofs.lemmas.Bool.{leb-false, leb-true}
 use Rattle.wb_names.specs.Values.{NameValue}
 use Rattle.wb_names.proofs.Listings.{Contains-here, Contains-there}
 use Rattle.wb_progress.specs.Turns.{Terms}
-use Rattle.wb_keeping.specs.Fairness.{name_in_turn}
+use Rattle.wb_policy.specs.Fairness.{name_in_turn}
 use Rattle.wb_keeping.specs.Laws.{doing_of}
 use Rattle.wb_keeping.specs.Performing.{Keeping, after_doing}
 use Rattle.wb_kept_progress.specs.Sessions.{Opening}

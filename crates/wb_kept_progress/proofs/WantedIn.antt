@@ -11,12 +11,15 @@ use Rattle.wb_gaps.specs.declared.holes.Hole.{Hole}
 use Rattle.wb_keeper.specs.Keeper.{holds}
 use Rattle.wb_member.specs.Judged.{is_full}
 use Rattle.wb_member.specs.Opened.{asks_for, present}
-use Rattle.wb_keeping.specs.Credit.{cost, has_credit}
-use Rattle.wb_keeping.specs.Fairness.{AnswersWhatIsHeld, led_to, name_in_turn}
+use Rattle.wb_policy.specs.Credit.{has_credit}
+use Rattle.wb_policy.specs.declared.limits.TheConstants.{COST}
+use Rattle.wb_policy.specs.Fairness.{led_to, name_in_turn}
+use Rattle.wb_keeping.specs.Fairness.{AnswersWhatIsHeld}
 use Rattle.wb_keeping.specs.Kept.{Doing, Line, Ticks, Transition, and_then, performs, still, timed, turn, turn_to, want, want_told}
 use Rattle.wb_keeping.specs.Performing.{Keeping, after_doing, after_lines, sees, view_of}
-use Rattle.wb_keeping.specs.Policy.{View, after_turn, after_wanting, in_next_round, Policy}
-use Rattle.wb_keeping.specs.Turns.{name_in, nowhere}
+use Rattle.wb_policy.specs.Policy.{after_turn, after_wanting, in_next_round, Policy}
+use Rattle.wb_keeping.specs.Views.{View}
+use Rattle.wb_policy.specs.Turns.{name_in, nowhere}
 use Rattle.wb_keeping.proofs.EachStep.{having, with_policy, HoldsOfDue, told_holds, timed_holds}
 use Rattle.wb_keeping.proofs.Performed.{after_both, seen_then, then_after}
 use Rattle.wb_keeping.proofs.StandingTimers.{stands_asked}
@@ -116,8 +119,8 @@ costs_both k m n one other = record { owed = let a = one.owed in let b = other.o
 
 no_credit_then : (owed owes now : ℕ) → owed ≤ owes → has_credit owed now ≡ false → has_credit owes now ≡ false
 no_credit_then owed owes now le none = false_from_ne_true (has_credit owes now) (λ e.
-    let few = leb-true (max owes now - now) (63 * cost) e in
-    true≢false (sym (le-leb (max owed now - now) (63 * cost) (omega (arith, few, le))) ∙ none))
+    let few = leb-true (max owes now - now) (63 * COST) e in
+    true≢false (sym (le-leb (max owed now - now) (63 * COST) (omega (arith, few, le))) ∙ none))
 
 pub stays_without : (k m : Keeping) → CostsMore k m → LacksCredit k → LacksCredit m
 stays_without k m costs without =
@@ -128,7 +131,7 @@ want_costs name anew k = record { owed = by (is_wanted_here name anew (sees k.ho
   wanted : Doing
   wanted = record { policy = after_wanting (present k.host) k.policy; lines = lines_wanted name anew (sees k.host) k.policy }
 
-  more : (owed now : ℕ) → owed ≤ max owed now + cost
+  more : (owed now : ℕ) → owed ≤ max owed now + COST
   more owed now = omega arith
 
   by : (b : Bool) → k.policy.owed ≤ (let d : Doing = cond b wanted (still (sees k.host) k.policy) in d.policy.owed)

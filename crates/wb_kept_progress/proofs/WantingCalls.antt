@@ -5,7 +5,7 @@ use Rattle.wb_names.specs.Values.{NameValue}
 use Rattle.wb_recovery.specs.declared.timers.AskTimer.{AskTimer}
 use Rattle.wb_progress.specs.Turns.{Terms}
 use Rattle.wb_member.specs.Opened.{asks_for, present}
-use Rattle.wb_keeping.specs.Credit.{has_credit}
+use Rattle.wb_policy.specs.Credit.{has_credit}
 use Rattle.wb_keeping.specs.Kept.{Line}
 use Rattle.wb_keeping.specs.Laws.{doing_of}
 use Rattle.wb_keeping.specs.Performing.{Keeping, after_doing, after_lines, sees}

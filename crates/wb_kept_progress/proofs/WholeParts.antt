@@ -6,13 +6,13 @@ use Rattle.wb_progress.specs.InTime.{known_from, repairing}
 use Rattle.wb_progress.specs.Turns.{Terms, settled_by}
 use Rattle.wb_member.specs.Judged.{holds}
 use Rattle.wb_member.specs.Opened.{Opened, present}
-use Rattle.wb_keeping.specs.Credit.{has_credit, spent}
-use Rattle.wb_keeping.specs.Fairness.{name_in_turn}
+use Rattle.wb_policy.specs.Credit.{has_credit, spent}
+use Rattle.wb_policy.specs.Fairness.{name_in_turn}
 use Rattle.wb_keeping.specs.Kept.{Line, Asks, Stops}
 use Rattle.wb_keeping.specs.Laws.{doing_of}
 use Rattle.wb_keeping.specs.Performing.{Keeping, sees, view_of}
-use Rattle.wb_keeping.specs.Wanting.{oldest}
-use Rattle.wb_keeping.specs.declared.wanting.AskedName.{AskedName}
+use Rattle.wb_policy.specs.Wanting.{oldest}
+use Rattle.wb_policy.specs.declared.wanting.AskedName.{AskedName}
 use Rattle.wb_kept_progress.specs.Sessions.{Opening}
 use Rattle.wb_kept_progress.specs.Timed.{IsTimely, Performed, TimedLine, called_at, host_after, performed, performed_then, start_of, time_of, timers_after}
 use Rattle.wb_kept_progress.specs.Whole.{IsHeldBySome, IsTimelySession, LackAtMost, AreWithin, Sizes, WaitAtMost, report_span, request_span, there}

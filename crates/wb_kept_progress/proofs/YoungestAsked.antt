@@ -20,8 +20,8 @@ use Rattle.wb_progress.proofs.NamesApart.{apart_of}
 use Rattle.wb_member.specs.Judged.{asked_names, level}
 use Rattle.wb_member.specs.Opened.{Opened, events}
 use Rattle.wb_keeping.specs.Performing.{view_of}
-use Rattle.wb_keeping.specs.Wanting.{older, oldest}
-use Rattle.wb_keeping.specs.declared.wanting.AskedName.{AskedName}
+use Rattle.wb_policy.specs.Wanting.{older, oldest}
+use Rattle.wb_policy.specs.declared.wanting.AskedName.{AskedName}
 use Rattle.wb_keeping.proofs.AskedTimers.{named}
 use Rattle.wb_kept_progress.proofs.Asking.{from_names, level_told, oldest_is_one, oldest_most, same_zero}
 use Rattle.std.proofs.lemmas.Option.{same_Some, none-some}

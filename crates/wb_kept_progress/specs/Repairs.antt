@@ -12,7 +12,7 @@ use Rattle.wb_gaps.specs.declared.holes.Hole.{Hole}
 use Rattle.wb_progress.specs.Repairs.{asking_wait, answering_wait, quiet_wait}
 use Rattle.wb_member.specs.Judged.{holds, is_full}
 use Rattle.wb_member.specs.Opened.{Opened, asks_for, present}
-use Rattle.wb_keeping.specs.Fairness.{slices_of, slices_on}
+use Rattle.wb_policy.specs.Fairness.{slices_of, slices_on}
 use Rattle.wb_keeping.specs.Laws.{Came, Ticked}
 use Rattle.wb_keeping.specs.Performing.{Keeping}
 use Rattle.wb_keeping.specs.Refusing.{is_unknown}

@@ -8,7 +8,7 @@ use Rattle.wb_member.specs.Opened.{Opened, opened_with, present}
 use Rattle.wb_keeping.specs.Kept.{Ticks}
 use Rattle.wb_keeping.specs.Laws.{KeptLine, Came, Ticked, Added, Tuned, doing_of, fault_of}
 use Rattle.wb_keeping.specs.Performing.{Keeping, after_doing, after_lines, sent_by_doing}
-use Rattle.wb_keeping.specs.Policy.{begun}
+use Rattle.wb_policy.specs.Policy.{begun}
 
 -- ---- hosts and their lines
 

@@ -12,7 +12,7 @@ use Rattle.wb_progress.specs.Bounds.{IsUnder}
 use Rattle.wb_progress.specs.InTime.{known_from, repairing}
 use Rattle.wb_progress.specs.Turns.{Terms, longest, settled_by}
 use Rattle.wb_member.specs.Judged.{delay, holds, is_full}
-use Rattle.wb_keeping.specs.Fairness.{slices_of, slices_on}
+use Rattle.wb_policy.specs.Fairness.{slices_of, slices_on}
 use Rattle.wb_keeping.specs.Laws.{Added, Came, Tuned, doing_of}
 use Rattle.wb_keeping.specs.Performing.{Keeping, due, sent_by_doing}
 use Rattle.wb_kept_progress.specs.Sessions.{AreTaken, Opening, kept_at}

@@ -13,7 +13,7 @@ use Rattle.wb_member.specs.Lines.{Line, Arrives, Says, Ticks}
 use Rattle.wb_member.specs.Opened.{Opened, becomes}
 use Rattle.wb_keeping.specs.Kept.{Doing, adds, and_then, came, drawing, ends_full, learned, performs, takes, timed}
 use Rattle.wb_keeping.specs.Performing.{Keeping, sees, view_of}
-use Rattle.wb_keeping.specs.Policy.{View, holds, is_asked, is_full}
+use Rattle.wb_keeping.specs.Views.{View, holds, is_asked, is_full}
 use Rattle.wb_commands.specs.Parsing.{handed_in}
 use Rattle.wb_commands.specs.declared.command.Command.TheVariants as lines
 use Rattle.wb_dialog.specs.declared.fault.Refusal.{Refusal}

@@ -10,7 +10,7 @@ use Rattle.wb_codec.specs.declared.datagram.Datagram.TheVariants.{Draw, Session}
 use Rattle.wb_gaps.specs.Answers.{gaps_of, pages_of, report_of}
 use Rattle.wb_member.specs.Opened.{last_number}
 use Rattle.wb_member.specs.Random.{after_word, started, word_of}
-use Rattle.wb_keeping.specs.Words as words
+use Rattle.wb_policy.specs.Words as words
 use Rattle.wb_keeping.specs.Laws.{Added, Came, Ticked, Tuned}
 use Rattle.wb_laws_kept.specs.Openings.{IsOpening, Opening}
 use Rattle.wb_laws_sessions.specs.Drawn.{WasHeld, drawn_at}

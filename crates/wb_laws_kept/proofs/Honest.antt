@@ -13,7 +13,7 @@ use Rattle.wb_keeping.specs.Kept.{adds, came, drawing, ends_full, hears, ticks, 
 use Rattle.wb_keeping.specs.Laws.{Added, Came, Ticked, Tuned, expand}
 use Rattle.wb_laws_kept.specs.Openings.{opened}
 use Rattle.wb_keeping.specs.Performing.{Keeping, after_doing, sees, view_of}
-use Rattle.wb_keeping.specs.Policy.{Policy}
+use Rattle.wb_policy.specs.Policy.{Policy}
 use Rattle.wb_keeping.proofs.EachLine.{DoesEach, Each, OfPolicy, each_both, ends_each, hears_each, then_each, timed_each}
 use Rattle.wb_laws_sessions.specs.Drawn.{AreHonest, WasHeld, drawn_at}
 use Rattle.wb_laws_sessions.specs.Sessions.{Deed, Opens, Performs, Step, host_at, steps_then}

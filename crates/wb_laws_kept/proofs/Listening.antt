@@ -24,11 +24,13 @@ use Rattle.wb_member.specs.Lines.{Line, Ticks, Arrives, Hears, Asks, Stops, Sets
 use Rattle.wb_member.specs.Members.{Misses}
 use Rattle.wb_member.specs.Opened.{Opened, doing, has_room_for, heard, last_number, may_ask, opened_with, present, word_at}
 use Rattle.wb_member.specs.Random.{word_of}
-use Rattle.wb_keeping.specs.Kept.{Doing, Transition, and_then, came, distance_in, drawing, ends_full, hears, hears_session, hears_some, hears_state, learned, measures, own_echo, own_marks, performs, still, timed, told_names, want_told, hears_request}
+use Rattle.wb_policy.specs.Choices.{distance_in, own_echo, own_marks, told_names}
+use Rattle.wb_keeping.specs.Kept.{Doing, Transition, and_then, came, drawing, ends_full, hears, hears_session, hears_some, hears_state, learned, measures, performs, still, timed, want_told, hears_request}
 use Rattle.wb_keeping.specs.Laws.{Added, Came, KeptLine, Ticked, Tuned, after_kept, doing_of}
 use Rattle.wb_keeping.specs.Performing.{Keeping, after_doing, sees, view_of}
-use Rattle.wb_keeping.specs.Policy.{Policy, View, after_state, after_taking_up, holds, is_asked, is_full}
-use Rattle.wb_keeping.specs.Questions.{is_to_answer}
+use Rattle.wb_policy.specs.Policy.{Policy, after_state, after_taking_up}
+use Rattle.wb_keeping.specs.Views.{View, holds, is_asked, is_full}
+use Rattle.wb_policy.specs.Questions.{is_to_answer}
 use Rattle.wb_keeping.proofs.EachLine.{Each, OfPolicy, each_both, ends_each, learned_each, measures_each, then_each, timed_each, told_each, lent_each}
 use Rattle.wb_keeping.proofs.EachStep.{either}
 use Rattle.wb_laws_kept.specs.Listening.{HasNotBegun, IsHeardWhole, ListeningTells, TellsMark}

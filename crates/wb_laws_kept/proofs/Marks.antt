@@ -28,12 +28,14 @@ use Rattle.wb_keeper.proofs.TickSends.{sent_from}
 use Rattle.wb_member.specs.Lines.{Line, Ticks, Arrives, Hears, Asks, Stops, SetsDistance, Tunes, Says, after_line, after_lines, said_where, sent_by_line, sent_by_lines}
 use Rattle.wb_member.specs.Judged.{echoes}
 use Rattle.wb_member.specs.Opened.{Opened, becomes, has_room_for, opened_with, present}
-use Rattle.wb_keeping.specs.Distances.{bounded, unknown}
-use Rattle.wb_keeping.specs.Kept.{last_heard, state_of, still, want}
+use Rattle.wb_policy.specs.Distances.{bounded}
+use Rattle.wb_policy.specs.declared.limits.TheConstants.{UNKNOWN_DISTANCE}
+use Rattle.wb_policy.specs.Choices.{last_heard}
+use Rattle.wb_keeping.specs.Kept.{state_of, still, want}
 use Rattle.wb_keeping.specs.Laws.{doing_of, expand}
 use Rattle.wb_keeping.specs.Performing.{Keeping, sees, view_of}
-use Rattle.wb_keeping.specs.Policy.{after_came, after_state, after_taking_up, after_wanting, with_distance}
-use Rattle.wb_keeping.specs.Reports.{is_untold, slice_after}
+use Rattle.wb_policy.specs.Policy.{after_came, after_state, after_taking_up, after_wanting, with_distance}
+use Rattle.wb_policy.specs.Reports.{is_untold, slice_after}
 use Rattle.wb_keeping.proofs.EachLine.{Each, wanted_each}
 use Rattle.wb_keeping.proofs.EachStep.{HoldsOfDue, HoldsOfSteps, all_hold, having, having_done, line_holds, with_policy}
 use Rattle.wb_keeping.proofs.KeptHosts.{kept_hosts_are_hosts}
@@ -287,7 +289,7 @@ steps_tell = record {
   stops = λ name k full. silent k (Stops name ∷ []) (having (Stops name) k) refl (tt, tt);
   sets = λ source micros k. silent k (SetsDistance source (bounded micros) ∷ []) (having (SetsDistance source (bounded micros)) k) refl (tt, tt);
   lends = λ source k. silent k (SetsDistance source k.policy.usual ∷ []) (having (SetsDistance source k.policy.usual) k) refl (tt, tt);
-  takes_back = λ source k. silent k (SetsDistance source unknown ∷ []) (having (SetsDistance source unknown) k) refl (tt, tt);
+  takes_back = λ source k. silent k (SetsDistance source UNKNOWN_DISTANCE ∷ []) (having (SetsDistance source UNKNOWN_DISTANCE) k) refl (tt, tt);
   tunes = λ constants k in_range. silent k (Tunes constants ∷ []) (having (Tunes constants) k) refl (tt, tt);
   draws = λ d k. one_tells k (Says (Draw d)) (λ fits v c. said_tells d k.host v (becomes d k.host) c);
   measured = λ micros k. silent k [] (with_policy (with_distance micros k.policy) k) refl tt;

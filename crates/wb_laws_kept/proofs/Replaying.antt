@@ -17,7 +17,8 @@ use Rattle.wb_member.specs.Random.{word_of}
 use Rattle.wb_keeping.specs.Kept.{Doing, Transition, and_then, came, learned, performs, takes, timed}
 use Rattle.wb_keeping.specs.Laws.{Came, after_kept}
 use Rattle.wb_keeping.specs.Performing.{Keeping, after_doing, sees}
-use Rattle.wb_keeping.specs.Policy.{Policy, View, holds, is_asked, is_full}
+use Rattle.wb_policy.specs.Policy.{Policy}
+use Rattle.wb_keeping.specs.Views.{View, holds, is_asked, is_full}
 use Rattle.wb_keeping.proofs.EachLine.{Each, each_both, learned_each}
 use Rattle.wb_laws_sessions.proofs.Outcomes.{Found, found}
 use Rattle.wb_laws_kept.specs.Restarts.{drawops_in}

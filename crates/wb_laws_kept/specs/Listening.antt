@@ -7,7 +7,7 @@ use Rattle.wb_codec.specs.declared.datagram.Datagram.{Datagram}
 use Rattle.wb_codec.specs.declared.datagram.Datagram.TheVariants.{Draw, Session, Request, AskPages, PageState}
 use Rattle.wb_keeper.specs.Hearing.{marks_in}
 use Rattle.wb_member.specs.Opened.{has_room_for, last_number, ticked}
-use Rattle.wb_keeping.specs.Kept.{own_echo, own_marks}
+use Rattle.wb_policy.specs.Choices.{own_echo, own_marks}
 use Rattle.wb_keeping.specs.Laws.{Came}
 use Rattle.wb_keeping.specs.Performing.{Keeping}
 use Rattle.wb_laws_kept.specs.Openings.{Opening}

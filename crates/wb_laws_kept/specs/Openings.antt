@@ -6,7 +6,7 @@ use Rattle.wb_board.specs.Counts.{MAX_CELLS}
 use Rattle.wb_member.specs.Lines.{Ticks, after_lines}
 use Rattle.wb_member.specs.Opened.{Opened, opened_with, present}
 use Rattle.wb_keeping.specs.Performing.{Keeping}
-use Rattle.wb_keeping.specs.Policy.{begun}
+use Rattle.wb_policy.specs.Policy.{begun}
 
 -- the constants of its timers, the cells of its board and its seed; the moments of its ticks;
 -- its rate of reports, and for how long it listens

@@ -11,7 +11,7 @@ use Rattle.wb_member.specs.Opened.{present}
 use Rattle.wb_keeping.specs.Laws.{AreTaken as AreLinesTaken, KeptLine, Came, after_kept, doing_of, expand, fault_of}
 use Rattle.wb_laws_kept.specs.Openings.{IsOpening, Opening, opened}
 use Rattle.wb_keeping.specs.Performing.{Keeping, after_doing, sees}
-use Rattle.wb_keeping.specs.Policy.{begun}
+use Rattle.wb_policy.specs.Policy.{begun}
 use Rattle.wb_laws_sessions.specs.Drawn.{WasHeld}
 use Rattle.wb_laws_sessions.specs.Sessions.{Deed, Opens, Performs, Step, host_at, steps_then, unopened}
 

@@ -1,23 +1,22 @@
 //! What a self-managing member asks for.
 ghost use Rattle.std.specs.Prelude.{◌≡◌, ◌≤◌, ◌<◌, ◌^◌, ◌∷◌, [], IfOk, OnErr, OnOk, IfSome, filter, length, nat_lt};
 ghost use Rattle.wb_recovery.specs.Delays.{IsDelay};
-ghost use Rattle.wb_keeping.specs.Kept.{Asks, and_then, end, ends_full, is_begun, is_unasked, learned, near_names, paid_for, performs, stops_one, turn, want, want_near, want_told};
+ghost use Rattle.wb_policy.specs.Choices.{near_names};
+ghost use Rattle.wb_keeping.specs.Kept.{Asks, and_then, end, ends_full, is_begun, is_unasked, learned, paid_for, performs, stops_one, turn, want, want_near, want_told};
 ghost use Rattle.wb_recovery.specs.Events.{timers_of};
 ghost use Rattle.wb_member.specs.Opened.{events};
 ghost use Rattle.wb_keeping.specs.Performing.{DoesQuietly, IsKeptAt, Keeping, LeavesSome, asked_with, sees, view_of};
-ghost use Rattle.wb_keeping.specs.Policy.{holds, is_asked, is_full, is_known, level};
-ghost use Rattle.wb_keeping.specs.Wanting.{giving_way};
+ghost use Rattle.wb_keeping.specs.Views.{holds, is_asked, is_full, is_known, level};
+ghost use Rattle.wb_policy.specs.Wanting.{giving_way};
 ghost use Rattle.wb_keeping.specs.Steps.{lends_for, lent_at, makes_room, performs_all, turn_again, want_in};
 ghost use Rattle.wb_names.specs.History.{highest};
 
-use crate::choices::near_names;
-use crate::distances::UNKNOWN;
 use crate::kept_member::KeptMember;
-use crate::turns::Turns;
-use crate::wanting::{AskedName, Candidate, giving_way};
 use std::alloc::{AllocError, Global};
 use wb_gaps::Hole;
 use wb_names::Name;
+use wb_policy::limits::UNKNOWN_DISTANCE;
+use wb_policy::{AskedName, Candidate, Turns, giving_way, near_names};
 
 impl KeptMember {
     /// A name is wanted. Its timer may start anew if somebody says that they hold it, or if it has
@@ -81,7 +80,7 @@ impl KeptMember {
         ensures { (k : Keeping) → IsKeptAt self.now k →
             result ≡ is_known (view_of k.host) source }
     {
-        self.member.delay(source) != UNKNOWN
+        self.member.delay(source) != UNKNOWN_DISTANCE
     }
 
     /// How often the timer of a name was backed off, if one stands.
@@ -105,7 +104,7 @@ impl KeptMember {
             result ≡ lent_at ((view_of k.host).distance source) k.policy.usual }
         ensures near { IfSome result IsDelay }
     {
-        if self.member.delay(source) == UNKNOWN {
+        if self.member.delay(source) == UNKNOWN_DISTANCE {
             Some(self.policy.usual())
         } else {
             None

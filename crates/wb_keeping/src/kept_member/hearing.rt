@@ -5,15 +5,15 @@ ghost use Rattle.wb_member.specs.Holding.{outcome_in};
 ghost use Rattle.wb_member.specs.Opened.{becomes};
 ghost use Rattle.wb_keeping.specs.Kept.{Hears, hears, hears_request, hears_session, hears_some, hears_state, measures, of_other, performs, takes, takes_question};
 ghost use Rattle.wb_keeping.specs.Performing.{DoesQuietly, IsKeptAt, Keeping, LeavesSome, view_of};
-ghost use Rattle.wb_keeping.specs.Policy.{holds, is_full};
+ghost use Rattle.wb_keeping.specs.Views.{holds, is_full};
 ghost use Rattle.wb_keeping.specs.Refusing.{came_as};
 
-use crate::choices::{distance_in, own_echo, own_marks, told_names};
 use crate::kept_member::KeptMember;
 use std::alloc::{AllocError, Global};
 use wb_board::Reply;
 use wb_codec::Datagram;
 use wb_names::{Drawop, Echoes, Marks, Name, PageId};
+use wb_policy::{distance_in, own_echo, own_marks, told_names};
 
 impl KeptMember {
     /// A datagram came in. What names this member as its sender is no news. Answers what became of

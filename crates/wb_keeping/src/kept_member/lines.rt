@@ -10,13 +10,13 @@ ghost use Rattle.wb_keeping.specs.Kept.{Arrives, Asks, Hears, Says, SetsDistance
 ghost use Rattle.wb_keeping.specs.Performing.{Does, DoesQuietly, IsKeptAt, Keeping, LeavesSome};
 ghost use Rattle.wb_keeping.specs.Steps.{back_lines, lends_for, performs_all, set_lines};
 
-use crate::distances::UNKNOWN;
 use crate::kept_member::KeptMember;
 use std::alloc::{AllocError, Global};
 use wb_board::Reply;
 use wb_codec::Datagram;
 use wb_keeper::KeepFault;
 use wb_names::{Drawop, Name};
+use wb_policy::limits::UNKNOWN_DISTANCE;
 
 impl KeptMember {
     /// Time goes on to a moment that is not before the present one, so that only a failed
@@ -121,7 +121,7 @@ impl KeptMember {
     {
         match lent {
             Some(_micros) => {
-                self.set_distance(source, UNKNOWN)?;
+                self.set_distance(source, UNKNOWN_DISTANCE)?;
                 Ok(())
             }
             None => Ok(()),

@@ -1,20 +1,18 @@
 //! What a self-managing member sends others as time goes on.
-ghost use Rattle.std.specs.Prelude.{◌≡◌, ◌≤◌, ◌<◌, ◌+◌, ◌*◌, ◌++◌, ◌∷◌, [], IfOk, OnErr, OnOk, length, map, take};
+ghost use Rattle.std.specs.Prelude.{◌≡◌, ◌≤◌, ◌<◌, ◌++◌, ◌∷◌, [], IfOk, OnErr, OnOk, map, take};
 ghost use Rattle.wb_gaps.specs.Answers.{pages_of, report_of};
 ghost use Rattle.wb_keeping.specs.Kept.{answers, asks_pages, reports, reports_due, reports_next, reports_page, state_of, still, timed};
+ghost use Rattle.wb_policy.specs.declared.limits.TheConstants.{MOST_PAGES};
 ghost use Rattle.wb_keeping.specs.Performing.{Does, DoesQuietly, IsKeptAt, Keeping, LeavesSome, view_of};
-ghost use Rattle.wb_keeping.specs.Reports.{page_after, rest_after, slice_after};
+ghost use Rattle.wb_policy.specs.Reports.{page_after, rest_after, slice_after};
 
-use crate::choices::{last_heard, last_source, slice_of, until_in};
 use crate::kept_member::KeptMember;
 use crate::kept_member::lines::send;
-use crate::reports::{members, page_after};
 use std::alloc::{AllocError, Global};
 use wb_codec::Datagram;
 use wb_names::{Echoes, Marks, PageId};
-
-/// The most pages of an answer.
-const PAGES: usize = 64;
+use wb_policy::limits::MOST_PAGES;
+use wb_policy::{last_heard, last_source, members, page_after, report_bytes, slice_of, until_in};
 
 impl KeptMember {
     /// What is due is sent: an answer, then a question, then a report, after which a hole has its
@@ -217,16 +215,7 @@ impl KeptMember {
 
 /// The first 64 of some pages.
 fn first_pages(alloc: Global, pages: &[PageId]) -> Result<Vec<PageId>, AllocError>
-    ensures { IfOk result (λ first. first.items ≡ take 64 pages.now) }
+    ensures { IfOk result (λ first. first.items ≡ take MOST_PAGES pages.now) }
 {
-    pages.iter().take(PAGES).copied().collect(alloc)
-}
-
-/// How many bytes a session message with these marks and echoes has.
-fn report_bytes(marks: &Marks, echoes: &Echoes) -> u64
-    ensures bytes { result ≡ 32 + 8 * length marks.now + 20 * length echoes.now }
-    ensures few { result ≤ 2000000 }
-{
-    let (marks, echoes) = (marks.as_slice().len(), echoes.as_slice().len());
-    32 + 8 * marks as u64 + 20 * echoes as u64
+    pages.iter().take(MOST_PAGES).copied().collect(alloc)
 }

@@ -3,7 +3,7 @@ use Rattle.std.specs.Prelude.{None, nat_le, nat_lt, Err}
 use Rattle.wb_names.specs.Values.{DrawopValue}
 use Rattle.wb_keeping.specs.Kept.{Ticks, Says, Transition, performs, and_then, ends_full, timed, adds, draws_it, drawing}
 use Rattle.wb_keeping.specs.Performing.{IsKeptAt, Keeping, KeptValue, LeavesSome, after_doing, sent_by_doing, view_of}
-use Rattle.wb_keeping.specs.Policy.{Policy}
+use Rattle.wb_policy.specs.Policy.{Policy}
 use Rattle.wb_keeping.proofs.Performed.{then_at, at_inside, does_then}
 use Rattle.wb_keeping.proofs.LeftSome.{LeftAt, on_err, left_first_at, left_second_at, left_later, left_none}
 use Rattle.wb_member.specs.Opened.{becomes, present}

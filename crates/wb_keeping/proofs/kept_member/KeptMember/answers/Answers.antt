@@ -6,11 +6,11 @@ use Rattle.wb_member.specs.Holding.{IsOpenAt, MemberValue}
 use Rattle.wb_member.specs.Opened.{Opened}
 use Rattle.wb_keeping.specs.Kept.{Doing, still, answers, state_of}
 use Rattle.wb_keeping.specs.Performing.{IsKeptAt, Keeping, KeptValue, sees, view_of}
-use Rattle.wb_keeping.specs.Policy.{Policy, after_answer}
+use Rattle.wb_policy.specs.Policy.{Policy, after_answer}
 use Rattle.wb_keeping.proofs.Performed.{at_inside, does_seen}
 use Rattle.wb_keeping.proofs.LeftSome.{on_err, left_none}
 use Rattle.wb_gaps.specs.Answers.{pages_of}
-use Rattle.wb_keeping.specs.Questions.{is_due}
+use Rattle.wb_policy.specs.Questions.{is_due}
 use Rattle.wb_keeping.proofs.Saying.{says, says_after, says_sent}
 use Rattle.wb_keeping.proofs.kept_member.KeptMember.answers.Goals as goal
 

@@ -1,9 +1,10 @@
 use Rattle.std.proofs.Common.{◌≡◌, ℕ, Bool, cond, List, ◌∙◌, ap, refl, sym}
 use Rattle.std.specs.Prelude.{nat_lt}
 use Rattle.wb_names.specs.Values.{NameValue}
-use Rattle.wb_keeping.specs.Kept.{Hears, Transition, still, performs, and_then, want_told, measures, hears_session, of_other, own_marks, own_echo, told_names, distance_in}
+use Rattle.wb_policy.specs.Choices.{own_marks, own_echo, told_names, distance_in}
+use Rattle.wb_keeping.specs.Kept.{Hears, Transition, still, performs, and_then, want_told, measures, hears_session, of_other}
 use Rattle.wb_keeping.specs.Performing.{IsKeptAt, Keeping, KeptValue, sees}
-use Rattle.wb_keeping.specs.Policy.{Policy}
+use Rattle.wb_policy.specs.Policy.{Policy}
 use Rattle.wb_keeping.proofs.Performed.{at_inside, quiet_as, quiet_then}
 use Rattle.wb_keeping.proofs.LeftSome.{on_err, left_as, left_first, left_later, left_none}
 use Rattle.wb_keeping.proofs.Wanted as wanted

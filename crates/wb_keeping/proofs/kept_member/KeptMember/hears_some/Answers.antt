@@ -4,7 +4,8 @@ use Rattle.wb_names.specs.Values.{MarkValue}
 use Rattle.wb_names.specs.declared.name.PageId.{PageId}
 use Rattle.wb_keeping.specs.Kept.{Line, Hears, performs, hears_some}
 use Rattle.wb_keeping.specs.Performing.{sees}
-use Rattle.wb_keeping.specs.Policy.{Policy, View}
+use Rattle.wb_policy.specs.Policy.{Policy}
+use Rattle.wb_keeping.specs.Views.{View}
 use Rattle.wb_keeping.proofs.Performed.{quiet_as}
 use Rattle.wb_codec.specs.declared.datagram.Datagram.TheVariants.{PageState}
 use Rattle.wb_keeping.proofs.kept_member.KeptMember.hears_some.Goals as goal

@@ -1,9 +1,10 @@
 use Rattle.std.proofs.Common.{◌≡◌, ℕ, Bool, cond, List, ◌∙◌, ap, refl, sym}
 use Rattle.std.specs.Prelude.{nat_lt}
 use Rattle.wb_names.specs.Values.{NameValue}
-use Rattle.wb_keeping.specs.Kept.{Transition, still, and_then, want_told, hears_some, hears_state, of_other, own_marks, told_names}
+use Rattle.wb_policy.specs.Choices.{own_marks, told_names}
+use Rattle.wb_keeping.specs.Kept.{Transition, still, and_then, want_told, hears_some, hears_state, of_other}
 use Rattle.wb_keeping.specs.Performing.{IsKeptAt, Keeping, KeptValue, sees}
-use Rattle.wb_keeping.specs.Policy.{Policy, after_state}
+use Rattle.wb_policy.specs.Policy.{Policy, after_state}
 use Rattle.wb_keeping.proofs.Performed.{at_inside, quiet_by, quiet_then}
 use Rattle.wb_keeping.proofs.LeftSome.{on_err, left_by, left_later, left_none}
 use Rattle.wb_keeping.proofs.Wanted as wanted

@@ -4,8 +4,8 @@ use Rattle.wb_keeping.specs.Performing.{sees}
 use Rattle.wb_keeping.specs.Steps.{performs_all, makes_room}
 use Rattle.wb_keeping.proofs.Performed.{quiet_as}
 use Rattle.wb_keeping.proofs.Wanted as wanted
-use Rattle.wb_keeping.specs.Wanting.{giving_way}
-use Rattle.wb_keeping.specs.declared.wanting.AskedName.{AskedName}
+use Rattle.wb_policy.specs.Wanting.{giving_way}
+use Rattle.wb_policy.specs.declared.wanting.AskedName.{AskedName}
 use Rattle.wb_keeping.proofs.kept_member.KeptMember.make_room.Goals as goal
 
 pub returns-then-is_asked-clause-does : goal.returns-then-is_asked-clause-does

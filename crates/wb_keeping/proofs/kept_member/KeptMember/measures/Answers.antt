@@ -2,7 +2,7 @@ use Rattle.std.proofs.Common.{◌≡◌, ◌∙◌, ap}
 use Rattle.std.specs.Prelude.{Some}
 use Rattle.wb_keeping.specs.Kept.{SetsDistance, performs, measures}
 use Rattle.wb_keeping.specs.Performing.{KeptValue, sees}
-use Rattle.wb_keeping.specs.Policy.{with_distance}
+use Rattle.wb_policy.specs.Policy.{with_distance}
 use Rattle.wb_keeping.proofs.Performed.{at_inside, quiet_by}
 use Rattle.wb_keeping.proofs.Wanted as wanted
 use Rattle.wb_keeping.proofs.kept_member.KeptMember.measures.Goals as goal

@@ -5,8 +5,9 @@ use Rattle.wb_names.specs.declared.name.PageId.{PageId}
 use Rattle.wb_gaps.specs.Answers.{report_of}
 use Rattle.wb_keeping.specs.Kept.{Line, reports, reports_next, reports_page, reports_rest}
 use Rattle.wb_keeping.specs.Performing.{KeptValue, sees}
-use Rattle.wb_keeping.specs.Policy.{Policy, View}
-use Rattle.wb_keeping.specs.Reports.{rest_after}
+use Rattle.wb_policy.specs.Policy.{Policy}
+use Rattle.wb_keeping.specs.Views.{View}
+use Rattle.wb_policy.specs.Reports.{rest_after}
 use Rattle.wb_keeping.proofs.LeftSome.{left_as, left_none, left_of, on_err}
 use Rattle.wb_keeping.proofs.Performed.{at_inside}
 use Rattle.std.proofs.lemmas.Bool.Decides.{nat_tests}

@@ -2,7 +2,7 @@ use Rattle.std.proofs.Common.{◌≡◌, Bool, true, cond, ◌∙◌, ap, sym}
 use Rattle.std.specs.Prelude.{nat_le}
 use Rattle.wb_keeping.specs.Kept.{still, and_then, turn, reports, reports_due}
 use Rattle.wb_keeping.specs.Performing.{sees}
-use Rattle.wb_keeping.specs.Policy.{Policy}
+use Rattle.wb_policy.specs.Policy.{Policy}
 use Rattle.wb_keeping.proofs.Performed.{at_inside, does_as, does_then}
 use Rattle.wb_keeping.proofs.LeftSome.{on_err, left_as, left_first, left_second}
 use Rattle.wb_member.specs.Opened.{present}

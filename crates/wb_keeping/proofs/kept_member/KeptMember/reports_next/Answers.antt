@@ -2,9 +2,10 @@ use Rattle.std.proofs.Common.{◌≡◌, ◌∙◌, ap, subst, sym}
 use Rattle.std.specs.Prelude.{None}
 use Rattle.wb_names.specs.declared.name.PageId.{PageId}
 use Rattle.wb_gaps.specs.Answers.{pages_of, report_of}
-use Rattle.wb_keeping.specs.Kept.{reports_next, reports_page, until_in}
+use Rattle.wb_policy.specs.Choices.{until_in}
+use Rattle.wb_keeping.specs.Kept.{reports_next, reports_page}
 use Rattle.wb_keeping.specs.Performing.{Does, IsKeptAt, KeptValue, sees}
-use Rattle.wb_keeping.specs.Reports.{page_after, slice_after}
+use Rattle.wb_policy.specs.Reports.{page_after, slice_after}
 use Rattle.wb_keeping.proofs.LeftSome.{left_none, on_err}
 use Rattle.wb_keeping.proofs.Performed.{at_inside, does_as}
 use Rattle.wb_keeping.proofs.kept_member.KeptMember.reports_next.Goals as goal

@@ -1,15 +1,16 @@
 use Rattle.std.proofs.Common.{◌≡◌, ◌+◌, List, [], ◌∷◌, ◌++◌, ◌∙◌, ap, length, refl}
 use Rattle.std.specs.Prelude.{None}
 use Rattle.wb_codec.specs.declared.datagram.Datagram.{Datagram}
-use Rattle.wb_keeping.specs.Kept.{reports_page, last_heard, last_source}
+use Rattle.wb_policy.specs.Choices.{last_heard, last_source}
+use Rattle.wb_keeping.specs.Kept.{reports_page}
 use Rattle.wb_keeping.specs.Performing.{IsKeptAt, KeptValue, sees, view_of}
-use Rattle.wb_keeping.specs.Policy.{after_report}
+use Rattle.wb_policy.specs.Policy.{after_report}
 use Rattle.wb_keeping.proofs.Performed.{at_inside, does_seen}
 use Rattle.wb_keeping.proofs.LeftSome.{on_err, left_still}
 use Rattle.std.proofs.Common.{◌*◌}
 use Rattle.wb_names.specs.declared.echo.Echo.{Echo}
 use Rattle.wb_codec.specs.declared.datagram.Datagram.TheVariants.{Session}
-use Rattle.wb_keeping.specs.Reports.{members_in}
+use Rattle.wb_policy.specs.Reports.{members_in}
 use Rattle.wb_keeping.proofs.kept_member.KeptMember.reports_page.Goals as goal
 
 pub returns-clause-does : goal.returns-clause-does

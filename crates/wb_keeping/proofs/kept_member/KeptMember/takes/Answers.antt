@@ -3,7 +3,7 @@ use Rattle.std.specs.Prelude.{◌||◌}
 use Rattle.wb_names.specs.Values.{NameValue}
 use Rattle.wb_keeping.specs.Kept.{Arrives, performs, and_then, learned, takes}
 use Rattle.wb_keeping.specs.Performing.{sees, view_of}
-use Rattle.wb_keeping.specs.Policy.{holds, is_asked, is_full}
+use Rattle.wb_keeping.specs.Views.{holds, is_asked, is_full}
 use Rattle.wb_keeping.proofs.Performed.{quiet_as, quiet_then}
 use Rattle.wb_keeping.proofs.LeftSome.{on_err, left_as, left_later}
 use Rattle.wb_keeping.proofs.kept_member.KeptMember.takes.Goals as goal

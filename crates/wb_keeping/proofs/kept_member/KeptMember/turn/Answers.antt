@@ -3,17 +3,17 @@ use Rattle.std.specs.Prelude.{Option, Some, None}
 use Rattle.wb_gaps.specs.declared.holes.Hole.{Hole}
 use Rattle.wb_keeping.specs.Kept.{turn}
 use Rattle.wb_keeping.specs.Performing.{IsKeptAt, Keeping, KeptValue, LeavesSome, sees}
-use Rattle.wb_keeping.specs.Policy.{Policy}
+use Rattle.wb_policy.specs.Policy.{Policy}
 use Rattle.wb_keeping.specs.Steps.{want_in}
 use Rattle.wb_keeping.proofs.Performed.{at_inside, quiet_by}
 use Rattle.wb_keeping.proofs.LeftSome.{on_err, left_by}
 use Rattle.wb_keeping.proofs.Wanted as wanted
-use Rattle.wb_keeping.proofs.FilledHoles.{hole_filled}
+use Rattle.wb_policy.proofs.FilledHoles.{hole_filled}
 use Rattle.wb_gaps.specs.Holes.{hole_after}
 use Rattle.wb_keeping.specs.Kept.{turn_to}
 use Rattle.wb_keeping.specs.Steps.{turn_again}
-use Rattle.wb_keeping.specs.Turns.{nowhere}
-use Rattle.wb_keeping.specs.declared.turns.Turns.{Turns}
+use Rattle.wb_policy.specs.Turns.{nowhere}
+use Rattle.wb_policy.specs.declared.turns.Turns.{Turns}
 use Rattle.wb_keeping.proofs.kept_member.KeptMember.turn.Goals as goal
 
 pub returns-in_ok-want_in-in-Some-clause-does : goal.returns-in_ok-want_in-in-Some-clause-does

@@ -1,7 +1,8 @@
 use Rattle.std.proofs.Common.{◌≡◌, ℕ, List, ◌++◌, ◌∙◌, ap, sym}
 use Rattle.wb_keeping.specs.Kept.{Line, Asks, Doing, Transition, and_then, room_lines, want}
 use Rattle.wb_keeping.specs.Performing.{IsKeptAt, Keeping, KeptValue, sees, view_of}
-use Rattle.wb_keeping.specs.Policy.{Policy, after_wanting, holds, is_full, is_known, level}
+use Rattle.wb_policy.specs.Policy.{Policy, after_wanting}
+use Rattle.wb_keeping.specs.Views.{holds, is_full, is_known, level}
 use Rattle.wb_keeping.specs.Steps.{lends_for, lent_at, makes_room}
 use Rattle.wb_keeping.proofs.Performed.{at_inside, quiet_by}
 use Rattle.wb_keeping.proofs.LeftSome.{on_err, left_by}

@@ -2,11 +2,11 @@ use Rattle.std.proofs.Common.{◌≤◌, true, ◌∙◌, ap, sym}
 use Rattle.wb_names.specs.Values.{NameValue}
 use Rattle.wb_keeping.specs.Kept.{want}
 use Rattle.wb_keeping.specs.Performing.{KeptValue, LeavesSome, sees}
-use Rattle.wb_keeping.specs.Policy.{Policy, after_turn}
+use Rattle.wb_policy.specs.Policy.{Policy, after_turn}
 use Rattle.wb_keeping.specs.Steps.{want_in}
 use Rattle.wb_keeping.proofs.Performed.{at_inside, quiet_by}
 use Rattle.wb_keeping.proofs.LeftSome.{on_err, left_by}
-use Rattle.wb_keeping.specs.Turns.{name_in}
+use Rattle.wb_policy.specs.Turns.{name_in}
 use Rattle.wb_keeping.proofs.kept_member.KeptMember.want_in.Goals as goal
 
 pub returns-clause-does : goal.returns-clause-does

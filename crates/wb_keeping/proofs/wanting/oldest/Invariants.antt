@@ -1,7 +1,0 @@
-use Rattle.std.proofs.Common.{◌≡◌, take}
-use Rattle.std.specs.List.{fold}
-use Rattle.wb_keeping.specs.Wanting.{older}
-use Rattle.wb_keeping.proofs.wanting.oldest.Given as goal
-
-abbrev pub invariant-loop-other : goal.invariant-loop-other
-invariant-loop-other l = l.oldest ≡ fold older l.initial.oldest (take l.other-index l.later)

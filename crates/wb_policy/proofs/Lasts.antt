@@ -1,0 +1,134 @@
+-- Those that were heard last are those that were not heard before the one in the 32nd place.
+use Rattle.std.proofs.Common.{◌≡◌, ℕ, ◌+◌, ◌<◌, ◌≤◌, Bool, true, false, cond, List, [], ◌∷◌, ◌++◌, ◌∙◌, ap, arith, filter, get_or, length, refl, sym, true≢false}
+use Rattle.std.specs.Prelude.{◌&&◌, ◌||◌, All, nat_eq, nat_lt, not}
+use Rattle.std.specs.Cmp.{IsStrictWeakOrder}
+use Rattle.std.specs.List.{count_by, sum_by}
+use Rattle.std.specs.List.Sorted.{IsPermutation, IsSplitAroundBy}
+use Rattle.std.proofs.lemmas.Bool.Decides.{nat_tests}
+use Rattle.std.proofs.lemmas.List.Elements.{All-cons, All-from_get_or, All-nil}
+use Rattle.std.proofs.lemmas.List.Sorted.{sum_by-IsPermutation}
+use Rattle.std.proofs.lemmas.List.Filters.{length-filter_both}
+use Rattle.std.proofs.lemmas.List.Sums.{count_by-le-length, length-filter, sum_by-append, sum_by-cons, sum_by-le, sum_by-le-sum_by}
+use Rattle.wb_names.specs.declared.echo.Echo.{Echo}
+use Rattle.wb_gaps.proofs.PageRanges.{same_filter}
+use Rattle.wb_policy.specs.Choices.{heard_later, last_heard}
+use Rattle.wb_policy.proofs.Latest.{is_later, itself}
+
+-- ---- an order
+
+one_way : (a b x y : ℕ) → (nat_lt a b || (nat_eq a b && nat_lt x y)) ≡ true → (nat_lt b a || (nat_eq b a && nat_lt y x)) ≡ false
+one_way a b x y e = grind (arith, nat_tests)
+
+chain : (a b c x y z : ℕ) → (nat_lt a b || (nat_eq a b && nat_lt x y)) ≡ false → (nat_lt b c || (nat_eq b c && nat_lt y z)) ≡ false → (nat_lt a c || (nat_eq a c && nat_lt x z)) ≡ false
+chain a b c x y z e f = grind (arith, nat_tests)
+
+pub hearing_is_an_order : IsStrictWeakOrder heard_later
+hearing_is_an_order = record {
+  one_way = λ e f later. is_later f e ∙ one_way e.held f.held e.source f.source (sym (is_later e f) ∙ later);
+  chain = λ e f g one other. is_later e g ∙ chain e.held f.held g.held e.source f.source g.source (sym (is_later e f) ∙ one) (sym (is_later f g) ∙ other);
+}
+
+-- one that is not behind another, and the other before a third: it is before the third
+before : (e f g : Echo) → heard_later f e ≡ false → heard_later f g ≡ true → heard_later e g ≡ true
+before e f g here later = by (heard_later e g) refl where
+  by : (b : Bool) → heard_later e g ≡ b → b ≡ true
+  by true is = refl
+  by false is = absurd (true≢false (sym later ∙ hearing_is_an_order.chain f e g here is))
+
+-- one that is before another, which is not behind a third: it is before the third
+past : (e f g : Echo) → heard_later e f ≡ true → heard_later g f ≡ false → heard_later e g ≡ true
+past e f g later here = by (heard_later e g) refl where
+  by : (b : Bool) → heard_later e g ≡ b → b ≡ true
+  by true is = refl
+  by false is = absurd (true≢false (sym later ∙ hearing_is_an_order.chain e g f is here))
+
+-- ---- how many pass
+
+abbrev one_if : Bool → ℕ
+one_if b = cond b 1 0
+
+counted : (p q : Bool) → (p ≡ true → q ≡ true) → one_if p ≤ one_if q
+counted true true more = omega arith
+counted true false more = absurd (true≢false (sym (more refl)))
+counted false true more = omega arith
+counted false false more = omega arith
+
+more_pass : (p q : Echo → Bool) (es : List Echo) → ((e : Echo) → p e ≡ true → q e ≡ true) → count_by p es ≤ count_by q es
+more_pass p q es more = sum_by-le-sum_by (λ e. one_if (p e)) (λ e. one_if (q e)) es (λ e. counted (p e) (q e) (more e))
+
+nothing : (b : Bool) → b ≡ false → one_if b ≤ 0
+nothing true is = absurd (true≢false is)
+nothing false is = omega arith
+
+none_pass : (p : Echo → Bool) (es : List Echo) (d : Echo) → ((i : ℕ) → i < length es → p (get_or es i d) ≡ false) → count_by p es ≡ 0
+none_pass p es d fail =
+    let none = sum_by-le (λ e. one_if (p e)) 0 es (All-from_get_or (λ e. one_if (p e) ≤ 0) es d (λ i lt. nothing (p (get_or es i d)) (fail i lt))) in
+    omega (arith, none)
+
+-- ---- the place that a selection gives
+
+module _ (all front back : List Echo) (first : Echo) (moved : IsPermutation all (front ++ first ∷ back)) (split : IsSplitAroundBy heard_later front first back) where
+  as_many : (p : Echo → Bool) → count_by p all ≡ count_by p front + (one_if (p first) + count_by p back)
+  as_many p =
+      let f : Echo → ℕ = λ e. one_if (p e) in
+      sym (sum_by-IsPermutation f all (front ++ first ∷ back) moved)
+      ∙ sum_by-append f front (first ∷ back)
+      ∙ ap (λ (n : ℕ). sum_by f front + n) (sum_by-cons f first back)
+
+  pub few_later : count_by (λ e. heard_later e first) all ≤ length front
+  few_later =
+      let p : Echo → Bool = λ e. heard_later e first in
+      let count = as_many p in
+      let itself_not : one_if (p first) ≡ 0 = ap one_if (itself first) in
+      let behind = none_pass p back first (λ i lt. split.1 i first lt) in
+      let ahead = count_by-le-length p front in
+      omega (arith, count, itself_not, behind, ahead)
+
+  pub others_are_many : length front + 1 ≤ count_by (λ e. not (heard_later first e)) all
+  others_are_many =
+      let p : Echo → Bool = λ e. heard_later first e in
+      let q : Echo → Bool = λ e. not (heard_later first e) in
+      let count = as_many q in
+      let itself_too : one_if (q first) ≡ 1 = ap (λ (b : Bool). one_if (not b)) (itself first) in
+      let ahead = none_pass p front first (λ i lt. split.0 i first lt) in
+      let both = length-filter_both p q (λ e. refl) front in
+      let one = length-filter p front in
+      let other = length-filter q front in
+      omega (arith, count, itself_too, ahead, both, one, other)
+
+-- ---- the two tests
+
+every : (P : Echo → Type 0) → ((e : Echo) → P e) → (es : List Echo) → All P es
+every P each [] = All-nil P
+every P each (e ∷ es) = All-cons P e es (each e) (every P each es)
+
+is_false : (b : Bool) → not b ≡ true → b ≡ false
+is_false true is = sym is
+is_false false is = refl
+
+below : (n : ℕ) → n < 32 → nat_lt n 32 ≡ true
+below n few = grind (arith, nat_tests)
+
+not_below : (n : ℕ) → 32 ≤ n → nat_lt n 32 ≡ false
+not_below n many = grind (arith, nat_tests)
+
+module _ (all : List Echo) (first : Echo) (few : count_by (λ e. heard_later e first) all < 32) (many : 32 ≤ count_by (λ e. not (heard_later first e)) all) where
+  same_test : (x : Echo) → nat_lt (count_by (λ e. heard_later e x) all) 32 ≡ not (heard_later first x)
+  same_test x = by (heard_later first x) refl where
+    by : (b : Bool) → heard_later first x ≡ b → nat_lt (count_by (λ e. heard_later e x) all) 32 ≡ not b
+    by true later =
+        let more = more_pass (λ e. not (heard_later first e)) (λ e. heard_later e x) all (λ e here. before e first x (is_false (heard_later first e) here) later) in
+        not_below (count_by (λ e. heard_later e x) all) (omega (arith, more, many))
+    by false here =
+        let more = more_pass (λ e. heard_later e x) (λ e. heard_later e first) all (λ e later. past e x first later here) in
+        below (count_by (λ e. heard_later e x) all) (omega (arith, more, few))
+
+  pub last_are_not_before : filter (λ e. not (heard_later first e)) all ≡ last_heard all
+  last_are_not_before = sym (same_filter (λ x. nat_lt (count_by (λ e. heard_later e x) all) 32) (λ e. not (heard_later first e)) all (every _ same_test all))
+
+-- where there are fewer, each of them
+pub few_are_last : (all : List Echo) → length all < 32 → last_heard all ≡ all
+few_are_last all few = same_filter (λ x. nat_lt (count_by (λ e. heard_later e x) all) 32) (λ e. true) all (every _ (λ x. let c = count_by-le-length (λ e. heard_later e x) all in below (count_by (λ e. heard_later e x) all) (omega (arith, c, few))) all) ∙ filter_all all where
+  filter_all : (es : List Echo) → filter (λ e. true) es ≡ es
+  filter_all [] = refl
+  filter_all (e ∷ es) = ap (λ (rest : List Echo). e ∷ rest) (filter_all es)

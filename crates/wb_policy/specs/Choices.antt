@@ -1,0 +1,54 @@
+-- Which part of what is heard or held a policy takes.
+use Rattle.std.specs.Prelude.{ℕ, zero, suc, ◌+◌, ◌-◌, Bool, not, ◌&&◌, List, [], ◌∷◌, Option, Some, None, filter, map, max, min, nat_eq, nat_le, nat_lt, unwrap_or}
+use Rattle.std.specs.List.{count_by}
+use Rattle.std.specs.Ordering.{is_lt, nat_cmp, ordering_then}
+use Rattle.wb_names.specs.History.{name_of}
+use Rattle.wb_names.specs.Values.{MarkValue, NameValue}
+use Rattle.wb_names.specs.declared.echo.Echo.{Echo}
+use Rattle.wb_names.specs.declared.name.PageId.{PageId}
+use Rattle.wb_recovery.specs.Distance.{distance_of}
+use Rattle.wb_policy.specs.declared.limits.TheConstants.{FIRST_FORGED, MOST_ECHOES, REACH}
+
+-- the marks of this member that are believed: while it listens, below 2^31
+abbrev pub own_marks : ℕ → Bool → List MarkValue → List MarkValue
+own_marks me listens marks = filter (λ m. nat_eq m.source me && (listens && nat_lt m.high FIRST_FORGED)) marks
+
+abbrev pub own_echo : ℕ → List Echo → List Echo
+own_echo me echoes = filter (λ e. nat_eq e.source me) echoes
+
+-- the distance that an echo of this member tells, if it tells one
+abbrev pub distance_in : ℕ → List Echo → Option ℕ
+distance_in now [] = None
+distance_in now (e ∷ echoes) = distance_of e.sent e.held now
+
+-- the names of the marks of a page, but for numbers of this member from 2^31 on
+abbrev pub told_names : ℕ → PageId → List MarkValue → List NameValue
+told_names me page marks = map (λ m. name_of page m.source m.high) (filter (λ m. not (nat_eq m.source me && nat_le FIRST_FORGED m.high)) marks)
+
+-- the 32 senders that were heard last, ascending
+abbrev pub heard_later : Echo → Echo → Bool
+heard_later e f = is_lt (ordering_then (nat_cmp e.held f.held) (nat_cmp e.source f.source))
+
+abbrev pub last_heard : List Echo → List Echo
+last_heard echoes = filter (λ e. nat_lt (count_by (λ f. heard_later f e) echoes) MOST_ECHOES) echoes
+
+-- `count` numbers, from n down
+abbrev pub downwards : ℕ → ℕ → List ℕ
+downwards n zero = []
+downwards n (suc count) = n ∷ downwards (n - 1) count
+
+-- The numbers near one, from 64 above to 64 below, as far as the source is known.
+abbrev pub near_names : NameValue → ℕ → List NameValue
+near_names name top =
+    let high = min (name.seq + REACH) (top - 1) in
+    let low = max 1 (name.seq - REACH) in
+    map (name_of name.page name.source) (downwards high (high + 1 - low))
+
+-- the last source of some marks, or this one if there are none
+abbrev pub last_source : Option ℕ → List MarkValue → Option ℕ
+last_source told [] = told
+last_source told (m ∷ marks) = last_source (Some m.source) marks
+
+-- the source at which the telling of a page with these marks ends
+abbrev pub until_in : List MarkValue → ℕ
+until_in marks = unwrap_or (last_source None marks) 0

@@ -1,0 +1,11 @@
+pub mod Words
+pub mod Credit
+pub mod Distances
+pub mod Questions
+pub mod Reports
+pub mod Turns
+pub mod Wanting
+pub mod Choices
+pub mod Policy
+pub mod Fairness
+pub mod Laws

@@ -1,0 +1,100 @@
+-- The state of a policy, and what it sees of its host.
+use Rattle.std.specs.Prelude.{ℕ, ◌+◌, Option, Some, None, min}
+use Rattle.rand_pcg.specs.Lcg.{Lcg}
+use Rattle.wb_names.specs.declared.name.PageId.{PageId}
+use Rattle.wb_gaps.specs.declared.holes.Hole.{Hole}
+use Rattle.wb_policy.specs.Credit.{repaid, spent}
+use Rattle.wb_policy.specs.Distances.{bounded, usual_with}
+use Rattle.wb_policy.specs.Questions.{answered_at, asked_at, heard_at, opened_at, to_answer}
+use Rattle.wb_policy.specs.Reports.{mean_time, next_report}
+use Rattle.wb_policy.specs.Turns.{after_hole, next_round, nowhere}
+use Rattle.wb_policy.specs.Words.{after_word, drawn, started}
+use Rattle.wb_policy.specs.declared.limits.TheConstants.{ANSWER, FIRST_DISTANCE, FIRST_QUESTION, FIRST_REPORT}
+use Rattle.wb_policy.specs.declared.questions.Questions.{Questions}
+use Rattle.wb_policy.specs.declared.reports.Reports.{Reports}
+use Rattle.wb_policy.specs.declared.turns.Turns.{Turns}
+
+-- A fixed number of integers. Nothing is added before `ready`; `told_page` and `told` are the page and the last source of the last
+-- report, `until` is the last source that the page had when its telling began, `owed` is the moment up to which names are paid for, and `usual` the usual distance.
+pub record Policy : Type 0 where
+  pub ready : ℕ
+  pub reports : Reports
+  pub questions : Questions
+  pub turns : Turns
+  pub told_page : PageId
+  pub told : Option ℕ
+  pub until : ℕ
+  pub owed : ℕ
+  pub usual : ℕ
+  pub words : Lcg
+
+-- a number drawn from 0 to this, and the policy without the word that it took
+abbrev pub draws : ℕ → Policy → ℕ
+draws most p = drawn most p.words
+
+abbrev pub after_draw : Policy → Policy
+after_draw p = record p { words = after_word p.words }
+
+-- as it begins at a moment: the first word says when it reports, the second when it asks for pages
+abbrev pub begun : ℕ → ℕ → ℕ → ℕ → Policy
+begun now rate listen seed =
+    let words = started seed in
+    record {
+      ready = now + listen;
+      reports = record { rate = rate; due = now + drawn FIRST_REPORT words };
+      questions = opened_at now (drawn FIRST_QUESTION (after_word words));
+      turns = record { page = nowhere; source = 0; number = 0; round = 0 };
+      told_page = nowhere;
+      told = None;
+      until = 0;
+      owed = 0;
+      usual = FIRST_DISTANCE;
+      words = after_word (after_word words);
+    }
+
+-- ---- what becomes of it
+
+-- a name is asked for; one that was asked for came
+abbrev pub after_wanting : ℕ → Policy → Policy
+after_wanting now p = record p { owed = spent p.owed now }
+
+abbrev pub after_came : Policy → Policy
+after_came p = record p { owed = repaid p.owed }
+
+-- a hole has its turn; another round begins
+abbrev pub after_turn : Hole → Policy → Policy
+after_turn hole p = record p { turns = after_hole p.turns hole }
+
+abbrev pub in_next_round : Policy → Policy
+in_next_round p = record p { turns = next_round p.turns }
+
+-- an echo told a distance
+abbrev pub with_distance : ℕ → Policy → Policy
+with_distance micros p = record p { usual = usual_with p.usual (bounded micros) }
+
+-- it asked for pages; it took up a question, and answered it; somebody answered
+abbrev pub after_question : ℕ → Policy → Policy
+after_question now p = record (after_draw p) { questions = asked_at now (draws p.questions.wait p) p.questions }
+
+abbrev pub after_taking_up : ℕ → Policy → Policy
+after_taking_up now p = record (after_draw p) { questions = to_answer now (draws ANSWER p) p.questions }
+
+abbrev pub after_answer : ℕ → Policy → Policy
+after_answer now p = record p { questions = answered_at now p.questions }
+
+abbrev pub after_state : ℕ → Policy → Policy
+after_state now p = record p { questions = heard_at now p.questions }
+
+-- It reported a page up to a source, and its telling goes on until another: `bytes` bytes, among `members` members.
+abbrev pub after_report : ℕ → PageId → Option ℕ → ℕ → ℕ → ℕ → Policy → Policy
+after_report now page last until members bytes p =
+    let mean = mean_time p.reports.rate members bytes in
+    record (after_draw p) { told_page = page; told = last; until = until; reports = record p.reports { due = next_report now mean (draws mean p) } }
+
+-- the least moment at which it has something to do
+abbrev pub sooner : ℕ → Option ℕ → ℕ
+sooner moment None = moment
+sooner moment (Some other) = min moment other
+
+abbrev pub next_moment : Policy → ℕ
+next_moment p = sooner (sooner p.reports.due p.questions.ask) p.questions.answer

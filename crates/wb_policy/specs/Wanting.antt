@@ -1,0 +1,46 @@
+-- Which names are asked for.
+use Rattle.std.specs.Prelude.{ℕ, Bool, true, false, not, ◌&&◌, ◌||◌, List, [], ◌∷◌, Option, Some, None, length, nat_le, nat_lt, if◌then◌else◌}
+use Rattle.std.specs.List.{fold}
+use Rattle.wb_policy.specs.Credit.{has_credit, leaves_some}
+use Rattle.wb_policy.specs.declared.limits.TheConstants.{MOST_TIMERS, OLD_LEVEL}
+use Rattle.wb_policy.specs.declared.wanting.AskedName.{AskedName}
+
+-- A timer is old once it was backed off four times.
+abbrev pub is_old : ℕ → Bool
+is_old level = nat_le OLD_LEVEL level
+
+-- It goes on, unless it is to start anew and is old.
+abbrev pub goes_on : Bool → Option ℕ → Bool
+goes_on anew None = false
+goes_on anew (Some level) = not (anew && is_old level)
+
+-- There is credit as long as a place is left. What comes last leaves sixteen places to all others.
+abbrev pub is_paid : Bool → ℕ → ℕ → Bool
+is_paid true owed now = has_credit owed now
+is_paid false owed now = leaves_some owed now
+
+-- A name that is not held is asked for if the board has room for it, no timer of it goes on, and there is credit. Neighbours of what
+-- came come last if their source told no distance, so that drawops that are forged with holes leave room for what members draw and report.
+abbrev pub is_wanted : Bool → Bool → Bool → Bool → Option ℕ → ℕ → ℕ → Bool
+is_wanted held full anew known level owed now = not held && (not full && (not (goes_on anew level) && is_paid (anew || known) owed now))
+
+-- of two names that are asked for, the one whose timer was backed off more, and the first if both were equally often
+abbrev pub older : AskedName → AskedName → AskedName
+older one other = if nat_lt one.level other.level then other else one
+
+-- of some, the one whose timer was backed off most, and the first of these
+abbrev pub oldest : List AskedName → Option AskedName
+oldest [] = None
+oldest (asked ∷ later) = Some (fold older asked later)
+
+-- The oldest timer gives way to that of another name if 64 stand, or it is old.
+abbrev pub gives_way : ℕ → ℕ → Bool
+gives_way count level = nat_le MOST_TIMERS count || is_old level
+
+abbrev pub way_of : ℕ → Option AskedName → Option AskedName
+way_of count None = None
+way_of count (Some a) = if gives_way count a.level then Some a else None
+
+-- the name that is given up when another is newly asked for
+abbrev pub giving_way : List AskedName → Option AskedName
+giving_way asked = way_of (length asked) (oldest asked)

@@ -1,0 +1,63 @@
+//! What follows from a policy, proved for all that is handed to it, and its numbers. The functions
+//! do nothing: each stands here for its clause.
+
+ghost use Rattle.std.specs.Prelude.{◌≡◌, ◌^◌};
+ghost use Rattle.wb_policy.specs.Fairness.{EachHoleHasItsTurn, EachMarkIsTold, EachNumberHasItsTurn, TellingsRise};
+ghost use Rattle.wb_policy.specs.Laws.{FewAreAsked, ReportsAreSmall, SlicesAreShort};
+ghost use Rattle.wb_policy.specs.declared.limits.TheConstants.{ANSWER, COST, ECHO_BYTES, FIRST_DISTANCE, FIRST_FORGED, FIRST_QUESTION, FIRST_REPORT, FIRST_WAIT, HEAD_BYTES, HEARD, LEAST_DISTANCE, LISTEN_LIMIT, LONGEST_MEAN, LONGEST_PAUSE, MARK_BYTES, MEMBERS, MOST_BYTES, MOST_DISTANCE, MOST_ECHOES, MOST_MARKS, MOST_PAGES, MOST_REPORT_BYTES, MOST_TIMERS, MOST_WAIT, OLD_LEVEL, PAYS, PLACES, PLACES_OF_LAST, QUIET, REACH, ROUND_LIMIT, SECOND, SHORTEST_MEAN, SHORTEST_PAUSE, STREAM, UNKNOWN_DISTANCE};
+
+/// From one moment to another at most 64 names are asked for, one more for each quarter of a
+/// second, and two more for each that was asked for and came.
+pub fn few_are_asked()
+    ensures few { FewAreAsked }
+{}
+
+/// A report or a page state has at most 64 marks, whatever is held. A report has at most 32 echoes
+/// besides, whoever was heard, and so at most 1,184 bytes.
+pub fn slices_are_short()
+    ensures marks { SlicesAreShort }
+    ensures bytes { ReportsAreSmall }
+{}
+
+/// While what is held stays as it is, each of R holes has its turn among each R turns, and each of
+/// the n numbers of a hole among each 2 R n turns.
+pub fn turns_are_fair()
+    ensures holes { EachHoleHasItsTurn }
+    ensures numbers { EachNumberHasItsTurn }
+{}
+
+/// While what is held stays as it is, each mark of a board of S slices is reported within S
+/// reports, and as many more as the page of the last report has slices. Whatever comes in while the
+/// telling of a page goes on, each report has sources of it above those before, 64 or all that
+/// there are: so sources that come keep a telling from its end for as many reports as they fill.
+pub fn each_mark_is_told()
+    ensures marks { EachMarkIsTold }
+    ensures rise { TellingsRise }
+{}
+
+/// The limits: of timers, rounds and numbers; of distances; of reports, their parts and bytes; of
+/// questions for pages; and of the time in which a member listens.
+pub fn limits()
+    ensures asked { (MOST_TIMERS ≡ 64) × (ROUND_LIMIT ≡ 2 ^ 32) × (FIRST_FORGED ≡ 2 ^ 31) }
+    ensures distances { (FIRST_DISTANCE ≡ 20000) × (MOST_DISTANCE ≡ 1000000) }
+    ensures reports { (FIRST_REPORT ≡ 1000000) × (MOST_MARKS ≡ 64) × (MOST_ECHOES ≡ 32) }
+    ensures bytes { (MOST_BYTES ≡ 2000000) × (MOST_REPORT_BYTES ≡ 1184) }
+    ensures questions { (FIRST_QUESTION ≡ 200000) × (FIRST_WAIT ≡ 1000000) }
+    ensures answers { (MOST_WAIT ≡ 64000000) × (MOST_PAGES ≡ 64) }
+    ensures listens { LISTEN_LIMIT ≡ 2 ^ 32 }
+{}
+
+/// The other numbers: what a name costs and pays, and how many are asked for at once; when a timer
+/// is old, and how far neighbours reach; distances; the times between reports, and for how long a
+/// member counts; the bytes of a report; the times of answers; and the stream of the words.
+pub fn numbers()
+    ensures credit { (COST ≡ 250000) × (PAYS ≡ 2) × (PLACES ≡ 64) × (PLACES_OF_LAST ≡ 48) }
+    ensures wanting { (OLD_LEVEL ≡ 4) × (REACH ≡ 64) }
+    ensures distances { (UNKNOWN_DISTANCE ≡ 100000) × (LEAST_DISTANCE ≡ 10000) }
+    ensures means { (SHORTEST_MEAN ≡ 2000000) × (LONGEST_MEAN ≡ 64000000) }
+    ensures pauses { (SHORTEST_PAUSE ≡ 1000000) × (LONGEST_PAUSE ≡ 96000000) }
+    ensures members { (HEARD ≡ 192000000) × (MEMBERS ≡ 65536) }
+    ensures bytes { (HEAD_BYTES ≡ 32) × (MARK_BYTES ≡ 8) × (ECHO_BYTES ≡ 20) }
+    ensures questions { (ANSWER ≡ 500000) × (QUIET ≡ 1000000) × (SECOND ≡ 1000000) }
+    ensures words { STREAM ≡ 55 }
+{}

@@ -1,0 +1,40 @@
+//! What a self-managing host decides: when it reports, how much of a page at a time, what it asks
+//! for and how fast, and which distance it takes for one that it does not know.
+//!
+//! It follows Floyd, Jacobson, Liu, McCanne and Zhang, "A Reliable Multicast Framework for
+//! Light-weight Sessions and Application Level Framing", 1997, where that leaves the choice to the
+//! application. Its state is a fixed number of integers, whatever comes in. It has no clock, no
+//! board and no timers: moments, which are in microseconds, and what a member holds and heard are
+//! handed in. Who performs what is decided is the crate wb_keeping.
+//!
+//! In reading order: `limits` has the numbers; `words` are its random words; `credit` says how much
+//! may be asked for, `wanting` which names, and `turns` which hole comes next; `questions` asks for
+//! pages and answers others; `reports` says when a report is due, and which marks it has;
+//! `distances` bounds what echoes give; `choices` takes parts of what was heard and is held;
+//! `policy` joins what is remembered. `laws` says what follows.
+#![tactic(auto)]
+
+mod choices;
+mod credit;
+mod distances;
+pub mod laws;
+pub mod limits;
+mod policy;
+mod questions;
+mod reports;
+mod turns;
+mod wanting;
+mod words;
+
+pub use choices::{
+    distance_in, last_heard, last_source, near_names, own_echo, own_marks, slice_of, told_names,
+    until_in,
+};
+pub use credit::Credit;
+pub use distances::Distances;
+pub use policy::{Policy, sooner};
+pub use questions::Questions;
+pub use reports::{Reports, is_telling, members, page_after, report_bytes, slice_after};
+pub use turns::Turns;
+pub use wanting::{AskedName, Candidate, giving_way, oldest};
+pub use words::PolicyWords;

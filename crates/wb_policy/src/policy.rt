@@ -1,0 +1,285 @@
+//! The policy of a self-managing host: all that it remembers, and what each thing that happens
+//! makes of it.
+
+ghost use Rattle.std.specs.Prelude.{◌≡◌, ◌≤◌, ◌<◌, ◌+◌, if◌then◌else◌, nat_le, nat_lt};
+ghost use Rattle.wb_names.specs.Moments.{IsMoment};
+ghost use Rattle.wb_policy.specs.declared.limits.TheConstants.{LISTEN_LIMIT, LONGEST_PAUSE, MEMBERS, MOST_BYTES, MOST_DISTANCE, SHORTEST_PAUSE};
+ghost use Rattle.wb_policy.specs.Distances.{bounded};
+ghost use Rattle.wb_policy.specs.Policy.{after_answer, after_came, after_question, after_report, after_state, after_taking_up, after_turn, after_wanting, begun, in_next_round, next_moment, sooner, with_distance};
+ghost use Rattle.wb_policy.specs.Questions.{is_due, is_to_answer};
+ghost use Rattle.wb_policy.specs.Reports.{is_telling};
+ghost use Rattle.wb_policy.specs.Turns.{name_in};
+ghost use Rattle.wb_policy.specs.Wanting.{is_wanted};
+
+use crate::credit::Credit;
+use crate::distances::Distances;
+use crate::limits::{ANSWER, FIRST_QUESTION, FIRST_REPORT};
+use crate::questions::Questions;
+use crate::reports::{Reports, is_telling};
+use crate::turns::Turns;
+use crate::wanting::Candidate;
+use crate::words::PolicyWords;
+use std::marker::Model;
+use wb_gaps::Hole;
+use wb_names::{Name, PageId};
+
+/// What a self-managing host remembers: a fixed number of integers, whatever comes in. Moments are
+/// in microseconds, below 2^48.
+#[derive(Drop)]
+pub struct Policy {
+    /// Nothing is added before this moment.
+    ready: u64,
+    reports: Reports,
+    questions: Questions,
+    turns: Turns,
+    /// The page of the last report.
+    told_page: PageId,
+    /// The last source of the last report, if it had one.
+    told: Option<u32>,
+    /// The last source that its page had when its telling began.
+    until: u32,
+    credit: Credit,
+    distances: Distances,
+    words: PolicyWords,
+}
+
+impl Model for Policy {
+    ghost use Rattle.std.specs.Prelude.{◌≤◌};
+    ghost use Rattle.wb_policy.specs.Policy.{Policy as PolicyValue};
+    ghost use Rattle.wb_policy.specs.declared.limits.TheConstants.{MOST_WAIT};
+
+    ghost Value = { PolicyValue };
+
+    ghost view = { λ p. record {
+      ready = p.ready;
+      reports = p.reports;
+      questions = p.questions;
+      turns = p.turns;
+      told_page = p.told_page;
+      told = p.told;
+      until = p.until;
+      owed = p.credit.owed;
+      usual = p.distances;
+      words = p.words;
+    } };
+
+    ghost invariant = { λ p. (1 ≤ p.reports.rate) × (p.questions.wait ≤ MOST_WAIT) };
+}
+
+impl Policy {
+    /// Begins at a moment. The reports of all members together take `rate` bytes a second, at least
+    /// 1. For `listen` microseconds, below 2^32, nothing is added. The first word of the seed says
+    /// when it reports, the second when it asks for pages.
+    pub fn new(now: u64, rate: u64, listen: u64, seed: u64) -> Policy
+        requires moment { IsMoment now }
+        requires rate { 1 ≤ rate }
+        requires listen { listen < LISTEN_LIMIT }
+        ensures { result ≡ begun now rate listen seed }
+    {
+        let mut words = PolicyWords::new(seed);
+        let report = words.up_to(FIRST_REPORT);
+        let question = words.up_to(FIRST_QUESTION);
+        Policy {
+            ready: now + listen,
+            reports: Reports {
+                rate,
+                due: now + report,
+            },
+            questions: Questions::new(now, question),
+            turns: Turns::START,
+            told_page: Turns::START.page,
+            told: None,
+            until: 0,
+            credit: Credit::WHOLE,
+            distances: Distances::new(),
+            words,
+        }
+    }
+
+    /// Whether nothing is to be added yet.
+    pub fn is_listening(&self, now: u64) -> bool
+        ensures { result ≡ nat_lt now self.now.ready }
+    {
+        now < self.ready
+    }
+
+    /// The least moment at which it has something to do.
+    pub fn due(&self) -> u64
+        ensures { result ≡ next_moment self.now }
+    {
+        let question = sooner(self.reports.due, self.questions.ask);
+        sooner(question, self.questions.answer)
+    }
+
+    /// A name may be wanted: whether it is to be asked for, which costs credit.
+    pub fn want(&mut self, candidate: &Candidate, may_start_anew: bool, now: u64) -> bool
+        requires { IsMoment now }
+        ensures wanted { result ≡ is_wanted candidate.now.is_held candidate.now.is_full
+            may_start_anew candidate.now.is_known candidate.now.level self.old.owed now }
+        ensures spent { self.new ≡ (if result then after_wanting now self.old else self.old) }
+    {
+        if !candidate.is_wanted(&self.credit, may_start_anew, now) {
+            return false;
+        }
+        self.credit.spend(now);
+        true
+    }
+
+    /// A name that was asked for came.
+    pub fn came(&mut self)
+        ensures { self.new ≡ after_came self.old }
+    {
+        self.credit.repay();
+    }
+
+    /// The next hole in turn begins after this number of this source on this page.
+    pub fn turns(&self) -> Turns
+        ensures { result ≡ self.now.turns }
+    {
+        self.turns
+    }
+
+    /// It is the turn of a hole: which of its names is wanted.
+    pub fn take_turn(&mut self, hole: Hole) -> Name
+        requires counted { 1 ≤ hole.gap.first }
+        requires filled { hole.gap.first ≤ hole.gap.last }
+        ensures name { result ≡ name_in self.old.turns.round hole }
+        ensures turn { self.new ≡ after_turn hole self.old }
+    {
+        self.turns.take(hole)
+    }
+
+    /// No hole is left in this round.
+    pub fn begin_round(&mut self)
+        ensures { self.new ≡ in_next_round self.old }
+    {
+        self.turns.begin_again();
+    }
+
+    /// An echo gave a distance: which one is to be set.
+    pub fn measure(&mut self, micros: u64) -> u64
+        ensures bounded { result ≡ bounded micros }
+        ensures usual { self.new ≡ with_distance micros self.old }
+    {
+        self.distances.told(micros)
+    }
+
+    /// Whether it is to ask for pages now, and when again.
+    pub fn asks_pages(&mut self, now: u64) -> bool
+        requires { IsMoment now }
+        ensures due { result ≡ is_due now self.old.questions.ask }
+        ensures after { self.new ≡ (if result then after_question now self.old else self.old) }
+    {
+        if !self.questions.is_to_ask(now) {
+            return false;
+        }
+        let drawn = self.words.up_to(self.questions.wait as u32);
+        self.questions.asked(now, drawn);
+        true
+    }
+
+    /// Another member asks for pages, and this one holds something or not.
+    pub fn take_question(&mut self, now: u64, holds: bool)
+        requires { IsMoment now }
+        ensures { self.new ≡ (if is_to_answer now holds self.old.questions then
+            after_taking_up now self.old else self.old) }
+    {
+        if self.questions.takes_up(now, holds) {
+            let drawn = self.words.up_to(ANSWER);
+            self.questions.take_up(now, drawn);
+        }
+    }
+
+    /// Whether it is to answer with its pages now.
+    pub fn answers(&mut self, now: u64) -> bool
+        requires { IsMoment now }
+        ensures due { result ≡ is_due now self.old.questions.answer }
+        ensures after { self.new ≡ (if result then after_answer now self.old else self.old) }
+    {
+        if !self.questions.is_to_answer(now) {
+            return false;
+        }
+        self.questions.answered(now);
+        true
+    }
+
+    /// Another member sent a page state.
+    pub fn hear_state(&mut self, now: u64)
+        requires { IsMoment now }
+        ensures { self.new ≡ after_state now self.old }
+    {
+        self.questions.heard(now);
+    }
+
+    /// Whether a report is due.
+    pub fn reports(&self, now: u64) -> bool
+        ensures { result ≡ nat_le self.now.reports.due now }
+    {
+        self.reports.is_due(now)
+    }
+
+    /// The page and the last source of the last report.
+    pub fn told(&self) -> (PageId, Option<u32>)
+        ensures { result ≡ (self.now.told_page, self.now.told) }
+    {
+        (self.told_page, self.told)
+    }
+
+    /// The last source that the page had when its telling began.
+    pub fn until(&self) -> u32
+        ensures { result ≡ self.now.until }
+    {
+        self.until
+    }
+
+    /// Whether the telling of the page of the last report goes on.
+    pub fn is_telling(&self) -> bool
+        ensures { result ≡ is_telling self.now.until self.now.told }
+    {
+        is_telling(self.until, self.told)
+    }
+
+    /// It reported a page up to `last`, and tells it up to `until`: `bytes` bytes, among `members`
+    /// members. So reports are at least a second apart, and at most 96.
+    pub fn reported(
+        &mut self,
+        now: u64,
+        page: PageId,
+        last: Option<u32>,
+        until: u32,
+        members: u64,
+        bytes: u64,
+    )
+        requires moment { IsMoment now }
+        requires members { members ≤ MEMBERS }
+        requires bytes { bytes ≤ MOST_BYTES }
+        ensures after { self.new ≡ after_report now page last until members bytes self.old }
+        ensures rare { now + SHORTEST_PAUSE ≤ self.new.reports.due }
+        ensures soon { self.new.reports.due ≤ now + LONGEST_PAUSE }
+    {
+        let mean = self.reports.mean_time(members, bytes);
+        let drawn = self.words.up_to(mean as u32);
+        self.reports.reported(now, mean, drawn);
+        self.told_page = page;
+        self.told = last;
+        self.until = until;
+    }
+
+    /// The usual distance: at most a second.
+    pub fn usual(&self) -> u64
+        ensures usual { result ≡ self.now.usual }
+        ensures near { result ≤ MOST_DISTANCE }
+    {
+        self.distances.usual()
+    }
+}
+
+/// The lesser of a moment and of another, if there is one.
+pub fn sooner(moment: u64, other: Option<u64>) -> u64
+    ensures { result ≡ sooner moment other }
+{
+    match other {
+        Some(other) => moment.min(other),
+        None => moment,
+    }
+}

@@ -1,0 +1,154 @@
+//! Reports: when one is due, and which marks it has.
+
+ghost use Rattle.std.specs.Prelude.{◌≡◌, ◌≤◌, ◌<◌, ◌^◌, ◌+◌, ◌*◌, IfOk, filter, length, nat_le, nat_lt};
+ghost use Rattle.std.specs.List.{find};
+ghost use Rattle.wb_names.specs.Moments.{IsMoment};
+ghost use Rattle.wb_policy.specs.declared.limits.TheConstants.{HEARD, LONGEST_MEAN, LONGEST_PAUSE, MEMBERS, MOST_BYTES, SHORTEST_MEAN, SHORTEST_PAUSE};
+ghost use Rattle.wb_policy.specs.Reports.{is_after, is_telling, is_untold, mean_time, members_in, next_report, page_after, report_bytes, slice_after};
+
+use crate::limits::{
+    ECHO_BYTES, HEAD_BYTES, HEARD, LONGEST_MEAN, MARK_BYTES, MOST_MARKS, SECOND, SHORTEST_MEAN,
+};
+use std::alloc::{AllocError, Global};
+use wb_names::{Echo, Echoes, MAX_ENTRIES, Mark, Marks, PageId};
+
+/// When a member reports, in microseconds.
+#[derive(Clone, Copy, Debug, PartialEq, Eq)]
+pub struct Reports {
+    /// How many bytes a second the reports of all members together may take.
+    pub rate: u64,
+    /// When the next one is due.
+    pub due: u64,
+}
+
+impl Reports {
+    /// The mean time between two reports at which those of `members` members, of `bytes` bytes
+    /// each, take the rate, but at least 2,000,000 and at most 64,000,000.
+    pub fn mean_time(&self, members: u64, bytes: u64) -> u64
+        requires rate { 1 ≤ self.now.rate }
+        requires members { members ≤ MEMBERS }
+        requires bytes { bytes ≤ MOST_BYTES }
+        ensures mean { result ≡ mean_time self.now.rate members bytes }
+        ensures shortest { SHORTEST_MEAN ≤ result }
+        ensures longest { result ≤ LONGEST_MEAN }
+    {
+        let all = members * bytes * SECOND / self.rate;
+        all.max(SHORTEST_MEAN).min(LONGEST_MEAN)
+    }
+
+    /// It reported: the next report is due after half of the mean time, and `drawn` more, from 0 to
+    /// the mean time. So reports are at least a second apart, and at most 96.
+    pub fn reported(&mut self, now: u64, mean: u64, drawn: u64)
+        requires moment { IsMoment now }
+        requires shortest { SHORTEST_MEAN ≤ mean }
+        requires longest { mean ≤ LONGEST_MEAN }
+        requires drawn { drawn ≤ mean }
+        ensures due { self.new ≡ record self.old { due = next_report now mean drawn } }
+        ensures rare { now + SHORTEST_PAUSE ≤ self.new.due }
+        ensures soon { self.new.due ≤ now + LONGEST_PAUSE }
+    {
+        self.due = now + mean / 2 + drawn;
+    }
+
+    /// Whether a report is due.
+    pub fn is_due(&self, now: u64) -> bool
+        ensures { result ≡ nat_le self.now.due now }
+    {
+        self.due <= now
+    }
+}
+
+/// How many members there are: this one, and those from whom a session message was heard within 192
+/// seconds, which is three of the longest mean times.
+pub fn members(echoes: &[Echo]) -> u64
+    requires { length echoes.now ≤ MAX_ENTRIES }
+    ensures members { result ≡ members_in echoes.now }
+    ensures few { result ≤ MEMBERS }
+{
+    1 + heard_count(echoes) as u64
+}
+
+/// How many of the echoes are to members that were heard within 192 seconds.
+fn heard_count(echoes: &[Echo]) -> usize
+    ensures count { result ≡ length (filter (λ e. nat_lt e.held HEARD) echoes.now) }
+    ensures few { result ≤ length echoes.now }
+{
+    echoes.iter().filter(|echo| echo.held < HEARD).count()
+}
+
+/// How many bytes a session message with these marks and echoes has.
+pub fn report_bytes(marks: &Marks, echoes: &Echoes) -> u64
+    ensures bytes { result ≡ report_bytes marks.now echoes.now }
+    ensures few { result ≤ MOST_BYTES }
+{
+    let (marks, echoes) = (marks.as_slice().len(), echoes.as_slice().len());
+    HEAD_BYTES + MARK_BYTES * marks as u64 + ECHO_BYTES * echoes as u64
+}
+
+/// The next marks of a page, at most 64: those of sources above `told`, or the first ones.
+pub fn slice_after(
+    alloc: Global,
+    told: Option<u32>,
+    marks: &[Mark],
+) -> Result<Vec<Mark>, AllocError>
+    ensures { IfOk result (λ slice. slice.items ≡ slice_after told marks.now) }
+{
+    let untold = marks.iter().filter(|mark| is_untold(told, mark.source()));
+    untold.take(MOST_MARKS).copied().collect(alloc)
+}
+
+/// Whether a source is above `told`, or `told` is None.
+fn is_untold(told: Option<u32>, source: u32) -> bool
+    ensures { result ≡ is_untold told source }
+{
+    match told {
+        Some(told) => told < source,
+        None => true,
+    }
+}
+
+/// Whether the telling of a page goes on: it has not reached the source that was the last when it
+/// began. What has come since waits for the next telling, so that it holds no page up.
+pub fn is_telling(until: u32, told: Option<u32>) -> bool
+    ensures { result ≡ is_telling until told }
+{
+    match told {
+        Some(told) => told < until,
+        None => false,
+    }
+}
+
+/// The next page in the cycle of the pages, which ascend, or page 0/0 if there is none.
+pub fn page_after(last: PageId, pages: &[PageId]) -> PageId
+    ensures { result ≡ page_after last pages.now }
+{
+    if let Some(page) = first_after(last, pages) {
+        return page;
+    }
+    match pages {
+        [first, ..] => *first,
+        [] => PageId {
+            creator: 0,
+            number: 0,
+        },
+    }
+}
+
+/// The first page after another.
+fn first_after(last: PageId, pages: &[PageId]) -> Option<PageId>
+    ensures { result ≡ find (is_after last) pages.now }
+{
+    for page in pages {
+        if is_after(last, *page) {
+            return Some(*page);
+        }
+    }
+    None
+}
+
+/// Whether a page comes after another.
+fn is_after(last: PageId, page: PageId) -> bool
+    ensures { result ≡ is_after last page }
+{
+    last < page
+}

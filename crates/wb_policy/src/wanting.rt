@@ -1,0 +1,103 @@
+//! Which names are asked for.
+
+ghost use Rattle.std.specs.Prelude.{◌≡◌};
+ghost use Rattle.wb_policy.specs.Wanting.{gives_way, giving_way, goes_on, is_old, is_wanted, older, oldest};
+
+use crate::credit::Credit;
+use crate::limits::{MOST_TIMERS, OLD_LEVEL};
+use wb_names::Name;
+
+/// What a member shows of a name that it might ask for.
+#[derive(Clone, Copy, Debug, PartialEq, Eq)]
+pub struct Candidate {
+    /// Whether the board holds it.
+    pub is_held: bool,
+    /// Whether the board has no room for it.
+    pub is_full: bool,
+    /// Whether the distance to its source is known.
+    pub is_known: bool,
+    /// How often its request timer was backed off. None if none stands.
+    pub level: Option<u32>,
+}
+
+impl Candidate {
+    /// Whether it is asked for at this moment, at this credit: a timer that stands goes on, unless
+    /// it is old and may start anew. A neighbour of what came, which starts nothing anew, comes
+    /// last if the distance to its source is not known.
+    pub fn is_wanted(&self, credit: &Credit, may_start_anew: bool, now: u64) -> bool
+        ensures { result ≡ is_wanted self.now.is_held self.now.is_full may_start_anew
+            self.now.is_known self.now.level credit.now.owed now }
+    {
+        !self.is_held
+            && !self.is_full
+            && !self.goes_on(may_start_anew)
+            && credit.is_left(may_start_anew || self.is_known, now)
+    }
+
+    /// Whether a timer of it goes on.
+    fn goes_on(&self, may_start_anew: bool) -> bool
+        ensures { result ≡ goes_on may_start_anew self.now.level }
+    {
+        match self.level {
+            Some(level) => !(may_start_anew && is_old(level)),
+            None => false,
+        }
+    }
+}
+
+/// Whether a timer that was backed off `level` times is old.
+fn is_old(level: u32) -> bool
+    ensures { result ≡ is_old level }
+{
+    level >= OLD_LEVEL
+}
+
+/// A name that is asked for, and how often its request timer was backed off.
+#[derive(Clone, Copy, Debug, PartialEq, Eq)]
+pub struct AskedName {
+    /// The name.
+    pub name: Name,
+    /// How often its timer was backed off.
+    pub level: u32,
+}
+
+/// The one that is given up when another is newly asked for: the oldest, if 64 timers stand or it
+/// is old. None if none gives way.
+pub fn giving_way(asked: &[AskedName]) -> Option<AskedName>
+    ensures { result ≡ giving_way asked.now }
+{
+    let oldest = oldest(asked)?;
+    if gives_way(asked.len(), oldest.level) {
+        Some(oldest)
+    } else {
+        None
+    }
+}
+
+/// Whether the oldest of `count` timers gives way, if it was backed off `level` times.
+fn gives_way(count: usize, level: u32) -> bool
+    ensures { result ≡ gives_way count level }
+{
+    count >= MOST_TIMERS || is_old(level)
+}
+
+/// The one whose timer was backed off most, and the first of these. None if there is none.
+pub fn oldest(asked: &[AskedName]) -> Option<AskedName>
+    ensures { result ≡ oldest asked.now }
+{
+    let Some((first, later)) = asked.split_first() else {
+        return None;
+    };
+    let mut oldest = *first;
+    for other in later {
+        oldest = older(oldest, *other);
+    }
+    Some(oldest)
+}
+
+/// The one of two whose timer was backed off more, or the first if both were equally often.
+fn older(one: AskedName, other: AskedName) -> AskedName
+    ensures { result ≡ older one other }
+{
+    if one.level < other.level { other } else { one }
+}
