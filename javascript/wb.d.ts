@@ -53,6 +53,8 @@ export class Host {
     pages(): Promise<string[]>;
     /** The pages that have drawops, or were heard of. */
     known(): Promise<string[]>;
+    /** The number of the lines that the program reads and prints. docs/HOST.md says what it promises. */
+    version(): Promise<number>;
     /** The number that our next drawop on the page will have.
      * @param {string} page */
     nextNumber(page: string): Promise<number>;

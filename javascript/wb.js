@@ -181,6 +181,11 @@ export class Host {
     return pagesIn(await this.must('known'));
   }
 
+  /** The number of the lines that the program reads and prints. docs/HOST.md says what it promises. */
+  async version() {
+    return Number((await this.must('version')).lines[0]?.slice(8));
+  }
+
   /** The number that our next drawop on the page will have.
    * @param {string} page */
   async nextNumber(page) {

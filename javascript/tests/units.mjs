@@ -39,7 +39,7 @@ judge('what is no datagram is refused, and what is due is as it was', await two.
 judge('so is a drawing while it listens', await raised(() => two.add(800, 5, '1/1', 'line 0 0 4 0 +')), 'Refused');
 judge('after which it is known too', two.due, due);
 judge('time goes on', await raised(() => two.tick(10)), 'Refused');
-judge('questions', [await two.report('1/1'), await two.gaps('1/1'), await two.pages(), await two.known(), await two.nextNumber('1/1')], [[[1, 1]], [], ['1/1'], ['1/1'], 1]);
+judge('questions', [await two.report('1/1'), await two.gaps('1/1'), await two.pages(), await two.known(), await two.nextNumber('1/1'), await two.version()], [[[1, 1]], [], ['1/1'], ['1/1'], 1, 1]);
 await two.add(2000, 6, '1/1', 'text 0 0 "ok 7"');
 judge('a row that looks like a closing line is a row', (await two.show('1/1', 4, 2))[0], 'ok 7');
 judge('a line has no line feed in it', await raised(() => two.add(3000, 7, '1/1', 'line 0 0 4 0 *\n')), 'Refused');

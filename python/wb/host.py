@@ -171,6 +171,10 @@ class Host:
         """The pages that have drawops, or were heard of."""
         return pages_in(self.must("known"))
 
+    def version(self) -> int:
+        """The number of the lines that the program reads and prints. docs/HOST.md says what it promises."""
+        return int(self.must("version").lines[0][8:])
+
     def next_number(self, page: AnyPage) -> int:
         """The number that our next drawop on the page will have."""
         return int(self.must("next %d %d" % page_of(page)).lines[0][5:])

@@ -28,6 +28,7 @@ gaps 4 4
 report 7 1
 pages
 known
+version
 next 7 1
 session 7 1
 ask 4 4 5 5
@@ -45,6 +46,7 @@ request 9 7 7/1 1
 MISTYPED = {
     "boards 1 16 1 42": "unknown",
     "Show 7 1 5 5": "unknown",
+    "versions": "unknown",
     "ok never": "unknown",
     "send 574201040000000400000008": "unknown",
     "draws 7 7/1 1 10 line 0 1 4 1 *": "unknown",
@@ -55,6 +57,7 @@ MISTYPED = {
     "datagram 57 42": "words",
     "pages 7": "words",
     "known 7 1": "words",
+    "version 1": "words",
     "tick": "words",
     "tick 5 5": "words",
     "distance 7": "words",

@@ -242,6 +242,10 @@ class Model:
     def pages(self) -> str:
         return listed("pages", self.drawn_on())
 
+    @staticmethod
+    def version() -> str:
+        return "version 1\n"
+
     def known(self) -> str:
         return listed("known", sorted({*self.drawn_on(), *(page for page, marks in self.marks.items() if marks)}))
 

@@ -119,7 +119,7 @@ class Session:
         if self.below(3) == 0:
             self.model.delays[source] = delay
             return f"distance {source} {delay}", ""
-        word = self.random.choice(["pages", "known"])
+        word = self.random.choice(["pages", "known", "version"])
         return word, getattr(self.model, word)()
 
     def conversation(self, count: int = LINES) -> tuple[str, str]:

@@ -81,3 +81,4 @@ def test_without_board() -> None:
         assert host(f"{line}\nboard 1 16 1 42\n") == "refused no board\nok never\n", f"without a board, {line[:20]}"
     for line, fault in [("fly", "unknown"), ("tick x", "number"), ("say hello", "word 1: unknown"), ("datagram 5", "hex")]:
         assert host(f"{line}\npages\n") == f"refused {fault}\nrefused no board\n", f"without a board, {line}"
+    assert host("version 1\nversion\npages\n") == "refused words\nversion 1\nok never\nrefused no board\n", "the number needs no board"

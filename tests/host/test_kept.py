@@ -282,6 +282,16 @@ ok {min(QUESTION, asked_at(9, 1), *(asked_at(9000, word) for word in (2, 3, 4, 5
 next 6
 ok {min(QUESTION, asked_at(9, 1), *(asked_at(9000, word) for word in (2, 3, 4, 5)))}
 """,
+    "the number of the lines": f"""
+{kept()}> version
+version 1
+ok {QUESTION}
+> came 9 {session(9, 50, PAGE, [(7, 1)], [])}
+ok {asked_at(9, 0)}
+> version
+version 1
+ok {asked_at(9, 0)}
+""",
     "what names us as its sender is no news": f"""
 {kept()}> came 0 {session(1, 50, PAGE, [(7, 2)], [])}
 ok {QUESTION}
@@ -453,7 +463,7 @@ def test_kept_or_not() -> None:
         refused = [said for said in printed if said.startswith("refused")]
         wanted = ["refused member"] if line == "say ask-pages 2" else ["refused too late"]
         assert refused == wanted, f"too late behind {line[:20]!r}"
-    asked = "tick 0\nshow 7 1 5 1\nview 7 1\ngaps 7 1\nreport 7 1\npages\nknown\nnext 7 1\n# and so on\n\nfly\ntick 0\n"
+    asked = "tick 0\nshow 7 1 5 1\nview 7 1\ngaps 7 1\nreport 7 1\npages\nknown\nversion\nnext 7 1\n# and so on\n\nfly\ntick 0\n"
     printed = host(f"{opened}{asked}keep 4000 0\nkeep 4000 0\n").splitlines()
     assert printed[-2:] == [f"ok {QUESTION}", "refused kept"], "not too late behind questions"
 

@@ -396,6 +396,32 @@ ok never
 known 0
 ok never
 """,
+    "the number of the lines, before a board and after": f"""
+> version
+version 1
+ok never
+> version
+version 1
+ok never
+> board 1 16 1 42
+ok never
+> version
+version 1
+ok never
+> draw 7 7/1 2 1 line 0 0 0 0 x
+batch 1 0 0 0
+ok never
+> look 7 1
+look 1
+ok {asked_at(0, 0)}
+> version
+version 1
+ok {asked_at(0, 0)}
+> gaps 7 1
+gaps 1
+7 1 1
+ok {asked_at(0, 0)}
+""",
     "what another member would say": """
 > board 1 16 1 42
 ok never

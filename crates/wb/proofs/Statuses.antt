@@ -1,18 +1,20 @@
 -- Statuses of failures, and ends that nothing was written to.
-use Rattle.std.proofs.Common.{◌≡◌, ◌⊎◌, ℕ, List, [], Option, Some, None, Result, Ok, Err, sym, ap, ◌∙◌, refl, append-nil, inl, inr, arith}
-use Rattle.std.specs.Io.KnownBytes.{Appends}
+use Rattle.std.proofs.Common.{◌≡◌, ◌⊎◌, ℕ, List, [], ◌++◌, Option, Some, None, Result, Ok, Err, sym, ap, ◌∙◌, refl, append-nil, append_assoc, inl, inr, arith, codes, decimal}
+use Rattle.std.specs.Io.KnownBytes.{Appends, Keeps}
 use Rattle.clap.specs.Words.{Text, kind_of}
 use Rattle.clap.specs.declared.error.Error.{Error}
 use Rattle.clap.specs.declared.error.kind.ErrorKind.TheVariants.{OutOfMemory}
+use Rattle.wb_lines.specs.Faults.{drive_text}
 use Rattle.wb_lines.specs.declared.fault.DriveFault.{DriveFault}
 use Rattle.wb_lines.specs.declared.fault.DriveFault.TheVariants as filter_faults
 use Rattle.wb_script.specs.declared.fault.RunFault.{RunFault}
 use Rattle.wb_script.specs.declared.fault.RunFault.TheVariants as run_faults
+use Rattle.wb_filters.specs.Comments.{fault_text}
 use Rattle.wb_filters.specs.declared.fault.LineFault.{LineFault}
 use Rattle.wb_dialog.specs.declared.fault.HostFault.{HostFault}
 use Rattle.wb_dialog.specs.declared.fault.HostFault.TheVariants as host_faults
 use Rattle.wb.specs.CommandLine.{Asks}
-use Rattle.wb.specs.Serving.{failure_status, filter_status, host_status, run_status, status_by}
+use Rattle.wb.specs.Serving.{as_task, ended_status, failure_status, filter_status, filter_text, host_status, run_status}
 use Rattle.wb.specs.declared.command.Task.{Task}
 use Rattle.wb.specs.declared.serving.Failure.{Failure}
 use Rattle.wb.specs.declared.serving.Failure.TheVariants as failures
@@ -20,6 +22,11 @@ use Rattle.wb.specs.declared.serving.Failure.TheVariants as failures
 pub unwritten : (taken : Option (List ℕ)) → Appends taken taken []
 unwritten None = tt
 unwritten (Some bytes) = sym (append-nil bytes)
+
+pub kept_appends : (before after : Option (List ℕ)) → Keeps before after → Appends before after []
+kept_appends None after same = tt
+kept_appends (Some bytes) None same = absurd same
+kept_appends (Some bytes) (Some same_bytes) same = same ∙ sym (append-nil bytes)
 
 run_fails : (fault : RunFault) → run_status fault ≡ 0 → ⊥
 run_fails (run_faults.Line number fault) e = absurd (omega (arith, e))
@@ -70,7 +77,7 @@ run_lost run_faults.Write e = inr refl
 run_lost run_faults.Memory e = absurd (omega (arith, e))
 run_lost run_faults.Start e = absurd (omega (arith, e))
 
-pub script_lost : {X : Type 0} (r : Result X RunFault) → status_by run_status r ≡ 3 → (r ≡ Err run_faults.Read) ⊎ (r ≡ Err run_faults.Write)
+pub script_lost : {X : Type 0} (r : Result X RunFault) → ended_status (as_task failures.Run r) ≡ 3 → (r ≡ Err run_faults.Read) ⊎ (r ≡ Err run_faults.Write)
 script_lost (Ok x) e = absurd (omega (arith, e))
 script_lost (Err fault) e = elim (run_lost fault e) [ inl read ↦ inl (ap Err read) | inr write ↦ inr (ap Err write) ]
 
@@ -86,3 +93,11 @@ host_lost host_faults.Endless e = absurd (omega (arith, e))
 host_lost host_faults.Read e = inl refl
 host_lost host_faults.Write e = inr refl
 host_lost host_faults.Memory e = absurd (omega (arith, e))
+
+-- the text of a filter's fault, which is also that of its crate
+pub said_of_filters : (fault : DriveFault LineFault) → drive_text (λ (e : LineFault). Some (fault_text e)) fault ≡ Some (filter_text fault)
+said_of_filters (filter_faults.Line number fault) = ap (λ (t : List ℕ). Some (codes "line " ++ t)) (append_assoc (decimal number) (codes ": ") (fault_text fault))
+said_of_filters filter_faults.Read = refl
+said_of_filters filter_faults.Write = refl
+said_of_filters filter_faults.Memory = refl
+said_of_filters filter_faults.Endless = refl

@@ -8,13 +8,16 @@ use Rattle.wb_lines.specs.declared.fault.DriveFault.{DriveFault}
 use Rattle.wb_lines.specs.declared.fault.DriveFault.TheVariants as filter_faults
 use Rattle.wb_script.specs.Runs.{Runs}
 use Rattle.wb_script.specs.Checking.{Checks}
+use Rattle.wb_script.specs.Faults.{run_text}
 use Rattle.wb_script.specs.declared.fault.RunFault.{RunFault}
 use Rattle.wb_script.specs.declared.fault.RunFault.TheVariants as run_faults
 use Rattle.wb_script.specs.declared.running.Summary.{Summary}
+use Rattle.wb_filters.specs.Comments.{fault_text}
 use Rattle.wb_filters.specs.Filtering.{outcome}
 use Rattle.wb_filters.specs.declared.fault.LineFault.{LineFault}
 use Rattle.wb_dialog.specs.Doing.{Writes}
 use Rattle.wb_dialog.specs.Hosting.{transcript, IsEndless}
+use Rattle.wb_dialog.specs.Refusals.{host_text}
 use Rattle.wb_dialog.specs.declared.fault.HostFault.{HostFault}
 use Rattle.wb_dialog.specs.declared.fault.HostFault.TheVariants as host_faults
 use Rattle.clap.specs.Words.{Text}
@@ -48,15 +51,20 @@ host_status host_faults.Read = 3
 host_status host_faults.Write = 3
 host_status host_faults.Memory = 4
 
--- 0 just if all was done
-abbrev pub status_by : {X F : Type 0} → (F → ℕ) → Result X F → ℕ
-status_by status (Ok x) = 0
-status_by status (Err fault) = status fault
-
 abbrev pub failure_status : Failure → ℕ
 failure_status (failures.Run fault) = run_status fault
 failure_status (failures.Filter fault) = filter_status fault
 failure_status (failures.Host fault) = host_status fault
+
+-- 0 just if all was done
+abbrev pub ended_status : Result (Unit {0}) Failure → ℕ
+ended_status (Ok u) = 0
+ended_status (Err failure) = failure_status failure
+
+-- how a task ended, by how its crate ended
+abbrev pub as_task : {X F : Type 0} → (F → Failure) → Result X F → Result (Unit {0}) Failure
+as_task kind (Ok x) = Ok tt
+as_task kind (Err fault) = Err (kind fault)
 
 -- ---- tasks
 
@@ -75,16 +83,16 @@ Approves (Ok lines) written ended = IsWritten (approval lines) written ended
 Approves (Err fault) written ended = (written ≡ []) × (ended ≡ Err fault)
 
 -- Of an input, which is cut off if reading fails after it, a task wrote this, and so it ended.
-abbrev pub Performs : Task → Bool → List ℕ → List ℕ → ℕ → Type 0
-Performs (tasks.Run workers) cut input written status =
-    (r : Result Summary RunFault) × Runs workers cut input written r × (status ≡ status_by run_status r)
-Performs tasks.Check cut input written status =
-    (r : Result ℕ RunFault) × Checks cut input r × ((ended : Result (Unit {0}) RunFault) × Approves r written ended × (status ≡ status_by run_status ended))
-Performs (tasks.Turn filter) cut input written status =
-    (r : Result ℕ (DriveFault LineFault)) × Meets (outcome filter cut input) written r × (status ≡ status_by filter_status r)
-Performs (tasks.Host tuning) cut input written status =
+abbrev pub Performs : Task → Bool → List ℕ → List ℕ → Result (Unit {0}) Failure → Type 0
+Performs (tasks.Run workers) cut input written ended =
+    (r : Result Summary RunFault) × Runs workers cut input written r × (ended ≡ as_task failures.Run r)
+Performs tasks.Check cut input written ended =
+    (r : Result ℕ RunFault) × Checks cut input r × ((end : Result (Unit {0}) RunFault) × Approves r written end × (ended ≡ as_task failures.Run end))
+Performs (tasks.Turn filter) cut input written ended =
+    (r : Result ℕ (DriveFault LineFault)) × Meets (outcome filter cut input) written r × (ended ≡ as_task failures.Filter r)
+Performs (tasks.Host tuning) cut input written ended =
     (r : Result (Unit {0}) HostFault) × Writes (transcript tuning cut input) written r
-    × (r ≡ Err host_faults.Endless → IsEndless (2 ^ 64 - 1) (input_lines input)) × (status ≡ status_by host_status r)
+    × (r ≡ Err host_faults.Endless → IsEndless (2 ^ 64 - 1) (input_lines input)) × (ended ≡ as_task failures.Host r)
 
 -- ---- the ends
 
@@ -106,24 +114,70 @@ pub record Writing : Type 0 where
 abbrev pub writing : Option (List ℕ) → Option (List ℕ) → Bool → Writing
 writing before after has_failed = record { before = before; after = after; has_failed = has_failed }
 
+-- ---- lines about failures
+
+-- A sink took a text, or, since it has failed, a front of it.
+pub record Says (sink : Writing) (text : List ℕ) : Type 0 where
+  pub written : List ℕ
+  pub took : Appends sink.before sink.after written
+  pub front : BeginsWith text written
+  pub whole : (written ≡ text) ⊎ (sink.has_failed ≡ true)
+
+abbrev pub filter_text : DriveFault LineFault → List ℕ
+filter_text (filter_faults.Line number fault) = codes "line " ++ (decimal number ++ (codes ": " ++ fault_text fault))
+filter_text filter_faults.Read = codes "read"
+filter_text filter_faults.Write = codes "write"
+filter_text filter_faults.Memory = codes "memory"
+filter_text filter_faults.Endless = codes "endless"
+
+abbrev pub failure_text : Failure → List ℕ
+failure_text (failures.Run fault) = run_text fault
+failure_text (failures.Filter fault) = filter_text fault
+failure_text (failures.Host fault) = host_text fault
+
+-- the line about a failure
+abbrev pub complaint : Failure → List ℕ
+complaint failure = codes "wb: " ++ (failure_text failure ++ codes "\n")
+
+-- the line if an allocation failed, perhaps that of the line about a failure
+abbrev pub no_memory : List ℕ
+no_memory = codes "wb: memory\n"
+
+-- If all was done, nothing is written; else the line about the failure, or that there was no memory for it.
+abbrev pub Explains : Result (Unit {0}) Failure → Writing → Type 0
+Explains (Ok u) errors = errors.after ≡ errors.before
+Explains (Err failure) errors = Says errors (complaint failure) ⊎ Says errors no_memory
+
+-- the line about a word of the command line that is no text
+abbrev pub not_text : List ℕ
+not_text = codes "wb: a word of the command line is not UTF-8\n"
+
 -- ---- the program
 
--- A task was performed between a source and a sink: it read an input, wrote what it performs of that, and answered this status, which is
--- 3 only if an end has failed.
-pub record Performed (task : Task) (source : Reading) (sink : Writing) (status : ℕ) : Type 0 where
+-- A task was performed between a source and a sink: it read an input, wrote what it performs of that, and ended so. Its status is 3 only
+-- if an end has failed.
+pub record Performed (task : Task) (source : Reading) (sink : Writing) (ended : Result (Unit {0}) Failure) : Type 0 where
   pub input : List ℕ
   pub written : List ℕ
   pub read : Gave source.left source.rest source.has_failed input
   pub wrote : Appends sink.before sink.after written
-  pub answered : Performs task source.has_failed input written status
-  pub failed : status ≡ 3 → (source.has_failed ≡ true) ⊎ (sink.has_failed ≡ true)
+  pub answered : Performs task source.has_failed input written ended
+  pub failed : ended_status ended ≡ 3 → (source.has_failed ≡ true) ⊎ (sink.has_failed ≡ true)
 
--- Nothing was read or written, since an allocation failed (4), or the words ask for no task (2).
-pub record IsIdle (words : List Text) (source : Reading) (sink : Writing) (status : ℕ) : Type 0 where
+-- So it was, the second output says why it ended so, and the status tells it.
+pub record Served (task : Task) (source : Reading) (sink errors : Writing) (status : ℕ) : Type 0 where
+  pub ended : Result (Unit {0}) Failure
+  pub performed : Performed task source sink ended
+  pub explained : Explains ended errors
+  pub answered : status ≡ ended_status ended
+
+-- Nothing was read or written, since an allocation failed (4), which the second output says, or the words ask for no task (2).
+pub record IsIdle (words : List Text) (source : Reading) (sink errors : Writing) (status : ℕ) : Type 0 where
   pub unread : source.rest ≡ source.left
   pub unwritten : sink.after ≡ sink.before
   pub reason : (status ≡ 4) ⊎ ((status ≡ 2) × ((task : Task) → Asks words task → ⊥))
+  pub said : status ≡ 4 → Says errors no_memory
 
 -- The task that the words ask for was performed, or nothing was read or written.
-abbrev pub Serves : List Text → Reading → Writing → ℕ → Type 0
-Serves words source sink status = ((task : Task) × Asks words task × Performed task source sink status) ⊎ IsIdle words source sink status
+abbrev pub Serves : List Text → Reading → Writing → Writing → ℕ → Type 0
+Serves words source sink errors status = ((task : Task) × Asks words task × Served task source sink errors status) ⊎ IsIdle words source sink errors status

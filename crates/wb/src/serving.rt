@@ -2,9 +2,10 @@
 ghost use Rattle.std.specs.Prelude.{◌≡◌, ◌≢◌, ◌⊎◌, ℕ, List, true, map, IfOk, Err};
 ghost use Rattle.std.specs.String.{string_bytes};
 ghost use Rattle.std.specs.Io.KnownBytes.{Appends};
+ghost use Rattle.std.specs.declared.io.ErrorKind.TheVariants.{InvalidData};
 ghost use Rattle.clap.specs.Words.{kind_of};
 ghost use Rattle.wb_recovery.specs.Timing.{are_constants};
-ghost use Rattle.wb.specs.Serving.{IsWritten, Performed, Serves, approval, failure_status, reading, run_status, status_by, writing};
+ghost use Rattle.wb.specs.Serving.{Explains, IsWritten, Performed, Says, Served, Serves, approval, as_task, complaint, failure_status, no_memory, not_text, reading, writing};
 
 use crate::command::{Task, task_of};
 use clap::Error;
@@ -58,7 +59,10 @@ fn status_of(failure: Failure) -> u8
     }
 }
 
-fn text_of(alloc: Global, failure: Failure) -> Result<String, AllocError> {
+/// The line about a failure.
+fn text_of(alloc: Global, failure: Failure) -> Result<String, AllocError>
+    ensures { IfOk result (λ text. string_bytes text ≡ complaint failure) }
+{
     match failure {
         Failure::Run(fault) => format!(in alloc; "wb: {fault}\n"),
         Failure::Filter(fault) => format!(in alloc; "wb: {fault}\n"),
@@ -66,41 +70,50 @@ fn text_of(alloc: Global, failure: Failure) -> Result<String, AllocError> {
     }
 }
 
-/// Writes all of the bytes. Answers whether that was done.
-fn push_all<S: Sink>(sink: &mut S, bytes: &[u8]) -> bool {
+/// Writes all of the bytes, or a front of them if the sink fails.
+fn push_all<S: Sink>(sink: &mut S, bytes: &[u8])
+    ensures { Says (writing (S.taken sink.old) (S.taken sink.new) (S.has_failed sink.new))
+        bytes.now }
+{
     let mut sent = 0;
     while sent < bytes.len() {
         match sink.push(&bytes[sent..]) {
             Some(count) => sent += count,
-            None => return false,
+            None => return,
         }
     }
-    true
 }
 
 /// Writes that an allocation failed, and answers the status for it. That allocates nothing.
 pub fn report_no_memory<E: Sink>(errors: &mut E) -> u8
-    ensures { result ≡ 4 }
+    ensures status { result ≡ 4 }
+    ensures text { Says (writing (E.taken errors.old) (E.taken errors.new) (E.has_failed errors.new))
+        no_memory }
 {
-    push_all(errors, "wb: memory\n".as_bytes());
+    push_all(errors, b"wb: memory\n");
     NO_MEMORY
 }
 
 /// Writes a line about a fault, and answers the status for it. A failure to write it changes
 /// nothing.
 fn report<E: Sink>(alloc: Global, errors: &mut E, failure: Failure) -> u8
-    ensures { result ≡ failure_status failure }
+    ensures status { result ≡ failure_status failure }
+    ensures text { Explains (Err failure)
+        (writing (E.taken errors.old) (E.taken errors.new) (E.has_failed errors.new)) }
 {
     match text_of(alloc, failure) {
         Ok(text) => push_all(errors, text.as_bytes()),
-        Err(AllocError) => push_all(errors, "wb: memory\n".as_bytes()),
+        Err(AllocError) => push_all(errors, b"wb: memory\n"),
     };
     status_of(failure)
 }
 
 /// Writes the parser's text about the words, and answers the status for it.
 fn misuse<E: Sink>(alloc: Global, errors: &mut E, error: Error) -> u8
-    ensures { (result ≡ 4) ⊎ ((result ≡ 2) × (kind_of error ≢ ErrorKind.OutOfMemory)) }
+    ensures status { (result ≡ 4) ⊎ ((result ≡ 2) × (kind_of error ≢ ErrorKind.OutOfMemory)) }
+    ensures text { result ≡ 4
+        → Says (writing (E.taken errors.old) (E.taken errors.new) (E.has_failed errors.new))
+        no_memory }
 {
     if error.kind() == ErrorKind::OutOfMemory {
         return report_no_memory(errors);
@@ -116,12 +129,16 @@ fn misuse<E: Sink>(alloc: Global, errors: &mut E, error: Error) -> u8
 
 /// Writes why the words of the command line can't be had, and answers the status for it: one of
 /// them is not UTF-8, or an allocation failed.
-pub fn refuse_words<E: Sink>(errors: &mut E, kind: io::ErrorKind) -> u8 {
+pub fn refuse_words<E: Sink>(errors: &mut E, kind: io::ErrorKind) -> u8
+    ensures not_text { kind ≡ InvalidData → (result ≡ 2)
+        × Says (writing (E.taken errors.old) (E.taken errors.new) (E.has_failed errors.new))
+        not_text }
+    ensures no_memory { kind ≢ InvalidData → (result ≡ 4)
+        × Says (writing (E.taken errors.old) (E.taken errors.new) (E.has_failed errors.new))
+        no_memory }
+{
     if kind == io::ErrorKind::InvalidData {
-        push_all(
-            errors,
-            "wb: a word of the command line is not UTF-8\n".as_bytes(),
-        );
+        push_all(errors, b"wb: a word of the command line is not UTF-8\n");
         MISUSED
     } else {
         report_no_memory(errors)
@@ -160,7 +177,7 @@ fn check_lines<R: Source, W: Sink>(
     ensures { Performed Task.Check
         (reading (R.left source.old) (R.left source.new) (R.has_failed source.new))
         (writing (W.taken sink.old) (W.taken sink.new) (W.has_failed sink.new))
-        (status_by run_status result) }
+        (as_task Failure.Run result) }
 {
     let lines = check(alloc, source)?;
     approve(alloc, sink, lines)
@@ -177,7 +194,7 @@ fn perform_run<T: Threads + Wait + Sync, R: Source, W: Sink>(
     ensures { Performed (Task.Run workers)
         (reading (R.left source.old) (R.left source.new) (R.has_failed source.new))
         (writing (W.taken sink.old) (W.taken sink.new) (W.has_failed sink.new))
-        (status_by failure_status result) }
+        result }
 {
     match run(rt, alloc, source, sink, workers, &NoGate) {
         Ok(_) => Ok(()),
@@ -194,7 +211,7 @@ fn perform_check<R: Source, W: Sink>(
     ensures { Performed Task.Check
         (reading (R.left source.old) (R.left source.new) (R.has_failed source.new))
         (writing (W.taken sink.old) (W.taken sink.new) (W.has_failed sink.new))
-        (status_by failure_status result) }
+        result }
 {
     match check_lines(alloc, source, sink) {
         Ok(_) => Ok(()),
@@ -212,7 +229,7 @@ fn perform_turn<R: Source, W: Sink>(
     ensures { Performed (Task.Turn filter)
         (reading (R.left source.old) (R.left source.new) (R.has_failed source.new))
         (writing (W.taken sink.old) (W.taken sink.new) (W.has_failed sink.new))
-        (status_by failure_status result) }
+        result }
 {
     match run_filter(alloc, filter, source, sink) {
         Ok(_) => Ok(()),
@@ -231,7 +248,7 @@ fn perform_host<R: Source, W: Sink>(
     ensures { Performed (Task.Host tuning)
         (reading (R.left source.old) (R.left source.new) (R.has_failed source.new))
         (writing (W.taken sink.old) (W.taken sink.new) (W.has_failed sink.new))
-        (status_by failure_status result) }
+        result }
 {
     match host(alloc, tuning, source, sink) {
         Ok(_) => Ok(()),
@@ -250,7 +267,7 @@ fn perform<T: Threads + Wait + Sync, R: Source, W: Sink>(
     ensures { Performed task
         (reading (R.left source.old) (R.left source.new) (R.has_failed source.new))
         (writing (W.taken sink.old) (W.taken sink.new) (W.has_failed sink.new))
-        (status_by failure_status result) }
+        result }
 {
     match task {
         Task::Run { workers } => perform_run(rt, alloc, workers, source, sink),
@@ -269,9 +286,10 @@ fn finish<T: Threads + Wait + Sync, R: Source, W: Sink, E: Sink>(
     sink: &mut W,
     errors: &mut E,
 ) -> u8
-    ensures performed { Performed task
+    ensures served { Served task
         (reading (R.left source.old) (R.left source.new) (R.has_failed source.new))
-        (writing (W.taken sink.old) (W.taken sink.new) (W.has_failed sink.new)) result }
+        (writing (W.taken sink.old) (W.taken sink.new) (W.has_failed sink.new))
+        (writing (E.taken errors.old) (E.taken errors.new) (E.has_failed errors.new)) result }
     ensures quiet { result ≡ 0 → E.taken errors.new ≡ E.taken errors.old }
 {
     match perform(rt, alloc, task, source, sink) {
@@ -293,7 +311,8 @@ pub fn serve<T: AllocGlobal + Threads + Wait + Sync, R: Source, W: Sink, E: Sink
 ) -> u8
     ensures served { Serves (map (λ word. word.now) words.now)
         (reading (R.left source.old) (R.left source.new) (R.has_failed source.new))
-        (writing (W.taken sink.old) (W.taken sink.new) (W.has_failed sink.new)) result }
+        (writing (W.taken sink.old) (W.taken sink.new) (W.has_failed sink.new))
+        (writing (E.taken errors.old) (E.taken errors.new) (E.has_failed errors.new)) result }
     ensures failed { result ≡ 3
         → (R.has_failed source.new ≡ true) ⊎ (W.has_failed sink.new ≡ true) }
     ensures quiet { result ≡ 0 → E.taken errors.new ≡ E.taken errors.old }

@@ -53,6 +53,7 @@ pub record AreUnknown : Type 0 where
   pub keep : IsUnknown (codes "keep")
   pub came : IsUnknown (codes "came")
   pub add : IsUnknown (codes "add")
+  pub version : IsUnknown (codes "version")
 
 pub unknown : AreUnknown
 unfolding command page_line question is_kind
@@ -63,6 +64,7 @@ unknown = record {
   keep = record { script = λ arguments. refl; kind = refl };
   came = record { script = λ arguments. refl; kind = refl };
   add = record { script = λ arguments. refl; kind = refl };
+  version = record { script = λ arguments. refl; kind = refl };
 }
 
 same_first : (x y : List ℕ) (xs ys : List (List ℕ)) → x ∷ xs ≡ y ∷ ys → x ≡ y

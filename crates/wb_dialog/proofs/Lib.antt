@@ -10,3 +10,4 @@ pub mod DrivenHosts
 pub mod KeptReplies
 pub mod KeptHosts
 pub mod NeverTooMany
+pub mod VersionLines

@@ -30,7 +30,7 @@ use Rattle.wb_commands.specs.declared.fault.LineFault.TheVariants as faults
 use Rattle.wb_dialog.specs.declared.fault.Refusal.{Refusal}
 use Rattle.wb_dialog.specs.declared.fault.Refusal.TheVariants as refusals
 use Rattle.wb_dialog.specs.declared.line.DriverLine.{DriverLine}
-use Rattle.wb_dialog.specs.declared.line.DriverLine.TheVariants.{Script, Say, Ask, Stop, Keep, Came, Add}
+use Rattle.wb_dialog.specs.declared.line.DriverLine.TheVariants.{Script, Say, Ask, Stop, Keep, Came, Add, Version}
 use Rattle.wb_dialog.specs.Dialog.{Answer, answer_at, answered, gives, refuses, says_line}
 use Rattle.wb_dialog.specs.Hosting.{Driven, Host, Hosting, Kept, Reply, as_driven, denies, host_after, hosting_after, hosting_from, is_acting, keep_reply, kept_does, kept_reply, kept_shows, reply, reply_of, reply_to, seed_after, taken_reply, unopened}
 use Rattle.wb_dialog.specs.KeptLaws.{AddIsNotTooMany}
@@ -99,6 +99,7 @@ kept_counts (Say v) k counts = counts
 kept_counts (Ask name) k counts = counts
 kept_counts (Stop name) k counts = counts
 kept_counts (Keep rate listen) k counts = counts
+kept_counts Version k counts = counts
 
 -- ---- a host that its driver drives
 
@@ -145,6 +146,7 @@ driven_counts (Stop name) host (Some seed) counts = acted host (Some seed) (answ
 driven_counts (Keep rate listen) host (Some seed) counts = acted host (Some seed) (answer_at (Keep rate listen) host) counts
 driven_counts (Came now v) host (Some seed) counts = counts
 driven_counts (Add adding) host (Some seed) counts = counts
+driven_counts Version host (Some seed) counts = counts
 
 -- ---- the first line
 
@@ -165,6 +167,7 @@ opened_counts tuning (Stop name) = tt
 opened_counts tuning (Keep rate listen) = tt
 opened_counts tuning (Came now v) = tt
 opened_counts tuning (Add adding) = tt
+opened_counts tuning Version = tt
 
 -- ---- lines
 
@@ -187,6 +190,7 @@ line_counts tuning h (Ask name) counts = taken_counts tuning h (Ask name) counts
 line_counts tuning h (Stop name) counts = taken_counts tuning h (Stop name) counts
 line_counts tuning h (Came now v) counts = taken_counts tuning h (Came now v) counts
 line_counts tuning h (Add adding) counts = taken_counts tuning h (Add adding) counts
+line_counts tuning h Version counts = taken_counts tuning h Version counts
 
 said_counts : (tuning : Tuning) (h : Option Host) (said : Result DriverLine Refusal) → Counts h → Counts (host_after h (reply tuning h said))
 said_counts tuning h (Ok line) counts = line_counts tuning h line counts

@@ -23,6 +23,7 @@ as_script line word arguments l e is =
       other (codes "keep") unknown.keep,
       other (codes "came") unknown.came,
       other (codes "add") unknown.add,
+      other (codes "version") unknown.version,
     ) (ap (script_or (question word arguments)) e)
 
 by_its_words : (line : List ℕ) (l : Command) → script_line_of line ≡ Ok l → line_of_words line (words line) ≡ Ok (Script l)

@@ -17,8 +17,9 @@ use Rattle.wb_commands.specs.Answers.{batch_line}
 use Rattle.wb_commands.specs.SentLines.{send_line}
 use Rattle.wb_commands.specs.Acts.{Act, does, fails, act}
 use Rattle.wb_member.specs.Opened.{Opened, opened_with, becomes, accepted, next_due, may_ask, with_asked, asks_for, with_stopped, by_host}
+use Rattle.wb_dialog.specs.declared.line.TheConstants.{LINES_VERSION}
 use Rattle.wb_dialog.specs.declared.line.DriverLine.{DriverLine}
-use Rattle.wb_dialog.specs.declared.line.DriverLine.TheVariants.{Script, Say, Ask, Stop, Keep, Came, Add}
+use Rattle.wb_dialog.specs.declared.line.DriverLine.TheVariants.{Script, Say, Ask, Stop, Keep, Came, Add, Version}
 use Rattle.wb_dialog.specs.declared.fault.Refusal.{Refusal}
 use Rattle.wb_dialog.specs.declared.fault.Refusal.TheVariants as refusals
 use Rattle.wb_dialog.specs.Refusals.{refusal_text}
@@ -85,6 +86,10 @@ ask_line begun = if begun then codes "ask 1\n" else codes "ask 0\n"
 abbrev pub stop_line : Bool → List ℕ
 stop_line asked = if asked then codes "stop 1\n" else codes "stop 0\n"
 
+-- the number of the lines
+abbrev pub version_line : List ℕ
+version_line = codes "version " ++ (decimal LINES_VERSION ++ codes "\n")
+
 -- ---- one line
 
 -- what a line does at an open host
@@ -96,8 +101,9 @@ answer_at (Stop name) host = gives (Some (with_stopped name host)) (stop_line (a
 answer_at (Keep rate listen) host = refuses refusals.TooLate
 answer_at (Came now v) host = refuses refusals.NotKept
 answer_at (Add adding) host = refuses refusals.NotKept
+answer_at Version host = gives (Some host) version_line
 
--- What a line does before a board is open: one is opened, or the line is skipped.
+-- What a line does before a board is open: one is opened, the line is skipped, or it needs none.
 abbrev pub opening : Tuning → Command → Answer
 opening tuning (lines.Board member cells workers seed) = gives (Some (opened_with tuning member cells seed)) []
 opening tuning lines.Skip = gives None []
@@ -105,6 +111,7 @@ opening tuning line = refuses (refusals.Line faults.NoBoard)
 
 abbrev pub answer_first : Tuning → DriverLine → Answer
 answer_first tuning (Script line) = opening tuning line
+answer_first tuning Version = gives None version_line
 answer_first tuning line = refuses (refusals.Line faults.NoBoard)
 
 abbrev pub answer_to : Tuning → Option Opened → DriverLine → Answer

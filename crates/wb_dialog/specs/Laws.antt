@@ -18,8 +18,8 @@ use Rattle.wb_dialog.specs.declared.line.DriverLine.TheVariants.{Script}
 use Rattle.wb_dialog.specs.Lines.{line_of}
 use Rattle.wb_dialog.specs.declared.line.DriverLine.{DriverLine}
 use Rattle.wb_dialog.specs.declared.line.DriverLine.TheVariants.{Keep}
-use Rattle.wb_dialog.specs.Dialog.{ok_line, refused_line, says_line, transcript as driven_transcript}
-use Rattle.wb_dialog.specs.Hosting.{Hosting, Reply, prints, denies, reply_of, block_of, blocks_from, hosting_after, hosting_from, transcript}
+use Rattle.wb_dialog.specs.Dialog.{ok_line, refused_line, says_line, version_line, transcript as driven_transcript}
+use Rattle.wb_dialog.specs.Hosting.{Hosting, Reply, prints, denies, reply, reply_of, block_of, blocks_from, hosting_after, hosting_from, transcript}
 
 -- A refused line leaves the host as it was: its block says why, and what follows it is answered as if it had not been there.
 abbrev pub RefusedStays : Type 0
@@ -90,6 +90,12 @@ NextIsNew = (page : PageId) (host : Opened) (n : ℕ) → next_number page host 
 -- What `say` prints as sent is read back, after the word `datagram`, as what was said.
 abbrev pub SaidIsRead : Type 0
 SaidIsRead = (v : Datagram) → IsDatagram v → line_of (codes "datagram " ++ digits_of v) ≡ Ok (Script (handed_in v))
+
+-- ---- the number of the lines
+
+-- `version` prints it at every host, also before a board is open, and changes nothing.
+abbrev pub VersionIsTold : Type 0
+VersionIsTold = (s : Hosting) → reply s.tuning s.host (line_of (codes "version")) ≡ prints s.host version_line
 
 -- ---- what a script says
 

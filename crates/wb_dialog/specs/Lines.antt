@@ -23,7 +23,7 @@ use Rattle.wb_commands.specs.declared.fault.Untaken.{Untaken}
 use Rattle.wb_commands.specs.declared.fault.Untaken.TheVariants as untaken
 use Rattle.wb_commands.specs.Parsing.{or_fault, number, none_of, two_of, four_of, page, datagram, ◌>>=◌, line_of as script_line_of, IsWithin as IsScriptWithin}
 use Rattle.wb_dialog.specs.declared.line.DriverLine.{DriverLine}
-use Rattle.wb_dialog.specs.declared.line.DriverLine.TheVariants.{Script, Say, Ask, Stop, Keep, Came, Add}
+use Rattle.wb_dialog.specs.declared.line.DriverLine.TheVariants.{Script, Say, Ask, Stop, Keep, Came, Add, Version}
 use Rattle.wb_dialog.specs.declared.fault.Refusal.{Refusal}
 use Rattle.wb_dialog.specs.declared.fault.Refusal.TheVariants as refusals
 use Rattle.wb_dialog.specs.declared.fault.Unanswered.{Unanswered}
@@ -106,7 +106,8 @@ command line word arguments =
     else (if bytes_eq word (codes "keep") then by_words (λ line. line) (keep_line arguments)
     else (if bytes_eq word (codes "came") then by_words (λ line. line) (came_line arguments)
     else (if bytes_eq word (codes "add") then Err (refusals.Line faults.Words)
-    else script_or (question word arguments) (script_line_of line))))))
+    else (if bytes_eq word (codes "version") then by_words (λ nothing. Version) (or_fault faults.Words (none_of arguments))
+    else script_or (question word arguments) (script_line_of line)))))))
 
 abbrev pub line_of_words : List ℕ → List (List ℕ) → Result DriverLine Refusal
 line_of_words line [] = by_words Script (script_line_of line)
@@ -144,6 +145,7 @@ IsWithin (Stop n) = Unit {0}
 IsWithin (Keep rate listen) = (1 ≤ rate) × (listen < 2 ^ 32)
 IsWithin (Came now v) = IsMoment now
 IsWithin (Add adding) = IsMoment adding.moment
+IsWithin Version = Unit {0}
 
 -- why a line of a script was not parsed
 abbrev pub unanswered_by : Untaken → Unanswered

@@ -8,7 +8,7 @@ ghost use Rattle.wb_commands.specs.SentLines.{send_line};
 ghost use Rattle.wb_dialog.specs.Dialog.{answered, arrives, batch_of, goes_out, speaker, says, script_answer, answer_at};
 ghost use Rattle.wb_dialog.specs.Doing.{DoesAt, Adds};
 
-use crate::blocks::{ask_line, stop_line};
+use crate::blocks::{ask_line, print_version, stop_line};
 use crate::fault::{Refusal, Unanswered};
 use crate::line::DriverLine;
 use std::alloc::{AllocError, Global};
@@ -174,6 +174,15 @@ fn stop(member: &mut Member, name: &Name, output: &mut Output) -> Result<(), Una
     Ok(())
 }
 
+/// It says the number of the lines.
+fn version(member: &mut Member, output: &mut Output) -> Result<(), Unanswered>
+    ensures text { Adds output.old output.new (λ written.
+        DoesAt member.old member.new written result (answer_at DriverLine.Version)) }
+{
+    print_version(output)?;
+    Ok(())
+}
+
 /// What a line does at an open member: it prints, or it is refused, and then the member stays as it
 /// is.
 pub(crate) fn answer(
@@ -191,6 +200,7 @@ pub(crate) fn answer(
         DriverLine::Say(datagram) => say(alloc, member, datagram, output),
         DriverLine::Ask(name) => ask(alloc, member, name, output),
         DriverLine::Stop(name) => stop(member, name, output),
+        DriverLine::Version => version(member, output),
         DriverLine::Keep { .. } => Err(Unanswered::Refused(Refusal::TooLate)),
         DriverLine::Came { .. } => Err(Unanswered::Refused(Refusal::NotKept)),
         DriverLine::Add(_) => Err(Unanswered::Refused(Refusal::NotKept)),

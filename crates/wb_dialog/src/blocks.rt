@@ -1,10 +1,11 @@
 //! The texts of a block.
 ghost use Rattle.std.specs.Prelude.{◌≡◌, Some, IfOk};
 ghost use Rattle.std.specs.String.{string_bytes};
-ghost use Rattle.wb_dialog.specs.Dialog.{ask_line, stop_line, ok_line, refused_line};
+ghost use Rattle.wb_dialog.specs.Dialog.{ask_line, stop_line, version_line, ok_line, refused_line};
 ghost use Rattle.wb_dialog.specs.Doing.{Adds, Prints};
 
 use crate::fault::Refusal;
+use crate::line::LINES_VERSION;
 use itoa::Buffer;
 use std::alloc::{AllocError, Global};
 use wb_lines::Output;
@@ -21,6 +22,16 @@ pub(crate) fn stop_line(asked: bool) -> &'static [u8]
     ensures { result.now ≡ stop_line asked }
 {
     if asked { b"stop 1\n" } else { b"stop 0\n" }
+}
+
+/// Prints the number of the lines. If an allocation fails, it prints a front of that line.
+pub(crate) fn print_version(output: &mut Output) -> Result<(), AllocError>
+    ensures { Adds output.old output.new (λ written. Prints written result version_line) }
+{
+    let mut digits = Buffer::new();
+    output.add(b"version ")?;
+    output.add(digits.format(LINES_VERSION).as_bytes())?;
+    output.add(b"\n")
 }
 
 /// The line that closes the block of a line that is refused.

@@ -6,7 +6,7 @@ ghost use Rattle.wb_dialog.specs.Dialog.{ok_line};
 ghost use Rattle.wb_dialog.specs.Hosting.{Host as HostState, due_at, keep_reply, reply, reply_to, taken_reply};
 ghost use Rattle.wb_dialog.specs.Doing.{DoesReply, MayBeAt, Prints, Adds, DoesHost, BlocksAt, host_of, kept_in};
 
-use crate::blocks::{print_ok, refused_line};
+use crate::blocks::{print_ok, print_version, refused_line};
 use crate::fault::{Refusal, Unanswered};
 use crate::line::DriverLine;
 use crate::opened::Host;
@@ -86,11 +86,17 @@ impl Dialog {
     }
 
     /// What a line does before a board is open.
-    fn begin(&mut self, alloc: Global, line: &DriverLine) -> Result<(), Unanswered>
+    fn begin(
+        &mut self,
+        alloc: Global,
+        line: &DriverLine,
+        output: &mut Output,
+    ) -> Result<(), Unanswered>
         requires line { IsWithin line.now }
         requires closed { self.old.host ≡ None }
-        ensures does { DoesReply None self.new.host [] result
-            (taken_reply self.old.tuning None line.now) }
+        ensures text { Adds output.old output.new (λ written.
+            DoesReply None self.new.host written result
+            (taken_reply self.old.tuning None line.now)) }
         ensures tuning { self.new.tuning ≡ self.old.tuning }
     {
         match line {
@@ -104,6 +110,10 @@ impl Dialog {
                 },
             ) => {
                 self.host = Some(Host::open(alloc, *member, *cells, *seed, self.tuning)?);
+                Ok(())
+            }
+            DriverLine::Version => {
+                print_version(output)?;
                 Ok(())
             }
             _ => Err(Unanswered::Refused(Refusal::Line(LineFault::NoBoard))),
@@ -125,7 +135,7 @@ impl Dialog {
     {
         match &mut self.host {
             Some(host) => host.take(alloc, line, output),
-            None => self.begin(alloc, line),
+            None => self.begin(alloc, line, output),
         }
     }
 

@@ -5,7 +5,6 @@ ghost use Rattle.wb_dialog.specs.declared.fault.Refusal.TheVariants as refusals;
 
 use std::alloc::{AllocError, AllocFailed};
 use std::{error, fmt};
-use thiserror::Error;
 use wb_commands::LineFault;
 
 /// Why a line of a driver is refused.
@@ -95,18 +94,32 @@ impl<T: Drop> From<AllocFailed<T>> for Unanswered {
 }
 
 /// Why a host did not come to the end of its input.
-#[derive(Clone, Copy, Debug, PartialEq, Eq, Error)]
+#[derive(Clone, Copy, Debug, PartialEq, Eq)]
 pub enum HostFault {
     /// The source has failed.
-    #[error("read")]
     Read,
     /// The sink has failed.
-    #[error("write")]
     Write,
     /// Memory ran out.
-    #[error("memory")]
     Memory,
     /// The input has 2^64 - 1 lines or more, or a line that has as many bytes.
-    #[error("endless")]
     Endless,
 }
+
+impl fmt::Display for HostFault {
+    ghost use Rattle.std.specs.Prelude.{Some};
+    ghost use Rattle.wb_dialog.specs.Refusals.{host_text};
+
+    ghost output = { λ e. Some (host_text e) };
+
+    fn fmt<W: fmt::Write>(&self, f: &mut fmt::Formatter<W>) -> fmt::Result {
+        match self {
+            HostFault::Read => f.write_str("read"),
+            HostFault::Write => f.write_str("write"),
+            HostFault::Memory => f.write_str("memory"),
+            HostFault::Endless => f.write_str("endless"),
+        }
+    }
+}
+
+impl error::Error for HostFault {}

@@ -11,6 +11,7 @@ ghost use Rattle.wb_recovery.specs.Timing.{are_constants};
 ghost use Rattle.wb_dialog.specs.Hosting.{came_text, kept_adds, kept_draws, kept_reply, kept_takes, kept_ticks, kept_tunes, unsent_text, wrong_target};
 ghost use Rattle.wb_dialog.specs.Lines.{IsWithin};
 
+use crate::blocks::print_version;
 use crate::fault::{Refusal, Unanswered};
 use crate::line::DriverLine;
 use crate::parsing::refused as untaken;
@@ -207,6 +208,15 @@ fn ask(
     }
 }
 
+/// It says the number of the lines.
+fn version(kept: &mut KeptMember, output: &mut Output) -> Result<(), Unanswered>
+    ensures text { Adds output.old output.new (λ written.
+        DoesKept kept.old kept.new written result (kept_reply DriverLine.Version)) }
+{
+    print_version(output)?;
+    Ok(())
+}
+
 /// What a line of a script does. Some are no longer its driver's to judge.
 fn script(
     alloc: Global,
@@ -244,6 +254,7 @@ pub(crate) fn answer_kept(
         DriverLine::Script(line) => script(alloc, kept, line, output),
         DriverLine::Came { now, datagram } => came(alloc, kept, *now, datagram, output),
         DriverLine::Add(adding) => add(alloc, kept, adding, output),
+        DriverLine::Version => version(kept, output),
         _ => Err(Unanswered::Refused(Refusal::Kept)),
     }
 }

@@ -1,7 +1,9 @@
 //! Laws of the transcripts of a host, proved for all inputs. The functions do nothing: each stands
 //! here for its clause.
+ghost use Rattle.std.specs.Prelude.{◌≡◌};
+ghost use Rattle.wb_dialog.specs.declared.line.TheConstants.{LINES_VERSION};
 ghost use Rattle.wb_dialog.specs.KeptLaws.{AddIsNotTooMany, KeptIsDriven};
-ghost use Rattle.wb_dialog.specs.Laws.{RefusedStays, EachIsAnswered, FrontsAreFronts, AcceptedAlone, DrivenAsBefore, NextIsNew, SaidIsRead, ScriptLinesAreRead};
+ghost use Rattle.wb_dialog.specs.Laws.{RefusedStays, EachIsAnswered, FrontsAreFronts, AcceptedAlone, DrivenAsBefore, NextIsNew, SaidIsRead, ScriptLinesAreRead, VersionIsTold};
 
 /// A refused line leaves the host as it was.
 pub fn refused_lines_change_nothing()
@@ -49,6 +51,16 @@ pub fn next_numbers_are_new()
 /// What is said is read back as what was said.
 pub fn said_is_read()
     ensures { SaidIsRead }
+{}
+
+/// `version` is answered at every host, before a board is open too, and changes nothing.
+pub fn version_is_told()
+    ensures { VersionIsTold }
+{}
+
+/// The number of the lines.
+pub fn lines_version()
+    ensures { LINES_VERSION ≡ 1 }
 {}
 
 /// A line that a script takes is read the same by a host.

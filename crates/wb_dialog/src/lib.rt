@@ -22,4 +22,4 @@ pub use dialog::Dialog;
 pub use fault::{HostFault, Refusal};
 pub use hosting::host;
 pub use keeping::shape_of;
-pub use line::DriverLine;
+pub use line::{DriverLine, LINES_VERSION};

@@ -4,6 +4,10 @@ use wb_commands::Command;
 use wb_names::Name;
 use wb_words::Adding;
 
+/// The number of the lines that a driver writes and a host prints. It changes only with a line that
+/// a driver of the number before would no longer write, or read, as it did.
+pub const LINES_VERSION: u32 = 1;
+
 /// A line of a driver, with its words as fields.
 #[derive(Debug, Drop)]
 pub enum DriverLine {
@@ -24,4 +28,6 @@ pub enum DriverLine {
     Came { now: u64, datagram: Datagram },
     /// `add NOW TIME C/N OPERATION`: the user draws.
     Add(Adding),
+    /// `version` asks for the number of these lines. It needs no board.
+    Version,
 }

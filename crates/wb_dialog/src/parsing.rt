@@ -139,6 +139,10 @@ fn command(alloc: Global, line: &[u8], word: &[u8], rest: &[u8]) -> Result<Drive
     if is_word(word, b"add") {
         return Err(Unanswered::Refused(Refusal::Line(LineFault::Words)));
     }
+    if is_word(word, b"version") {
+        no_words(rest).ok_or(LineFault::Words)?;
+        return Ok(DriverLine::Version);
+    }
     script_or_question(alloc, line, word, rest)
 }
 

@@ -12,12 +12,12 @@ use Rattle.wb_commands.specs.declared.command.Command.{Command}
 use Rattle.wb_commands.specs.declared.command.Command.TheVariants as lines
 use Rattle.wb_dialog.specs.declared.fault.Refusal.{Refusal}
 use Rattle.wb_dialog.specs.declared.line.DriverLine.{DriverLine}
-use Rattle.wb_dialog.specs.declared.line.DriverLine.TheVariants.{Script, Say, Ask, Stop, Keep, Came, Add}
+use Rattle.wb_dialog.specs.declared.line.DriverLine.TheVariants.{Script, Say, Ask, Stop, Keep, Came, Add, Version}
 use Rattle.wb_dialog.specs.Dialog.{says_line}
 use Rattle.wb_dialog.specs.Doing.{text_in}
 use Rattle.wb_dialog.specs.Hosting.{Host, Driven, Kept, Reply, prints, denies, came_text, hosting_from, reply_of, unopened, unsent_text}
 use Rattle.wb_laws_hosts.specs.Closings.{AreOneLine, IsNoShow, HoldsLines, BlocksCloseOnce, InputsCloseOnce, SessionsCloseOnce}
-use Rattle.wb_laws_hosts.specs.Telling.{told_at, told_by, told_driven, told_in_script, told_kept, told_of, told_said, told_saying}
+use Rattle.wb_laws_hosts.specs.Telling.{told_at, told_by, told_driven, told_first, told_in_script, told_kept, told_of, told_said, told_saying}
 use Rattle.wb_laws_hosts.specs.Texts.{hosting_at, sent_at}
 use Rattle.wb_laws_hosts.proofs.PlainLines.{Plain, none, both, whole}
 use Rattle.wb_laws_hosts.proofs.PlainTexts as texts
@@ -60,6 +60,7 @@ module _ (host : Opened) (held : AreOneLine host.is.held) where
   driven (Keep rate listen) shows = none
   driven (Came now v) shows = none
   driven (Add adding) shows = none
+  driven Version shows = texts.version
 
 module _ (k : Keeping) (held : AreOneLine k.host.is.held) where
   came_plain : (v : Datagram) (o : Outcome) → Plain (came_text v o)
@@ -89,9 +90,20 @@ module _ (k : Keeping) (held : AreOneLine k.host.is.held) where
   kept (Ask name) shows = none
   kept (Stop name) shows = none
   kept (Keep rate listen) shows = none
+  kept Version shows = texts.version
+
+first : (line : DriverLine) → Plain (told_first line)
+first Version = texts.version
+first (Script line) = none
+first (Say v) = none
+first (Ask name) = none
+first (Stop name) = none
+first (Keep rate listen) = none
+first (Came now v) = none
+first (Add adding) = none
 
 told_plain : (s : Option Host) (line : DriverLine) → HoldsLines s → IsNoShow (Ok line) → Plain (told_of s line)
-told_plain None line held shows = none
+told_plain None line held shows = first line
 told_plain (Some (Driven host seed)) line held shows = driven host held line shows
 told_plain (Some (Kept k)) line held shows = kept k held line shows
 

@@ -16,7 +16,7 @@ use Rattle.wb_words.specs.declared.adding.Adding.{Adding}
 use Rattle.wb_words.specs.declared.fault.WrongWord.{WrongWord}
 use Rattle.wb_words.proofs.LineLaws.{reading_takes}
 use Rattle.wb_words.proofs.Splitting.{NoSpaces-words}
-use Rattle.wb_commands.specs.Parsing.{number, two_of, four_of, or_fault, datagram, handed_in, line_of as script_line_of}
+use Rattle.wb_commands.specs.Parsing.{number, none_of, two_of, four_of, or_fault, datagram, handed_in, line_of as script_line_of}
 use Rattle.wb_commands.specs.declared.command.Command.{Command}
 use Rattle.wb_member.specs.declared.questions.Query.{Query}
 use Rattle.wb_commands.specs.declared.fault.LineFault.{LineFault}
@@ -25,7 +25,7 @@ use Rattle.wb_dialog.specs.Dialog.{says_line}
 use Rattle.wb_dialog.specs.Lines.{asks as asks_line, name, by_words, command, question, script_or, line_of_words, keep_line, came_line, moment_of, words_behind, said_by, said_part, added_by, added_part, line_behind, line_of}
 use Rattle.wb_dialog.specs.declared.fault.Refusal.{Refusal}
 use Rattle.wb_dialog.specs.declared.line.DriverLine.{DriverLine}
-use Rattle.wb_dialog.specs.declared.line.DriverLine.TheVariants.{Script, Say, Ask, Stop, Keep, Came, Add}
+use Rattle.wb_dialog.specs.declared.line.DriverLine.TheVariants.{Script, Say, Ask, Stop, Keep, Came, Add, Version}
 use Rattle.wb_laws_hosts.proofs.AddedLines.{IsAdding, adding_fits}
 use Rattle.wb_laws_hosts.proofs.ScriptLines as scripts
 use Rattle.wb_laws_hosts.proofs.ScriptLines.{Asks, IsWithin, IsDigitsOf, bound, behind, number_fits, datagram_fits, datagram_digits, line_fits}
@@ -92,6 +92,7 @@ kept_carries P (Say v) is = absurd is
 kept_carries P (Ask name) is = absurd is
 kept_carries P (Stop name) is = absurd is
 kept_carries P (Add adding) is = absurd is
+kept_carries P Version is = absurd is
 
 moment_fits : (arguments : List (List ℕ)) → IfOk (moment_of arguments) (λ now. now < 2 ^ 48)
 unfolding moment_of
@@ -136,7 +137,8 @@ module _ (P : Datagram → Type 0) where
         (either (bytes_eq word (codes "keep")) _ _ (by_words_fits IsKept Has (λ l. l) (keep_line arguments) (keep_fits arguments) (kept_carries P))
         (either (bytes_eq word (codes "came")) _ _ (by_words_fits IsKept Has (λ l. l) (came_line arguments) (came_line_fits arguments) (kept_carries P))
         (either (bytes_eq word (codes "add")) _ _ tt
-        (script_or_fits (question word arguments) (script_line_of line) (line_fits P line asks)))))))
+        (either (bytes_eq word (codes "version")) _ _ (free Has (λ nothing. Version) (or_fault faults.Words (none_of arguments)) (λ nothing. tt))
+        (script_or_fits (question word arguments) (script_line_of line) (line_fits P line asks))))))))
 
     words_fit : (ws : List (List ℕ)) → IfOk (line_of_words line ws) Has
     words_fit [] = script_fits

@@ -18,7 +18,7 @@ use Rattle.wb_commands.specs.declared.command.Command.TheVariants as lines
 use Rattle.wb_dialog.specs.declared.fault.Refusal.{Refusal}
 use Rattle.wb_dialog.specs.declared.fault.Refusal.TheVariants as refusals
 use Rattle.wb_dialog.specs.declared.line.DriverLine.{DriverLine}
-use Rattle.wb_dialog.specs.declared.line.DriverLine.TheVariants.{Script, Say, Ask, Stop, Keep, Came, Add}
+use Rattle.wb_dialog.specs.declared.line.DriverLine.TheVariants.{Script, Say, Ask, Stop, Keep, Came, Add, Version}
 use Rattle.wb_dialog.specs.Dialog.{goes_out, refuses, says_line}
 use Rattle.wb_dialog.specs.Hosting.{Host, Driven, Kept, Reply, prints, denies, as_driven, kept_does, kept_reply, reply, reply_to, seed_after}
 use Rattle.wb_laws_sessions.specs.Drawn.{AreHonest, IsAbove, WasHeld, drawn_at}
@@ -72,6 +72,7 @@ module _ (numbers : ℕ → ℕ) (place : ℕ) (older : List Step) (honest : Are
   opens tuning (Keep rate listen) fit = honest
   opens tuning (Came now v) fit = honest
   opens tuning (Add a) fit = honest
+  opens tuning Version fit = honest
 
   module _ (line : DriverLine) (fit : drivers.Fits line) (comes : (d : DrawopValue) → HandsInBy line d → WasHeld numbers older d) where
     -- ---- at a host that its driver drives
@@ -124,6 +125,7 @@ module _ (numbers : ℕ → ℕ) (place : ℕ) (older : List Step) (honest : Are
       driven (Keep rate listen) is = one (Keep rate listen) honest
       driven (Came now v) is = one (Came now v) honest
       driven (Add a) is = one (Add a) honest
+      driven Version is = one Version honest
 
     -- ---- at a self-managing host
 
@@ -159,6 +161,7 @@ module _ (numbers : ℕ → ℕ) (place : ℕ) (older : List Step) (honest : Are
       kept (Ask name) is = honest
       kept (Stop name) is = honest
       kept (Keep rate listen) is = honest
+      kept Version is = honest
 
   -- ---- one line
 
@@ -185,6 +188,7 @@ module _ (numbers : ℕ → ℕ) (place : ℕ) (older : List Step) (honest : Are
       kept_line (Say v) same fits = honest
       kept_line (Ask name) same fits = honest
       kept_line (Stop name) same fits = honest
+      kept_line Version same fits = honest
       kept_line (Came now v) same fits = kept (Came now v) fits (λ d hands. comes (Came now v) d same hands) k (sym is) (λ a e. knows a (same ∙ ap ok e)) (Came now v) refl
       kept_line (Add a) same fits = kept (Add a) fits (λ d hands. comes (Add a) d same hands) k (sym is) (λ x e. knows x (same ∙ ap ok e)) (Add a) refl
 

@@ -22,13 +22,13 @@ use Rattle.wb_commands.specs.declared.fault.LineFault.TheVariants as faults
 use Rattle.wb_dialog.specs.declared.fault.Refusal.{Refusal}
 use Rattle.wb_dialog.specs.declared.fault.Refusal.TheVariants as refusals
 use Rattle.wb_dialog.specs.declared.line.DriverLine.{DriverLine}
-use Rattle.wb_dialog.specs.declared.line.DriverLine.TheVariants.{Script, Say, Ask, Stop, Keep, Came, Add}
+use Rattle.wb_dialog.specs.declared.line.DriverLine.TheVariants.{Script, Say, Ask, Stop, Keep, Came, Add, Version}
 use Rattle.wb_dialog.specs.Dialog.{Answer, answer_at, answered, goes_out, refuses, said_text, speaker}
 use Rattle.wb_dialog.specs.Hosting.{Host, Driven, Kept, Reply, prints, denies, as_driven, begins, came_text, host_after, kept_does, kept_reply, kept_shows, reply, reply_to, seed_after, unsent_text}
 use Rattle.wb_laws_sessions.specs.Sessions.{Deed, Opens, after_deeds, sent_by_deeds}
 use Rattle.wb_laws_sessions.proofs.Several.{after_performed, sent_performed}
 use Rattle.wb_laws_hosts.specs.Texts.{IsMemberAt, IsOf, deeds_by, deeds_doing, deeds_driven, deeds_kept, deeds_of, deeds_said}
-use Rattle.wb_laws_hosts.specs.Telling.{told_driven, told_kept, told_of, told_said, told_saying}
+use Rattle.wb_laws_hosts.specs.Telling.{told_driven, told_first, told_kept, told_of, told_said, told_saying}
 
 -- the member that a host is
 abbrev pub member_in : Host → Opened
@@ -111,6 +111,7 @@ module _ (host : Opened) (seed : Option ℕ) where
   driven_led (Keep rate listen) = tt
   driven_led (Came now v) = tt
   driven_led (Add adding) = tt
+  driven_led Version = (refl, refl)
 
 -- ---- at a self-managing host
 
@@ -145,6 +146,7 @@ module _ (k : Keeping) where
   kept_led (Ask name) = tt
   kept_led (Stop name) = tt
   kept_led (Keep rate listen) = tt
+  kept_led Version = (refl, refl)
 
 -- ---- at a host of either kind
 
@@ -160,6 +162,7 @@ open_led tuning (Driven host seed) (Ask name) = driven_led host (seed_after (Ask
 open_led tuning (Driven host seed) (Stop name) = driven_led host (seed_after (Stop name) seed) (Stop name)
 open_led tuning (Driven host seed) (Came now v) = tt
 open_led tuning (Driven host seed) (Add adding) = tt
+open_led tuning (Driven host seed) Version = driven_led host (seed_after Version seed) Version
 open_led tuning (Kept k) (Keep rate listen) = tt
 open_led tuning (Kept k) (Script line) = kept_led k (Script line)
 open_led tuning (Kept k) (Say v) = kept_led k (Say v)
@@ -167,9 +170,10 @@ open_led tuning (Kept k) (Ask name) = kept_led k (Ask name)
 open_led tuning (Kept k) (Stop name) = kept_led k (Stop name)
 open_led tuning (Kept k) (Came now v) = kept_led k (Came now v)
 open_led tuning (Kept k) (Add adding) = kept_led k (Add adding)
+open_led tuning (Kept k) Version = kept_led k Version
 
 -- before a board is open: it is of the member whose number it has
-first_led : (tuning : Tuning) (member : Opened) (line : DriverLine) → IsOf member.is.number None (Ok line) → Led member (reply_to tuning None line) (deeds_of tuning None line) []
+first_led : (tuning : Tuning) (member : Opened) (line : DriverLine) → IsOf member.is.number None (Ok line) → Led member (reply_to tuning None line) (deeds_of tuning None line) (told_first line)
 first_led tuning member (Script (lines.Board number cells workers seed)) is = (ap (λ (n : ℕ). opened_as n) is, refl) where
   opened_as : ℕ → Opened
   opened_as n = after_deeds (Opens tuning cells seed ∷ []) (record { is = record member.is { number = n }; random = member.random })
@@ -188,12 +192,13 @@ first_led tuning member (Stop name) is = tt
 first_led tuning member (Keep rate listen) is = tt
 first_led tuning member (Came now v) is = tt
 first_led tuning member (Add adding) is = tt
+first_led tuning member Version is = (tt, refl)
 
 pub said_led_at : (tuning : Tuning) (h : Host) (said : Result DriverLine Refusal) → Led (member_in h) (reply tuning (Some h) said) (deeds_said tuning (Some h) said) (told_said (Some h) said)
 said_led_at tuning h (Ok line) = open_led tuning h line
 said_led_at tuning h (Err e) = tt
 
-pub first_led_at : (tuning : Tuning) (member : Opened) (said : Result DriverLine Refusal) → IsOf member.is.number None said → Led member (reply tuning None said) (deeds_said tuning None said) []
+pub first_led_at : (tuning : Tuning) (member : Opened) (said : Result DriverLine Refusal) → IsOf member.is.number None said → Led member (reply tuning None said) (deeds_said tuning None said) (told_said None said)
 first_led_at tuning member (Ok line) is = first_led tuning member line is
 first_led_at tuning member (Err e) is = tt
 
@@ -204,7 +209,7 @@ led_after s member (prints next text) deeds told is led = led.0
 led_after s member (denies e) deeds told is led = is
 
 pub line_after : (tuning : Tuning) (s : Option Host) (member : Opened) (said : Result DriverLine Refusal) → IsOf member.is.number s said → IsMemberAt member s → IsMemberAt (after_deeds (deeds_by (reply tuning s said) (deeds_said tuning s said)) member) (host_after s (reply tuning s said))
-line_after tuning None member said of is = led_after None member (reply tuning None said) (deeds_said tuning None said) [] is (first_led_at tuning member said of)
+line_after tuning None member said of is = led_after None member (reply tuning None said) (deeds_said tuning None said) (told_said None said) is (first_led_at tuning member said of)
 line_after tuning (Some (Driven host seed)) member said of is =
     let h : Host = Driven host seed in
     led_after (Some h) member (reply tuning (Some h) said) (deeds_said tuning (Some h) said) (told_said (Some h) said) is (subst (λ (m : Opened). Led m (reply tuning (Some h) said) (deeds_said tuning (Some h) said) (told_said (Some h) said)) is (said_led_at tuning h said))

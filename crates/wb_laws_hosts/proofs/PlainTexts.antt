@@ -32,7 +32,7 @@ use Rattle.wb_commands.specs.declared.command.Command.TheVariants.{Question}
 use Rattle.wb_dialog.specs.declared.line.DriverLine.TheVariants.{Script}
 use Rattle.wb_commands.specs.Answers.{batch_line, pair_line, gap_line, mark_line, page_line, gaps_text, known_text, next_line, pages_text, report_text, view_text, words_line}
 use Rattle.wb_commands.specs.SentLines.{digits_of, send_line, sends_text, look_line}
-use Rattle.wb_dialog.specs.Dialog.{ask_line, batch_of, stop_line}
+use Rattle.wb_dialog.specs.Dialog.{ask_line, batch_of, stop_line, version_line}
 use Rattle.wb_laws_hosts.specs.Closings.{IsOneLine, AreOneLine, IsNoShow}
 use Rattle.wb_laws_hosts.specs.Telling.{answered}
 use Rattle.wb_laws_hosts.proofs.PlainLines.{Line, ends, behind, number_free, number_opens, hex_free, Plain, none, both, one, opening, each}
@@ -94,6 +94,9 @@ asks false = opening (codes "ask 0\n") (said (codes "ask 0") (codes "\n") refl e
 pub stops : (asked : Bool) → Plain (stop_line asked)
 stops true = opening (codes "stop 1\n") (said (codes "stop 1") (codes "\n") refl ends) refl
 stops false = opening (codes "stop 0\n") (said (codes "stop 0") (codes "\n") refl ends) refl
+
+pub version : Plain version_line
+version = opening version_line (said (codes "version ") _ refl (last _)) refl
 
 -- ---- lists
 

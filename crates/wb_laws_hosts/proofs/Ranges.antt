@@ -25,7 +25,7 @@ use Rattle.wb_commands.specs.declared.command.Command.TheVariants as lines
 use Rattle.wb_words.specs.declared.adding.Adding.{Adding}
 use Rattle.wb_dialog.specs.declared.fault.Refusal.{Refusal}
 use Rattle.wb_dialog.specs.declared.line.DriverLine.{DriverLine}
-use Rattle.wb_dialog.specs.declared.line.DriverLine.TheVariants.{Script, Say, Ask, Stop, Keep, Came, Add}
+use Rattle.wb_dialog.specs.declared.line.DriverLine.TheVariants.{Script, Say, Ask, Stop, Keep, Came, Add, Version}
 use Rattle.wb_dialog.specs.Dialog.{says_line}
 use Rattle.wb_dialog.specs.Hosting.{Host, Driven, Kept, Hosting, Reply, prints, denies, host_after, hosting_after, hosting_from, kept_does, kept_reply, reply, reply_of, reply_to, unopened}
 use Rattle.wb_laws_sessions.specs.Drawn.{drawn_by}
@@ -123,6 +123,7 @@ driven_brings (Stop name) fit = (tt, tt)
 driven_brings (Keep rate listen) fit = tt
 driven_brings (Came now v) fit = tt
 driven_brings (Add a) fit = tt
+driven_brings Version fit = tt
 
 -- ---- lines of a policy
 
@@ -214,6 +215,7 @@ module _ (k : Keeping) (f : InRange k.host) where
   kept_brings (Ask name) fit = tt
   kept_brings (Stop name) fit = tt
   kept_brings (Keep rate listen) fit = tt
+  kept_brings Version fit = tt
 
 -- ---- a line of either kind
 
@@ -228,6 +230,7 @@ open_brings tuning (Kept k) (Say v) f fit = tt
 open_brings tuning (Kept k) (Ask name) f fit = tt
 open_brings tuning (Kept k) (Stop name) f fit = tt
 open_brings tuning (Kept k) (Keep rate listen) f fit = tt
+open_brings tuning (Kept k) Version f fit = tt
 open_brings tuning (Kept k) (Came now v) f fit = kept_brings k f (Came now v) fit
 open_brings tuning (Kept k) (Add a) f fit = kept_brings k f (Add a) fit
 
@@ -263,6 +266,7 @@ first_holds tuning (Stop name) fit = tt
 first_holds tuning (Keep rate listen) fit = tt
 first_holds tuning (Came now v) fit = tt
 first_holds tuning (Add a) fit = tt
+first_holds tuning Version fit = tt
 
 module _ (tuning : Tuning) where
   led_holds : (h : Host) (said : Result DriverLine Refusal) → InRange (member_in h) → EachBrings (deeds_by (reply tuning (Some h) said) (deeds_said tuning (Some h) said)) → IsMemberAt (member_in h) (Some h) → Holds (host_after (Some h) (reply tuning (Some h) said))
@@ -307,6 +311,7 @@ line_brings s line h = by s.host h where
     opening (Keep rate listen) = tt
     opening (Came now v) = tt
     opening (Add a) = tt
+    opening Version = tt
 
   by : (o : Option Host) → Holds o → EachBrings (deeds_by (reply s.tuning o (says_line (met line))) (deeds_said s.tuning o (says_line (met line))))
   by None h = first_brings (says_line (met line))

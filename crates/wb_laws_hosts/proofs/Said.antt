@@ -12,7 +12,7 @@ use Rattle.wb_member.specs.Opened.{Opened}
 use Rattle.wb_commands.specs.declared.command.Command.TheVariants as lines
 use Rattle.wb_dialog.specs.declared.fault.Refusal.{Refusal}
 use Rattle.wb_dialog.specs.declared.line.DriverLine.{DriverLine}
-use Rattle.wb_dialog.specs.declared.line.DriverLine.TheVariants.{Script, Say, Ask, Stop, Keep, Came, Add}
+use Rattle.wb_dialog.specs.declared.line.DriverLine.TheVariants.{Script, Say, Ask, Stop, Keep, Came, Add, Version}
 use Rattle.wb_dialog.specs.Dialog.{says_line}
 use Rattle.wb_dialog.specs.Hosting.{Host, Driven, Kept, Hosting, reply}
 use Rattle.wb_laws_sessions.specs.Drawn.{WasDrawn, drawn_at}
@@ -73,6 +73,7 @@ module _ (numbers : ℕ → ℕ) where
   first_none tuning (Ok (Keep rate listen)) line c = Contains-none (Performs line) c
   first_none tuning (Ok (Came now v)) line c = Contains-none (Performs line) c
   first_none tuning (Ok (Add a)) line c = Contains-none (Performs line) c
+  first_none tuning (Ok Version) line c = Contains-none (Performs line) c
 
   sent_here : (tuning : Tuning) (s : Option Host) (said : Result DriverLine Refusal) (member : Opened) (line : Line) (v : Datagram) → IsMemberAt member s
       → let deeds = deeds_by (reply tuning s said) (deeds_said tuning s said) in Contains deeds (Performs line) → Contains (sent_by_deeds deeds member) v → Contains (sent_at_host s deeds) v

@@ -16,8 +16,8 @@ use Rattle.wb_keeping.specs.Performing.{Keeping}
 use Rattle.wb_keeping.specs.Refusing.{came_as, drawn_as}
 use Rattle.wb_dialog.specs.declared.fault.Refusal.{Refusal}
 use Rattle.wb_dialog.specs.declared.line.DriverLine.{DriverLine}
-use Rattle.wb_dialog.specs.declared.line.DriverLine.TheVariants.{Script, Say, Ask, Stop, Came, Add}
-use Rattle.wb_dialog.specs.Dialog.{ask_line, batch_of, says_line, stop_line}
+use Rattle.wb_dialog.specs.declared.line.DriverLine.TheVariants.{Script, Say, Ask, Stop, Came, Add, Version}
+use Rattle.wb_dialog.specs.Dialog.{ask_line, batch_of, says_line, stop_line, version_line}
 use Rattle.wb_dialog.specs.Doing.{text_in}
 use Rattle.wb_dialog.specs.Hosting.{Host, Driven, Kept, Hosting, Reply, prints, denies, came_text, reply_of, unsent_text}
 use Rattle.wb_laws_hosts.specs.Texts.{sent_at}
@@ -43,6 +43,7 @@ told_driven (Script line) host = told_in_script line host
 told_driven (Say v) host = told_saying v host
 told_driven (Ask name) host = ask_line (may_ask name host)
 told_driven (Stop name) host = stop_line (asks_for name host)
+told_driven Version host = version_line
 told_driven line host = []
 
 -- ---- at a self-managing host
@@ -55,12 +56,19 @@ abbrev pub told_kept : DriverLine → Keeping → List ℕ
 told_kept (Script line) k = told_kept_script line k
 told_kept (Came now v) k = came_text v (came_as v k.host)
 told_kept (Add a) k = unsent_text (drawn_as a.page a.time a.op k.host)
+told_kept Version k = version_line
 told_kept line k = []
 
--- ---- at a host of either kind
+-- ---- before a board is open
+
+abbrev pub told_first : DriverLine → List ℕ
+told_first Version = version_line
+told_first line = []
+
+-- ---- at a host of any kind
 
 abbrev pub told_of : Option Host → DriverLine → List ℕ
-told_of None line = []
+told_of None line = told_first line
 told_of (Some (Driven host seed)) line = told_driven line host
 told_of (Some (Kept k)) line = told_kept line k
 

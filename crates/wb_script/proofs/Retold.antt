@@ -201,7 +201,7 @@ arrived_alike now names others calls up down = record {
   events = λ me. arrivals_alike (delay_to me calls) now names others (events_of me calls) up down;
 }
 
--- Names are told one after another, or at once.
+-- Names that arrive in two calls do what they do in one.
 pub arrived_apart : (now : ℕ) (some more : List NameValue) (calls : List KeeperCall) → CallsAlike (Arrive now more ∷ Arrive now some ∷ calls) (Arrive now (some ++ more) ∷ calls)
 arrived_apart now some more calls = record {
   moment = refl;

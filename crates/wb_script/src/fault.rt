@@ -3,29 +3,23 @@ ghost use Rattle.std.specs.Prelude.{◌≡◌};
 ghost use Rattle.wb_script.specs.declared.fault.RunFault.TheVariants as run_faults;
 
 use std::alloc::{AllocError, AllocFailed};
-use thiserror::Error;
+use std::{error, fmt};
 use wb_commands::LineFault;
 
 /// Why a script was not run to its end.
-#[derive(Clone, Copy, Debug, PartialEq, Eq, Error)]
+#[derive(Clone, Copy, Debug, PartialEq, Eq)]
 pub enum RunFault {
     /// The line of this number, from 1 and counting every line, is refused.
-    #[error("line {0}: {1}")]
     Line(u32, LineFault),
     /// The source has failed.
-    #[error("read")]
     Read,
     /// The sink has failed.
-    #[error("write")]
     Write,
     /// A thread was refused.
-    #[error("start")]
     Start,
     /// Memory ran out.
-    #[error("memory")]
     Memory,
     /// There are over 1,048,576 lines, or one has over 65,536 bytes before its line feed.
-    #[error("endless")]
     Endless,
 }
 
@@ -46,6 +40,26 @@ impl RunFault {
         }
     }
 }
+
+impl fmt::Display for RunFault {
+    ghost use Rattle.std.specs.Prelude.{Some};
+    ghost use Rattle.wb_script.specs.Faults.{run_text};
+
+    ghost output = { λ e. Some (run_text e) };
+
+    fn fmt<W: fmt::Write>(&self, f: &mut fmt::Formatter<W>) -> fmt::Result {
+        match self {
+            RunFault::Line(number, fault) => write!(f, "line {number}: {fault}"),
+            RunFault::Read => f.write_str("read"),
+            RunFault::Write => f.write_str("write"),
+            RunFault::Start => f.write_str("start"),
+            RunFault::Memory => f.write_str("memory"),
+            RunFault::Endless => f.write_str("endless"),
+        }
+    }
+}
+
+impl error::Error for RunFault {}
 
 impl From<AllocError> for RunFault {
     ghost from_gives = { λ _ f. f ≡ run_faults.Memory };
