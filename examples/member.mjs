@@ -6,5 +6,5 @@ import { Member } from 'wb/node.js';
 const [me, port, ...others] = process.argv.slice(2).map(Number);
 const address = '127.0.0.1';
 const member = await Member.open(me, { bind: { address, port }, to: others.map((other) => ({ address, port: other })) });
-member.on('change', async (page) => console.log((await member.host.show(page, 40, 3)).join('\n')));
+member.on('change', (page) => console.log(member.host.show(page, 40, 3).join('\n')));
 createInterface({ input: process.stdin }).on('line', (line) => member.draw('1/1', line)).on('close', () => member.end());

@@ -1,7 +1,10 @@
+/** The bytes of hexadecimal digits.
+ * @param {string} digits */
+export function unhex(digits: string): Uint8Array;
 /** Whether the engine takes the module as the compiler made it. */
 export function isWide(): boolean;
-/** The proved program in a module of WebAssembly: it is given lines, and answers each with a block. */
-/** The program ended or broke off before it answered: its instance is thrown away. */
+/** The proved library of a host, in a module of WebAssembly: it takes datagrams as bytes, and lines, and answers each at once. */
+/** The host broke off, or has no memory: its instance is thrown away. */
 export class HostEnded extends Error {
 }
 /** What a line printed, and then the next moment that is due, or why the line was refused. */
@@ -12,58 +15,76 @@ export class Block {
     fault: string | null;
     /** @type {number | null} */
     due: number | null;
-    /** The datagrams to send, in hexadecimal. */
-    sent(): string[];
+    /** The datagrams to send. */
+    sent(): Uint8Array[];
 }
-/** For every engine: the module's own code puts the calls that wait aside, and takes them up again (Binaryen's asyncify). */
-export class Rewound extends Start {
-    /** @param {WebAssembly.Module} module @param {string[]} words */
-    static open(module: WebAssembly.Module, words: string[]): Promise<Rewound>;
-    /** Where the frames are put aside: two numbers, the next free place and the end, and then the frames. */
-    frames: number;
-    /** @param {bigint} at @param {bigint} size */
-    read(at: bigint, size: bigint): bigint;
-    /** Runs until the input is used up. */
-    go(): void;
-    /** What the program writes for some lines.
-     * @param {string} lines each with its line feed */
-    write(lines: string): Promise<string>;
-}
-/** For engines that put calls aside themselves (JSPI) and have memories of 64 bits: the module as the compiler made it. */
-export class Suspended extends Start {
-    /** @param {WebAssembly.Module} module @param {string[]} words */
-    static open(module: WebAssembly.Module, words: string[]): Promise<Suspended>;
-    /** Lets a read go on. */
-    resume: () => void;
-    /** Called where the program waits for input. */
-    waits: () => void;
-    /** Called where the program broke off.
-     * @type {(fault: Error) => void} */
-    breaks: (fault: Error) => void;
-    /** Done when the program next waits for input.
-     * @returns {Promise<void>} */
-    rest(): Promise<void>;
-    /** @param {bigint} at @param {bigint} size */
-    read(at: bigint, size: bigint): Promise<bigint>;
-    /** @param {string} lines each with its line feed */
-    write(lines: string): Promise<string>;
-}
-/** A start of the program that answers lines. */
+/** A host of one member, with a memory of its own. Nothing here waits: each call answers before it returns. HostEnded where it broke off. */
 export class Host {
-    /** @param {Rewound | Suspended} start */
-    constructor(start: Rewound | Suspended);
-    start: Rewound | Suspended;
-    /** The text that some lines print. HostEnded where the program broke off, and this host is to be thrown away.
-     * @param {string[]} lines @returns {Promise<string>} */
-    text(lines: string[]): Promise<string>;
-    /** The block of a line. The program writes it before it reads more.
+    /** @param {WebAssembly.Instance} instance */
+    constructor(instance: WebAssembly.Instance);
+    calls: Calls;
+    memory: WebAssembly.Memory;
+    bytes: Uint8Array;
+    isOver: boolean;
+    input: Room;
+    output: Room;
+    told: Room;
+    sizePlace: bigint;
+    place: bigint;
+    /** A datagram came in. The answer refuses bytes that are none, or that no host takes.
+     * @param {number} now @param {Uint8Array} datagram */
+    came(now: number, datagram: Uint8Array): Answer;
+    /** Time goes on to a moment.
+     * @param {number} now */
+    tick(now: number): Answer;
+    /** The user draws what the drawop of these bytes does, on its page and at its time; it gets a name of its own.
+     * @param {number} now @param {Uint8Array} drawop */
+    add(now: number, drawop: Uint8Array): Answer;
+    /** The events of a question (include/wb.h), or why it is none.
+     * @param {number} question @param {number} creator @param {number} number @param {number} [width] @param {number} [height]
+     * @returns {{ events: Event[], refused: string | null }} */
+    events(question: number, creator: number, number: number, width?: number | undefined, height?: number | undefined): {
+        events: Event[];
+        refused: string | null;
+    };
+    /** The moment at which to call `tick` next. */
+    due(): number | null;
+    /** Makes a call, and takes its events: what is to be sent, and then what became of a drawop.
+     * @param {() => number} call @returns {Answer} */
+    answer(call: () => number): Answer;
+    /** The block of a line.
      * @param {string} line */
-    ask(line: string): Promise<Block>;
-    /** The blocks of many lines, none of which paints a canvas, whose rows may look like anything.
-     * @param {string[]} lines */
-    askAll(lines: string[]): Promise<Block[]>;
+    ask(line: string): Block;
+    /** The text that a line prints.
+     * @param {string} line */
+    text(line: string): string;
+    /** The bytes that a line prints, until the next call.
+     * @param {Uint8Array} line without its line feed */
+    printed(line: Uint8Array): Uint8Array;
+    /** The bytes of the memory: others after it has grown. */
+    seen(): Uint8Array;
+    /** Puts bytes where a call reads them, and gives the place.
+     * @param {Uint8Array} bytes */
+    given(bytes: Uint8Array): bigint;
+    /** The number that a call wrote, as many bytes behind the place for that.
+     * @param {number} behind */
+    number(behind: number): number;
+    size(): number;
+    /** Fetches the next event, and gives its kind; 0 if none waits.
+     * @returns {number} */
+    next(): number;
+    /** The bytes of the event that was fetched. */
+    copied(): Uint8Array;
+    /** Begins anew, without a board. */
+    renew(): void;
+    /** The status of a call, where that did not end the host.
+     * @param {number} status */
+    must(status: number): number;
+    /** Does something that may end the host. Of one that broke off nothing is asked any more.
+     * @template T @param {() => T} act @returns {T} */
+    guarded<T>(act: () => T): T;
 }
-/** The program as a module that was compiled once, and started as often as wanted. */
+/** The library as a module that was compiled once, and started as often as wanted. */
 export class Program {
     /** Fetches the module that suits the engine.
      * @param {URL} folder @param {boolean} [wide] */
@@ -72,35 +93,60 @@ export class Program {
     constructor(module: WebAssembly.Module, wide: boolean);
     module: WebAssembly.Module;
     wide: boolean;
-    /** A start with these words after `wb`.
-     * @param {string[]} words */
-    start(...words: string[]): Promise<Host>;
+    /** A host without a board. */
+    start(): Promise<Host>;
 }
-/** A start of the program. Its `read` of an empty input gives control back to the page until there is more. */
-declare class Start {
-    /** @param {string[]} words */
-    constructor(words: string[]);
-    words: string[];
-    input: Uint8Array;
-    /** @type {string[]} */
-    output: string[];
-    /** @type {any} */
-    exports: any;
-    /** @param {bigint} at @param {bigint} size */
-    bytes(at: bigint, size: bigint): Uint8Array;
-    /** Hands on as much of the input as there is room for.
-     * @param {bigint} at @param {bigint} size */
-    give(at: bigint, size: bigint): bigint;
-    /** What the module imports, but for `read`. */
-    ends(): {
-        /** @param {number} _file @param {bigint} at @param {bigint} size */
-        write: (_file: number, at: bigint, size: bigint) => bigint;
-        /** @param {bigint} place @param {bigint} at @param {bigint} size */
-        rattle_arg: (place: bigint, at: bigint, size: bigint) => bigint;
-        /** @param {number} status */
-        _exit: (status: number) => never;
-    };
-    /** What was written since the last time. */
-    taken(): string;
+/**
+ * What became of a drawop that was handed in.
+ */
+export type Became = 'new' | 'again' | 'clash' | 'full';
+/**
+ * What a call came to: datagrams to be sent to all others, the moment at which to call `tick` next, and what became of a drawop. Where the call
+ * was refused, why: then nothing has changed.
+ */
+export type Answer = {
+    send: Uint8Array[];
+    due: number | null;
+    became: Became | null;
+    refused: string | null;
+};
+/**
+ * An event, by its kind and its bytes, as `include/wb.h` has them.
+ */
+export type Event = {
+    kind: number;
+    bytes: Uint8Array;
+};
+/**
+ * What the module has besides its memory (include/wb.h); places, sizes and moments have 64 bits.
+ */
+export type Calls = {
+    /**
+     * room in the memory, or 0
+     */
+    page_room: (size: bigint) => bigint;
+    wb_open: (host: bigint) => number;
+    wb_line: (host: bigint, line: bigint, length: bigint, buffer: bigint, room: bigint, size: bigint) => number;
+    wb_block: (host: bigint, buffer: bigint, room: bigint, size: bigint) => number;
+    wb_came: (host: bigint, now: bigint, datagram: bigint, length: bigint) => number;
+    wb_tick: (host: bigint, now: bigint) => number;
+    wb_add: (host: bigint, now: bigint, drawop: bigint, length: bigint) => number;
+    wb_ask: (host: bigint, question: number, creator: number, number: number, width: number, height: number) => number;
+    wb_event: (host: bigint, kind: bigint, buffer: bigint, room: bigint, size: bigint) => number;
+    wb_due: (host: bigint) => bigint;
+    wb_close: (host: bigint) => void;
+};
+/** A part of the memory that the page writes or reads. */
+declare class Room {
+    /** @param {Calls} calls @param {number} size */
+    constructor(calls: Calls, size: number);
+    calls: Calls;
+    size: number;
+    at: number;
+    length: bigint;
+    place: bigint;
+    /** Makes it as large as that at least. What it was before is not given back, so it doubles.
+     * @param {number} size */
+    reach(size: number): void;
 }
 export {};

@@ -38,7 +38,7 @@ export class Member extends EventEmitter {
     inTurn<T>(task: (now: number) => Promise<T>): Promise<T>;
     /** Draws, as `line 0 0 4 0 *`, and sends it to all others. Refused where the host does not take it.
      * @param {string} page @param {string} operation */
-    draw(page: string, operation: string): Promise<import("./wb.js").Answer>;
+    draw(page: string, operation: string): Promise<import("./host.js").Answer>;
     /** @param {Uint8Array} datagram */
     take(datagram: Uint8Array): void;
     /** @param {import('./wb.js').Answer} answer */

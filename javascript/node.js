@@ -81,7 +81,7 @@ export class Member extends EventEmitter {
   inTurn(task) {
     const done = this.last.then(async () => {
       const { due } = this.host;
-      if (due !== null && this.now() >= due) this.obey(await this.host.tick(this.now()));
+      if (due !== null && this.now() >= due) this.obey(this.host.tick(this.now()));
       return task(this.now());
     });
     this.last = done.catch(() => {});
@@ -92,7 +92,7 @@ export class Member extends EventEmitter {
    * @param {string} page @param {string} operation */
   draw(page, operation) {
     return this.inTurn(async (now) => {
-      const answer = await this.host.add(now, BigInt(Date.now()) * 1000n, page, operation);
+      const answer = this.host.add(now, BigInt(Date.now()) * 1000n, page, operation);
       this.obey(answer);
       if (answer.became !== 'full') this.emit('change', page);
       return answer;
@@ -102,7 +102,7 @@ export class Member extends EventEmitter {
   /** @param {Uint8Array} datagram */
   take(datagram) {
     this.inTurn(async (now) => {
-      const answer = await this.host.came(now, datagram);
+      const answer = this.host.came(now, datagram);
       this.obey(answer);
       if (answer.became === 'new') this.emit('change', pageIn(datagram));
     }).catch((fault) => this.breakOff(fault));

@@ -2,79 +2,68 @@
 export class Refused extends Error {
 }
 /** A self-managing member: it asks for what it lacks, reports, repairs, and answers others. Moments are microseconds below 2^48 that never
- * go back; begin near 0. Calls are done in their order, one at a time. */
+ * go back; begin near 0. Each call answers before it returns. */
 export class Host {
     /** Opens one. `member` is its number, which no other member of the session has.
      * @param {number} member @param {Opening} opening */
     static open(member: number, { program, cells, seed, rate, listen }: Opening): Promise<Host>;
-    /** @param {number} member @param {Lines} lines */
-    constructor(member: number, lines: Lines);
+    /** @param {number} member @param {BareHost} bare */
+    constructor(member: number, bare: BareHost);
     member: number;
-    /** @type {Lines | null} */
-    lines: Lines | null;
+    /** Its calls by bytes and by lines (include/wb.h).
+     * @type {BareHost | null} */
+    bare: BareHost | null;
     /** The moment at which to call `tick` next.
      * @type {number | null} */
     due: number | null;
-    /** @type {Promise<unknown>} */
-    last: Promise<unknown>;
-    /** The block of a line, behind the calls before.
-     * @param {string} line @returns {Promise<Block>} */
-    ask(line: string): Promise<Block>;
+    /** What takes the calls. HostEnded where it was ended. */
+    live(): BareHost;
+    /** The block of a line.
+     * @param {string} line @returns {Block} */
+    ask(line: string): Block;
     /** @param {string} line */
-    must(line: string): Promise<Block>;
-    /** @param {Block} block @returns {Answer} */
-    answer(block: Block): Answer;
+    must(line: string): Block;
+    /** @param {Answer} answer */
+    heed(answer: Answer): import("./host.js").Answer;
     /** A datagram came in. The answer refuses bytes that are not one, or that no host takes; this program is not to blame.
      * @param {number} now @param {Uint8Array} datagram */
-    came(now: number, datagram: Uint8Array): Promise<Answer>;
+    came(now: number, datagram: Uint8Array): import("./host.js").Answer;
     /** Time is `now`: to be called when the clock comes to `due`, and before more is handed in then.
      * @param {number} now */
-    tick(now: number): Promise<Answer>;
+    tick(now: number): import("./host.js").Answer;
     /** The user draws, as `line 0 0 4 0 *`, `text 0 1 "hello"` or `delete 7 1`. If two drawops cover one cell, the one with the greater time is
      * seen: use the microseconds of the time of day.
-     * @param {number} now @param {number | bigint} time @param {string} page as `1/1` @param {string} operation */
-    add(now: number, time: number | bigint, page: string, operation: string): Promise<Answer>;
+     * @param {number} now @param {number | bigint} time @param {string} page as `1/1` @param {string} operation @returns {Answer} */
+    add(now: number, time: number | bigint, page: string, operation: string): Answer;
     /** Gives the timers other constants, 1 to 16 each.
      * @param {number} c1 @param {number} c2 @param {number} d1 @param {number} d2 */
-    tune(c1: number, c2: number, d1: number, d2: number): Promise<void>;
+    tune(c1: number, c2: number, d1: number, d2: number): void;
     /** The rows of the page's canvas, 1 to 200 wide and 1 to 100 high.
      * @param {string} page @param {number} width @param {number} height */
-    show(page: string, width: number, height: number): Promise<string[]>;
+    show(page: string, width: number, height: number): string[];
     /** What the page shows, in the order of painting.
-     * @param {string} page @returns {Promise<Drawop[]>} */
-    view(page: string): Promise<Drawop[]>;
+     * @param {string} page @returns {Drawop[]} */
+    view(page: string): Drawop[];
     /** What is missing of the page.
-     * @param {string} page @returns {Promise<Gap[]>} */
-    gaps(page: string): Promise<Gap[]>;
+     * @param {string} page @returns {Gap[]} */
+    gaps(page: string): Gap[];
     /** Of each source, the greatest number that is held of the page.
-     * @param {string} page @returns {Promise<Map<number, number>>} */
-    report(page: string): Promise<Map<number, number>>;
+     * @param {string} page @returns {Map<number, number>} */
+    report(page: string): Map<number, number>;
     /** The pages that have drawops. */
-    pages(): Promise<string[]>;
+    pages(): string[];
     /** The pages that have drawops, or were heard of. */
-    known(): Promise<string[]>;
+    known(): string[];
     /** The number of the lines that the program reads and prints. docs/HOST.md says what it promises. */
-    version(): Promise<number>;
+    version(): number;
     /** The number that our next drawop on the page will have.
      * @param {string} page */
-    nextNumber(page: string): Promise<number>;
+    nextNumber(page: string): number;
     /** Lets the host go, with its memory. */
     end(): void;
 }
-/**
- * What became of a drawop that was handed in.
- */
-export type Became = 'new' | 'again' | 'clash' | 'full';
-/**
- * What a call came to: datagrams to be sent to all others, the moment at which to call `tick` next, and what became of a drawop. Where a
- * datagram was refused, why: then nothing has changed.
- */
-export type Answer = {
-    send: Uint8Array[];
-    due: number | null;
-    became: Became | null;
-    refused: string | null;
-};
+export type Answer = import('./host.js').Answer;
+export type Became = import('./host.js').Became;
 /**
  * A drawop as a page shows it. Its operation is in words, as `line 0 0 4 0 *`.
  */
@@ -110,8 +99,8 @@ export type Opening = {
     rate?: number | undefined;
     listen?: number | undefined;
 };
+import { Host as BareHost } from "./host.js";
 import { HostEnded } from "./host.js";
 import { Program } from "./host.js";
-import { Host as Lines } from "./host.js";
 import { Block } from "./host.js";
-export { HostEnded, Program };
+export { BareHost, HostEnded, Program };

@@ -3,10 +3,9 @@
 
 library=$kept/library
 
-# what the library is made of: the program's sources, the toolchain, the library's own crate and files
+# what the library is made of: its sources, and its own files
 digest_of_library() {
-    printf '%s\n' "$(digest_of_sources)" "$(toolchain)" "$(grep '^wb_c ' "$top/crates.txt")" |
-        digest_of_files crates/wb_c/src crates/wb_c/specs crates/wb_c/proofs include tools/library
+    sources_of_library | digest_of_files include tools/library
 }
 
 # builds the library where that is due; the program is current

@@ -1,4 +1,4 @@
-# Builds the page: the proved program as a module for browsers, in a folder that any web server can serve. To be sourced
+# Builds the page: the proved library as a module for browsers, in a folder that any web server can serve. To be sourced
 # after program.bash, with ./wb's `say` and `fail`; $program is proved and kept when build_page is called.
 
 page=$kept/page
@@ -9,9 +9,15 @@ digest_of_files() {
     (cd "$top" && { cat; find "$@" ! -type d ! -name '*.pyc' -print0 | LC_ALL=C sort -z | xargs -0 sha256sum; }) | sha256sum | cut -d ' ' -f 1
 }
 
-# what the modules are made of: the program's sources, the toolchain and the build's own files
+# what the library is made of: the program's sources, the toolchain, and the library's own crate
+sources_of_library() {
+    printf '%s\n' "$(digest_of_sources)" "$(toolchain)" "$(grep '^wb_c ' "$top/crates.txt")" |
+        digest_of_files crates/wb_c/src crates/wb_c/specs crates/wb_c/proofs
+}
+
+# what the modules are made of: the library's sources and the build's own files
 digest_of_modules() {
-    printf '%s\n' "$(digest_of_sources)" "$(toolchain)" | digest_of_files web/build web/building
+    sources_of_library | digest_of_files web/build web/building
 }
 
 # what the folder is made of: the modules and the page's files

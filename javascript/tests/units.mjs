@@ -54,6 +54,32 @@ judge('and a board that none can have', await raised(() => Host.open(3, { progra
 one.end();
 two.end();
 
+// the calls by bytes: the conversation of docs/HOST-LINES.md with a self-managing host
+const hex = (bytes) => Buffer.from(bytes).toString('hex'), unhex = (digits) => new Uint8Array(Buffer.from(digits, 'hex'));
+const STROKE = '57420101000000220000000700000007000000010000000200000000000000140100000000000400002b';
+const OURS = '574201010000002100000001000000070000000100000001000000000000001e030001000103796573';
+const bare = await program.start(), digits = ({ send, ...more }) => ({ send: send.map(hex), ...more });
+judge('a host has no board at first', bare.came(1, unhex(STROKE)).refused, 'not kept');
+judge('lines open it', ['board 1 3 1 42', 'keep 4000 1000'].map((line) => bare.ask(line).due), [null, 34_890]);
+judge('nothing is added while it listens', digits(bare.add(500, unhex(OURS))), { send: [], due: 34_890, became: null, refused: 'listening' });
+judge('a datagram comes in', digits(bare.came(600, unhex(STROKE))), { send: [], due: 34_890, became: 'new', refused: null });
+judge('time goes on', digits(bare.tick(34_890)),
+  { send: ['574201020000002000000001000000000000884a0000000700000001000100000007000000020000'], due: 59_726, became: null, refused: null });
+judge('what is drawn gets our name', digits(bare.add(34_890, unhex(OURS.replace('0000000100000007', 'ffffffff00000007')))), { send: [OURS], due: 59_726, became: 'new', refused: null });
+judge('and is known then', digits(bare.came(34_890, unhex(OURS))), { send: [], due: 59_726, became: 'again', refused: null });
+judge('the full board', [bare.add(34_890, unhex(OURS)).became, bare.add(34_890, unhex(OURS)).became], ['new', 'full']);
+judge('refusals', [bare.tick(5), bare.tick(2 ** 48), bare.add(34_890, unhex('574201040000000400000009')), bare.came(34_890, new Uint8Array(9_000))].map((answer) => answer.refused),
+  ['back in time', 'number', 'no drawop', 'datagram 2']);
+judge('a question has an event for each item', bare.events(3, 7, 1).events.map(({ kind, bytes }) => [kind, hex(bytes)]), [[7, '000000070000000100000001']]);
+judge('what is none has none', bare.events(9, 7, 1), { events: [], refused: 'no question' });
+judge('blocks and events that are long', [bare.ask('show 7 1 200 100').lines.length, bare.events(7, 7, 1, 200, 100).events[0].bytes.length], [100, 20_100]);
+bare.renew();
+judge('it begins anew', [bare.due(), bare.ask('pages').fault], [null, 'no board']);
+bare.memory.grow(1);
+judge('the memory may grow meanwhile', bare.ask('board 2 3 1 42').fault, null);
+new Uint8Array(bare.memory.buffer).fill(255);
+judge('one that broke off says so, and so it does from then on', [await raised(() => bare.tick(1)), await raised(() => bare.ask('pages'))], [HostEnded.name, HostEnded.name]);
+
 // three members over UDP that lose a third
 const here = { address: '127.0.0.1', port: 0 };
 const members = await Promise.all([1, 2, 3].map((number) => Member.open(number, { program, bind: here })));

@@ -1,8 +1,8 @@
 // Measures the modules in the browser that opens this, with a self-managing host: the milliseconds to a first answer, the microseconds of a
-// datagram that came, the milliseconds of a canvas and of a start from a record, and the bytes of the memory. The datagrams are made by the
-// modules themselves, by `wb hex`.
+// datagram that came, by bytes and by lines, the milliseconds of a canvas and of a start from a record, and the bytes of the memory. The datagrams
+// are made by the modules themselves, as records with words are read.
 const folder = new URL(document.body.dataset.folder, location.href);
-const { Program, isWide } = await import(new URL('web/member/host.js', folder).href);
+const [{ Program, isWide }, { heldOf }, { hex }] = await Promise.all(['host', 'held', 'datagram'].map((name) => import(new URL(`web/member/${name}.js`, folder).href)));
 
 const DRAWOPS = 60_000, ROUNDS = 5, AT_ONCE = 1_000;
 
@@ -14,47 +14,48 @@ async function timed(act) {
   return performance.now() - began;
 }
 
-/** Datagrams of drawops in hexadecimal, of forty sources on one page. */
+/** Datagrams of drawops, of forty sources on one page. */
 async function datagrams(program) {
-  const filter = await program.start('hex'), made = [];
+  const words = Array.from({ length: DRAWOPS }, (_, i) => {
+    const [x, y] = [(i * 7) % 180, (i * 13) % 90];
+    return `draw ${10 + (i % 40)} 7/1 ${1 + Math.floor(i / 40)} ${1000 + i} line ${x} ${y} ${x + 6} ${y + 3} *`;
+  });
+  return (await heldOf(program, ['board 1 65535 1 42', ...words])).datagrams;
+}
+
+/** The microseconds of each datagram that comes to a host, in parts of as many as there are at once. */
+async function arrivals(made, hand, between = async () => {}) {
+  const taken = [];
   for (let at = 0; at < DRAWOPS; at += AT_ONCE) {
-    const words = Array.from({ length: AT_ONCE }, (_, i) => at + i).map((i) => {
-      const [x, y] = [(i * 7) % 180, (i * 13) % 90];
-      return `draw ${10 + (i % 40)} 7/1 ${1 + Math.floor(i / 40)} ${1000 + i} line ${x} ${y} ${x + 6} ${y + 3} *`;
-    });
-    made.push(...(await filter.text(words)).split('\n').slice(0, -1).map((line) => line.split(' ')[1]));
+    taken.push((await timed(() => { for (let i = at; i < at + AT_ONCE; i += 1) hand(i, made[i]); }) * 1000) / AT_ONCE);
+    await between(at + AT_ONCE);
   }
-  return made;
+  return { first: median(taken.slice(0, 10)), each: median(taken), last: median(taken.slice(-10)) };
 }
 
 /** What one module takes. */
 async function measure(wide) {
-  const load = [], start = [], drop = [];
+  const load = [], start = [], parts = {};
   let program, host;
   for (let round = 0; round < ROUNDS; round += 1) {
     load.push(await timed(async () => { program = await Program.load(folder, wide); }));
-    start.push(await timed(async () => {
-      host = await program.start('host', '--tuning', '2,2,1,1');
-      await begin(host);
-    }));
+    start.push(await timed(async () => { host = await begun(program); }));
   }
-  const lines = await datagrams(program), parts = {};
-  for (let at = 0; at < DRAWOPS; at += AT_ONCE) {
-    const part = lines.slice(at, at + AT_ONCE);
-    drop.push((await timed(async () => { for (let i = 0; i < AT_ONCE; i += 1) await host.ask(`came ${at + i} ${part[i]}`); }) * 1000) / AT_ONCE);
-    if (at + AT_ONCE === 4_000) parts.canvasOf4000 = median(await rounds(() => host.ask('show 7 1 80 25')));
-  }
-  const held = (await host.ask('pages')).lines, fresh = await program.start('host', '--tuning', '2,2,1,1');
-  await begin(fresh);
-  const again = await timed(async () => { for (let at = 0; at < DRAWOPS; at += AT_ONCE) await fresh.askAll(lines.slice(at, at + AT_ONCE).map((digits) => `came 1 ${digits}`)); });
-  return { wide, load: median(load), start: median(start), first: median(drop.slice(0, 10)), line: median(drop), last: median(drop.slice(-10)), ...parts,
-    canvas: median(await rounds(() => host.ask('show 7 1 80 25'))), tick: await ticks(host), again, memory: host.start.exports.memory.buffer.byteLength, held };
+  const made = await datagrams(program), other = await begun(program), fresh = await begun(program);
+  const byBytes = await arrivals(made, (now, bytes) => host.came(now, bytes), async (count) => {
+    if (count === 4_000) parts.canvasOf4000 = median(await rounds(() => host.ask('show 7 1 80 25')));
+  });
+  const byLines = await arrivals(made, (now, bytes) => other.ask(`came ${now} ${hex(bytes)}`));
+  const again = await timed(() => { for (const bytes of made) fresh.came(1, bytes); });
+  return { wide, load: median(load), start: median(start), byBytes, byLines, ...parts, canvas: median(await rounds(() => host.ask('show 7 1 80 25'))),
+    tick: await ticks(host), again, memory: [host, other].map(({ memory }) => memory.buffer.byteLength), held: host.ask('pages').lines };
 }
 
-/** A board with a self-managing host. */
-async function begin(host) {
-  await host.ask('board 1 65535 1 42');
-  await host.ask('keep 4000 0');
+/** A self-managing host with a board. */
+async function begun(program) {
+  const host = await program.start();
+  for (const line of ['board 1 65535 1 42', 'keep 4000 0']) host.ask(line);
+  return host;
 }
 
 async function rounds(act) {
@@ -63,9 +64,9 @@ async function rounds(act) {
   return taken;
 }
 
-/** Microseconds of a line that does little. */
+/** Microseconds of a call that does little. */
 async function ticks(host) {
-  const taken = await timed(async () => { for (let i = 1; i <= 2_000; i += 1) await host.ask(`tick ${DRAWOPS + i}`); });
+  const taken = await timed(() => { for (let i = 1; i <= 2_000; i += 1) host.tick(DRAWOPS + i); });
   return (taken * 1000) / 2_000;
 }
 

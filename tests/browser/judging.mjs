@@ -4,7 +4,6 @@ import { Alarms } from '../../web/member/alarms.js';
 import { Board } from '../../web/member/board.js';
 import { hex, readDatagram, unhex } from '../../web/member/datagram.js';
 import { Drawn } from '../../web/member/drawn.js';
-import { Block } from '../../web/member/host.js';
 import { Judging } from '../../web/member/judging.js';
 import { Telling } from '../../web/member/telling.js';
 import { MOST_REPORTED, Reported } from '../../web/member/reported.js';
@@ -39,16 +38,20 @@ function memberOf(more = {}) {
   member.begin = async () => { member.isReady = true; };
   member.board = { moment: 0, readyAt: 0, due: null, cells, strange, now: () => member.board.moment, keep: (line) => kept.push(line),
     options: { rate: 4_000 }, me: 1, ownMarks: new Map(), keepMark: Board.prototype.keepMark, hold: (drawop) => member.drawn.add(drawop), take: Board.prototype.take,
-    came: async (digits) => {
-      came.push(digits);
-      return new Block(['send 00ff', ...(digits.startsWith('draw') ? ['batch 1 0 0 0'] : [])], 'ok never');
+    came: async (bytes) => {
+      const words = written.decode(bytes);
+      came.push(words);
+      return answer(words.startsWith('draw') ? 'new' : null, null, [unhex('00ff')]);
     } };
   member.telling = new Telling(member, (name, news) => { member[name] = news; });
   member.judging = new Judging(member);
   return member;
 }
 
-const heed = ({ judging }, words, place = 'x', sent = []) => judging.heed(datagramOf(words), words, { place, owner: null }, sent);
+// what a host answers, and a datagram whose bytes are its words
+const answer = (became, refused = null, send = []) => ({ send, due: null, became, refused });
+const written = { encode: (words) => new TextEncoder().encode(words), decode: (bytes) => new TextDecoder().decode(bytes) };
+const heed = ({ judging }, words, place = 'x', sent = []) => judging.heed(datagramOf(words), written.encode(words), { place, owner: null }, sent);
 const drawing = (source, seq, time = 5) => `draw ${source} 7/1 ${seq} ${time} line 0 0 1 1 *`;
 const REPORT = '5742010200000018000000010000000000000005000000070000000100000000'; // session-message 1 5 7/1
 
@@ -64,7 +67,7 @@ async function testHost() {
   await meet(member, 9, 'x', ' 7=3');
   for (const words of ['page-state 9 7/1 7=3', 'request 9 7 7/1 2', 'ask-pages 9', drawing(7, 2)]) await heed(member, words, 'x', sent);
   judge('all that a member sends comes to the host', member.came.map((words) => words.slice(0, 3)), ['ses', 'pag', 'req', 'ask', 'dra']);
-  judge('and what the host sends goes out', sent, ['00ff', '00ff', '00ff', '00ff']);
+  judge('and what the host sends goes out', sent.map(hex), ['00ff', '00ff', '00ff', '00ff']);
   judge('what is told is missing, and what is below', member.telling.reported.missing('7/1', member.drawn), 2);
   await heed(member, drawing(7, 3));
   judge('until it comes, and then it is forgotten', [member.telling.reported.missing('7/1', member.drawn), member.telling.reported.names.size], [1, 0]);
@@ -84,10 +87,10 @@ async function testRecord() {
   await heed(member, drawing(6, 1), 'y');
   judge('what strangers gave', member.kept, [drawing(7, 1), drawing(6, 1)]);
   await meet(member, 7, 'b');
-  judge('is a member\u2019s once he answers, by its bytes, and of no other', member.kept.slice(2), [`datagram ${drawing(7, 1)}`]);
+  judge('is a member\u2019s once he answers, by its bytes, and of no other', member.kept.slice(2), [`datagram ${hex(written.encode(drawing(7, 1)))}`]);
   await heed(member, drawing(7, 2), 'b');
   await heed(member, drawing(8, 1), 'y');
-  judge('what comes later is written as it is then', member.kept.slice(3), [`datagram ${drawing(7, 2)}`, drawing(8, 1)]);
+  judge('what comes later is written as it is then', member.kept.slice(3), [`datagram ${hex(written.encode(drawing(7, 2)))}`, drawing(8, 1)]);
   const again = memberOf({ strange: ['8 7/1 1'], strangers: 1 });
   judge('what the record has of strangers takes of their share', await heed(again, drawing(9, 1), 'z'), 'over the share of strangers');
 }
@@ -152,15 +155,15 @@ async function testHeld() {
 
 /** What the host refuses, or does not take, changes nothing here. */
 async function testRefused() {
-  const member = memberOf(), answers = (lines, end) => { member.board.came = async () => new Block(lines, end); };
+  const member = memberOf(), answers = (became, refused = null) => { member.board.came = async () => answer(became, refused); };
   await meet(member);
-  answers([], 'refused datagram 4');
+  answers(null, 'datagram 4');
   judge('why a report is refused', await heed(member, 'session-message 9 78 7/1 7=3'), 'datagram 4');
   judge('what it told of is not missing', member.telling.reported.missing('7/1', member.drawn), 0);
   judge('why a drawop is refused', await heed(member, drawing(7, 1), 'z'), 'datagram 4');
-  answers(['batch 0 0 1 0'], 'ok never');
+  answers('clash');
   judge('one that clashes', [await heed(member, drawing(7, 1), 'z'), member.alarms.told()], [null, ['two members draw with number 7: what they drew differs from member to member']]);
-  answers(['batch 0 0 0 1'], 'ok never');
+  answers('full');
   judge('one without room', [await heed(member, drawing(7, 1), 'z'), member.alarms.told().at(-1)], [null, 'the board is full: new drawops are not kept']);
   judge('none of them takes of a share, or is kept', [member.judging.judge.strange.size, member.drawn.total, member.kept], [0, 0, []]);
 }
@@ -173,7 +176,7 @@ async function testTwins() {
     judge('what is told of a report is what goes out', datagram.words, readDatagram(bytes).words);
     return bytes;
   };
-  const hears = (member, bytes) => member.judging.heed(readDatagram(bytes), hex(bytes), { place: 'y', owner: null }, []);
+  const hears = (member, bytes) => member.judging.heed(readDatagram(bytes), bytes, { place: 'y', owner: null }, []);
   const first = leaves(one, reports[0]);
   judge('a report of ours goes out as it is', hex(first), reports[0]);
   judge('one that comes back shows no twin', [await hears(one, first), one.judging.hasTwin, hex(leaves(one, reports[0]))], ['under our number', false, reports[0]]);
@@ -221,10 +224,10 @@ async function testTime() {
 /** What we drew last goes out again when it is due, unless we heard of it; that we ask for something tells of losses. */
 async function testLast() {
   const member = memberOf(), { judging } = member, repeated = [];
-  member.repeat = async () => { repeated.push(...judging.tails.take(member.board.moment)); };
+  member.repeat = async () => { repeated.push(...judging.tails.take(member.board.moment).map((digits) => written.decode(unhex(digits)))); };
   await meet(member);
   member.board.moment = SECOND;
-  judging.tails.drew(drawopOf(drawing(1, 1), 'one'), SECOND);
+  judging.tails.drew(drawopOf(drawing(1, 1), hex(written.encode('one'))), SECOND);
   const [[moment, act]] = judging.plan();
   member.board.moment = moment;
   await act();
@@ -233,7 +236,7 @@ async function testLast() {
   member.board.moment = 2 * SECOND;
   await judging.plan()[0][1]();
   judge('goes a last time where something was lost', [repeated, judging.plan()], [['one', 'one'], []]);
-  judging.tails.drew(drawopOf(drawing(1, 2), 'two'), 2 * SECOND);
+  judging.tails.drew(drawopOf(drawing(1, 2), hex(written.encode('two'))), 2 * SECOND);
   await heed(member, 'request 8 1 7/1 3', 'z');
   judge('a request that is not handed in changes nothing', judging.plan().length, 1);
   await heed(member, 'session-message 9 78 7/1 1=2');

@@ -3,7 +3,7 @@
 import fs from 'node:fs';
 import test from 'node:test';
 import { Board, NoRoom } from '../../web/member/board.js';
-import { readDatagram, unhex } from '../../web/member/datagram.js';
+import { hex, readDatagram } from '../../web/member/datagram.js';
 import { heldOf } from '../../web/member/held.js';
 import { HostEnded, Program } from '../../web/member/host.js';
 import { Inbox } from '../../web/member/inbox.js';
@@ -27,9 +27,9 @@ async function boardOf(program, record, more = {}) {
   return { board, held };
 }
 
-/** The words of a datagram as bytes in hexadecimal. */
-async function digitsOf(program, words) {
-  return (await (await program.start('hex')).text([words])).trim().split(' ')[1];
+/** A datagram in words as its bytes. */
+async function bytesOf(program, words) {
+  return (await heldOf(program, ['board 7 100 1 42', words])).datagrams[0];
 }
 
 async function testOld(program) {
@@ -46,7 +46,7 @@ async function testOld(program) {
   judge('the record keeps its lines, and has the drawing', [lines.slice(0, OLD.length), lines.at(-1)], [OLD, 'say draw 7 1/1 7 2000 line 0 3 4 3 o']);
   const again = await boardOf(program, record);
   judge('a start goes on', [again.held.length, (await again.board.nextNumber(PAGE)).seq], [4, 8]);
-  judge('a line that is none is left out', (await heldOf(program, ['board 7 100 1 42', 'say draw 7 1/1 0 5 line 0 0 4 0 o', 'datagram 5742'])).datagrams, ['5742']);
+  judge('a line that is none is left out', (await heldOf(program, ['board 7 100 1 42', 'say draw 7 1/1 0 5 line 0 0 4 0 o', 'datagram 5742', 'datagram 574'])).datagrams.map(hex), ['5742']);
 }
 
 async function testMarks(program) {
@@ -55,7 +55,7 @@ async function testMarks(program) {
   const { board } = await boardOf(program, record);
   judge('a mark of ours whose drawop never came is a number that is not used', await board.nextNumber(PAGE), { seq: 6, lacks: null });
   const young = await boardOf(program, new Record(null, 'here', 1), { mayHaveDrawn: true }), listening = young.board.readyAt - young.board.moment;
-  await young.board.came(await digitsOf(program, 'page-state 9 1/1 1=5'));
+  await young.board.came(await bytesOf(program, 'page-state 9 1/1 1=5'));
   judge('who may have drawn listens', [(await young.board.draw(PAGE, 6, 50, 'line 0 0 4 0 o')).block.fault, listening], ['listening', 6 * SECOND]);
   judge('and counts on from what is told', (await young.board.nextNumber(PAGE)).seq, 6);
 }
@@ -77,7 +77,7 @@ async function testClock(program) {
 async function testDraw(program) {
   const record = new Record(null, 'here', 1), { board, held } = await boardOf(program, record);
   const first = await board.draw(PAGE, 1, 50, 'line 0 0 4 0 +');
-  judge('a drawing of ours', [first.drawop.words, first.block.sent().includes(first.drawop.digits), held.length], ['draw 1 1/1 1 50 line 0 0 4 0 +', true, 1]);
+  judge('a drawing of ours', [first.drawop.words, first.block.sent().map(hex).includes(first.drawop.digits), held.length], ['draw 1 1/1 1 50 line 0 0 4 0 +', true, 1]);
   judge('one of the same time lies above it', (await board.draw(PAGE, 2, 50, 'text 0 0 "a b"')).drawop.words, 'draw 1 1/1 2 51 text 0 0 "a b"');
   const wrong = await board.draw(PAGE, 3, 50, 'delete 1 3');
   judge('one that aims at itself is none', [wrong.block.fault, wrong.drawop], ['word 6: target is the drawop itself', null]);
@@ -104,7 +104,7 @@ async function testNoRoom(program) {
 async function testEnds(program) {
   const record = new Record(null, 'here', 1), { board } = await boardOf(program, record);
   await board.draw(PAGE, 1, 50, 'line 0 0 4 0 +');
-  new Uint8Array(board.host.start.exports.memory.buffer).fill(255);
+  new Uint8Array(board.host.memory.buffer).fill(255);
   const fault = await board.nextNumber(PAGE).catch((it) => it);
   judge('a host that broke off is told', [fault instanceof HostEnded, board.ends.length, (await record.lines()).at(-1).startsWith('# the host broke off')], [true, 1, true]);
   judge('another goes on from the record', [(await board.nextNumber(PAGE)).seq, (await board.view(PAGE)).length], [2, 1]);
@@ -112,7 +112,7 @@ async function testEnds(program) {
   judge('and so does one that begins again', [(await board.nextNumber(PAGE)).seq, board.ends.length], [2, 1]);
   const other = new Record(null, 'here', 5);
   const drawn = ['draw 1 1/1 1 50 line 0 0 4 0 +', 'draw 6 1/1 1 60 line 0 2 4 2 +'];
-  const all = await Promise.all(drawn.map(async (words) => drawopOf(words, await digitsOf(program, words))));
+  const all = await Promise.all(drawn.map(async (words) => drawopOf(words, hex(await bytesOf(program, words)))));
   await board.renumber(5, other, all, new Map([['6 1/1 1', 'x']]));
   judge('under another number it has all that was held', [board.me, (await board.nextNumber(PAGE)).seq, (await board.view(PAGE)).length, (await other.lines())[0]], [5, 1, 2, FIRST_LINE]);
   judge('and what strangers drew is strangers\u2019', [board.strange, (await other.lines())[4]], [['6 1/1 1'], drawn[1]]);
@@ -167,9 +167,10 @@ async function testSession(program) {
 /** Of two members alone none has a share, and a stranger beside them has one, which is the same after a start. */
 async function testStrangers(program) {
   const network = new Map(), [one, other] = [await memberOf(program, network, 11, new Record(null, 'here', 11)), await memberOf(program, network, 12, new Record(null, 'here', 12))];
-  const stranger = { place: 'wb/stranger', owner: null }, forged = await (await program.start('hex')).text(Array.from({ length: 100 }, (_, i) => `draw 900 1/1 ${i + 1} 5 line 0 0 4 0 x`));
+  const stranger = { place: 'wb/stranger', owner: null }, words = Array.from({ length: 100 }, (_, i) => `draw 900 1/1 ${i + 1} 5 line 0 0 4 0 x`);
+  const { datagrams: forged } = await heldOf(program, ['board 7 100 1 42', ...words]);
   await Promise.all(Array.from({ length: 90 }, (_, i) => other.people.draw(PAGE, `line ${i} 0 9 9 o`)));
-  for (const line of forged.trim().split('\n')) for (const take of network.values()) take(unhex(line.split(' ')[1]), stranger);
+  for (const bytes of forged) for (const take of network.values()) take(bytes, stranger);
   const of = (member, source) => member.drawn.all().filter((drawop) => drawop.source === source).length;
   judge('a member holds all that another drew, above every share', await comes(() => of(one, 12) === 90) || of(one, 12), true);
   judge('and of a stranger no more than his share, beside what the other repaired', [of(one, 900) <= 32, one.judging.judge.strange.size <= 16, one.judging.judge.strange.size > 0], [true, true, true]);

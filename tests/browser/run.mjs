@@ -1,37 +1,34 @@
-// run.mjs MODULE WORD ..: runs a module with the standard streams of this process. Reads wait, so nothing is put aside.
+// run.mjs MODULE: answers the lines of standard input by the module, as `wb host` does, each before it reads on.
 import fs from 'node:fs';
+import { Program } from '../../web/member/host.js';
 
-const [file, ...words] = process.argv.slice(2), all = ['wb', ...words], written = new TextEncoder();
-const { exports } = new WebAssembly.Instance(new WebAssembly.Module(fs.readFileSync(file)), { env: {
-  read: (_file, at, size) => {
-    for (;;) {
-      try {
-        return BigInt(fs.readSync(0, bytes(at, size)));
-      } catch (fault) {
-        if (fault.code === 'EOF') return 0n;
-        if (fault.code !== 'EAGAIN') return -1n;
-      }
-    }
-  },
-  write: (to, at, size) => {
+const LINE_FEED = 10;
+const host = await new Program(await WebAssembly.compile(fs.readFileSync(process.argv[2])), false).start();
+
+/** Some bytes of the input; none at its end. */
+function some() {
+  const room = Buffer.alloc(1 << 16);
+  for (;;) {
     try {
-      return BigInt(fs.writeSync(to, bytes(at, size)));
-    } catch {
-      return -1n;
+      return room.subarray(0, fs.readSync(0, room));
+    } catch (fault) {
+      if (fault.code === 'EOF') return room.subarray(0, 0);
+      if (fault.code !== 'EAGAIN') throw fault;
     }
-  },
-  rattle_arg: (place, at, size) => {
-    if (place >= BigInt(all.length)) return -1n;
-    const word = written.encode(all[Number(place)]);
-    if (word.length > Number(size)) return -2n;
-    bytes(at, word.length).set(word);
-    return BigInt(word.length);
-  },
-  _exit: (status) => process.exit(status),
-} });
-
-function bytes(at, size) {
-  return new Uint8Array(exports.memory.buffer, Number(at), Number(size));
+  }
 }
 
-process.exit(exports.page_main());
+function answer(line) {
+  const block = Buffer.from(host.printed(line));
+  for (let at = 0; at < block.length;) at += fs.writeSync(1, block, at);
+}
+
+let rest = Buffer.alloc(0);
+for (let part = some(); part.length; part = some()) {
+  rest = Buffer.concat([rest, part]);
+  for (let end = rest.indexOf(LINE_FEED); end >= 0; end = rest.indexOf(LINE_FEED)) {
+    answer(rest.subarray(0, end));
+    rest = rest.subarray(end + 1);
+  }
+}
+if (rest.length) answer(rest);

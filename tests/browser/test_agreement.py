@@ -1,4 +1,5 @@
-"""Beside the native program: the module, which prints the same bytes for the same lines, and what the page reads by itself of a datagram."""
+"""Beside the native program: the module, which answers the same lines with the same bytes, also where calls by bytes take their place; and what
+the page reads by itself of a datagram."""
 from __future__ import annotations
 
 import json
@@ -9,22 +10,26 @@ import subprocess
 import sys
 from pathlib import Path
 
+from ..figures.peers import arrivals
 from ..node import find_node
 from ..host.program import TOP, program
 from ..facts import Facts
 from ..host import faults
+from ..host.conversations import parted
 from ..host.scripts import Writer
 from ..host.sessions import Session, spoiled
+from ..host.test_kept import DRAWING, KeptSession
 
 HERE = Path(__file__).resolve().parent
 
 LINES = 10_000
+CONVERSATIONS = 40  # of self-managing hosts
 SPOILED = 1_000
 READ = 5_000
 PATIENCE = 300
 
-# the files of tests/host that a module can pass: others need threads, or ends of a process. Lines that are refused stand in a conversation,
-# since a start of Node for each takes minutes
+# the files of tests/host that a module can pass: others need ends of a process. Lines that are refused stand in a conversation, since a start
+# of Node for each takes minutes
 FILES = [f"tests/host/test_{name}.py" for name in ("lines", "sessions", "records", "documents")]
 
 
@@ -46,10 +51,9 @@ def native(program: str, given: str) -> str:
     return subprocess.run([program, "host"], input=given.encode(), stdout=subprocess.PIPE, timeout=PATIENCE, check=True).stdout.decode("latin-1")
 
 
-def by_module(node: str, module: Path, given: str) -> tuple[str, dict[str, float]]:
+def by_module(node: str, module: Path, given: str, *way: str) -> tuple[str, dict[str, float]]:
     """What the module prints where it is asked line by line, as the page asks it, and what that took."""
-    ran = subprocess.run([node, str(HERE / "ask.mjs"), str(module), "host"], input=given.encode(), capture_output=True,
-                         timeout=PATIENCE, check=False)
+    ran = subprocess.run([node, str(HERE / "ask.mjs"), str(module), *way], input=given.encode(), capture_output=True, timeout=PATIENCE, check=False)
     if ran.returncode:
         return ran.stderr.decode(), {}
     return ran.stdout.decode("latin-1"), json.loads(ran.stderr)
@@ -66,6 +70,30 @@ def check_lines(facts: Facts, program: str, node: str, module: Path) -> None:
     facts.holds("over 10,000 lines are asked", count >= LINES, count)
     facts("the module prints what the native program prints", differ, [])
     print(f"{count} lines by the native program and by the module: the same bytes; {sorted(took)[len(took) // 2]:.0f} microseconds a line in the median of {len(took)} conversations")
+
+
+def kept_conversations() -> list[str]:
+    """Conversations of self-managing hosts, at random and with values that were worked out."""
+    made = [KeptSession(random.Random(seed)).conversation(200)[0] for seed in range(CONVERSATIONS)]
+    return [*made, *(parted(conversation)[0] for conversation in DRAWING.values())]
+
+
+def check_bytes(facts: Facts, program: str, node: str, module: Path) -> None:
+    """The same by calls by bytes."""
+    given = kept_conversations()
+    differ = [each[:200] for each in given if by_module(node, module, each, "bytes")[0] != native(program, each)]
+    facts("calls by bytes give what the native program prints for the lines", differ, [])
+    facts.holds("there are conversations enough", len(given) > CONVERSATIONS, len(given))
+
+
+def check_memory(facts: Facts, node: str, module: Path) -> None:
+    """A member that has taken in 60,000 drawings by bytes has no more memory than one that took them in by lines."""
+    lines = [f"came {place} {digits}" for place, digits in enumerate(arrivals.drawings().digits)]
+    given = "".join(f"{line}\n" for line in ["board 1 65535 1 42", "keep 4000 0", *lines])
+    (told, by_bytes), (wanted, by_lines) = by_module(node, module, given, "bytes"), by_module(node, module, given)
+    facts("60,000 drawings by bytes and by lines: the same blocks", (len(lines), told == wanted), (60_000, True))
+    facts.holds("no more memory", by_bytes["memory"] <= by_lines["memory"], (by_bytes, by_lines))
+    print(f"60,000 drawings: {by_bytes['memory']:,} bytes of memory by bytes, {by_lines['memory']:,} by lines")
 
 
 def spoilt(numbers: random.Random, digits: str) -> str:
@@ -103,8 +131,16 @@ def test_lines_by_the_module(facts: Facts, module: Path) -> None:
     check_lines(facts, program(), find_node(), module)
 
 
+def test_calls_by_bytes(facts: Facts, module: Path) -> None:
+    check_bytes(facts, program(), find_node(), module)
+
+
+def test_memory_by_bytes(facts: Facts, module: Path) -> None:
+    check_memory(facts, find_node(), module)
+
+
 def test_host_by_the_module(module: Path) -> None:
-    """tests/host with the module in place of the program."""
-    environment = {**os.environ, "WB_PROGRAM": str(HERE / "module.sh"), "WB_MODULE": str(module)}
+    """tests/host with the module in place of `wb host`."""
+    environment = {**os.environ, "WB_HOST": str(HERE / "module.sh"), "WB_MODULE": str(module)}
     ran = subprocess.run([sys.executable, "-B", "-m", "pytest", "-q", *FILES], cwd=TOP, stdout=subprocess.PIPE, text=True, timeout=900, check=False, env=environment)
     assert ran.returncode == 0, ran.stdout[-4000:]

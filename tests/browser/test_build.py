@@ -7,9 +7,10 @@ from functools import partial
 from pathlib import Path
 from typing import Callable
 
-from web.building import folder, narrow, retarget, wasm
+from web.building import folder, module, narrow, retarget, wasm
 
 from ..facts import Facts
+from ..host.program import TOP
 
 HEAD = retarget.FROM_LAYOUT + "\n" + retarget.FROM + "\n"
 
@@ -50,6 +51,28 @@ def test_wasm(facts: Facts) -> None:
     facts("what is no module is refused", fault(lambda: list(wasm.sections(b"no"))), "no module of WebAssembly")
 
 
+def test_calls_of_tests() -> None:
+    """The calls that a module of tests hides get the names that C has for them, and nothing else is shown."""
+    hidden = 'define internal i32 @"wb_c::calls::wb_open"(ptr %a) #0 {\n  %b = call i64 @"wb_c::by_bytes::wb_due"(ptr %a)\n}\n'
+    other = 'define internal i32 @"wb_c::room::wb_open"(ptr %a) #0 {\n}\n'
+    shown = "define i32 @wb_open(ptr %a) #0 {\n  %b = call i64 @wb_due(ptr %a)\n}\n"
+    assert module.with_calls(hidden + other) == shown + other
+
+
+def test_numbers_of_the_library() -> None:
+    """The page's script knows the statuses, the events and the fields by the numbers of include/wb.h."""
+    script, header = (TOP / "web/member/host.js").read_text(), (TOP / "include/wb.h").read_text()
+    known = dict(re.findall(r"WB_(\w+) = (\d+)", header))
+    named = dict(re.findall(r"\b([A-Z_]+) = (\d+)[,;]", next(line for line in script.splitlines() if line.startswith("const DONE = "))))
+    assert named == {name: known[name] for name in named} and len(named) == 8
+    outcomes = re.findall(r"(\d+): '(\w+)'", next(line for line in script.splitlines() if line.startswith("const OUTCOMES")))
+    assert outcomes == [(known[name], word) for name, word in (("NEW", "new"), ("AGAIN", "again"), ("CLASH", "clash"), ("LEFT", "full"))]
+    refusals = re.findall(r"(\d+): '([\w ]+)'", script.split("const REFUSALS")[1].split(");")[0])
+    names = ("NOT_KEPT", "NO_MOMENT", "BACK_IN_TIME", "LISTENING", "OURS", "NUMBERS", "NO_DRAWOP", "NO_QUESTION")
+    assert [number for number, _ in refusals] == [known[name] for name in names]
+    assert sorted(re.findall(r"@property \{.*\} (wb_\w+)", script)) == module.CALLS
+
+
 def check_folder(facts: Facts, page: Path) -> None:
     kept = json.loads((page / "files.js").read_text().split("=", 1)[1].rstrip().rstrip(";"))
     there = {str(path.relative_to(page)) for path in page.rglob("*") if path.is_file()}
@@ -59,8 +82,7 @@ def check_folder(facts: Facts, page: Path) -> None:
     facts("no script and no style stands in the page", re.findall(r"<style|<script(?! type=\"module\" src=)| on\w+=| style=", index), [])
     links = [link for path in page.rglob("*.*") if path.suffix in (".js", ".html", ".css") for link in re.findall(r"(?:src|href|from|import)[=\s(]+['\"](https?:[^'\"]*|/[^'\"]*)", path.read_text())]
     facts("nothing is fetched from elsewhere, and nothing from the root", links, [])
-    facts("the modules ask for four functions", [sorted(wasm.imported((page / name).read_bytes())) for name in ("wb.wasm", "wb-any.wasm")],
-          [["env._exit", "env.rattle_arg", "env.read", "env.write"]] * 2)
+    facts("the modules ask for no functions", [wasm.imported((page / name).read_bytes()) for name in ("wb.wasm", "wb-any.wasm")], [[], []])
     facts("the policy is in the folder's build", folder.POLICY in index, True)
 
 

@@ -23,7 +23,7 @@ ROUNDS, MOST_LATENCY = 15 if IS_MEASURED else 3, 50.0
 DRAWINGS = 12
 
 # what becomes of the memory of a program that broke
-SPOIL = "new Uint8Array(member.board.host.start.exports.memory.buffer).fill(255), 0"
+SPOIL = "new Uint8Array(member.board.host.memory.buffer).fill(255), 0"
 
 
 # a record of an earlier build of the page, and one of a later build, by their numbers; how they come into a browser's database, and what it has

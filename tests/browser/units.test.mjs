@@ -20,7 +20,7 @@ import { testTails } from './tails.mjs';
 
 function testBlocks() {
   const taken = new Block(['send 01ff', 'batch 1 0 0 0'], 'ok 34890'), refused = new Block([], 'refused word 3');
-  judge('a block', [taken.due, taken.fault, taken.sent()], [34890, null, ['01ff']]);
+  judge('a block', [taken.due, taken.fault, taken.sent().map((bytes) => [...bytes])], [34890, null, [[1, 255]]]);
   judge('a block without a timer', new Block([], 'ok never').due, null);
   judge('a refused line', [refused.due, refused.fault], [null, 'word 3']);
 }

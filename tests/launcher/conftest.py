@@ -28,7 +28,7 @@ def built(checkout: Checkout) -> Checkout:
 @pytest.fixture
 def page(checkout: Checkout) -> Checkout:
     """One with a stand-in for the build of the page."""
-    for folder in ("web/building", "web/member", "live/ui"):
+    for folder in ("web/building", "web/member", "live/ui", "crates/wb_c/src", "crates/wb_c/specs", "crates/wb_c/proofs"):
         (checkout.top / folder).mkdir(parents=True)
     checkout.stand_in("build", HERE / "page.sh")
     (checkout.bin / "build").rename(checkout.top / "web/build")

@@ -122,6 +122,11 @@ class Browser:
         read: dict[str, Any] = json.loads(message)
         return read
 
+    def name(self) -> str:
+        """The browser and its version, as Chromium 156."""
+        found: str = self.call("Browser.getVersion")["product"]
+        return found.replace("Headless", "").replace("Chrome/", "Chromium ").split(".")[0]
+
     def open(self, address: str, width: int = 1280, height: int = 800, first: str = "") -> Page:
         """A window of its own on an address, of this size, which takes itself to be in front. What is to run first in it runs before its own scripts."""
         target = self.call("Target.createTarget", url="about:blank", newWindow=True)["targetId"]

@@ -1,4 +1,4 @@
-"""How `rattle build` is called for the program: what the toolchain's command rt says to it, but for the toolchain's folder."""
+"""How `rattle build` is called for the library of a host: what the toolchain's command rt says to it, but for the toolchain's folder."""
 from __future__ import annotations
 
 from pathlib import Path
@@ -6,7 +6,7 @@ from pathlib import Path
 from .needs import Missing
 
 TOP = Path(__file__).resolve().parent.parent.parent
-PROGRAM = "wb"
+CRATE = "wb_c"
 
 
 def below() -> dict[str, list[str]]:
@@ -29,16 +29,16 @@ def libraries(crates: dict[str, list[str]], crate: str) -> list[str]:
 
 
 def build_words(kit: Path) -> list[str]:
-    """The words of `rattle build` for the program, to be called in its folder. Missing where a library below it is not built."""
-    crates, words = below(), ["--crate-name", PROGRAM, "src/main.rt"]
-    for name in ["std", *(name for name in crates[PROGRAM] if name not in crates)]:
+    """The words of `rattle build` for the library, to be called in its folder. Missing where a crate below it is not built."""
+    crates, words = below(), ["--crate-name", CRATE, "--crate-type", "staticlib", "src/lib.rt"]
+    for name in dict.fromkeys(["std", *(name for name in crates[CRATE] if name not in crates)]):
         words += ["--extern", "%s=%s/rlibs/%s.rlib" % (name, kit, name)]
     words += ["-L", "dependency=%s/rlibs" % kit]
-    for name in libraries(crates, PROGRAM):
+    for name in libraries(crates, CRATE):
         rlib = folder_of(name) / "out" / "rlib" / (name + ".rlib")
         if not rlib.exists():
             raise Missing("the crate %s has no %s" % (name, rlib.relative_to(TOP)))
-        words += ["--extern", "%s=%s" % (name, rlib)] if name in crates[PROGRAM] else []
+        words += ["--extern", "%s=%s" % (name, rlib)] if name in crates[CRATE] else []
         words += ["-L", "dependency=%s" % rlib.parent]
-    return [*words, "--antt-project", "%s/rattle/logic/antt-project.json" % kit, "--logic-built", "%s/logic_built" % kit, "--jobs", "1",
-            "--links", PROGRAM + "=", "--backend", "llvm", "--incremental", "out/incremental"]
+    return [*words, "--antt-project", "%s/rattle/logic/antt-project.json" % kit, "--logic-built", "%s/logic_built" % kit, "--jobs", "2",
+            "--links", CRATE + "=", "--backend", "llvm", "--incremental", "out/incremental"]

@@ -1,6 +1,7 @@
-"""From the proved program to modules of WebAssembly: what each step takes and makes."""
+"""From the proved library of a host to modules of WebAssembly: what each step takes and makes."""
 from __future__ import annotations
 
+import re
 import shutil
 import subprocess
 from pathlib import Path
@@ -12,9 +13,13 @@ from .wasm import exported, imported
 
 HERE = Path(__file__).resolve().parent
 
-# what the engine or the page gives a module, and what the page calls
-IMPORTS = ["env._exit", "env.rattle_arg", "env.read", "env.write"]
-EXPORTS = ["memory", "page_main", "page_room"]
+# what the page calls, as `include/wb.h` declares it, and what it has of the module beside that. A module asks the page for nothing
+CALLS = ["wb_add", "wb_ask", "wb_block", "wb_came", "wb_close", "wb_due", "wb_event", "wb_line", "wb_open", "wb_tick"]
+EXPORTS = ["memory", "page_room", *CALLS]
+
+# how a call is named in a module of tests, which shows it to nothing outside
+HIDDEN = re.compile(r'@"wb_c::(?:calls|by_bytes)::(wb_[a-z]+)"')
+HIDDEN_CALL = re.compile(r"^define internal ([^@\n]*@wb_[a-z]+\()", re.MULTILINE)
 
 STACK_BYTES = 1 << 20
 
@@ -51,22 +56,29 @@ def lay_toolchain(needs: Needs, folder: Path) -> None:
 
 
 def write_bitcode(needs: Needs, build_words: list[str], crate: Path, room: Path) -> Path:
-    """The LLVM module of a crate that is proved, which `rattle build` makes of what it proved and of nothing else."""
+    """The LLVM module of a crate, which `rattle build` makes of what it proves and of nothing else."""
     kept = room / "toolchain" / "kept.bc"
     lay_toolchain(needs, room / "toolchain")
-    run([needs.kit / "bin" / "rattle", "build", *build_words, "--toolchain", room / "toolchain", "-o", room / "program.x86.o"], crate)
+    (crate / "out" / "incremental").mkdir(parents=True, exist_ok=True)
+    run([needs.kit / "bin" / "rattle", "build", *build_words, "--toolchain", room / "toolchain", "-o", room / "library.x86.a"], crate)
     if not kept.exists():
         raise Failed("this toolchain gave its clang no LLVM module: it is another one than this was written for")
     return kept
 
 
-def compile_wasm(needs: Needs, bitcode: Path, room: Path, level: str) -> Path:
-    """A module with a 64-bit memory, of an LLVM module for x86-64, optimised as the level says."""
-    text, wasm, clang, flags = room / "program.ll", room / "wb.wasm", needs.clang, [*FLAGS, level]
+def with_calls(text: str) -> str:
+    """The text of a module of tests, in which the calls of the library have the names that C has for them, and are seen from outside."""
+    return HIDDEN_CALL.sub(r"define \1", HIDDEN.sub(r"@\1", text))
+
+
+def compile_wasm(needs: Needs, bitcode: Path, room: Path, is_of_tests: bool = False) -> Path:
+    """A module with a 64-bit memory, of an LLVM module for x86-64: of the library, or of tests that make its calls, which is there sooner."""
+    text, wasm, clang, flags = room / "library.ll", room / "wb.wasm", needs.clang, [*FLAGS, "-O1" if is_of_tests else "-O3"]
     run([clang, "--target=x86_64-unknown-linux-gnu", "-x", "ir", bitcode, "-S", "-emit-llvm", "-Xclang", "-disable-llvm-passes", "-o", text], room)
-    text.write_text(retarget(text.read_text()))
-    run([clang, *flags, "-x", "ir", "-c", text, "-o", room / "program.o"], room)
-    objects = [room / "program.o"]
+    wide = retarget(text.read_text())
+    text.write_text(with_calls(wide) if is_of_tests else wide)
+    run([clang, *flags, "-x", "ir", "-c", text, "-o", room / "library.o"], room)
+    objects = [room / "library.o"]
     for source in sorted(HERE.glob("*.c")):
         objects.append(room / (source.stem + ".o"))
         run([clang, *flags, *C_FLAGS, "-c", source, "-o", objects[-1]], room)
@@ -75,27 +87,25 @@ def compile_wasm(needs: Needs, bitcode: Path, room: Path, level: str) -> Path:
     linker.unlink(missing_ok=True)
     linker.symlink_to(clang)
     run([linker, "-mwasm64", "--no-entry", "--stack-first", "-z", "stack-size=%d" % STACK_BYTES, "--gc-sections", "--strip-all",
-         "--allow-undefined", "--export-memory", "-o", wasm, *objects], room)
-    check_ends(wasm.read_bytes(), [])
+         "--allow-undefined", "--export-memory", *("--export=%s" % call for call in CALLS), "-o", wasm, *objects], room)
+    check_ends(wasm.read_bytes())
     return wasm
 
 
-def widen(needs: Needs, wasm: Path, room: Path, level: str = "-O1") -> Path:
-    """The same for every engine: a 32-bit memory, and a `read` that gives control back to the page and goes on later."""
+def widen(needs: Needs, wasm: Path, room: Path, level: str = "-O2") -> Path:
+    """The same for every engine: a 32-bit memory and a 32-bit table."""
     narrowed, lowered, anywhere = room / "narrow.wasm", room / "lowered.wasm", room / "wb-any.wasm"
     narrowed.write_bytes(narrow(wasm.read_bytes()))
     run([needs.wasm_opt, "--enable-memory64", *FEATURES, "--memory64-lowering", narrowed, "-o", lowered], room)
-    run([needs.wasm_opt, *FEATURES, "--asyncify", "--pass-arg=asyncify-imports@env.read", "--pass-arg=asyncify-ignore-indirect", level,
-         lowered, "-o", anywhere], room)
-    check_ends(anywhere.read_bytes(), ["asyncify_get_state", "asyncify_start_rewind", "asyncify_start_unwind", "asyncify_stop_rewind",
-                                       "asyncify_stop_unwind"])
+    run([needs.wasm_opt, *FEATURES, level, lowered, "-o", anywhere], room)
+    check_ends(anywhere.read_bytes())
     return anywhere
 
 
-def check_ends(module: bytes, more: list[str]) -> None:
-    """Failed where a module asks for other functions than the page gives, or lacks one that the page calls."""
-    asked, lacks = sorted(set(imported(module)) - set(IMPORTS)), sorted({*EXPORTS, *more} - set(exported(module)))
+def check_ends(module: bytes) -> None:
+    """Failed where a module asks for functions, which no page gives, or lacks one that the page calls."""
+    asked, lacks = imported(module), sorted(set(EXPORTS) - set(exported(module)))
     if asked:
-        raise Failed("the program asks for %s, which no page gives: a later toolchain's library, perhaps (web/building/system.c)" % ", ".join(asked))
+        raise Failed("the library asks for %s, which no page gives: a later toolchain's library, perhaps (web/building/system.c)" % ", ".join(asked))
     if lacks:
         raise Failed("the module lacks %s" % ", ".join(lacks))

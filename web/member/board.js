@@ -2,12 +2,14 @@
  * it. `live/board.py` once more. */
 import { heldOf } from './held.js';
 import { HostEnded } from './host.js';
-import { readDatagram, unhex } from './datagram.js';
+import { hex, readDatagram } from './datagram.js';
 import { FIRST_LINE, actsOf } from './record.js';
-import { drawopOf, pageNumbers, pageWords } from './views.js';
+import { drawopOf, pageWords } from './views.js';
 
 /** @typedef {import('./views.js').Drawop} Drawop */
+/** @typedef {import('./host.js').Answer} Answer */
 /** @typedef {import('./host.js').Block} Block */
+/** @typedef {import('./host.js').Host} Host */
 
 /** What a board is begun with: the room of a new one, in drawops; bytes a second that the reports of all members take; the constants of the
  * timers; and whether the number may have drawn what its record lacks.
@@ -26,15 +28,6 @@ const MOMENTS = 2 ** 48, LEAD_PART = 512;
 
 /** A host that is started so often within a minute, in milliseconds, is not started again. */
 const MOST_STARTS = 4, MINUTE = 60_000;
-
-/** Lines of a record that are given to a new host at once. */
-const AT_ONCE = 500;
-
-/** What `batch` tells of one drawop. */
-export const NEW = 'batch 1 0 0 0', CLASH = 'batch 0 0 1 0', FULL = 'batch 0 0 0 1';
-
-/** How a drawop begins, in either version. */
-const DRAWOPS = ['57420101', '57420201'];
 
 /** A line with which to try whether the record can be written again. */
 const TRIED = '# there is room again';
@@ -56,11 +49,11 @@ export class Board {
     /** Names of what strangers drew, by the record.
      * @type {string[]} */
     this.strange = [];
-    /** @type {import('./host.js').Host | null} */
+    /** @type {Host | null} */
     this.host = null;
     this.me = 0;
     this.cells = 0;
-    this.moment = 0; // of the last line
+    this.moment = 0; // of the last call
     this.keptMoment = 0; // of the record's last line
     this.readyAt = 0; // from then on it may draw
     this.base = 0;
@@ -99,27 +92,15 @@ export class Board {
    * @param {number} [lead] which part of the moments that are left is passed over */
   async start(listening, lead = 0) {
     const { board, moment, datagrams, strange } = await heldOf(this.program, actsOf(await this.record.lines()));
-    const host = await this.program.start('host', '--tuning', this.options.tuning), now = Math.max(this.moment, moment + Math.floor(lead * (MOMENTS - moment)));
+    const host = await this.program.start(), now = Math.max(this.moment, moment + Math.floor(lead * (MOMENTS - moment)));
     this.readyAt = now + Math.max(LEAST_LISTENING, listening);
-    const begun = [board, `tick ${now}`, `keep ${this.options.rate} ${this.readyAt - now}`];
-    (await host.askAll(begun)).forEach((block, i) => this.heed(begun[i], block));
-    for (let at = 0; at < datagrams.length; at += AT_ONCE) {
-      const part = datagrams.slice(at, at + AT_ONCE), lines = part.map((digits) => `came ${now} ${digits}`), blocks = await host.askAll(lines);
-      lines.forEach((line, i) => this.heed(line, blocks[i]));
-      part.filter((_, i) => blocks[i].lines.at(-1) === NEW).forEach((digits) => this.hold(drawopIn(digits)));
-    }
+    for (const line of [board, `tick ${now}`, `keep ${this.options.rate} ${this.readyAt - now}`, `tuning ${this.options.tuning.replaceAll(',', ' ')}`]) host.ask(line);
+    for (const bytes of datagrams) if (host.came(now, bytes).became === 'new') this.hold(drawopIn(bytes));
+    [this.moment, this.due] = [now, host.due()];
     this.host = host;
     this.strange = strange;
     [this.me, this.cells] = board.split(' ').slice(1, 3).map(Number);
     this.keptMoment = moment;
-  }
-
-  /** Remembers what a block says of time.
-   * @param {string} line @param {Block} block */
-  heed(line, block) {
-    if (block.fault !== null) return;
-    this.due = block.due;
-    if (/^(tick|came|add) /.test(line)) this.moment = Number(line.split(' ', 2)[1]);
   }
 
   /** Starts a host in the place of one that broke off, which is thrown away with its memory. */
@@ -142,39 +123,54 @@ export class Board {
     }
   }
 
-  // ---- lines
+  // ---- calls
 
-  /** The block of a line. HostEnded where the host broke off and was started again: then the line did nothing.
-   * @param {string} line */
-  async tell(line) {
+  /** Has the host do something. HostEnded where it broke off and was started again: then it did nothing.
+   * @template {Answer | Block} T @param {number | null} now the moment that the call has @param {(host: Host) => T} call @param {() => string} words say what it is
+   * @returns {Promise<T>} */
+  async call(now, call, words) {
     if (!this.host) throw new BoardFault('there is no host');
     try {
-      const block = await this.host.ask(line);
-      this.heed(line, block);
-      return block;
+      const told = call(this.host);
+      if (faultOf(told) === null) [this.due, this.moment] = [told.due, now ?? this.moment];
+      return told;
     } catch (fault) {
       if (!(fault instanceof HostEnded)) throw fault;
-      this.record.note(`the host broke off (${String(fault).slice(0, 80)}) at: ${line.slice(0, 60)} ..`);
+      this.record.note(`the host broke off (${String(fault).slice(0, 80)}) at: ${words().slice(0, 60)} ..`);
       await this.startAgain();
       throw fault;
     }
   }
 
+  /** The block of a line.
+   * @param {string} line @param {number | null} [now] its moment, where it has one */
+  tell(line, now = null) {
+    return this.call(now, (host) => host.ask(line), () => line);
+  }
+
   /** Gives the host a datagram that came in.
-   * @param {string} digits */
-  came(digits) {
-    return this.tell(`came ${this.now()} ${digits}`);
+   * @param {Uint8Array} bytes */
+  came(bytes) {
+    const now = this.now();
+    return this.call(now, (host) => host.came(now, bytes), () => `came ${now} ${hex(bytes)}`);
+  }
+
+  /** The host does what is due. */
+  tick() {
+    const now = this.now();
+    return this.call(now, (host) => host.tick(now), () => `tick ${now}`);
   }
 
   /** Gives the host a drawop that came in. One that is new is kept and told.
-   * @param {Drawop} drawop @param {boolean} isStrange no member gave it */
-  async take(drawop, isStrange) {
-    const block = await this.came(drawop.digits);
-    if (block.lines.at(-1) === NEW) {
+   * @param {string} words @param {Uint8Array} bytes @param {boolean} isStrange no member gave it */
+  async take(words, bytes, isStrange) {
+    const answer = await this.came(bytes);
+    if (answer.became === 'new') {
+      const drawop = drawopOf(words, hex(bytes));
       this.keep(lineOf(drawop, isStrange));
       this.hold(drawop);
     }
-    return block;
+    return answer;
   }
 
   /** Has the host draw, which gives a drawing its number and its time. The record has it before anything of it is sent; where it can't have it, nor
@@ -183,10 +179,10 @@ export class Board {
    * @returns {Promise<{ block: Block, drawop: Drawop | null }>} */
   async draw(page, seq, time, operation) {
     if (this.record.fault && !await this.record.keep([TRIED])) throw new NoRoom(this.record.fault);
-    const block = await this.tell(`add ${this.now()} ${time} ${page} ${operation}`), name = digitsOfName(this.me, page, seq);
-    const digits = block.sent().find((each) => DRAWOPS.includes(each.slice(0, 8)) && each.slice(16, 48) === name);
-    if (digits === undefined) return { block, drawop: null };
-    const drawop = drawopIn(digits);
+    const now = this.now(), block = await this.tell(`add ${now} ${time} ${page} ${operation}`, now), name = `${this.me} ${page} ${seq}`;
+    const bytes = block.sent().find((each) => isDrawop(each, name));
+    if (bytes === undefined) return { block, drawop: null };
+    const drawop = drawopIn(bytes);
     if (!await this.record.keep(this.withTick(`say ${drawop.words}`))) {
       await this.beginAgain();
       throw new NoRoom(this.record.fault);
@@ -254,9 +250,20 @@ export class Board {
   }
 }
 
+/** Why a call was refused, where it was.
+ * @param {Answer | Block} told */
+const faultOf = (told) => ('refused' in told ? told.refused : told.fault);
+
 /** The drawop of a datagram that the host holds or made.
- * @param {string} digits */
-const drawopIn = (digits) => drawopOf(readDatagram(unhex(digits))?.words ?? '', digits);
+ * @param {Uint8Array} bytes */
+const drawopIn = (bytes) => drawopOf(readDatagram(bytes)?.words ?? '', hex(bytes));
+
+/** Whether a datagram is the drawop of a name.
+ * @param {Uint8Array} bytes @param {string} name */
+function isDrawop(bytes, name) {
+  const datagram = readDatagram(bytes);
+  return datagram?.kind === 'draw' && datagram.name === name;
+}
 
 /** How a record has a drawop that is not ours: a member's by its bytes, a stranger's by its words.
  * @param {Drawop} drawop @param {boolean} isStrange */
@@ -267,7 +274,3 @@ const chance = () => Number(BigInt.asUintN(53, crypto.getRandomValues(new BigUin
 
 /** @param {number} me @param {number} cells */
 const boardLine = (me, cells) => `board ${me} ${cells} 1 ${crypto.getRandomValues(new BigUint64Array(1))[0]}`;
-
-/** The digits in which a drawop of ours has its name: its source, the page and its number.
- * @param {number} me @param {string} page @param {number} seq */
-const digitsOfName = (me, page, seq) => [me, ...pageNumbers(page), seq].map((number) => number.toString(16).padStart(8, '0')).join('');

@@ -1,5 +1,6 @@
 /** Datagrams, read once from their bytes: what a member judges by, and their words as `wb words` says them (docs/FORMAT.md). The host that is
  * handed one reads it again, and refuses what has a number out of its range; here such a number passes. */
+export { unhex } from './host.js';
 
 /** A datagram. What its kind does not have is empty.
  * @typedef {object} Datagram
@@ -179,11 +180,4 @@ export function hex(bytes) {
   let digits = '';
   for (const byte of bytes) digits += DIGITS[byte];
   return digits;
-}
-
-/** @param {string} digits */
-export function unhex(digits) {
-  const bytes = new Uint8Array(digits.length >> 1);
-  for (let at = 0; at < bytes.length; at += 1) bytes[at] = parseInt(digits.slice(2 * at, 2 * at + 2), 16);
-  return bytes;
 }

@@ -1,6 +1,6 @@
-/** The proved program in a module of WebAssembly: it is given lines, and answers each with a block. */
+/** The proved library of a host, in a module of WebAssembly: it takes datagrams as bytes, and lines, and answers each at once. */
 
-/** The program ended or broke off before it answered: its instance is thrown away. */
+/** The host broke off, or has no memory: its instance is thrown away. */
 export class HostEnded extends Error {}
 
 /** What a line printed, and then the next moment that is due, or why the line was refused. */
@@ -13,203 +13,271 @@ export class Block {
     this.due = this.fault !== null || close === 'ok never' ? null : Number(close.slice(3));
   }
 
-  /** The datagrams to send, in hexadecimal. */
+  /** The datagrams to send. */
   sent() {
-    return this.lines.filter((line) => line.startsWith('send ')).map((line) => line.slice(5));
+    return this.lines.filter((line) => line.startsWith('send ')).map((line) => unhex(line.slice(5)));
   }
 }
+
+/** The bytes of hexadecimal digits.
+ * @param {string} digits */
+export function unhex(digits) {
+  const bytes = new Uint8Array(digits.length >> 1);
+  for (let at = 0; at < bytes.length; at += 1) bytes[at] = parseInt(digits.slice(2 * at, 2 * at + 2), 16);
+  return bytes;
+}
+
+/** What became of a drawop that was handed in.
+ * @typedef {'new' | 'again' | 'clash' | 'full'} Became */
+
+/** What a call came to: datagrams to be sent to all others, the moment at which to call `tick` next, and what became of a drawop. Where the call
+ * was refused, why: then nothing has changed.
+ * @typedef {object} Answer
+ * @property {Uint8Array[]} send
+ * @property {number | null} due
+ * @property {Became | null} became
+ * @property {string | null} refused */
+
+/** An event, by its kind and its bytes, as `include/wb.h` has them.
+ * @typedef {{ kind: number, bytes: Uint8Array }} Event */
+
+// the statuses and the kinds of events of include/wb.h that are told apart here
+const DONE = 0, WAITS = 1, CLOSED = 3, MEMORY = 4, NOTHING = 6, NO_DATAGRAM = 100, NO_OPERATION = 200, SENT = 1;
+
+/** @type {Record<number, Became>} */
+const OUTCOMES = { 2: 'new', 3: 'again', 4: 'clash', 5: 'full' };
+
+/** Why a call was refused, by its status, as a line of the same meaning says it. */
+const REFUSALS = /** @type {Record<number, string>} */ ({ 7: 'not kept', 8: 'number', 9: 'back in time', 10: 'listening', 11: 'ours',
+  12: 'too many', 13: 'no drawop', 14: 'no question' });
+
+const FIELDS = ['sequence number 0', 'coordinate over 4095', 'glyph outside ! to ~', 'text of 0 or over 64 bytes', 'text byte outside space to ~',
+  'target sequence number 0', 'target is the drawop itself'];
+
+/** @param {number} status */
+function refusalOf(status) {
+  if (status > NO_OPERATION) return `word 6: ${FIELDS[status - NO_OPERATION - 1]}`;
+  return status > NO_DATAGRAM ? `datagram ${status - NO_DATAGRAM}` : REFUSALS[status] ?? `status ${status}`;
+}
+
+/** What the module has besides its memory (include/wb.h); places, sizes and moments have 64 bits.
+ * @typedef {object} Calls
+ * @property {(size: bigint) => bigint} page_room   room in the memory, or 0
+ * @property {(host: bigint) => number} wb_open
+ * @property {(host: bigint, line: bigint, length: bigint, buffer: bigint, room: bigint, size: bigint) => number} wb_line
+ * @property {(host: bigint, buffer: bigint, room: bigint, size: bigint) => number} wb_block
+ * @property {(host: bigint, now: bigint, datagram: bigint, length: bigint) => number} wb_came
+ * @property {(host: bigint, now: bigint) => number} wb_tick
+ * @property {(host: bigint, now: bigint, drawop: bigint, length: bigint) => number} wb_add
+ * @property {(host: bigint, question: number, creator: number, number: number, width: number, height: number) => number} wb_ask
+ * @property {(host: bigint, kind: bigint, buffer: bigint, room: bigint, size: bigint) => number} wb_event
+ * @property {(host: bigint) => bigint} wb_due
+ * @property {(host: bigint) => void} wb_close */
 
 const written = new TextEncoder();
 const read = new TextDecoder('latin1');
 
-/** Room for the frames of the calls that wait, in bytes. */
-const FRAMES = 1 << 16;
+/** The size of a host's place, and of what a call tells of an event: its kind, and 8 bytes on its size. */
+const PLACE = 16, SIZE_AT = 8;
 
-/** A start of the program. Its `read` of an empty input gives control back to the page until there is more. */
-class Start {
-  /** @param {string[]} words */
-  constructor(words) {
-    this.words = words;
-    this.input = new Uint8Array(0);
-    /** @type {string[]} */
-    this.output = [];
-    /** @type {any} */
-    this.exports = {};
+/** What each of the two buffers has at first: more than nearly all datagrams and blocks. */
+const ROOM = 1 << 12;
+
+/** A part of the memory that the page writes or reads. */
+class Room {
+  /** @param {Calls} calls @param {number} size */
+  constructor(calls, size) {
+    this.calls = calls;
+    this.size = this.at = 0;
+    // the same for the calls
+    this.length = this.place = 0n;
+    this.reach(size);
   }
 
-  /** @param {bigint} at @param {bigint} size */
-  bytes(at, size) {
-    return new Uint8Array(this.exports.memory.buffer, Number(at), Number(size));
-  }
-
-  /** Hands on as much of the input as there is room for.
-   * @param {bigint} at @param {bigint} size */
-  give(at, size) {
-    const part = this.input.subarray(0, Number(size));
-    this.bytes(at, size).set(part);
-    this.input = this.input.subarray(part.length);
-    return BigInt(part.length);
-  }
-
-  /** What the module imports, but for `read`. */
-  ends() {
-    return {
-      /** @param {number} _file @param {bigint} at @param {bigint} size */
-      write: (_file, at, size) => {
-        this.output.push(read.decode(this.bytes(at, size)));
-        return size;
-      },
-      /** @param {bigint} place @param {bigint} at @param {bigint} size */
-      rattle_arg: (place, at, size) => {
-        if (place >= BigInt(this.words.length)) return -1n;
-        const word = written.encode(this.words[Number(place)]);
-        if (word.length > Number(size)) return -2n;
-        this.bytes(at, size).set(word);
-        return BigInt(word.length);
-      },
-      /** @param {number} status */
-      _exit: (status) => { throw new HostEnded(`it ended with ${status}`); },
-    };
-  }
-
-  /** What was written since the last time. */
-  taken() {
-    const told = this.output.join('');
-    this.output = [];
-    return told;
+  /** Makes it as large as that at least. What it was before is not given back, so it doubles.
+   * @param {number} size */
+  reach(size) {
+    if (size <= this.size) return;
+    this.size = Math.max(size, 2 * this.size);
+    [this.length, this.place] = [BigInt(this.size), this.calls.page_room(BigInt(this.size))];
+    this.at = Number(this.place);
+    if (!this.at) throw new HostEnded('there is no memory');
   }
 }
 
-/** For every engine: the module's own code puts the calls that wait aside, and takes them up again (Binaryen's asyncify). */
-export class Rewound extends Start {
-  /** Where the frames are put aside: two numbers, the next free place and the end, and then the frames. */
-  frames = 0;
-
-  /** @param {WebAssembly.Module} module @param {string[]} words */
-  static async open(module, words) {
-    const start = new Rewound(words);
-    const env = { ...start.ends(), read: (/** @type {number} */ _file, /** @type {bigint} */ at, /** @type {bigint} */ size) => start.read(at, size) };
-    start.exports = (await WebAssembly.instantiate(module, { env })).exports;
-    start.frames = Number(start.exports.page_room(BigInt(FRAMES)));
-    new Int32Array(start.exports.memory.buffer, start.frames, 2).set([start.frames + 8, start.frames + FRAMES]);
-    start.go();
-    return start;
-  }
-
-  /** @param {bigint} at @param {bigint} size */
-  read(at, size) {
-    if (this.exports.asyncify_get_state() === 2) this.exports.asyncify_stop_rewind();
-    else if (!this.input.length) {
-      this.exports.asyncify_start_unwind(this.frames);
-      return 0n;
-    }
-    return this.give(at, size);
-  }
-
-  /** Runs until the input is used up. */
-  go() {
-    this.exports.page_main();
-    if (this.exports.asyncify_get_state() !== 1) throw new HostEnded('it returned');
-    this.exports.asyncify_stop_unwind();
-  }
-
-  /** What the program writes for some lines.
-   * @param {string} lines each with its line feed */
-  async write(lines) {
-    this.input = written.encode(lines);
-    this.exports.asyncify_start_rewind(this.frames);
-    this.go();
-    return this.taken();
-  }
-}
-
-/** For engines that put calls aside themselves (JSPI) and have memories of 64 bits: the module as the compiler made it. */
-export class Suspended extends Start {
-  /** Lets a read go on. */
-  resume = () => {};
-
-  /** Called where the program waits for input. */
-  waits = () => {};
-
-  /** Called where the program broke off.
-   * @type {(fault: Error) => void} */
-  breaks = () => {};
-
-  /** @param {WebAssembly.Module} module @param {string[]} words */
-  static async open(module, words) {
-    const start = new Suspended(words), { Suspending, promising } = /** @type {any} */ (WebAssembly);
-    const env = { ...start.ends(), read: new Suspending((/** @type {number} */ _file, /** @type {bigint} */ at, /** @type {bigint} */ size) => start.read(at, size)) };
-    start.exports = (await WebAssembly.instantiate(module, { env })).exports;
-    const rest = start.rest();
-    promising(start.exports.page_main)().then(() => start.breaks(new HostEnded('it returned')), (/** @type {Error} */ fault) => start.breaks(fault));
-    await rest;
-    return start;
-  }
-
-  /** Done when the program next waits for input.
-   * @returns {Promise<void>} */
-  rest() {
-    return new Promise((done, fail) => { [this.waits, this.breaks] = [done, fail]; });
-  }
-
-  /** @param {bigint} at @param {bigint} size */
-  async read(at, size) {
-    if (!this.input.length) {
-      await new Promise((/** @type {(value: void) => void} */ go) => {
-        this.resume = go;
-        this.waits();
-      });
-    }
-    return this.give(at, size);
-  }
-
-  /** @param {string} lines each with its line feed */
-  async write(lines) {
-    this.input = written.encode(lines);
-    const rest = this.rest();
-    this.resume();
-    await rest;
-    return this.taken();
-  }
-}
-
-/** A start of the program that answers lines. */
+/** A host of one member, with a memory of its own. Nothing here waits: each call answers before it returns. HostEnded where it broke off. */
 export class Host {
-  /** @param {Rewound | Suspended} start */
-  constructor(start) {
-    this.start = start;
+  /** @param {WebAssembly.Instance} instance */
+  constructor(instance) {
+    this.calls = /** @type {Calls} */ (/** @type {unknown} */ (instance.exports));
+    this.memory = /** @type {WebAssembly.Memory} */ (instance.exports.memory);
+    this.bytes = new Uint8Array(0);
+    this.isOver = false;
+    this.input = new Room(this.calls, ROOM);
+    this.output = new Room(this.calls, ROOM);
+    this.told = new Room(this.calls, PLACE);
+    this.sizePlace = this.told.place + BigInt(SIZE_AT);
+    const { at, place } = new Room(this.calls, PLACE);
+    this.place = place;
+    this.seen().fill(0, at, at + PLACE); // closed
+    this.must(this.calls.wb_open(place));
   }
 
-  /** The text that some lines print. HostEnded where the program broke off, and this host is to be thrown away.
-   * @param {string[]} lines @returns {Promise<string>} */
-  async text(lines) {
-    try {
-      return await this.start.write(lines.map((line) => `${line}\n`).join(''));
-    } catch (fault) {
-      throw fault instanceof HostEnded ? fault : new HostEnded(String(fault));
-    }
+  // ---- calls by bytes
+
+  /** A datagram came in. The answer refuses bytes that are none, or that no host takes.
+   * @param {number} now @param {Uint8Array} datagram */
+  came(now, datagram) {
+    const moment = BigInt(now), length = BigInt(datagram.length);
+    return this.answer(() => this.calls.wb_came(this.place, moment, this.given(datagram), length));
   }
 
-  /** The block of a line. The program writes it before it reads more.
+  /** Time goes on to a moment.
+   * @param {number} now */
+  tick(now) {
+    const moment = BigInt(now);
+    return this.answer(() => this.calls.wb_tick(this.place, moment));
+  }
+
+  /** The user draws what the drawop of these bytes does, on its page and at its time; it gets a name of its own.
+   * @param {number} now @param {Uint8Array} drawop */
+  add(now, drawop) {
+    const moment = BigInt(now), length = BigInt(drawop.length);
+    return this.answer(() => this.calls.wb_add(this.place, moment, this.given(drawop), length));
+  }
+
+  /** The events of a question (include/wb.h), or why it is none.
+   * @param {number} question @param {number} creator @param {number} number @param {number} [width] @param {number} [height]
+   * @returns {{ events: Event[], refused: string | null }} */
+  events(question, creator, number, width = 0, height = 0) {
+    return this.guarded(() => {
+      const status = this.must(this.calls.wb_ask(this.place, question, creator, number, width, height)), events = [];
+      for (let kind = this.next(); kind; kind = this.next()) events.push({ kind, bytes: this.copied() });
+      return { events, refused: status === DONE ? null : refusalOf(status) };
+    });
+  }
+
+  /** The moment at which to call `tick` next. */
+  due() {
+    return this.guarded(() => this.nextDue());
+  }
+
+  nextDue() {
+    const due = this.calls.wb_due(this.place);
+    return due < 0n ? null : Number(due); // WB_NEVER has all bits
+  }
+
+  /** Makes a call, and takes its events: what is to be sent, and then what became of a drawop.
+   * @param {() => number} call @returns {Answer} */
+  answer(call) {
+    return this.guarded(() => {
+      const status = this.must(call());
+      /** @type {Uint8Array[]} */
+      const send = [];
+      let kind = status === DONE ? this.next() : 0;
+      for (; kind === SENT; kind = this.next()) send.push(this.copied());
+      return { send, due: this.nextDue(), became: OUTCOMES[kind] ?? null, refused: status === DONE ? null : refusalOf(status) };
+    });
+  }
+
+  // ---- calls by lines
+
+  /** The block of a line.
    * @param {string} line */
-  async ask(line) {
-    const rows = (await this.text([line])).split('\n');
+  ask(line) {
+    const rows = this.text(line).split('\n');
     rows.pop();
     return new Block(rows, rows.pop() ?? 'refused nothing');
   }
 
-  /** The blocks of many lines, none of which paints a canvas, whose rows may look like anything.
-   * @param {string[]} lines */
-  async askAll(lines) {
-    const blocks = [];
-    let rows = [];
-    for (const row of (await this.text(lines)).split('\n').slice(0, -1)) {
-      if (/^(ok|refused) /.test(row)) {
-        blocks.push(new Block(rows, row));
-        rows = [];
-      } else rows.push(row);
+  /** The text that a line prints.
+   * @param {string} line */
+  text(line) {
+    return read.decode(this.printed(written.encode(line)));
+  }
+
+  /** The bytes that a line prints, until the next call.
+   * @param {Uint8Array} line without its line feed */
+  printed(line) {
+    return this.guarded(() => {
+      const { calls, place, output, sizePlace } = this;
+      if (this.must(calls.wb_line(place, this.given(line), BigInt(line.length), output.place, output.length, sizePlace)) === WAITS) {
+        output.reach(this.size());
+        this.must(calls.wb_block(place, output.place, output.length, sizePlace));
+      }
+      return this.seen().subarray(output.at, output.at + this.size());
+    });
+  }
+
+  // ---- the memory
+
+  /** The bytes of the memory: others after it has grown. */
+  seen() {
+    if (this.bytes.buffer !== this.memory.buffer) this.bytes = new Uint8Array(this.memory.buffer);
+    return this.bytes;
+  }
+
+  /** Puts bytes where a call reads them, and gives the place.
+   * @param {Uint8Array} bytes */
+  given(bytes) {
+    this.input.reach(bytes.length);
+    this.seen().set(bytes, this.input.at);
+    return this.input.place;
+  }
+
+  /** The number that a call wrote, as many bytes behind the place for that.
+   * @param {number} behind */
+  number(behind) {
+    const at = this.told.at + behind, bytes = this.seen();
+    return bytes[at] + (bytes[at + 1] << 8) + (bytes[at + 2] << 16) + bytes[at + 3] * 2 ** 24;
+  }
+
+  size() {
+    return this.number(SIZE_AT);
+  }
+
+  /** Fetches the next event, and gives its kind; 0 if none waits.
+   * @returns {number} */
+  next() {
+    const { calls, place, told, output, sizePlace } = this, status = this.must(calls.wb_event(place, told.place, output.place, output.length, sizePlace));
+    if (status === NOTHING) return 0;
+    if (status === DONE) return this.number(0);
+    output.reach(this.size());
+    return this.next();
+  }
+
+  /** The bytes of the event that was fetched. */
+  copied() {
+    return this.seen().slice(this.output.at, this.output.at + this.size());
+  }
+
+  // ---- its end
+
+  /** Begins anew, without a board. */
+  renew() {
+    this.guarded(() => {
+      this.calls.wb_close(this.place);
+      this.must(this.calls.wb_open(this.place));
+    });
+  }
+
+  /** The status of a call, where that did not end the host.
+   * @param {number} status */
+  must(status) {
+    if (status === MEMORY || status === CLOSED) throw new HostEnded(status === MEMORY ? 'there is no memory' : 'it is closed');
+    return status;
+  }
+
+  /** Does something that may end the host. Of one that broke off nothing is asked any more.
+   * @template T @param {() => T} act @returns {T} */
+  guarded(act) {
+    if (this.isOver) throw new HostEnded('it was ended');
+    try {
+      return act();
+    } catch (fault) {
+      this.isOver = true;
+      throw fault instanceof HostEnded ? fault : new HostEnded(String(fault));
     }
-    return blocks;
   }
 }
 
@@ -218,10 +286,10 @@ const WIDE = new Uint8Array([0, 97, 115, 109, 1, 0, 0, 0, 4, 4, 1, 112, 4, 0, 5,
 
 /** Whether the engine takes the module as the compiler made it. */
 export function isWide() {
-  return 'Suspending' in WebAssembly && WebAssembly.validate(WIDE);
+  return WebAssembly.validate(WIDE);
 }
 
-/** The program as a module that was compiled once, and started as often as wanted. */
+/** The library as a module that was compiled once, and started as often as wanted. */
 export class Program {
   /** @param {WebAssembly.Module} module @param {boolean} wide */
   constructor(module, wide) {
@@ -238,9 +306,8 @@ export class Program {
     return new Program(await WebAssembly.compile(await answer.arrayBuffer()), wide);
   }
 
-  /** A start with these words after `wb`.
-   * @param {string[]} words */
-  async start(...words) {
-    return new Host(await (this.wide ? Suspended : Rewound).open(this.module, ['wb', ...words]));
+  /** A host without a board. */
+  async start() {
+    return new Host(await WebAssembly.instantiate(this.module));
   }
 }

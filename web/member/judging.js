@@ -1,6 +1,6 @@
 /** What stands between a member and its judge (judge.js): it learns what the host holds, and what it decides is done. What people see
  * stands here and in telling.js. docs/DECISIONS.md says why a host does not judge so by itself. */
-import { NEW, lineOf } from './board.js';
+import { lineOf } from './board.js';
 import { readDatagram, withEcho } from './datagram.js';
 import { Judge } from './judge.js';
 import { Tails } from './tails.js';
@@ -89,9 +89,9 @@ export class Judging {
   // ---- what comes in
 
   /** Hands a datagram to the host, or drops it. Why it changes nothing, where it is so.
-   * @param {Datagram} datagram @param {string} digits @param {Origin} origin @param {string[]} sent gets what the host sends
+   * @param {Datagram} datagram @param {Uint8Array} bytes @param {Origin} origin @param {Uint8Array[]} sent gets what the host sends
    * @returns {Promise<string | null>} */
-  async heed(datagram, digits, origin, sent) {
+  async heed(datagram, bytes, origin, sent) {
     const { member: { board, wire }, judge } = this, now = board.now(), before = judge.strange;
     judge.tellTime(now, wall());
     const { why, warn } = judge.judge(origin, datagram, this.facts(datagram, now));
@@ -99,12 +99,12 @@ export class Judging {
     if (judge.strange !== before) this.keepAnew(before);
     if (why !== null) return WHY[why];
     if (judge.isKnown(origin, now)) this.tails.hear(datagram, now);
-    if (datagram.kind === 'draw') return this.take(drawopOf(datagram.words, digits), origin, now, sent);
+    if (datagram.kind === 'draw') return this.take(datagram, bytes, origin, now, sent);
     if (datagram.kind === 'session-message') wire.learn(origin.place, datagram.speaker);
-    const block = await board.came(digits);
-    sent.push(...block.sent());
-    if (block.fault === null && datagram.marks.length) this.heedReport(datagram);
-    return block.fault;
+    const { send, refused } = await board.came(bytes);
+    sent.push(...send);
+    if (refused === null && datagram.marks.length) this.heedReport(datagram);
+    return refused;
   }
 
   /** Warns people. That there is a twin telling.js tells as long as there is.
@@ -141,13 +141,13 @@ export class Judging {
   }
 
   /** Gives the host a drawop. Why it refused it.
-   * @param {import('./views.js').Drawop} drawop @param {Origin} origin @param {number} now @param {string[]} sent */
-  async take(drawop, origin, now, sent) {
-    const { board, telling } = this.member, block = await board.take(drawop, !this.judge.isKnown(origin, now)), batch = block.lines.at(-1);
-    sent.push(...block.sent());
-    if (batch === NEW) this.judge.took(origin, drawop.name, now);
-    telling.noticeBatch(drawop, batch);
-    return block.fault;
+   * @param {Datagram} drawop @param {Uint8Array} bytes @param {Origin} origin @param {number} now @param {Uint8Array[]} sent */
+  async take({ words, name, speaker: source, page, seq }, bytes, origin, now, sent) {
+    const { board, telling } = this.member, { send, became, refused } = await board.take(words, bytes, !this.judge.isKnown(origin, now));
+    sent.push(...send);
+    if (became === 'new') this.judge.took(origin, name, now);
+    telling.noticeOutcome({ source, page, seq }, became);
+    return refused;
   }
 
   // ---- what is sent

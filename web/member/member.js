@@ -2,7 +2,7 @@
  * beside its host stands in judging.js, what people do in people.js, and what it tells the board in telling.js. */
 import { Alarms } from './alarms.js';
 import { Board } from './board.js';
-import { hex, readDatagram, unhex } from './datagram.js';
+import { readDatagram, unhex } from './datagram.js';
 import { Drawn } from './drawn.js';
 import { HostEnded } from './host.js';
 import { Judging } from './judging.js';
@@ -133,14 +133,14 @@ export class Member {
 
   /** The host does what is due. */
   async tick() {
-    const block = await this.board.tell(`tick ${this.board.now()}`);
-    for (const digits of block.sent()) await this.send(digits);
+    const { send } = await this.board.tick();
+    for (const bytes of send) await this.send(bytes);
   }
 
   /** What we drew last goes out once more, which the record has already. Alone, there is nobody who could lack it. */
   async repeat() {
     const now = this.board.now(), taken = this.judging.tails.take(now);
-    if (this.judging.present(now).length) for (const digits of taken) await this.send(digits);
+    if (this.judging.present(now).length) for (const digits of taken) await this.send(unhex(digits));
   }
 
   /** The network was gone and is back: a host that starts from the record asks at once, without the waits that have grown. */
@@ -151,9 +151,9 @@ export class Member {
     });
   }
 
-  /** @param {string} digits */
-  async send(digits) {
-    const { bytes, datagram } = this.judging.leaving(unhex(digits));
+  /** @param {Uint8Array} made what the host made */
+  async send(made) {
+    const { bytes, datagram } = this.judging.leaving(made);
     this.wire.went(datagram);
     if (bytes.length <= MOST_BYTES) this.transport.send(bytes);
     else this.alarms.warn(`a datagram of over ${MOST_BYTES} bytes can't be sent`);
@@ -172,11 +172,11 @@ export class Member {
    * @param {import('./inbox.js').Arrival} arrival */
   async arrive(arrival) {
     const { bytes, origin, isLost } = arrival, datagram = readDatagram(bytes);
-    /** @type {string[]} */
+    /** @type {Uint8Array[]} */
     const sent = [];
     /** @type {string | null} */
     let refused = null;
-    if (!isLost) refused = datagram ? await this.judging.heed(datagram, hex(bytes), origin, sent) : 'no datagram';
+    if (!isLost) refused = datagram ? await this.judging.heed(datagram, bytes, origin, sent) : 'no datagram';
     this.wire.came(datagram, arrival, refused);
     for (const answer of sent) await this.send(answer);
   }

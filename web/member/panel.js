@@ -10,7 +10,7 @@ const TABS = 'This session is the tabs of this browser, and nothing leaves it. T
   + 'the session: any of MQTT that browsers reach, by an address that begins with wss://. Ask whoever keeps one for you.';
 const CARRIED = 'Send this line to those with whom you want to draw. Whoever has it can read and draw, under any number: members who share a '
   + 'key can\u2019t be told apart by it. The broker sees who is there and when something is sent, and not what.';
-const PROVED = 'Proved: that the program keeps one growing history, and that whoever holds the same drawings shows the same page. '
+const PROVED = 'Proved: that the library keeps one growing history, and that whoever holds the same drawings shows the same page. '
   + 'Here it runs as a module for browsers. Trusted beside the proof: the compiler\u2019s other half that made the module, Binaryen where '
   + 'the browser needs it, a small heap in C, the scripts of this page and the browser itself.';
 

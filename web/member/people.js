@@ -70,7 +70,7 @@ export class People {
     const { seq, lacks } = await board.nextNumber(page);
     if (lacks !== null) throw new Refused(lacks);
     const { block, drawop } = await this.hostDraws(page, seq, operation);
-    for (const digits of block.sent()) await member.send(digits);
+    for (const bytes of block.sent()) await member.send(bytes);
     if (block.fault !== null) throw new Refused(block.fault.replace(/^(word )(\d+)/, (_all, word, place) => word + (Number(place) - WORDS_BEFORE)));
     if (drawop === null) throw new Refused('full');
     judging.tails.drew(drawop, board.moment);

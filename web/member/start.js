@@ -6,7 +6,7 @@ import { readInvitation, writeInvitation } from './invitation.js';
 import { Panel } from './panel.js';
 import { WorkerMember } from './worker_member.js';
 
-const NOTICE = 'The board is kept by wb host, the proved program, compiled another way than it was proved for: for browsers. '
+const NOTICE = 'The board is kept by the proved library of a host, compiled another way than it was proved for: for browsers. '
   + 'This page, its network and its clock are not proved. Members are not authenticated: whoever has the invitation can draw, under any number.';
 
 /** The number that this tab had in a session, which lasts over a reload.

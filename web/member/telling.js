@@ -1,6 +1,6 @@
 /** What a member tells the board: what changed on the page, the pages, who is there, what is missing and what goes by. `live/telling.py`
  * once more. */
-import { CLASH, COLUMNS, FULL, NEW } from './board.js';
+import { COLUMNS } from './board.js';
 import { Sheet } from './drawn.js';
 import { Reported } from './reported.js';
 import { fieldsOf, orderOfPages } from './views.js';
@@ -155,12 +155,12 @@ export class Telling {
   }
 
   /** What the host has answered to a drawop.
-   * @param {Drawop} drawop @param {string | undefined} batch */
-  noticeBatch(drawop, batch) {
-    const { alarms } = this.member, { source } = drawop;
-    if (batch === NEW) this.reported.come(drawop);
-    else if (batch === CLASH) alarms.warn(`two members draw with number ${source}: what they drew differs from member to member`);
-    else if (batch === FULL) alarms.warn('the board is full: new drawops are not kept');
+   * @param {import('./views.js').Name} name @param {import('./host.js').Became | null} became */
+  noticeOutcome(name, became) {
+    const { alarms } = this.member, { source } = name;
+    if (became === 'new') this.reported.come(name);
+    else if (became === 'clash') alarms.warn(`two members draw with number ${source}: what they drew differs from member to member`);
+    else if (became === 'full') alarms.warn('the board is full: new drawops are not kept');
   }
 
   /** How many cells are left, where they are few.

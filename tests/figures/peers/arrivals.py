@@ -15,6 +15,7 @@ from typing import Any, NamedTuple
 
 from .. import wb as scripts
 from . import needs
+from .in_browser import measure, opened
 from .measuring import Table, least_and_median
 
 HERE = Path(__file__).resolve().parent
@@ -103,35 +104,43 @@ def by_program(word: str, lines: Callable[[Iterator[str]], Iterator[str]]) -> Ca
     return measure
 
 
-# ---- programs of Node
+# ---- Node and a browser
 
 
-def by_node(script: str, job: dict[str, Any], environment: dict[str, str], given: Sequence[str], order: Sequence[int]) -> Result:
+def result_of(told: dict[str, Any], name: str, count: int) -> Result:
+    """The result that taking.mjs told. A member that does not hold all is a fault."""
+    least, mean, greatest = told["size"]
+    size = (least, mean, greatest)
+    if "applied" in told:
+        return Result([], size, f"given up after {LIMIT} s, at {told['applied']:,}")
+    if told["held"] != count:
+        raise ValueError(f"{name} holds {told['held']} of {count} drawings")
+    return Result(told["milliseconds"], size)
+
+
+def by_node(job: dict[str, Any], given: Sequence[str], order: Sequence[int], **environment: str) -> Result:
     """One process for all rounds. Its start, and what it makes before the first drawing comes in, are not counted."""
     with tempfile.TemporaryDirectory(prefix="wb-peers-") as name:
         room = Path(name)
         (room / "drawings").write_text("\n".join(given))
         (room / "order").write_text(json.dumps(order))
         words = json.dumps({**job, "drawings": str(room / "drawings"), "order": str(room / "order"), "limit": LIMIT})
-        ran = subprocess.run([needs.node(), str(HERE / script), words], env={**os.environ, **environment}, stdout=subprocess.PIPE, text=True, check=True)
-    told = json.loads(ran.stdout)
-    if "applied" in told:
-        return Result([], told.get("size"), f"given up after {LIMIT} s, at {told['applied']:,}")
-    if told["held"] != len(given):
-        raise ValueError(f"{script} holds {told['held']} of {len(given)} drawings")
-    return Result(told["milliseconds"], told.get("size"))
+        ran = subprocess.run([needs.node(), str(HERE / "node.mjs"), words], env={**os.environ, **environment}, stdout=subprocess.PIPE, text=True, check=True)
+    return result_of(json.loads(ran.stdout), str(job), len(given))
 
 
 def by_yjs(kind: str, at_once: int) -> Callable[[Drawings, Sequence[int], int], Result]:
     def measure(made: Drawings, order: Sequence[int], rounds: int) -> Result:
-        return by_node("yjs.mjs", {"kind": kind, "atOnce": at_once, "rounds": rounds}, {"NODE_PATH": str(needs.yjs())}, made.words, order)
+        return by_node({"kind": kind, "atOnce": at_once, "rounds": rounds}, made.words, order, NODE_PATH=str(needs.yjs()))
 
     return measure
 
 
-def by_page(made: Drawings, order: Sequence[int], rounds: int) -> Result:
-    found = by_node("page.mjs", {"folder": str(needs.modules()), "pace": PACE, "rounds": rounds}, {}, made.digits, order)
-    return found._replace(size=size_of([len(digits) // 2 for digits in made.digits]))
+def by_module(way: str) -> Callable[[Drawings, Sequence[int], int], Result]:
+    def measure(made: Drawings, order: Sequence[int], rounds: int) -> Result:
+        return by_node({"folder": str(needs.modules()), "pace": PACE, "way": way, "rounds": rounds}, made.digits, order)
+
+    return measure
 
 
 WAYS = [
@@ -141,8 +150,19 @@ WAYS = [
     Way("`wb run`", by_program("run", run_lines)),
     Way("`wb host`, driven", by_program("host", host_lines)),
     Way("`wb host`, kept", by_program("host", kept_lines)),
-    Way("the page's module, kept", by_page),
+    Way("the page's module, kept, by lines", by_module("lines")),
+    Way("the page's module, kept, by bytes", by_module("bytes")),
 ]
+
+# the same in a browser: what is handed in, as words or as datagrams, and how
+IN_BROWSER: dict[str, tuple[str, dict[str, Any]]] = {
+    "Yjs, maps": ("words", {"kind": "map", "atOnce": 1}),
+    "Yjs, maps, 100 in a transaction": ("words", {"kind": "map", "atOnce": 100}),
+    "Yjs, arrays": ("words", {"kind": "array", "atOnce": 1}),
+    "the page's module, `wb-any.wasm`, kept, by lines": ("digits", {"pace": PACE, "way": "lines", "wide": False}),
+    "the page's module, `wb-any.wasm`, kept, by bytes": ("digits", {"pace": PACE, "way": "bytes", "wide": False}),
+    "the page's module, `wb.wasm`, kept, by bytes": ("digits", {"pace": PACE, "way": "bytes", "wide": True}),
+}
 
 
 def cells(results: Sequence[Result]) -> list[str]:
@@ -151,18 +171,34 @@ def cells(results: Sequence[Result]) -> list[str]:
     return [*times, f"{size[0]:.0f} to {size[2]:.0f}, {size[1]:.0f}" if size else "-"]
 
 
+def head(what: str, rounds: int, made: Drawings) -> Table:
+    title = f"{len(made.words):,} arrivals{what}, the least and (the median) of {rounds}"
+    return Table(title, "", *orders(len(made.words)), "bytes of a drawing: from, to, mean")
+
+
 def compare(rounds: int, count: int) -> None:
-    """Prints the table, and a line for what is not there."""
+    """Prints the tables, and a line for what is not there."""
     try:
         made = drawings()
     except needs.Missing as fault:
         return print(f"peers: no arrivals: {fault}")
     made = Drawings(made.words[:count], made.digits[:count])
-    asked = orders(len(made.words))
-    title = f"{len(made.words):,} arrivals: milliseconds of processor, the least and (the median) of {rounds}"
-    table = Table(title, "", *asked, "bytes of a drawing: from, to, mean")
+    table = head(": milliseconds of processor", rounds, made)
     for way in WAYS:
         try:
-            table.row(way.name, *cells([way.measure(made, order, rounds) for order in asked.values()]))
+            table.row(way.name, *cells([way.measure(made, order, rounds) for order in orders(len(made.words)).values()]))
         except needs.Missing as fault:
             print(f"peers: {way.name} is left out: {fault}")
+    try:
+        compare_in_browser(rounds, made)
+    except needs.Missing as fault:
+        print(f"peers: no arrivals in a browser: {fault}")
+
+
+def compare_in_browser(rounds: int, made: Drawings) -> None:
+    asked = orders(len(made.words))
+    with opened({"words": made.words, "digits": made.digits, **{f"order{place}": order for place, order in enumerate(asked.values())}}) as page:
+        table = head(f" in {page.browser.name()}: milliseconds by the clock", rounds, made)
+        for name, (given, job) in IN_BROWSER.items():
+            told = [measure(page, {**job, "given": given, "order": f"order{place}", "rounds": rounds, "limit": LIMIT}) for place in range(len(asked))]
+            table.row(name, *cells([result_of(each, name, len(made.words)) for each in told]))
