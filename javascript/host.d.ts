@@ -49,6 +49,7 @@ export class Host {
     };
     /** The moment at which to call `tick` next. */
     due(): number | null;
+    nextDue(): number | null;
     /** Makes a call, and takes its events: what is to be sent, and then what became of a drawop.
      * @param {() => number} call @returns {Answer} */
     answer(call: () => number): Answer;

@@ -10,6 +10,7 @@ from typing import Callable, Dict, Iterator, List, Optional, Sequence, Set, Tupl
 from wbhost import LINES, Block, Host, HostEnded
 
 from .clock import SECOND, Clock
+from .constants import FEW
 from .held import Held, held_of
 from .options import Options
 from .record import FIRST_LINE, MOST_MOMENT, Act, NoRoom, Record, RecordFault, comment, write_record
@@ -58,6 +59,7 @@ class Board:
         self.record = record
         self.words = words
         self.listener = listener
+        self.tuning = FEW  # the constants of the timers, also of the next host
         self.moment = 0
         self.ready_at = 0  # from then on it may draw
         self.kept_moment = 0
@@ -89,7 +91,7 @@ class Board:
         with its block. A record that is shown has a host that keeps nothing."""
         held = held_of(self.program, [*self.record.acts(), *map(Act, self.unkept)])
         self.me, self.cells = map(int, held.board.split()[1:3])
-        self.host = Host(self.program, "--tuning", self.options.tuning())
+        self.host = Host(self.program, "--tuning", self.tuning)
         try:
             self.begin(held, listening, lead)
             return [each for some in self.parts(held.datagrams, waiting, 0) for each in zip(some, self.ask(["came %d %s" % (self.moment, digits) for digits in some]))]
@@ -174,6 +176,11 @@ class Board:
         except HostEnded:
             self.start_again()
             raise
+
+    def tune(self, constants: str) -> None:
+        """Gives the timers other constants. What is set already keeps its moment."""
+        self.tuning = constants
+        self.tell("tuning " + constants.replace(",", " "))
 
     def came(self, many: Sequence[str]) -> List[Block]:
         """Gives the host datagrams that came in."""

@@ -2,11 +2,13 @@
 for, what is done then, and how people are told. docs/DECISIONS.md says why this is not the host's."""
 from __future__ import annotations
 
+from functools import partial
 from typing import TYPE_CHECKING, Any, Callable, Dict, List, Optional, Sequence, Set, Tuple
 
 from .board import NEW
 from .carriers.carrier import Origin
 from .clock import SECOND, wall
+from .constants import constants_for
 from .inbox import Arrival
 from .joining import Joining
 from .judge import Facts, Judge, Other, Verdict
@@ -51,6 +53,7 @@ class Judging:
         self.joining = Joining(member)
         self.tails = Tails(member.me)
         self.patience = GONE_AFTER
+        self.tuning = member.board.tuning  # the constants of the timers that the host should have
         options, board = member.options, member.board
         # under a key nobody is a stranger for long, and what came before is replayed from outside
         self.judge = Judge(member.me, board.cells, board.now(), wall(), options.login.name if options.login else None, 0 if options.key else None)
@@ -62,6 +65,7 @@ class Judging:
         board = self.member.board
         moments = [(board.due, self.member.tick), (self.tails.due(), self.member.repeat)]
         plan: List[Tuple[int, Callable[[], Any]]] = [(moment, act) for moment, act in moments if moment is not None]
+        plan += [(board.moment, partial(board.tune, self.tuning))] if self.tuning != board.tuning else []
         return plan if self.member.is_ready else [*plan, (board.ready_at, self.member.people.begin)]
 
     # ---- what comes in
@@ -124,6 +128,7 @@ class Judging:
         member, other = self.member, self.judge.others[report.speaker]
         if report.is_session:
             member.wire.learn(origin, report.speaker)
+            self.count()
         if other.answered is not None:
             member.telling.notice(report, MARKS)
         member.board.keep_mark(report, member.drawn.top(report.page, member.me))
@@ -186,6 +191,7 @@ class Judging:
         self.judge.reported(int(digits[SENT], 16))
         interval = min(MOST_INTERVAL, (len(self.present()) + 1) * (len(digits) // 2) * SECOND // member.options.rate)
         self.patience = max(GONE_AFTER, GONE_AFTER_INTERVALS * interval)
+        self.count()
         member.telling.notice_room(self.judge.is_full(member.drawn.total))
         echo = self.judge.own_echo(now)
         return digits if echo is None else with_echo(digits, member.me, *echo)
@@ -201,6 +207,10 @@ class Judging:
         """The members that were heard lately."""
         now = self.member.board.clock.now()
         return {number: other for number, other in self.judge.others.items() if now - other.at < self.patience}
+
+    def count(self) -> None:
+        """The constants of the timers go by how many are heard."""
+        self.tuning = constants_for(len(self.present()), self.tuning, self.member.options.many())
 
     def leave(self, origin: Origin) -> None:
         """The network says that who spoke from there is gone."""

@@ -7,6 +7,7 @@ from typing import Any, Callable, Dict, List, Optional, Tuple, Union
 
 from .carriers.mqtt import Broker, Login
 from .carriers.udp import PORTS
+from .constants import FAR, NEAR
 from .invitation import FIRST_NAME, InvitationFault, login_in, read_broker, read_invitation, session_in
 from .keys import KeyFault, read_key, secret_text
 
@@ -17,10 +18,6 @@ FIRST_PORT = 24200
 
 # bytes a second of the reports of all members
 RATE = 4_000
-
-# The constants of the timers, C1,C2,D1,D2. Where members are about equally far from one another nothing but chance parts them. Of 50 at one
-# distance at most 6 ask and 6 repair for a loss, in the mean: by the second up to 5 ms, by the third farther apart (docs/LABORATORY.md).
-TUNING, NEAR_TUNING, LEVEL_TUNING = "2,2,1,1", "2,8,1,6", "3,16,1,11"
 
 # browsers that may have a member each
 GUESTS = 64
@@ -68,11 +65,9 @@ class Options(argparse.Namespace):
         """How the network is made worse on purpose, where datagrams come in."""
         return {"lose": self.lose, "delay": self.delay, "twice": self.twice, "mix": self.mix}
 
-    def tuning(self) -> str:
-        """The constants of the timers: at a broker, on a LAN and for members of browsers all are at about one distance."""
-        if self.broker:
-            return LEVEL_TUNING
-        return NEAR_TUNING if self.lan or self.guests else TUNING
+    def many(self) -> str:
+        """The constants of the timers if many are heard."""
+        return FAR if self.broker else NEAR
 
 
 def address(text: str) -> Address:

@@ -100,6 +100,17 @@ class Share:
 
 
 @dataclass
+class ShareIn:
+    """Each member loses a share of everything that comes to it, by itself."""
+
+    chance: random.Random
+    share: float
+
+    def places(self, way: list[Step], sending: Sending) -> list[int]:
+        return [at for at, step in enumerate(way) if step.member and self.chance.random() < self.share]
+
+
+@dataclass
 class Cut:
     """A link that carries nothing between two moments: the members on its two sides are apart."""
 

@@ -14,7 +14,7 @@ from laboratory.adapting import Adapting, ByMembers, Constants, Policy
 from laboratory.clocks import Clock
 from laboratory.driving import OWN_DISTANCE, Tuner
 from laboratory.hosts import PATIENCE, BareMember, Fault, KeptMember, Member, allow_many, write_record
-from laboratory.losses import Both, Bursts, Cut, Loss, NoLoss, OnceEach, Same, Share
+from laboratory.losses import Both, Bursts, Cut, Loss, NoLoss, OnceEach, Same, Share, ShareIn
 from laboratory.measures import Book, Row, row_of, summary
 from laboratory.network import Network
 from laboratory.queues import Queues
@@ -105,6 +105,8 @@ def make_loss(words: str, tree: Tree, chance: random.Random) -> Loss:
             return OnceEach(chance, [link_of(tree, ends) for ends in links.split(",")])
         case ("share" | "share-all"), [share]:
             return Share(chance, float(share), kind == "share")
+        case "share-in", [share]:
+            return ShareIn(chance, float(share))
         case "burst", [between, share]:
             return Share(chance, float(share), False, moments(between))
         case "cut", [ends, between]:

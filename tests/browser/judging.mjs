@@ -2,6 +2,7 @@
 // judge decides the table of cases says (table.mjs).
 import { Alarms } from '../../web/member/alarms.js';
 import { Board } from '../../web/member/board.js';
+import { FEW, NEAR, SEVERAL } from '../../web/member/constants.js';
 import { hex, readDatagram, unhex } from '../../web/member/datagram.js';
 import { Drawn } from '../../web/member/drawn.js';
 import { Judging } from '../../web/member/judging.js';
@@ -36,8 +37,8 @@ function memberOf(more = {}) {
   const member = { me: 1, page: '7/1', isReady: true, drawn: new Drawn(), alarms: new Alarms(), wire: new Wire(), transport: { here, strangers }, came, kept, ticks, ...more };
   member.tick = async () => { ticks.push(member.board.moment); };
   member.begin = async () => { member.isReady = true; };
-  member.board = { moment: 0, readyAt: 0, due: null, cells, strange, now: () => member.board.moment, keep: (line) => kept.push(line),
-    options: { rate: 4_000 }, me: 1, ownMarks: new Map(), keepMark: Board.prototype.keepMark, hold: (drawop) => member.drawn.add(drawop), take: Board.prototype.take,
+  member.board = { moment: 0, readyAt: 0, due: null, tuning: FEW, cells, strange, now: () => member.board.moment, keep: (line) => kept.push(line),
+    options: { rate: 4_000, many: NEAR }, tell: async (line) => { came.push(line); }, tune: Board.prototype.tune, me: 1, ownMarks: new Map(), keepMark: Board.prototype.keepMark, hold: (drawop) => member.drawn.add(drawop), take: Board.prototype.take,
     came: async (bytes) => {
       const words = written.decode(bytes);
       came.push(words);
@@ -93,6 +94,23 @@ async function testRecord() {
   judge('what comes later is written as it is then', member.kept.slice(3), [`datagram ${hex(written.encode(drawing(7, 2)))}`, drawing(8, 1)]);
   const again = memberOf({ strange: ['8 7/1 1'], strangers: 1 });
   judge('what the record has of strangers takes of their share', await heed(again, drawing(9, 1), 'z'), 'over the share of strangers');
+}
+
+/** The member tells its host other constants in the next turn, when a fourth other is heard, and when all are gone. */
+async function testFollowed() {
+  const member = memberOf(), { judging, board } = member;
+  const turn = async () => { for (const [, act] of judging.plan()) await act(); };
+  for (let number = 2; number < 5; number += 1) await heed(member, `session-message ${number} 77 7/1`, `p${number}`);
+  await turn();
+  judge('three others change nothing', [board.tuning, member.came.filter((line) => line.startsWith('tuning')), judging.plan().length], [FEW, [], 0]);
+  await heed(member, 'session-message 5 77 7/1', 'p5');
+  judge('a fourth does', judging.plan().length, 1);
+  await turn();
+  judge('once', [board.tuning, member.came.filter((line) => line.startsWith('tuning')), judging.plan().length], [SEVERAL, ['tuning 2 4 1 3'], 0]);
+  board.moment = 70 * SECOND;
+  judging.leaving(unhex(REPORT));
+  await turn();
+  judge('when they are silent for a minute, with the next report', [board.tuning, member.came.at(-1)], [FEW, 'tuning 1 1 1 1']);
 }
 
 /** A member is gone after a minute, or, where many speak seldom, after three reports. */
@@ -259,5 +277,5 @@ async function testPages() {
 }
 
 export async function testJudging() {
-  for (const test of [testHost, testRecord, testPatience, testNotice, testOwnMarks, testHeld, testRefused, testTwins, testRoom, testTime, testLast, testPages]) await test();
+  for (const test of [testHost, testRecord, testFollowed, testPatience, testNotice, testOwnMarks, testHeld, testRefused, testTwins, testRoom, testTime, testLast, testPages]) await test();
 }

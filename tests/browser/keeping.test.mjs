@@ -13,7 +13,7 @@ import { drawopOf } from '../../web/member/views.js';
 import { judge } from '../judge.mjs';
 
 const file = process.env.WB_MODULE, PAGE = '1/1', SECOND = 1_000_000;
-const START = { cells: 100, rate: 4_000, tuning: '2,2,1,1', mayHaveDrawn: false };
+const START = { cells: 100, rate: 4_000, many: '2,8,1,6', mayHaveDrawn: false };
 
 // every kind of line that a record of an earlier page had, with a mark of our own number, and two drawings of ours
 const OLD = ['# constants 2,4,1,8 for 60 members at 2025-01-01 10:00:00', 'board 7 100 1 42', '# started at 2025-01-01 10:00:00', 'tick 5',

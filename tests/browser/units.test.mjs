@@ -12,6 +12,7 @@ import { Counters, Seal, Sealed, keyBytes, newKey, readEnvelope, writeEnvelope }
 import { drawopOf, fieldsOf, orderOfPages } from '../../web/member/views.js';
 import { Wire } from '../../web/member/wire.js';
 import { testBrokers, testPackets } from './brokers.mjs';
+import { testConstants } from './constants.mjs';
 import { testDatagrams, testEchoes } from './datagrams.mjs';
 import { fault, judge } from '../judge.mjs';
 import { testJudging, testReported } from './judging.mjs';
@@ -280,5 +281,5 @@ async function testRecords() {
 }
 
 const TESTS = [testBlocks, testWords, testDatagrams, testEchoes, testDrawn, testInvitations, testSeal, testEnvelope, testSealed, testCounters, testPackets, testBrokers, testInbox, testWire, testWireBounds,
-  testPresence, testPresences, testAlarms, testRecords, testReported, testTable, testJudging, testTails];
+  testPresence, testPresences, testAlarms, testRecords, testReported, testTable, testJudging, testTails, testConstants];
 for (const each of TESTS) test(each.name.slice('test'.length), each);

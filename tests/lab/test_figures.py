@@ -9,9 +9,10 @@ import tempfile
 from pathlib import Path
 
 from laboratory.figures.cases import Measured, Run, compared, of_one
+from laboratory.figures.few import record_of, seconds_of, settings_of
 from laboratory.figures.level import candidates, least_width, search_told
 from laboratory.figures.words import apart, holds, put, sure
-from laboratory.measures import Row
+from laboratory.measures import Loss, Row
 
 HERE = Path(__file__).resolve().parents[2] / "lab"
 
@@ -22,7 +23,7 @@ def test_figures_are_made_by_one_command() -> None:
         ended = subprocess.run([HERE / "figures", "--small", "--jobs", "2", "--to", place], capture_output=True, text=True)
         assert ended.returncode == 0 and "all in " in ended.stdout, ended
         tables = {file.stem: list(csv.DictReader(file.open())) for file in Path(place).glob("*.csv")}
-        assert {"star-requests", "star-repairs", "chain", "tree", "random", "adaptive", "implosions", "places", "kept-adapting", "moments", "reports", "level"} <= set(tables)
+        assert {"star-requests", "star-repairs", "chain", "tree", "random", "adaptive", "implosions", "places", "kept-adapting", "moments", "reports", "level", "few"} <= set(tables)
         assert all(float(row["requests"]) >= 1 and math.isfinite(float(row["requests_95"])) for row in tables["star-requests"]), tables["star-requests"]
         assert all("prefers-color-scheme" in file.read_text() for file in Path(place).glob("*.svg")), "plots"
 
@@ -37,6 +38,18 @@ def test_a_case_is_measured_run_by_run() -> None:
     assert found == {"requests": 3.5, "requests_95": 19.06}
     assert measured.quarters("r", "requests") == {"r_lower": 1, "r_median": 3, "r_upper": 5}
     assert compared("more", [2, 5], [1, 2]) == {"more": 2, "more_95": 12.71}
+
+
+def test_drawings_are_measured() -> None:
+    """One that all have at once takes the way, and one that was lost until the last has it. Of two runs of four drawings, of which three and three
+    are timed: the costs of each, and the times of all."""
+    assert seconds_of(None, 20_000) == 0.02 and seconds_of(Loss((1, 1), 1_000_000, {2, 3}, repaired={2: 1_500_000, 3: 2_250_000}), 20_000) == 1.25
+    totals = {"took": [0.02, 0.02, 1.5], "drawers": 1, "datagrams": {"request": 4, "drawop": 6, "session": 9}, "bytes": {"request": 120, "drawop": 280, "session": 900}}
+    record = record_of(Measured([Run([], totals), Run([], {**totals, "took": [0.02, 0.5, 3.0]})]))
+    assert (record["drawings"], record["median"], record["ninety_nine"], record["slowest"]) == (6, 0.02, 3.0, 3.0), record
+    assert (record["requests"], record["repairs"], record["bytes"]) == (1.0, 0.5, 100.0), record
+    far = settings_of(30, "broker", 0.1, "2,2,1,1")
+    assert (far.delay, far.drawers, far.draws, far.loss) == ((0.0375, 0.0375), 3, 11, "share-in:0.1"), far
 
 
 def test_hosts_give_the_same_tables() -> None:

@@ -9,6 +9,7 @@ from live.alarms import Alarms
 from live.board import Board
 from live.carriers.carrier import Origin
 from live.clock import SECOND
+from live.constants import FEW, NEAR
 from live.drawn import Drawn
 from live.joining import MANY
 from live.judging import Judging
@@ -30,7 +31,7 @@ LONG = "57420102%08x" % 992 + REPORT[16:56] + "0079" + 121 * "0000000100000001" 
 class Answering:
     """In the place of a board: its host answers all that comes in alike."""
 
-    me, cells, due = 1, 1_000, None
+    me, cells, due, tuning = 1, 1_000, None, FEW
     take, keep_mark = Board.take, Board.keep_mark
 
     def __init__(self, drawn: Drawn, strange: Set[Name]) -> None:
@@ -59,7 +60,7 @@ class One:
         self.drawn, self.alarms, self.wire = Drawn(), Alarms(), Wire(None)  # type: ignore[arg-type]
         self.board = Answering(self.drawn, strange)
         self.me, self.is_ready = 1, is_ready
-        self.options = SimpleNamespace(rate=4_000, login=None, key=None)
+        self.options = SimpleNamespace(rate=4_000, login=None, key=None, many=lambda: NEAR)
         self.telling = Telling(self, None)  # type: ignore[arg-type]
         self.judging = Judging(self)  # type: ignore[arg-type]
 

@@ -327,9 +327,9 @@ def test_options(facts: Facts) -> None:
     for words in ("--lose 2", "--me x", "--web a:b", "--listen 127.0.0.1:1", "--peer 127.0.0.1:1", "--lan 1", "--lan 239.1.2.3:44\u00b3", "--lan 239.1.2.3:" + 5_000 * "9", "--ports 0", "--rate 0", "draw", "--replay a --record b", "--replay a --forget", "--origin example.org", "--origin https://a/b"):
         facts("words that are wrong: " + words, status(words.split()), 2)
     networks = ("", "--listen 127.0.0.1:1 --peer 127.0.0.1:2", "--lan", "--web 127.0.0.1:0", "--broker mqtts://a/b", "--broker mqtts://a/b --web 127.0.0.1:0")
-    tunings = [read_options(words.split()).tuning() for words in networks]
-    facts("members at one distance have constants of their own", tunings, 2 * ["2,2,1,1"] + 2 * ["2,8,1,6"] + 2 * ["3,16,1,11"])
-    spreads = [[reach / int(constant) for constant in tuning.split(",")[1::2]] for tuning, reach in ((tunings[2], 5 / 10), (tunings[4], 1))]
+    constants = [read_options(words.split()).many() for words in networks]
+    facts("many members at a broker have constants of their own", constants, 4 * ["2,8,1,6"] + 2 * ["3,16,1,11"])
+    spreads = [[reach / int(constant) for constant in each.split(",")[1::2]] for each, reach in ((constants[2], 5 / 10), (constants[4], 1))]
     few = [all(1 + (50 - 1) * share <= 6 for share in shares) for shares in spreads]
     facts("of fifty at most six ask or repair in a round, where 5 ms count as 10 too", few, [True, True])
     facts("no page, so the terminal", (read_options(["--no-web"]).web, read_options(["--no-web"]).terminal), (None, True))

@@ -101,7 +101,7 @@ class Virtual:
         self.sent["draw" if data[3] == 1 else "request" if data[3] == 3 else "other"] += 1
         for other in self.world.members:
             if other is not self and self.world.chance.random() >= self.world.loss:
-                self.world.put(self.world.now + DELAY, other, self.origin, data)
+                self.world.put(self.world.now + self.world.delay, other, self.origin, data)
         return True
 
     # ---- what is asked of it
@@ -129,7 +129,7 @@ class World:
         self.chance = random.Random(seed)
         self.members: List[Virtual] = []
         self.queue: List[Due] = []
-        self.loss = LOSS
+        self.loss, self.delay = LOSS, DELAY
         self.serials = itertools.count()
         self.words = SharedWords(os.environ["WB_PROGRAM"])
 

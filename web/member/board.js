@@ -1,5 +1,6 @@
 /** A self-managing host, with its record: a drawing of ours is in the record before it is sent, and a host that broke off starts from
  * it. `live/board.py` once more. */
+import { FEW } from './constants.js';
 import { heldOf } from './held.js';
 import { HostEnded } from './host.js';
 import { hex, readDatagram } from './datagram.js';
@@ -12,8 +13,8 @@ import { drawopOf, pageWords } from './views.js';
 /** @typedef {import('./host.js').Host} Host */
 
 /** What a board is begun with: the room of a new one, in drawops; bytes a second that the reports of all members take; the constants of the
- * timers; and whether the number may have drawn what its record lacks.
- * @typedef {{ cells: number, rate: number, tuning: string, mayHaveDrawn: boolean }} Start */
+ * timers if many are heard; and whether the number may have drawn what its record lacks.
+ * @typedef {{ cells: number, rate: number, many: string, mayHaveDrawn: boolean }} Start */
 
 /** The part of a page that is painted: the greatest canvas that a host gives. */
 export const COLUMNS = 200, ROWS = 100;
@@ -51,6 +52,7 @@ export class Board {
     this.strange = [];
     /** @type {Host | null} */
     this.host = null;
+    this.tuning = FEW; // the constants of the timers, also of the next host
     this.me = 0;
     this.cells = 0;
     this.moment = 0; // of the last call
@@ -94,7 +96,7 @@ export class Board {
     const { board, moment, datagrams, strange } = await heldOf(this.program, actsOf(await this.record.lines()));
     const host = await this.program.start(), now = Math.max(this.moment, moment + Math.floor(lead * (MOMENTS - moment)));
     this.readyAt = now + Math.max(LEAST_LISTENING, listening);
-    for (const line of [board, `tick ${now}`, `keep ${this.options.rate} ${this.readyAt - now}`, `tuning ${this.options.tuning.replaceAll(',', ' ')}`]) host.ask(line);
+    for (const line of [board, `tick ${now}`, `keep ${this.options.rate} ${this.readyAt - now}`, `tuning ${this.tuning.replaceAll(',', ' ')}`]) host.ask(line);
     for (const bytes of datagrams) if (host.came(now, bytes).became === 'new') this.hold(drawopIn(bytes));
     [this.moment, this.due] = [now, host.due()];
     this.host = host;
@@ -146,6 +148,13 @@ export class Board {
    * @param {string} line @param {number | null} [now] its moment, where it has one */
   tell(line, now = null) {
     return this.call(now, (host) => host.ask(line), () => line);
+  }
+
+  /** Gives the timers other constants. What is set already keeps its moment.
+   * @param {string} constants */
+  async tune(constants) {
+    this.tuning = constants;
+    await this.tell(`tuning ${constants.replaceAll(',', ' ')}`);
   }
 
   /** Gives the host a datagram that came in.

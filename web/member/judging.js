@@ -1,6 +1,7 @@
 /** What stands between a member and its judge (judge.js): it learns what the host holds, and what it decides is done. What people see
  * stands here and in telling.js. docs/DECISIONS.md says why a host does not judge so by itself. */
 import { lineOf } from './board.js';
+import { constantsFor } from './constants.js';
 import { readDatagram, withEcho } from './datagram.js';
 import { Judge } from './judge.js';
 import { Tails } from './tails.js';
@@ -57,6 +58,7 @@ export class Judging {
     for (const name of board.strange) this.judge.remember(name);
     this.tails = new Tails(me);
     this.patience = GONE_AFTER;
+    this.tuning = board.tuning; // the constants of the timers that the host should have
   }
 
   get hasTwin() {
@@ -70,6 +72,7 @@ export class Judging {
     /** @type {[number, () => Promise<void>][]} */
     const plan = board.due === null ? [] : [[board.due, () => member.tick()]];
     if (tail !== null) plan.push([tail, () => member.repeat()]);
+    if (this.tuning !== board.tuning) plan.push([board.moment, () => board.tune(this.tuning)]);
     return member.isReady ? plan : [...plan, [board.readyAt, () => member.begin()]];
   }
 
@@ -86,6 +89,12 @@ export class Judging {
     return [...this.judge.others].filter(([, { at }]) => now - at < this.patience);
   }
 
+  /** The constants of the timers go by how many are heard. */
+  count() {
+    const { board } = this.member;
+    this.tuning = constantsFor(this.present(board.moment).length, this.tuning, board.options.many);
+  }
+
   // ---- what comes in
 
   /** Hands a datagram to the host, or drops it. Why it changes nothing, where it is so.
@@ -100,7 +109,10 @@ export class Judging {
     if (why !== null) return WHY[why];
     if (judge.isKnown(origin, now)) this.tails.hear(datagram, now);
     if (datagram.kind === 'draw') return this.take(datagram, bytes, origin, now, sent);
-    if (datagram.kind === 'session-message') wire.learn(origin.place, datagram.speaker);
+    if (datagram.kind === 'session-message') {
+      wire.learn(origin.place, datagram.speaker);
+      this.count();
+    }
     const { send, refused } = await board.came(bytes);
     sent.push(...send);
     if (refused === null && datagram.marks.length) this.heedReport(datagram);
@@ -160,6 +172,7 @@ export class Judging {
     if (datagram?.kind !== 'session-message') return { bytes, datagram };
     judge.reported(datagram.sent);
     this.patience = Math.max(GONE_AFTER, GONE_AFTER_REPORTS * this.interval(bytes.length));
+    this.count();
     telling.noticeRoom(this.isFull());
     const echo = judge.ownEcho(board.moment), made = echo ? withEcho(bytes, datagram, echo) : bytes;
     return { bytes: made, datagram: echo ? readDatagram(made) : datagram };

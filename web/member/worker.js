@@ -1,4 +1,5 @@
 /** The member of this page, in a worker: a hidden tab slows the clock of a page down, and not that of a worker. */
+import { FAR, NEAR } from './constants.js';
 import { Program } from './host.js';
 import { Inbox } from './inbox.js';
 import { Member } from './member.js';
@@ -16,9 +17,6 @@ const PATIENCE = 2_000;
 
 /** Room of a board, in drawops, and bytes a second that the reports of all members take, with the most of either. */
 const CELLS = 65_535, RATE = 4_000, MOST_RATE = 1_000_000;
-
-/** The constants of the timers, and those of members that are about equally far apart, as at a broker (docs/LABORATORY.md). */
-const TUNING = '2,2,1,1', LEVEL_TUNING = '3,16,1,11';
 
 const post = (/** @type {string} */ name, /** @type {any} */ news) => postMessage({ name, news });
 
@@ -90,7 +88,7 @@ const numberOf = (word, most) => Math.min(most, Math.max(0, Math.floor(Number(wo
 /** How a board starts; `mayHaveDrawn` where its number may have drawn what its record lacks.
  * @param {import('./invitation.js').Invitation} invitation @param {boolean} mayHaveDrawn @returns {import('./board.js').Start} */
 const startOf = ({ broker, more }, mayHaveDrawn) => ({
-  cells: numberOf(more.cells, CELLS) || CELLS, rate: numberOf(more.rate, MOST_RATE) || RATE, tuning: broker ? LEVEL_TUNING : TUNING, mayHaveDrawn,
+  cells: numberOf(more.cells, CELLS) || CELLS, rate: numberOf(more.rate, MOST_RATE) || RATE, many: broker ? FAR : NEAR, mayHaveDrawn,
 });
 
 /** @type {Member} */

@@ -4,10 +4,10 @@ from __future__ import annotations
 from laboratory.figures.cases import Case, Figure, Measured, Record, Scale, estimated, series
 from laboratory.figures.words import number, picture, sure
 from laboratory.plots import Panel, Plot
-from laboratory.runs import Settings
-from live.options import LEVEL_TUNING, TUNING
+from laboratory.runs import DEFAULT_TUNING, Settings
+from live.constants import FAR
 
-TUNINGS = (TUNING, LEVEL_TUNING)
+TUNINGS = (DEFAULT_TUNING, FAR)
 RATES = (2_000, 8_000, 32_000, 128_000)  # bytes a second
 QUEUE = 1_500
 

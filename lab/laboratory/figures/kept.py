@@ -7,8 +7,8 @@ from laboratory.figures.cases import Case, Figure, Measured, Record, Scale, esti
 from laboratory.figures.words import number, picture, sure
 from laboratory.figures.words import table as table_of
 from laboratory.plots import Panel, Plot, Point, Series
-from laboratory.runs import Settings
-from live.options import LEVEL_TUNING, NEAR_TUNING, TUNING
+from laboratory.runs import DEFAULT_TUNING, Settings
+from live.constants import FAR, NEAR
 
 KEPT = Settings(judge="keep")
 MILLION = 1_000_000
@@ -22,13 +22,13 @@ class Place:
     words: str
     settings: Settings
     is_star: bool = True
-    tuning: str = LEVEL_TUNING
+    tuning: str = FAR
 
 
 PLACES = {
-    "machine": Place("one machine", replace(KEPT, delay=(0.00005, 0.00005)), tuning=NEAR_TUNING),
-    "lan": Place("LAN", replace(KEPT, delay=(0.00015, 0.00015)), tuning=NEAR_TUNING),
-    "radio": Place("radio LAN", replace(KEPT, delay=(0.0025, 0.0025)), tuning=NEAR_TUNING),
+    "machine": Place("one machine", replace(KEPT, delay=(0.00005, 0.00005)), tuning=NEAR),
+    "lan": Place("LAN", replace(KEPT, delay=(0.00015, 0.00015)), tuning=NEAR),
+    "radio": Place("radio LAN", replace(KEPT, delay=(0.0025, 0.0025)), tuning=NEAR),
     "broker": Place("broker", replace(KEPT, delay=(0.02, 0.02))),
     "star": Place("5 to 50 ms", replace(KEPT, delay=(0.005, 0.05))),
     "domains": Place("domains", replace(KEPT, shape="domains", delay=(0.01, 0.05)), False),
@@ -39,7 +39,7 @@ PLACES = {
 def places(scale: Scale) -> Figure:
     """If all are at one distance or on a star, the source's link and one member's lose in turn; else a link by chance."""
     groups = (min(10, scale.group), scale.group)
-    keys = [(group, place, tuning) for group in groups for place, of in PLACES.items() for tuning in (TUNING, of.tuning)]
+    keys = [(group, place, tuning) for group in groups for place, of in PLACES.items() for tuning in (DEFAULT_TUNING, of.tuning)]
 
     def settings(group: int, place: str, tuning: str) -> Settings:
         of = PLACES[place]
@@ -67,7 +67,7 @@ def places(scale: Scale) -> Figure:
             for what, up in (("source_requests", "requests, if many lack it"), ("member_repairs", "repairs, if one lacks it"),
                              ("seconds", "seconds until the last has it")):
                 shown = []
-                for tuning in (TUNING, NEAR_TUNING, LEVEL_TUNING):
+                for tuning in (DEFAULT_TUNING, NEAR, FAR):
                     own = [{**r, "x": list(PLACES).index(r["network"])} for r in records
                            if (r["group"], r["tuning"]) == (group, tuning.replace(",", " "))]
                     shown.append(series(tuning, own, "x", what, line=False))
@@ -76,16 +76,16 @@ def places(scale: Scale) -> Figure:
 
     def section(records: list[Record]) -> str:
         of = {(r["network"], r["tuning"].replace(" ", ",")): r for r in records if r["group"] == groups[-1]}
-        first, live, near = of["broker", TUNING], of["broker", LEVEL_TUNING], of["radio", NEAR_TUNING]
+        first, live, near = of["broker", DEFAULT_TUNING], of["broker", FAR], of["radio", NEAR]
         columns = ("source_requests", "member_repairs")
         few = "at most" if all(r[column] <= 6 for r in (live, near) for column in columns) else "more than"
-        text = picture("places", "Self-managing members, by network", f"""With {TUNING}, {groups[-1]} members at one distance of 40 ms, as with a broker,
+        text = picture("places", "Self-managing members, by network", f"""With {DEFAULT_TUNING}, {groups[-1]} members at one distance of 40 ms, as with a broker,
             send {sure(first, columns[0])} requests for a loss on the source's link, and {sure(first, columns[1])} repairs for one on a member's
-            link. With the constants of wb-live they send {few} 6 of each on average, there ({LEVEL_TUNING}) and on a LAN by radio
-            ({NEAR_TUNING}); the last member has the drawop after {sure(live, 'seconds')} s instead of {sure(first, 'seconds')} there. On one
+            link. With the constants of wb-live they send {few} 6 of each on average, there ({FAR}) and on a LAN by radio
+            ({NEAR}); the last member has the drawop after {sure(live, 'seconds')} s instead of {sure(first, 'seconds')} there. On one
             computer and on a wired LAN, distances count as 10 ms at least, so a request is heard long before most timers are due. If members
-            are at many distances, {LEVEL_TUNING} saves less and waits longer: in domains {sure(of['domains', LEVEL_TUNING], 'seconds')} s instead
-            of {sure(of['domains', TUNING], 'seconds')}.""")
+            are at many distances, {FAR} saves less and waits longer: in domains {sure(of['domains', FAR], 'seconds')} s instead
+            of {sure(of['domains', DEFAULT_TUNING], 'seconds')}.""")
         heads = ("Members", "Network", "Constants", "Requests, if many lack it", "Repairs, if one does", "Seconds, of all losses")
         cells = table_of(heads, records, lambda r: [str(r["group"]), PLACES[r["network"]].words, r["tuning"].replace(" ", ","),
                                                     *(sure(r, column) for column in ("source_requests", "member_repairs", "seconds"))])

@@ -11,12 +11,11 @@ from laboratory.figures.words import WIDTH, picture, sure
 from laboratory.figures.words import table as table_of
 from laboratory.measures import Row
 from laboratory.plots import Panel, Plot
-from laboratory.runs import Settings
-from live.options import TUNING
+from laboratory.runs import DEFAULT_TUNING, Settings
 
 LIVE = "of wb-live"
 POLICIES = {
-    "base": f"fixed {TUNING}", "live": f"fixed, {LIVE}", "members": "by members", "adapting": f"adapting from {TUNING}",
+    "base": f"fixed {DEFAULT_TUNING}", "live": f"fixed, {LIVE}", "members": "by members", "adapting": f"adapting from {DEFAULT_TUNING}",
     "adapting live": "adapting, wb-live's",
 }
 ADAPT = {"members": "members", "adapting": "published", "adapting live": "published"}
@@ -57,7 +56,7 @@ class Group(NamedTuple):
         half = self.members // 2
         changes = {"leaving": half} if self.change == GO else {"late": half}
         return replace(of.settings, members=self.members, loss="link:0-1,0-2" if of.is_star else "each", start=15.0 + self.members / 3, draws=draws,
-                       every=1.5, tuning=of.tuning if policy in ("live", "adapting live") else TUNING, adapt=ADAPT.get(policy, "fixed"), **changes)
+                       every=1.5, tuning=of.tuning if policy in ("live", "adapting live") else DEFAULT_TUNING, adapt=ADAPT.get(policy, "fixed"), **changes)
 
 
 def groups_of(scale: Scale) -> list[Group]:

@@ -11,13 +11,13 @@ from laboratory.figures.words import paragraph, sure
 from laboratory.figures.words import table as table_of
 from laboratory.level import AT_MEMBERS, AT_SOURCE, IN_TURN, LEAST, run_level
 from laboratory.measures import Row
-from laboratory.runs import Settings
+from laboratory.runs import DEFAULT_TUNING, Settings
 from laboratory.theory import exact_senders
-from live.options import LEVEL_TUNING, NEAR_TUNING, TUNING
+from live.constants import FAR, NEAR
 
 FEW = 6  # the most requests of a loss, and the most repairs
 DISTANCES = (1, 5, 40)  # milliseconds
-SEARCHED = {5: NEAR_TUNING, 40: LEVEL_TUNING}
+SEARCHED = {5: NEAR, 40: FAR}
 LOSSES, TRIED = 40, 5
 ADAPTING = "adapting"
 HEADS = ("Distance", "Members", "Losses", "Constants", "Requests, if all lack it", "Repairs, if one does", "Until the last has it")
@@ -38,7 +38,7 @@ class Key(NamedTuple):
     def case(self, losses: int, runs: int) -> Case:
         """What adapts begins at the constants of a host, and has as many losses before those that count."""
         delay, adapts = self.distance / 2_000, self.policy == ADAPTING
-        adapt, tuning, draws = ("published", TUNING, 2 * losses) if adapts else ("fixed", self.policy, losses)
+        adapt, tuning, draws = ("published", DEFAULT_TUNING, 2 * losses) if adapts else ("fixed", self.policy, losses)
         settings = Settings(members=self.group, delay=(delay, delay), loss=self.loss, tuning=tuning, who="timers", adapt=adapt, draws=draws)
         return Case(settings, runs, run_level)
 
@@ -72,9 +72,9 @@ def points_told(groups: tuple[int, ...], most: int) -> list[Key]:
     """Those of the page's table. In the largest group nothing adapts; and in one group losses of one kind alone are tried too."""
     told = []
     for distance, group in product(DISTANCES, groups):
-        told += [Key(group, distance, policy) for policy in (TUNING, NEAR_TUNING, LEVEL_TUNING)] + [Key(group, distance, ADAPTING)] * (group <= most)
+        told += [Key(group, distance, policy) for policy in (DEFAULT_TUNING, NEAR, FAR)] + [Key(group, distance, ADAPTING)] * (group <= most)
         if (group, distance) == (most, DISTANCES[-1]):
-            told += [Key(group, distance, policy, loss) for loss in (AT_SOURCE, AT_MEMBERS) for policy in (LEVEL_TUNING, ADAPTING)]
+            told += [Key(group, distance, policy, loss) for loss in (AT_SOURCE, AT_MEMBERS) for policy in (FAR, ADAPTING)]
     return told
 
 
@@ -99,8 +99,8 @@ def level(scale: Scale) -> Figure:
             timers fire in one round: {'; '.join(parts)}. Constants count only if all of the interval is at most {FEW}. The least by the formula of one
             round at 40 ms, {least['tuning'].replace(' ', ',')}, takes {sure(least, 'requests')} requests and {sure(least, 'repairs')} repairs:
             timers that backed off are due again before a late repair comes.""")
-        more = paragraph(f"""Timers that adapt from {TUNING} on, after {losses} losses, and {LEVEL_TUNING}, for {most} members at 40 ms:""")
-        beside = [of[Key(most, 40, policy, loss)] for loss in (AT_SOURCE, AT_MEMBERS, IN_TURN) for policy in (ADAPTING, LEVEL_TUNING)]
+        more = paragraph(f"""Timers that adapt from {DEFAULT_TUNING} on, after {losses} losses, and {FAR}, for {most} members at 40 ms:""")
+        beside = [of[Key(most, 40, policy, loss)] for loss in (AT_SOURCE, AT_MEMBERS, IN_TURN) for policy in (ADAPTING, FAR)]
         more += "\n\n" + table_of(HEADS[2:], beside, lambda record: cells_of(record)[2:])
         return f"{text}\n\n{more}\n\n{table_of(HEADS, [of[key] for key in told], cells_of)}"
 

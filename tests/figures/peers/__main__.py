@@ -10,7 +10,7 @@ import platform
 import subprocess
 
 from . import arrivals, needs, sessions
-from .group import BEGIN, CONSTANTS, kinds
+from .group import CONSTANTS, LIVE, kinds
 from .measuring import load
 
 PARTS = ("arrivals", "sessions", "killed")
@@ -36,7 +36,7 @@ def words() -> argparse.ArgumentParser:
     made.add_argument("--killed", type=int, default=12, help="sessions whose last drawer is killed")
     made.add_argument("--members", type=int, nargs="+", default=(3, 10), help="sizes of groups")
     made.add_argument("--lost", type=float, nargs="+", default=(0.2, 0.3), help="shares that are lost")
-    made.add_argument("--constants", nargs="+", default=CONSTANTS, help=f"constants of wb's timers, or {BEGIN} for those with which a host begins")
+    made.add_argument("--constants", nargs="+", default=CONSTANTS, help=f"constants of wb's timers, or {LIVE} for those that a member of wb-live takes by itself")
     return made
 
 

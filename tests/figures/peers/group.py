@@ -180,13 +180,13 @@ def python(module: str) -> list[str]:
 
 
 def wb_kind(constants: str) -> Kind:
-    """Members of wb whose timers have these constants, as 2,8,1,6, or with BEGIN those with which a host begins."""
-    told = [] if constants == BEGIN else [constants]
+    """Members of wb whose timers have these constants, as 2,8,1,6, or with LIVE those that a member of wb-live takes by itself."""
+    told = [] if constants == LIVE else [constants]
 
     def words(number: int, place: int, members: int) -> list[str]:
         return [*python("wb_member"), str(number), str(place), *told]
 
-    return Kind(f"wb, {constants}" if told else "wb, as it begins", needs.program, words)
+    return Kind(f"wb, {constants}" if told else "wb, as in wb-live", needs.program, words)
 
 
 def norm_kind(parity: int) -> Kind:
@@ -196,8 +196,8 @@ def norm_kind(parity: int) -> Kind:
     return Kind(f"NORM, {parity} of parity beforehand" if parity else "NORM", needs.norm, words)
 
 
-BEGIN = "begin"
-CONSTANTS = (BEGIN, "2,2,1,1", "2,8,1,6")
+LIVE = "live"
+CONSTANTS = (LIVE, "2,2,1,1", "2,8,1,6")
 
 
 def kinds(constants: Sequence[str]) -> list[Kind]:
