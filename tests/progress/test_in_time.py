@@ -15,7 +15,7 @@ from .timely_kept import Loses, TimelyKept, holes_of, rows_of, whole_by
 
 TWO_PAGES = [(7, 1), (7, 2)]
 STRANGER = 9  # of this number there is no member
-GOES_ON = 300_000_000  # microseconds
+GOES_ON = timely_kept.LASTS
 
 
 def half(session: TimelyKept, _member: int, _datagram: str) -> bool:
@@ -52,6 +52,21 @@ def one_joins_at_last(session: TimelyKept) -> None:
     session.join(timely_kept.QUIET - timely_kept.LATE - 1)
 
 
+def one_hears_of_a_long_way(session: TimelyKept) -> None:
+    """A member hears an echo that somebody forged: the way to the second member takes twelve seconds."""
+    draws_and_is_forged(session)
+    member, time = 3, 2_000_000
+    sent = session.clock(member, time) - 24_000_000
+    forged = datagrams.session(2, 1, TWO_PAGES[0], [], [(member, sent, 0)])
+    session.put(time, member, "came", f" {forged}")
+
+
+def one_restarts(session: TimelyKept) -> None:
+    """The program of a member that only listens starts anew."""
+    draws_and_is_forged(session)
+    session.put(2_500_000, 3, "restart", "")
+
+
 def draws_at_last(session: TimelyKept) -> None:
     """The first member draws 141 times just before the quiet time, so that 70 holes stand where each second one is lost."""
     for number in range(141):
@@ -77,6 +92,8 @@ SESSIONS: list[Case] = [
     ("64 names of strangers", half, hears_of_strangers, ([], False, True)),
     ("one joins later", half, one_joins_later, ([], False, False)),
     ("one joins at last", half_and_all_to_the_last, one_joins_at_last, ([4], False, False)),
+    ("one hears of a long way", half, one_hears_of_a_long_way, ([], False, False)),
+    ("one restarts", half, one_restarts, ([], False, False)),
 ]
 
 

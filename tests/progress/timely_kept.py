@@ -2,7 +2,7 @@
 
 The terms are those of docs/PROGRESS.md, in microseconds. Until `QUIET` members draw and may join, what they send may be lost, and some datagrams are
 forged. From then on what one sends comes to each other within `DELIVERY`, now and then twice. Each host is called at the latest
-`LATE` behind its DUE, and is told the time and an offset of its own.
+`LATE` behind its DUE, by a clock of its own, which loses up to `DRIFT`. It is opened as wb-live opens it, by `board`, `tick` and `keep`.
 """
 
 from __future__ import annotations
@@ -16,13 +16,14 @@ from typing import Callable, NamedTuple
 from ..host.program import Dialog
 from .timely import DRAWOP, REQUEST, kind, name
 
-QUIET, DELIVERY, LATE = 3_000_000, 50_000, 10_000
+QUIET, DELIVERY, LATE, DRIFT = 3_000_000, 50_000, 10_000, 4_000
+LASTS = 300_000_000  # a clock that is slow loses DRIFT in this time
 REPORTING = 1  # nothing is asked of reports
-FAR = 100_000  # no delay is greater: the one of a source that told none; an echo tells half of what it took both ways
+FAR = 1_000_000  # a host uses no greater distance, whatever echoes it hears
 ASKING, ANSWERING = 4, 2  # delays that a request waits at first, and an answer, by the constants 2,2,1,1
 SETTLED = QUIET + DELIVERY
 REPAIRING = ANSWERING * FAR + 2 * DELIVERY + LATE + LATE
-KNOWN = SETTLED + DELIVERY + max(REPORTING, 3 * FAR)
+KNOWN = SETTLED + DELIVERY + max(REPORTING, 3 * FAR + DRIFT)
 IS_NEW = "batch 1 0 0 0"
 
 Loses = Callable[["TimelyKept", int, str], bool]
@@ -47,7 +48,7 @@ def request_span() -> int:
 def step(sizes: Sizes, most: int) -> int:
     """For so long nothing new comes at most, while something is lacked that another holds."""
     reports = sizes.slices + 2 * sizes.numbers * sizes.holes + 1
-    return 21_000_000 + request_span() + reports * report_span() + DELIVERY + most * request_span() + REPAIRING
+    return 21_000_000 + DRIFT + request_span() + reports * report_span() + DELIVERY + most * request_span() + REPAIRING
 
 
 def whole_by(sizes: Sizes, wait: int, most: int) -> int:
@@ -84,7 +85,7 @@ class TimelyKept:
         self.cells, self.seed = cells, seed
         self.hosts: dict[int, Dialog] = {}
         self.now = 0
-        self.offset: dict[int, int] = {}
+        self.lag: dict[int, int] = {}
         self.due: dict[int, int] = {}
         self.called_by: dict[int, int] = {}
         self.latest = 0
@@ -92,37 +93,57 @@ class TimelyKept:
         self.order = itertools.count()
         self.requests: list[str] = []
         self.held: dict[int, set[str]] = {member: set() for member in range(1, members + 1)}
+        self.records: dict[int, list[str]] = {member: [] for member in self.held}
         self.sizes = sizes_of(set())
         self.refused: list[str] = []
         for member in self.held:
-            self.open(member)
-            self.offset[member] = self.due[member]
+            self.open(member, self.random.randrange(2**40))
 
-    def open(self, member: int) -> None:
-        """Opens the host of a member, whose clock is ahead of the time of the session, and calls it at once."""
+    def slow(self, member: int, time: int) -> int:
+        """What the clock of a member has lost by a time: that of each second one is slow."""
+        return DRIFT * time // LASTS if member % 2 == 0 else 0
+
+    def clock(self, member: int, time: int) -> int:
+        return time - self.lag[member] - self.slow(member, time)
+
+    def open(self, member: int, moment: int) -> None:
+        """Opens the host of a member, whose clock stands at this moment, and calls it at once."""
         dialog = self.hosts[member] = Dialog()
         dialog.ask(f"board {member} {self.cells} 1 {self.seed * 100 + member}")
+        dialog.ask(f"tick {moment}")
+        self.lag[member] = self.now - self.slow(member, self.now) - moment
         self.due[member] = int(dialog.ask("keep 4000 0").split()[1])
         self.called_by[member] = self.now + self.random.randrange(LATE + 1)
 
     def join(self, time: int) -> None:
-        """The host of one more member is opened at this time."""
+        """The host of one more member is opened at this time, and its clock begins then."""
         member = len(self.held) + 1
-        self.held[member] = set()
-        self.offset[member] = self.random.randrange(2**40)
+        self.held[member], self.records[member] = set(), []
         self.put(time, member, "join", "")
+
+    def restart(self, member: int) -> None:
+        """The program of a member starts anew, and its record lacks the last three drawings. Its clock goes on, and begins a moment later."""
+        moment = self.clock(member, self.now) + 1
+        self.hosts[member].end()
+        self.open(member, moment)
+        record, self.records[member] = self.records[member][:-3], []
+        self.held[member] = set()
+        for datagram in record:
+            if IS_NEW in self.tell(member, "came", f" {datagram}"):
+                self.holds(member, datagram)
 
     def tell(self, member: int, word: str, rest: str = "") -> list[str]:
         """The block of a line that tells the moment, without the line that closes it; what it sends goes to the others. Whenever one is handed in behind
         the quiet time, no host is to be behind its DUE by more than `LATE`."""
         if self.now > QUIET:
-            self.latest = max(self.latest, *(self.now + self.offset[other] - due for other, due in self.due.items()))
-        *block, closing = self.hosts[member].ask(f"{word} {self.now + self.offset[member]}{rest}").splitlines()
+            self.latest = max(self.latest, *(self.now - self.lag[other] - due for other, due in self.due.items()))
+        *block, closing = self.hosts[member].ask(f"{word} {self.clock(member, self.now)}{rest}").splitlines()
         if not closing.startswith("ok "):
             self.refused.append(closing)
             return []
         self.due[member] = int(closing.removeprefix("ok "))
-        self.called_by[member] = max(self.now, self.due[member] - self.offset[member] + self.random.randrange(LATE + 1))
+        at = self.due[member] + self.lag[member]
+        self.called_by[member] = max(self.now, at + self.slow(member, at) + self.random.randrange(LATE - DRIFT + 1))
         for told in block:
             if told.startswith("send "):
                 self.send(member, told.removeprefix("send "))
@@ -134,7 +155,7 @@ class TimelyKept:
     def send(self, sender: int, datagram: str) -> None:
         """What is sent before the quiet time may be lost. Then it comes to each, at times twice."""
         if kind(datagram) == DRAWOP:
-            self.holds(sender, name(datagram))
+            self.holds(sender, datagram)
         if kind(datagram) == REQUEST:
             self.requests.append(name(datagram))
         for member in self.hosts:
@@ -142,9 +163,11 @@ class TimelyKept:
                 for _ in range(self.random.choices((1, 2), (4, 1))[0]):
                     self.put(self.now + self.random.randrange(DELIVERY + 1), member, "came", f" {datagram}")
 
-    def holds(self, member: int, told: str) -> None:
+    def holds(self, member: int, datagram: str) -> None:
+        told = name(datagram)
         if told not in self.held[member]:
             self.held[member].add(told)
+            self.records[member].append(datagram)
             self.sizes = Sizes(*(max(pair) for pair in zip(self.sizes, sizes_of(self.held[member]))))
 
     def draw(self, time: int, member: int, page: str, number: int) -> None:
@@ -159,10 +182,13 @@ class TimelyKept:
             return
         self.now, _, member, word, rest = heapq.heappop(self.events)
         if word == "join":
-            self.open(member)
+            self.open(member, 1)
+            return
+        if word == "restart":
+            self.restart(member)
             return
         if IS_NEW in self.tell(member, word, rest) and word == "came":
-            self.holds(member, name(rest.strip()))
+            self.holds(member, rest.strip())
 
     def run_until(self, time: int) -> None:
         """Every line and every tick up to a time."""

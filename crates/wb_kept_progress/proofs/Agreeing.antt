@@ -1,5 +1,5 @@
 -- Once a session is whole, the boards of its live hosts look alike.
-use Rattle.std.proofs.Common.{◌≡◌, ℕ, ◌<◌, ◌≤◌, List, ◌++◌, ap, refl, subst, sym}
+use Rattle.std.proofs.Common.{◌≡◌, ℕ, ◌+◌, ◌<◌, ◌≤◌, List, ◌++◌, ap, refl, subst, sym}
 use Rattle.std.specs.Prelude.{Contains}
 use Rattle.wb_names.specs.History.{IsHistory}
 use Rattle.wb_names.specs.Values.{DrawopValue}
@@ -29,7 +29,7 @@ look_alike one other once once' share = record {
   view page = view_alike one other page (on_page one other share page) once once'
 
 module _ (hosts : ℕ → Opening) (terms : Terms) (trace newer later : List TimedLine) (sizes : Sizes) (wait most : ℕ) (session : IsTimelySession hosts terms trace) (within : AreWithin hosts terms trace sizes)
-    (waits : WaitAtMost hosts terms trace wait) (lacks : LackAtMost hosts terms trace most) (short : request_span terms ≤ 60000000) (split : trace ≡ newer ++ later) (late : whole_by terms sizes wait most < called_at later) where
+    (waits : WaitAtMost hosts terms trace wait) (lacks : LackAtMost hosts terms trace most) (short : request_span terms + terms.drift ≤ 60000000) (split : trace ≡ newer ++ later) (late : whole_by terms sizes wait most < called_at later) where
   -- what one live host holds, the other holds under its name
   over : (i j : ℕ) → Contains terms.live i → Contains terms.live j → (d : DrawopValue) → Contains (there hosts later i).host.is.held d → (x : DrawopValue) × Contains (there hosts later j).host.is.held x × (x.name ≡ d.name)
   over i j live_i live_j d c =

@@ -1,10 +1,11 @@
 -- A request timer that was not backed off was set by a line that asks for its name, and is due soon behind that.
-use Rattle.std.proofs.Common.{◌≡◌, ℕ, ◌+◌, ◌*◌, ◌≤◌, Bool, true, false, cond, List, [], ◌∷◌, ◌++◌, ◌∙◌, Option, Some, ap, arith, eqb-true, inl, inr, refl, subst, sym, ⊎_elim}
+use Rattle.std.proofs.Common.{◌≡◌, ℕ, ◌+◌, ◌*◌, ◌≤◌, Bool, true, false, cond, List, [], ◌∷◌, ◌++◌, ◌∙◌, Option, Some, ap, arith, eqb-true, inl, inr, max, refl, subst, sym, ⊎_elim}
 use Rattle.std.specs.Prelude.{◌⊎◌, Contains, nat_eq}
 use Rattle.std.proofs.Math.Nat.{mul-le-mul_right}
 use Rattle.wb_names.specs.Values.{NameValue}
 use Rattle.wb_recovery.specs.Events.{constants_after, timers_of}
 use Rattle.wb_recovery.specs.declared.timers.AskTimer.{AskTimer}
+use Rattle.wb_recovery.specs.declared.timers.Timers.{Timers}
 use Rattle.wb_recovery.specs.declared.tuning.Tuning.{Tuning}
 use Rattle.wb_keeper.specs.Keeper.{KeeperCall, Miss, moment_at}
 use Rattle.wb_progress.specs.Bounds.{IsUnder}
@@ -13,19 +14,20 @@ use Rattle.wb_progress.specs.Repairs.{timers_at}
 use Rattle.wb_progress.specs.Turns.{Terms, longest}
 use Rattle.wb_progress.proofs.Calls.{fresh_ask}
 use Rattle.wb_member.specs.Judged.{delay}
-use Rattle.wb_member.specs.Opened.{Opened, events, present}
+use Rattle.wb_member.specs.Opened.{Opened, events, opened_with, present}
 use Rattle.wb_keeping.specs.Kept.{Line, Asks}
 use Rattle.wb_keeping.specs.Performing.{after_line}
-use Rattle.wb_kept_progress.specs.Timed.{AreInOrder, IsTimely, Performed, Start, host_after, timers_after}
+use Rattle.wb_kept_progress.specs.Timed.{AreInOrder, IsTimely, Performed, Start, goes_by_distances, host_after, timers_after}
+use Rattle.wb_kept_progress.proofs.Begun.{HasNoTimers, tick_no_timers, ticks_keep}
 use Rattle.wb_kept_progress.proofs.Lines.{line_of}
-use Rattle.wb_kept_progress.proofs.PerLine.{IsMade, line_did}
+use Rattle.wb_kept_progress.proofs.PerLine.{IsMade, goes_by, line_did}
 use Rattle.wb_kept_progress.proofs.Timely.{clock, order_of, split_part}
 use Rattle.wb_laws_sessions.proofs.Sending.{one_of}
 use Rattle.std.proofs.lemmas.Option.{none-some}
 
 -- ---- one line
 
-module _ (line : Line) (host : Opened) (far : ℕ) (bound : Tuning) (n : NameValue) (short : (source : ℕ) → delay host source ≤ far) (under : IsUnder bound (constants_after host.is.constants (events host))) where
+module _ (line : Line) (host : Opened) (far : ℕ) (bound : Tuning) (n : NameValue) (short : goes_by_distances line ≡ true → (source : ℕ) → delay host source ≤ far) (under : IsUnder bound (constants_after host.is.constants (events host))) where
   abbrev next : Opened
   next = after_line line host
 
@@ -55,10 +57,13 @@ module _ (line : Line) (host : Opened) (far : ℕ) (bound : Tuning) (n : NameVal
       (λ (c : (call : KeeperCall) × (next.is.calls ≡ call ∷ host.is.calls) × IsMade host line call). ⊎_elim
       (λ (stood : asks_at host.is.number host.is.constants host.is.calls ≡ Some ask). inl stood)
       (λ (m : Misses n c.0 × (ask.due ≤ moment_at (c.0 ∷ []) + wait)). inr (missed c.0 ask c.2 m.0 m.1))
-      (fresh_ask far host.is.number bound host.is.constants c.0 host.is.calls n short under ask (sym (same_asks ∙ ap (asks_at host.is.number host.is.constants) c.1) ∙ is) level))
+      (fresh_ask far host.is.number bound host.is.constants c.0 host.is.calls n (λ uses. short (goes_by host line c.0 c.2 uses)) under ask (sym (same_asks ∙ ap (asks_at host.is.number host.is.constants) c.1) ∙ is) level))
       (line_did line host)
 
 -- ---- a trace that keeps to times
+
+none_at_first : (hosts : ℕ → Start) (i : ℕ) (n : NameValue) → HasNoTimers n (host_after hosts [] i)
+none_at_first hosts i n = ticks_keep (HasNoTimers n) (tick_no_timers n) (hosts i).moments (opened_with (hosts i).constants (hosts i).number (hosts i).cells (hosts i).seed) refl
 
 module _ (hosts : ℕ → Start) (terms : Terms) (trace : List Performed) (timely : IsTimely hosts terms trace) where
   order_at : (front part : List Performed) → trace ≡ front ++ part → AreInOrder part
@@ -72,10 +77,10 @@ module _ (hosts : ℕ → Start) (terms : Terms) (trace : List Performed) (timel
     pub split : back ≡ newer ++ x ∷ older
     pub place : x.place ≡ i
     pub line : x.line ≡ Asks n
-    pub due : ask.due ≤ x.time + terms.offset i + terms.asking * terms.far
+    pub due : ask.due + terms.lag i ≤ max x.time terms.quiet + terms.asking * terms.far
 
   pub was_asked : (front back : List Performed) (i : ℕ) (n : NameValue) (ask : AskTimer) → trace ≡ front ++ back → Contains terms.live i → (timers_after hosts back i n).ask ≡ Some ask → ask.level ≡ 0 → WasAsked back i n ask
-  was_asked front [] i n ask split live stands level = absurd (none-some ask stands)
+  was_asked front [] i n ask split live stands level = absurd (none-some ask (sym (ap (λ (s : Timers). s.ask) (none_at_first hosts i n)) ∙ stands))
   was_asked front (e ∷ older) i n ask split live stands level = from (nat_eq e.place i) refl stands (λ stood. was_asked (front ++ e ∷ []) older i n ask part live stood level) where
     part : trace ≡ (front ++ e ∷ []) ++ older
     part = split_part hosts terms trace timely front older e split
@@ -86,16 +91,19 @@ module _ (hosts : ℕ → Start) (terms : Terms) (trace : List Performed) (timel
     later : WasAsked older i n ask → WasAsked (e ∷ older) i n ask
     later w = record { newer = e ∷ w.newer; x = w.x; older = w.older; split = ap (λ (t : List Performed). e ∷ t) w.split; place = w.place; line = w.line; due = w.due }
 
-    soon : ask.due ≤ present h + ((longest terms).c1 + (longest terms).c2) * terms.far → ask.due ≤ e.time + terms.offset i + terms.asking * terms.far
+    soon : ask.due ≤ present h + ((longest terms).c1 + (longest terms).c2) * terms.far → ask.due + terms.lag i ≤ max e.time terms.quiet + terms.asking * terms.far
     soon due =
         let o = (order_at front (e ∷ older) split).0 in
-        let m = clock hosts terms trace timely (front ++ e ∷ []) older i part in
+        let m = clock hosts terms trace timely (front ++ e ∷ []) older i part live in
         let wait : ((longest terms).c1 + (longest terms).c2) * terms.far ≤ terms.asking * terms.far = mul-le-mul_right terms.far (omega arith) in
         omega (arith, due, o, m, wait)
+
+    short : e.place ≡ i → goes_by_distances e.line ≡ true → (source : ℕ) → delay h source ≤ terms.far
+    short here goes source = subst (λ (k : ℕ). delay (host_after hosts older k) source ≤ terms.far) here (timely.delays front older e source split (subst (Contains terms.live) (sym here) live) goes)
 
     from : (b : Bool) → nat_eq e.place i ≡ b → (let g = cond b (after_line e.line h) h in (timers_of g.is.constants (events g) n).ask ≡ Some ask) → ((timers_after hosts older i n).ask ≡ Some ask → WasAsked older i n ask) → WasAsked (e ∷ older) i n ask
     from false other is rest = later (rest is)
     from true same is rest = ⊎_elim
         (λ (stood : (timers_of h.is.constants (events h) n).ask ≡ Some ask). later (rest stood))
         (λ (asks : (e.line ≡ Asks n) × (ask.due ≤ present h + ((longest terms).c1 + (longest terms).c2) * terms.far)). record { newer = []; x = e; older = older; split = refl; place = eqb-true e.place i same; line = asks.0; due = soon asks.1 })
-        (line_asked e.line h terms.far (longest terms) n (λ source. timely.delays (front ++ e ∷ []) older i source part live) (timely.tuned (front ++ e ∷ []) older i part live) ask is level)
+        (line_asked e.line h terms.far (longest terms) n (short (eqb-true e.place i same)) (timely.tuned (front ++ e ∷ []) older i part live) ask is level)

@@ -1,5 +1,5 @@
 -- A session of self-managing hosts becomes whole: while something is lacked that some hold, something new comes in each step.
-use Rattle.std.proofs.Common.{◌≡◌, ℕ, ◌+◌, ◌*◌, ◌<◌, ◌≤◌, Bool, true, false, cond, List, [], ◌∷◌, ◌++◌, ◌∙◌, ap, append-nil, append_assoc, arith, inl, inr, refl, subst, suc, sym, zero, ⊎_elim, true≢false, get_or}
+use Rattle.std.proofs.Common.{◌≡◌, ℕ, ◌+◌, ◌*◌, ◌<◌, ◌≤◌, Bool, true, false, cond, List, [], ◌∷◌, ◌++◌, ◌∙◌, ap, append-nil, append_assoc, arith, inl, inr, max, refl, subst, suc, sym, zero, ⊎_elim, true≢false, get_or}
 use Rattle.std.specs.Prelude.{◌⊎◌, Contains, length, nat_eq}
 use Rattle.std.proofs.lemmas.List.{append_cancel_left, get_or_append_left}
 use Rattle.std.proofs.lemmas.Bool.Decides.{leb_tells}
@@ -197,7 +197,7 @@ module _ (hosts : ℕ → Opening) (terms : Terms) (trace : List TimedLine) (siz
 
   -- ---- calls come one after the other soon enough
 
-  gap : (newer older : List TimedLine) (e : TimedLine) (i : ℕ) → trace ≡ newer ++ e ∷ older → Contains terms.live i → terms.quiet < e.time → e.time ≤ called_at older + report_span terms
+  gap : (newer older : List TimedLine) (e : TimedLine) (i : ℕ) → trace ≡ newer ++ e ∷ older → Contains terms.live i → terms.quiet < e.time → e.time ≤ max (called_at older) terms.quiet + report_span terms
   gap newer older e i split live after =
       let soon = all.session.soon newer older e i split live after in
       let due_by = due_soon hosts terms trace (newer ++ e ∷ []) older i all.session (split ∙ sym (append_assoc newer (e ∷ []) older)) live in
@@ -215,7 +215,7 @@ module _ (hosts : ℕ → Opening) (terms : Terms) (trace : List TimedLine) (siz
   reached : (newer later : List TimedLine) (s i : ℕ) → trace ≡ newer ++ later → Contains terms.live i → terms.quiet ≤ s → s < called_at later → IsReached later s
   reached newer [] s i split live after lt = absurd (omega (arith, lt))
   reached newer (e ∷ older) s i split live after lt = ⊎_elim
-      (λ no. let g = gap newer older e i split live (omega (arith, after, lt)) in let le = no.1 in record { window = []; base = e ∷ older; split = refl; from = lt; soon = omega (arith, g, le) })
+      (λ no. let g = gap newer older e i split live (omega (arith, after, lt)) in let le = no.1 in record { window = []; base = e ∷ older; split = refl; from = lt; soon = omega (arith, g, le, after) })
       (λ yes.
       let r = reached (newer ++ e ∷ []) older s i (split ∙ sym (append_assoc newer (e ∷ []) older)) live after yes.1 in
       record { window = e ∷ r.window; base = r.base; split = ap (λ (t : List TimedLine). e ∷ t) r.split; from = r.from; soon = r.soon })
@@ -228,12 +228,12 @@ module _ (hosts : ℕ → Opening) (terms : Terms) (trace : List TimedLine) (siz
 
   -- a still window ends by then
   abbrev still_by : ℕ → ℕ
-  still_by from = from + 21000000 + request_span terms + (sizes.slices + 2 * sizes.numbers * sizes.holes) * report_span terms + terms.delivery + most * request_span terms + repairing terms
+  still_by from = from + 21000000 + terms.drift + request_span terms + (sizes.slices + 2 * sizes.numbers * sizes.holes) * report_span terms + terms.delivery + most * request_span terms + repairing terms
 
   module _ (newest window base : List TimedLine) (still : IsStill hosts terms trace newest window base) (late : start ≤ called_at base) (i : ℕ) (live : Contains terms.live i) (n : NameValue) (held : IsHeldBySome hosts terms trace n)
       (lacks : holds (there hosts base i).host n ≡ false) where
     abbrev from : ℕ
-    from = called_at base + 21000000 + request_span terms
+    from = called_at base + 21000000 + terms.drift + request_span terms
 
     abbrev by : ℕ
     by = from + (sizes.slices + 2 * sizes.numbers * sizes.holes) * report_span terms + terms.delivery
@@ -305,7 +305,7 @@ module _ (hosts : ℕ → Opening) (terms : Terms) (trace : List TimedLine) (siz
     live,
     held,
     subst (λ (t : List TimedLine). holds (host_after (λ j. start_of (hosts j)) (until (settled_by terms) (performed hosts t)) i) n ≡ false) (sym split)
-        (lacked_until hosts all.session.opened newer part (settled_by terms) i n (subst AreCalledInOrder split all.session.order) (omega (arith, late)) lacks),
+        (lacked_until hosts newer part (settled_by terms) i n (subst AreCalledInOrder split all.session.order) (omega (arith, late)) lacks),
   )
 
   filled : (k : ℕ) (newer part : List TimedLine) (i : ℕ) (n : NameValue) → trace ≡ newer ++ part → at_step k < called_at part → Contains terms.live i → IsHeldBySome hosts terms trace n → holds (there hosts part i).host n ≡ false → AreFilled part i n k

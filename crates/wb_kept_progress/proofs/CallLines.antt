@@ -103,18 +103,17 @@ module _ (hosts : ℕ → Opening) where
 
   -- ---- hosts in the middle of a call
 
-  module _ (opened : (i : ℕ) → (hosts i).moments ≡ []) where
-    pub host_amid : (time place : ℕ) (lines : List Line) (calls : List TimedLine) → host_after (λ j. start_of (hosts j)) (performed_then time place lines (performed hosts calls)) place ≡ after_lines lines (there hosts calls place).host
-    host_amid time place lines calls =
-        after_all (λ j. start_of (hosts j)) time place lines (performed hosts calls) place true (is_itself place) ∙ ap (after_lines lines) (host_is hosts opened calls place)
+  pub host_amid : (time place : ℕ) (lines : List Line) (calls : List TimedLine) → host_after (λ j. start_of (hosts j)) (performed_then time place lines (performed hosts calls)) place ≡ after_lines lines (there hosts calls place).host
+  host_amid time place lines calls =
+      after_all (λ j. start_of (hosts j)) time place lines (performed hosts calls) place true (is_itself place) ∙ ap (after_lines lines) (host_is hosts calls place)
 
-    pub host_apart : (time place : ℕ) (lines : List Line) (calls : List TimedLine) (i : ℕ) → nat_eq place i ≡ false → host_after (λ j. start_of (hosts j)) (performed_then time place lines (performed hosts calls)) i ≡ (there hosts calls i).host
-    host_apart time place lines calls i other =
-        after_all (λ j. start_of (hosts j)) time place lines (performed hosts calls) i false other ∙ host_is hosts opened calls i
+  pub host_apart : (time place : ℕ) (lines : List Line) (calls : List TimedLine) (i : ℕ) → nat_eq place i ≡ false → host_after (λ j. start_of (hosts j)) (performed_then time place lines (performed hosts calls)) i ≡ (there hosts calls i).host
+  host_apart time place lines calls i other =
+      after_all (λ j. start_of (hosts j)) time place lines (performed hosts calls) i false other ∙ host_is hosts calls i
 
-    -- the host before a line
-    pub host_before : (trace : List TimedLine) (x : Performed) (back : List Performed) (c : IsOfCall hosts trace x back) → host_after (λ j. start_of (hosts j)) back x.place ≡ after_lines c.before (there hosts c.older c.e.at.place).host
-    host_before trace x back c =
-        ap (λ (i : ℕ). host_after (λ j. start_of (hosts j)) back i) c.place
-        ∙ ap (λ (t : List Performed). host_after (λ j. start_of (hosts j)) t c.e.at.place) c.back_is
-        ∙ host_amid c.e.time c.e.at.place c.before c.older
+  -- the host before a line
+  pub host_before : (trace : List TimedLine) (x : Performed) (back : List Performed) (c : IsOfCall hosts trace x back) → host_after (λ j. start_of (hosts j)) back x.place ≡ after_lines c.before (there hosts c.older c.e.at.place).host
+  host_before trace x back c =
+      ap (λ (i : ℕ). host_after (λ j. start_of (hosts j)) back i) c.place
+      ∙ ap (λ (t : List Performed). host_after (λ j. start_of (hosts j)) t c.e.at.place) c.back_is
+      ∙ host_amid c.e.time c.e.at.place c.before c.older

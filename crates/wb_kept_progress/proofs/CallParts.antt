@@ -72,13 +72,13 @@ module _ (hosts : ℕ → Opening) where
   lines_end part front back order is = subst (λ (t : ℕ). time_of back ≤ t) (ap time_of (sym is) ∙ time_is hosts part) (before_end front back (subst AreInOrder is (lines_order part order)))
 
   -- a host is that of the lines that were performed
-  pub host_is : ((i : ℕ) → (hosts i).moments ≡ []) → (part : List TimedLine) (i : ℕ) → host_after (λ j. start_of (hosts j)) (performed hosts part) i ≡ (there hosts part i).host
-  host_is opened part i = (kept_is_performed hosts part opened).same i
+  pub host_is : (part : List TimedLine) (i : ℕ) → host_after (λ j. start_of (hosts j)) (performed hosts part) i ≡ (there hosts part i).host
+  host_is part i = (kept_is_performed hosts part).same i
 
   -- what is lacked behind a time was lacked at that time
-  pub lacked_until : ((i : ℕ) → (hosts i).moments ≡ []) → (newer part : List TimedLine) (s i : ℕ) (n : NameValue) → AreCalledInOrder (newer ++ part) → s < called_at part → holds (there hosts part i).host n ≡ false
+  pub lacked_until : (newer part : List TimedLine) (s i : ℕ) (n : NameValue) → AreCalledInOrder (newer ++ part) → s < called_at part → holds (there hosts part i).host n ≡ false
       → holds (host_after (λ j. start_of (hosts j)) (until s (performed hosts (newer ++ part))) i) n ≡ false
-  lacked_until opened newer part s i n order late lacks = by (holds (host_after (λ j. start_of (hosts j)) first i) n) refl where
+  lacked_until newer part s i n order late lacks = by (holds (host_after (λ j. start_of (hosts j)) first i) n) refl where
     first : List Performed
     first = until s (performed hosts (newer ++ part))
 
@@ -98,4 +98,4 @@ module _ (hosts : ℕ → Opening) where
     by false e = refl
     by true e =
         let later = held_later (λ j. start_of (hosts j)) w.0 first i n e in
-        absurd (true≢false (sym later ∙ ap (λ (t : List Performed). holds (host_after (λ j. start_of (hosts j)) t i) n) (sym split) ∙ ap (λ (h : Opened). holds h n) (host_is opened part i) ∙ lacks))
+        absurd (true≢false (sym later ∙ ap (λ (t : List Performed). holds (host_after (λ j. start_of (hosts j)) t i) n) (sym split) ∙ ap (λ (h : Opened). holds h n) (host_is part i) ∙ lacks))

@@ -1,5 +1,5 @@
 -- Of a session that keeps to times, the lines that are performed do.
-use Rattle.std.proofs.Common.{◌≡◌, ◌⊎◌, ℕ, ◌+◌, ◌<◌, ◌≤◌, Bool, true, false, cond, List, [], ◌∷◌, ◌++◌, ◌∙◌, ap, append_assoc, eqb-true, inr, length, refl, subst, sym, ⊎_elim}
+use Rattle.std.proofs.Common.{◌≡◌, ◌⊎◌, ℕ, ◌+◌, ◌<◌, ◌≤◌, Bool, true, false, cond, List, [], ◌∷◌, ◌++◌, ◌∙◌, ap, append_assoc, arith, eqb-true, inr, length, refl, subst, sym, ⊎_elim}
 use Rattle.std.specs.Prelude.{◌≢◌, Contains, nat_eq, nat_le}
 use Rattle.std.proofs.lemmas.List.{append_cancel_right}
 use Rattle.wb_names.specs.Values.{DrawopValue, NameValue}
@@ -8,26 +8,30 @@ use Rattle.wb_codec.specs.declared.datagram.Datagram.TheVariants.{Draw, Request}
 use Rattle.wb_recovery.specs.Events.{timers_of}
 use Rattle.wb_recovery.specs.declared.tuning.Tuning.{Tuning}
 use Rattle.wb_progress.specs.Bounds.{IsUnder}
-use Rattle.wb_progress.specs.Turns.{Terms, longest, settled_by}
+use Rattle.wb_progress.specs.Turns.{IsNowAt, Terms, longest, settled_by}
 use Rattle.wb_member.specs.Judged.{holds, is_full}
-use Rattle.wb_member.specs.Opened.{Opened, events}
+use Rattle.wb_member.specs.Opened.{Opened, events, opened_with}
 use Rattle.wb_keeping.specs.Kept.{Line, Arrives, Hears, Says, Ticks, Tunes}
 use Rattle.wb_keeping.specs.Laws.{KeptLine, doing_of}
 use Rattle.wb_keeping.specs.Performing.{Keeping, after_line, after_lines, sees, sent_by_line}
 use Rattle.wb_kept_progress.specs.Sessions.{Opening}
-use Rattle.wb_kept_progress.specs.Timed.{AreNotOverdue, ComesTo, IsQuietLine, Performed, Start, TellTimes, TimedLine, WasSent, host_after, performed, performed_then, lines_of as lines_of_calls, sends, start_of, time_of, timers_after}
+use Rattle.wb_kept_progress.specs.Timed.{AreNotOverdue, ComesTo, GoByShort, IsQuietLine, SaysNow, Performed, Start, TellTimes, TimedLine, WasSent, greatest_distance, host_after, performed, performed_then, lines_of as lines_of_calls, sends, start_of, time_of, timers_after}
 use Rattle.wb_kept_progress.specs.Whole.{IsHandedIn, IsTimelySession, WasSentBy, sends_then, there}
 use Rattle.wb_kept_progress.proofs.CallLines.{Ends, call_ends, ends_both, host_amid, host_apart, host_before, line_stands, lines_have_calls, sent_in}
 use Rattle.wb_kept_progress.proofs.CallParts.{host_is, lines_order}
 use Rattle.wb_kept_progress.proofs.FirstLines.{AreLinesOf, IsLineOf, drawop_begins, lines_of_call, one_of_lines, request_begins}
 use Rattle.wb_kept_progress.proofs.KeptInTime.{at_place, front_of, sent_by_one, then_front, time_is}
 use Rattle.wb_kept_progress.proofs.Lines.{lines_of}
+use Rattle.wb_kept_progress.proofs.Begun.{ticks_keep}
+use Rattle.wb_kept_progress.proofs.Moments.{IsTuned, moment_of, told_itself, told_or_tuned}
+use Rattle.wb_kept_progress.proofs.Onward.{kept_goes_onward}
 use Rattle.wb_kept_progress.proofs.Performed.{kept_keeps_moments}
 use Rattle.wb_kept_progress.proofs.PerLine.{asks}
 use Rattle.wb_kept_progress.proofs.Repairs.{moved}
+use Rattle.wb_kept_progress.proofs.ShortDistances.{kept_go_by_short}
 use Rattle.wb_kept_progress.proofs.StopCauses.{room_before}
 use Rattle.wb_kept_progress.proofs.Timely.{none_held, of_start}
-use Rattle.wb_kept_progress.proofs.TimersAhead.{AreAhead, ahead_amid, ahead_in_time, due_in_time}
+use Rattle.wb_kept_progress.proofs.TimersAhead.{AreAhead, ahead_amid, ahead_in_time, due_in_time, tuned_alone}
 use Rattle.wb_kept_progress.proofs.Tunings.{constants_of, line_tuned}
 use Rattle.wb_kept_progress.proofs.WholeParts.{IsOfCall, PerformedIsTimely, does}
 use Rattle.std.proofs.lemmas.Bool.{false_from_ne_true}
@@ -41,7 +45,7 @@ module _ (hosts : ℕ → Opening) (terms : Terms) (trace : List TimedLine) (s :
   all = performed hosts trace
 
   number_is : (calls : List TimedLine) (i : ℕ) → (there hosts calls i).host.is.number ≡ (hosts i).number
-  number_is calls i = ap (λ (h : Opened). h.is.number) (sym (host_is hosts s.opened calls i)) ∙ (of_start starts (performed hosts calls) i).number
+  number_is calls i = ap (λ (h : Opened). h.is.number) (sym (host_is hosts calls i)) ∙ (of_start starts (performed hosts calls) i).number
 
   -- ---- a line and its call
 
@@ -53,7 +57,7 @@ module _ (hosts : ℕ → Opening) (terms : Terms) (trace : List TimedLine) (s :
     before = host_after starts back x.place
 
     of_call : IsLineOf c.e.at.line k.host before x.line
-    of_call = subst (λ (h : Opened). IsLineOf c.e.at.line k.host h x.line) (sym (host_before hosts s.opened trace x back c))
+    of_call = subst (λ (h : Opened). IsLineOf c.e.at.line k.host h x.line) (sym (host_before hosts trace x back c))
         (one_of_lines c.e.at.line k.host k.host c.before c.later x.line (subst (AreLinesOf c.e.at.line k.host k.host) c.lines (lines_of_call c.e.at.line k)))
 
     of_line : (line : Line) → x.line ≡ line → IsLineOf c.e.at.line k.host before line
@@ -79,12 +83,12 @@ module _ (hosts : ℕ → Opening) (terms : Terms) (trace : List TimedLine) (s :
         let live = s.alone c.newer c.older c.e c.split (late_call terms.quiet late) in
         let behind = s.room c.newer (c.e ∷ c.older) c.e.at.place c.split live (late_call terms.quiet late) in
         let free = room_before (does hosts c.e c.older) k.host (there hosts (c.e ∷ c.older) c.e.at.place).host (ap (λ (m : Keeping). m.host) (moved hosts (lines_of_calls c.older) c.e.at.place c.e.at.line)) behind in
-        let cells : before.is.cells ≡ k.host.is.cells = ap (λ (h : Opened). h.is.cells) (host_before hosts s.opened trace x back c) ∙ (lines_of c.before k.host).cells in
+        let cells : before.is.cells ≡ k.host.is.cells = ap (λ (h : Opened). h.is.cells) (host_before hosts trace x back c) ∙ (lines_of c.before k.host).cells in
         inr (ap (λ (n : ℕ). nat_le n (length before.is.held)) cells ∙ ap (λ (held : List DrawopValue). nat_le k.host.is.cells (length held)) a.1 ∙ free)
 
     -- what it sends, its call does
     sends_it : (v : Datagram) → Contains (sends starts back x) v → Contains (sends_then hosts c.older c.e) v
-    sends_it v sent = sent_in (does hosts c.e c.older) c.before c.later x.line k.host v c.lines (subst (λ (h : Opened). Contains (sent_by_line x.line h) v) (host_before hosts s.opened trace x back c) sent)
+    sends_it v sent = sent_in (does hosts c.e c.older) c.before c.later x.line k.host v c.lines (subst (λ (h : Opened). Contains (sent_by_line x.line h) v) (host_before hosts trace x back c) sent)
 
     -- what is handed in by a later call comes by one of its lines
     comes : (newer : List Performed) → all ≡ newer ++ x ∷ back → (j : ℕ) (v : Datagram) (line : Line) (h : IsHandedIn c.newer j (c.e.time + terms.delivery) v)
@@ -153,7 +157,7 @@ module _ (hosts : ℕ → Opening) (terms : Terms) (trace : List TimedLine) (s :
           before = base;
           split = c.back_is ∙ f.1;
           soon = subst (λ (t : ℕ). t ≤ w.e.time + terms.delivery) (sym c.time) w.soon;
-          sent = subst (λ (h : Opened). Contains (sent_by_line l.line h) v) (sym (host_amid hosts s.opened w.e.time w.e.at.place l.before w.before)) l.sent;
+          sent = subst (λ (h : Opened). Contains (sent_by_line l.line h) v) (sym (host_amid hosts w.e.time w.e.at.place l.before w.before)) l.sent;
         }
 
     fresh_drawops : (d : DrawopValue) → settled_by terms < x.time → x.line ≡ Arrives d → WasSent starts back x.time terms.delivery (Draw d)
@@ -168,59 +172,76 @@ module _ (hosts : ℕ → Opening) (terms : Terms) (trace : List TimedLine) (s :
 
     -- ---- what is due
 
-    soon : (i : ℕ) (m : NameValue) → Contains terms.live i → terms.quiet < x.time → AreNotOverdue (timers_after starts back i m) (x.time + terms.offset i) terms.late
-    soon i m live late = subst (λ (t : List Performed). AreNotOverdue (timers_after starts t i m) (x.time + terms.offset i) terms.late) (sym c.back_is)
-        (subst (λ (t : ℕ). AreNotOverdue (timers_after starts base i m) (t + terms.offset i) terms.late) (sym c.time) (by (nat_eq c.e.at.place i) refl)) where
+    soon : (i : ℕ) (m : NameValue) → Contains terms.live i → terms.quiet < x.time → AreNotOverdue (timers_after starts back i m) x.time (terms.lag i + terms.late)
+    soon i m live late = subst (λ (t : List Performed). AreNotOverdue (timers_after starts t i m) x.time (terms.lag i + terms.late)) (sym c.back_is)
+        (subst (λ (t : ℕ). AreNotOverdue (timers_after starts base i m) t (terms.lag i + terms.late)) (sym c.time) (by (nat_eq c.e.at.place i) refl)) where
           base : List Performed
           base = performed_then c.e.time c.e.at.place c.before (performed hosts c.older)
 
           -- as it was before the call
-          at_first : (host : Opened) → host ≡ (there hosts c.older i).host → AreNotOverdue (timers_of host.is.constants (events host) m) (c.e.time + terms.offset i) terms.late
-          at_first host same = subst (λ (h : Opened). AreNotOverdue (timers_of h.is.constants (events h) m) (c.e.time + terms.offset i) terms.late) (sym same)
-              (due_in_time (there hosts c.older i) m (c.e.time + terms.offset i) terms.late (s.soon c.newer c.older c.e i c.split live (late_call terms.quiet late)))
+          at_first : (host : Opened) → host ≡ (there hosts c.older i).host → AreNotOverdue (timers_of host.is.constants (events host) m) c.e.time (terms.lag i + terms.late)
+          at_first host same = subst (λ (h : Opened). AreNotOverdue (timers_of h.is.constants (events h) m) c.e.time (terms.lag i + terms.late)) (sym same)
+              (due_in_time (there hosts c.older i) m c.e.time (terms.lag i + terms.late) (s.soon c.newer c.older c.e i c.split live (late_call terms.quiet late)))
+
+          told : Contains terms.live c.e.at.place → SaysNow terms c.e.time c.e.at.place c.e.at.line
+          told = told_in terms c.newer c.older c.e (subst (TellTimes terms) c.split s.times)
 
           amid : Contains terms.live c.e.at.place → (lines : List Line) → does hosts c.e c.older ≡ lines ++ x.line ∷ c.later
-              → (let host = after_lines lines k.host in AreNotOverdue (timers_of host.is.constants (events host) m) (c.e.time + terms.offset c.e.at.place) terms.late)
-          amid here [] split = due_in_time k m (c.e.time + terms.offset c.e.at.place) terms.late (s.soon c.newer c.older c.e c.e.at.place c.split here (late_call terms.quiet late))
-          amid here (first ∷ lines) split =
-              let h = ahead_amid c.e.at.line k (c.e.time + terms.offset c.e.at.place) first lines c.later x.line (told_in terms c.newer c.older c.e (subst (TellTimes terms) c.split s.times)) split in
+              → (let host = after_lines lines k.host in AreNotOverdue (timers_of host.is.constants (events host) m) c.e.time (terms.lag c.e.at.place + terms.late))
+          amid here [] split = due_in_time k m c.e.time (terms.lag c.e.at.place + terms.late) (s.soon c.newer c.older c.e c.e.at.place c.split here (late_call terms.quiet late))
+          amid here (first ∷ lines) split = ⊎_elim
+              (λ (t : IsTuned c.e.at.line). absurd (tuned_alone c.e.at.line k first lines c.later x.line t split))
+              (λ (at : IsNowAt terms c.e.time c.e.at.place (moment_of c.e.at.line)).
+              let h = ahead_amid c.e.at.line k (moment_of c.e.at.line) first lines c.later x.line (told_itself c.e.at.line) split in
               let host = after_lines (first ∷ lines) k.host in
               let timers = timers_of host.is.constants (events host) m in
-              ahead_in_time timers (c.e.time + terms.offset c.e.at.place) terms.late (subst (λ (t : ℕ). AreAhead t timers) h.now (h.ahead m))
+              let near = at.not_behind in
+              let drift = s.covered in
+              ahead_in_time timers (moment_of c.e.at.line) c.e.time (terms.lag c.e.at.place + terms.late) (omega (arith, near, drift)) (subst (λ (t : ℕ). AreAhead t timers) h.now (h.ahead m)))
+              (told_or_tuned terms c.e.time c.e.at.place c.e.at.line (told here))
 
-          by : (b : Bool) → nat_eq c.e.at.place i ≡ b → AreNotOverdue (timers_after starts base i m) (c.e.time + terms.offset i) terms.late
-          by false apart = at_first (host_after starts base i) (host_apart hosts s.opened c.e.time c.e.at.place c.before c.older i apart)
+          by : (b : Bool) → nat_eq c.e.at.place i ≡ b → AreNotOverdue (timers_after starts base i m) c.e.time (terms.lag i + terms.late)
+          by false apart = at_first (host_after starts base i) (host_apart hosts c.e.time c.e.at.place c.before c.older i apart)
           by true here =
               let same = eqb-true c.e.at.place i here in
-              subst (λ (j : ℕ). AreNotOverdue (timers_after starts base j m) (c.e.time + terms.offset j) terms.late) same
-              (subst (λ (h : Opened). AreNotOverdue (timers_of h.is.constants (events h) m) (c.e.time + terms.offset c.e.at.place) terms.late) (sym (host_amid hosts s.opened c.e.time c.e.at.place c.before c.older))
+              subst (λ (j : ℕ). AreNotOverdue (timers_after starts base j m) c.e.time (terms.lag j + terms.late)) same
+              (subst (λ (h : Opened). AreNotOverdue (timers_of h.is.constants (events h) m) c.e.time (terms.lag c.e.at.place + terms.late)) (sym (host_amid hosts c.e.time c.e.at.place c.before c.older))
               (amid (subst (Contains terms.live) (sym same) live) c.before c.lines))
 
   -- ---- constants
 
-  tuned : (newer older : List Performed) (i : ℕ) → all ≡ newer ++ older → IsUnder (longest terms) (constants_of (host_after starts older i))
-  tuned newer [] i split = s.waits i
-  tuned newer (x ∷ older) i split = by (nat_eq x.place i) (tuned (newer ++ x ∷ []) older i (split ∙ sym (append_assoc newer (x ∷ []) older))) where
-    tunes : (constants : Tuning) → x.line ≡ Tunes constants → IsUnder (longest terms) constants
-    tunes constants is =
+  tuned : (newer older : List Performed) (i : ℕ) → all ≡ newer ++ older → Contains terms.live i → IsUnder (longest terms) (constants_of (host_after starts older i))
+  tuned newer [] i split live = ticks_keep (λ host. IsUnder (longest terms) (constants_of host)) (λ now host under. line_tuned (IsUnder (longest terms)) (Ticks now) host (other now) under) (hosts i).moments
+      (opened_with (hosts i).constants (hosts i).number (hosts i).cells (hosts i).seed) (s.waits i live) where
+        other : (now : ℕ) (constants : Tuning) → Ticks now ≡ Tunes constants → IsUnder (longest terms) constants
+        other now constants same = absurd cc
+  tuned newer (x ∷ older) i split live = by (nat_eq x.place i) refl (tuned (newer ++ x ∷ []) older i (split ∙ sym (append_assoc newer (x ∷ []) older)) live) where
+    tunes : x.place ≡ i → (constants : Tuning) → x.line ≡ Tunes constants → IsUnder (longest terms) constants
+    tunes here constants is =
         let c = lines_have_calls hosts trace newer x older split in
-        s.tuned c.newer c.older c.e constants c.split (of_line x older c (Tunes constants) is)
+        s.tuned c.newer c.older c.e constants c.split (subst (Contains terms.live) (sym here ∙ c.place) live) (of_line x older c (Tunes constants) is)
 
-    by : (b : Bool) → IsUnder (longest terms) (constants_of (host_after starts older i)) → IsUnder (longest terms) (constants_of (cond b (after_line x.line (host_after starts older i)) (host_after starts older i)))
-    by true rest = line_tuned (IsUnder (longest terms)) x.line (host_after starts older i) tunes rest
-    by false rest = rest
+    by : (b : Bool) → nat_eq x.place i ≡ b → IsUnder (longest terms) (constants_of (host_after starts older i)) → IsUnder (longest terms) (constants_of (cond b (after_line x.line (host_after starts older i)) (host_after starts older i)))
+    by true here rest = line_tuned (IsUnder (longest terms)) x.line (host_after starts older i) (tunes (eqb-true x.place i here)) rest
+    by false apart rest = rest
 
 pub performed_is_timely : PerformedIsTimely
 performed_is_timely hosts terms trace s = record {
   distinct = s.distinct;
   waits = s.waits;
-  tuned = λ newer older i split live. tuned hosts terms trace s newer older i split;
+  tuned = λ newer older i split live. tuned hosts terms trace s newer older i split live;
   order = lines_order hosts trace s.order;
   reported = s.reported;
+  moments = λ i live. s.moments i;
+  begun = s.begun;
+  onward = λ newer older e now split live is. kept_goes_onward hosts trace s.taken newer older e now split is;
   times = (kept_keeps_moments hosts terms trace s.times).times;
   behind = (kept_keeps_moments hosts terms trace s.times).behind;
   soon = λ newer older e i m split live late. soon hosts terms trace s e older (of newer older e split) i m live late;
-  delays = s.delays;
+  delays = ⊎_elim
+      (λ (second : greatest_distance ≤ terms.far). kept_go_by_short hosts terms trace s.taken second)
+      (λ (short : GoByShort (λ j. start_of (hosts j)) terms (performed hosts trace)). short)
+      s.delays;
   alone = λ newer older e split late. alone hosts terms trace s e older (of newer older e split) late;
   quiet = λ newer older e split late. quiet hosts terms trace s e older (of newer older e split) late;
   room = λ newer older e d split late is. room hosts terms trace s e older (of newer older e split) d late is;

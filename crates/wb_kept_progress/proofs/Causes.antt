@@ -1,5 +1,5 @@
 -- Why a name is asked for.
-use Rattle.std.proofs.Common.{◌≡◌, ℕ, ◌+◌, ◌<◌, ◌≤◌, Bool, true, List, [], ◌∷◌, ◌++◌, ◌∙◌, ap, append_assoc, arith, inl, inr, refl, subst, sym, ⊎_elim}
+use Rattle.std.proofs.Common.{◌≡◌, ℕ, ◌+◌, ◌<◌, ◌≤◌, Bool, true, List, ◌∷◌, ◌++◌, ◌∙◌, ap, append_assoc, arith, inl, inr, refl, subst, sym, ⊎_elim}
 use Rattle.std.specs.Prelude.{◌⊎◌, ◌&&◌, Contains, filter, nat_eq, nat_le, not}
 use Rattle.wb_names.specs.History.{name_of}
 use Rattle.wb_names.specs.Values.{DrawopValue, MarkValue, NameValue}
@@ -14,7 +14,8 @@ use Rattle.wb_policy.specs.Choices.{told_names}
 use Rattle.wb_keeping.specs.Laws.{Added, Came, KeptLine, Ticked, Tuned, doing_of}
 use Rattle.wb_keeping.specs.Performing.{Keeping, after_doing}
 use Rattle.wb_kept_progress.specs.Sessions.{AreTaken, Opening}
-use Rattle.wb_kept_progress.specs.Timed.{IsTold, TellTimes, TimedLine, lines_of}
+use Rattle.wb_kept_progress.specs.Timed.{TimedLine, lines_of}
+use Rattle.wb_kept_progress.proofs.Moments.{IsTold, moment_of, told_itself}
 use Rattle.wb_kept_progress.specs.Whole.{IsHeldBySome, IsTimelySession, WasSentBy, there}
 use Rattle.wb_kept_progress.proofs.AskedInCalls.{AreTold, IsMore, asked_is, lines_by, more_differs}
 use Rattle.wb_kept_progress.proofs.Courses.{IsCourse, came_course, ticked_course}
@@ -33,12 +34,6 @@ named_by held me page marks n are c =
     let m = Contains-from_filter p marks r.1 (r.0, r.2, r.3) in
     subst (λ (n : NameValue). history_holds held n ≡ true) r.4 (held-from held page r.1.source r.1.high (are r.1 m.0))
 
--- the time of a call
-tells_at : (terms : Terms) (newer older : List TimedLine) (e : TimedLine) → TellTimes terms (newer ++ e ∷ older)
-    → IsTold (e.time + terms.offset e.at.place) e.at.line
-tells_at terms [] older e tells = tells.0
-tells_at terms (x ∷ newer) older e tells = tells_at terms newer older e tells.1
-
 -- ---- a session
 
 module _ (held_was : HeldWasHeld) (hosts : ℕ → Opening) (terms : Terms) (trace : List TimedLine) (session : IsTimelySession hosts terms trace) where
@@ -54,7 +49,7 @@ module _ (held_was : HeldWasHeld) (hosts : ℕ → Opening) (terms : Terms) (tra
     next = there hosts (e ∷ older) e.at.place
 
     abbrev now : ℕ
-    now = e.time + terms.offset e.at.place
+    now = moment_of e.at.line
 
     next_is : next ≡ after_doing (doing_of e.at.line) k
     next_is = moved hosts (lines_of older) e.at.place e.at.line
@@ -100,14 +95,14 @@ module _ (held_was : HeldWasHeld) (hosts : ℕ → Opening) (terms : Terms) (tra
 
     pub goes : Goes
     goes =
-        let g = goes_by e.at.line refl (tells_at terms newer older e (subst (TellTimes terms) split session.times)) in
+        let g = goes_by e.at.line refl (told_itself e.at.line) in
         subst (λ (m : Keeping). IsMore k m ⊎ IsCourse IsSome k now (does hosts e older) m) (sym next_is) g
 
 pub asks_have_cause : HeldWasHeld → AsksHaveCause
 asks_have_cause held_was hosts terms trace newer older e n session split late asked =
     let k = there hosts older e.at.place in
     let next = there hosts (e ∷ older) e.at.place in
-    let now = e.time + terms.offset e.at.place in
+    let now = moment_of e.at.line in
     ⊎_elim
     (λ (more : IsMore k next). inr (inr (more_differs k next more)))
     (λ (c : IsCourse (λ n. IsHeldBySome hosts terms trace n) k now (does hosts e older) next).

@@ -12,8 +12,8 @@ use Rattle.wb_progress.specs.Turns as turning
 use Rattle.wb_progress.proofs.Answering.{request_is_answered_other}
 use Rattle.wb_progress.proofs.Leading.{timer_leads_or_is_given_up as keeper_leads}
 use Rattle.wb_kept_progress.specs.Timed.{IsGivenUp, Performed, RequestIsAnswered, Start, TimerLeadsOrIsGivenUp, time_of, timers_after}
-use Rattle.wb_kept_progress.proofs.Lining.{IsPart, IsTurnOf, line_of_turn, part_of, time_is, turn_of, turns_of, turns_over}
-use Rattle.wb_kept_progress.proofs.Timely.{answerable, holding, joined, keep_time, made, places, timers_here}
+use Rattle.wb_kept_progress.proofs.Lining.{IsPart, IsTurnOf, line_of_turn, part_of, places, time_is, turn_of, turns_of, turns_over}
+use Rattle.wb_kept_progress.proofs.Timely.{answerable, holding, joined, keep_time, made, timers_here}
 use Rattle.wb_progress.proofs.Parts.{tails}
 
 -- ---- parts of a trace differ by their lengths
@@ -60,8 +60,8 @@ module _ (hosts : ℕ → Start) (trace : List Performed) where
     parted : t.back ≡ p.front ++ older
     parted = p.split ∙ ap (λ (back : List Performed). p.front ++ back) (same_back (t.front ++ t.e ∷ p.front) newer p.back older whole long)
 
-    accepts : Accepts (turns_of hosts t.back) (turn_of hosts t.back t.e) (GiveUp g.now n true)
-    accepts = subst (λ (x : Turn). Accepts (turns_of hosts t.back) x (GiveUp g.now n true)) t.turn_is (subst (λ (back : List Turn). Accepts back g.e (GiveUp g.now n true)) t.older_is g.given)
+    accepts : Accepts (places hosts) (turns_of hosts t.back) (turn_of hosts t.back t.e) (GiveUp g.now n true)
+    accepts = subst (λ (x : Turn). Accepts (places hosts) (turns_of hosts t.back) x (GiveUp g.now n true)) t.turn_is (subst (λ (back : List Turn). Accepts (places hosts) back g.e (GiveUp g.now n true)) t.older_is g.given)
 
 -- ---- what follows
 
@@ -74,8 +74,8 @@ pub timer_leads_or_is_given_up : TimerLeadsOrIsGivenUp
 timer_leads_or_is_given_up hosts terms trace newer older i n ask due timely split live from stands by a =
     let time = time_is hosts older in
     ⊎_elim
-    (λ (h : turning.AllHoldBehind terms (turns_of hosts trace) (max (turning.time_of (turns_of hosts older)) due + repairing terms) n). inl (holding hosts terms trace timely n (max (time_of older) due + repairing terms)
-    (subst (λ (t : ℕ). turning.AllHoldBehind terms (turns_of hosts trace) (max t due + repairing terms) n) time h)))
+    (λ (h : turning.AllHoldBehind (places hosts) terms (turns_of hosts trace) (max (turning.time_of (turns_of hosts older)) due + repairing terms) n). inl (holding hosts terms trace timely n (max (time_of older) due + repairing terms)
+    (subst (λ (t : ℕ). turning.AllHoldBehind (places hosts) terms (turns_of hosts trace) (max t due + repairing terms) n) time h)))
     (λ (g : keepers.IsGivenUp (places hosts) (turns_of hosts trace) (turns_of hosts older) i n ask (max (turning.time_of (turns_of hosts older)) due + terms.late)). inr (given_up hosts trace newer older i n ask (max (time_of older) due + terms.late) split
     (subst (λ (t : ℕ). keepers.IsGivenUp (places hosts) (turns_of hosts trace) (turns_of hosts older) i n ask (max t due + terms.late)) time g)))
     (keeper_leads (places hosts) terms (turns_of hosts trace) (turns_over hosts newer older) (turns_of hosts older) i n ask due (keep_time hosts terms trace timely n) (joined hosts terms trace timely newer older split) live

@@ -25,7 +25,7 @@ use Rattle.wb_progress.specs.Keepers.{farthest, greatest_constants}
 use Rattle.wb_progress.specs.Repairs.{asking_wait}
 use Rattle.wb_progress.proofs.KeeperBounds.{keepers_are_bounded}
 use Rattle.wb_progress.proofs.OneCall.{not_standing}
-use Rattle.wb_member.specs.Judged.{is_full, level}
+use Rattle.wb_member.specs.Judged.{is_full}
 use Rattle.wb_member.specs.Opened.{Opened, asks_for, due_count, events, has_room_for, heard, present, ticked}
 use Rattle.wb_member.specs.Random.{words_of}
 use Rattle.wb_policy.specs.declared.limits.TheConstants.{COST}

@@ -87,7 +87,7 @@ module _ (hosts : ℕ → Opening) where
 
   module _ (terms : Terms) (trace : List TimedLine) (is : IsKeptTimely hosts terms trace) where
     same : (part : List TimedLine) (i : ℕ) → host_after starts (performed hosts part) i ≡ (kept_at hosts (lines_of part) i).host
-    same part i = (kept_is_performed hosts part is.opened).same i
+    same part i = (kept_is_performed hosts part).same i
 
     holding : (n : NameValue) (time : ℕ) → AllHoldBehind starts terms (performed hosts trace) time n → AllKeptHoldBehind hosts terms trace time n
     holding n time all newer later i split lt live =
@@ -104,7 +104,7 @@ kept_timer_leads_or_is_given_up hosts terms trace newer older i n ask due is spl
     (subst (λ (t : ℕ). AllHoldBehind (starts hosts) terms (performed hosts trace) (max t due + repairing terms) n) time h)))
     (λ (g : IsGivenUp (starts hosts) (performed hosts trace) (performed hosts older) i n ask (max (time_of (performed hosts older)) due + terms.late)). inr
     (subst (λ (t : ℕ). IsGivenUp (starts hosts) (performed hosts trace) (performed hosts older) i n ask (max t due + terms.late)) time g))
-    (timer_leads_or_is_given_up (starts hosts) terms (performed hosts trace) f.0 (performed hosts older) i n ask due is.timely (ap (performed hosts) split ∙ f.1) live (subst (λ (t : ℕ). known_from terms ≤ t) (sym time) from)
+    (timer_leads_or_is_given_up (starts hosts) terms (performed hosts trace) f.0 (performed hosts older) i n ask due is (ap (performed hosts) split ∙ f.1) live (subst (λ (t : ℕ). known_from terms ≤ t) (sym time) from)
     (ap (λ (h : Opened). (timers_of h.is.constants (events h) n).ask) (same hosts terms trace is older i) ∙ stands) by a)
 
 pub kept_request_is_answered : KeptRequestIsAnswered
@@ -120,6 +120,6 @@ kept_request_is_answered hosts terms trace newer older e asker n is split late l
     let there : host_after (starts hosts) base e.at.place ≡ after_lines s.before k.host =
     after_all (starts hosts) e.time e.at.place s.before (performed hosts older) e.at.place true (itself e.at.place) ∙ ap (after_lines s.before) (same hosts terms trace is older e.at.place) in
     holding hosts terms trace is n (e.time + answering_by terms)
-    (request_is_answered (starts hosts) terms (performed hosts trace) (f.0 ++ g.0) base x asker n is.timely whole late later (subst (λ (h : Opened). Contains (sent_by_line s.line h) (Request asker n)) (sym there) s.sent) a) where
+    (request_is_answered (starts hosts) terms (performed hosts trace) (f.0 ++ g.0) base x asker n is whole late later (subst (λ (h : Opened). Contains (sent_by_line s.line h) (Request asker n)) (sym there) s.sent) a) where
       itself : (n : ℕ) → nat_eq n n ≡ true
       itself n = is_itself n

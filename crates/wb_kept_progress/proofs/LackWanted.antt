@@ -14,7 +14,7 @@ use Rattle.wb_gaps.specs.Holes.{hole_on, holes_of}
 use Rattle.wb_gaps.proofs.HeldNames.{held-by, held-from}
 use Rattle.wb_keeper.specs.Keeper.{holds}
 use Rattle.wb_progress.specs.InTime.{known_from, repairing}
-use Rattle.wb_progress.specs.Turns.{Terms, settled_by}
+use Rattle.wb_progress.specs.Turns.{IsNowAt, Terms, settled_by}
 use Rattle.wb_member.specs.Opened.{present}
 use Rattle.wb_policy.specs.Fairness.{Told, after_tellings, after_turns, marks_in_turn, name_in_turn, page_in_turn, slices_of, slices_on}
 use Rattle.wb_policy.specs.Choices.{told_names}
@@ -25,7 +25,7 @@ use Rattle.wb_policy.specs.Policy.{Policy}
 use Rattle.wb_policy.proofs.FairTurns.{each_number_has_its_turn}
 use Rattle.wb_policy.proofs.ToldMarks.{each_mark_is_told}
 use Rattle.wb_kept_progress.specs.Sessions.{Opening}
-use Rattle.wb_kept_progress.specs.Timed.{IsTold, TimedLine, called_at, host_after, lines_of, performed, start_of, until}
+use Rattle.wb_kept_progress.specs.Timed.{SaysNow, TimedLine, called_at, host_after, lines_of, performed, start_of, until}
 use Rattle.wb_kept_progress.specs.Whole.{AreCalledInOrder, AreWithin, IsHandedIn, IsHeldBySome, IsTimelySession, Sizes, report_span, there}
 use Rattle.wb_kept_progress.proofs.CallParts.{calls_end, lacked_until}
 use Rattle.wb_kept_progress.proofs.Coming.{below_top, missing_below, page_there, top_held, top_told}
@@ -201,8 +201,8 @@ module _ (was_held : HeldWasHeld) (hosts : ℕ → Opening) (terms : Terms) (tra
                     (room_there hosts terms trace s (newest ++ r.later) older r.e i (split_report i live count b r) live (quiet_before hosts terms trace s (newest ++ r.later) r.between b.part r.e (split_report i live count b r) b.quiet))
                     (ap (λ (h : List DrawopValue). name_in_turn h k.policy.turns) k_held ∙ ap (name_in_turn (held_by i)) (turns_report i live count b r) ∙ n_is) in
                     let m = more_spans (suc count) turns_most span fits in
-                    wanting_in_call hosts terms trace s.opened i n held window base r.later (r.between ++ b.grown) older r.e from by
-                    (window_report i live count b r) (before_report i live count b r) r.place r.reporting.now_is wants (b.behind r.later r.between r.e r.split)
+                    wanting_in_call hosts terms trace i n held window base r.later (r.between ++ b.grown) older r.e from by
+                    (window_report i live count b r) (before_report i live count b r) r.place (subst (IsNowAt terms r.e.time i) (sym r.reporting.now_is) r.now) wants (b.behind r.later r.between r.e r.split)
                     (omega (arith, soon, m))
 
     -- ---- a report tells the greatest number of a source
@@ -269,7 +269,7 @@ module _ (was_held : HeldWasHeld) (hosts : ℕ → Opening) (terms : Terms) (tra
             → r.e.time ≤ from + suc count * span
             → IsHandedIn (newest ++ r.later) i (r.e.time + terms.delivery) (told_in j live_j count b r) → WantedBy i
         handed_in count t b r soon h =
-            wanting_in_call hosts terms trace s.opened i top_name held window base c.0
+            wanting_in_call hosts terms trace i top_name held window base c.0
             (h.between ++ r.e ∷ (r.between ++ b.grown)) older h.call from by split_w is_w
             (same_place h.call.at.place i h.place) now_is wants behind in_by where
               more : List TimedLine
@@ -370,11 +370,10 @@ module _ (was_held : HeldWasHeld) (hosts : ℕ → Opening) (terms : Terms) (tra
               wants : IsAskedInCall top_name (doing_of h.call.at.line) k ⊎ LacksCredit (after_doing (doing_of h.call.at.line) k)
               wants = subst (λ (line : KeptLine). IsAskedInCall top_name (doing_of line) k ⊎ LacksCredit (after_doing (doing_of line) k)) (sym h.is) told_so
 
-              now_is : present (after_doing (doing_of h.call.at.line) k).host ≡ h.call.time + terms.offset i
-              now_is =
-                  ap (λ (line : KeptLine). present (after_doing (doing_of line) k).host) h.is ∙ came_now h.now report k
-                  ∙ subst (IsTold (h.call.time + terms.offset i)) h.is
-                  (told_there hosts terms trace s (newest ++ c.0) older h.call i whole (same_place h.call.at.place i h.place))
+              now_is : IsNowAt terms h.call.time i (present (after_doing (doing_of h.call.at.line) k).host)
+              now_is = subst (IsNowAt terms h.call.time i)
+                  (sym (ap (λ (line : KeptLine). present (after_doing (doing_of line) k).host) h.is ∙ came_now h.now report k))
+                  (subst (SaysNow terms h.call.time i) h.is (told_there hosts terms trace s (newest ++ c.0) older h.call i whole live (same_place h.call.at.place i h.place)))
 
               behind : from < h.call.time
               behind =
@@ -433,7 +432,7 @@ module _ (was_held : HeldWasHeld) (hosts : ℕ → Opening) (terms : Terms) (tra
             by_now : (b : Bool) → holds (held_by j) n ≡ b → b ≡ true
             by_now true e = refl
             by_now false e =
-                let before = lacked_until hosts s.opened (newest ++ window) base (settled_by terms) j n (subst AreCalledInOrder split_base s.order) settled e in
+                let before = lacked_until hosts (newest ++ window) base (settled_by terms) j n (subst AreCalledInOrder split_base s.order) settled e in
                 absurd (true≢false (sym has ∙ ap (λ (t : List TimedLine). holds (host_after (λ k. start_of (hosts k)) (until (settled_by terms) (performed hosts t)) j).is.held n) split_base ∙ before))
 
             holds_j : holds (held_by j) n ≡ true

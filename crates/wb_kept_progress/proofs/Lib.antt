@@ -9,8 +9,10 @@ pub mod Coming
 pub mod Starts
 pub mod Lining
 pub mod PerLine
+pub mod Begun
 pub mod Timely
 pub mod GivenUp
+pub mod Moments
 pub mod Performed
 pub mod KeptInTime
 pub mod WholeParts
@@ -43,7 +45,10 @@ pub mod CallLines
 pub mod FirstLines
 pub mod TimersAhead
 pub mod Tunings
+pub mod ShortDistances
+pub mod Onward
 pub mod CallsInTime
 pub mod NothingNew
 pub mod Bringing
 pub mod Agreeing
+pub mod Since

@@ -1,7 +1,7 @@
 -- A trace of lines that hosts perform as turns of keepers.
 use Rattle.std.proofs.Common.{◌≡◌, ℕ, ◌≤◌, Bool, true, false, cond, List, [], ◌∷◌, ◌++◌, ◌∙◌, ap, append_assoc, eqb-true, refl, subst, sym}
 use Rattle.std.specs.Prelude.{nat_eq, nat_le}
-use Rattle.wb_progress.specs.Turns.{Desk, Turn}
+use Rattle.wb_progress.specs.Turns.{Desk, Places, Turn}
 use Rattle.wb_progress.specs.Turns as turning
 use Rattle.wb_member.specs.Opened.{Opened}
 use Rattle.wb_keeping.specs.Performing.{after_line}
@@ -23,12 +23,16 @@ abbrev pub turns_over : (ℕ → Start) → List Performed → List Performed �
 turns_over hosts [] older = []
 turns_over hosts (e ∷ newer) older = turn_of hosts (newer ++ older) e ∷ turns_over hosts newer older
 
+-- the members and their constants, and the desks that they have before their first line
+abbrev pub places : (ℕ → Start) → Places
+places hosts = record { me = λ i. (hosts i).number; constants = λ i. (hosts i).constants; first = λ i. desk_of (host_after hosts [] i) }
+
 module _ (hosts : ℕ → Start) where
-  pub desk_is : (trace : List Performed) (i : ℕ) → turning.desk_at (turns_of hosts trace) i ≡ desk_of (host_after hosts trace i)
+  pub desk_is : (trace : List Performed) (i : ℕ) → turning.desk_at (places hosts) (turns_of hosts trace) i ≡ desk_of (host_after hosts trace i)
   desk_is [] i = refl
   desk_is (e ∷ older) i = from (nat_eq e.place i) refl (desk_is older i) where
-    from : (b : Bool) → nat_eq e.place i ≡ b → turning.desk_at (turns_of hosts older) i ≡ desk_of (host_after hosts older i)
-        → cond b (desk_of (after_line e.line (host_after hosts older e.place))) (turning.desk_at (turns_of hosts older) i) ≡ desk_of (cond b (after_line e.line (host_after hosts older i)) (host_after hosts older i))
+    from : (b : Bool) → nat_eq e.place i ≡ b → turning.desk_at (places hosts) (turns_of hosts older) i ≡ desk_of (host_after hosts older i)
+        → cond b (desk_of (after_line e.line (host_after hosts older e.place))) (turning.desk_at (places hosts) (turns_of hosts older) i) ≡ desk_of (cond b (after_line e.line (host_after hosts older i)) (host_after hosts older i))
     from true h rest = ap (λ (k : ℕ). desk_of (after_line e.line (host_after hosts older k))) (eqb-true e.place i h)
     from false h rest = rest
 

@@ -3,19 +3,20 @@ use Rattle.std.proofs.Common.{◌≡◌, ℕ, zero, suc, ◌+◌, ◌*◌, ◌<�
 use Rattle.std.specs.Prelude.{◌⊎◌, Contains, nat_eq}
 use Rattle.std.proofs.lemmas.Bool.Decides.{leb_tells}
 use Rattle.wb_names.specs.Values.{DrawopValue}
-use Rattle.wb_progress.specs.Turns.{Terms}
+use Rattle.wb_progress.specs.Turns.{IsNowAt, Terms}
 use Rattle.wb_member.specs.Judged.{is_full}
 use Rattle.wb_policy.specs.Fairness.{after_telling, after_tellings, after_turn, after_turns}
 use Rattle.wb_keeping.specs.Laws.{doing_of}
 use Rattle.wb_keeping.specs.Performing.{Keeping, after_doing}
 use Rattle.wb_policy.specs.Policy.{Policy}
 use Rattle.wb_kept_progress.specs.Sessions.{Opening}
-use Rattle.wb_kept_progress.specs.Timed.{IsTold, TellTimes, TimedLine, called_at, lines_of}
+use Rattle.wb_kept_progress.specs.Timed.{SaysNow, TellTimes, TimedLine, called_at, lines_of}
+use Rattle.wb_kept_progress.proofs.Moments.{IsTuned, moment_of, told_itself, told_or_tuned}
 use Rattle.wb_kept_progress.specs.Whole.{AreCalledInOrder, IsTimelySession, report_span, there}
 use Rattle.wb_kept_progress.proofs.CallParts.{calls_end, calls_order, due_by_report}
 use Rattle.wb_kept_progress.proofs.InTurn.{IsIdle, IsReporting, IsTimedCall, SamePolicy, one_or_other, same_both, same_policy}
 use Rattle.wb_kept_progress.proofs.OwedAndDue.{due_there, tells_of}
-use Rattle.wb_kept_progress.proofs.StillCalls.{IsTuning, still_call}
+use Rattle.wb_kept_progress.proofs.StillCalls.{IsTuning, still_call, tuned_only}
 use Rattle.wb_kept_progress.proofs.Turning.{answers_at}
 use Rattle.wb_kept_progress.proofs.WholeParts.{IsStill}
 use Rattle.wb_kept_progress.proofs.Leaving.{told_of}
@@ -55,11 +56,11 @@ module _ (hosts : ℕ → Opening) (terms : Terms) (trace : List TimedLine) (s :
   pub ordered : (newer part : List TimedLine) → trace ≡ newer ++ part → AreCalledInOrder part
   ordered newer part split = calls_order newer part (subst AreCalledInOrder split s.order)
 
-  pub told_there : (newer older : List TimedLine) (e : TimedLine) (i : ℕ) → trace ≡ newer ++ e ∷ older → nat_eq e.at.place i ≡ true
-      → IsTold (e.time + terms.offset i) e.at.line
-  told_there newer older e i split same =
-      subst (λ (p : ℕ). IsTold (e.time + terms.offset p) e.at.line) (eqb-true e.at.place i same)
-      (tells_of terms newer (e ∷ older) (subst (TellTimes terms) split s.times)).0
+  pub told_there : (newer older : List TimedLine) (e : TimedLine) (i : ℕ) → trace ≡ newer ++ e ∷ older → Contains terms.live i → nat_eq e.at.place i ≡ true
+      → SaysNow terms e.time i e.at.line
+  told_there newer older e i split live same =
+      subst (λ (p : ℕ). Contains terms.live p → SaysNow terms e.time p e.at.line) (eqb-true e.at.place i same)
+      (tells_of terms newer (e ∷ older) (subst (TellTimes terms) split s.times)).0 live
 
   -- what stands on a call that came late enough did so too
   pub quiet_behind : (newer more base : List TimedLine) → trace ≡ newer ++ (more ++ base) → terms.quiet < called_at base → terms.quiet < called_at (more ++ base)
@@ -74,7 +75,7 @@ module _ (hosts : ℕ → Opening) (terms : Terms) (trace : List TimedLine) (s :
 
   -- a call comes at most so late behind a report that is due
   pub soon_there : (newer older : List TimedLine) (e : TimedLine) (i by : ℕ) → trace ≡ newer ++ e ∷ older → Contains terms.live i → terms.quiet < e.time
-      → (there hosts older i).policy.reports.due ≤ by → e.time + terms.offset i ≤ by + terms.late
+      → (there hosts older i).policy.reports.due + terms.lag i ≤ by → e.time ≤ by + terms.late
   soon_there newer older e i by split live late le =
       let soon = s.soon newer older e i split live late in
       let first = due_by_report (there hosts older i) in
@@ -84,8 +85,8 @@ module _ (hosts : ℕ → Opening) (terms : Terms) (trace : List TimedLine) (s :
   module _ (i : ℕ) (live : Contains terms.live i) where
     pub window_call : (newest part base : List TimedLine) (e : TimedLine) → IsStill hosts terms trace newest (e ∷ part) base → terms.quiet < called_at base
         → nat_eq e.at.place i ≡ true
-        → IsTuning (doing_of e.at.line) (there hosts (part ++ base) i) ⊎ IsTimedCall (doing_of e.at.line) (there hosts (part ++ base) i)
-        (e.time + terms.offset i)
+        → IsTuning (doing_of e.at.line) (there hosts (part ++ base) i)
+        ⊎ (IsTimedCall (doing_of e.at.line) (there hosts (part ++ base) i) (moment_of e.at.line) × IsNowAt terms e.time i (moment_of e.at.line))
     window_call newest part base e still late same =
         let older = part ++ base in
         let k = there hosts older i in
@@ -96,9 +97,15 @@ module _ (hosts : ℕ → Opening) (terms : Terms) (trace : List TimedLine) (s :
         let held : (after_doing (doing_of e.at.line) k).host.is.held ≡ k.host.is.held =
         ap (λ (x : Keeping). x.host.is.held) (sym (there_here hosts e older i same)) ∙ still.same [] (e ∷ part) i refl live
         ∙ sym (still.same (e ∷ []) part i refl live) in
-        still_call e.at.line k (e.time + terms.offset i) (told_there newest older e i split same)
+        ⊎_elim
+        (λ (t : IsTuned e.at.line). inl (tuned_only e.at.line k t))
+        (λ (now : IsNowAt terms e.time i (moment_of e.at.line)). ⊎_elim
+        (λ (t : IsTuning (doing_of e.at.line) k). inl t)
+        (λ (c : IsTimedCall (doing_of e.at.line) k (moment_of e.at.line)). inr (c, now))
+        (still_call e.at.line k (moment_of e.at.line) (told_itself e.at.line)
         (λ now page time op is. s.drawn newest older e now page time op split (omega (arith, first, last, late)) is)
-        (answers_at hosts (lines_of older) i) held
+        (answers_at hosts (lines_of older) i) held))
+        (told_or_tuned terms e.time i e.at.line (told_there newest older e i split live same))
 
     -- one of the calls reports, the first behind a part
     pub record Reports (front base : List TimedLine) : Type 0 where
@@ -108,13 +115,14 @@ module _ (hosts : ℕ → Opening) (terms : Terms) (trace : List TimedLine) (s :
       pub split : front ≡ later ++ e ∷ between
       pub place : nat_eq e.at.place i ≡ true
       pub same : SamePolicy (there hosts base i).policy (there hosts (between ++ base) i).policy
-      pub reporting : IsReporting (doing_of e.at.line) (there hosts (between ++ base) i) (e.time + terms.offset i)
+      pub reporting : IsReporting (doing_of e.at.line) (there hosts (between ++ base) i) (moment_of e.at.line)
+      pub now : IsNowAt terms e.time i (moment_of e.at.line)
 
     first_report : (front newest base : List TimedLine) → IsStill hosts terms trace newest front base → terms.quiet < called_at base
         → Reports front base ⊎ SamePolicy (there hosts base i).policy (there hosts (front ++ base) i).policy
     first_report [] newest base still late = inr (same_policy (there hosts base i).policy)
     first_report (e ∷ front) newest base still late = ⊎_elim
-        (λ (r : Reports front base). inl (record { later = e ∷ r.later; e = r.e; between = r.between; split = ap (λ (t : List TimedLine). e ∷ t) r.split; place = r.place; same = r.same; reporting = r.reporting }))
+        (λ (r : Reports front base). inl (record { later = e ∷ r.later; e = r.e; between = r.between; split = ap (λ (t : List TimedLine). e ∷ t) r.split; place = r.place; same = r.same; reporting = r.reporting; now = r.now }))
         (λ (same : SamePolicy (there hosts base i).policy (there hosts (front ++ base) i).policy). by same (nat_eq e.at.place i) refl)
         (first_report front (newest ++ e ∷ []) base (still_newer hosts terms trace newest (e ∷ []) front base still) late) where
           older : List TimedLine
@@ -134,14 +142,14 @@ module _ (hosts : ℕ → Opening) (terms : Terms) (trace : List TimedLine) (s :
           by same false other = inr (subst (λ (x : Keeping). SamePolicy (there hosts base i).policy x.policy) (sym (there_other hosts e older i other)) same)
           by same true here = ⊎_elim
               (λ (t : IsTuning (doing_of e.at.line) k). inr (on same here (subst (SamePolicy k.policy) (sym t.policy) (same_policy k.policy))))
-              (λ (c : IsTimedCall (doing_of e.at.line) k (e.time + terms.offset i)). ⊎_elim
-              (λ (rests : IsIdle (doing_of e.at.line) k (e.time + terms.offset i)). inr (on same here rests.same))
-              (λ (reports : IsReporting (doing_of e.at.line) k (e.time + terms.offset i)). inl (record { later = []; e = e; between = front; split = refl; place = here; same = same; reporting = reports }))
-              (one_or_other (doing_of e.at.line) k (e.time + terms.offset i) c))
+              (λ (c : IsTimedCall (doing_of e.at.line) k (moment_of e.at.line) × IsNowAt terms e.time i (moment_of e.at.line)). ⊎_elim
+              (λ (rests : IsIdle (doing_of e.at.line) k (moment_of e.at.line)). inr (on same here rests.same))
+              (λ (reports : IsReporting (doing_of e.at.line) k (moment_of e.at.line)). inl (record { later = []; e = e; between = front; split = refl; place = here; same = same; reporting = reports; now = c.1 }))
+              (one_or_other (doing_of e.at.line) k (moment_of e.at.line) c.0))
               (window_call newest front base e still late here)
 
     pub next_report : (front newest base : List TimedLine) (x : ℕ) → IsStill hosts terms trace newest front base → terms.quiet < called_at base
-        → called_at base ≤ x → (there hosts base i).policy.reports.due ≤ x + terms.offset i + 96000000
+        → called_at base ≤ x → (there hosts base i).policy.reports.due + terms.lag i ≤ x + 96000000
         → x + report_span terms < called_at (front ++ base) → (r : Reports front base) × (r.e.time ≤ x + report_span terms)
     next_report [] newest base x still late from due_by lt = absurd (omega (arith, from, lt))
     next_report (e ∷ front) newest base x still late from due_by lt = ⊎_elim
@@ -151,13 +159,13 @@ module _ (hosts : ℕ → Opening) (terms : Terms) (trace : List TimedLine) (s :
         still.split ∙ ap (λ (t : List TimedLine). newest ++ e ∷ (t ++ base)) r.split
         ∙ ap (λ (t : List TimedLine). newest ++ e ∷ t) (append_assoc r.later (r.e ∷ r.between) base)
         ∙ sym (append_assoc newest (e ∷ r.later) (r.e ∷ (r.between ++ base))) in
-        let soon = soon_there (newest ++ e ∷ r.later) (r.between ++ base) r.e i (x + terms.offset i + 96000000) split live (quiet_behind (newest ++ e ∷ r.later) (r.e ∷ r.between) base split late) (omega (arith, d, due_by)) in (
-          record { later = e ∷ r.later; e = r.e; between = r.between; split = ap (λ (t : List TimedLine). e ∷ t) r.split; place = r.place; same = r.same; reporting = r.reporting },
+        let soon = soon_there (newest ++ e ∷ r.later) (r.between ++ base) r.e i (x + 96000000) split live (quiet_behind (newest ++ e ∷ r.later) (r.e ∷ r.between) base split late) (omega (arith, d, due_by)) in (
+          record { later = e ∷ r.later; e = r.e; between = r.between; split = ap (λ (t : List TimedLine). e ∷ t) r.split; place = r.place; same = r.same; reporting = r.reporting; now = r.now },
           omega (arith, soon),
         ))
         (λ (same : SamePolicy (there hosts base i).policy (there hosts (front ++ base) i).policy).
         let d = same.due in
-        let soon = soon_there newest (front ++ base) e i (x + terms.offset i + 96000000) still.split live (quiet_behind newest (e ∷ front) base still.split late) (omega (arith, d, due_by)) in
+        let soon = soon_there newest (front ++ base) e i (x + 96000000) still.split live (quiet_behind newest (e ∷ front) base still.split late) (omega (arith, d, due_by)) in
         absurd (omega (arith, soon, lt)))
         (first_report front (newest ++ e ∷ []) base (still_newer hosts terms trace newest (e ∷ []) front base still) late)
 
@@ -211,7 +219,7 @@ module _ (hosts : ℕ → Opening) (terms : Terms) (trace newest window base : L
     pub still_here : IsStill hosts terms trace newest front part
     pub turns : (there hosts part i).policy.turns ≡ after_turns held count first.turns
     pub told : told_of (there hosts part i).policy ≡ after_tellings held count (told_of first)
-    pub due_by : (there hosts part i).policy.reports.due ≤ from + count * span + terms.offset i + 96000000
+    pub due_by : (there hosts part i).policy.reports.due + terms.lag i ≤ from + count * span + 96000000
     pub soon : called_at part ≤ from + count * span
     pub quiet : terms.quiet < called_at part
     pub behind : (a b : List TimedLine) (y : TimedLine) → front ≡ a ++ y ∷ b → from < y.time
@@ -227,7 +235,7 @@ module _ (hosts : ℕ → Opening) (terms : Terms) (trace newest window base : L
       still_older hosts terms trace newest start.front start.grown base
       (subst (λ (t : List TimedLine). IsStill hosts terms trace newest t base) start.split still) in
       let due_by =
-      due_there hosts terms trace (newest ++ start.front) (start.grown ++ base) i s (st.split ∙ sym (append_assoc newest start.front (start.grown ++ base))) in
+      due_there hosts terms trace (newest ++ start.front) (start.grown ++ base) i s (st.split ∙ sym (append_assoc newest start.front (start.grown ++ base))) live in
       let le = start.until in
       let order =
       ordered hosts terms trace s (newest ++ start.front) (start.grown ++ base) (st.split ∙ sym (append_assoc newest start.front (start.grown ++ base))) in
@@ -241,7 +249,7 @@ module _ (hosts : ℕ → Opening) (terms : Terms) (trace newest window base : L
         still_here = st;
         turns = refl;
         told = refl;
-        due_by = omega (arith, due_by, le);
+        due_by = omega (arith, due_by, le, end, late);
         soon = omega (arith, le);
         quiet = omega (arith, end, late);
         behind = start.behind;
@@ -300,6 +308,7 @@ module _ (hosts : ℕ → Opening) (terms : Terms) (trace newest window base : L
             let st = still_there count b r in
             let k_held = held_there count b r in
             let most = r.reporting.most in
+            let ahead = r.now.not_ahead in
             let end = calls_end more b.part (ordered hosts terms trace s (newest ++ r.later) (more ++ b.part) (split_there count b r)) in
             let q = b.quiet in
             record {
@@ -316,7 +325,7 @@ module _ (hosts : ℕ → Opening) (terms : Terms) (trace newest window base : L
                   ap (λ (x : Keeping). told_of x.policy) here ∙ r.reporting.told
                   ∙ ap (λ (h : List DrawopValue). after_telling h (told_of (there hosts older i).policy)) k_held
                   ∙ ap (after_telling held) (tells_there count b r);
-              due_by = let e = ap (λ (x : Keeping). x.policy.reports.due) here in omega (arith, e, most, le);
+              due_by = let e = ap (λ (x : Keeping). x.policy.reports.due) here in omega (arith, e, most, ahead, le);
               soon = le;
               quiet = omega (arith, q, end);
               behind = λ a c y is. b.behind a (c ++ more) y (r.split ∙ ap (λ (t : List TimedLine). t ++ more) is ∙ append_assoc a (y ∷ c) more);

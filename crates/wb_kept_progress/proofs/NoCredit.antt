@@ -5,7 +5,7 @@ use Rattle.std.specs.Prelude.{◌≢◌, ◌⊎◌, Contains, min, nat_eq}
 use Rattle.std.proofs.lemmas.Bool.Decides.{leb_tells}
 use Rattle.wb_names.specs.Values.{NameValue}
 use Rattle.wb_progress.specs.InTime.{known_from, repairing}
-use Rattle.wb_progress.specs.Turns.{Terms, settled_by}
+use Rattle.wb_progress.specs.Turns.{IsNowAt, Terms, settled_by}
 use Rattle.wb_member.specs.Opened.{present}
 use Rattle.wb_policy.specs.Credit.{has_credit, spent}
 use Rattle.wb_policy.specs.declared.limits.TheConstants.{COST}
@@ -20,7 +20,9 @@ use Rattle.wb_kept_progress.proofs.AsksStand.{asks_stand}
 use Rattle.wb_kept_progress.proofs.CallParts.{calls_end}
 use Rattle.wb_kept_progress.proofs.InTurn.{IsIdle, IsReporting, IsTimedCall, one_or_other}
 use Rattle.wb_kept_progress.proofs.NextReports.{ordered, still_newer, there_here, there_other, window_call}
-use Rattle.wb_kept_progress.proofs.OwedAndDue.{now_there, owed_there, taken_of}
+use Rattle.wb_kept_progress.proofs.OwedAndDue.{near_there, now_there, taken_of}
+use Rattle.wb_kept_progress.proofs.Moments.{moment_of}
+use Rattle.wb_kept_progress.proofs.Onward.{call_later}
 use Rattle.wb_kept_progress.proofs.StillCalls.{IsTuning}
 use Rattle.wb_kept_progress.proofs.Turning.{answers_at}
 use Rattle.wb_kept_progress.proofs.WantingCalls.{asking_in_call}
@@ -50,13 +52,10 @@ covered_last owed due last long covered = le-leb (max owed last - last) (63 * CO
 
 module _ (is_spent : CreditIsSpent) (hosts : ℕ → Opening) (terms : Terms) (trace newest window base : List TimedLine) (s : IsTimelySession hosts terms trace)
     (still : IsStill hosts terms trace newest window base) (late : settled_by terms < called_at base)
-    (i : ℕ) (live : Contains terms.live i) (last : ℕ) (long : called_at base + 21000000 ≤ last) where
+    (i : ℕ) (live : Contains terms.live i) (last moment : ℕ) (at : IsNowAt terms last i moment) (long : called_at base + 21000000 + terms.drift ≤ last) where
   -- something that some hold was asked for lately
   abbrev IsFound : Type 0
-  IsFound = (back : List Performed) × IsAsking hosts terms trace (window ++ base) i back × (last ≤ time_of back + 21000000)
-
-  abbrev moment : ℕ
-  moment = last + terms.offset i
+  IsFound = (back : List Performed) × IsAsking hosts terms trace (window ++ base) i back × (last ≤ time_of back + 21000000 + terms.drift)
 
   abbrev IsPaid : Keeping → Type 0
   IsPaid k = IsCovered k.policy.owed k.policy.reports.due (present k.host) moment
@@ -66,15 +65,15 @@ module _ (is_spent : CreditIsSpent) (hosts : ℕ → Opening) (terms : Terms) (t
       still.split ∙ ap (λ (t : List TimedLine). newest ++ (t ++ base)) split ∙ ap (λ (t : List TimedLine). newest ++ t) (append_assoc front part base)
       ∙ sym (append_assoc newest front (part ++ base))
 
-  paid_first : (front part : List TimedLine) → window ≡ front ++ part → called_at (part ++ base) + 21000000 ≤ last → IsPaid (there hosts (part ++ base) i)
+  paid_first : (front part : List TimedLine) → window ≡ front ++ part → present (there hosts (part ++ base) i).host + 21000000 ≤ moment → IsPaid (there hosts (part ++ base) i)
   paid_first front part split before =
       let k = there hosts (part ++ base) i in
-      let owed = owed_there hosts terms trace (newest ++ front) (part ++ base) i s (split_at front part split) in
-      covered_first k.policy.owed k.policy.reports.due (present k.host) (called_at (part ++ base) + terms.offset i) moment owed (omega (arith, before))
+      let near = near_there hosts terms trace (newest ++ front) (part ++ base) i s (split_at front part split) live in
+      covered_first k.policy.owed k.policy.reports.due (present k.host) (present k.host) moment near.owed before
 
   -- a call in the last 21 seconds
-  module _ (front rest : List TimedLine) (e : TimedLine) (split : window ≡ front ++ e ∷ rest) (lately : last < e.time + 21000000) (by_last : e.time ≤ last)
-      (here : nat_eq e.at.place i ≡ true) where
+  module _ (front rest : List TimedLine) (e : TimedLine) (split : window ≡ front ++ e ∷ rest) (here : nat_eq e.at.place i ≡ true)
+      (lately : moment < present (there hosts (e ∷ (rest ++ base)) i).host + 21000000) (by_moment : present (there hosts (e ∷ (rest ++ base)) i).host ≤ moment) where
     abbrev older : List TimedLine
     older = rest ++ base
 
@@ -85,7 +84,7 @@ module _ (is_spent : CreditIsSpent) (hosts : ℕ → Opening) (terms : Terms) (t
     next = there hosts (e ∷ older) i
 
     abbrev then : ℕ
-    then = e.time + terms.offset i
+    then = moment_of e.at.line
 
     at_i : e.at.place ≡ i
     at_i = eqb-true e.at.place i here
@@ -103,13 +102,6 @@ module _ (is_spent : CreditIsSpent) (hosts : ℕ → Opening) (terms : Terms) (t
         let end = calls_end (e ∷ rest) base order in
         omega (arith, late, end)
 
-    goes_on : present k.host ≤ then
-    goes_on =
-        let now = now_there hosts terms trace ((newest ++ front) ++ e ∷ []) older i s (whole ∙ sym (append_assoc (newest ++ front) (e ∷ []) older)) in
-        let order = ordered hosts terms trace s (newest ++ front) (e ∷ older) whole in
-        let first = order.0 in
-        omega (arith, now, first)
-
     same_held : next.host.is.held ≡ k.host.is.held
     same_held = still_here.same [] (e ∷ rest) i refl live ∙ sym (still_here.same (e ∷ []) rest i refl live)
 
@@ -118,14 +110,19 @@ module _ (is_spent : CreditIsSpent) (hosts : ℕ → Opening) (terms : Terms) (t
         subst (λ (p : ℕ). fault_of e.at.line (there hosts older p) ≡ None) at_i
         (taken_of hosts (newest ++ front) (e ∷ older) (subst (λ (t : List TimedLine). AreTaken hosts (lines_of t)) whole s.taken)).0
 
-    found : (n : NameValue) → Contains (does hosts e older) (Asks n) → IsHeldBySome hosts terms trace n → IsFound
-    found n c held =
+    goes_on : present k.host ≤ present next.host
+    goes_on = subst (λ (x : Keeping). present k.host ≤ present x.host) (sym (there_here hosts e older i here)) (call_later e.at.line k not_refused)
+
+    found : IsNowAt terms e.time i then → present next.host ≡ then → (n : NameValue) → Contains (does hosts e older) (Asks n) → IsHeldBySome hosts terms trace n → IsFound
+    found now is n c held =
         let asked = subst (λ (p : ℕ). let m = there hosts older p in Contains (doing_of e.at.line (sees m.host) m.policy).lines (Asks n)) at_i c in
         let a =
-        asking_in_call hosts terms trace s.opened i n held window base front rest e split here
+        asking_in_call hosts terms trace i n held window base front rest e split here
         (asks_stand e.at.line k n not_refused (answers_at hosts (lines_of older) i) asked) in
         let time = a.2 in
-        (a.0, a.1, omega (arith, time, lately))
+        let ahead = now.not_ahead in
+        let behind = at.not_behind in
+        (a.0, a.1, omega (arith, time, lately, is, ahead, behind))
 
     -- what it spends, as said of its place
     abbrev Spends : ℕ → Type 0
@@ -135,16 +132,16 @@ module _ (is_spent : CreditIsSpent) (hosts : ℕ → Opening) (terms : Terms) (t
         ((n : NameValue) × Contains (does hosts e older) (Asks n) × IsHeldBySome hosts terms trace n)
         ⊎ ((next.host.is.held ≢ k.host.is.held)
         ⊎ ((next.policy.owed ≤ k.policy.owed)
-        ⊎ ((k.policy.reports.due ≤ e.time + terms.offset p) × (next.policy.owed ≤ spent k.policy.owed (e.time + terms.offset p)))))
+        ⊎ ((k.policy.reports.due ≤ then) × (next.policy.owed ≤ spent k.policy.owed then))))
 
     spends : Spends i
     spends = subst Spends at_i (is_spent hosts terms trace (newest ++ front) older e s whole settled)
 
     -- by what became of the moment and of the next report
     record IsLater : Type 0 where
+      now_is : present next.host ≡ then
       rises : k.policy.reports.due ≤ next.policy.reports.due
-      passes : present k.host ≤ present next.host
-      reports : k.policy.reports.due ≤ then → (then + 1000000 ≤ next.policy.reports.due) × (present next.host ≡ then)
+      reports : k.policy.reports.due ≤ then → then + 1000000 ≤ next.policy.reports.due
 
     idle_later : IsIdle (doing_of e.at.line) k then → IsLater
     idle_later idle =
@@ -152,8 +149,7 @@ module _ (is_spent : CreditIsSpent) (hosts : ℕ → Opening) (terms : Terms) (t
         let due = ap (λ (x : Keeping). x.policy.reports.due) is ∙ idle.same.due in
         let now = ap (λ (x : Keeping). present x.host) is ∙ idle.now_is in
         let early = idle.early in
-        let on = goes_on in
-        record { rises = omega (arith, due); passes = omega (arith, now, on); reports = λ le. absurd (omega (arith, early, le)) }
+        record { now_is = now; rises = omega (arith, due); reports = λ le. absurd (omega (arith, early, le)) }
 
     reporting_later : IsReporting (doing_of e.at.line) k then → IsLater
     reporting_later reports =
@@ -162,20 +158,19 @@ module _ (is_spent : CreditIsSpent) (hosts : ℕ → Opening) (terms : Terms) (t
         let now = ap (λ (x : Keeping). present x.host) is ∙ reports.now_is in
         let least = reports.least in
         let before = reports.late in
-        let on = goes_on in
-        record { rises = omega (arith, due, least, before); passes = omega (arith, now, on); reports = λ le. (omega (arith, due, least), now) }
+        record { now_is = now; rises = omega (arith, due, least, before); reports = λ le. omega (arith, due, least) }
 
-    by_later : IsLater → IsPaid k → IsFound ⊎ IsPaid next
-    by_later later paid = ⊎_elim
-        (λ (f : (n : NameValue) × Contains (does hosts e older) (Asks n) × IsHeldBySome hosts terms trace n). inl (found f.0 f.1 f.2))
+    by_later : IsNowAt terms e.time i then → IsLater → IsPaid k → IsFound ⊎ IsPaid next
+    by_later now later paid = ⊎_elim
+        (λ (f : (n : NameValue) × Contains (does hosts e older) (Asks n) × IsHeldBySome hosts terms trace n). inl (found now later.now_is f.0 f.1 f.2))
         (⊎_elim
         (λ (differs : next.host.is.held ≢ k.host.is.held). absurd (differs same_held))
         (⊎_elim
-        (λ (le : next.policy.owed ≤ k.policy.owed). inr (covered_on k.policy.owed next.policy.owed k.policy.reports.due next.policy.reports.due (present k.host) (present next.host) moment le later.rises later.passes paid))
+        (λ (le : next.policy.owed ≤ k.policy.owed). inr (covered_on k.policy.owed next.policy.owed k.policy.reports.due next.policy.reports.due (present k.host) (present next.host) moment le later.rises goes_on paid))
         (λ (r : (k.policy.reports.due ≤ then) × (next.policy.owed ≤ spent k.policy.owed then)).
-        let n = later.reports r.0 in
-        inr (subst (λ (now : ℕ). IsCovered next.policy.owed next.policy.reports.due now moment) (sym n.1)
-        (covered_report k.policy.owed next.policy.owed k.policy.reports.due next.policy.reports.due (present k.host) then moment r.1 r.0 n.0 (omega (arith, lately)) (omega (arith, by_last)) paid)))))
+        let is = later.now_is in
+        inr (subst (λ (now : ℕ). IsCovered next.policy.owed next.policy.reports.due now moment) (sym is)
+        (covered_report k.policy.owed next.policy.owed k.policy.reports.due next.policy.reports.due (present k.host) then moment r.1 r.0 (later.reports r.0) (omega (arith, lately, is)) (omega (arith, by_moment, is)) paid)))))
         spends
 
     paid_next : IsPaid k → IsFound ⊎ IsPaid next
@@ -184,37 +179,43 @@ module _ (is_spent : CreditIsSpent) (hosts : ℕ → Opening) (terms : Terms) (t
         let is = there_here hosts e older i here in
         inr (subst IsPaid (sym is) (subst (λ (p : Policy). IsCovered p.owed p.reports.due (present (after_doing (doing_of e.at.line) k).host) moment) (sym t.policy)
         (subst (λ (now : ℕ). IsCovered k.policy.owed k.policy.reports.due now moment) (sym t.now_is) paid))))
-        (λ (c : IsTimedCall (doing_of e.at.line) k then). by_later (⊎_elim idle_later reporting_later (one_or_other (doing_of e.at.line) k then c)) paid)
+        (λ (c : IsTimedCall (doing_of e.at.line) k then × IsNowAt terms e.time i then). by_later c.1 (⊎_elim idle_later reporting_later (one_or_other (doing_of e.at.line) k then c.0)) paid)
         (window_call hosts terms trace s i live (newest ++ front) rest base e still_here (omega (arith, late)) here)
 
-  paid_at : (front part : List TimedLine) → window ≡ front ++ part → called_at (part ++ base) ≤ last → IsFound ⊎ IsPaid (there hosts (part ++ base) i)
-  paid_at front [] split le = inr (paid_first front [] split long)
+  -- one call more, after those before it
+  paid_on : (front rest : List TimedLine) (e : TimedLine) → window ≡ front ++ e ∷ rest → present (there hosts (e ∷ (rest ++ base)) i).host ≤ moment → moment < present (there hosts (e ∷ (rest ++ base)) i).host + 21000000
+      → (present (there hosts (rest ++ base) i).host ≤ moment → IsFound ⊎ IsPaid (there hosts (rest ++ base) i)) → (b : Bool) → nat_eq e.at.place i ≡ b → IsFound ⊎ IsPaid (there hosts (e ∷ (rest ++ base)) i)
+  paid_on front rest e split le lately before true here =
+      let on = goes_on front rest e split here lately le in
+      ⊎_elim (λ (f : IsFound). inl f) (λ (paid : IsPaid (there hosts (rest ++ base) i)). paid_next front rest e split here lately le paid) (before (omega (arith, on, le)))
+  paid_on front rest e split le lately before false other =
+      let same = there_other hosts e (rest ++ base) i other in
+      ⊎_elim (λ (f : IsFound). inl f) (λ (paid : IsPaid (there hosts (rest ++ base) i)). inr (subst IsPaid (sym same) paid)) (before (subst (λ (x : Keeping). present x.host ≤ moment) same le))
+
+  paid_at : (front part : List TimedLine) → window ≡ front ++ part → present (there hosts (part ++ base) i).host ≤ moment → IsFound ⊎ IsPaid (there hosts (part ++ base) i)
+  paid_at front [] split le = inr (paid_first front [] split (
+      let now = now_there hosts terms trace (newest ++ front) base i s (split_at front [] split) live in
+      let behind = at.not_behind in
+      omega (arith, now, behind, long, late)
+      ))
   paid_at front (e ∷ rest) split le = ⊎_elim
       (λ yes. inr (paid_first front (e ∷ rest) split yes.1))
-      (λ no. ⊎_elim
-      (λ (f : IsFound). inl f)
-      (λ (paid : IsPaid (there hosts (rest ++ base) i)). by paid no.1 (nat_eq e.at.place i) refl)
-      (paid_at (front ++ e ∷ []) rest (split ∙ sym (append_assoc front (e ∷ []) rest)) (before le)))
-      (leb_tells (e.time + 21000000) last) where
-        before : e.time ≤ last → called_at (rest ++ base) ≤ last
-        before le = let order = ordered hosts terms trace s (newest ++ front) (e ∷ (rest ++ base)) (split_at front (e ∷ rest) split) in let first = order.0 in omega (arith, first, le)
-
-        by : IsPaid (there hosts (rest ++ base) i) → last < e.time + 21000000 → (b : Bool) → nat_eq e.at.place i ≡ b
-            → IsFound ⊎ IsPaid (there hosts (e ∷ (rest ++ base)) i)
-        by paid lately true here = paid_next front rest e split lately le here paid
-        by paid lately false other = inr (subst IsPaid (sym (there_other hosts e (rest ++ base) i other)) paid)
+      (λ no. paid_on front rest e split le no.1 (λ soon. paid_at (front ++ e ∷ []) rest (split ∙ sym (append_assoc front (e ∷ []) rest)) soon) (nat_eq e.at.place i) refl)
+      (leb_tells (present (there hosts (e ∷ (rest ++ base)) i).host + 21000000) moment)
 
 pub no_credit_is_asked : CreditIsSpent → NoCreditIsAsked
 no_credit_is_asked is_spent hosts terms trace newest window base front part sizes wait most i all still late live split long none =
     let k = there hosts (part ++ base) i in
     let last = called_at (part ++ base) in
-    let moment = last + terms.offset i in
+    let moment = present k.host in
     ⊎_elim
-    (λ (f : (back : List Performed) × IsAsking hosts terms trace (window ++ base) i back × (last ≤ time_of back + 21000000)). f)
-    (λ (paid : IsCovered k.policy.owed k.policy.reports.due (present k.host) moment).
-    let covered = subst (λ (now : ℕ). IsCovered k.policy.owed k.policy.reports.due now moment) none.0 paid in
-    let credit = covered_last k.policy.owed k.policy.reports.due moment (omega (arith, long)) covered in
-    absurd (true≢false (sym credit ∙ ap (λ (now : ℕ). has_credit k.policy.owed now) (sym none.0) ∙ none.1)))
-    (paid_at is_spent hosts terms trace newest window base all.session still (settled terms (called_at base) wait all.session.reported late) i live last (omega (arith, long)) front part split (omega arith)) where
+    (λ (f : (back : List Performed) × IsAsking hosts terms trace (window ++ base) i back × (last ≤ time_of back + 21000000 + terms.drift)). f)
+    (λ (paid : IsCovered k.policy.owed k.policy.reports.due moment moment).
+    let behind = none.0.not_behind in
+    let began = all.session.begun i live in
+    let after = settled terms (called_at base) wait all.session.reported late in
+    let credit = covered_last k.policy.owed k.policy.reports.due moment (omega (arith, long, behind, began, after)) paid in
+    absurd (true≢false (sym credit ∙ none.1)))
+    (paid_at is_spent hosts terms trace newest window base all.session still (settled terms (called_at base) wait all.session.reported late) i live last moment none.0 (omega (arith, long)) front part split (omega arith)) where
       settled : (terms : Terms) (time wait : ℕ) → 1 ≤ terms.reporting → known_from terms + wait + repairing terms ≤ time → settled_by terms < time
       settled terms time wait some le = omega (arith, some, le)

@@ -8,10 +8,11 @@ use Rattle.wb_keeper.proofs.KeptCalls.{holds_from}
 use Rattle.wb_progress.specs.Turns.{Terms, settled_by}
 use Rattle.wb_progress.proofs.Giving.{held_as}
 use Rattle.wb_member.specs.Judged.{holds}
-use Rattle.wb_member.specs.Opened.{Opened}
+use Rattle.wb_member.specs.Opened.{Opened, opened_with}
 use Rattle.wb_keeping.specs.Kept.{Arrives, Line, Says}
 use Rattle.wb_keeping.specs.Performing.{after_line}
 use Rattle.wb_kept_progress.specs.Timed.{IsAnswerable, IsTimely, Performed, Start, WasSent, host_after, performed, start_of, until}
+use Rattle.wb_kept_progress.proofs.Begun.{ticks_keep}
 use Rattle.wb_kept_progress.proofs.Bringing.{line_brings}
 use Rattle.wb_kept_progress.proofs.CallParts.{host_is}
 use Rattle.wb_kept_progress.proofs.CallsInTime.{performed_is_timely}
@@ -108,8 +109,11 @@ module _ (hosts : ℕ → Start) (terms : Terms) (trace : List Performed) (timel
       (λ (le : e.time ≤ settled_by terms). early newer older e i split le live held)
       (cases_lt (settled_by terms) e.time)
 
+  none_at_first : (i : ℕ) → holds (host_after hosts [] i) n ≡ false
+  none_at_first i = ticks_keep (λ host. holds host n ≡ false) (λ now host none. none) (hosts i).moments (opened_with (hosts i).constants (hosts i).number (hosts i).cells (hosts i).seed) refl
+
   each_part : (longest : List Performed) → Up longest
-  each_part [] [] part newer i is split live held = absurd (true≢false (sym held ∙ ap (λ (t : List Performed). holds (host_after hosts t i) n) (sym is)))
+  each_part [] [] part newer i is split live held = absurd (true≢false (sym held ∙ ap (λ (t : List Performed). holds (host_after hosts t i) n) (sym is) ∙ none_at_first i))
   each_part [] (b ∷ between) part newer i is split live held = absurd (nil_ends [] b (between ++ part) is)
   each_part (e ∷ older) [] part newer i is split live held =
       one_part newer older e i (each_part older) (split ∙ ap (λ (t : List Performed). newer ++ t) (sym is)) live (subst (λ (t : List Performed). Has t i) (sym is) held)
@@ -122,4 +126,4 @@ pub held_was_held : HeldWasHeld
 held_was_held hosts terms trace newer older i n s split live held =
     let f = front_of hosts newer older in
     nothing_new (λ j. start_of (hosts j)) terms (performed hosts trace) (performed_is_timely hosts terms trace s) n f.0 (performed hosts older) i (ap (performed hosts) split ∙ f.1) live
-    (ap (λ (h : Opened). holds h n) (host_is hosts s.opened older i) ∙ held)
+    (ap (λ (h : Opened). holds h n) (host_is hosts older i) ∙ held)

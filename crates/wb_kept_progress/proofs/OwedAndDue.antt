@@ -1,16 +1,16 @@
 -- What is owed is at most 16 seconds ahead of the present moment, and the next report is due within 96 seconds of it.
-use Rattle.std.proofs.Common.{◌≡◌, ℕ, ◌+◌, ◌-◌, ◌*◌, ◌≤◌, Bool, true, false, cond, List, [], ◌∷◌, ◌++◌, ap, arith, eqb-true, map, max, refl, subst, sym, ⊎_elim}
-use Rattle.std.specs.Prelude.{◌%◌, None, nat_eq, not, take, ◌||◌}
+use Rattle.std.proofs.Common.{◌≡◌, ℕ, ◌+◌, ◌-◌, ◌*◌, ◌≤◌, Bool, true, false, cond, List, [], ◌∷◌, ◌++◌, ap, arith, eqb-true, map, max, refl, subst, ⊎_elim}
+use Rattle.std.specs.Prelude.{◌%◌, Contains, None, nat_eq, not, take, ◌||◌}
 use Rattle.std.proofs.lemmas.Bool.{and_parts, leb-true}
 use Rattle.wb_names.specs.Values.{NameValue}
 use Rattle.wb_codec.specs.declared.datagram.Datagram.{Datagram}
 use Rattle.wb_gaps.specs.Answers.{pages_of}
-use Rattle.wb_progress.specs.Turns.{Terms}
-use Rattle.wb_member.specs.Opened.{has_room_for, heard, opened_with, present}
+use Rattle.wb_progress.specs.Turns.{IsNowAt, Terms}
+use Rattle.wb_member.specs.Opened.{has_room_for, heard, present}
 use Rattle.wb_policy.specs.declared.limits.TheConstants.{COST}
 use Rattle.wb_keeping.specs.Kept.{Doing, Hears, Line, Says, Ticks, state_of, still, want}
 use Rattle.wb_keeping.specs.Laws.{doing_of, fault_of}
-use Rattle.wb_keeping.specs.Performing.{Keeping, after_doing, after_lines, sees, view_of}
+use Rattle.wb_keeping.specs.Performing.{Keeping, after_doing, sees, view_of}
 use Rattle.wb_policy.specs.Policy.{after_answer, after_wanting}
 use Rattle.wb_keeping.specs.Views.{View, holds, is_full, level, is_known}
 use Rattle.wb_policy.specs.Wanting.{goes_on, is_wanted}
@@ -20,11 +20,12 @@ use Rattle.wb_keeping.proofs.EachStep.{HoldsOfSteps, doing, having, having_done,
 use Rattle.wb_keeping.proofs.Saying.{says_after}
 use Rattle.wb_keeping.proofs.Wanted.{lines_wanted}
 use Rattle.wb_kept_progress.specs.Sessions.{AreTaken, LineAt, Opening, kept_at, opened, opened_host}
-use Rattle.wb_kept_progress.specs.Timed.{IsTold, TellTimes, TimedLine, called_at, lines_of}
+use Rattle.wb_kept_progress.specs.Timed.{SaysNow, TellTimes, TimedLine, called_at, lines_of}
+use Rattle.wb_kept_progress.proofs.Moments.{IsTuned, moment_of, told_itself, told_or_tuned}
 use Rattle.wb_kept_progress.specs.Whole.{AreCalledInOrder, IsTimelySession, there}
 use Rattle.wb_kept_progress.proofs.CallParts.{calls_order}
 use Rattle.wb_kept_progress.proofs.Lines.{IsSmall, are_small, does_rest}
-use Rattle.wb_kept_progress.proofs.StillCalls.{IsTuning, call_now}
+use Rattle.wb_kept_progress.proofs.StillCalls.{IsTuning, call_now, tuned_only}
 use Rattle.wb_kept_progress.proofs.WholeParts.{ReportsAreDue}
 use Rattle.wb_keeping.proofs.EachLine.{want_each}
 use Rattle.wb_kept_progress.proofs.Leaving.{next_soon}
@@ -134,43 +135,41 @@ pub tells_of : (terms : Terms) (newer older : List TimedLine) → TellTimes term
 tells_of terms [] older tells = tells
 tells_of terms (e ∷ newer) older tells = tells_of terms newer older tells.1
 
--- the present moment of a host is not behind the newest call
-pub present_by : (hosts : ℕ → Opening) (terms : Terms) (calls : List TimedLine) (i : ℕ) → (hosts i).moments ≡ [] → AreCalledInOrder calls
-    → TellTimes terms calls → present (there hosts calls i).host ≤ called_at calls + terms.offset i
-present_by hosts terms [] i none order tells =
-    subst (λ (moments : List ℕ). present (after_lines (map Ticks moments) (opened_with (hosts i).constants (hosts i).number (hosts i).cells (hosts i).seed)) ≤ 0 + terms.offset i)
-    (sym none) (omega arith)
-present_by hosts terms (e ∷ older) i none order tells = by (present_by hosts terms older i none order.1 tells.1) (nat_eq e.at.place i) refl where
+-- the clock of a host is not ahead of the newest call, or of the quiet time until the first one
+pub present_by : (hosts : ℕ → Opening) (terms : Terms) (calls : List TimedLine) (i : ℕ) → Contains terms.live i → present (opened (hosts i)).host + terms.lag i ≤ terms.quiet → AreCalledInOrder calls
+    → TellTimes terms calls → present (there hosts calls i).host + terms.lag i ≤ max (called_at calls) terms.quiet
+present_by hosts terms [] i live begun order tells = omega (arith, begun)
+present_by hosts terms (e ∷ older) i live begun order tells = by (present_by hosts terms older i live begun order.1 tells.1) (nat_eq e.at.place i) refl where
   k : Keeping
   k = there hosts older i
 
-  by : present k.host ≤ called_at older + terms.offset i → (b : Bool) → nat_eq e.at.place i ≡ b
-      → present (cond b (after_doing (doing_of e.at.line) k) k).host ≤ e.time + terms.offset i
+  by : present k.host + terms.lag i ≤ max (called_at older) terms.quiet → (b : Bool) → nat_eq e.at.place i ≡ b
+      → present (cond b (after_doing (doing_of e.at.line) k) k).host + terms.lag i ≤ max e.time terms.quiet
   by le false other = let o = order.0 in omega (arith, le, o)
   by le true same =
-      let told = subst (λ (p : ℕ). IsTold (e.time + terms.offset p) e.at.line) (eqb-true e.at.place i same) tells.0 in
-      let o = order.0 in
+      let told = subst (λ (p : ℕ). Contains terms.live p → SaysNow terms e.time p e.at.line) (eqb-true e.at.place i same) tells.0 live in
+      let tuning : IsTuning (doing_of e.at.line) k → present (after_doing (doing_of e.at.line) k).host + terms.lag i ≤ max e.time terms.quiet = λ t. let now = t.now_is in let o = order.0 in omega (arith, now, le, o) in
       ⊎_elim
-      (λ (t : IsTuning (doing_of e.at.line) k). let now = t.now_is in omega (arith, now, le, o))
-      (λ (now : present (after_doing (doing_of e.at.line) k).host ≡ e.time + terms.offset i). omega (arith, now))
-      (call_now e.at.line k (e.time + terms.offset i) told)
+      (λ (t : IsTuned e.at.line). tuning (tuned_only e.at.line k t))
+      (λ (at : IsNowAt terms e.time i (moment_of e.at.line)). ⊎_elim
+      tuning
+      (λ (now : present (after_doing (doing_of e.at.line) k).host ≡ moment_of e.at.line). let ahead = at.not_ahead in omega (arith, now, ahead))
+      (call_now e.at.line k (moment_of e.at.line) (told_itself e.at.line)))
+      (told_or_tuned terms e.time i e.at.line told)
 
 -- what is owed at a call, and when the next report is due
 module _ (hosts : ℕ → Opening) (terms : Terms) (trace newer older : List TimedLine) (i : ℕ) (s : IsTimelySession hosts terms trace)
-    (split : trace ≡ newer ++ older) where
-  near_there : IsNearNow (there hosts older i)
+    (split : trace ≡ newer ++ older) (live : Contains terms.live i) where
+  pub near_there : IsNearNow (there hosts older i)
   near_there = near_at hosts (lines_of older) i (taken_of hosts newer older (subst (λ (t : List TimedLine). AreTaken hosts (lines_of t)) split s.taken))
 
-  pub now_there : present (there hosts older i).host ≤ called_at older + terms.offset i
+  pub now_there : present (there hosts older i).host + terms.lag i ≤ max (called_at older) terms.quiet
   now_there =
-      present_by hosts terms older i (s.opened i) (calls_order newer older (subst AreCalledInOrder split s.order))
+      present_by hosts terms older i live (s.begun i live) (calls_order newer older (subst AreCalledInOrder split s.order))
       (tells_of terms newer older (subst (TellTimes terms) split s.times))
 
-  pub owed_there : (there hosts older i).policy.owed ≤ called_at older + terms.offset i + 16000000
-  owed_there = let n = near_there in let o = n.owed in let now = now_there in omega (arith, o, now)
-
-  pub due_there : (there hosts older i).policy.reports.due ≤ called_at older + terms.offset i + 96000000
+  pub due_there : (there hosts older i).policy.reports.due + terms.lag i ≤ max (called_at older) terms.quiet + 96000000
   due_there = let n = near_there in let d = n.due in let now = now_there in omega (arith, d, now)
 
 pub reports_are_due : ReportsAreDue
-reports_are_due hosts terms trace newer older i s split live = due_there hosts terms trace newer older i s split
+reports_are_due hosts terms trace newer older i s split live = due_there hosts terms trace newer older i s split live

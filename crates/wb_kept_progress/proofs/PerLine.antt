@@ -24,6 +24,7 @@ use Rattle.wb_keeper.specs.Keeper.{KeeperCall, SetDelay, SetConstants, Hear, Arr
 use Rattle.wb_keeper.specs.Ticks.{drawop_of, sent_by_tick, sent_for, stopped_after}
 use Rattle.wb_keeper.proofs.TickSends.{sent_from}
 use Rattle.wb_progress.proofs.OneCall.{not_standing}
+use Rattle.wb_progress.specs.Keepers.{uses_delays}
 use Rattle.wb_progress.specs.Repairs.{timers_at}
 use Rattle.wb_member.specs.Members.{Hears as Hearing, Misses, SetsConstants, SetsDelay, Takes, Ticks as Ticking, GivesUp}
 use Rattle.wb_member.specs.Opened.{Opened, accepted, asks_for, becomes, doing, due_count, events, has_room_for, heard, may_ask, present, word_at}
@@ -32,6 +33,7 @@ use Rattle.wb_laws_sessions.proofs.Holding.{HeldNone, none_after}
 use Rattle.wb_laws_sessions.proofs.Acts.{IsDrawing, draws_sent}
 use Rattle.wb_keeping.specs.Kept.{Line, Arrives, Asks, Hears, Says, SetsDistance, Tunes, Stops, Ticks}
 use Rattle.wb_keeping.specs.Performing.{after_line, said_where, sent_by_line}
+use Rattle.wb_kept_progress.specs.Timed.{goes_by_distances}
 use Rattle.wb_laws_sessions.proofs.Sending.{one_of, no_answer}
 use Rattle.std.proofs.lemmas.Option.{same_Some}
 
@@ -80,6 +82,20 @@ call_moment host line (Miss now names words) m = inl m.3
 call_moment host line (GoOn now words names) m = inr (now, m.0, refl)
 call_moment host line (Report now) m = absurd m
 call_moment host line (GiveUp now name asked) m = inl m.1
+
+-- a call that goes by delays is made by a line that does
+pub goes_by : (host : Opened) (line : Line) (call : KeeperCall) → IsMade host line call → uses_delays call ≡ true → goes_by_distances line ≡ true
+goes_by host line (SetDelay source micros) m uses = absurd (true≢false (sym uses))
+goes_by host line (SetConstants constants) m uses = absurd (true≢false (sym uses))
+goes_by host line (Hear now v word held) m uses = subst (λ (l : Line). goes_by_distances l ≡ true) (sym m.0) uses
+goes_by host line (Arrive now names) m uses = ⊎_elim
+    (λ (a : line ≡ Arrives m.0). subst (λ (l : Line). goes_by_distances l ≡ true) (sym a) refl)
+    (λ (s : line ≡ Says (Draw m.0)). subst (λ (l : Line). goes_by_distances l ≡ true) (sym s) refl)
+    m.1
+goes_by host line (Miss now names words) m uses = subst (λ (l : Line). goes_by_distances l ≡ true) (sym m.1) refl
+goes_by host line (GoOn now words names) m uses = subst (λ (l : Line). goes_by_distances l ≡ true) (sym m.0) refl
+goes_by host line (Report now) m uses = absurd m
+goes_by host line (GiveUp now name asked) m uses = absurd (true≢false (sym uses))
 
 no_loop : (calls : List KeeperCall) (call : KeeperCall) → calls ≡ call ∷ calls → ⊥
 no_loop calls call same = let e : length calls ≡ length (call ∷ calls) = ap (λ (c : List KeeperCall). length c) same in omega (arith, e)

@@ -1,18 +1,18 @@
 -- Self-managing hosts perform lines, and each call of theirs begins with a tick.
-use Rattle.std.proofs.Common.{◌≡◌, ℕ, ◌+◌, Bool, true, false, cond, List, [], ◌∷◌, ◌++◌, ◌∙◌, ap, eqb-true, eq-eqb, map, refl, subst, sym, ⊎_elim}
-use Rattle.std.specs.Prelude.{nat_eq}
+use Rattle.std.proofs.Common.{◌≡◌, ℕ, Bool, true, false, cond, List, [], ◌∷◌, ◌++◌, ◌∙◌, ap, eqb-true, eq-eqb, refl, subst, sym, ⊎_elim}
+use Rattle.std.specs.Prelude.{Contains, nat_eq}
 use Rattle.wb_names.specs.declared.name.PageId.{PageId}
 use Rattle.wb_names.specs.declared.parts.Op.{Op}
 use Rattle.wb_codec.specs.declared.datagram.Datagram.{Datagram}
-use Rattle.wb_progress.specs.Turns.{Terms}
-use Rattle.wb_member.specs.Opened.{opened_with, present}
+use Rattle.wb_progress.specs.Turns.{IsNowAt, Terms}
+use Rattle.wb_member.specs.Opened.{present}
 use Rattle.wb_keeping.specs.Kept.{Line, Doing, Hears, Tunes, Ticks, Transition, adds, and_then, came, draws_it, ends_full, hears, ticks, timed}
 use Rattle.wb_keeping.specs.Laws.{KeptLine, Came, Ticked, Added, Tuned, doing_of}
 use Rattle.wb_keeping.specs.Performing.{Keeping, after_doing, after_line, after_lines, sees}
 use Rattle.wb_policy.specs.Policy.{Policy}
 use Rattle.wb_keeping.specs.Views.{View}
 use Rattle.wb_kept_progress.specs.Sessions.{Opening, kept_at}
-use Rattle.wb_kept_progress.specs.Timed.{IsTold, KeptIsPerformed, KeptKeepsMoments, Performed, Start, TellTimes, TimedLine, host_after, lines_of, performed, performed_then, start_of}
+use Rattle.wb_kept_progress.specs.Timed.{SaysNow, KeptIsPerformed, KeptKeepsMoments, Performed, Start, TellTimes, TimedLine, host_after, lines_of, performed, performed_then, start_of}
 use Rattle.wb_kept_progress.proofs.PerLine.{line_moment}
 use Rattle.wb_keeping.proofs.EachLine.{timed_each, DoesEach, Each, OfPolicy, ends_each, then_each, hears_each}
 
@@ -29,9 +29,9 @@ module _ (hosts : ℕ → Start) where
       ∙ ap (λ (b : Bool). cond b (after_line line (host_after hosts older i)) (host_after hosts older i)) e
 
 pub kept_is_performed : KeptIsPerformed
-kept_is_performed hosts trace none = record { same = by trace } where
+kept_is_performed hosts trace = record { same = by trace } where
   by : (trace : List TimedLine) (i : ℕ) → host_after (λ j. start_of (hosts j)) (performed hosts trace) i ≡ (kept_at hosts (lines_of trace) i).host
-  by [] i = sym (ap (λ (moments : List ℕ). after_lines (map Ticks moments) (opened_with (hosts i).constants (hosts i).number (hosts i).cells (hosts i).seed)) (none i))
+  by [] i = refl
   by (e ∷ older) i = from (nat_eq e.at.place i) refl (by older i) where
     k : Keeping
     k = kept_at hosts (lines_of older) e.at.place
@@ -95,8 +95,8 @@ adds_begin now page time op see p = record {
 
 module _ (hosts : ℕ → Start) (terms : Terms) where
   record IsInTime (e : Performed) (older : List Performed) : Type 0 where
-    ticks : (now : ℕ) → e.line ≡ Ticks now → now ≡ e.time + terms.offset e.place
-    hears : (v : Datagram) → e.line ≡ Hears v → present (host_after hosts older e.place) ≡ e.time + terms.offset e.place
+    ticks : (now : ℕ) → Contains terms.live e.place → e.line ≡ Ticks now → IsNowAt terms e.time e.place now
+    hears : (v : Datagram) → Contains terms.live e.place → e.line ≡ Hears v → IsNowAt terms e.time e.place (present (host_after hosts older e.place))
 
   abbrev AreInTime : List Performed → Type 0
   AreInTime [] = Unit {0}
@@ -115,35 +115,35 @@ module _ (hosts : ℕ → Start) (terms : Terms) where
   no_tick : (line : Line) (now : ℕ) → IsNoTick line → line ≡ Ticks now → ⊥
   no_tick line now none e = subst IsNoTick e none
 
-  then_in : (time place : ℕ) (lines : List Line) (older : List Performed) → AreNoTicks lines → AreInTime older → present (host_after hosts older place) ≡ time + terms.offset place → AreInTime (performed_then time place lines older)
+  then_in : (time place : ℕ) (lines : List Line) (older : List Performed) → AreNoTicks lines → AreInTime older → (Contains terms.live place → IsNowAt terms time place (present (host_after hosts older place))) → AreInTime (performed_then time place lines older)
   then_in time place [] older none all now = all
   then_in time place (line ∷ lines) older none all now =
       then_in time place lines (at_place time place line ∷ older) none.1
-      (record { ticks = λ moment e. absurd (no_tick line moment none.0 e); hears = λ v e. now }, all)
-      (ap present (here time place line older) ∙ ⊎_elim
-      (λ (same : present (after_line line (host_after hosts older place)) ≡ present (host_after hosts older place)). same ∙ now)
+      (record { ticks = λ moment live e. absurd (no_tick line moment none.0 e); hears = λ v live e. now live }, all)
+      (λ live. subst (IsNowAt terms time place) (sym (ap present (here time place line older) ∙ ⊎_elim
+      (λ (same : present (after_line line (host_after hosts older place)) ≡ present (host_after hosts older place)). same)
       (λ (t : (moment : ℕ) × (line ≡ Ticks moment) × (present (after_line line (host_after hosts older place)) ≡ moment)). absurd (no_tick line t.0 none.0 t.1))
-      (line_moment line (host_after hosts older place)))
+      (line_moment line (host_after hosts older place)))) (now live))
 
-  call_in : (time place now : ℕ) (rest : List Line) (older : List Performed) → AreNoTicks rest → AreInTime older → now ≡ time + terms.offset place → AreInTime (performed_then time place (Ticks now ∷ rest) older)
+  call_in : (time place now : ℕ) (rest : List Line) (older : List Performed) → AreNoTicks rest → AreInTime older → (Contains terms.live place → IsNowAt terms time place now) → AreInTime (performed_then time place (Ticks now ∷ rest) older)
   call_in time place now rest older none all told =
       then_in time place rest (at_place time place (Ticks now) ∷ older) none
-      (record { ticks = λ moment e. sym (same moment e) ∙ told; hears = λ v e. absurd (other v e) }, all)
-      (ap present (here time place (Ticks now) older) ∙ told) where
+      (record { ticks = λ moment live e. subst (IsNowAt terms time place) (same moment e) (told live); hears = λ v live e. absurd (other v e) }, all)
+      (λ live. subst (IsNowAt terms time place) (sym (ap present (here time place (Ticks now) older))) (told live)) where
         same : (moment : ℕ) → Ticks now ≡ Ticks moment → now ≡ moment
         same moment e = cc
 
         other : (v : Datagram) → Ticks now ≡ Hears v → ⊥
         other v e = cc
 
-  begun_in : (time place now : ℕ) (d : Doing) (older : List Performed) → Begins now d → AreInTime older → now ≡ time + terms.offset place → AreInTime (performed_then time place d.lines older)
+  begun_in : (time place now : ℕ) (d : Doing) (older : List Performed) → Begins now d → AreInTime older → (Contains terms.live place → IsNowAt terms time place now) → AreInTime (performed_then time place d.lines older)
   begun_in time place now d older b all told = subst (λ (lines : List Line). AreInTime (performed_then time place lines older)) (sym b.is) (call_in time place now b.rest older b.none all told)
 
-  line_in : (line : KeptLine) (time place : ℕ) (see : List Line → View) (p : Policy) (older : List Performed) → IsTold (time + terms.offset place) line → AreInTime older → AreInTime (performed_then time place (doing_of line see p).lines older)
+  line_in : (line : KeptLine) (time place : ℕ) (see : List Line → View) (p : Policy) (older : List Performed) → (Contains terms.live place → SaysNow terms time place line) → AreInTime older → AreInTime (performed_then time place (doing_of line see p).lines older)
   line_in (Came now v) time place see p older told all = begun_in time place now (came now v see p) older (came_begins now v see p) all told
   line_in (Ticked now) time place see p older told all = begun_in time place now (ticks now see p) older (ticks_begin now see p) all told
   line_in (Added now page t op) time place see p older told all = begun_in time place now (adds now page t op see p) older (adds_begin now page t op see p) all told
-  line_in (Tuned constants) time place see p older told all = (record { ticks = λ moment e. absurd (no_tick (Tunes constants) moment tt e); hears = λ v e. absurd (unheard v e) }, all) where
+  line_in (Tuned constants) time place see p older told all = (record { ticks = λ moment live e. absurd (no_tick (Tunes constants) moment tt e); hears = λ v live e. absurd (unheard v e) }, all) where
     unheard : (v : Datagram) → Tunes constants ≡ Hears v → ⊥
     unheard v e = cc
 
@@ -155,6 +155,6 @@ all_in hosts terms (e ∷ older) tells =
 
 pub kept_keeps_moments : KeptKeepsMoments
 kept_keeps_moments hosts terms trace tells = record {
-  times = λ newer older e now split is. (one_in (λ j. start_of (hosts j)) terms newer older e (subst (AreInTime (λ j. start_of (hosts j)) terms) split (all_in hosts terms trace tells))).ticks now is;
-  behind = λ newer older e v split is. (one_in (λ j. start_of (hosts j)) terms newer older e (subst (AreInTime (λ j. start_of (hosts j)) terms) split (all_in hosts terms trace tells))).hears v is;
+  times = λ newer older e now split live is. (one_in (λ j. start_of (hosts j)) terms newer older e (subst (AreInTime (λ j. start_of (hosts j)) terms) split (all_in hosts terms trace tells))).ticks now live is;
+  behind = λ newer older e v split live is. (one_in (λ j. start_of (hosts j)) terms newer older e (subst (AreInTime (λ j. start_of (hosts j)) terms) split (all_in hosts terms trace tells))).hears v live is;
 }

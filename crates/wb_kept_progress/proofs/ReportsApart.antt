@@ -4,7 +4,6 @@ use Rattle.std.specs.Prelude.{◌⊎◌, ◌≢◌, nat_le}
 use Rattle.wb_names.specs.declared.name.PageId.{PageId}
 use Rattle.wb_names.specs.declared.parts.Op.{Op}
 use Rattle.wb_codec.specs.declared.datagram.Datagram.{Datagram}
-use Rattle.wb_recovery.specs.declared.tuning.Tuning.{Tuning}
 use Rattle.wb_member.specs.Opened.{present}
 use Rattle.wb_keeping.specs.Kept.{Ticks, came, hears, performs, ticks, timed}
 use Rattle.wb_keeping.specs.Laws.{KeptLine, Came, Ticked, Added, Tuned, doing_of}
@@ -12,7 +11,7 @@ use Rattle.wb_keeping.specs.Performing.{Keeping, after_doing, sees}
 use Rattle.wb_policy.specs.Policy.{draws}
 use Rattle.wb_keeping.proofs.EachStep.{having}
 use Rattle.wb_keeping.proofs.Performed.{then_after}
-use Rattle.wb_kept_progress.specs.Timed.{IsTold}
+use Rattle.wb_kept_progress.proofs.Moments.{IsTold, IsTuned}
 use Rattle.wb_kept_progress.proofs.Performed.{hears_none}
 use Rattle.wb_kept_progress.proofs.Repairs.{came_after}
 use Rattle.wb_kept_progress.proofs.Leaving.{hears_tells}
@@ -45,9 +44,6 @@ after_came now v k =
     subst (λ (n : Keeping). IsDueThen now k.policy.reports.due n.policy.reports.due) (sym (came_after now v k))
     (subst (λ (d : ℕ). IsDueThen now d (after_doing timed m).policy.reports.due) due
     (subst (λ (n : ℕ). IsDueThen n m.policy.reports.due (after_doing timed m).policy.reports.due) moment (timed_due m)))
-
-abbrev pub IsTuned : KeptLine → Type 0
-IsTuned line = (constants : Tuning) × (line ≡ Tuned constants)
 
 abbrev pub DrawsNothing : KeptLine → Type 0
 DrawsNothing line = (now : ℕ) (page : PageId) (time : ℕ) (op : Op) → line ≢ Added now page time op

@@ -1,11 +1,12 @@
 -- What a call spends of the credit.
-use Rattle.std.proofs.Common.{◌≡◌, ℕ, ◌+◌, ◌≤◌, ◌∷◌, arith, inl, inr, ⊎_elim}
+use Rattle.std.proofs.Common.{◌≡◌, ℕ, ◌≤◌, ◌∷◌, arith, inl, inr, ⊎_elim}
 use Rattle.std.specs.Prelude.{◌⊎◌, Contains}
 use Rattle.wb_names.specs.Values.{NameValue}
 use Rattle.wb_policy.specs.Credit.{spent}
 use Rattle.wb_keeping.specs.Kept.{Asks}
 use Rattle.wb_kept_progress.specs.Whole.{IsHeldBySome, there}
 use Rattle.wb_kept_progress.proofs.Causes.{goes}
+use Rattle.wb_kept_progress.proofs.Moments.{moment_of}
 use Rattle.wb_kept_progress.proofs.AskedInCalls.{IsMore, more_differs}
 use Rattle.wb_kept_progress.proofs.Courses.{IsCourse}
 use Rattle.wb_kept_progress.proofs.WholeParts.{CreditIsSpent, HeldWasHeld, does}
@@ -17,7 +18,7 @@ pub credit_is_spent : HeldWasHeld → CreditIsSpent
 credit_is_spent held_was hosts terms trace newer older e session split late =
     let k = there hosts older e.at.place in
     let next = there hosts (e ∷ older) e.at.place in
-    let now = e.time + terms.offset e.at.place in
+    let now = moment_of e.at.line in
     ⊎_elim
     (λ (more : IsMore k next). inr (inl (more_differs k next more)))
     (λ (c : IsCourse (λ n. IsHeldBySome hosts terms trace n) k now (does hosts e older) next). ⊎_elim

@@ -15,48 +15,31 @@ use Rattle.wb_laws_kept.specs.Sessions.{AreTaken, Begins, Call, CallAt, Handed, 
 use Rattle.wb_laws_kept.proofs.Honest.{number_of_kept}
 use Rattle.wb_kept_progress.specs.Sessions.{LineAt, WasSent, at}
 use Rattle.wb_kept_progress.specs.Sessions as hosts
+use Rattle.wb_kept_progress.specs.Since.{hosts_of, opening_at, opening_by, with_number}
 use Rattle.wb_kept_progress.specs.Starts.{AreSent, HasCome, NoStateIsADeadEnd, calls_of, sent_since}
 use Rattle.wb_kept_progress.specs.Repairs as repairs
 use Rattle.wb_kept_progress.proofs.Coming.{lost_can_come}
 use Rattle.wb_kept_progress.proofs.Repairs.{is_itself}
 use Rattle.std.proofs.lemmas.Bool.{false_from_ne_true}
 
--- ---- the last opening of each member, and the lines since then
-
-abbrev with_number : ℕ → Opening → hosts.Opening
-with_number number o = record { constants = o.constants; number = number; cells = o.cells; seed = o.seed; moments = o.moments; rate = o.rate; listen = o.listen }
-
--- that of a program that never started
-abbrev unborn : Opening
-unborn = record { constants = record { c1 = 2; c2 = 2; d1 = 1; d2 = 1 }; cells = 0; seed = 0; moments = []; rate = 1; listen = 0 }
-
-abbrev opening_by : Call → Opening → Opening
-opening_by (Begins o given) before = o
-opening_by (Handed line) before = before
-
-abbrev opening_at : List CallAt → ℕ → Opening
-opening_at [] i = unborn
-opening_at (e ∷ older) i = cond (nat_eq e.place i) (opening_by e.call (opening_at older i)) (opening_at older i)
-
-abbrev hosts_of : (ℕ → ℕ) → List CallAt → ℕ → hosts.Opening
-hosts_of numbers calls i = with_number (numbers i) (opening_at calls i)
+-- ---- the lines since the last opening of each member
 
 -- the lines of other places
-abbrev without : ℕ → List LineAt → List LineAt
+abbrev pub without : ℕ → List LineAt → List LineAt
 without p [] = []
 without p (e ∷ lines) = cond (nat_eq e.place p) (without p lines) (e ∷ without p lines)
 
 -- the newest is put on last
-abbrev onto : ℕ → List KeptLine → List LineAt → List LineAt
+abbrev pub onto : ℕ → List KeptLine → List LineAt → List LineAt
 onto p [] lines = lines
 onto p (line ∷ more) lines = onto p more (at p line ∷ lines)
 
 module _ (numbers : ℕ → ℕ) where
-  abbrev lines_by : ℕ → Call → List LineAt → List LineAt
+  abbrev pub lines_by : ℕ → Call → List LineAt → List LineAt
   lines_by p (Begins o given) lines = onto p (given_lines (openings.opened (numbers p) o) given) (without p lines)
   lines_by p (Handed line) lines = at p line ∷ lines
 
-  abbrev lines_of : List CallAt → List LineAt
+  abbrev pub lines_of : List CallAt → List LineAt
   lines_of [] = []
   lines_of (e ∷ older) = lines_by e.place e.call (lines_of older)
 
@@ -68,7 +51,7 @@ module _ (numbers : ℕ → ℕ) where
   same_place : (h : ℕ → hosts.Opening) (p : ℕ) (line : KeptLine) (lines : List LineAt) → hosts.kept_at h (at p line ∷ lines) p ≡ after_doing (doing_of line) (hosts.kept_at h lines p)
   same_place h p line lines = ap (λ (b : Bool). cond b (after_doing (doing_of line) (hosts.kept_at h lines p)) (hosts.kept_at h lines p)) (is_itself p)
 
-  same_opening : (one other : ℕ → hosts.Opening) (q : ℕ) → one q ≡ other q → (lines : List LineAt) → hosts.kept_at one lines q ≡ hosts.kept_at other lines q
+  pub same_opening : (one other : ℕ → hosts.Opening) (q : ℕ) → one q ≡ other q → (lines : List LineAt) → hosts.kept_at one lines q ≡ hosts.kept_at other lines q
   same_opening one other q is [] = ap hosts.opened is
   same_opening one other q is (e ∷ lines) = ap (λ (k : Keeping). cond (nat_eq e.place q) (after_doing (doing_of e.line) k) k) (same_opening one other q is lines)
 
@@ -179,11 +162,11 @@ module _ (numbers : ℕ → ℕ) where
         (subst (λ (n : ℕ). AreLinesTaken (given_lines (openings.opened n o) given) (openings.opened n o)) (number_of_kept numbers older p) is.1))
         (without_taken (now (Begins o given)) p (hosts_of numbers older) (other_stays (Begins o given)) (lines_of older) taken)
 
-  is_kept : (calls : List CallAt) (q : ℕ) → hosts.kept_at (hosts_of numbers calls) (lines_of calls) q ≡ kept_at numbers calls q
+  pub is_kept : (calls : List CallAt) (q : ℕ) → hosts.kept_at (hosts_of numbers calls) (lines_of calls) q ≡ kept_at numbers calls q
   is_kept [] q = refl
   is_kept (e ∷ older) q = one_call e.time e.place older (is_kept older) e.call q
 
-  are_taken : (calls : List CallAt) → AreTaken numbers calls → hosts.AreTaken (hosts_of numbers calls) (lines_of calls)
+  pub are_taken : (calls : List CallAt) → AreTaken numbers calls → hosts.AreTaken (hosts_of numbers calls) (lines_of calls)
   are_taken [] taken = tt
   are_taken (e ∷ older) taken = call_taken e.time e.place older (is_kept older) e.call taken.0 (are_taken older taken.1)
 
@@ -193,11 +176,11 @@ module _ (numbers : ℕ → ℕ) where
   moments_go_on now [] on = tt
   moments_go_on now (moment ∷ moments) on = (on.0, moments_go_on moment moments on.1)
 
-  record IsFit (o : Opening) : Type 0 where
-    moments : hosts.DoNotGoBack 0 o.moments
+  pub record IsFit (o : Opening) : Type 0 where
+    pub moments : hosts.DoNotGoBack 0 o.moments
     in_range : are_constants o.constants ≡ true
 
-  are_fit : (calls : List CallAt) → AreTaken numbers calls → (i : ℕ) → IsFit (opening_at calls i)
+  pub are_fit : (calls : List CallAt) → AreTaken numbers calls → (i : ℕ) → IsFit (opening_at calls i)
   are_fit [] taken i = record { moments = tt; in_range = refl }
   are_fit (e ∷ older) taken i = by (are_fit older taken.1 i) (nat_eq e.place i) where
     called : (call : Call) → IsTaken call (kept_at numbers older e.place) → IsFit (opening_at older i) → IsFit (opening_by call (opening_at older i))

@@ -14,7 +14,7 @@ use Rattle.wb_keeping.specs.Laws.{KeptLine, Came, Ticked, Added, Tuned, doing_of
 use Rattle.wb_keeping.specs.Performing.{Keeping, after_doing, after_line, after_lines, sees, sent_by_doing}
 use Rattle.wb_keeping.proofs.EachStep.{having}
 use Rattle.wb_keeping.proofs.Performed.{then_after, then_sent}
-use Rattle.wb_kept_progress.specs.Timed.{IsTold}
+use Rattle.wb_kept_progress.proofs.Moments.{IsTold, IsTuned}
 use Rattle.wb_kept_progress.proofs.InTurn.{IsTimedCall, SamePolicy, same_policy}
 use Rattle.wb_kept_progress.proofs.Lines.{line_of, lines_of, IsSmall, are_small, does_rest}
 use Rattle.wb_kept_progress.proofs.Performed.{AreNoTicks, Begins, IsNoTick, adds_begin, came_begins, hears_none, ticks_begin}
@@ -46,6 +46,9 @@ came_now now v k = begun_now now (came now v (sees k.host) k.policy) k.host (cam
 pub record IsTuning (does : Transition) (k : Keeping) : Type 0 where
   pub policy : (after_doing does k).policy ≡ k.policy
   pub now_is : present (after_doing does k).host ≡ present k.host
+
+pub tuned_only : (line : KeptLine) (k : Keeping) → IsTuned line → IsTuning (doing_of line) k
+tuned_only line k t = subst (λ (l : KeptLine). IsTuning (doing_of l) k) (sym t.1) (record { policy = refl; now_is = refl })
 
 -- the moment behind a call is that of the call, unless it sets constants
 pub call_now : (line : KeptLine) (k : Keeping) (moment : ℕ) → IsTold moment line

@@ -13,7 +13,7 @@ use Rattle.wb_names.proofs.Orders.{name_total}
 use Rattle.wb_recovery.specs.declared.timers.AskTimer.{AskTimer}
 use Rattle.wb_recovery.specs.declared.tuning.Tuning.{Tuning}
 use Rattle.wb_progress.specs.InTime.{known_from, repairing}
-use Rattle.wb_progress.specs.Turns.{Terms, settled_by}
+use Rattle.wb_progress.specs.Turns.{Terms, quiet_span, settled_by}
 use Rattle.wb_progress.proofs.NamesApart.{most_are, less_greater}
 use Rattle.wb_member.specs.Judged.{holds, level}
 use Rattle.wb_member.specs.Opened.{Opened}
@@ -29,7 +29,7 @@ use Rattle.wb_kept_progress.specs.Whole.{AreApart, AreCalledInOrder, IsHeldBySom
 use Rattle.wb_kept_progress.proofs.AskedSince.{WasAsked, was_asked}
 use Rattle.wb_kept_progress.proofs.CallParts.{calls_end, calls_order, host_is, lacked_until, lines_order}
 use Rattle.wb_kept_progress.proofs.KeptInTime.{front_of, time_is}
-use Rattle.wb_kept_progress.proofs.ReportsApart.{IsTuned}
+use Rattle.wb_kept_progress.proofs.Moments.{IsTuned, moment_of}
 use Rattle.wb_kept_progress.proofs.Timely.{before_end, held_later, in_past, none_held, order_of}
 use Rattle.wb_kept_progress.proofs.TurnsHad.{AreOrdinary, Had, had}
 use Rattle.wb_kept_progress.proofs.WholeParts.{AsksHaveCause, HasTurn, Holds, IsOfCall, IsStill, LinesHaveCalls, PerformedIsTimely, StillnessEnds, StopsHaveCause, TimersAreYoung, does, host_then, timer_then}
@@ -46,8 +46,8 @@ tunes_only constants n c = ⊎_elim (λ (e : Tunes constants ≡ Asks n). other 
 none_below : (n : NameValue) → name_cmp n n ≡ Less → ⊥
 none_below n e = less_greater (sym e ∙ name_total.antisymm n n ∙ ap ordering_reverse e)
 
-few_turns : (from now span turns : ℕ) → from + span ≡ now → span ≤ 60000000 → from + turns * 1000000 ≤ now + 1000000 → turns ≤ 61
-few_turns from now span turns is short few = omega (arith, is, short, few)
+few_turns : (from now span drift turns : ℕ) → from + span ≡ now → span + drift ≤ 60000000 → from + turns * 1000000 ≤ now + drift + 1000000 → turns ≤ 61
+few_turns from now span drift turns is short few = omega (arith, is, short, few)
 
 -- ---- a window in which nothing new comes
 
@@ -84,7 +84,7 @@ module _ (hosts : ℕ → Opening) (terms : Terms) (trace newest window base : L
   order_back front back split = order_of front back (subst AreInOrder split order_lines)
 
   settled : settled_by terms < called_at base
-  settled = let r = are.session.reported in past (settled_by terms) terms.delivery terms.reporting (3 * terms.far) wait (repairing terms) (called_at base) r known where
+  settled = let r = are.session.reported in past (settled_by terms) terms.delivery terms.reporting (quiet_span terms) wait (repairing terms) (called_at base) r known where
     past : (s d r f w m b : ℕ) → 1 ≤ r → s + d + max r f + w + m ≤ b → s < b
     past s d r f w m b some le = omega (arith, some, le)
 
@@ -97,7 +97,7 @@ module _ (hosts : ℕ → Opening) (terms : Terms) (trace newest window base : L
         in_past front back g.0 (performed hosts base) (sym split ∙ g.1) (subst AreInOrder split order_lines) (subst (λ (t : ℕ). t < time_of back) (sym (time_is hosts base)) late)
 
     lacked_base : holds (there hosts base i).host n ≡ false
-    lacked_base = ap (λ (h : Opened). holds h n) (sym (host_is hosts are.session.opened base i)) ∙ by (holds (host_then hosts (performed hosts base) i) n) refl where
+    lacked_base = ap (λ (h : Opened). holds h n) (sym (host_is hosts base i)) ∙ by (holds (host_then hosts (performed hosts base) i) n) refl where
       none_some : (o : Option AskTimer) → o ≡ None → o ≡ Some ask → ⊥
       none_some o e f = cc
 
@@ -110,7 +110,7 @@ module _ (hosts : ℕ → Opening) (terms : Terms) (trace newest window base : L
 
     lacked_whole : holds (host_then hosts lines i) n ≡ false
     lacked_whole =
-        ap (λ (h : Opened). holds h n) (host_is hosts are.session.opened whole i)
+        ap (λ (h : Opened). holds h n) (host_is hosts whole i)
         ∙ ap (λ (held : List DrawopValue). history_holds held n) (still.same [] window i refl live) ∙ lacked_base
 
     -- so it does not come by a time while the window goes on
@@ -127,7 +127,7 @@ module _ (hosts : ℕ → Opening) (terms : Terms) (trace newest window base : L
       live,
       held,
       subst (λ (t : List TimedLine). holds (host_then hosts (until (settled_by terms) (performed hosts t)) i) n ≡ false) (sym split_base)
-          (lacked_until hosts are.session.opened (newest ++ window) base (settled_by terms) i n (subst AreCalledInOrder split_base are.session.order) settled lacked_base),
+          (lacked_until hosts (newest ++ window) base (settled_by terms) i n (subst AreCalledInOrder split_base are.session.order) settled lacked_base),
     ) where
       split_base : trace ≡ (newest ++ window) ++ base
       split_base = still.split ∙ sym (append_assoc newest window base)
@@ -136,7 +136,7 @@ module _ (hosts : ℕ → Opening) (terms : Terms) (trace newest window base : L
 
   ordinary : (front part : List TimedLine) → window ≡ front ++ part → AreOrdinary terms part
   ordinary front [] split = tt
-  ordinary front (e ∷ part) split = ((told_in terms (newest ++ front) (part ++ base) e (subst (TellTimes terms) at are.session.times), (λ now page time op. are.session.drawn (newest ++ front) (part ++ base) e now page time op at late)), ordinary (front ++ e ∷ []) part (split ∙ sym (append_assoc front (e ∷ []) part))) where
+  ordinary front (e ∷ part) split = ((told_in terms (newest ++ front) (part ++ base) e (subst (TellTimes terms) at are.session.times) (are.session.alone (newest ++ front) (part ++ base) e at late), (λ now page time op. are.session.drawn (newest ++ front) (part ++ base) e now page time op at late)), ordinary (front ++ e ∷ []) part (split ∙ sym (append_assoc front (e ∷ []) part))) where
     here : whole ≡ front ++ e ∷ (part ++ base)
     here = ap (λ (w : List TimedLine). w ++ base) split ∙ append_assoc front (e ∷ part) base
 
@@ -191,18 +191,18 @@ module _ (hosts : ℕ → Opening) (terms : Terms) (trace newest window base : L
     few : length turns.names ≤ 61
     few =
         let is = span_is in
-        few_turns (from + terms.offset i) (e.time + terms.offset i) (request_span terms) (length turns.names) (moved from (request_span terms) (terms.offset i) e.time is) are.short turns.few where
-          moved : (from span offset now : ℕ) → from + span ≡ now → from + offset + span ≡ now + offset
-          moved from span offset now is = omega (arith, is)
+        few_turns from e.time (request_span terms) terms.drift (length turns.names) is are.short turns.few
 
     -- the call that asked for a name
     module _ (m : NameValue) (ask : AskTimer) (stands : timer_then hosts back i m ≡ Some ask) (w : WasAsked starts terms all timely back i m ask) (c : IsOfCall hosts whole w.x w.older) where
       asked_late : e.time ≤ c.e.time + request_span terms
       asked_late =
-          let soon : e.time + terms.offset i ≤ ask.due + terms.late = subst (λ (o : Option AskTimer). IfSome o (λ (a : AskTimer). e.time + terms.offset i ≤ a.due + terms.late)) stands (timely.soon (newest_lines.0 ++ front) back e i m (part_of_all front (e ∷ back) split) live after_quiet).ask in
+          let soon : e.time ≤ ask.due + (terms.lag i + terms.late) = subst (λ (o : Option AskTimer). IfSome o (λ (a : AskTimer). e.time ≤ a.due + (terms.lag i + terms.late))) stands (timely.soon (newest_lines.0 ++ front) back e i m (part_of_all front (e ∷ back) split) live after_quiet).ask in
           let due = w.due in
           let same = c.time in
-          omega (arith, soon, due, same)
+          let after = settled in
+          let le = behind_back in
+          omega (arith, soon, due, same, after, late, le)
 
       in_time : called_at base < c.e.time
       in_time = let asked = asked_late in let le = behind_back in past (called_at base) (request_span terms) (time_of back) e.time c.e.time late le asked where
@@ -233,9 +233,9 @@ module _ (hosts : ℕ → Opening) (terms : Terms) (trace newest window base : L
       since : from ≤ c.e.time
       since = let asked = asked_late in omega (arith, asked)
 
-      turn_here : HasTurn (there hosts c.older c.e.at.place) (c.e.time + terms.offset c.e.at.place) m → Contains turns.names m
+      turn_here : HasTurn (there hosts c.older c.e.at.place) (moment_of c.e.at.line) m → Contains turns.names m
       turn_here turn = turns.all c.newer v.part c.e m v.window_is here since by_then untuned
-          (subst (λ (l : List TimedLine). HasTurn (there hosts l i) (c.e.time + terms.offset i) m) v.older_is (subst (λ (p : ℕ). HasTurn (there hosts c.older p) (c.e.time + terms.offset p) m) here turn))
+          (subst (λ (l : List TimedLine). HasTurn (there hosts l i) (moment_of c.e.at.line) m) v.older_is (subst (λ (p : ℕ). HasTurn (there hosts c.older p) (moment_of c.e.at.line) m) here turn))
 
       nothing_new : (there hosts (c.e ∷ c.older) c.e.at.place).host.is.held ≡ (there hosts c.older c.e.at.place).host.is.held
       nothing_new =
@@ -250,8 +250,8 @@ module _ (hosts : ℕ → Opening) (terms : Terms) (trace newest window base : L
       had_cause : Contains turns.names m ⊎ IsHeldBySome hosts terms trace m
       had_cause = ⊎_elim
           (λ (held : IsHeldBySome hosts terms trace m). inr held)
-          (λ (rest : HasTurn (there hosts c.older c.e.at.place) (c.e.time + terms.offset c.e.at.place) m ⊎ ((there hosts (c.e ∷ c.older) c.e.at.place).host.is.held ≢ (there hosts c.older c.e.at.place).host.is.held)). ⊎_elim
-          (λ (turn : HasTurn (there hosts c.older c.e.at.place) (c.e.time + terms.offset c.e.at.place) m). inl (turn_here turn))
+          (λ (rest : HasTurn (there hosts c.older c.e.at.place) (moment_of c.e.at.line) m ⊎ ((there hosts (c.e ∷ c.older) c.e.at.place).host.is.held ≢ (there hosts c.older c.e.at.place).host.is.held)). ⊎_elim
+          (λ (turn : HasTurn (there hosts c.older c.e.at.place) (moment_of c.e.at.line) m). inl (turn_here turn))
           (λ (changed : (there hosts (c.e ∷ c.older) c.e.at.place).host.is.held ≢ (there hosts c.older c.e.at.place).host.is.held). absurd (changed nothing_new))
           rest)
           (causes hosts terms trace (newest ++ c.newer) c.older c.e m are.session in_trace (let s = settled in let t = in_time in omega (arith, s, t)) asks)
@@ -395,7 +395,7 @@ module _ (hosts : ℕ → Opening) (terms : Terms) (trace newest window base : L
           (λ (le : called_at whole ≤ time_of back + request_span terms). inl (omega (arith, le)))
           (λ (next : Next back n). inr next)
           (given_up calls_of causes stops front back is.split is.late n ask (max (time_of back) (time_of back + terms.asking * terms.far) + terms.late) g new (omega arith)))
-          (leads starts terms all (newest_lines.0 ++ front) back i n ask (time_of back + terms.asking * terms.far) timely in_all live (omega (arith, k, s)) is.stands (omega (arith, due, by)) is.held)
+          (leads starts terms all (newest_lines.0 ++ front) back i n ask (time_of back + terms.asking * terms.far) timely in_all live (omega (arith, k, s)) is.stands (let after = settled in omega (arith, due, by, after, s)) is.held)
 
       ends : Ends
       ends =

@@ -220,5 +220,5 @@ stops_have_cause calls hosts terms trace front x back n session live late split 
     let room : is_full (after_lines lines k.host) ≡ false = subst (λ (m : Keeping). is_full m.host ≡ false) (moved hosts (lines_of c.older) place c.e.at.line) behind in
     let caused : AreCaused lines k.host = (line_holds GivesUpFor steps_give_up c.e.at.line k none).caused room in
     let at : IsCaused x.line (after_lines c.before k.host) = caused_at c.before c.later x.line k.host (subst (λ (ls : List Line). AreCaused ls k.host) c.lines caused) in
-    let same : host_then hosts back x.place ≡ after_lines c.before k.host = host_before hosts session.opened trace x back c in
+    let same : host_then hosts back x.place ≡ after_lines c.before k.host = host_before hosts trace x back c in
     subst (λ (h : Opened). HasStopCause h n) (sym same) (subst (λ (line : Line). IsCaused line (after_lines c.before k.host)) is at)

@@ -1,5 +1,5 @@
 -- Hosts that keep to stated times are keepers that take turns in time.
-use Rattle.std.proofs.Common.{◌≡◌, ℕ, ◌+◌, ◌<◌, ◌≤◌, Bool, true, false, cond, List, [], ◌∷◌, ◌++◌, ◌∙◌, None, ap, append_assoc, arith, eqb-true, eq-eqb, inl, inr, refl, subst, sym, true≢false, ⊎_elim}
+use Rattle.std.proofs.Common.{◌≡◌, ℕ, ◌+◌, ◌<◌, ◌≤◌, Bool, true, false, cond, List, [], ◌∷◌, ◌++◌, ◌∙◌, None, ap, append_assoc, arith, eqb-true, eq-eqb, inl, inr, max, refl, subst, sym, true≢false, ⊎_elim}
 use Rattle.std.specs.Prelude.{◌⊎◌, ◌≢◌, ◌||◌, Contains, is_some, nat_eq}
 use Rattle.std.proofs.lemmas.List.Elements.{Contains-append_right}
 use Rattle.wb_names.specs.History.{IsHistory}
@@ -13,34 +13,32 @@ use Rattle.wb_keeper.specs.Keeper.{KeeperCall, Arrive, GiveUp, GoOn, Hear, delay
 use Rattle.wb_keeper.specs.Ticks.{sent_by_tick, stopped_after}
 use Rattle.wb_keeper.proofs.KeptCalls.{holds_from}
 use Rattle.wb_progress.specs.Bounds.{IsUnder}
-use Rattle.wb_progress.specs.Keepers.{AreWithin, constants_at}
+use Rattle.wb_progress.specs.Keepers.{AreWithin, constants_at, uses_delays}
 use Rattle.wb_progress.specs.Repairs.{timers_at}
-use Rattle.wb_progress.specs.Turns.{Accepts, AreTurns, Desk, IsHeardAt, IsOtherOrLacked, IsQuietBut, IsTurn, KeepTimeBut, Places, Terms, Turn, longest, settled_by}
+use Rattle.wb_progress.specs.Turns.{Accepts, AreTurns, Desk, IsHeardAt, IsNowAt, IsOtherOrLacked, IsQuietBut, IsTurn, KeepTimeBut, Places, Terms, Turn, longest, settled_by}
 use Rattle.wb_progress.specs.Turns as turning
 use Rattle.wb_progress.proofs.Giving.{held_as}
 use Rattle.wb_laws_sessions.proofs.Holding.{HeldNone}
-use Rattle.wb_member.specs.Judged.{is_full}
+use Rattle.wb_member.specs.Judged.{delay, is_full}
 use Rattle.wb_member.specs.Opened.{Opened, accepted, asks_for, heard, opened_with, present}
 use Rattle.wb_member.specs.Random.{word_of}
 use Rattle.wb_keeping.specs.Kept.{Line, Arrives, Hears, Says, Ticks}
 use Rattle.wb_keeping.specs.Performing.{after_line, sent_by_line}
 use Rattle.wb_kept_progress.specs.Timed.{AllHoldBehind, AreInOrder, ComesTo, IsAnswerable, IsTimely, Performed, Start, WasSent, host_after, time_of, timers_after, until}
+use Rattle.wb_kept_progress.proofs.Begun.{HasNoTimers, tick_no_timers, ticks_keep, ticks_within}
 use Rattle.wb_kept_progress.proofs.Lines.{IsOf, line_grows, line_of, same_member}
-use Rattle.wb_kept_progress.proofs.Lining.{by_line, by_part, desk_is, desk_of, order_is, over_join, time_is, turn_of, turns_join, turns_of, turns_over, until_is}
-use Rattle.wb_kept_progress.proofs.PerLine.{IsMade, asks, draws, is_made, line_did, line_moment, line_none}
+use Rattle.wb_kept_progress.proofs.Lining.{by_line, by_part, desk_is, desk_of, order_is, over_join, places, time_is, turn_of, turns_join, turns_of, turns_over, until_is}
+use Rattle.wb_kept_progress.proofs.PerLine.{IsMade, asks, draws, goes_by, is_made, line_did, line_moment, line_none}
 use Rattle.wb_kept_progress.proofs.Repairs.{taken_in}
 use Rattle.wb_progress.proofs.Parts.{tails}
 
 module _ (hosts : ℕ → Start) where
-  abbrev pub places : Places
-  places = record { me = λ i. (hosts i).number; constants = λ i. (hosts i).constants }
-
   abbrev start : ℕ → Opened
   start i = opened_with (hosts i).constants (hosts i).number (hosts i).cells (hosts i).seed
 
   -- what each line keeps, and what the opening has, each host has
   at_each : (P : ℕ → Opened → Type 0) → ((i : ℕ) → P i (start i)) → ((i : ℕ) (line : Line) (host : Opened) → P i host → P i (after_line line host)) → (trace : List Performed) (i : ℕ) → P i (host_after hosts trace i)
-  at_each P first one [] i = first i
+  at_each P first one [] i = ticks_keep (P i) (λ now host is. one i (Ticks now) host is) (hosts i).moments (start i) (first i)
   at_each P first one (e ∷ older) i = from (nat_eq e.place i) (at_each P first one older i) where
     from : (b : Bool) → P i (host_after hosts older i) → P i (cond b (after_line e.line (host_after hosts older i)) (host_after hosts older i))
     from true rest = one i e.line (host_after hosts older i) rest
@@ -56,14 +54,14 @@ module _ (hosts : ℕ → Start) where
   pub none_held : (trace : List Performed) (i : ℕ) → HeldNone (host_after hosts trace i).is
   none_held = at_each (λ i host. HeldNone host.is) (λ i. λ n h. refl) (λ i line host rest. line_none line host rest)
 
-  pub timers_here : (trace : List Performed) (i : ℕ) (n : NameValue) → turning.timers_there places (turns_of hosts trace) i n ≡ timers_after hosts trace i n
+  pub timers_here : (trace : List Performed) (i : ℕ) (n : NameValue) → turning.timers_there (places hosts) (turns_of hosts trace) i n ≡ timers_after hosts trace i n
   timers_here trace i n =
       let h = host_after hosts trace i in
       ap (λ (d : Desk). timers_at (hosts i).number (hosts i).constants d.calls n) (desk_is hosts trace i)
       ∙ ap (λ (k : ℕ). timers_at k (hosts i).constants h.is.calls n) (sym (of_start trace i).number)
       ∙ ap (λ (t : Tuning). timers_at h.is.number t h.is.calls n) (sym (of_start trace i).constants)
 
-  pub has_here : (trace : List Performed) (i : ℕ) (n : NameValue) → turning.has (turns_of hosts trace) i n ≡ holds (host_after hosts trace i).is.held n
+  pub has_here : (trace : List Performed) (i : ℕ) (n : NameValue) → turning.has (places hosts) (turns_of hosts trace) i n ≡ holds (host_after hosts trace i).is.held n
   has_here trace i n = ap (λ (d : Desk). holds d.held n) (desk_is hosts trace i)
 
   -- what is held stays
@@ -81,7 +79,7 @@ module _ (hosts : ℕ → Start) where
   here_after older e = ap (λ (b : Bool). cond b (after_line e.line (host_after hosts older e.place)) (host_after hosts older e.place)) (eq-eqb e.place e.place refl)
 
   -- the call of a turn is that of its line
-  pub made : (older : List Performed) (e : Performed) (call : KeeperCall) → Accepts (turns_of hosts older) (turn_of hosts older e) call → IsMade (host_after hosts older e.place) e.line call
+  pub made : (older : List Performed) (e : Performed) (call : KeeperCall) → Accepts (places hosts) (turns_of hosts older) (turn_of hosts older e) call → IsMade (host_after hosts older e.place) e.line call
   made older e call accepts = is_made e.line (host_after hosts older e.place) call (accepts ∙ ap (λ (d : Desk). call ∷ d.calls) (desk_is hosts older e.place))
 
 -- ---- parts of a trace
@@ -118,29 +116,29 @@ module _ (hosts : ℕ → Start) (terms : Terms) (trace : List Performed) (timel
 
   -- ---- its moment
 
-  pub clock : (front part : List Performed) (i : ℕ) → trace ≡ front ++ part → present (host_after hosts part i) ≤ time_of part + terms.offset i
-  clock front [] i split = omega arith
-  clock front (e ∷ older) i split = from (nat_eq e.place i) refl (clock (front ++ e ∷ []) older i (split_part front older e split)) where
+  pub clock : (front part : List Performed) (i : ℕ) → trace ≡ front ++ part → Contains terms.live i → present (host_after hosts part i) + terms.lag i ≤ max (time_of part) terms.quiet
+  clock front [] i split live = let begun = timely.begun i live in omega (arith, begun)
+  clock front (e ∷ older) i split live = from (nat_eq e.place i) refl (clock (front ++ e ∷ []) older i (split_part front older e split) live) where
     order : AreInOrder (e ∷ older)
     order = order_of front (e ∷ older) (subst AreInOrder split timely.order)
 
-    later : (m : ℕ) → m ≤ time_of older + terms.offset i → m ≤ e.time + terms.offset i
-    later m le = let o = order.0 in omega (arith, le, o)
+    Early : Opened → Type 0
+    Early h = present h + terms.lag i ≤ max e.time terms.quiet
 
-    from : (b : Bool) → nat_eq e.place i ≡ b → present (host_after hosts older i) ≤ time_of older + terms.offset i → present (cond b (after_line e.line (host_after hosts older i)) (host_after hosts older i)) ≤ e.time + terms.offset i
-    from false other rest = later (present (host_after hosts older i)) rest
+    from : (b : Bool) → nat_eq e.place i ≡ b → present (host_after hosts older i) + terms.lag i ≤ max (time_of older) terms.quiet → Early (cond b (after_line e.line (host_after hosts older i)) (host_after hosts older i))
+    from false other rest = let o = order.0 in omega (arith, rest, o)
     from true same rest = ⊎_elim
-        (λ (s : present (after_line e.line (host_after hosts older i)) ≡ present (host_after hosts older i)). subst (λ (m : ℕ). m ≤ e.time + terms.offset i) (sym s) (later (present (host_after hosts older i)) rest))
+        (λ (s : present (after_line e.line (host_after hosts older i)) ≡ present (host_after hosts older i)). let o = order.0 in omega (arith, s, rest, o))
         (λ (t : (now : ℕ) × (e.line ≡ Ticks now) × (present (after_line e.line (host_after hosts older i)) ≡ now)).
-        let told = timely.times front older e t.0 split t.1 in
-        let here = ap (λ (k : ℕ). e.time + terms.offset k) (eqb-true e.place i same) in
-        subst (λ (m : ℕ). m ≤ e.time + terms.offset i) (sym (t.2 ∙ told ∙ here)) (itself (e.time + terms.offset i)))
-        (line_moment e.line (host_after hosts older i)) where
-          itself : (n : ℕ) → n ≤ n
-          itself n = omega arith
+        let at : IsNowAt terms e.time i t.0 = subst (λ (k : ℕ). IsNowAt terms e.time k t.0) (eqb-true e.place i same) (timely.times front older e t.0 split (subst (Contains terms.live) (sym (eqb-true e.place i same)) live) t.1) in
+        let ahead = at.not_ahead in
+        let is = t.2 in
+        omega (arith, is, ahead))
+        (line_moment e.line (host_after hosts older i))
 
   within : (front part : List Performed) (i : ℕ) → trace ≡ front ++ part → Contains terms.live i → AreWithin terms.far (longest terms) (hosts i).number (hosts i).constants (host_after hosts part i).is.calls
-  within front [] i split live = timely.waits i
+  within front [] i split live =
+      ticks_within terms.far (longest terms) (hosts i).number (hosts i).constants (hosts i).moments (start hosts i) refl (timely.moments i live) (timely.waits i live)
   within front (e ∷ older) i split live = from (nat_eq e.place i) refl (within (front ++ e ∷ []) older i part live) where
     part : trace ≡ (front ++ e ∷ []) ++ older
     part = split_part front older e split
@@ -148,8 +146,11 @@ module _ (hosts : ℕ → Start) (terms : Terms) (trace : List Performed) (timel
     h : Opened
     h = host_after hosts older i
 
-    delays : (source : ℕ) → delay_to (hosts i).number h.is.calls source ≤ terms.far
-    delays source = subst (λ (k : ℕ). delay_to k h.is.calls source ≤ terms.far) (of_start hosts older i).number (timely.delays (front ++ e ∷ []) older i source part live)
+    delays : e.place ≡ i → (call : KeeperCall) → IsMade h e.line call → uses_delays call ≡ true → (source : ℕ) → delay_to (hosts i).number h.is.calls source ≤ terms.far
+    delays here call made uses source =
+        let goes = goes_by h e.line call made uses in
+        subst (λ (k : ℕ). delay_to k h.is.calls source ≤ terms.far) (of_start hosts older i).number
+        (subst (λ (k : ℕ). delay (host_after hosts older k) source ≤ terms.far) here (timely.delays front older e source split (subst (Contains terms.live) (sym here) live) goes))
 
     under : nat_eq e.place i ≡ true → (call : KeeperCall) → (after_line e.line h).is.calls ≡ call ∷ h.is.calls → IsUnder (longest terms) (constants_at (hosts i).number (hosts i).constants (call ∷ h.is.calls))
     under same call calls =
@@ -159,29 +160,20 @@ module _ (hosts : ℕ → Start) (terms : Terms) (trace : List Performed) (timel
         (subst (λ (t : Tuning). IsUnder (longest terms) (constants_at (host_after hosts (e ∷ older) i).is.number t (host_after hosts (e ∷ older) i).is.calls)) (of_start hosts (e ∷ older) i).constants
         (timely.tuned front (e ∷ older) i split live)))
 
-    order : AreInOrder (e ∷ older)
-    order = order_of front (e ∷ older) (subst AreInOrder split timely.order)
-
-    not_before : (now : ℕ) → now ≡ e.time + terms.offset i → present h ≤ now
-    not_before now is =
-        let c = clock (front ++ e ∷ []) older i part in
-        let o = order.0 in
-        omega (arith, is, c, o)
-
     goes : e.place ≡ i → present h ≤ present (after_line e.line h)
     goes here = ⊎_elim
-        (λ (s : present (after_line e.line h) ≡ present h). subst (λ (m : ℕ). present h ≤ m) (sym s) (itself (present h)))
+        (λ (s : present (after_line e.line h) ≡ present h). omega (arith, s))
         (λ (t : (now : ℕ) × (e.line ≡ Ticks now) × (present (after_line e.line h) ≡ now)).
-        subst (λ (m : ℕ). present h ≤ m) (sym t.2) (not_before t.0 (timely.times front older e t.0 split t.1 ∙ ap (λ (k : ℕ). e.time + terms.offset k) here)))
-        (line_moment e.line h) where
-          itself : (n : ℕ) → n ≤ n
-          itself n = omega arith
+        let on : present h ≤ t.0 = subst (λ (k : ℕ). present (host_after hosts older k) ≤ t.0) here (timely.onward front older e t.0 split (subst (Contains terms.live) (sym here) live) t.1) in
+        let is = t.2 in
+        omega (arith, is, on))
+        (line_moment e.line h)
 
     from : (b : Bool) → nat_eq e.place i ≡ b → AreWithin terms.far (longest terms) (hosts i).number (hosts i).constants h.is.calls → AreWithin terms.far (longest terms) (hosts i).number (hosts i).constants (cond b (after_line e.line h) h).is.calls
     from false other rest = rest
     from true same rest = ⊎_elim
         (λ (s : (after_line e.line h).is.calls ≡ h.is.calls). subst (AreWithin terms.far (longest terms) (hosts i).number (hosts i).constants) (sym s) rest)
-        (λ (c : (call : KeeperCall) × ((after_line e.line h).is.calls ≡ call ∷ h.is.calls) × IsMade h e.line call). subst (AreWithin terms.far (longest terms) (hosts i).number (hosts i).constants) (sym c.1) (subst (λ (m : ℕ). present h ≤ m) (ap moment_at c.1) (goes (eqb-true e.place i same)), delays, under same c.0 c.1, rest))
+        (λ (c : (call : KeeperCall) × ((after_line e.line h).is.calls ≡ call ∷ h.is.calls) × IsMade h e.line call). subst (AreWithin terms.far (longest terms) (hosts i).number (hosts i).constants) (sym c.1) (subst (λ (m : ℕ). present h ≤ m) (ap moment_at c.1) (goes (eqb-true e.place i same)), delays (eqb-true e.place i same) c.0 c.2, under same c.0 c.1, rest))
         (line_did e.line h)
 
   -- ---- one turn
@@ -196,16 +188,16 @@ module _ (hosts : ℕ → Start) (terms : Terms) (trace : List Performed) (timel
     abbrev x : Turn
     x = turn_of hosts back e
 
-    was : turning.desk_at (turns_of hosts back) q ≡ desk_of h
+    was : turning.desk_at at (turns_of hosts back) q ≡ desk_of h
     was = desk_is hosts back q
 
-    called : (x.desk.calls ≡ (turning.desk_at (turns_of hosts back) q).calls) ⊎ ((call : KeeperCall) × Accepts (turns_of hosts back) x call)
+    called : (x.desk.calls ≡ (turning.desk_at at (turns_of hosts back) q).calls) ⊎ ((call : KeeperCall) × Accepts (places hosts) (turns_of hosts back) x call)
     called = ⊎_elim
         (λ (s : (after_line e.line h).is.calls ≡ h.is.calls). inl (s ∙ sym (ap (λ (d : Desk). d.calls) was)))
         (λ (c : (call : KeeperCall) × ((after_line e.line h).is.calls ≡ call ∷ h.is.calls) × IsMade h e.line call). inr (c.0, c.1 ∙ ap (λ (d : Desk). c.0 ∷ d.calls) (sym was)))
         (line_did e.line h)
 
-    stops : (now : ℕ) (words : List ℕ) (stopped : List NameValue) → Accepts (turns_of hosts back) x (GoOn now words stopped) → stopped ≡ stopped_after (hosts q).number (hosts q).constants (turning.desk_at (turns_of hosts back) q).calls (turning.desk_at (turns_of hosts back) q).held
+    stops : (now : ℕ) (words : List ℕ) (stopped : List NameValue) → Accepts (places hosts) (turns_of hosts back) x (GoOn now words stopped) → stopped ≡ stopped_after (hosts q).number (hosts q).constants (turning.desk_at at (turns_of hosts back) q).calls (turning.desk_at at (turns_of hosts back) q).held
     stops now words stopped accepts =
         let m = made hosts back e (GoOn now words stopped) accepts in
         m.1
@@ -213,35 +205,35 @@ module _ (hosts : ℕ → Start) (terms : Terms) (trace : List Performed) (timel
         ∙ ap (λ (t : Tuning). stopped_after (hosts q).number t h.is.calls h.is.held) (of_start hosts back q).constants
         ∙ ap (λ (d : Desk). stopped_after (hosts q).number (hosts q).constants d.calls d.held) (sym was)
 
-    sends_due : (now : ℕ) (words : List ℕ) (stopped : List NameValue) → Accepts (turns_of hosts back) x (GoOn now words stopped)
-        → (v : Datagram) → Contains (sent_by_tick (hosts q).number (hosts q).constants (turning.desk_at (turns_of hosts back) q).calls (turning.desk_at (turns_of hosts back) q).held now) v → Contains x.sent v
+    sends_due : (now : ℕ) (words : List ℕ) (stopped : List NameValue) → Accepts (places hosts) (turns_of hosts back) x (GoOn now words stopped)
+        → (v : Datagram) → Contains (sent_by_tick (hosts q).number (hosts q).constants (turning.desk_at at (turns_of hosts back) q).calls (turning.desk_at at (turns_of hosts back) q).held now) v → Contains x.sent v
     sends_due now words stopped accepts v c =
         let m = made hosts back e (GoOn now words stopped) accepts in
-        let same : sent_by_tick (hosts q).number (hosts q).constants (turning.desk_at (turns_of hosts back) q).calls (turning.desk_at (turns_of hosts back) q).held now ≡ sent_by_tick h.is.number h.is.constants h.is.calls h.is.held now =
+        let same : sent_by_tick (hosts q).number (hosts q).constants (turning.desk_at at (turns_of hosts back) q).calls (turning.desk_at at (turns_of hosts back) q).held now ≡ sent_by_tick h.is.number h.is.constants h.is.calls h.is.held now =
         ap (λ (d : Desk). sent_by_tick (hosts q).number (hosts q).constants d.calls d.held now) was
         ∙ ap (λ (k : ℕ). sent_by_tick k (hosts q).constants h.is.calls h.is.held now) (sym (of_start hosts back q).number)
         ∙ ap (λ (t : Tuning). sent_by_tick h.is.number t h.is.calls h.is.held now) (sym (of_start hosts back q).constants) in
         subst (λ (line : Line). Contains (sent_by_line line h) v) (sym m.0) (subst (λ (ds : List Datagram). Contains ds v) same c)
 
-    is_turn : IsTurn at terms (turns_of hosts back) x
-    is_turn = record {
+    is_turn : Contains terms.live q → IsTurn at terms (turns_of hosts back) x
+    is_turn live = record {
       called = called;
       kept = λ m held. held_on hosts e.line h m (sym (has_here hosts back q m) ∙ held);
       heard = λ now asker word m held accepts.
           let made_it = made hosts back e (Hear now (Request asker m) word held) accepts in
-          (made_it.1 ∙ timely.behind front back e (Request asker m) split made_it.0, made_it.2 ∙ sym (has_here hosts back q m));
+          (subst (IsNowAt terms e.time e.place) (sym made_it.1) (timely.behind front back e (Request asker m) split live made_it.0), made_it.2 ∙ sym (has_here hosts back q m));
       stops = stops;
       sends = sends_due;
     }
 
     module _ (late : terms.quiet < e.time) where
-      held : (d : DrawopValue) → Contains x.sent (Draw d) → turning.has (turns_of hosts back) q d.name ≡ true
+      held : (d : DrawopValue) → Contains x.sent (Draw d) → turning.has at (turns_of hosts back) q d.name ≡ true
       held d c = has_here hosts back q d.name ∙ ⊎_elim
           (λ (k : Contains h.is.held d). holds_from h.is.held d.name d k refl)
           (λ (s : (y : DrawopValue) × (e.line ≡ Says (Draw y))). absurd ((timely.quiet front back e split late).drawn s.0 s.1))
           (draws e.line h d c)
 
-      asked : (asker : ℕ) (m : NameValue) → Contains x.sent (Request asker m) → (asker ≡ (hosts q).number) × (turning.has (turns_of hosts back) q m ≡ false)
+      asked : (asker : ℕ) (m : NameValue) → Contains x.sent (Request asker m) → (asker ≡ (hosts q).number) × (turning.has at (turns_of hosts back) q m ≡ false)
       asked asker m c = ⊎_elim
           (λ (g : (asker ≡ h.is.number) × (holds h.is.held m ≡ false)). (g.0 ∙ (of_start hosts back q).number, has_here hosts back q m ∙ g.1))
           (λ (s : (a : ℕ) × (k : NameValue) × (e.line ≡ Says (Request a k))). absurd ((timely.quiet front back e split late).said s.0 s.1 s.2))
@@ -254,7 +246,7 @@ module _ (hosts : ℕ → Start) (terms : Terms) (trace : List Performed) (timel
         from false e = refl
         from true e = absurd (true≢false (asked ∙ ap is_some (none_held hosts back q m e)))
 
-      is_quiet : (n : NameValue) → IsQuietBut (IsOtherOrLacked n) at (turns_of hosts back) x
+      is_quiet : (n : NameValue) → IsQuietBut (IsOtherOrLacked at n) at (turns_of hosts back) x
       is_quiet n = record {
         goes_on = λ now m accepts same. has_here hosts back q n ∙ subst (λ (k : NameValue). holds h.is.held k ≡ false) same (lacked m (made hosts back e (GiveUp now m true) accepts).2);
         held = held;
@@ -306,13 +298,13 @@ module _ (hosts : ℕ → Start) (terms : Terms) (trace : List Performed) (timel
         from true same = own (eqb-true q i same)
         from false other = came (timely.drawops front back e i d split live (λ same. true≢false (sym (eq-eqb q i same) ∙ other)) late sent (let k = end_is in omega (arith, lt, k)))
 
-      is_heard : (asker : ℕ) (m : NameValue) (j : ℕ) → ComesTo front j (e.time + terms.delivery) (Hears (Request asker m)) → IsHeardAt (turns_over hosts front (e ∷ back)) x (turns_of hosts back) j terms.delivery asker m
+      is_heard : (asker : ℕ) (m : NameValue) (j : ℕ) → ComesTo front j (e.time + terms.delivery) (Hears (Request asker m)) → IsHeardAt at (turns_over hosts front (e ∷ back)) x (turns_of hosts back) j terms.delivery asker m
       is_heard asker m j c =
           let base : List Performed = c.between ++ e ∷ back in
           let g = host_after hosts base c.arrival.place in
           let call = Hear (present g) (Request asker m) (word_of g.random) (holds g.is.held m) in
           let takes : (after_line c.arrival.line g).is.calls ≡ call ∷ g.is.calls = ap (λ (line : Line). (after_line line g).is.calls) c.is ∙ hears_it g asker m in
-          let accepts : Accepts (turns_of hosts base) (turn_of hosts base c.arrival) call = takes ∙ ap (λ (d : Desk). call ∷ d.calls) (sym (desk_is hosts base c.arrival.place)) in
+          let accepts : Accepts (places hosts) (turns_of hosts base) (turn_of hosts base c.arrival) call = takes ∙ ap (λ (d : Desk). call ∷ d.calls) (sym (desk_is hosts base c.arrival.place)) in
           record {
             later = turns_over hosts c.later (c.arrival ∷ base);
             arrival = turn_of hosts base c.arrival;
@@ -323,7 +315,7 @@ module _ (hosts : ℕ → Start) (terms : Terms) (trace : List Performed) (timel
             now = present g;
             word = word_of g.random;
             held = holds g.is.held m;
-            heard = subst (λ (t : List Turn). Accepts t (turn_of hosts base c.arrival) call) (turns_join hosts c.between (e ∷ back)) accepts;
+            heard = subst (λ (t : List Turn). Accepts at t (turn_of hosts base c.arrival) call) (turns_join hosts c.between (e ∷ back)) accepts;
           } where
             hears_it : (g : Opened) (asker : ℕ) (m : NameValue) → (after_line (Hears (Request asker m)) g).is.calls ≡ Hear (present g) (Request asker m) (word_of g.random) (holds g.is.held m) ∷ g.is.calls
             hears_it g asker m = ap (λ (b : Bool). (cond b (heard (Request asker m) g) g).is.calls) (room (is_own g.is.number (Request asker m))) where
@@ -344,10 +336,10 @@ module _ (hosts : ℕ → Start) (terms : Terms) (trace : List Performed) (timel
         sent = p.sent;
       }
 
-      request_sent : (now asker word : ℕ) (held : Bool) (m : NameValue) → Accepts (turns_of hosts back) x (Hear now (Request asker m) word held) → turning.WasSent (x ∷ turns_of hosts back) e.time terms.delivery (Request asker m)
+      request_sent : (now asker word : ℕ) (held : Bool) (m : NameValue) → Accepts (places hosts) (turns_of hosts back) x (Hear now (Request asker m) word held) → turning.WasSent (x ∷ turns_of hosts back) e.time terms.delivery (Request asker m)
       request_sent now asker word held m accepts = was_sent (Request asker m) (timely.fresh_requests front back e asker m split late (made hosts back e (Hear now (Request asker m) word held) accepts).0)
 
-      drawop_sent : (now : ℕ) (names : List NameValue) (m : NameValue) → Accepts (turns_of hosts back) x (Arrive now names) → Contains names m → (d : DrawopValue) × (d.name ≡ m) × turning.WasSent (x ∷ turns_of hosts back) e.time terms.delivery (Draw d)
+      drawop_sent : (now : ℕ) (names : List NameValue) (m : NameValue) → Accepts (places hosts) (turns_of hosts back) x (Arrive now names) → Contains names m → (d : DrawopValue) × (d.name ≡ m) × turning.WasSent (x ∷ turns_of hosts back) e.time terms.delivery (Draw d)
       drawop_sent now names m accepts c =
           let made_it = made hosts back e (Arrive now names) accepts in
           let d : DrawopValue = made_it.0 in
@@ -369,49 +361,50 @@ module _ (hosts : ℕ → Start) (terms : Terms) (trace : List Performed) (timel
   are : AreTurns at terms all
   are = record {
     apart = λ i j live_i live_j same. timely.distinct i j same;
-    turn = λ newer older x same live. by_line hosts trace (λ newer x older. IsTurn at terms older x) (λ front back e split. is_turn front back e split) newer older x same;
-    within = λ newer older i same live. by_part hosts trace (λ newer older. AreWithin terms.far (longest terms) (at.me i) (at.constants i) (turning.desk_at older i).calls) (λ front back split. subst (λ (d : Desk). AreWithin terms.far (longest terms) (at.me i) (at.constants i) d.calls) (sym (desk_is hosts back i)) (within front back i split live)) newer older same;
-    clock = λ newer older i same live. by_part hosts trace (λ newer older. moment_at (turning.desk_at older i).calls ≤ turning.time_of older + terms.offset i)
-        (λ front back split. subst (λ (k : ℕ). moment_at (turning.desk_at (turns_of hosts back) i).calls ≤ k + terms.offset i) (sym (time_is hosts back)) (subst (λ (d : Desk). moment_at d.calls ≤ time_of back + terms.offset i) (sym (desk_is hosts back i)) (clock front back i split))) newer older same;
-    history = λ newer older i same live. by_part hosts trace (λ newer older. IsHistory (turning.desk_at older i).held) (λ front back split. subst (λ (d : Desk). IsHistory d.held) (sym (desk_is hosts back i)) (history hosts back i)) newer older same;
-    lacking = λ newer older i m same live. by_part hosts trace (λ newer older. turning.has older i m ≡ true → (turning.timers_there at older i m).ask ≡ None)
+    turn = λ newer older x same. by_line hosts trace (λ newer x older. Contains terms.live x.place → IsTurn at terms older x) (λ front back e split live. is_turn front back e split live) newer older x same;
+    within = λ newer older i same live. by_part hosts trace (λ newer older. AreWithin terms.far (longest terms) (at.me i) (at.constants i) (turning.desk_at at older i).calls) (λ front back split. subst (λ (d : Desk). AreWithin terms.far (longest terms) (at.me i) (at.constants i) d.calls) (sym (desk_is hosts back i)) (within front back i split live)) newer older same;
+    first = λ i n live. ap (λ (k : Timers). k.quiet) (timers_here hosts [] i n ∙ ticks_keep (HasNoTimers n) (tick_no_timers n) (hosts i).moments (start hosts i) refl);
+    clock = λ newer older i same live. by_part hosts trace (λ newer older. moment_at (turning.desk_at at older i).calls + terms.lag i ≤ max (turning.time_of older) terms.quiet)
+        (λ front back split. subst (λ (k : ℕ). moment_at (turning.desk_at at (turns_of hosts back) i).calls + terms.lag i ≤ max k terms.quiet) (sym (time_is hosts back)) (subst (λ (d : Desk). moment_at d.calls + terms.lag i ≤ max (time_of back) terms.quiet) (sym (desk_is hosts back i)) (clock front back i split live))) newer older same;
+    history = λ newer older i same live. by_part hosts trace (λ newer older. IsHistory (turning.desk_at at older i).held) (λ front back split. subst (λ (d : Desk). IsHistory d.held) (sym (desk_is hosts back i)) (history hosts back i)) newer older same;
+    lacking = λ newer older i m same live. by_part hosts trace (λ newer older. turning.has at older i m ≡ true → (turning.timers_there at older i m).ask ≡ None)
         (λ front back split held. ap (λ (s : Timers). s.ask) (timers_here hosts back i m) ∙ none_held hosts back i m (sym (has_here hosts back i m) ∙ held)) newer older same;
   }
 
-  pub keep_time : (n : NameValue) → KeepTimeBut (IsOtherOrLacked n) at terms all
+  pub keep_time : (n : NameValue) → KeepTimeBut (IsOtherOrLacked at n) at terms all
   keep_time n = record {
     order = order_is hosts trace timely.order;
     reported = timely.reported;
     are = are;
     alone = λ newer older x same. by_line hosts trace (λ newer x older. terms.quiet < x.time → Contains terms.live x.place) timely.alone newer older x same;
-    quiet = λ newer older x same. by_line hosts trace (λ newer x older. terms.quiet < x.time → IsQuietBut (IsOtherOrLacked n) at older x) (λ front back e split late. is_quiet front back e split late n) newer older x same;
+    quiet = λ newer older x same. by_line hosts trace (λ newer x older. terms.quiet < x.time → IsQuietBut (IsOtherOrLacked at n) at older x) (λ front back e split late. is_quiet front back e split late n) newer older x same;
     delivered = record {
-      drawops = λ newer older x d same. by_line hosts trace (λ newer x older. terms.quiet < x.time → Contains x.sent (Draw d) → turning.AllHoldBehind terms all (x.time + terms.delivery) d.name)
+      drawops = λ newer older x d same. by_line hosts trace (λ newer x older. terms.quiet < x.time → Contains x.sent (Draw d) → turning.AllHoldBehind at terms all (x.time + terms.delivery) d.name)
           (λ front back e split late sent. λ newest later i part lt live.
-          by_part hosts trace (λ newest later. e.time + terms.delivery < turning.time_of later → turning.has later i d.name ≡ true)
+          by_part hosts trace (λ newest later. e.time + terms.delivery < turning.time_of later → turning.has at later i d.name ≡ true)
           (λ newest later is lt. has_here hosts later i d.name ∙ comes front back e split late newest later i d is live sent (time_of_lines later (e.time + terms.delivery) lt)) newest later part lt) newer older x same;
       requests = λ newer older x asker m j same. by_line hosts trace
-          (λ newer x older. terms.quiet < x.time → Contains x.sent (Request asker m) → Contains terms.live j → x.place ≢ j → x.time + terms.delivery < turning.time_of all → IsHeardAt newer x older j terms.delivery asker m)
+          (λ newer x older. terms.quiet < x.time → Contains x.sent (Request asker m) → Contains terms.live j → x.place ≢ j → x.time + terms.delivery < turning.time_of all → IsHeardAt at newer x older j terms.delivery asker m)
           (λ front back e split late sent live other soon. is_heard front back e split late asker m j (timely.requests front back e j asker m split live other late sent (time_of_lines trace (e.time + terms.delivery) soon))) newer older x same;
     };
     fresh = record {
       drawops = λ newer older x now names m same late accepts c.
-          by_line hosts trace (λ newer x older. settled_by terms < x.time → Accepts older x (Arrive now names) → (d : DrawopValue) × (d.name ≡ m) × turning.WasSent (x ∷ older) x.time terms.delivery (Draw d))
+          by_line hosts trace (λ newer x older. settled_by terms < x.time → Accepts at older x (Arrive now names) → (d : DrawopValue) × (d.name ≡ m) × turning.WasSent (x ∷ older) x.time terms.delivery (Draw d))
           (λ front back e split late accepts. drawop_sent front back e split late now names m accepts c) newer older x same late accepts;
       requests = λ newer older x now asker word held m same late accepts.
-          by_line hosts trace (λ newer x older. settled_by terms < x.time → Accepts older x (Hear now (Request asker m) word held) → turning.WasSent (x ∷ older) x.time terms.delivery (Request asker m))
+          by_line hosts trace (λ newer x older. settled_by terms < x.time → Accepts at older x (Hear now (Request asker m) word held) → turning.WasSent (x ∷ older) x.time terms.delivery (Request asker m))
           (λ front back e split late accepts. request_sent front back e split late now asker word held m accepts) newer older x same late accepts;
     };
-    soon = λ newer older x i m same live. by_line hosts trace (λ newer x older. terms.quiet < x.time → turning.AreNotOverdue (turning.timers_there at older i m) (x.time + terms.offset i) terms.late)
-        (λ front back e split late. let soon = timely.soon front back e i m split live late in subst (λ (s : Timers). turning.AreNotOverdue s (e.time + terms.offset i) terms.late) (sym (timers_here hosts back i m)) (record { ask = soon.ask; answer = soon.answer })) newer older x same;
+    soon = λ newer older x i m same live. by_line hosts trace (λ newer x older. terms.quiet < x.time → turning.AreNotOverdue (turning.timers_there at older i m) x.time (terms.lag i + terms.late))
+        (λ front back e split late. let soon = timely.soon front back e i m split live late in subst (λ (s : Timers). turning.AreNotOverdue s e.time (terms.lag i + terms.late)) (sym (timers_here hosts back i m)) (record { ask = soon.ask; answer = soon.answer })) newer older x same;
   }
 
   -- ---- what follows
 
-  pub answerable : (n : NameValue) → IsAnswerable hosts terms trace n → turning.IsAnswerable terms all n
-  answerable n a = (a.0, a.1, ap (λ (t : List Turn). turning.has t a.0 n) (until_is hosts (settled_by terms) trace) ∙ has_here hosts (until (settled_by terms) trace) a.0 n ∙ a.2)
+  pub answerable : (n : NameValue) → IsAnswerable hosts terms trace n → turning.IsAnswerable at terms all n
+  answerable n a = (a.0, a.1, ap (λ (t : List Turn). turning.has at t a.0 n) (until_is hosts (settled_by terms) trace) ∙ has_here hosts (until (settled_by terms) trace) a.0 n ∙ a.2)
 
-  pub holding : (n : NameValue) (time : ℕ) → turning.AllHoldBehind terms all time n → AllHoldBehind hosts terms trace time n
+  pub holding : (n : NameValue) (time : ℕ) → turning.AllHoldBehind at terms all time n → AllHoldBehind hosts terms trace time n
   holding n time h newer later i split lt live =
       sym (has_here hosts later i n) ∙ h (turns_over hosts newer later) (turns_of hosts later) i (ap (turns_of hosts) split ∙ turns_join hosts newer later) (subst (λ (k : ℕ). time < k) (sym (time_is hosts later)) lt) live
 

@@ -27,7 +27,8 @@ use Rattle.wb_keeping.specs.Kept.{Arrives, Asks, Doing, Hears, Line, Says, SetsD
 use Rattle.wb_keeping.specs.Laws.{KeptLine, Came, Ticked, Added, Tuned, doing_of}
 use Rattle.wb_keeping.specs.Performing.{Keeping, after_line, after_lines, due, sees, sooner_of}
 use Rattle.wb_policy.specs.Policy.{next_moment}
-use Rattle.wb_kept_progress.specs.Timed.{AreNotOverdue, IsTold}
+use Rattle.wb_kept_progress.specs.Timed.{AreNotOverdue}
+use Rattle.wb_kept_progress.proofs.Moments.{IsTold, IsTuned}
 use Rattle.wb_kept_progress.proofs.Performed.{AreNoTicks, Begins, IsNoTick, adds_begin, came_begins, ticks_begin}
 use Rattle.wb_kept_progress.proofs.PerLine.{line_moment}
 use Rattle.wb_progress.proofs.Parts.{heads, tails, nil_ends}
@@ -190,18 +191,23 @@ ahead_amid (Added now page time op) k moment first before later x told split =
     subst (λ (m : ℕ). IsAheadAt m (after_lines (first ∷ before) k.host)) told (begun_ahead now _ k.host first before later x (adds_begin now page time op (sees k.host) k.policy) split)
 ahead_amid (Tuned constants) k moment first before later x told split = absurd (nil_ends before x later (tails (Tunes constants) first [] (before ++ x ∷ later) split))
 
+-- a call that sets constants performs one line
+pub tuned_alone : (line : KeptLine) (k : Keeping) (first : Line) (before later : List Line) (x : Line) → IsTuned line → (doing_of line (sees k.host) k.policy).lines ≡ first ∷ (before ++ x ∷ later) → ⊥
+tuned_alone line k first before later x t split =
+    nil_ends before x later (tails (Tunes t.0) first [] (before ++ x ∷ later) (ap (λ (l : KeptLine). (doing_of l (sees k.host) k.policy).lines) (sym t.1) ∙ split))
+
 -- ---- what is overdue
 
--- a timer that is ahead is not
-pub ahead_in_time : (s : Timers) (moment late : ℕ) → AreAhead moment s → AreNotOverdue s moment late
-ahead_in_time s moment late h = record { ask = asks s.ask h.ask; answer = answers s.answer h.answer } where
-  asks : (o : Option AskTimer) → IfSome o (λ (a : AskTimer). moment ≤ a.due) → IfSome o (λ (a : AskTimer). moment ≤ a.due + late)
+-- a timer that is ahead is not, at times that are not far behind the moment
+pub ahead_in_time : (s : Timers) (moment time late : ℕ) → time ≤ moment + late → AreAhead moment s → AreNotOverdue s time late
+ahead_in_time s moment time late near h = record { ask = asks s.ask h.ask; answer = answers s.answer h.answer } where
+  asks : (o : Option AskTimer) → IfSome o (λ (a : AskTimer). moment ≤ a.due) → IfSome o (λ (a : AskTimer). time ≤ a.due + late)
   asks None h = tt
-  asks (Some a) h = omega (arith, h)
+  asks (Some a) h = omega (arith, near, h)
 
-  answers : (o : Option AnswerTimer) → IfSome o (λ (a : AnswerTimer). moment ≤ a.due) → IfSome o (λ (a : AnswerTimer). moment ≤ a.due + late)
+  answers : (o : Option AnswerTimer) → IfSome o (λ (a : AnswerTimer). moment ≤ a.due) → IfSome o (λ (a : AnswerTimer). time ≤ a.due + late)
   answers None h = tt
-  answers (Some a) h = omega (arith, h)
+  answers (Some a) h = omega (arith, near, h)
 
 -- no timer is due before the host has something to do
 pub due_in_time : (k : Keeping) (n : NameValue) (moment late : ℕ) → moment ≤ due k + late → AreNotOverdue (timers_of k.host.is.constants (events k.host) n) moment late

@@ -4,14 +4,15 @@ use Rattle.std.specs.Prelude.{Contains, max, nat_eq, nat_le, unwrap_or}
 use Rattle.std.proofs.lemmas.Bool.{leb-false, leb-true}
 use Rattle.wb_names.specs.Values.{NameValue}
 use Rattle.wb_names.proofs.Listings.{Contains-here, Contains-there}
-use Rattle.wb_progress.specs.Turns.{Terms}
+use Rattle.wb_progress.specs.Turns.{IsNowAt, Terms}
 use Rattle.wb_policy.specs.Fairness.{name_in_turn}
-use Rattle.wb_keeping.specs.Laws.{doing_of}
+use Rattle.wb_keeping.specs.Laws.{KeptLine, doing_of}
 use Rattle.wb_keeping.specs.Performing.{Keeping, after_doing}
 use Rattle.wb_kept_progress.specs.Sessions.{Opening}
-use Rattle.wb_kept_progress.specs.Timed.{IsTold, TimedLine}
+use Rattle.wb_kept_progress.specs.Timed.{SaysNow, TimedLine}
+use Rattle.wb_kept_progress.proofs.Moments.{IsTuned, moment_of, told_itself, told_or_tuned}
 use Rattle.wb_kept_progress.specs.Whole.{there}
-use Rattle.wb_kept_progress.proofs.ReportsApart.{DrawsNothing, IsDueThen, IsTuned, call_due}
+use Rattle.wb_kept_progress.proofs.ReportsApart.{DrawsNothing, IsDueThen, call_due}
 use Rattle.wb_kept_progress.proofs.WholeParts.{HasTurn}
 use Rattle.wb_progress.proofs.Parts.{heads, tails, nil_ends}
 
@@ -48,10 +49,10 @@ fewer from some all bound le is = omega (arith, le, is)
 
 -- ---- the names that have their turn at a host in some calls
 
--- each call tells its moment, and nothing is drawn
+-- each call tells a moment of its time, and nothing is drawn
 abbrev pub AreOrdinary : Terms → List TimedLine → Type 0
 AreOrdinary terms [] = Unit {0}
-AreOrdinary terms (e ∷ part) = (IsTold (e.time + terms.offset e.at.place) e.at.line × DrawsNothing e.at.line) × AreOrdinary terms part
+AreOrdinary terms (e ∷ part) = (SaysNow terms e.time e.at.place e.at.line × DrawsNothing e.at.line) × AreOrdinary terms part
 
 module _ (hosts : ℕ → Opening) (terms : Terms) (i : ℕ) (base : List TimedLine) (from by : ℕ) where
   abbrev at_i : List TimedLine → Keeping
@@ -60,22 +61,26 @@ module _ (hosts : ℕ → Opening) (terms : Terms) (i : ℕ) (base : List TimedL
   abbrev due_at : Keeping → ℕ
   due_at k = k.policy.reports.due
 
+  -- the latest time at which the clock there tells a moment
+  abbrev at_latest : ℕ → ℕ
+  at_latest moment = moment + terms.lag i + terms.drift
+
   -- each name is among these that has its turn there from one time up to another
   abbrev AreAll : List NameValue → List TimedLine → Type 0
-  AreAll names part = (newer older : List TimedLine) (e : TimedLine) (n : NameValue) → part ≡ newer ++ e ∷ older → e.at.place ≡ i → from ≤ e.time → e.time ≤ by → (IsTuned e.at.line → ⊥) → HasTurn (at_i older) (e.time + terms.offset i) n → Contains names n
+  AreAll names part = (newer older : List TimedLine) (e : TimedLine) (n : NameValue) → part ≡ newer ++ e ∷ older → e.at.place ≡ i → from ≤ e.time → e.time ≤ by → (IsTuned e.at.line → ⊥) → HasTurn (at_i older) (moment_of e.at.line) n → Contains names n
 
   -- and they are spaced
   pub record Had (part : List TimedLine) (k : Keeping) : Type 0 where
     pub names : List NameValue
     pub all : AreAll names part
-    pub spaced : from + terms.offset i + length names * 1000000 ≤ max (from + terms.offset i) (due_at k)
-    pub few : from + terms.offset i + length names * 1000000 ≤ by + terms.offset i + 1000000
+    pub spaced : from + length names * 1000000 ≤ max from (at_latest (due_at k))
+    pub few : from + length names * 1000000 ≤ by + terms.drift + 1000000
 
   -- one call more
   module _ (e : TimedLine) (part : List TimedLine) where
     -- the call itself
     abbrev IsIn : List NameValue → Type 0
-    IsIn names = (n : NameValue) → e.at.place ≡ i → from ≤ e.time → e.time ≤ by → (IsTuned e.at.line → ⊥) → HasTurn (at_i part) (e.time + terms.offset i) n → Contains names n
+    IsIn names = (n : NameValue) → e.at.place ≡ i → from ≤ e.time → e.time ≤ by → (IsTuned e.at.line → ⊥) → HasTurn (at_i part) (moment_of e.at.line) n → Contains names n
 
     all_more : (names more : List NameValue) → AreAll names part → ((n : NameValue) → Contains names n → Contains more n) → IsIn more → AreAll more (e ∷ part)
     all_more names more all among here [] older x n split place since soon untuned turn =
@@ -85,34 +90,38 @@ module _ (hosts : ℕ → Opening) (terms : Terms) (i : ℕ) (base : List TimedL
         (subst (λ (y : TimedLine). from ≤ y.time) (sym h) since)
         (subst (λ (y : TimedLine). y.time ≤ by) (sym h) soon)
         (subst (λ (y : TimedLine). IsTuned y.at.line → ⊥) (sym h) untuned)
-        (subst (λ (l : List TimedLine). HasTurn (at_i l) (e.time + terms.offset i) n) (sym t) (subst (λ (y : TimedLine). HasTurn (at_i older) (y.time + terms.offset i) n) (sym h) turn))
+        (subst (λ (l : List TimedLine). HasTurn (at_i l) (moment_of e.at.line) n) (sym t) (subst (λ (y : TimedLine). HasTurn (at_i older) (moment_of y.at.line) n) (sym h) turn))
     all_more names more all among here (y ∷ newer) older x n split place since soon untuned turn = among n (all newer older x n (tails e y part (newer ++ x ∷ older) split) place since soon untuned turn)
 
     same_names : (k next : Keeping) → (h : Had part k) → due_at k ≤ due_at next → IsIn h.names → Had (e ∷ part) next
     same_names k next h le here = record {
       names = h.names;
       all = all_more h.names h.names h.all (λ n c. c) here;
-      spaced = wider_space (from + terms.offset i) (due_at k) (due_at next) (length h.names) le h.spaced;
+      spaced = wider_space from (at_latest (due_at k)) (at_latest (due_at next)) (length h.names) (omega (arith, le)) h.spaced;
       few = h.few;
     }
 
     -- where a report is due
-    module _ (next : Keeping) (h : Had part (at_i part)) (due : due_at (at_i part) ≤ e.time + terms.offset i) (later : e.time + terms.offset i + 1000000 ≤ due_at next) where
+    module _ (now : ℕ) (at : IsNowAt terms e.time i now) (next : Keeping) (h : Had part (at_i part)) (due : due_at (at_i part) ≤ now) (later : now + 1000000 ≤ due_at next) where
       abbrev in_turn : Option NameValue
       in_turn = name_in_turn (at_i part).host.is.held (at_i part).policy.turns
 
       one_turn : from ≤ e.time → e.time ≤ by → Had (e ∷ part) next
       one_turn since soon =
-          let since_then : from + terms.offset i ≤ e.time + terms.offset i = omega (arith, since) in
-          let soon_then : e.time + terms.offset i ≤ by + terms.offset i = omega (arith, soon) in
+          let ahead = at.not_ahead in
+          let behind = at.not_behind in
+          let since_then : from ≤ at_latest now = omega (arith, since, behind) in
+          let soon_then : at_latest now ≤ by + terms.drift = omega (arith, soon, ahead) in
+          let due_then : at_latest (due_at (at_i part)) ≤ at_latest now = omega (arith, due) in
+          let next_then : at_latest now + 1000000 ≤ at_latest (due_at next) = omega (arith, later) in
           let more = one_more in_turn h.names in
           record {
             names = with_turn in_turn h.names;
             all = all_more h.names (with_turn in_turn h.names) h.all (others_in in_turn h.names) (λ n place since soon untuned turn. turn_in in_turn h.names n turn.named);
-            spaced = fewer (from + terms.offset i) (length (with_turn in_turn h.names)) (length h.names + 1) (max (from + terms.offset i) (due_at next)) more
-                (some_space (from + terms.offset i) (e.time + terms.offset i) (due_at (at_i part)) (due_at next) (length h.names) since_then due later h.spaced);
-            few = fewer (from + terms.offset i) (length (with_turn in_turn h.names)) (length h.names + 1) (by + terms.offset i + 1000000) more
-                (some_few (from + terms.offset i) (e.time + terms.offset i) (due_at (at_i part)) (by + terms.offset i) (length h.names) since_then due soon_then h.spaced);
+            spaced = fewer from (length (with_turn in_turn h.names)) (length h.names + 1) (max from (at_latest (due_at next))) more
+                (some_space from (at_latest now) (at_latest (due_at (at_i part))) (at_latest (due_at next)) (length h.names) since_then due_then next_then h.spaced);
+            few = fewer from (length (with_turn in_turn h.names)) (length h.names + 1) (by + terms.drift + 1000000) more
+                (some_few from (at_latest now) (at_latest (due_at (at_i part))) (by + terms.drift) (length h.names) since_then due_then soon_then h.spaced);
           }
 
       out_of_time : (from ≤ e.time → e.time ≤ by → ⊥) → Had (e ∷ part) next
@@ -125,19 +134,28 @@ module _ (hosts : ℕ → Opening) (terms : Terms) (i : ℕ) (base : List TimedL
         in_time true false s t = let lt = leb-false _ _ t in out_of_time (λ since soon. omega (arith, lt, soon))
         in_time false b s t = let lt = leb-false _ _ s in out_of_time (λ since soon. omega (arith, lt, since))
 
-    one_call : (IsTold (e.time + terms.offset i) e.at.line) → DrawsNothing e.at.line → Had part (at_i part) → Had (e ∷ part) (after_doing (doing_of e.at.line) (at_i part))
+    one_call : SaysNow terms e.time i e.at.line → DrawsNothing e.at.line → Had part (at_i part) → Had (e ∷ part) (after_doing (doing_of e.at.line) (at_i part))
     one_call told draws h = ⊎_elim
-        (λ (then : IsDueThen (e.time + terms.offset i) (due_at k) (due_at next)). ⊎_elim
-        (λ (not_yet : (e.time + terms.offset i < due_at k) × (due_at next ≡ due_at k)). let lt = not_yet.0 in same_names k next h (le_same (due_at k) (due_at next) not_yet.1) (λ n place since soon untuned turn. let due = turn.due in absurd (omega (arith, lt, due))))
-        (λ (report : (due_at k ≤ e.time + terms.offset i) × (e.time + terms.offset i + 1000000 ≤ due_at next)). with_report next h report.0 report.1)
+        (λ (t : IsTuned e.at.line). same_names k next h (le_same (due_at k) (due_at next) (tuned_due t)) (λ n place since soon untuned turn. absurd (untuned t)))
+        (λ (at : IsNowAt terms e.time i now). ⊎_elim
+        (λ (then : IsDueThen now (due_at k) (due_at next)). ⊎_elim
+        (λ (not_yet : (now < due_at k) × (due_at next ≡ due_at k)). let lt = not_yet.0 in same_names k next h (le_same (due_at k) (due_at next) not_yet.1) (λ n place since soon untuned turn. let due = turn.due in absurd (omega (arith, lt, due))))
+        (λ (report : (due_at k ≤ now) × (now + 1000000 ≤ due_at next)). with_report now at next h report.0 report.1)
         then)
         (λ (tuned : IsTuned e.at.line × (due_at next ≡ due_at k)). same_names k next h (le_same (due_at k) (due_at next) tuned.1) (λ n place since soon untuned turn. absurd (untuned tuned.0)))
-        (call_due e.at.line (e.time + terms.offset i) k told draws) where
+        (call_due e.at.line now k (told_itself e.at.line) draws))
+        (told_or_tuned terms e.time i e.at.line told) where
+          now : ℕ
+          now = moment_of e.at.line
+
           k : Keeping
           k = at_i part
 
           next : Keeping
           next = after_doing (doing_of e.at.line) (at_i part)
+
+          tuned_due : IsTuned e.at.line → due_at next ≡ due_at k
+          tuned_due t = ap (λ (line : KeptLine). due_at (after_doing (doing_of line) (at_i part))) t.1
 
           le_same : (a b : ℕ) → b ≡ a → a ≤ b
           le_same a b e = omega (arith, e)
@@ -146,7 +164,7 @@ module _ (hosts : ℕ → Opening) (terms : Terms) (i : ℕ) (base : List TimedL
   had le [] ordinary = record { names = []; all = λ newer older e n split. absurd (nil_ends newer e older split); spaced = omega arith; few = omega (arith, le) }
   had le (e ∷ part) ordinary = by_place (nat_eq e.at.place i) refl (had le part ordinary.1) where
     by_place : (b : Bool) → nat_eq e.at.place i ≡ b → Had part (at_i part) → Had (e ∷ part) (cond b (after_doing (doing_of e.at.line) (at_i part)) (at_i part))
-    by_place true same h = one_call e part (subst (λ (p : ℕ). IsTold (e.time + terms.offset p) e.at.line) (eqb-true e.at.place i same) ordinary.0.0) ordinary.0.1 h
+    by_place true same h = one_call e part (subst (λ (p : ℕ). SaysNow terms e.time p e.at.line) (eqb-true e.at.place i same) ordinary.0.0) ordinary.0.1 h
     by_place false other h = same_names e part (at_i part) (at_i part) h (itself (due_at (at_i part))) (λ n place. absurd (true≢false (sym (eq-eqb e.at.place i place) ∙ other))) where
       itself : (m : ℕ) → m ≤ m
       itself m = omega arith

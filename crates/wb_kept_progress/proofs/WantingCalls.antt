@@ -1,9 +1,9 @@
 -- A call in which a name is wanted: a timer stands after some of its lines, or it has no credit.
-use Rattle.std.proofs.Common.{◌≡◌, ℕ, ◌+◌, ◌<◌, ◌≤◌, true, List, [], ◌∷◌, ◌++◌, ◌∙◌, Some, ap, append_assoc, eqb-true, inl, inr, subst, sym, ⊎_elim}
+use Rattle.std.proofs.Common.{◌≡◌, ℕ, ◌<◌, ◌≤◌, true, List, ◌∷◌, ◌++◌, ◌∙◌, Some, ap, append_assoc, eqb-true, inl, inr, subst, sym, ⊎_elim}
 use Rattle.std.specs.Prelude.{◌⊎◌, nat_eq}
 use Rattle.wb_names.specs.Values.{NameValue}
 use Rattle.wb_recovery.specs.declared.timers.AskTimer.{AskTimer}
-use Rattle.wb_progress.specs.Turns.{Terms}
+use Rattle.wb_progress.specs.Turns.{IsNowAt, Terms}
 use Rattle.wb_member.specs.Opened.{asks_for, present}
 use Rattle.wb_policy.specs.Credit.{has_credit}
 use Rattle.wb_keeping.specs.Kept.{Line}
@@ -20,7 +20,7 @@ use Rattle.wb_kept_progress.proofs.WantedIn.{IsAskedInCall, LacksCredit}
 use Rattle.wb_kept_progress.proofs.WholeParts.{HasNoCredit, IsAsking, IsWanting, does, timer_then}
 use Rattle.wb_progress.proofs.Rounds.{the_ask}
 
-module _ (hosts : ℕ → Opening) (terms : Terms) (trace : List TimedLine) (opened : (i : ℕ) → (hosts i).moments ≡ []) (i : ℕ) (n : NameValue)
+module _ (hosts : ℕ → Opening) (terms : Terms) (trace : List TimedLine) (i : ℕ) (n : NameValue)
     (held : IsHeldBySome hosts terms trace n) where
   -- behind lines of a call the timer stands
   pub asking_in_call : (window base front grown : List TimedLine) (e : TimedLine) → window ≡ front ++ e ∷ grown → nat_eq e.at.place i ≡ true
@@ -61,7 +61,7 @@ module _ (hosts : ℕ → Opening) (terms : Terms) (trace : List TimedLine) (ope
     there_is : host_after (λ j. start_of (hosts j)) back i ≡ after_lines (a.first ∷ a.before) k.host
     there_is =
         after_all (λ j. start_of (hosts j)) e.time e.at.place (a.first ∷ a.before) (performed hosts older) i true same
-        ∙ ap (after_lines (a.first ∷ a.before)) (host_is hosts opened older i)
+        ∙ ap (after_lines (a.first ∷ a.before)) (host_is hosts older i)
 
     timer : (ask : AskTimer) × (timer_then hosts back i n ≡ Some ask)
     timer = the_ask (timer_then hosts back i n) (ap (asks_for n) there_is ∙ a.stands)
@@ -69,7 +69,7 @@ module _ (hosts : ℕ → Opening) (terms : Terms) (trace : List TimedLine) (ope
   -- so a name that is wanted in a call is asked for, or there is no credit
   pub wanting_in_call : (window base front grown older : List TimedLine) (e : TimedLine) (from by : ℕ) → window ≡ front ++ e ∷ grown → older ≡ grown ++ base
       → nat_eq e.at.place i ≡ true
-      → present (after_doing (doing_of e.at.line) (there hosts older i)).host ≡ e.time + terms.offset i
+      → IsNowAt terms e.time i (present (after_doing (doing_of e.at.line) (there hosts older i)).host)
       → IsAskedInCall n (doing_of e.at.line) (there hosts older i) ⊎ LacksCredit
       (after_doing (doing_of e.at.line) (there hosts older i)) → from < e.time → e.time ≤ by → IsWanting hosts terms trace window base i from by
   wanting_in_call window base front grown older e from by split is same now wants behind soon = record {
@@ -81,7 +81,7 @@ module _ (hosts : ℕ → Opening) (terms : Terms) (trace : List TimedLine) (ope
     wants = ⊎_elim
         (λ (a : IsAskedInCall n (doing_of e.at.line) (there hosts older i)). inl (asking_in_call window base front grown e split same (subst (λ (t : List TimedLine). IsAskedInCall n (doing_of e.at.line) (there hosts t i)) is a)))
         (λ (without : LacksCredit (after_doing (doing_of e.at.line) (there hosts older i))). inr (subst (λ (t : List TimedLine). HasNoCredit hosts terms (e ∷ t) i) is (
-          ap (λ (x : Keeping). present x.host) (there_here hosts e older i same) ∙ now,
+          subst (λ (x : Keeping). IsNowAt terms e.time i (present x.host)) (sym (there_here hosts e older i same)) now,
           ap (λ (x : Keeping). has_credit x.policy.owed (present x.host)) (there_here hosts e older i same) ∙ without,
         )))
         wants;

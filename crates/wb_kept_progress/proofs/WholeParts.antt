@@ -1,9 +1,9 @@
 -- What follows one after the other, from what a call asks for and gives up to where a session is whole.
-use Rattle.std.specs.Prelude.{◌≡◌, ◌≢◌, ◌⊎◌, ℕ, ◌+◌, ◌*◌, ◌<◌, ◌≤◌, true, false, List, ◌∷◌, ◌++◌, Contains, Option, Some, length}
+use Rattle.std.specs.Prelude.{◌≡◌, ◌≢◌, ◌⊎◌, ℕ, ◌+◌, ◌*◌, ◌<◌, ◌≤◌, true, false, List, ◌∷◌, ◌++◌, Contains, Option, Some, length, max}
 use Rattle.wb_names.specs.Values.{NameValue}
 use Rattle.wb_recovery.specs.declared.timers.AskTimer.{AskTimer}
 use Rattle.wb_progress.specs.InTime.{known_from, repairing}
-use Rattle.wb_progress.specs.Turns.{Terms, settled_by}
+use Rattle.wb_progress.specs.Turns.{IsNowAt, Terms, settled_by}
 use Rattle.wb_member.specs.Judged.{holds}
 use Rattle.wb_member.specs.Opened.{Opened, present}
 use Rattle.wb_policy.specs.Credit.{has_credit, spent}
@@ -15,6 +15,7 @@ use Rattle.wb_policy.specs.Wanting.{oldest}
 use Rattle.wb_policy.specs.declared.wanting.AskedName.{AskedName}
 use Rattle.wb_kept_progress.specs.Sessions.{Opening}
 use Rattle.wb_kept_progress.specs.Timed.{IsTimely, Performed, TimedLine, called_at, host_after, performed, performed_then, start_of, time_of, timers_after}
+use Rattle.wb_kept_progress.proofs.Moments.{moment_of}
 use Rattle.wb_kept_progress.specs.Whole.{IsHeldBySome, IsTimelySession, LackAtMost, AreWithin, Sizes, WaitAtMost, report_span, request_span, there}
 
 -- ---- calls and their lines
@@ -63,7 +64,7 @@ pub record HasTurn (k : Keeping) (now : ℕ) (n : NameValue) : Type 0 where
 -- Some live host holds it, or it has its turn, or a drawop came that was new.
 abbrev pub AsksHaveCause : Type 0
 AsksHaveCause = (hosts : ℕ → Opening) (terms : Terms) (trace newer older : List TimedLine) (e : TimedLine) (n : NameValue) → IsTimelySession hosts terms trace → trace ≡ newer ++ e ∷ older → settled_by terms < e.time → Contains (does hosts e older) (Asks n)
-    → IsHeldBySome hosts terms trace n ⊎ (HasTurn (there hosts older e.at.place) (e.time + terms.offset e.at.place) n ⊎ ((there hosts (e ∷ older) e.at.place).host.is.held ≢ (there hosts older e.at.place).host.is.held))
+    → IsHeldBySome hosts terms trace n ⊎ (HasTurn (there hosts older e.at.place) (moment_of e.at.line) n ⊎ ((there hosts (e ∷ older) e.at.place).host.is.held ≢ (there hosts older e.at.place).host.is.held))
 
 -- It was backed off four times or more, or of 64 or more that are asked for it was backed off most and is the first of these.
 abbrev pub StopsHaveCause : Type 0
@@ -80,11 +81,11 @@ CreditIsSpent = (hosts : ℕ → Opening) (terms : Terms) (trace newer older : L
     ((n : NameValue) × Contains (does hosts e older) (Asks n) × IsHeldBySome hosts terms trace n)
     ⊎ ((next.host.is.held ≢ k.host.is.held)
     ⊎ ((next.policy.owed ≤ k.policy.owed)
-    ⊎ ((k.policy.reports.due ≤ e.time + terms.offset e.at.place) × (next.policy.owed ≤ spent k.policy.owed (e.time + terms.offset e.at.place)))))
+    ⊎ ((k.policy.reports.due ≤ moment_of e.at.line) × (next.policy.owed ≤ spent k.policy.owed (moment_of e.at.line)))))
 
 -- The next report is due within 96 seconds.
 abbrev pub ReportsAreDue : Type 0
-ReportsAreDue = (hosts : ℕ → Opening) (terms : Terms) (trace newer older : List TimedLine) (i : ℕ) → IsTimelySession hosts terms trace → trace ≡ newer ++ older → Contains terms.live i → (there hosts older i).policy.reports.due ≤ called_at older + terms.offset i + 96000000
+ReportsAreDue = (hosts : ℕ → Opening) (terms : Terms) (trace newer older : List TimedLine) (i : ℕ) → IsTimelySession hosts terms trace → trace ≡ newer ++ older → Contains terms.live i → (there hosts older i).policy.reports.due + terms.lag i ≤ max (called_at older) terms.quiet + 96000000
 
 -- ---- timers
 
@@ -106,7 +107,7 @@ pub record Holds (hosts : ℕ → Opening) (terms : Terms) (trace : List TimedLi
   pub within : AreWithin hosts terms trace sizes
   pub waits : WaitAtMost hosts terms trace wait
   pub lacks : LackAtMost hosts terms trace most
-  pub short : request_span terms ≤ 60000000
+  pub short : request_span terms + terms.drift ≤ 60000000
 
 -- behind some lines a live host asks for what another holds
 pub record IsAsking (hosts : ℕ → Opening) (terms : Terms) (trace part : List TimedLine) (i : ℕ) (back : List Performed) : Type 0 where
@@ -125,14 +126,14 @@ StillnessEnds = (hosts : ℕ → Opening) (terms : Terms) (trace newest window b
 
 -- There is no credit behind the newest call, which is one of this host.
 abbrev pub HasNoCredit : (ℕ → Opening) → Terms → List TimedLine → ℕ → Type 0
-HasNoCredit hosts terms calls i = let k = there hosts calls i in (present k.host ≡ called_at calls + terms.offset i) × (has_credit k.policy.owed (present k.host) ≡ false)
+HasNoCredit hosts terms calls i = let k = there hosts calls i in IsNowAt terms (called_at calls) i (present k.host) × (has_credit k.policy.owed (present k.host) ≡ false)
 
 -- Where there is no credit behind a call, what another holds was asked for lately.
 abbrev pub NoCreditIsAsked : Type 0
 NoCreditIsAsked = (hosts : ℕ → Opening) (terms : Terms) (trace newest window base front part : List TimedLine) (sizes : Sizes) (wait most i : ℕ) → Holds hosts terms trace sizes wait most → IsStill hosts terms trace newest window base
-    → known_from terms + wait + repairing terms ≤ called_at base → Contains terms.live i → window ≡ front ++ part → called_at base + 21000000 < called_at (part ++ base)
+    → known_from terms + wait + repairing terms ≤ called_at base → Contains terms.live i → window ≡ front ++ part → called_at base + 21000000 + terms.drift < called_at (part ++ base)
     → HasNoCredit hosts terms (part ++ base) i
-    → (back : List Performed) × IsAsking hosts terms trace (window ++ base) i back × (called_at (part ++ base) ≤ time_of back + 21000000)
+    → (back : List Performed) × IsAsking hosts terms trace (window ++ base) i back × (called_at (part ++ base) ≤ time_of back + 21000000 + terms.drift)
 
 -- behind a call a live host asks for what another holds, or has no credit
 pub record IsWanting (hosts : ℕ → Opening) (terms : Terms) (trace window base : List TimedLine) (i from by : ℕ) : Type 0 where

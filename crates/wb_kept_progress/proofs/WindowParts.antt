@@ -1,9 +1,9 @@
 -- Where a call stands of which a line was performed, and where a part of a trace begins.
-use Rattle.std.proofs.Common.{◌≡◌, ◌+◌, ◌<◌, ◌≤◌, List, [], ◌∷◌, ◌++◌, ◌∙◌, ap, append_assoc, arith, inl, inr, subst, sym}
-use Rattle.std.specs.Prelude.{◌⊎◌}
+use Rattle.std.proofs.Common.{◌≡◌, ◌<◌, ◌≤◌, List, [], ◌∷◌, ◌++◌, ◌∙◌, ap, append_assoc, arith, inl, inr, subst, sym}
+use Rattle.std.specs.Prelude.{◌⊎◌, Contains}
 use Rattle.std.proofs.lemmas.List.{append_cancel_right}
 use Rattle.wb_progress.specs.Turns.{Terms}
-use Rattle.wb_kept_progress.specs.Timed.{AreInOrder, IsTold, Performed, TellTimes, TimedLine, called_at, time_of}
+use Rattle.wb_kept_progress.specs.Timed.{AreInOrder, SaysNow, Performed, TellTimes, TimedLine, called_at, time_of}
 use Rattle.wb_kept_progress.specs.Whole.{AreCalledInOrder}
 use Rattle.wb_kept_progress.proofs.CallParts.{calls_end}
 use Rattle.wb_kept_progress.proofs.Timely.{before_end}
@@ -43,8 +43,8 @@ in_window window base newer older e same order lt = from past.0 past.1 where
         older_is = t;
       }
 
--- each call tells the moment of its time
-pub told_in : (terms : Terms) (newer older : List TimedLine) (e : TimedLine) → TellTimes terms (newer ++ e ∷ older) → IsTold (e.time + terms.offset e.at.place) e.at.line
+-- each call tells a moment of its time
+pub told_in : (terms : Terms) (newer older : List TimedLine) (e : TimedLine) → TellTimes terms (newer ++ e ∷ older) → Contains terms.live e.at.place → SaysNow terms e.time e.at.place e.at.line
 told_in terms [] older e tells = tells.0
 told_in terms (x ∷ newer) older e tells = told_in terms newer older e tells.1
 

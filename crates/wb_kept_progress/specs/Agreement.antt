@@ -1,5 +1,5 @@
 -- What self-managing hosts show alike, once all of a session has come to each of them.
-use Rattle.std.specs.Prelude.{◌≡◌, ℕ, ◌<◌, ◌≤◌, List, ◌++◌, Contains}
+use Rattle.std.specs.Prelude.{◌≡◌, ℕ, ◌+◌, ◌<◌, ◌≤◌, List, ◌++◌, Contains}
 use Rattle.wb_names.specs.Values.{DrawopValue}
 use Rattle.wb_names.specs.declared.name.PageId.{PageId}
 use Rattle.wb_gaps.specs.Answers.{pages_of, report_of}
@@ -29,6 +29,6 @@ pub record LookAlike (one other : List DrawopValue) : Type 0 where
 -- After the time at which a session is whole, the boards of any two live hosts look alike, if no name means two drawops to them.
 abbrev pub SessionsAgree : Type 0
 SessionsAgree = (hosts : ℕ → Opening) (terms : Terms) (trace newer later : List TimedLine) (sizes : Sizes) (wait most i j : ℕ)
-    → IsTimelySession hosts terms trace → AreWithin hosts terms trace sizes → WaitAtMost hosts terms trace wait → LackAtMost hosts terms trace most → request_span terms ≤ 60000000
+    → IsTimelySession hosts terms trace → AreWithin hosts terms trace sizes → WaitAtMost hosts terms trace wait → LackAtMost hosts terms trace most → request_span terms + terms.drift ≤ 60000000
     → trace ≡ newer ++ later → whole_by terms sizes wait most < called_at later → Contains terms.live i → Contains terms.live j → NamesMeanOneAt hosts (lines_of later) i j
     → LookAlike (there hosts later i).host.is.held (there hosts later j).host.is.held

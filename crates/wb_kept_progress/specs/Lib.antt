@@ -4,3 +4,4 @@ pub mod Starts
 pub mod Timed
 pub mod Whole
 pub mod Agreement
+pub mod Since

@@ -1,8 +1,8 @@
 -- Hosts in real time, by the lines that they perform. A self-managing host performs such lines, one after the other.
-use Rattle.std.specs.Prelude.{◌≡◌, ◌≢◌, ◌⊎◌, ℕ, ◌+◌, ◌*◌, ◌<◌, ◌≤◌, true, false, map, max, List, [], ◌∷◌, ◌++◌, Contains, IfSome, Some, nat_eq, nat_le, if◌then◌else◌}
+use Rattle.std.specs.Prelude.{◌≡◌, ◌≢◌, ◌⊎◌, ℕ, ◌+◌, ◌<◌, ◌≤◌, Bool, true, false, map, max, List, [], ◌∷◌, ◌++◌, Contains, IfSome, Some, nat_eq, nat_le, if◌then◌else◌}
 use Rattle.wb_names.specs.Values.{DrawopValue, NameValue}
 use Rattle.wb_codec.specs.declared.datagram.Datagram.{Datagram}
-use Rattle.wb_codec.specs.declared.datagram.Datagram.TheVariants.{Draw, Request}
+use Rattle.wb_codec.specs.declared.datagram.Datagram.TheVariants.{Draw, Session, Request, AskPages, PageState}
 use Rattle.wb_recovery.specs.Events.{constants_after, timers_of}
 use Rattle.wb_recovery.specs.declared.timers.AnswerTimer.{AnswerTimer}
 use Rattle.wb_recovery.specs.declared.timers.AskTimer.{AskTimer}
@@ -10,13 +10,14 @@ use Rattle.wb_recovery.specs.declared.timers.Timers.{Timers}
 use Rattle.wb_recovery.specs.declared.tuning.Tuning.{Tuning}
 use Rattle.wb_progress.specs.InTime.{answering_by, known_from, repairing}
 use Rattle.wb_progress.specs.Bounds.{IsUnder}
-use Rattle.wb_progress.specs.Turns.{Terms, longest, settled_by}
+use Rattle.wb_progress.specs.Keepers.{is_request}
+use Rattle.wb_progress.specs.Turns.{IsNowAt, Terms, longest, quiet_span, settled_by}
 use Rattle.wb_member.specs.Judged.{delay, holds, is_full}
 use Rattle.wb_member.specs.Opened.{Opened, events, opened_with, present}
-use Rattle.wb_keeping.specs.Kept.{Line, Arrives, Hears, Says, Stops, Ticks}
+use Rattle.wb_keeping.specs.Kept.{Line, Arrives, Asks, Hears, Says, SetsDistance, Stops, Ticks, Tunes}
 use Rattle.wb_keeping.specs.Laws.{KeptLine, Came, Ticked, Added, Tuned, doing_of}
-use Rattle.wb_keeping.specs.Performing.{after_line, sees, sent_by_doing, sent_by_line}
-use Rattle.wb_kept_progress.specs.Sessions.{LineAt, Opening, kept_at}
+use Rattle.wb_keeping.specs.Performing.{after_line, after_lines, sees, sent_by_doing, sent_by_line}
+use Rattle.wb_kept_progress.specs.Sessions.{AreTaken, DoNotGoBack, LineAt, Opening, kept_at}
 
 -- ---- a trace
 
@@ -26,16 +27,17 @@ pub record Performed : Type 0 where
   pub place : ℕ
   pub line : Line
 
--- how the host at a place is opened
+-- how the host at a place is opened, and the moments that it took in before its first line
 pub record Start : Type 0 where
   pub constants : Tuning
   pub number : ℕ
   pub cells : ℕ
   pub seed : ℕ
+  pub moments : List ℕ
 
 -- the host at a place after lines, of which the newest is the first
 abbrev pub host_after : (ℕ → Start) → List Performed → ℕ → Opened
-host_after hosts [] i = opened_with (hosts i).constants (hosts i).number (hosts i).cells (hosts i).seed
+host_after hosts [] i = after_lines (map Ticks (hosts i).moments) (opened_with (hosts i).constants (hosts i).number (hosts i).cells (hosts i).seed)
 host_after hosts (e ∷ older) i = if nat_eq e.place i then after_line e.line (host_after hosts older i) else host_after hosts older i
 
 abbrev pub timers_after : (ℕ → Start) → List Performed → ℕ → NameValue → Timers
@@ -89,19 +91,45 @@ pub record WasSent (hosts : ℕ → Start) (older : List Performed) (time within
   pub soon : time ≤ e.time + within
   pub sent : Contains (sends hosts before e) v
 
+-- A line goes by distances if timers are set by them or names are quiet for them: as it ticks, takes a drawop, hears a request or asks for a name.
+abbrev pub is_drawop : Datagram → Bool
+is_drawop (Draw d) = true
+is_drawop (Session sender sent page marks echoes) = false
+is_drawop (Request asker name) = false
+is_drawop (AskPages asker) = false
+is_drawop (PageState sender page marks) = false
+
+abbrev pub goes_by_distances : Line → Bool
+goes_by_distances (Ticks now) = true
+goes_by_distances (Arrives d) = true
+goes_by_distances (Hears v) = is_request v
+goes_by_distances (Asks name) = true
+goes_by_distances (Says v) = is_drawop v
+goes_by_distances (Stops name) = false
+goes_by_distances (SetsDistance source micros) = false
+goes_by_distances (Tunes constants) = false
+
+-- no line at a live place goes by a distance above `far`
+abbrev pub GoByShort : (ℕ → Start) → Terms → List Performed → Type 0
+GoByShort hosts terms trace = (newer older : List Performed) (e : Performed) (source : ℕ) → trace ≡ newer ++ e ∷ older → Contains terms.live e.place → goes_by_distances e.line ≡ true → delay (host_after hosts older e.place) source ≤ terms.far
+
 -- The terms are those of wb_progress, without pages: nothing is asked of looks, of reports, and of what is asked for and given up.
 pub record IsTimely (hosts : ℕ → Start) (terms : Terms) (trace : List Performed) : Type 0 where
   pub distinct : (i j : ℕ) → (hosts i).number ≡ (hosts j).number → i ≡ j
-  pub waits : (i : ℕ) → IsUnder (longest terms) (hosts i).constants
+  pub waits : (i : ℕ) → Contains terms.live i → IsUnder (longest terms) (hosts i).constants
   pub tuned : (newer older : List Performed) (i : ℕ) → trace ≡ newer ++ older → Contains terms.live i → let host = host_after hosts older i in IsUnder (longest terms) (constants_after host.is.constants (events host))
   pub order : AreInOrder trace
   pub reported : 1 ≤ terms.reporting
-  -- a tick makes the moment the time and the offset of its place, and a datagram is heard after such a tick
-  pub times : (newer older : List Performed) (e : Performed) (now : ℕ) → trace ≡ newer ++ e ∷ older → e.line ≡ Ticks now → now ≡ e.time + terms.offset e.place
-  pub behind : (newer older : List Performed) (e : Performed) (v : Datagram) → trace ≡ newer ++ e ∷ older → e.line ≡ Hears v → present (host_after hosts older e.place) ≡ e.time + terms.offset e.place
+  -- moments do not go back at a live place; the last before its first line is one of `quiet` or before
+  pub moments : (i : ℕ) → Contains terms.live i → DoNotGoBack 0 (hosts i).moments
+  pub begun : (i : ℕ) → Contains terms.live i → present (host_after hosts [] i) + terms.lag i ≤ terms.quiet
+  pub onward : (newer older : List Performed) (e : Performed) (now : ℕ) → trace ≡ newer ++ e ∷ older → Contains terms.live e.place → e.line ≡ Ticks now → present (host_after hosts older e.place) ≤ now
+  -- a tick makes it a moment of its time, and a datagram is heard at such a moment
+  pub times : (newer older : List Performed) (e : Performed) (now : ℕ) → trace ≡ newer ++ e ∷ older → Contains terms.live e.place → e.line ≡ Ticks now → IsNowAt terms e.time e.place now
+  pub behind : (newer older : List Performed) (e : Performed) (v : Datagram) → trace ≡ newer ++ e ∷ older → Contains terms.live e.place → e.line ≡ Hears v → IsNowAt terms e.time e.place (present (host_after hosts older e.place))
   -- from `quiet` on a tick comes once a timer is due: until a line comes, no timer that stands at a live place is overdue
-  pub soon : (newer older : List Performed) (e : Performed) (i : ℕ) (m : NameValue) → trace ≡ newer ++ e ∷ older → Contains terms.live i → terms.quiet < e.time → AreNotOverdue (timers_after hosts older i m) (e.time + terms.offset i) terms.late
-  pub delays : (newer older : List Performed) (i source : ℕ) → trace ≡ newer ++ older → Contains terms.live i → delay (host_after hosts older i) source ≤ terms.far
+  pub soon : (newer older : List Performed) (e : Performed) (i : ℕ) (m : NameValue) → trace ≡ newer ++ e ∷ older → Contains terms.live i → terms.quiet < e.time → AreNotOverdue (timers_after hosts older i m) e.time (terms.lag i + terms.late)
+  pub delays : GoByShort hosts terms trace
   -- from `quiet` on
   pub alone : (newer older : List Performed) (e : Performed) → trace ≡ newer ++ e ∷ older → terms.quiet < e.time → Contains terms.live e.place
   pub quiet : (newer older : List Performed) (e : Performed) → trace ≡ newer ++ e ∷ older → terms.quiet < e.time → IsQuietLine e.line
@@ -124,7 +152,7 @@ AllHoldBehind hosts terms trace time n = (newer later : List Performed) (i : ℕ
 
 -- A request for what a live place held, once it is sent late enough, brings it to all, whatever names are given up or asked for.
 abbrev pub RequestIsAnswered : Type 0
-RequestIsAnswered = (hosts : ℕ → Start) (terms : Terms) (trace newer older : List Performed) (e : Performed) (asker : ℕ) (n : NameValue) → IsTimely hosts terms trace → trace ≡ newer ++ e ∷ older → settled_by terms < e.time → settled_by terms + 3 * terms.far ≤ e.time
+RequestIsAnswered = (hosts : ℕ → Start) (terms : Terms) (trace newer older : List Performed) (e : Performed) (asker : ℕ) (n : NameValue) → IsTimely hosts terms trace → trace ≡ newer ++ e ∷ older → settled_by terms < e.time → settled_by terms + quiet_span terms ≤ e.time
     → Contains (sends hosts older e) (Request asker n) → IsAnswerable hosts terms trace n → AllHoldBehind hosts terms trace (e.time + answering_by terms) n
 
 -- a name is given up at a place after a part, while its timer stands as it was
@@ -141,7 +169,7 @@ pub record IsGivenUp (hosts : ℕ → Start) (trace base : List Performed) (i : 
 -- A request timer that stands late enough leads to such a request, or its name is given up there before. So if it is not, all come to hold the name.
 abbrev pub TimerLeadsOrIsGivenUp : Type 0
 TimerLeadsOrIsGivenUp = (hosts : ℕ → Start) (terms : Terms) (trace newer older : List Performed) (i : ℕ) (n : NameValue) (ask : AskTimer) (due : ℕ) → IsTimely hosts terms trace → trace ≡ newer ++ older → Contains terms.live i → known_from terms ≤ time_of older
-    → (timers_after hosts older i n).ask ≡ Some ask → ask.due ≤ due + terms.offset i → IsAnswerable hosts terms trace n
+    → (timers_after hosts older i n).ask ≡ Some ask → ask.due + terms.lag i ≤ due → IsAnswerable hosts terms trace n
     → AllHoldBehind hosts terms trace (max (time_of older) due + repairing terms) n ⊎ IsGivenUp hosts trace older i n ask (max (time_of older) due + terms.late)
 
 -- ---- self-managing hosts
@@ -165,33 +193,40 @@ performed hosts [] = []
 performed hosts (e ∷ older) = let k = kept_at hosts (lines_of older) e.at.place in performed_then e.time e.at.place (doing_of e.at.line (sees k.host) k.policy).lines (performed hosts older)
 
 abbrev pub start_of : Opening → Start
-start_of o = record { constants = o.constants; number = o.number; cells = o.cells; seed = o.seed }
+start_of o = record { constants = o.constants; number = o.number; cells = o.cells; seed = o.seed; moments = o.moments }
 
--- if a line says a moment, it is this one
-abbrev pub IsTold : ℕ → KeptLine → Type 0
-IsTold moment (Came now v) = now ≡ moment
-IsTold moment (Ticked now) = now ≡ moment
-IsTold moment (Added now page time op) = now ≡ moment
-IsTold moment (Tuned constants) = Unit {0}
+-- if a line says a moment, the clock of its place may tell it at the time
+abbrev pub SaysNow : Terms → ℕ → ℕ → KeptLine → Type 0
+SaysNow terms time place (Came now v) = IsNowAt terms time place now
+SaysNow terms time place (Ticked now) = IsNowAt terms time place now
+SaysNow terms time place (Added now page t op) = IsNowAt terms time place now
+SaysNow terms time place (Tuned constants) = Unit {0}
 
--- So each of them, if it is self-managing from its opening on, is the host that performed these lines. If each line says the moment of
--- its time, so does each tick that is performed, and each datagram is heard at such a moment.
+-- So each of them is the host that performed these lines, after the moments of its opening. If each line says a moment of its time, so does
+-- each tick that is performed, and each datagram is heard at such a moment.
 pub record IsPerformed (hosts : ℕ → Opening) (trace : List TimedLine) : Type 0 where
   pub same : (i : ℕ) → host_after (λ j. start_of (hosts j)) (performed hosts trace) i ≡ (kept_at hosts (lines_of trace) i).host
 
 pub record KeepsMoments (hosts : ℕ → Opening) (terms : Terms) (trace : List TimedLine) : Type 0 where
-  pub times : (newer older : List Performed) (e : Performed) (now : ℕ) → performed hosts trace ≡ newer ++ e ∷ older → e.line ≡ Ticks now → now ≡ e.time + terms.offset e.place
-  pub behind : (newer older : List Performed) (e : Performed) (v : Datagram) → performed hosts trace ≡ newer ++ e ∷ older → e.line ≡ Hears v → present (host_after (λ j. start_of (hosts j)) older e.place) ≡ e.time + terms.offset e.place
+  pub times : (newer older : List Performed) (e : Performed) (now : ℕ) → performed hosts trace ≡ newer ++ e ∷ older → Contains terms.live e.place → e.line ≡ Ticks now → IsNowAt terms e.time e.place now
+  pub behind : (newer older : List Performed) (e : Performed) (v : Datagram) → performed hosts trace ≡ newer ++ e ∷ older → Contains terms.live e.place → e.line ≡ Hears v → IsNowAt terms e.time e.place (present (host_after (λ j. start_of (hosts j)) older e.place))
 
 abbrev pub TellTimes : Terms → List TimedLine → Type 0
 TellTimes terms [] = Unit {0}
-TellTimes terms (e ∷ older) = IsTold (e.time + terms.offset e.at.place) e.at.line × TellTimes terms older
+TellTimes terms (e ∷ older) = (Contains terms.live e.at.place → SaysNow terms e.time e.at.place e.at.line) × TellTimes terms older
 
 abbrev pub KeptIsPerformed : Type 0
-KeptIsPerformed = (hosts : ℕ → Opening) (trace : List TimedLine) → ((i : ℕ) → (hosts i).moments ≡ []) → IsPerformed hosts trace
+KeptIsPerformed = (hosts : ℕ → Opening) (trace : List TimedLine) → IsPerformed hosts trace
 
 abbrev pub KeptKeepsMoments : Type 0
 KeptKeepsMoments = (hosts : ℕ → Opening) (terms : Terms) (trace : List TimedLine) → TellTimes terms trace → KeepsMoments hosts terms trace
+
+-- The greatest distance that a self-managing host goes by, in microseconds: it limits what echoes tell before it goes by that.
+abbrev pub greatest_distance : ℕ
+greatest_distance = 1000000
+
+abbrev pub KeptGoByShort : Type 0
+KeptGoByShort = (hosts : ℕ → Opening) (terms : Terms) (trace : List TimedLine) → AreTaken hosts (lines_of trace) → greatest_distance ≤ terms.far → GoByShort (λ j. start_of (hosts j)) terms (performed hosts trace)
 
 -- ---- by when it comes to self-managing hosts
 
@@ -201,9 +236,8 @@ called_at [] = 0
 called_at (e ∷ older) = e.time
 
 -- What they perform keeps to the terms.
-pub record IsKeptTimely (hosts : ℕ → Opening) (terms : Terms) (trace : List TimedLine) : Type 0 where
-  pub opened : (i : ℕ) → (hosts i).moments ≡ []
-  pub timely : IsTimely (λ j. start_of (hosts j)) terms (performed hosts trace)
+abbrev pub IsKeptTimely : (ℕ → Opening) → Terms → List TimedLine → Type 0
+IsKeptTimely hosts terms trace = IsTimely (λ j. start_of (hosts j)) terms (performed hosts trace)
 
 -- a live host held the name once what was on its way had arrived
 abbrev pub IsKeptAnswerable : (ℕ → Opening) → Terms → List TimedLine → NameValue → Type 0
@@ -215,11 +249,11 @@ AllKeptHoldBehind hosts terms trace time n = (newer later : List TimedLine) (i :
 
 -- A request that a call sends late enough brings the name to all.
 abbrev pub KeptRequestIsAnswered : Type 0
-KeptRequestIsAnswered = (hosts : ℕ → Opening) (terms : Terms) (trace newer older : List TimedLine) (e : TimedLine) (asker : ℕ) (n : NameValue) → IsKeptTimely hosts terms trace → trace ≡ newer ++ e ∷ older → settled_by terms < e.time → settled_by terms + 3 * terms.far ≤ e.time
+KeptRequestIsAnswered = (hosts : ℕ → Opening) (terms : Terms) (trace newer older : List TimedLine) (e : TimedLine) (asker : ℕ) (n : NameValue) → IsKeptTimely hosts terms trace → trace ≡ newer ++ e ∷ older → settled_by terms < e.time → settled_by terms + quiet_span terms ≤ e.time
     → Contains (sent_by_doing (doing_of e.at.line) (kept_at hosts (lines_of older) e.at.place)) (Request asker n) → IsKeptAnswerable hosts terms trace n → AllKeptHoldBehind hosts terms trace (e.time + answering_by terms) n
 
 -- A request timer that stands after a call late enough does so, or its name is given up there before.
 abbrev pub KeptTimerLeadsOrIsGivenUp : Type 0
 KeptTimerLeadsOrIsGivenUp = (hosts : ℕ → Opening) (terms : Terms) (trace newer older : List TimedLine) (i : ℕ) (n : NameValue) (ask : AskTimer) (due : ℕ) → IsKeptTimely hosts terms trace → trace ≡ newer ++ older → Contains terms.live i → known_from terms ≤ called_at older
-    → (let host = (kept_at hosts (lines_of older) i).host in (timers_of host.is.constants (events host) n).ask) ≡ Some ask → ask.due ≤ due + terms.offset i → IsKeptAnswerable hosts terms trace n
+    → (let host = (kept_at hosts (lines_of older) i).host in (timers_of host.is.constants (events host) n).ask) ≡ Some ask → ask.due + terms.lag i ≤ due → IsKeptAnswerable hosts terms trace n
     → AllKeptHoldBehind hosts terms trace (max (called_at older) due + repairing terms) n ⊎ IsGivenUp (λ j. start_of (hosts j)) (performed hosts trace) (performed hosts older) i n ask (max (called_at older) due + terms.late)

@@ -1,5 +1,5 @@
 -- By when all of a session has come to self-managing hosts, if from some time on nobody draws and nothing is lost.
-use Rattle.std.specs.Prelude.{◌≡◌, ◌≢◌, ℕ, ◌+◌, ◌*◌, ◌^◌, ◌-◌, ◌<◌, ◌≤◌, false, List, [], ◌∷◌, ◌++◌, Contains, Some, length}
+use Rattle.std.specs.Prelude.{◌≡◌, ◌≢◌, ◌⊎◌, ℕ, ◌+◌, ◌*◌, ◌^◌, ◌-◌, ◌<◌, ◌≤◌, false, List, [], ◌∷◌, ◌++◌, Contains, Some, length}
 use Rattle.wb_names.specs.Values.{DrawopValue, NameValue}
 use Rattle.wb_names.specs.declared.name.PageId.{PageId}
 use Rattle.wb_names.specs.declared.parts.Op.{Op}
@@ -11,12 +11,13 @@ use Rattle.wb_gaps.specs.declared.holes.Hole.{Hole}
 use Rattle.wb_progress.specs.Bounds.{IsUnder}
 use Rattle.wb_progress.specs.InTime.{known_from, repairing}
 use Rattle.wb_progress.specs.Turns.{Terms, longest, settled_by}
-use Rattle.wb_member.specs.Judged.{delay, holds, is_full}
+use Rattle.wb_member.specs.Judged.{holds, is_full}
+use Rattle.wb_member.specs.Opened.{present}
 use Rattle.wb_policy.specs.Fairness.{slices_of, slices_on}
 use Rattle.wb_keeping.specs.Laws.{Added, Came, Tuned, doing_of}
 use Rattle.wb_keeping.specs.Performing.{Keeping, due, sent_by_doing}
-use Rattle.wb_kept_progress.specs.Sessions.{AreTaken, Opening, kept_at}
-use Rattle.wb_kept_progress.specs.Timed.{AllKeptHoldBehind, IsAnswerable, Performed, TellTimes, TimedLine, called_at, host_after, lines_of, performed, start_of, timers_after, until}
+use Rattle.wb_kept_progress.specs.Sessions.{AreTaken, DoNotGoBack, Opening, kept_at, opened_host}
+use Rattle.wb_kept_progress.specs.Timed.{AllKeptHoldBehind, GoByShort, IsAnswerable, Performed, TellTimes, TimedLine, called_at, greatest_distance, host_after, lines_of, performed, start_of, timers_after, until}
 
 -- the host at a place, with its policy, after some calls, of which the newest is the first
 abbrev pub there : (ℕ → Opening) → List TimedLine → ℕ → Keeping
@@ -51,21 +52,26 @@ pub record WasSentBy (hosts : ℕ → Opening) (older : List TimedLine) (time wi
   pub soon : time ≤ e.time + within
   pub sent : Contains (sends_then hosts before e) v
 
--- Drivers and the network keep to the terms. At any time no delay of live hosts is too great. From `quiet` on they alone are called, and in time, each of
+-- Drivers and the network keep to the terms. From `quiet` on they alone are called, and in time, each of
 -- their boards has a free cell, and nobody draws; what one sends is handed in to each other one in time. What comes once all that was on its way has
 -- arrived was sent shortly before. A live host may be handed its first line at any time up to `quiet`.
 pub record IsTimelySession (hosts : ℕ → Opening) (terms : Terms) (trace : List TimedLine) : Type 0 where
-  pub opened : (i : ℕ) → (hosts i).moments ≡ []
+  -- moments do not go back; the last before a live host becomes self-managing is one of `quiet` or before
+  pub moments : (i : ℕ) → DoNotGoBack 0 (hosts i).moments
+  pub begun : (i : ℕ) → Contains terms.live i → present (opened_host (hosts i)) + terms.lag i ≤ terms.quiet
   pub distinct : (i j : ℕ) → (hosts i).number ≡ (hosts j).number → i ≡ j
-  pub waits : (i : ℕ) → IsUnder (longest terms) (hosts i).constants
-  pub tuned : (newer older : List TimedLine) (e : TimedLine) (constants : Tuning) → trace ≡ newer ++ e ∷ older → e.at.line ≡ Tuned constants → IsUnder (longest terms) constants
+  pub waits : (i : ℕ) → Contains terms.live i → IsUnder (longest terms) (hosts i).constants
+  pub tuned : (newer older : List TimedLine) (e : TimedLine) (constants : Tuning) → trace ≡ newer ++ e ∷ older → Contains terms.live e.at.place → e.at.line ≡ Tuned constants → IsUnder (longest terms) constants
   pub taken : AreTaken hosts (lines_of trace)
   pub order : AreCalledInOrder trace
   pub reported : 1 ≤ terms.reporting
+  -- each line says a moment of its time, and `late` is at least as long as clocks drift
   pub times : TellTimes terms trace
+  pub covered : terms.drift ≤ terms.late
   -- from `quiet` on a call of a live host comes at most `late` after the moment at which it has something to do
-  pub soon : (newer older : List TimedLine) (e : TimedLine) (i : ℕ) → trace ≡ newer ++ e ∷ older → Contains terms.live i → terms.quiet < e.time → e.time + terms.offset i ≤ due (there hosts older i) + terms.late
-  pub delays : (newer older : List Performed) (i source : ℕ) → performed hosts trace ≡ newer ++ older → Contains terms.live i → delay (host_after (λ j. start_of (hosts j)) older i) source ≤ terms.far
+  pub soon : (newer older : List TimedLine) (e : TimedLine) (i : ℕ) → trace ≡ newer ++ e ∷ older → Contains terms.live i → terms.quiet < e.time → e.time ≤ due (there hosts older i) + (terms.lag i + terms.late)
+  -- of distances nothing is asked if `far` is a second or more
+  pub delays : (greatest_distance ≤ terms.far) ⊎ GoByShort (λ j. start_of (hosts j)) terms (performed hosts trace)
   pub alone : (newer older : List TimedLine) (e : TimedLine) → trace ≡ newer ++ e ∷ older → terms.quiet < e.time → Contains terms.live e.at.place
   pub drawn : (newer older : List TimedLine) (e : TimedLine) (now : ℕ) (page : PageId) (time : ℕ) (op : Op) → trace ≡ newer ++ e ∷ older → terms.quiet < e.time → e.at.line ≢ Added now page time op
   pub room : (newer older : List TimedLine) (i : ℕ) → trace ≡ newer ++ older → Contains terms.live i → terms.quiet < called_at older → is_full (there hosts older i).host ≡ false
@@ -113,7 +119,7 @@ LackAtMost hosts terms trace most = (lacks : List Lack) → AreApart lacks → (
 -- When requests begin to be answered, no request timer for what some live host held is due later than so long after.
 abbrev pub WaitAtMost : (ℕ → Opening) → Terms → List TimedLine → ℕ → Type 0
 WaitAtMost hosts terms trace wait = (i : ℕ) (n : NameValue) (ask : AskTimer) → Contains terms.live i → IsHeldBySome hosts terms trace n
-    → (timers_after (λ j. start_of (hosts j)) (until (known_from terms) (performed hosts trace)) i n).ask ≡ Some ask → ask.due ≤ known_from terms + wait + terms.offset i
+    → (timers_after (λ j. start_of (hosts j)) (until (known_from terms) (performed hosts trace)) i n).ask ≡ Some ask → ask.due + terms.lag i ≤ known_from terms + wait
 
 -- ---- spans, in microseconds
 
@@ -127,7 +133,7 @@ request_span terms = terms.asking * terms.far + terms.late
 -- While a live host lacks what another holds, something new comes to one of them within this time.
 abbrev pub step : Terms → Sizes → ℕ → ℕ
 step terms sizes most =
-    21000000 + request_span terms
+    21000000 + terms.drift + request_span terms
     + (sizes.slices + 2 * sizes.numbers * sizes.holes + 1) * report_span terms + terms.delivery
     + most * request_span terms + repairing terms
 
@@ -138,5 +144,5 @@ whole_by terms sizes wait most = known_from terms + wait + repairing terms + (mo
 -- After that time each live host holds what one of them held, if a first request follows within a minute.
 abbrev pub SessionsBecomeWhole : Type 0
 SessionsBecomeWhole = (hosts : ℕ → Opening) (terms : Terms) (trace : List TimedLine) (sizes : Sizes) (wait most : ℕ) (n : NameValue)
-    → IsTimelySession hosts terms trace → AreWithin hosts terms trace sizes → WaitAtMost hosts terms trace wait → LackAtMost hosts terms trace most → request_span terms ≤ 60000000
+    → IsTimelySession hosts terms trace → AreWithin hosts terms trace sizes → WaitAtMost hosts terms trace wait → LackAtMost hosts terms trace most → request_span terms + terms.drift ≤ 60000000
     → IsHeldBySome hosts terms trace n → AllKeptHoldBehind hosts terms trace (whole_by terms sizes wait most) n

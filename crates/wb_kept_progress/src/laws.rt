@@ -3,8 +3,9 @@
 
 ghost use Rattle.wb_kept_progress.specs.Agreement.{SessionsAgree};
 ghost use Rattle.wb_kept_progress.specs.Repairs.{AskedCanCome, MarksComeToBeTold, MissingCanCome, MissingIsAsked, MissingIsAskedSoon};
+ghost use Rattle.wb_kept_progress.specs.Since.{RestartedBecomeWhole, SinceIsSame, SinceIsTimely};
 ghost use Rattle.wb_kept_progress.specs.Starts.{NoStateIsADeadEnd};
-ghost use Rattle.wb_kept_progress.specs.Timed.{KeptIsPerformed, KeptKeepsMoments, KeptRequestIsAnswered, KeptTimerLeadsOrIsGivenUp, RequestIsAnswered, TimerLeadsOrIsGivenUp};
+ghost use Rattle.wb_kept_progress.specs.Timed.{KeptGoByShort, KeptIsPerformed, KeptKeepsMoments, KeptRequestIsAnswered, KeptTimerLeadsOrIsGivenUp, RequestIsAnswered, TimerLeadsOrIsGivenUp};
 ghost use Rattle.wb_kept_progress.specs.Whole.{SessionsBecomeWhole};
 
 /// Whatever came in before, a drawop that one host asks for, and that another holds, comes by six
@@ -42,12 +43,14 @@ pub fn what_is_asked_for_comes_in_time()
     ensures kept_leads { KeptTimerLeadsOrIsGivenUp }
 {}
 
-/// A host that is self-managing from its opening on is the host that performed the lines of its
-/// policy, each call at a time. If each call names the moment of its time, a tick to that moment
-/// stands before all else that is performed in it.
+/// A host that is self-managing after the moments of its opening is the host that performed the
+/// lines of its policy, each call at a time. If each call says a moment that the clock of its place
+/// may show then, a tick to that moment stands before all else that is performed in it. No line
+/// goes by a distance above a second, whatever echoes tell.
 pub fn kept_hosts_perform_lines()
     ensures same { KeptIsPerformed }
     ensures moments { KeptKeepsMoments }
+    ensures distances { KeptGoByShort }
 {}
 
 /// A session of self-managing hosts becomes whole. If from some time on nobody draws, nothing is
@@ -58,4 +61,13 @@ pub fn kept_hosts_perform_lines()
 pub fn sessions_become_whole()
     ensures whole { SessionsBecomeWhole }
     ensures agree { SessionsAgree }
+{}
+
+/// Of a session in which programs start, and start anew, what came since the last start of each
+/// member is such a session of hosts: they are the members, and it keeps to times if the last
+/// starts came before nothing is lost any more. So it becomes whole, whoever started anew before.
+pub fn starts_begin_sessions()
+    ensures same { SinceIsSame }
+    ensures timely { SinceIsTimely }
+    ensures whole { RestartedBecomeWhole }
 {}

@@ -20,7 +20,7 @@ use Rattle.wb_recovery.proofs.StoppedNames.{not_received, received_stops, timers
 use Rattle.wb_keeper.specs.Keeper.{KeeperCall, SetDelay, SetConstants, Hear, Arrive, Miss, GoOn, Report, GiveUp, moment_at, delay_to, received_of, missed_of, events_of}
 use Rattle.wb_progress.specs.Bounds.{IsUnder, AreSteady}
 use Rattle.wb_progress.specs.Calls.{Brings, Fires, Requests, Misses, AnswersGoOn, RequestsGoOn, Answers, QuietBegins, RequestsBegin, RequestsAreHeard}
-use Rattle.wb_progress.specs.Keepers.{AreWithin, constants_at}
+use Rattle.wb_progress.specs.Keepers.{AreWithin, constants_at, uses_delays}
 use Rattle.wb_progress.specs.Repairs.{timers_at}
 use Rattle.wb_progress.proofs.KeeperBounds.{steady_within, within_now, near_within}
 use Rattle.wb_progress.proofs.OneCall.{received_from, not_standing}
@@ -127,7 +127,7 @@ module _ (far : ℕ) (bound : Tuning) (now : ℕ) where
 
 -- ---- each call
 
-module _ (far me : ℕ) (bound t : Tuning) (calls : List KeeperCall) (n : NameValue) (short : (source : ℕ) → delay_to me calls source ≤ far) (under : IsUnder bound (constants_at me t calls)) where
+module _ (far me : ℕ) (bound t : Tuning) (calls : List KeeperCall) (n : NameValue) (under : IsUnder bound (constants_at me t calls)) where
   abbrev s : Timers
   s = timers_at me t calls n
 
@@ -184,20 +184,21 @@ module _ (far me : ℕ) (bound t : Tuning) (calls : List KeeperCall) (n : NameVa
         one : (a b : NameValue) → Contains (a ∷ []) b → a ≡ b
         one a b c = ⊎_elim (λ (e : a ≡ b). e) (λ (none : Contains [] b). absurd (Contains-none b none)) (Contains-cases a b [] c)
 
-  does : (call : KeeperCall) → Goal call
-  does (SetDelay source micros) = inl refl
-  does (SetConstants constants) = inl refl
-  does (Report now) = inl refl
-  does (Hear now v word held) = hears now v word held
-  does (Arrive now names) = ⊎_elim
+  does : (call : KeeperCall) → (uses_delays call ≡ true → (source : ℕ) → delay_to me calls source ≤ far) → Goal call
+  does (SetDelay source micros) short = inl refl
+  does (SetConstants constants) short = inl refl
+  does (Report now) short = inl refl
+  does (Hear now v word held) short = hears now v word held
+  does (Arrive now names) short = ⊎_elim
       (λ (e : timers_of t (receipts now events (received_of delays names)) n ≡ s). inl e)
       (λ (c : Contains names n × ((timers_of t (receipts now events (received_of delays names)) n).ask ≡ None)). inr (inl c))
       (came now delays names)
-  does (Miss now names words) = ⊎_elim
-      (λ (e : timers_of t (notices now events (missed_of delays names words)) n ≡ s). inl e)
-      (λ (r : Contains names n × IsMissed far bound now s (timers_of t (notices now events (missed_of delays names words)) n)). inr (inr (inr (inl (record { now = now; names = names; words = words; is = refl; named = r.0 }, r.1)))))
-      (all_missed far bound now t delays short n names words events under)
-  does (GoOn now words stopped) = ⊎_elim
+  does (Miss now [] words) short = inl refl
+  does (Miss now (m ∷ names) words) short = ⊎_elim
+      (λ (e : timers_of t (notices now events (missed_of delays (m ∷ names) words)) n ≡ s). inl e)
+      (λ (r : Contains (m ∷ names) n × IsMissed far bound now s (timers_of t (notices now events (missed_of delays (m ∷ names) words)) n)). inr (inr (inr (inl (record { now = now; names = m ∷ names; words = words; is = refl; named = r.0 }, r.1)))))
+      (all_missed far bound now t delays (short refl) n (m ∷ names) words events under)
+  does (GoOn now words stopped) short = ⊎_elim
       (λ (e : timers_of t (receipts now events (received_of delays stopped)) n ≡ s). inr (inr (inr (inr (record {
         now = now;
         words = words;
@@ -209,7 +210,7 @@ module _ (far me : ℕ) (bound t : Tuning) (calls : List KeeperCall) (n : NameVa
       })))))
       (λ (c : Contains stopped n × ((timers_of t (receipts now events (received_of delays stopped)) n).ask ≡ None)). inr (inl (c.0, ap (fired_ask (constants_after t (receipts now events (received_of delays stopped))) now (word_for words (due_asks (names_of (receipts now events (received_of delays stopped))) (λ m. timers_of t (receipts now events (received_of delays stopped)) m) now) n)) c.1)))
       (came now delays stopped)
-  does (GiveUp now name asked) = gives_up now name asked
+  does (GiveUp now name asked) short = gives_up now name asked
 
 -- ---- laws
 
@@ -277,7 +278,7 @@ module _ (far me : ℕ) (bound t : Tuning) (call : KeeperCall) (calls : List Kee
       ⊎_elim same (λ (r : Brought ⊎ (Heard ⊎ (Missed ⊎ Ticked))).
       ⊎_elim brought (λ (q : Heard ⊎ (Missed ⊎ Ticked)).
       ⊎_elim heard (λ (p : Missed ⊎ Ticked).
-      ⊎_elim missed ticks p) q) r) (does far me bound t calls n within.1 (within_now far bound t me calls within.3) call)
+      ⊎_elim missed ticks p) q) r) (does far me bound t calls n (within_now far bound t me calls within.3) call within.1)
 
   pub answer_goes_on : (answer : AnswerTimer) → s_0.answer ≡ Some answer → (s_1.answer ≡ Some answer) ⊎ (Brings n call ⊎ Fires answer.due call)
   answer_goes_on answer is = by_case
@@ -385,9 +386,9 @@ missed_fresh far bound now s next ask m e = from s.ask refl where
   from None is = inr (subst (λ (o : Option AskTimer). IfSome o (λ (a : AskTimer). a.due ≤ now + (bound.c1 + bound.c2) * far)) e (m.new is))
 
 -- If no delay and no constants are above the bound, it stood so before, or its name is missed by the call.
-pub fresh_ask : (far me : ℕ) (bound t : Tuning) (call : KeeperCall) (calls : List KeeperCall) (n : NameValue) → ((source : ℕ) → delay_to me calls source ≤ far) → IsUnder bound (constants_at me t calls)
+pub fresh_ask : (far me : ℕ) (bound t : Tuning) (call : KeeperCall) (calls : List KeeperCall) (n : NameValue) → (uses_delays call ≡ true → (source : ℕ) → delay_to me calls source ≤ far) → IsUnder bound (constants_at me t calls)
     → (ask : AskTimer) → (timers_at me t (call ∷ calls) n).ask ≡ Some ask → ask.level ≡ 0 → ((timers_at me t calls n).ask ≡ Some ask) ⊎ (Misses n call × (ask.due ≤ moment_at (call ∷ []) + (bound.c1 + bound.c2) * far))
-fresh_ask far me bound t call calls n short under ask is level = by (does far me bound t calls n short under call) where
+fresh_ask far me bound t call calls n short under ask is level = by (does far me bound t calls n under call short) where
   old : Timers
   old = timers_at me t calls n
 

@@ -1,5 +1,5 @@
 -- What the turns of live places tell: who is quiet why, and what is then sent.
-use Rattle.std.proofs.Common.{◌≡◌, ℕ, ◌+◌, ◌*◌, ◌<◌, ◌≤◌, Bool, true, false, cond, List, [], ◌∷◌, ◌++◌, Option, Some, None, refl, sym, ap, ◌∙◌, subst, arith, ◌⊎◌, inl, inr, ⊎_elim, append_assoc, eqb-true, eq-eqb, true≢false}
+use Rattle.std.proofs.Common.{◌≡◌, ℕ, ◌+◌, ◌*◌, ◌<◌, ◌≤◌, Bool, true, false, cond, List, [], ◌∷◌, ◌++◌, Option, Some, None, refl, sym, ap, ◌∙◌, subst, arith, ◌⊎◌, inl, inr, ⊎_elim, append_assoc, max, eqb-true, eq-eqb, true≢false}
 use Rattle.std.specs.Prelude.{Contains, nat_eq, is_some, ◌||◌}
 use Rattle.wb_names.specs.Values.{NameValue, DrawopValue}
 use Rattle.wb_names.specs.Orders.{same_name}
@@ -29,15 +29,15 @@ held_as (x ∷ h) n e = from (held_as h n) (same_name x.name n) refl e where
   from rest true f g = (x, Contains-here x h, same_name-is x.name n f)
   from rest false f g = let r = rest g in (r.0, Contains-there x r.0 h r.1, r.2)
 
-pub desk_here : (older : List Turn) (e : Turn) (i : ℕ) → e.place ≡ i → desk_at (e ∷ older) i ≡ e.desk
-desk_here older e i here = ap (λ (b : Bool). cond b e.desk (desk_at older i)) (eq-eqb e.place i here)
+pub desk_here : (places : Places) (older : List Turn) (e : Turn) (i : ℕ) → e.place ≡ i → desk_at places (e ∷ older) i ≡ e.desk
+desk_here places older e i here = ap (λ (b : Bool). cond b e.desk (desk_at places older i)) (eq-eqb e.place i here)
 
 -- a name is given up nowhere where it is held
-abbrev pub Spares : (List Turn → Turn → NameValue → Type 0) → NameValue → Type 0
-Spares MayStop n = (older : List Turn) (e : Turn) → has older e.place n ≡ true → MayStop older e n → ⊥
+abbrev pub Spares : Places → (List Turn → Turn → NameValue → Type 0) → NameValue → Type 0
+Spares places MayStop n = (older : List Turn) (e : Turn) → has places older e.place n ≡ true → MayStop older e n → ⊥
 
-pub spares_held : (n : NameValue) → Spares (IsOtherOrLacked n) n
-spares_held n older e held lacked = true≢false (sym held ∙ lacked refl)
+pub spares_held : (places : Places) (n : NameValue) → Spares places (IsOtherOrLacked places n) n
+spares_held places n older e held lacked = true≢false (sym held ∙ lacked refl)
 
 module _ {MayStop : List Turn → Turn → NameValue → Type 0} (places : Places) (terms : Terms) (turns : List Turn) (is : KeepTimeBut MayStop places terms turns) where
   abbrev Live : ℕ → Type 0
@@ -52,48 +52,48 @@ module _ {MayStop : List Turn → Turn → NameValue → Type 0} (places : Place
   pub record Called (older : List Turn) (e : Turn) (i : ℕ) : Type 0 where
     pub place : e.place ≡ i
     pub call : KeeperCall
-    pub accepts : Accepts older e call
-    pub calls : (desk_at (e ∷ older) i).calls ≡ call ∷ (desk_at older i).calls
+    pub accepts : Accepts places older e call
+    pub calls : (desk_at places (e ∷ older) i).calls ≡ call ∷ (desk_at places older i).calls
 
-  pub changes : (newer older : List Turn) (e : Turn) (i : ℕ) → turns ≡ newer ++ e ∷ older → Live i → ((desk_at (e ∷ older) i).calls ≡ (desk_at older i).calls) ⊎ Called older e i
+  pub changes : (newer older : List Turn) (e : Turn) (i : ℕ) → turns ≡ newer ++ e ∷ older → Live i → ((desk_at places (e ∷ older) i).calls ≡ (desk_at places older i).calls) ⊎ Called older e i
   changes newer older e i split live = from (nat_eq e.place i) refl where
-    from : (b : Bool) → nat_eq e.place i ≡ b → ((desk_at (e ∷ older) i).calls ≡ (desk_at older i).calls) ⊎ Called older e i
-    from false f = inl (ap (λ (b : Bool). (cond b e.desk (desk_at older i)).calls) f)
+    from : (b : Bool) → nat_eq e.place i ≡ b → ((desk_at places (e ∷ older) i).calls ≡ (desk_at places older i).calls) ⊎ Called older e i
+    from false f = inl (ap (λ (b : Bool). (cond b e.desk (desk_at places older i)).calls) f)
     from true f =
         let here = eqb-true e.place i f in
-        let desk = ap (λ d. d.calls) (desk_here older e i here) in
-        let there : (desk_at older e.place).calls ≡ (desk_at older i).calls = ap (λ (k : ℕ). (desk_at older k).calls) here in
+        let desk = ap (λ d. d.calls) (desk_here places older e i here) in
+        let there : (desk_at places older e.place).calls ≡ (desk_at places older i).calls = ap (λ (k : ℕ). (desk_at places older k).calls) here in
         ⊎_elim
-        (λ (same : e.desk.calls ≡ (desk_at older e.place).calls). inl (desk ∙ same ∙ there))
-        (λ (c : (call : KeeperCall) × Accepts older e call). inr (record { place = here; call = c.0; accepts = c.1; calls = desk ∙ c.1 ∙ ap (λ (calls : List KeeperCall). c.0 ∷ calls) there }))
+        (λ (same : e.desk.calls ≡ (desk_at places older e.place).calls). inl (desk ∙ same ∙ there))
+        (λ (c : (call : KeeperCall) × Accepts places older e call). inr (record { place = here; call = c.0; accepts = c.1; calls = desk ∙ c.1 ∙ ap (λ (calls : List KeeperCall). c.0 ∷ calls) there }))
         (is.are.turn newer older e split (subst (Contains terms.live) (sym here) live)).called
 
   -- what is held stays
-  keeps_one : (newer older : List Turn) (e : Turn) (i : ℕ) (n : NameValue) → turns ≡ newer ++ e ∷ older → Live i → has older i n ≡ true → has (e ∷ older) i n ≡ true
+  keeps_one : (newer older : List Turn) (e : Turn) (i : ℕ) (n : NameValue) → turns ≡ newer ++ e ∷ older → Live i → has places older i n ≡ true → has places (e ∷ older) i n ≡ true
   keeps_one newer older e i n split live h = from (nat_eq e.place i) refl where
-    from : (b : Bool) → nat_eq e.place i ≡ b → holds (cond b e.desk (desk_at older i)).held n ≡ true
+    from : (b : Bool) → nat_eq e.place i ≡ b → holds (cond b e.desk (desk_at places older i)).held n ≡ true
     from false f = h
     from true f =
         let here = eqb-true e.place i f in
-        (is.are.turn newer older e split (subst (Contains terms.live) (sym here) live)).kept n (subst (λ (k : ℕ). has older k n ≡ true) (sym here) h)
+        (is.are.turn newer older e split (subst (Contains terms.live) (sym here) live)).kept n (subst (λ (k : ℕ). has places older k n ≡ true) (sym here) h)
 
-  pub keeps : (front newer older : List Turn) (i : ℕ) (n : NameValue) → turns ≡ front ++ (newer ++ older) → Live i → has older i n ≡ true → has (newer ++ older) i n ≡ true
+  pub keeps : (front newer older : List Turn) (i : ℕ) (n : NameValue) → turns ≡ front ++ (newer ++ older) → Live i → has places older i n ≡ true → has places (newer ++ older) i n ≡ true
   keeps front [] older i n split live h = h
   keeps front (e ∷ newer) older i n split live h = keeps_one front (newer ++ older) e i n split live (keeps (front ++ e ∷ []) newer older i n (split ∙ sym (append_assoc front (e ∷ []) (newer ++ older))) live h)
 
   -- what can be answered its holder holds before each turn behind that time
-  pub held_before : (newer older : List Turn) (e : Turn) (n : NameValue) → turns ≡ newer ++ e ∷ older → settled_by terms < e.time → (a : IsAnswerable terms turns n) → has older a.0 n ≡ true
+  pub held_before : (newer older : List Turn) (e : Turn) (n : NameValue) → turns ≡ newer ++ e ∷ older → settled_by terms < e.time → (a : IsAnswerable places terms turns n) → has places older a.0 n ≡ true
   held_before newer older e n split late a =
       let g = goes_on (settled_by terms) newer older e (order_at newer (e ∷ older) split) late in
       let same : until (settled_by terms) turns ≡ until (settled_by terms) (newer ++ e ∷ older) = ap (until (settled_by terms)) split in
       let part : older ≡ g.0 ++ until (settled_by terms) turns = g.1 ∙ ap (λ (t : List Turn). g.0 ++ t) (sym same) in
-      subst (λ (t : List Turn). has t a.0 n ≡ true) (sym part) (keeps (newer ++ e ∷ []) g.0 (until (settled_by terms) turns) a.0 n
+      subst (λ (t : List Turn). has places t a.0 n ≡ true) (sym part) (keeps (newer ++ e ∷ []) g.0 (until (settled_by terms) turns) a.0 n
       (split ∙ sym (append_assoc newer (e ∷ []) older) ∙ ap (λ (t : List Turn). (newer ++ e ∷ []) ++ t) part) a.1 a.2)
 
   -- ---- why a name is quiet
 
   abbrev pub Gives : ℕ → NameValue → List Turn → KeeperCall → Type 0
-  Gives i n older call = Brings n call ⊎ Answers (places.me i) (places.constants i) (desk_at older i).calls n call
+  Gives i n older call = Brings n call ⊎ Answers (places.me i) (places.constants i) (desk_at places older i).calls n call
 
   pub record Gave (i : ℕ) (n : NameValue) (part : List Turn) (quiet : ℕ) : Type 0 where
     pub newer : List Turn
@@ -102,7 +102,7 @@ module _ {MayStop : List Turn → Turn → NameValue → Type 0} (places : Place
     pub split : part ≡ newer ++ e ∷ older
     pub called : Called older e i
     pub gives : Gives i n older called.call
-    pub until : quiet ≤ e.time + terms.offset i + 3 * terms.far
+    pub until : quiet + terms.lag i ≤ max e.time terms.quiet + 3 * terms.far
 
   abbrev pub WhyQuiet : ℕ → NameValue → List Turn → Type 0
   WhyQuiet i n part = ((timers_there places part i n).quiet ≡ 0) ⊎ Gave i n part (timers_there places part i n).quiet
@@ -110,18 +110,18 @@ module _ {MayStop : List Turn → Turn → NameValue → Type 0} (places : Place
   earlier : (i : ℕ) (n : NameValue) (e : Turn) (older : List Turn) (a b : ℕ) → a ≡ b → ((b ≡ 0) ⊎ Gave i n older b) → ((a ≡ 0) ⊎ Gave i n (e ∷ older) a)
   earlier i n e older a b same h = ⊎_elim
       (λ (z : b ≡ 0). inl (same ∙ z))
-      (λ (g : Gave i n older b). inr (record { newer = e ∷ g.newer; e = g.e; older = g.older; split = ap (λ (t : List Turn). e ∷ t) g.split; called = g.called; gives = g.gives; until = subst (λ (q : ℕ). q ≤ g.e.time + terms.offset i + 3 * terms.far) (sym same) g.until }))
+      (λ (g : Gave i n older b). inr (record { newer = e ∷ g.newer; e = g.e; older = g.older; split = ap (λ (t : List Turn). e ∷ t) g.split; called = g.called; gives = g.gives; until = subst (λ (q : ℕ). q + terms.lag i ≤ max g.e.time terms.quiet + 3 * terms.far) (sym same) g.until }))
       h
 
   abbrev q : ℕ → NameValue → List KeeperCall → ℕ
   q i n calls = (timers_at (places.me i) (places.constants i) calls n).quiet
 
-  at_time : (a b quiet moment clock : ℕ) → a ≡ quiet → b ≡ moment → quiet ≤ moment + 3 * terms.far → b ≤ clock → a ≤ clock + 3 * terms.far
-  at_time a b quiet moment clock e f le by = omega (arith, e, f, le, by)
+  at_time : (a b quiet moment lag clock : ℕ) → a ≡ quiet → b ≡ moment → quiet ≤ moment + 3 * terms.far → b + lag ≤ clock → a + lag ≤ clock + 3 * terms.far
+  at_time a b quiet moment lag clock e f le by = omega (arith, e, f, le, by)
 
   called_quiet : (newer older : List Turn) (e : Turn) (i : ℕ) (n : NameValue) → turns ≡ newer ++ e ∷ older → Live i → WhyQuiet i n older → Called older e i → WhyQuiet i n (e ∷ older)
   called_quiet newer older e i n split live rest c =
-      let calls : List KeeperCall = (desk_at older i).calls in
+      let calls : List KeeperCall = (desk_at places older i).calls in
       ⊎_elim
       (λ (same : q i n (c.call ∷ calls) ≡ q i n calls). earlier i n e older _ _ (ap (q i n) c.calls ∙ same) rest)
       (λ (g : Gives i n older c.call × (q i n (c.call ∷ calls) ≤ moment_at (c.call ∷ calls) + 3 * terms.far)). inr (record {
@@ -131,16 +131,16 @@ module _ {MayStop : List Turn → Turn → NameValue → Type 0} (places : Place
         split = refl;
         called = c;
         gives = g.0;
-        until = at_time _ _ _ _ _ (ap (q i n) c.calls) (ap moment_at c.calls) g.1 (is.are.clock newer (e ∷ older) i split live);
+        until = at_time _ _ _ _ _ _ (ap (q i n) c.calls) (ap moment_at c.calls) g.1 (is.are.clock newer (e ∷ older) i split live);
       }))
       (quiet_begins terms.far (places.me i) (longest terms) (places.constants i) c.call calls n (subst (AreWithin terms.far (longest terms) (places.me i) (places.constants i)) c.calls (is.are.within newer (e ∷ older) i split live)))
 
   pub why_quiet : (newer part : List Turn) (i : ℕ) (n : NameValue) → turns ≡ newer ++ part → Live i → WhyQuiet i n part
-  why_quiet newer [] i n split live = inl refl
+  why_quiet newer [] i n split live = inl (is.are.first i n live)
   why_quiet newer (e ∷ older) i n split live =
       let rest = why_quiet (newer ++ e ∷ []) older i n (split ∙ sym (append_assoc newer (e ∷ []) older)) live in
       ⊎_elim
-      (λ (same : (desk_at (e ∷ older) i).calls ≡ (desk_at older i).calls). earlier i n e older _ _ (ap (q i n) same) rest)
+      (λ (same : (desk_at places (e ∷ older) i).calls ≡ (desk_at places older i).calls). earlier i n e older _ _ (ap (q i n) same) rest)
       (λ (c : Called older e i). called_quiet newer older e i n split live rest c)
       (changes newer older e i split live)
 
@@ -189,15 +189,15 @@ module _ {MayStop : List Turn → Turn → NameValue → Type 0} (places : Place
   -- it came, or was given up
   pub came_or_given : (newer older : List Turn) (e : Turn) (i : ℕ) (n : NameValue) → turns ≡ newer ++ e ∷ older → Live i → settled_by terms < e.time → (c : Called older e i) → Brings n c.call → Copy n e.time ⊎ IsGiven n c.call
   came_or_given newer older e i n split live late c brings = by c.call c.accepts brings where
-    by : (call : KeeperCall) → Accepts older e call → Brings n call → Copy n e.time ⊎ IsGiven n call
+    by : (call : KeeperCall) → Accepts places older e call → Brings n call → Copy n e.time ⊎ IsGiven n call
     by (Arrive now names) accepts named = inl (from_fresh newer older e n split (is.fresh.drawops newer older e now names n split late accepts named))
     by (GoOn now words stopped) accepts named =
         let here = c.place in
         let live' = subst (Contains terms.live) (sym here) live in
         let me = places.me e.place in
-        let calls : List KeeperCall = (desk_at older e.place).calls in
+        let calls : List KeeperCall = (desk_at places older e.place).calls in
         let stops = (is.are.turn newer older e split live').stops now words stopped accepts in
-        let both = Contains-from_filter (holds (desk_at older e.place).held) (asking (names_of (events_of me calls)) (timers_of (places.constants e.place) (events_of me calls))) n (subst (λ (names : List NameValue). Contains names n) stops named) in
+        let both = Contains-from_filter (holds (desk_at places older e.place).held) (asking (names_of (events_of me calls)) (timers_of (places.constants e.place) (events_of me calls))) n (subst (λ (names : List NameValue). Contains names n) stops named) in
         let asks = Contains-from_filter (λ m. is_some (timers_of (places.constants e.place) (events_of me calls) m).ask) (names_of (events_of me calls)) n both.0 in
         absurd (none_some (timers_there places older e.place n).ask (is.are.lacking (newer ++ e ∷ []) older e.place n (split ∙ sym (append_assoc newer (e ∷ []) older)) live' both.1) asks.1)
     by (GiveUp now name asked) accepts named = inr (now, ap (λ (m : NameValue). GiveUp now m asked) named.0 ∙ ap (GiveUp now n) named.1)
@@ -211,21 +211,21 @@ module _ {MayStop : List Turn → Turn → NameValue → Type 0} (places : Place
   pub brought : (newer older : List Turn) (e : Turn) (i : ℕ) (n : NameValue) → turns ≡ newer ++ e ∷ older → Live i → settled_by terms < e.time → (c : Called older e i) → Brings n c.call → (MayStop older e n → ⊥) → Copy n e.time
   brought newer older e i n split live late c brings stays = ⊎_elim
       (λ (k : Copy n e.time). k)
-      (λ (g : IsGiven n c.call). absurd (stays ((is.quiet newer older e split (omega (arith, late))).goes_on g.0 n (c.accepts ∙ ap (λ (k : KeeperCall). k ∷ (desk_at older e.place).calls) g.1))))
+      (λ (g : IsGiven n c.call). absurd (stays ((is.quiet newer older e split (omega (arith, late))).goes_on g.0 n (c.accepts ∙ ap (λ (k : KeeperCall). k ∷ (desk_at places older e.place).calls) g.1))))
       (came_or_given newer older e i n split live late c brings)
 
   -- it was answered
-  pub answered : (newer older : List Turn) (e : Turn) (i : ℕ) (n : NameValue) (answer : AnswerTimer) → turns ≡ newer ++ e ∷ older → Live i → has older i n ≡ true → (timers_there places older i n).answer ≡ Some answer → (c : Called older e i) → Fires answer.due c.call → Copy n e.time
+  pub answered : (newer older : List Turn) (e : Turn) (i : ℕ) (n : NameValue) (answer : AnswerTimer) → turns ≡ newer ++ e ∷ older → Live i → has places older i n ≡ true → (timers_there places older i n).answer ≡ Some answer → (c : Called older e i) → Fires answer.due c.call → Copy n e.time
   answered newer older e i n answer split live h stands c fires =
       let here = c.place in
       let live' = subst (Contains terms.live) (sym here) live in
-      let d = held_as (desk_at older i).held n h in
+      let d = held_as (desk_at places older i).held n h in
       let part : turns ≡ (newer ++ e ∷ []) ++ older = split ∙ sym (append_assoc newer (e ∷ []) older) in
       let none : (timers_there places older i d.0.name).ask ≡ None = subst (λ (m : NameValue). (timers_there places older i m).ask ≡ None) (sym d.2) (is.are.lacking (newer ++ e ∷ []) older i n part live h) in
       let due : is_answer_due fires.now (timers_there places older i d.0.name).answer ≡ true = subst (λ (m : NameValue). is_answer_due fires.now (timers_there places older i m).answer ≡ true) (sym d.2) (ap (is_answer_due fires.now) stands ∙ le-leb answer.due fires.now fires.due_by) in
-      let sends = ticks_answer (places.me i) (places.constants i) (desk_at older i).calls (desk_at older i).held fires.now d.0 (is.are.history (newer ++ e ∷ []) older i part live) d.1 none due in
-      let there = (is.are.turn newer older e split live').sends fires.now fires.words fires.stopped (c.accepts ∙ ap (λ (k : KeeperCall). k ∷ (desk_at older e.place).calls) fires.is) (Draw d.0)
-      (subst (λ (k : ℕ). Contains (sent_by_tick (places.me k) (places.constants k) (desk_at older k).calls (desk_at older k).held fires.now) (Draw d.0)) (sym here) sends) in
+      let sends = ticks_answer (places.me i) (places.constants i) (desk_at places older i).calls (desk_at places older i).held fires.now d.0 (is.are.history (newer ++ e ∷ []) older i part live) d.1 none due in
+      let there = (is.are.turn newer older e split live').sends fires.now fires.words fires.stopped (c.accepts ∙ ap (λ (k : KeeperCall). k ∷ (desk_at places older e.place).calls) fires.is) (Draw d.0)
+      (subst (λ (k : ℕ). Contains (sent_by_tick (places.me k) (places.constants k) (desk_at places older k).calls (desk_at places older k).held fires.now) (Draw d.0)) (sym here) sends) in
       record {
         newer = newer;
         e = e;
@@ -239,8 +239,8 @@ module _ {MayStop : List Turn → Turn → NameValue → Type 0} (places : Place
       }
 
   -- so all come to hold it
-  pub copy_comes : (n : NameValue) (by : ℕ) → settled_by terms < by → Copy n by → AllHoldBehind terms turns (by + terms.delivery) n
+  pub copy_comes : (n : NameValue) (by : ℕ) → settled_by terms < by → Copy n by → AllHoldBehind places terms turns (by + terms.delivery) n
   copy_comes n by late copy newer later i split lt live =
       let soon = copy.soon in
       let quick = copy.late in
-      subst (λ (m : NameValue). has later i m ≡ true) copy.named (is.delivered.drawops copy.newer copy.older copy.e copy.d copy.split (omega (arith, late, quick)) copy.sent newer later i split (omega (arith, lt, soon)) live)
+      subst (λ (m : NameValue). has places later i m ≡ true) copy.named (is.delivered.drawops copy.newer copy.older copy.e copy.d copy.split (omega (arith, late, quick)) copy.sent newer later i split (omega (arith, lt, soon)) live)

@@ -1,5 +1,5 @@
 -- A request timer that stands late enough leads to where all hold its name, or is given up.
-use Rattle.std.proofs.Common.{◌≡◌, ℕ, ◌+◌, ◌*◌, ◌<◌, ◌≤◌, Bool, true, false, List, [], ◌∷◌, ◌++◌, Option, Some, None, refl, sym, ap, ◌∙◌, subst, arith, ◌⊎◌, inl, inr, ⊎_elim, append_assoc, max}
+use Rattle.std.proofs.Common.{◌≡◌, ℕ, ◌+◌, ◌<◌, ◌≤◌, Bool, true, false, List, [], ◌∷◌, ◌++◌, Option, Some, None, refl, sym, ap, ◌∙◌, subst, arith, ◌⊎◌, inl, inr, ⊎_elim, append_assoc, max}
 use Rattle.std.specs.Prelude.{◌≢◌, Contains, IfSome}
 use Rattle.std.proofs.lemmas.List.{append_cancel_right}
 use Rattle.wb_names.specs.Values.{NameValue}
@@ -12,7 +12,7 @@ use Rattle.wb_progress.specs.Calls.{Brings, Fires, Requests}
 use Rattle.wb_progress.specs.InTime.{answering_by, repairing, known_from, IsGivenUp, TimerLeads, TimerLeadsBut, TimerLeadsOrIsGivenUp}
 use Rattle.wb_progress.specs.Keepers.{AreWithin}
 use Rattle.wb_progress.specs.Repairs.{timers_at}
-use Rattle.wb_progress.specs.Turns.{longest, Terms, settled_by, Turn, Places, Accepts, desk_at, has, timers_there, time_of, AreInOrder, IsAnswerable, AllHoldBehind, IsOtherOrLacked, WasSent, KeepTimeBut}
+use Rattle.wb_progress.specs.Turns.{longest, Terms, quiet_span, settled_by, Turn, Places, Accepts, desk_at, has, timers_there, time_of, AreInOrder, IsAnswerable, AllHoldBehind, IsOtherOrLacked, WasSent, KeepTimeBut}
 use Rattle.wb_progress.proofs.Answering.{sooner, request_is_answered_but}
 use Rattle.wb_progress.proofs.Calls.{ask_goes_on}
 use Rattle.wb_progress.proofs.Giving.{Spares, spares_held, Called, Copy, IsGiven, changes, came_or_given, copy_comes}
@@ -23,12 +23,12 @@ use Rattle.std.proofs.lemmas.Bool.{le-leb}
 itself : (n : ℕ) → n ≤ n
 itself n = omega arith
 
-module _ {MayStop : List Turn → Turn → NameValue → Type 0} (places : Places) (terms : Terms) (turns : List Turn) (is : KeepTimeBut MayStop places terms turns) (i : ℕ) (live : Contains terms.live i) (n : NameValue) (a : IsAnswerable terms turns n) (spares : Spares MayStop n) where
+module _ {MayStop : List Turn → Turn → NameValue → Type 0} (places : Places) (terms : Terms) (turns : List Turn) (is : KeepTimeBut MayStop places terms turns) (i : ℕ) (live : Contains terms.live i) (n : NameValue) (a : IsAnswerable places terms turns n) (spares : Spares places MayStop n) where
   abbrev asks : List Turn → Option AskTimer
   asks part = (timers_there places part i n).ask
 
   abbrev HoldBy : ℕ → Type 0
-  HoldBy time = AllHoldBehind terms turns (time + answering_by terms) n
+  HoldBy time = AllHoldBehind places terms turns (time + answering_by terms) n
 
   -- ---- one turn that is late enough
 
@@ -37,7 +37,7 @@ module _ {MayStop : List Turn → Turn → NameValue → Type 0} (places : Place
     pub record Gives : Type 0 where
       pub place : e.place ≡ i
       pub now : ℕ
-      pub given : Accepts older e (GiveUp now n true)
+      pub given : Accepts places older e (GiveUp now n true)
       pub ends : asks (e ∷ older) ≡ None
 
     -- what the turn makes of a request timer: it stands as it was set, or is given up, or no longer stands; or all come to hold the name
@@ -45,13 +45,13 @@ module _ {MayStop : List Turn → Turn → NameValue → Type 0} (places : Place
     Leads ask = (asks (e ∷ older) ≡ Some ask) ⊎ (Gives ⊎ HoldBy e.time)
 
     settled : settled_by terms < e.time
-    settled = let some = is.reported in let one : terms.reporting ≤ max terms.reporting (3 * terms.far) = omega arith in omega (arith, late, some, one)
+    settled = let some = is.reported in let one : terms.reporting ≤ max terms.reporting (quiet_span terms) = omega arith in omega (arith, late, some, one)
 
     -- a request that was sent shortly before, or by this turn
     asked_for : (front back : List Turn) (x : Turn) (asker : ℕ) → turns ≡ front ++ x ∷ back → e.time ≤ x.time + terms.delivery → x.time ≤ e.time → Contains x.sent (Request asker n) → HoldBy e.time
     asked_for front back x asker at within le sent =
         let some = is.reported in
-        let most : (terms.reporting ≤ max terms.reporting (3 * terms.far)) × (3 * terms.far ≤ max terms.reporting (3 * terms.far)) = (omega arith, omega arith) in
+        let most : (terms.reporting ≤ max terms.reporting (quiet_span terms)) × (quiet_span terms ≤ max terms.reporting (quiet_span terms)) = (omega arith, omega arith) in
         let one = most.0 in
         let three = most.1 in
         sooner places terms turns is (x.time + answering_by terms) (e.time + answering_by terms) n (omega (arith, le))
@@ -65,23 +65,23 @@ module _ {MayStop : List Turn → Turn → NameValue → Type 0} (places : Place
       part = split ∙ sym (append_assoc newer (e ∷ []) older)
 
       -- what is asked for is not held
-      lost : has older i n ≡ false
-      lost = from (has older i n) refl where
-        from : (b : Bool) → has older i n ≡ b → b ≡ false
+      lost : has places older i n ≡ false
+      lost = from (has places older i n) refl where
+        from : (b : Bool) → has places older i n ≡ b → b ≡ false
         from false same = refl
         from true same = absurd (some_none (asks older) ask stands (is.are.lacking (newer ++ e ∷ []) older i n part live same))
 
       fired : (c : Called places terms turns is older e i) → Fires ask.due c.call → HoldBy e.time
       fired c f =
           let due : is_ask_due f.now (asks older) ≡ true = ap (is_ask_due f.now) stands ∙ le-leb ask.due f.now f.due_by in
-          let sends = ticks_ask (places.me i) (places.constants i) (desk_at older i).calls (desk_at older i).held f.now n due lost in
-          let there = (is.are.turn newer older e split (subst (Contains terms.live) (sym c.place) live)).sends f.now f.words f.stopped (c.accepts ∙ ap (λ (k : KeeperCall). k ∷ (desk_at older e.place).calls) f.is) (Request (places.me i) n)
-          (subst (λ (k : ℕ). Contains (sent_by_tick (places.me k) (places.constants k) (desk_at older k).calls (desk_at older k).held f.now) (Request (places.me i) n)) (sym c.place) sends) in
+          let sends = ticks_ask (places.me i) (places.constants i) (desk_at places older i).calls (desk_at places older i).held f.now n due lost in
+          let there = (is.are.turn newer older e split (subst (Contains terms.live) (sym c.place) live)).sends f.now f.words f.stopped (c.accepts ∙ ap (λ (k : KeeperCall). k ∷ (desk_at places older e.place).calls) f.is) (Request (places.me i) n)
+          (subst (λ (k : ℕ). Contains (sent_by_tick (places.me k) (places.constants k) (desk_at places older k).calls (desk_at places older k).held f.now) (Request (places.me i) n)) (sym c.place) sends) in
           asked_for newer older e (places.me i) split (omega arith) (itself e.time) there
 
       heard : (c : Called places terms turns is older e i) → Requests (places.me i) n c.call → HoldBy e.time
       heard c r =
-          let w : WasSent (e ∷ older) e.time terms.delivery (Request r.asker n) = is.fresh.requests newer older e r.now r.asker r.word r.held n split settled (c.accepts ∙ ap (λ (k : KeeperCall). k ∷ (desk_at older e.place).calls) r.is) in
+          let w : WasSent (e ∷ older) e.time terms.delivery (Request r.asker n) = is.fresh.requests newer older e r.now r.asker r.word r.held n split settled (c.accepts ∙ ap (λ (k : KeeperCall). k ∷ (desk_at places older e.place).calls) r.is) in
           let order = subst AreInOrder w.split (order_of newer (e ∷ older) (subst AreInOrder split is.order)) in
           let end : w.e.time ≤ time_of (w.newer ++ w.e ∷ w.older) = before_end w.newer (w.e ∷ w.older) order in
           let top : e.time ≡ time_of (w.newer ++ w.e ∷ w.older) = ap time_of w.split in
@@ -90,32 +90,32 @@ module _ {MayStop : List Turn → Turn → NameValue → Type 0} (places : Place
       came : (c : Called places terms turns is older e i) → Brings n c.call → asks (e ∷ older) ≡ None → Gives ⊎ HoldBy e.time
       came c b none = ⊎_elim
           (λ (k : Copy places terms turns is n e.time). inr (sooner places terms turns is (e.time + terms.delivery) (e.time + answering_by terms) n (omega arith) (copy_comes places terms turns is n e.time settled k)))
-          (λ (g : IsGiven places terms turns is n c.call). inl (record { place = c.place; now = g.0; given = c.accepts ∙ ap (λ (k : KeeperCall). k ∷ (desk_at older e.place).calls) g.1; ends = none }))
+          (λ (g : IsGiven places terms turns is n c.call). inl (record { place = c.place; now = g.0; given = c.accepts ∙ ap (λ (k : KeeperCall). k ∷ (desk_at places older e.place).calls) g.1; ends = none }))
           (came_or_given places terms turns is newer older e i n split live settled c b)
 
       pub leads_on : Leads ask
       leads_on = ⊎_elim
-          (λ (same : (desk_at (e ∷ older) i).calls ≡ (desk_at older i).calls). inl (ap at_calls same ∙ stands))
+          (λ (same : (desk_at places (e ∷ older) i).calls ≡ (desk_at places older i).calls). inl (ap at_calls same ∙ stands))
           (λ (c : Called places terms turns is older e i).
           let within = subst (AreWithin terms.far (longest terms) (places.me i) (places.constants i)) c.calls (is.are.within newer (e ∷ older) i split live) in
           ⊎_elim
-          (λ (s : at_calls (c.call ∷ (desk_at older i).calls) ≡ Some ask). inl (ap at_calls c.calls ∙ s))
-          (λ (g : (Brings n c.call × (at_calls (c.call ∷ (desk_at older i).calls) ≡ None)) ⊎ (Fires ask.due c.call ⊎ Requests (places.me i) n c.call)). inr (⊎_elim
-          (λ (b : Brings n c.call × (at_calls (c.call ∷ (desk_at older i).calls) ≡ None)). came c b.0 (ap at_calls c.calls ∙ b.1))
+          (λ (s : at_calls (c.call ∷ (desk_at places older i).calls) ≡ Some ask). inl (ap at_calls c.calls ∙ s))
+          (λ (g : (Brings n c.call × (at_calls (c.call ∷ (desk_at places older i).calls) ≡ None)) ⊎ (Fires ask.due c.call ⊎ Requests (places.me i) n c.call)). inr (⊎_elim
+          (λ (b : Brings n c.call × (at_calls (c.call ∷ (desk_at places older i).calls) ≡ None)). came c b.0 (ap at_calls c.calls ∙ b.1))
           (λ (k : Fires ask.due c.call ⊎ Requests (places.me i) n c.call). inr (⊎_elim (λ (f : Fires ask.due c.call). fired c f) (λ (r : Requests (places.me i) n c.call). heard c r) k))
           g))
-          (ask_goes_on terms.far (places.me i) (longest terms) (places.constants i) c.call (desk_at older i).calls n within ask stands))
+          (ask_goes_on terms.far (places.me i) (longest terms) (places.constants i) c.call (desk_at places older i).calls n within ask stands))
           (changes places terms turns is newer older e i split live) where
             at_calls : List KeeperCall → Option AskTimer
             at_calls calls = (timers_at (places.me i) (places.constants i) calls n).ask
 
   -- no timer is overdue before a turn that comes so late
-  pub not_over : (newer older : List Turn) (e : Turn) (ask : AskTimer) → turns ≡ newer ++ e ∷ older → known_from terms ≤ e.time → asks older ≡ Some ask → e.time + terms.offset i ≤ ask.due + terms.late
-  not_over newer older e ask split late stands = subst (λ o. IfSome o (λ (k : AskTimer). e.time + terms.offset i ≤ k.due + terms.late)) stands (is.soon newer older e i n split live (let some = is.reported in let one : terms.reporting ≤ max terms.reporting (3 * terms.far) = omega arith in omega (arith, late, some, one))).ask
+  pub not_over : (newer older : List Turn) (e : Turn) (ask : AskTimer) → turns ≡ newer ++ e ∷ older → known_from terms ≤ e.time → asks older ≡ Some ask → e.time ≤ ask.due + (terms.lag i + terms.late)
+  not_over newer older e ask split late stands = subst (λ o. IfSome o (λ (k : AskTimer). e.time ≤ k.due + (terms.lag i + terms.late))) stands (is.soon newer older e i n split live (let some = is.reported in let one : terms.reporting ≤ max terms.reporting (quiet_span terms) = omega arith in omega (arith, late, some, one))).ask
 
   -- ---- the turns behind a part
 
-  module _ (base : List Turn) (ask : AskTimer) (limit : ℕ) (soon : ask.due + terms.late ≤ limit + terms.offset i) where
+  module _ (base : List Turn) (ask : AskTimer) (limit : ℕ) (soon : ask.due + terms.late + terms.lag i ≤ limit) where
     -- it stands as it was set, at a part that ends by the limit; or all come to hold the name, or it was given up
     abbrev Ends : List Turn → Type 0
     Ends part = ((asks part ≡ Some ask) × (time_of part ≤ limit)) ⊎ (HoldBy limit ⊎ IsGivenUp places turns base i n ask limit)
@@ -161,30 +161,30 @@ module _ {MayStop : List Turn → Turn → NameValue → Type 0} (places : Place
           given : IsGivenUp places turns base i n ask limit → ⊥
           given g =
               let some = is.reported in
-              let one : terms.reporting ≤ max terms.reporting (3 * terms.far) = omega arith in
+              let one : terms.reporting ≤ max terms.reporting (quiet_span terms) = omega arith in
               let there : newer ≡ g.front ++ g.e ∷ g.between = append_cancel_right newer (g.front ++ g.e ∷ g.between) base (sym split ∙ g.split ∙ sym (append_assoc g.front (g.e ∷ g.between) base)) in
               let late_then : known_from terms ≤ g.e.time = (from_tail (known_from terms) g.front (g.e ∷ g.between) (subst (AreFrom (known_from terms)) there late)).0 in
               never (g.between ++ base) g.e ((is.quiet g.front (g.between ++ base) g.e g.split (omega (arith, late_then, some, one))).goes_on g.now n g.given)
 
-pub timer_leads_or_given : (MayStop : List Turn → Turn → NameValue → Type 0) (places : Places) (terms : Terms) (turns newer older : List Turn) (i : ℕ) (n : NameValue) (ask : AskTimer) (due : ℕ) → KeepTimeBut MayStop places terms turns → Spares MayStop n → turns ≡ newer ++ older → Contains terms.live i → known_from terms ≤ time_of older
-    → (timers_there places older i n).ask ≡ Some ask → ask.due ≤ due + terms.offset i → IsAnswerable terms turns n
-    → AllHoldBehind terms turns (max (time_of older) due + repairing terms) n ⊎ IsGivenUp places turns older i n ask (max (time_of older) due + terms.late)
+pub timer_leads_or_given : (MayStop : List Turn → Turn → NameValue → Type 0) (places : Places) (terms : Terms) (turns newer older : List Turn) (i : ℕ) (n : NameValue) (ask : AskTimer) (due : ℕ) → KeepTimeBut MayStop places terms turns → Spares places MayStop n → turns ≡ newer ++ older → Contains terms.live i → known_from terms ≤ time_of older
+    → (timers_there places older i n).ask ≡ Some ask → ask.due + terms.lag i ≤ due → IsAnswerable places terms turns n
+    → AllHoldBehind places terms turns (max (time_of older) due + repairing terms) n ⊎ IsGivenUp places turns older i n ask (max (time_of older) due + terms.late)
 timer_leads_or_given MayStop places terms turns newer older i n ask due is spares split live late stands by a =
     let order = subst AreInOrder split is.order in
     let limit : ℕ = max (time_of older) due + terms.late in
     let first : time_of older ≤ max (time_of older) due = omega arith in
     let second : due ≤ max (time_of older) due = omega arith in
     ⊎_elim
-    (λ (h : AllHoldBehind terms turns (limit + answering_by terms) n). inl (sooner places terms turns is (limit + answering_by terms) (max (time_of older) due + repairing terms) n (omega arith) h))
+    (λ (h : AllHoldBehind places terms turns (limit + answering_by terms) n). inl (sooner places terms turns is (limit + answering_by terms) (max (time_of older) due + repairing terms) n (omega arith) h))
     (λ (g : IsGivenUp places turns older i n ask limit). inr g)
     (leads_or_given places terms turns is i live n a spares older ask limit (omega (arith, by, second)) newer split (from_at (known_from terms) newer older order late) stands (omega (arith, first)))
 
 pub timer_leads_or_is_given_up : TimerLeadsOrIsGivenUp
-timer_leads_or_is_given_up places terms turns newer older i n ask due is split live late stands by a = timer_leads_or_given (IsOtherOrLacked n) places terms turns newer older i n ask due is (spares_held n) split live late stands by a
+timer_leads_or_is_given_up places terms turns newer older i n ask due is split live late stands by a = timer_leads_or_given (IsOtherOrLacked places n) places terms turns newer older i n ask due is (spares_held places n) split live late stands by a
 
 -- of a name that is given up nowhere
 timer_leads_but : (MayStop : List Turn → Turn → NameValue → Type 0) (places : Places) (terms : Terms) (turns newer older : List Turn) (i : ℕ) (n : NameValue) (ask : AskTimer) (due : ℕ) → KeepTimeBut MayStop places terms turns → ((older : List Turn) (e : Turn) → MayStop older e n → ⊥) → turns ≡ newer ++ older → Contains terms.live i → known_from terms ≤ time_of older
-    → (timers_there places older i n).ask ≡ Some ask → ask.due ≤ due + terms.offset i → IsAnswerable terms turns n → AllHoldBehind terms turns (max (time_of older) due + repairing terms) n
+    → (timers_there places older i n).ask ≡ Some ask → ask.due + terms.lag i ≤ due → IsAnswerable places terms turns n → AllHoldBehind places terms turns (max (time_of older) due + repairing terms) n
 timer_leads_but MayStop places terms turns newer older i n ask due is never split live late stands by a =
     let order = subst AreInOrder split is.order in
     let limit : ℕ = max (time_of older) due + terms.late in

@@ -19,7 +19,7 @@ use Rattle.wb_keeper.specs.Missing.{IsWanted, wanted_of}
 use Rattle.wb_keeper.proofs.FirstWanted.{first_are_wanted}
 use Rattle.wb_keeper.proofs.KeptCalls.{same_here}
 use Rattle.wb_progress.specs.InTime.{repairing, known_from, WaitsAtMost, AreApart, AreLacked, LacksAtMost, rounds, round, bound, AllComes}
-use Rattle.wb_progress.specs.Turns.{Terms, settled_by, Turn, Places, desk_at, has, timers_there, time_of, AreInOrder, until, IsAnswerable, AllHoldBehind, LooksWithin, KeepTime, KeepLooking}
+use Rattle.wb_progress.specs.Turns.{Terms, quiet_span, settled_by, Turn, Places, desk_at, has, timers_there, time_of, AreInOrder, until, IsAnswerable, AllHoldBehind, LooksWithin, KeepTime, KeepLooking}
 use Rattle.wb_progress.proofs.Giving.{desk_here, keeps}
 use Rattle.wb_progress.proofs.NamesApart.{apart_of, apart_take, apart_append, from_take, AreMost, most_are}
 use Rattle.wb_progress.proofs.Parts.{before_end, order_of, in_past, split_at}
@@ -92,7 +92,7 @@ module _ (places : Places) (terms : Terms) (turns : List Turn) (i from to : ℕ)
   t = places.constants i
 
   abbrev calls : List KeeperCall
-  calls = (desk_at l.older i).calls
+  calls = (desk_at places l.older i).calls
 
   abbrev timers : NameValue → Timers
   timers = timers_of t (events_of me calls)
@@ -101,10 +101,10 @@ module _ (places : Places) (terms : Terms) (turns : List Turn) (i from to : ℕ)
   standing = asking (names_of (events_of me calls)) timers
 
   abbrev wants : List NameValue
-  wants = wanted_of t (events_of me calls) (desk_at l.older i).held terms.page (marks_heard me calls terms.page)
+  wants = wanted_of t (events_of me calls) (desk_at places l.older i).held terms.page (marks_heard me calls terms.page)
 
-  after_look : (desk_at seen i).calls ≡ Miss l.now wants l.words ∷ calls
-  after_look = ap (λ d. d.calls) (desk_here l.older l.e i l.place) ∙ l.looked ∙ ap (λ (k : ℕ). Miss l.now wants l.words ∷ (desk_at l.older k).calls) l.place
+  after_look : (desk_at places seen i).calls ≡ Miss l.now wants l.words ∷ calls
+  after_look = ap (λ d. d.calls) (desk_here places l.older l.e i l.place) ∙ l.looked ∙ ap (λ (k : ℕ). Miss l.now wants l.words ∷ (desk_at places l.older k).calls) l.place
 
   pub has_timer : (n : NameValue) → Contains wants n ⊎ (is_some (timers n).ask ≡ true) → is_some (timers_there places seen i n).ask ≡ true
   has_timer n h = ap (λ (cs : List KeeperCall). is_some (timers_of t (events_of me cs) n).ask) after_look ∙ missed_stand t l.now (delay_to me calls) n wants l.words (events_of me calls) l.enough h
@@ -116,9 +116,9 @@ module _ (places : Places) (terms : Terms) (turns : List Turn) (i from to : ℕ)
     pub asked : (n : NameValue) → Contains names n → is_some (timers_there places seen i n).ask ≡ true
     pub many : 64 ≤ length names
 
-  pub asked_for : (n : NameValue) → IsWanted timers (desk_at l.older i).held terms.page (marks_heard me calls terms.page) n → (Contains wants n → ⊥) → AskedFor
+  pub asked_for : (n : NameValue) → IsWanted timers (desk_at places l.older i).held terms.page (marks_heard me calls terms.page) n → (Contains wants n → ⊥) → AskedFor
   asked_for n w left =
-      let f = first_are_wanted t (events_of me calls) (desk_at l.older i).held terms.page (marks_heard me calls terms.page) in
+      let f = first_are_wanted t (events_of me calls) (desk_at places l.older i).held terms.page (marks_heard me calls terms.page) in
       let k : ℕ = 64 - length standing in
       let stand = listed_of (λ (s : Timers). is_some s.ask) refl t (events_of me calls) in
       let full : length (take k f.0) ≡ k = ⊎_elim
@@ -139,16 +139,16 @@ module _ (places : Places) (terms : Terms) (turns : List Turn) (i from to : ℕ)
 
 -- ---- rounds
 
-module _ (places : Places) (terms : Terms) (turns : List Turn) (is : KeepTime places terms turns) (looks : KeepLooking places terms turns) (wait most : ℕ) (waits : WaitsAtMost places terms turns wait) (lacks : LacksAtMost terms turns most) where
+module _ (places : Places) (terms : Terms) (turns : List Turn) (is : KeepTime places terms turns) (looks : KeepLooking places terms turns) (wait most : ℕ) (waits : WaitsAtMost places terms turns wait) (lacks : LacksAtMost places terms turns most) where
   abbrev start : ℕ
   start = known_from terms + (wait + repairing terms)
 
   -- after k rounds no live place lacks more than this
   abbrev Claim : ℕ → Type 0
-  Claim k = (i : ℕ) (newer part : List Turn) (names : List NameValue) → Contains terms.live i → turns ≡ newer ++ part → start + k * round terms < time_of part → AreApart names → AreLacked terms turns part i names → length names ≤ most - k * (64 - terms.unanswerable)
+  Claim k = (i : ℕ) (newer part : List Turn) (names : List NameValue) → Contains terms.live i → turns ≡ newer ++ part → start + k * round terms < time_of part → AreApart names → AreLacked places terms turns part i names → length names ≤ most - k * (64 - terms.unanswerable)
 
-  lost_before : (newer middle part : List Turn) (i : ℕ) (n : NameValue) → turns ≡ newer ++ (middle ++ part) → Contains terms.live i → has (middle ++ part) i n ≡ false → has part i n ≡ false
-  lost_before newer middle part i n split live lost = false_from_ne_true (has part i n) (λ h. true≢false (sym (keeps places terms turns is newer middle part i n split live h) ∙ lost))
+  lost_before : (newer middle part : List Turn) (i : ℕ) (n : NameValue) → turns ≡ newer ++ (middle ++ part) → Contains terms.live i → has places (middle ++ part) i n ≡ false → has places part i n ≡ false
+  lost_before newer middle part i n split live lost = false_from_ne_true (has places part i n) (λ h. true≢false (sym (keeps places terms turns is newer middle part i n split live h) ∙ lost))
 
   first : Claim zero
   first i newer part names live split lt apart lacked =
@@ -157,13 +157,13 @@ module _ (places : Places) (terms : Terms) (turns : List Turn) (is : KeepTime pl
       let by = r.by in
       let p = in_past newer part r.newer (until s turns) (sym split ∙ r.split) (subst AreInOrder split is.order) (omega (arith, by, lt)) in
       let whole : turns ≡ newer ++ (p.0 ++ until s turns) = split ∙ ap (λ (t : List Turn). newer ++ t) p.1 in
-      let le = lacks i names live apart (λ n c. let x = lacked n c in (x.0, x.1, lost_before newer p.0 (until s turns) i n whole live (subst (λ (t : List Turn). has t i n ≡ false) p.1 x.2))) in
+      let le = lacks i names live apart (λ n c. let x = lacked n c in (x.0, x.1, lost_before newer p.0 (until s turns) i n whole live (subst (λ (t : List Turn). has places t i n ≡ false) p.1 x.2))) in
       omega (arith, le)
 
   -- what is asked for behind all those waits is of the page, and not held
-  module _ (i : ℕ) (live : Contains terms.live i) (newer part : List Turn) (split : turns ≡ newer ++ part) (lt : start < time_of part) (n : NameValue) (a : IsAnswerable terms turns n) (stands : is_some (timers_there places part i n).ask ≡ true) where
-    not_held : has part i n ≡ false
-    not_held = false_from_ne_true (has part i n) (λ h. none_some (timers_there places part i n).ask (is.are.lacking newer part i n split live h) stands)
+  module _ (i : ℕ) (live : Contains terms.live i) (newer part : List Turn) (split : turns ≡ newer ++ part) (lt : start < time_of part) (n : NameValue) (a : IsAnswerable places terms turns n) (stands : is_some (timers_there places part i n).ask ≡ true) where
+    not_held : has places part i n ≡ false
+    not_held = false_from_ne_true (has places part i n) (λ h. none_some (timers_there places part i n).ask (is.are.lacking newer part i n split live h) stands)
 
     of_page : n.page ≡ terms.page
     of_page =
@@ -173,10 +173,10 @@ module _ (places : Places) (terms : Terms) (turns : List Turn) (is : KeepTime pl
         absurd (true≢false (sym (stood_comes places terms turns is i live n wait h.0 waits a h.1 newer part i split (omega (arith, lt)) live) ∙ not_held)))
         (λ (h : WasSet places terms turns is i live n (time_of part)).
         let behind = h.behind in
-        looks.alone h.newer h.older h.e h.missed.now h.missed.names h.missed.words n h.split (omega (arith, behind)) (h.called.accepts ∙ ap (λ (c : KeeperCall). c ∷ (desk_at h.older h.e.place).calls) h.missed.is) h.missed.named)
+        looks.alone h.newer h.older h.e h.missed.now h.missed.names h.missed.words n h.split (omega (arith, behind)) (h.called.accepts ∙ ap (λ (c : KeeperCall). c ∷ (desk_at places h.older h.e.place).calls) h.missed.is) h.missed.named)
         (asked_since places terms turns is i live n newer part ask.0 split (omega (arith, lt)) ask.1)
 
-  module _ (k : ℕ) (claim : Claim k) (i : ℕ) (newer part : List Turn) (live : Contains terms.live i) (split : turns ≡ newer ++ part) (lt : start + k * round terms + round terms < time_of part) (m : NameValue) (rest : List NameValue) (apart : AreApart (m ∷ rest)) (lacked : AreLacked terms turns part i (m ∷ rest)) where
+  module _ (k : ℕ) (claim : Claim k) (i : ℕ) (newer part : List Turn) (live : Contains terms.live i) (split : turns ≡ newer ++ part) (lt : start + k * round terms + round terms < time_of part) (m : NameValue) (rest : List NameValue) (apart : AreApart (m ∷ rest)) (lacked : AreLacked places terms turns part i (m ∷ rest)) where
     abbrev names : List NameValue
     names = m ∷ rest
 
@@ -204,8 +204,8 @@ module _ (places : Places) (terms : Terms) (turns : List Turn) (is : KeepTime pl
     whole : turns ≡ newer ++ (past.0 ++ q)
     whole = split ∙ ap (λ (t : List Turn). newer ++ t) past.1
 
-    lost : (n : NameValue) → Contains names n → has q i n ≡ false
-    lost n c = lost_before newer past.0 q i n whole live (subst (λ (t : List Turn). has t i n ≡ false) past.1 (lacked n c).2)
+    lost : (n : NameValue) → Contains names n → has places q i n ≡ false
+    lost n c = lost_before newer past.0 q i n whole live (subst (λ (t : List Turn). has places t i n ≡ false) past.1 (lacked n c).2)
 
     -- it would have come by now
     untimed : (n : NameValue) → Contains names n → is_some (timers_there places q i n).ask ≡ true → ⊥
@@ -219,12 +219,12 @@ module _ (places : Places) (terms : Terms) (turns : List Turn) (is : KeepTime pl
     before_look : turns ≡ (look.newer ++ look.e ∷ []) ++ look.older
     before_look = look.split ∙ sym (append_assoc look.newer (look.e ∷ []) look.older)
 
-    wanted : IsWanted (timers places terms turns i s (s + terms.looking) look) (desk_at look.older i).held terms.page (marks_heard (places.me i) (desk_at look.older i).calls terms.page) m
+    wanted : IsWanted (timers places terms turns i s (s + terms.looking) look) (desk_at places look.older i).held terms.page (marks_heard (places.me i) (desk_at places look.older i).calls terms.page) m
     wanted =
         let x = lacked m (Contains-here m rest) in
         let b = look.begun in
-        let at_older : has look.older i m ≡ false = lost_before look.newer (look.e ∷ []) look.older i m look.split live (lost m (Contains-here m rest)) in
-        let one : terms.reporting ≤ max terms.reporting (3 * terms.far) = omega arith in
+        let at_older : has places look.older i m ≡ false = lost_before look.newer (look.e ∷ []) look.older i m look.split live (lost m (Contains-here m rest)) in
+        let one : terms.reporting ≤ max terms.reporting (quiet_span terms) = omega arith in
         record {
           on_page = x.0;
           missing = looks.known (look.newer ++ look.e ∷ []) look.older i m before_look live (omega (arith, b, one)) x.0 x.1 at_older;
@@ -234,10 +234,10 @@ module _ (places : Places) (terms : Terms) (turns : List Turn) (is : KeepTime pl
     asks : AskedFor places terms turns i s (s + terms.looking) look
     asks = asked_for places terms turns i s (s + terms.looking) look m wanted (λ c. untimed m (Contains-here m rest) (has_timer places terms turns i s (s + terms.looking) look m (inl c)))
 
-    answerable : AreMost (IsAnswerable terms turns) asks.names (length (looks.unanswered look.newer q i look.split live (let b = begun in omega (arith, b))).0)
+    answerable : AreMost (IsAnswerable places terms turns) asks.names (length (looks.unanswered look.newer q i look.split live (let b = begun in omega (arith, b))).0)
     answerable =
         let u = looks.unanswered look.newer q i look.split live (let b = begun in omega (arith, b)) in
-        most_are (IsAnswerable terms turns) asks.names u.0 asks.apart (λ n c. u.2 n (asks.asked n c))
+        most_are (IsAnswerable places terms turns) asks.names u.0 asks.apart (λ n c. u.2 n (asks.asked n c))
 
     fewer : length names ≤ most - k * (64 - terms.unanswerable) - (64 - terms.unanswerable)
     fewer =
@@ -277,9 +277,9 @@ module _ (places : Places) (terms : Terms) (turns : List Turn) (is : KeepTime pl
       let below = mod_below (most + 63 - terms.unanswerable) d some in
       omega (arith, whole, below, few)
 
-  pub all_come : (n : NameValue) → n.page ≡ terms.page → IsAnswerable terms turns n → AllHoldBehind terms turns (bound terms wait most) n
-  all_come n page a newer later i split lt live = from (has later i n) refl where
-    one : AreLacked terms turns later i (n ∷ []) → ⊥
+  pub all_come : (n : NameValue) → n.page ≡ terms.page → IsAnswerable places terms turns n → AllHoldBehind places terms turns (bound terms wait most) n
+  all_come n page a newer later i split lt live = from (has places later i n) refl where
+    one : AreLacked places terms turns later i (n ∷ []) → ⊥
     one lacked =
         let c = claims (rounds terms most) i newer later (n ∷ []) live split lt ((λ c. Contains-none n c), tt) lacked in
         let e = enough in
@@ -287,10 +287,10 @@ module _ (places : Places) (terms : Terms) (turns : List Turn) (is : KeepTime pl
           none : (l : ℕ) → l ≡ 1 → l ≤ 0 → ⊥
           none l e le = omega (arith, e, le)
 
-    from : (b : Bool) → has later i n ≡ b → b ≡ true
+    from : (b : Bool) → has places later i n ≡ b → b ≡ true
     from true h = refl
     from false h = absurd (one (λ m c. ⊎_elim
-        (λ (e : n ≡ m). subst (λ (x : NameValue). (x.page ≡ terms.page) × IsAnswerable terms turns x × (has later i x ≡ false)) e (page, a, h))
+        (λ (e : n ≡ m). subst (λ (x : NameValue). (x.page ≡ terms.page) × IsAnswerable places terms turns x × (has places later i x ≡ false)) e (page, a, h))
         (λ (none : Contains [] m). absurd (Contains-none m none))
         (Contains-cases n m [] c)))
 

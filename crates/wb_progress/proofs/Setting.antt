@@ -1,5 +1,5 @@
 -- A request timer that stands after a time stood then, or was set since; so what it asks for comes in one round.
-use Rattle.std.proofs.Common.{◌≡◌, ℕ, ◌+◌, ◌*◌, ◌<◌, ◌≤◌, List, [], ◌∷◌, ◌++◌, Option, Some, None, refl, sym, ap, ◌∙◌, subst, arith, ◌⊎◌, inl, inr, ⊎_elim, append_assoc}
+use Rattle.std.proofs.Common.{◌≡◌, ℕ, ◌+◌, ◌*◌, ◌<◌, ◌≤◌, List, [], ◌∷◌, ◌++◌, Option, Some, None, refl, sym, ap, ◌∙◌, subst, arith, ◌⊎◌, inl, inr, ⊎_elim, append_assoc, max}
 use Rattle.std.specs.Prelude.{Contains}
 use Rattle.std.proofs.Math.Nat.{mul-le-mul_right}
 use Rattle.std.proofs.lemmas.List.{append_cancel_right}
@@ -35,22 +35,22 @@ module _ (places : Places) (terms : Terms) (turns : List Turn) (is : KeepTime pl
     pub missed : Misses n called.call
     pub ask : AskTimer
     pub stands : (timers_there places (e ∷ (before ++ base)) i n).ask ≡ Some ask
-    pub due : ask.due ≤ e.time + terms.offset i + terms.asking * terms.far
+    pub due : ask.due + terms.lag i ≤ max e.time terms.quiet + terms.asking * terms.far
 
   abbrev pub StoodOrSet : List Turn → List Turn → Type 0
   StoodOrSet middle base = ((ask : AskTimer) × ((timers_there places base i n).ask ≡ Some ask)) ⊎ IsSet middle base
 
   sets : (newer older : List Turn) (e : Turn) (ask : AskTimer) → turns ≡ newer ++ e ∷ older → (timers_there places older i n).ask ≡ None → (timers_there places (e ∷ older) i n).ask ≡ Some ask
-      → (c : Called places terms turns is older e i) × Misses n c.call × (ask.due ≤ e.time + terms.offset i + terms.asking * terms.far)
+      → (c : Called places terms turns is older e i) × Misses n c.call × (ask.due + terms.lag i ≤ max e.time terms.quiet + terms.asking * terms.far)
   sets newer older e ask split none stands = ⊎_elim
-      (λ (same : (desk_at (e ∷ older) i).calls ≡ (desk_at older i).calls). absurd (none_some (timers_there places (e ∷ older) i n).ask ask (ap asks same ∙ none) stands))
+      (λ (same : (desk_at places (e ∷ older) i).calls ≡ (desk_at places older i).calls). absurd (none_some (timers_there places (e ∷ older) i n).ask ask (ap asks same ∙ none) stands))
       (λ (c : Called places terms turns is older e i).
       let within = subst (AreWithin terms.far (longest terms) (places.me i) (places.constants i)) c.calls (is.are.within newer (e ∷ older) i split live) in
-      let b = ask_begins terms.far (places.me i) (longest terms) (places.constants i) c.call (desk_at older i).calls n within ask none (sym (ap asks c.calls) ∙ stands) in
+      let b = ask_begins terms.far (places.me i) (longest terms) (places.constants i) c.call (desk_at places older i).calls n within ask none (sym (ap asks c.calls) ∙ stands) in
       let wait : ((longest terms).c1 + (longest terms).c2) * terms.far ≤ terms.asking * terms.far = mul-le-mul_right terms.far (omega arith) in
       let due = b.1 in
       let clock = is.are.clock newer (e ∷ older) i split live in
-      let moment : moment_at (desk_at (e ∷ older) i).calls ≡ moment_at (c.call ∷ (desk_at older i).calls) = ap moment_at c.calls in
+      let moment : moment_at (desk_at places (e ∷ older) i).calls ≡ moment_at (c.call ∷ (desk_at places older i).calls) = ap moment_at c.calls in
       (c, b.0, omega (arith, due, wait, clock, moment)))
       (changes places terms turns is newer older e i split live) where
         asks : List KeeperCall → Option AskTimer
@@ -84,7 +84,7 @@ module _ (places : Places) (terms : Terms) (turns : List Turn) (is : KeepTime pl
     pub missed : Misses n called.call
     pub ask : AskTimer
     pub stands : (timers_there places (e ∷ older) i n).ask ≡ Some ask
-    pub due : ask.due ≤ e.time + terms.offset i + terms.asking * terms.far
+    pub due : ask.due + terms.lag i ≤ max e.time terms.quiet + terms.asking * terms.far
     pub behind : known_from terms < e.time
     pub soon : e.time ≤ by
     pub late : AreFrom (known_from terms) newer
@@ -131,7 +131,7 @@ module _ (places : Places) (terms : Terms) (turns : List Turn) (is : KeepTime pl
             }
 
   -- what stood then comes once its timer is due
-  pub stood_comes : (wait : ℕ) (ask : AskTimer) → WaitsAtMost places terms turns wait → IsAnswerable terms turns n → (timers_there places (until (known_from terms) turns) i n).ask ≡ Some ask → AllHoldBehind terms turns (known_from terms + wait + repairing terms) n
+  pub stood_comes : (wait : ℕ) (ask : AskTimer) → WaitsAtMost places terms turns wait → IsAnswerable places terms turns n → (timers_there places (until (known_from terms) turns) i n).ask ≡ Some ask → AllHoldBehind places terms turns (known_from terms + wait + repairing terms) n
   stood_comes wait ask waits a stands =
       let s = known_from terms in
       let r = split_at s turns in
@@ -141,17 +141,19 @@ module _ (places : Places) (terms : Terms) (turns : List Turn) (is : KeepTime pl
       sooner places terms turns is (limit + answering_by terms) (s + wait + repairing terms) n (omega arith)
       (leads_from places terms turns is i live n a (λ older e held none. none) (until s turns) ask limit (omega (arith, due)) (λ older e none. none) r.newer r.split (at_least s r.newer r.behind) stands (omega (arith, by)))
 
-  pub round_comes : (newer part : List Turn) (wait : ℕ) (ask : AskTimer) → WaitsAtMost places terms turns wait → IsAnswerable terms turns n → turns ≡ newer ++ part → known_from terms + wait < time_of part → (timers_there places part i n).ask ≡ Some ask
-      → AllHoldBehind terms turns (time_of part + terms.asking * terms.far + repairing terms) n
+  pub round_comes : (newer part : List Turn) (wait : ℕ) (ask : AskTimer) → WaitsAtMost places terms turns wait → IsAnswerable places terms turns n → turns ≡ newer ++ part → known_from terms + wait < time_of part → (timers_there places part i n).ask ≡ Some ask
+      → AllHoldBehind places terms turns (time_of part + terms.asking * terms.far + repairing terms) n
   round_comes newer part wait ask waits a split lt stands = ⊎_elim
       (λ (h : (other : AskTimer) × ((timers_there places (until (known_from terms) turns) i n).ask ≡ Some other)).
       sooner places terms turns is (known_from terms + wait + repairing terms) (time_of part + terms.asking * terms.far + repairing terms) n (omega (arith, lt)) (stood_comes wait h.0 waits a h.1))
       (λ (h : WasSet (time_of part)).
       let soon = h.soon in
       let due = h.due in
+      let behind = h.behind in
+      let settled : max h.e.time terms.quiet ≤ h.e.time = omega (arith, behind) in
       let limit : ℕ = h.e.time + terms.asking * terms.far + terms.late in
       sooner places terms turns is (limit + answering_by terms) (time_of part + terms.asking * terms.far + repairing terms) n (omega (arith, soon))
-      (leads_from places terms turns is i live n a (λ older e held none. none) (h.e ∷ h.older) h.ask limit (omega (arith, due)) (λ older e none. none) h.newer h.split h.late h.stands (omega arith)))
+      (leads_from places terms turns is i live n a (λ older e held none. none) (h.e ∷ h.older) h.ask limit (omega (arith, due, settled)) (λ older e none. none) h.newer h.split h.late h.stands (omega arith)))
       (asked_since newer part ask split (omega (arith, lt)) stands)
 
 pub rounds_end : RoundsEnd

@@ -15,7 +15,7 @@ use Rattle.wb_progress.proofs.Giving.{Spares, Called, changes}
 use Rattle.wb_progress.proofs.Leading.{Gives, leads_on, not_over}
 use Rattle.wb_progress.proofs.Parts.{AreFrom, IsSplitAt, in_past, order_of, split_at, from_tail}
 
-module _ {MayStop : List Turn → Turn → NameValue → Type 0} (places : Places) (terms : Terms) (turns : List Turn) (is : KeepTimeBut MayStop places terms turns) (i : ℕ) (live : Contains terms.live i) (n : NameValue) (a : IsAnswerable terms turns n) (spares : Spares MayStop n) (limit : ℕ) where
+module _ {MayStop : List Turn → Turn → NameValue → Type 0} (places : Places) (terms : Terms) (turns : List Turn) (is : KeepTimeBut MayStop places terms turns) (i : ℕ) (live : Contains terms.live i) (n : NameValue) (a : IsAnswerable places terms turns n) (spares : Spares places MayStop n) (limit : ℕ) where
   abbrev asks : List Turn → Option AskTimer
   asks part = (timers_there places part i n).ask
 
@@ -23,9 +23,9 @@ module _ {MayStop : List Turn → Turn → NameValue → Type 0} (places : Place
   -- level; or whatever, and all come to hold the name.
   data IsYoung (part : List Turn) : Type 0 where
     Absent : asks part ≡ None → IsYoung part
-    Stood : (ask : AskTimer) (stands : asks part ≡ Some ask) (soon : ask.due + terms.late ≤ limit + terms.offset i) (by : time_of part ≤ limit) → IsYoung part
+    Stood : (ask : AskTimer) (stands : asks part ≡ Some ask) (soon : ask.due + terms.late + terms.lag i ≤ limit) (by : time_of part ≤ limit) → IsYoung part
     Lowest : (ask : AskTimer) (stands : asks part ≡ Some ask) (level : ask.level ≡ 0) → IsYoung part
-    Answered : AllHoldBehind terms turns (time_of part + answering_by terms) n → IsYoung part
+    Answered : AllHoldBehind places terms turns (time_of part + answering_by terms) n → IsYoung part
 
   -- a timer that begins is of the lowest level
   begins : (newer older : List Turn) (e : Turn) → turns ≡ newer ++ e ∷ older → asks older ≡ None → IsYoung (e ∷ older)
@@ -38,10 +38,10 @@ module _ {MayStop : List Turn → Turn → NameValue → Type 0} (places : Place
 
     level_of : (ask : AskTimer) → asks (e ∷ older) ≡ Some ask → ask.level ≡ 0
     level_of ask stands = ⊎_elim
-        (λ (same : (desk_at (e ∷ older) i).calls ≡ (desk_at older i).calls). absurd (none_some (asks (e ∷ older)) ask (ap at_calls same ∙ none) stands))
+        (λ (same : (desk_at places (e ∷ older) i).calls ≡ (desk_at places older i).calls). absurd (none_some (asks (e ∷ older)) ask (ap at_calls same ∙ none) stands))
         (λ (c : Called places terms turns is older e i).
         let within = subst (AreWithin terms.far (longest terms) (places.me i) (places.constants i)) c.calls (is.are.within newer (e ∷ older) i split live) in
-        (ask_begins terms.far (places.me i) (longest terms) (places.constants i) c.call (desk_at older i).calls n within ask none (sym (ap at_calls c.calls) ∙ stands)).2)
+        (ask_begins terms.far (places.me i) (longest terms) (places.constants i) c.call (desk_at places older i).calls n within ask none (sym (ap at_calls c.calls) ∙ stands)).2)
         (changes places terms turns is newer older e i split live)
 
     from : (o : Option AskTimer) → asks (e ∷ older) ≡ o → IsYoung (e ∷ older)
@@ -52,9 +52,9 @@ module _ {MayStop : List Turn → Turn → NameValue → Type 0} (places : Place
   one_turn newer older e split late young = by young where
     goes_on : (ask : AskTimer) → asks older ≡ Some ask → (asks (e ∷ older) ≡ Some ask → IsYoung (e ∷ older)) → IsYoung (e ∷ older)
     goes_on ask stands same = ⊎_elim same
-        (λ (r : Gives places terms turns is i live n a spares newer older e split late ⊎ AllHoldBehind terms turns (e.time + answering_by terms) n). ⊎_elim
+        (λ (r : Gives places terms turns is i live n a spares newer older e split late ⊎ AllHoldBehind places terms turns (e.time + answering_by terms) n). ⊎_elim
         (λ (g : Gives places terms turns is i live n a spares newer older e split late). Absent g.ends)
-        (λ (h : AllHoldBehind terms turns (e.time + answering_by terms) n). Answered h)
+        (λ (h : AllHoldBehind places terms turns (e.time + answering_by terms) n). Answered h)
         r)
         (leads_on places terms turns is i live n a spares newer older e split late ask stands)
 
@@ -74,8 +74,8 @@ module _ {MayStop : List Turn → Turn → NameValue → Type 0} (places : Place
       one_turn front (middle ++ base) e split (omega (arith, first)) (walk (front ++ e ∷ []) middle base (split ∙ sym (append_assoc front (e ∷ []) (middle ++ base))) late.1 young)
 
 -- it is so behind the waits of the timers that stood when requests began to be answered
-pub timers_are_young : (MayStop : List Turn → Turn → NameValue → Type 0) (places : Places) (terms : Terms) (turns newer part : List Turn) (i wait : ℕ) (n : NameValue) (ask : AskTimer) → KeepTimeBut MayStop places terms turns → Spares MayStop n → ((other : AskTimer) → (timers_there places (until (known_from terms) turns) i n).ask ≡ Some other → other.due ≤ known_from terms + wait + terms.offset i)
-    → turns ≡ newer ++ part → Contains terms.live i → known_from terms + wait + terms.late < time_of part → IsAnswerable terms turns n → (timers_there places part i n).ask ≡ Some ask → (ask.level ≡ 0) ⊎ AllHoldBehind terms turns (time_of part + answering_by terms) n
+pub timers_are_young : (MayStop : List Turn → Turn → NameValue → Type 0) (places : Places) (terms : Terms) (turns newer part : List Turn) (i wait : ℕ) (n : NameValue) (ask : AskTimer) → KeepTimeBut MayStop places terms turns → Spares places MayStop n → ((other : AskTimer) → (timers_there places (until (known_from terms) turns) i n).ask ≡ Some other → other.due + terms.lag i ≤ known_from terms + wait)
+    → turns ≡ newer ++ part → Contains terms.live i → known_from terms + wait + terms.late < time_of part → IsAnswerable places terms turns n → (timers_there places part i n).ask ≡ Some ask → (ask.level ≡ 0) ⊎ AllHoldBehind places terms turns (time_of part + answering_by terms) n
 timers_are_young MayStop places terms turns newer part i wait n ask is spares waits split live lt a stands = ends (subst Young (sym p.1) (walk places terms turns is i live n a spares limit newer p.0 base whole late (begin (timers_there places base i n).ask refl))) where
   s : ℕ
   s = known_from terms
@@ -105,7 +105,7 @@ timers_are_young MayStop places terms turns newer part i wait n ask is spares wa
   begin None e = Absent e
   begin (Some ask) e = let due = waits ask e in let by = r.by in Stood ask e (omega (arith, due)) (omega (arith, by))
 
-  ends : Young part → (ask.level ≡ 0) ⊎ AllHoldBehind terms turns (time_of part + answering_by terms) n
+  ends : Young part → (ask.level ≡ 0) ⊎ AllHoldBehind places terms turns (time_of part + answering_by terms) n
   ends (Absent none) = absurd (other (timers_there places part i n).ask none stands) where
     other : (o : Option AskTimer) → o ≡ None → o ≡ Some ask → ⊥
     other o e f = cc

@@ -1,5 +1,5 @@
 -- Keepers at places, in real time: what a network and drivers keep to, so that what is lost comes by a stated time.
-use Rattle.std.specs.Prelude.{◌≡◌, ◌≢◌, ◌⊎◌, ℕ, ◌+◌, ◌<◌, ◌≤◌, Bool, true, false, List, [], ◌∷◌, ◌++◌, length, Contains, nat_eq, nat_le, is_some, IfSome, None, if◌then◌else◌}
+use Rattle.std.specs.Prelude.{◌≡◌, ◌≢◌, ◌⊎◌, ℕ, ◌+◌, ◌*◌, ◌<◌, ◌≤◌, Bool, true, false, List, [], ◌∷◌, ◌++◌, length, Contains, max, nat_eq, nat_le, is_some, IfSome, None, if◌then◌else◌}
 use Rattle.wb_names.specs.Values.{NameValue, DrawopValue}
 use Rattle.wb_names.specs.History.{IsHistory}
 use Rattle.wb_names.specs.declared.name.PageId.{PageId}
@@ -21,7 +21,8 @@ use Rattle.wb_progress.specs.Repairs.{timers_at}
 
 -- Times in microseconds: from `quiet` on nobody draws; what is printed arrives within `delivery`; each place reports its page every `reporting`
 -- and looks at it every `looking`; a tick is at most `late`; no delay is above `far`. No request waits for more than `asking` delays at first, and no answer
--- for more than `answering`. At most `unanswerable` names are held by nobody. The moment of a place is the time and its offset.
+-- for more than `answering`. At most `unanswerable` names are held by nobody. The clock of a place is behind the time by its `lag`, and by at most
+-- `drift` more: so clocks need not go alike, and a place may begin at any time.
 pub record Terms : Type 0 where
   pub live : List ℕ
   pub page : PageId
@@ -34,7 +35,8 @@ pub record Terms : Type 0 where
   pub asking : ℕ
   pub answering : ℕ
   pub unanswerable : ℕ
-  pub offset : ℕ → ℕ
+  pub drift : ℕ
+  pub lag : ℕ → ℕ
 
 -- constants that wait as long as the terms say
 abbrev pub longest : Terms → Tuning
@@ -43,6 +45,15 @@ longest terms = record { c1 = terms.asking; c2 = 0; d1 = terms.answering; d2 = 0
 -- what was printed before `quiet` has arrived by then
 abbrev pub settled_by : Terms → ℕ
 settled_by terms = terms.quiet + terms.delivery
+
+-- a moment that the clock of a place may tell at a time
+pub record IsNowAt (terms : Terms) (time place moment : ℕ) : Type 0 where
+  pub not_ahead : moment + terms.lag place ≤ time
+  pub not_behind : time ≤ moment + terms.lag place + terms.drift
+
+-- for so long a name may be quiet at a place
+abbrev pub quiet_span : Terms → ℕ
+quiet_span terms = 3 * terms.far + terms.drift
 
 -- ---- turns
 
@@ -58,23 +69,24 @@ pub record Turn : Type 0 where
   pub desk : Desk
   pub sent : List Datagram
 
--- the members at the places, and the constants of their timers at first
+-- the members at the places, the constants of their timers at first, and their desks before the first turn
 pub record Places : Type 0 where
   pub me : ℕ → ℕ
   pub constants : ℕ → Tuning
+  pub first : ℕ → Desk
 
 -- the desk at a place after some turns, of which the newest is the first
-abbrev pub desk_at : List Turn → ℕ → Desk
-desk_at [] i = record { calls = []; held = [] }
-desk_at (e ∷ older) i = if nat_eq e.place i then e.desk else desk_at older i
+abbrev pub desk_at : Places → List Turn → ℕ → Desk
+desk_at places [] i = places.first i
+desk_at places (e ∷ older) i = if nat_eq e.place i then e.desk else desk_at places older i
 
 -- a name is held there
-abbrev pub has : List Turn → ℕ → NameValue → Bool
-has turns i n = holds (desk_at turns i).held n
+abbrev pub has : Places → List Turn → ℕ → NameValue → Bool
+has places turns i n = holds (desk_at places turns i).held n
 
 -- its timers there
 abbrev pub timers_there : Places → List Turn → ℕ → NameValue → Timers
-timers_there places turns i n = timers_at (places.me i) (places.constants i) (desk_at turns i).calls n
+timers_there places turns i n = timers_at (places.me i) (places.constants i) (desk_at places turns i).calls n
 
 -- the time of the newest turn, at first 0
 abbrev pub time_of : List Turn → ℕ
@@ -92,43 +104,43 @@ until s [] = []
 until s (e ∷ older) = if nat_le e.time s then e ∷ older else until s older
 
 -- a live place held the name once what was on its way had arrived
-abbrev pub IsAnswerable : Terms → List Turn → NameValue → Type 0
-IsAnswerable terms turns n = (j : ℕ) × Contains terms.live j × (has (until (settled_by terms) turns) j n ≡ true)
+abbrev pub IsAnswerable : Places → Terms → List Turn → NameValue → Type 0
+IsAnswerable places terms turns n = (j : ℕ) × Contains terms.live j × (has places (until (settled_by terms) turns) j n ≡ true)
 
 -- each live place has the name once the turns have gone on after a time
-abbrev pub AllHoldBehind : Terms → List Turn → ℕ → NameValue → Type 0
-AllHoldBehind terms turns time n = (newer later : List Turn) (i : ℕ) → turns ≡ newer ++ later → time < time_of later → Contains terms.live i → has later i n ≡ true
+abbrev pub AllHoldBehind : Places → Terms → List Turn → ℕ → NameValue → Type 0
+AllHoldBehind places terms turns time n = (newer later : List Turn) (i : ℕ) → turns ≡ newer ++ later → time < time_of later → Contains terms.live i → has places later i n ≡ true
 
 -- ---- one turn of a live place
 
 -- its keeper accepts this
-abbrev pub Accepts : List Turn → Turn → KeeperCall → Type 0
-Accepts older e call = e.desk.calls ≡ call ∷ (desk_at older e.place).calls
+abbrev pub Accepts : Places → List Turn → Turn → KeeperCall → Type 0
+Accepts places older e call = e.desk.calls ≡ call ∷ (desk_at places older e.place).calls
 
 pub record IsTurn (places : Places) (terms : Terms) (older : List Turn) (e : Turn) : Type 0 where
   -- it accepts one call at most, and what is held stays
-  pub called : (e.desk.calls ≡ (desk_at older e.place).calls) ⊎ ((call : KeeperCall) × Accepts older e call)
-  pub kept : (n : NameValue) → has older e.place n ≡ true → holds e.desk.held n ≡ true
-  -- a request is heard at the moment of its time, with what is held then
-  pub heard : (now asker word : ℕ) (n : NameValue) (held : Bool) → Accepts older e (Hear now (Request asker n) word held) → (now ≡ e.time + terms.offset e.place) × (held ≡ has older e.place n)
+  pub called : (e.desk.calls ≡ (desk_at places older e.place).calls) ⊎ ((call : KeeperCall) × Accepts places older e call)
+  pub kept : (n : NameValue) → has places older e.place n ≡ true → holds e.desk.held n ≡ true
+  -- a request is heard at a moment of its time, with what is held then
+  pub heard : (now asker word : ℕ) (n : NameValue) (held : Bool) → Accepts places older e (Hear now (Request asker n) word held) → IsNowAt terms e.time e.place now × (held ≡ has places older e.place n)
   -- a tick stops what is held, and sends what is due
-  pub stops : (now : ℕ) (words : List ℕ) (stopped : List NameValue) → Accepts older e (GoOn now words stopped) → stopped ≡ stopped_after (places.me e.place) (places.constants e.place) (desk_at older e.place).calls (desk_at older e.place).held
-  pub sends : (now : ℕ) (words : List ℕ) (stopped : List NameValue) → Accepts older e (GoOn now words stopped)
-      → (v : Datagram) → Contains (sent_by_tick (places.me e.place) (places.constants e.place) (desk_at older e.place).calls (desk_at older e.place).held now) v → Contains e.sent v
+  pub stops : (now : ℕ) (words : List ℕ) (stopped : List NameValue) → Accepts places older e (GoOn now words stopped) → stopped ≡ stopped_after (places.me e.place) (places.constants e.place) (desk_at places older e.place).calls (desk_at places older e.place).held
+  pub sends : (now : ℕ) (words : List ℕ) (stopped : List NameValue) → Accepts places older e (GoOn now words stopped)
+      → (v : Datagram) → Contains (sent_by_tick (places.me e.place) (places.constants e.place) (desk_at places older e.place).calls (desk_at places older e.place).held now) v → Contains e.sent v
 
 -- From `quiet` on a name with a request timer is given up only if it may be; what is sent is held, and what is asked for is not.
 pub record IsQuietBut (MayStop : List Turn → Turn → NameValue → Type 0) (places : Places) (older : List Turn) (e : Turn) : Type 0 where
-  pub goes_on : (now : ℕ) (n : NameValue) → Accepts older e (GiveUp now n true) → MayStop older e n
-  pub held : (d : DrawopValue) → Contains e.sent (Draw d) → has older e.place d.name ≡ true
-  pub asked : (asker : ℕ) (n : NameValue) → Contains e.sent (Request asker n) → (asker ≡ places.me e.place) × (has older e.place n ≡ false)
+  pub goes_on : (now : ℕ) (n : NameValue) → Accepts places older e (GiveUp now n true) → MayStop older e n
+  pub held : (d : DrawopValue) → Contains e.sent (Draw d) → has places older e.place d.name ≡ true
+  pub asked : (asker : ℕ) (n : NameValue) → Contains e.sent (Request asker n) → (asker ≡ places.me e.place) × (has places older e.place n ≡ false)
 
 -- when none may be
 abbrev pub IsQuietTurn : Places → List Turn → Turn → Type 0
 IsQuietTurn places older e = IsQuietBut (λ older e n. ⊥) places older e
 
 -- any other name, and this one if it is not held
-abbrev pub IsOtherOrLacked : NameValue → List Turn → Turn → NameValue → Type 0
-IsOtherOrLacked n older e m = m ≡ n → has older e.place n ≡ false
+abbrev pub IsOtherOrLacked : Places → NameValue → List Turn → Turn → NameValue → Type 0
+IsOtherOrLacked places n older e m = m ≡ n → has places older e.place n ≡ false
 
 -- ---- the network
 
@@ -142,7 +154,7 @@ pub record WasSent (turns : List Turn) (time within : ℕ) (v : Datagram) : Type
   pub sent : Contains e.sent v
 
 -- a request that was sent is heard at a place
-pub record IsHeardAt (newer : List Turn) (e : Turn) (older : List Turn) (j within asker : ℕ) (n : NameValue) : Type 0 where
+pub record IsHeardAt (places : Places) (newer : List Turn) (e : Turn) (older : List Turn) (j within asker : ℕ) (n : NameValue) : Type 0 where
   pub later : List Turn
   pub arrival : Turn
   pub between : List Turn
@@ -152,20 +164,20 @@ pub record IsHeardAt (newer : List Turn) (e : Turn) (older : List Turn) (j withi
   pub now : ℕ
   pub word : ℕ
   pub held : Bool
-  pub heard : Accepts (between ++ e ∷ older) arrival (Hear now (Request asker n) word held)
+  pub heard : Accepts places (between ++ e ∷ older) arrival (Hear now (Request asker n) word held)
 
-pub record IsDelivered (terms : Terms) (turns : List Turn) : Type 0 where
+pub record IsDelivered (places : Places) (terms : Terms) (turns : List Turn) : Type 0 where
   -- a drawop that is sent is held at each live place in time
-  pub drawops : (newer older : List Turn) (e : Turn) (d : DrawopValue) → turns ≡ newer ++ e ∷ older → terms.quiet < e.time → Contains e.sent (Draw d) → AllHoldBehind terms turns (e.time + terms.delivery) d.name
+  pub drawops : (newer older : List Turn) (e : Turn) (d : DrawopValue) → turns ≡ newer ++ e ∷ older → terms.quiet < e.time → Contains e.sent (Draw d) → AllHoldBehind places terms turns (e.time + terms.delivery) d.name
   -- a request is heard at each other live place
   pub requests : (newer older : List Turn) (e : Turn) (asker : ℕ) (n : NameValue) (j : ℕ) → turns ≡ newer ++ e ∷ older → terms.quiet < e.time → Contains e.sent (Request asker n) → Contains terms.live j → e.place ≢ j → e.time + terms.delivery < time_of turns
-      → IsHeardAt newer e older j terms.delivery asker n
+      → IsHeardAt places newer e older j terms.delivery asker n
 
 -- What comes was sent within the time of delivery.
-pub record IsFresh (terms : Terms) (turns : List Turn) : Type 0 where
-  pub drawops : (newer older : List Turn) (e : Turn) (now : ℕ) (names : List NameValue) (n : NameValue) → turns ≡ newer ++ e ∷ older → settled_by terms < e.time → Accepts older e (Arrive now names) → Contains names n
+pub record IsFresh (places : Places) (terms : Terms) (turns : List Turn) : Type 0 where
+  pub drawops : (newer older : List Turn) (e : Turn) (now : ℕ) (names : List NameValue) (n : NameValue) → turns ≡ newer ++ e ∷ older → settled_by terms < e.time → Accepts places older e (Arrive now names) → Contains names n
       → (d : DrawopValue) × (d.name ≡ n) × WasSent (e ∷ older) e.time terms.delivery (Draw d)
-  pub requests : (newer older : List Turn) (e : Turn) (now asker word : ℕ) (held : Bool) (n : NameValue) → turns ≡ newer ++ e ∷ older → settled_by terms < e.time → Accepts older e (Hear now (Request asker n) word held)
+  pub requests : (newer older : List Turn) (e : Turn) (now asker word : ℕ) (held : Bool) (n : NameValue) → turns ≡ newer ++ e ∷ older → settled_by terms < e.time → Accepts places older e (Hear now (Request asker n) word held)
       → WasSent (e ∷ older) e.time terms.delivery (Request asker n)
 
 -- ---- drivers
@@ -186,8 +198,8 @@ pub record LooksWithin (places : Places) (terms : Terms) (turns : List Turn) (i 
   pub ended : e.time ≤ to
   pub now : ℕ
   pub words : List ℕ
-  pub enough : length words ≡ length (wanted_of (places.constants i) (events_of (places.me i) (desk_at older i).calls) (desk_at older i).held terms.page (marks_heard (places.me i) (desk_at older i).calls terms.page))
-  pub looked : Accepts older e (Miss now (wanted_of (places.constants i) (events_of (places.me i) (desk_at older i).calls) (desk_at older i).held terms.page (marks_heard (places.me i) (desk_at older i).calls terms.page)) words)
+  pub enough : length words ≡ length (wanted_of (places.constants i) (events_of (places.me i) (desk_at places older i).calls) (desk_at places older i).held terms.page (marks_heard (places.me i) (desk_at places older i).calls terms.page))
+  pub looked : Accepts places older e (Miss now (wanted_of (places.constants i) (events_of (places.me i) (desk_at places older i).calls) (desk_at places older i).held terms.page (marks_heard (places.me i) (desk_at places older i).calls terms.page)) words)
 
 -- ---- all of it
 
@@ -195,10 +207,12 @@ pub record LooksWithin (places : Places) (terms : Terms) (turns : List Turn) (i 
 pub record AreTurns (places : Places) (terms : Terms) (turns : List Turn) : Type 0 where
   pub apart : (i j : ℕ) → Contains terms.live i → Contains terms.live j → places.me i ≡ places.me j → i ≡ j
   pub turn : (newer older : List Turn) (e : Turn) → turns ≡ newer ++ e ∷ older → Contains terms.live e.place → IsTurn places terms older e
-  pub within : (newer older : List Turn) (i : ℕ) → turns ≡ newer ++ older → Contains terms.live i → AreWithin terms.far (longest terms) (places.me i) (places.constants i) (desk_at older i).calls
-  pub clock : (newer older : List Turn) (i : ℕ) → turns ≡ newer ++ older → Contains terms.live i → moment_at (desk_at older i).calls ≤ time_of older + terms.offset i
-  pub history : (newer older : List Turn) (i : ℕ) → turns ≡ newer ++ older → Contains terms.live i → IsHistory (desk_at older i).held
-  pub lacking : (newer older : List Turn) (i : ℕ) (n : NameValue) → turns ≡ newer ++ older → Contains terms.live i → has older i n ≡ true → (timers_there places older i n).ask ≡ None
+  pub within : (newer older : List Turn) (i : ℕ) → turns ≡ newer ++ older → Contains terms.live i → AreWithin terms.far (longest terms) (places.me i) (places.constants i) (desk_at places older i).calls
+  -- at first no name is quiet, and no clock is ahead of `quiet`, nor later of the time
+  pub first : (i : ℕ) (n : NameValue) → Contains terms.live i → (timers_there places [] i n).quiet ≡ 0
+  pub clock : (newer older : List Turn) (i : ℕ) → turns ≡ newer ++ older → Contains terms.live i → moment_at (desk_at places older i).calls + terms.lag i ≤ max (time_of older) terms.quiet
+  pub history : (newer older : List Turn) (i : ℕ) → turns ≡ newer ++ older → Contains terms.live i → IsHistory (desk_at places older i).held
+  pub lacking : (newer older : List Turn) (i : ℕ) (n : NameValue) → turns ≡ newer ++ older → Contains terms.live i → has places older i n ≡ true → (timers_there places older i n).ask ≡ None
 
 -- They keep to the terms, and give up names only if they may.
 pub record KeepTimeBut (MayStop : List Turn → Turn → NameValue → Type 0) (places : Places) (terms : Terms) (turns : List Turn) : Type 0 where
@@ -207,10 +221,10 @@ pub record KeepTimeBut (MayStop : List Turn → Turn → NameValue → Type 0) (
   pub are : AreTurns places terms turns
   pub alone : (newer older : List Turn) (e : Turn) → turns ≡ newer ++ e ∷ older → terms.quiet < e.time → Contains terms.live e.place
   pub quiet : (newer older : List Turn) (e : Turn) → turns ≡ newer ++ e ∷ older → terms.quiet < e.time → IsQuietBut MayStop places older e
-  pub delivered : IsDelivered terms turns
-  pub fresh : IsFresh terms turns
+  pub delivered : IsDelivered places terms turns
+  pub fresh : IsFresh places terms turns
   -- from `quiet` on a tick comes once a timer is due: until a turn comes, no timer that stands is overdue
-  pub soon : (newer older : List Turn) (e : Turn) (i : ℕ) (n : NameValue) → turns ≡ newer ++ e ∷ older → Contains terms.live i → terms.quiet < e.time → AreNotOverdue (timers_there places older i n) (e.time + terms.offset i) terms.late
+  pub soon : (newer older : List Turn) (e : Turn) (i : ℕ) (n : NameValue) → turns ≡ newer ++ e ∷ older → Contains terms.live i → terms.quiet < e.time → AreNotOverdue (timers_there places older i n) e.time (terms.lag i + terms.late)
 
 -- They give up none.
 abbrev pub KeepTime : Places → Terms → List Turn → Type 0
@@ -219,10 +233,10 @@ KeepTime places terms turns = KeepTimeBut (λ older e n. ⊥) places terms turns
 -- They look at the page as often as the terms say, at no other, and know what they lack.
 pub record KeepLooking (places : Places) (terms : Terms) (turns : List Turn) : Type 0 where
   pub looks : (i s : ℕ) → Contains terms.live i → settled_by terms ≤ s → s + terms.looking < time_of turns → LooksWithin places terms turns i s (s + terms.looking)
-  pub alone : (newer older : List Turn) (e : Turn) (now : ℕ) (names : List NameValue) (words : List ℕ) (n : NameValue) → turns ≡ newer ++ e ∷ older → settled_by terms < e.time → Accepts older e (Miss now names words) → Contains names n → n.page ≡ terms.page
-  pub known : (newer older : List Turn) (i : ℕ) (n : NameValue) → turns ≡ newer ++ older → Contains terms.live i → settled_by terms + terms.reporting + terms.delivery < time_of older → n.page ≡ terms.page → IsAnswerable terms turns n → has older i n ≡ false
-      → IsMissing (desk_at older i).held terms.page (marks_heard (places.me i) (desk_at older i).calls terms.page) n.source n.seq
+  pub alone : (newer older : List Turn) (e : Turn) (now : ℕ) (names : List NameValue) (words : List ℕ) (n : NameValue) → turns ≡ newer ++ e ∷ older → settled_by terms < e.time → Accepts places older e (Miss now names words) → Contains names n → n.page ≡ terms.page
+  pub known : (newer older : List Turn) (i : ℕ) (n : NameValue) → turns ≡ newer ++ older → Contains terms.live i → settled_by terms + terms.reporting + terms.delivery < time_of older → n.page ≡ terms.page → IsAnswerable places terms turns n → has places older i n ≡ false
+      → IsMissing (desk_at places older i).held terms.page (marks_heard (places.me i) (desk_at places older i).calls terms.page) n.source n.seq
   pub few : terms.unanswerable ≤ 63
   -- of the names that a place asks for at once, only so few are held by nobody
   pub unanswered : (newer older : List Turn) (i : ℕ) → turns ≡ newer ++ older → Contains terms.live i → settled_by terms < time_of older
-      → (wanting : List NameValue) × (length wanting ≤ terms.unanswerable) × ((n : NameValue) → is_some (timers_there places older i n).ask ≡ true → Contains wanting n ⊎ IsAnswerable terms turns n)
+      → (wanting : List NameValue) × (length wanting ≤ terms.unanswerable) × ((n : NameValue) → is_some (timers_there places older i n).ask ≡ true → Contains wanting n ⊎ IsAnswerable places terms turns n)

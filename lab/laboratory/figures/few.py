@@ -104,7 +104,7 @@ def of_place(records: list[Record], place: str, share: float) -> list[Record]:
 def section_of(records: list[Record]) -> str:
     hard = of_place(records, OF_PLACE, max(SHARES))
     of = {(r["members"], r["tuning"].replace(" ", ",")): r for r in hard}
-    groups = sorted({r["members"] for r in hard})
+    groups: list[int] = sorted({r["members"] for r in hard})
     few_of, several, most = (min(groups, key=lambda group: abs(group - wanted)) for wanted in (3, 10, groups[-1]))
 
     def told(group: int, tuning: str, *columns: str) -> str:

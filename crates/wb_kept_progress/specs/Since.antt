@@ -1,0 +1,144 @@
+-- Sessions in which programs start, and start anew. What came since the last start of each member is a session of hosts: by when it becomes
+-- whole is said of that.
+use Rattle.std.specs.Prelude.{◌≡◌, ◌≢◌, ℕ, ◌+◌, ◌<◌, ◌≤◌, Bool, true, false, List, [], ◌∷◌, ◌++◌, Contains, nat_eq, if◌then◌else◌}
+use Rattle.wb_names.specs.Values.{NameValue}
+use Rattle.wb_names.specs.declared.name.PageId.{PageId}
+use Rattle.wb_names.specs.declared.parts.Op.{Op}
+use Rattle.wb_codec.specs.declared.datagram.Datagram.{Datagram}
+use Rattle.wb_recovery.specs.declared.tuning.Tuning.{Tuning}
+use Rattle.wb_progress.specs.Bounds.{IsUnder}
+use Rattle.wb_progress.specs.Turns.{IsNowAt, Terms, longest, settled_by}
+use Rattle.wb_member.specs.Judged.{holds, is_full}
+use Rattle.wb_member.specs.Opened.{present}
+use Rattle.wb_keeping.specs.Laws.{KeptLine, Added, Came, Tuned, doing_of}
+use Rattle.wb_keeping.specs.Performing.{due, sent_by_doing}
+use Rattle.wb_laws_sessions.specs.Sessions.{AreApart}
+use Rattle.wb_laws_kept.specs.Openings as starts
+use Rattle.wb_laws_kept.specs.Openings.{opened, opened_host}
+use Rattle.wb_laws_kept.specs.Sessions.{AreTaken, Begins, Call, CallAt, Handed, given_lines, kept_at}
+use Rattle.wb_kept_progress.specs.Sessions.{Opening, at}
+use Rattle.wb_kept_progress.specs.Timed.{SaysNow, TimedLine, greatest_distance}
+use Rattle.wb_kept_progress.specs.Whole.{AreWithin, IsHeldBySome, IsTimelySession, LackAtMost, Sizes, WaitAtMost, request_span, there, whole_by}
+
+-- ---- the last start of each member, and the lines since then
+
+abbrev pub with_number : ℕ → starts.Opening → Opening
+with_number number o = record { constants = o.constants; number = number; cells = o.cells; seed = o.seed; moments = o.moments; rate = o.rate; listen = o.listen }
+
+-- the opening of a program that never started
+abbrev pub unborn : starts.Opening
+unborn = record { constants = record { c1 = 2; c2 = 2; d1 = 1; d2 = 1 }; cells = 0; seed = 0; moments = []; rate = 1; listen = 0 }
+
+abbrev pub opening_by : Call → starts.Opening → starts.Opening
+opening_by (Begins o given) before = o
+opening_by (Handed line) before = before
+
+abbrev pub opening_at : List CallAt → ℕ → starts.Opening
+opening_at [] i = unborn
+opening_at (e ∷ older) i = if nat_eq e.place i then opening_by e.call (opening_at older i) else opening_at older i
+
+abbrev pub hosts_of : (ℕ → ℕ) → List CallAt → ℕ → Opening
+hosts_of numbers calls i = with_number (numbers i) (opening_at calls i)
+
+-- lines at other places
+abbrev pub elsewhere : ℕ → List TimedLine → List TimedLine
+elsewhere p [] = []
+elsewhere p (e ∷ lines) = if nat_eq e.at.place p then elsewhere p lines else e ∷ elsewhere p lines
+
+-- more lines that are handed in at a time, one after the other
+abbrev pub handed_at : ℕ → ℕ → List KeptLine → List TimedLine → List TimedLine
+handed_at time p [] lines = lines
+handed_at time p (line ∷ more) lines = handed_at time p more (record { time = time; at = at p line } ∷ lines)
+
+-- A start ends what came before at its place, and hands in what the record has.
+abbrev pub since_by : ℕ → ℕ → ℕ → Call → List TimedLine → List TimedLine
+since_by number time p (Begins o given) lines = handed_at time p (given_lines (opened number o) given) (elsewhere p lines)
+since_by number time p (Handed line) lines = record { time = time; at = at p line } ∷ lines
+
+abbrev pub since : (ℕ → ℕ) → List CallAt → List TimedLine
+since numbers [] = []
+since numbers (e ∷ older) = since_by (numbers e.place) e.time e.place e.call (since numbers older)
+
+-- ---- what they keep to
+
+-- the time of the newest call, at first 0; times do not go back
+abbrev pub called_at : List CallAt → ℕ
+called_at [] = 0
+called_at (e ∷ older) = e.time
+
+abbrev pub AreInOrder : List CallAt → Type 0
+AreInOrder [] = Unit {0}
+AreInOrder (e ∷ older) = (called_at older ≤ e.time) × AreInOrder older
+
+-- if it says a moment, the clock of its place may tell it at the time, and constants that it sets have no longer waits than the terms say
+pub record IsFitting (terms : Terms) (time place : ℕ) (line : KeptLine) : Type 0 where
+  pub says : SaysNow terms time place line
+  pub tuned : (constants : Tuning) → line ≡ Tuned constants → IsUnder (longest terms) constants
+
+-- The last start was at `quiet` or before, at a moment that the clock may tell then, with such constants. Each line since then is fitting.
+abbrev pub IsFittingSince : Terms → ℕ → ℕ → Bool → ℕ → Call → Type 0 → Type 0
+IsFittingSince terms number place false time call before = before
+IsFittingSince terms number place true time (Begins o given) before = (time ≤ terms.quiet) × IsNowAt terms time place (present (opened_host number o)) × IsUnder (longest terms) o.constants
+IsFittingSince terms number place true time (Handed line) before = IsFitting terms time place line × before
+
+abbrev pub AreFittingSince : Terms → ℕ → ℕ → List CallAt → Type 0
+AreFittingSince terms number place [] = ⊥
+AreFittingSince terms number place (e ∷ older) = IsFittingSince terms number place (nat_eq e.place place) e.time e.call (AreFittingSince terms number place older)
+
+-- one of the newer calls hands a datagram in, at a place and by a time
+pub record IsHandedIn (newer : List CallAt) (j by : ℕ) (v : Datagram) : Type 0 where
+  pub later : List CallAt
+  pub call : CallAt
+  pub between : List CallAt
+  pub split : newer ≡ later ++ call ∷ between
+  pub place : call.place ≡ j
+  pub soon : call.time ≤ by
+  pub now : ℕ
+  pub is : call.call ≡ Handed (Came now v)
+
+-- one of these lines sent a datagram, so shortly before a time
+pub record WasSentBy (numbers : ℕ → ℕ) (older : List CallAt) (time within : ℕ) (v : Datagram) : Type 0 where
+  pub newer : List CallAt
+  pub e : CallAt
+  pub before : List CallAt
+  pub split : older ≡ newer ++ e ∷ before
+  pub soon : time ≤ e.time + within
+  pub line : KeptLine
+  pub call : e.call ≡ Handed line
+  pub sent : Contains (sent_by_doing (doing_of line) (kept_at numbers before e.place)) v
+
+-- The premises of `IsTimelySession`. Before `quiet` programs start and end as they like; nothing is asked of what came before the last start.
+pub record IsTimelyWithStarts (numbers : ℕ → ℕ) (terms : Terms) (calls : List CallAt) : Type 0 where
+  pub apart : AreApart numbers
+  pub taken : AreTaken numbers calls
+  pub order : AreInOrder calls
+  pub reported : 1 ≤ terms.reporting
+  pub covered : terms.drift ≤ terms.late
+  pub far : greatest_distance ≤ terms.far
+  pub fitting : (i : ℕ) → Contains terms.live i → AreFittingSince terms (numbers i) i calls
+  -- from `quiet` on
+  pub alone : (newer older : List CallAt) (e : CallAt) → calls ≡ newer ++ e ∷ older → terms.quiet < e.time → Contains terms.live e.place × ((line : KeptLine) × (e.call ≡ Handed line))
+  pub drawn : (newer older : List CallAt) (e : CallAt) (now : ℕ) (page : PageId) (time : ℕ) (op : Op) → calls ≡ newer ++ e ∷ older → terms.quiet < e.time → e.call ≢ Handed (Added now page time op)
+  pub soon : (newer older : List CallAt) (e : CallAt) (i : ℕ) → calls ≡ newer ++ e ∷ older → Contains terms.live i → terms.quiet < e.time → e.time ≤ due (kept_at numbers older i) + (terms.lag i + terms.late)
+  pub room : (newer older : List CallAt) (i : ℕ) → calls ≡ newer ++ older → Contains terms.live i → terms.quiet < called_at older → is_full (kept_at numbers older i).host ≡ false
+  pub delivered : (newer older : List CallAt) (e : CallAt) (line : KeptLine) (j : ℕ) (v : Datagram) → calls ≡ newer ++ e ∷ older → e.call ≡ Handed line → Contains terms.live j → e.place ≢ j → terms.quiet < e.time
+      → Contains (sent_by_doing (doing_of line) (kept_at numbers older e.place)) v → e.time + terms.delivery < called_at calls → IsHandedIn newer j (e.time + terms.delivery) v
+  pub fresh : (newer older : List CallAt) (e : CallAt) (now : ℕ) (v : Datagram) → calls ≡ newer ++ e ∷ older → settled_by terms < e.time → e.call ≡ Handed (Came now v) → WasSentBy numbers older e.time terms.delivery v
+
+-- ---- laws
+
+-- The hosts since the last starts are the members.
+abbrev pub SinceIsSame : Type 0
+SinceIsSame = (numbers : ℕ → ℕ) (calls : List CallAt) (i : ℕ) → there (hosts_of numbers calls) (since numbers calls) i ≡ kept_at numbers calls i
+
+-- So with such starts before `quiet` a session keeps to times.
+abbrev pub SinceIsTimely : Type 0
+SinceIsTimely = (numbers : ℕ → ℕ) (terms : Terms) (calls : List CallAt) → IsTimelyWithStarts numbers terms calls → IsTimelySession (hosts_of numbers calls) terms (since numbers calls)
+
+-- It becomes whole, whoever started anew before.
+abbrev pub RestartedBecomeWhole : Type 0
+RestartedBecomeWhole = (numbers : ℕ → ℕ) (terms : Terms) (calls newer later : List CallAt) (sizes : Sizes) (wait most i : ℕ) (n : NameValue) → IsTimelyWithStarts numbers terms calls
+    → let hosts = hosts_of numbers calls in
+    let trace = since numbers calls in
+    AreWithin hosts terms trace sizes → WaitAtMost hosts terms trace wait → LackAtMost hosts terms trace most → request_span terms + terms.drift ≤ 60000000 → IsHeldBySome hosts terms trace n
+    → calls ≡ newer ++ later → whole_by terms sizes wait most < called_at later → Contains terms.live i → holds (kept_at numbers later i).host n ≡ true
