@@ -77,7 +77,7 @@ bare.renew();
 judge('it begins anew', [bare.due(), bare.ask('pages').fault], [null, 'no board']);
 bare.memory.grow(1);
 judge('the memory may grow meanwhile', bare.ask('board 2 3 1 42').fault, null);
-new Uint8Array(bare.memory.buffer).fill(255);
+new DataView(bare.memory.buffer).setUint32(Number(bare.place), 0x7fff0000, true); // beyond the end of the memory
 judge('one that broke off says so, and so it does from then on', [await raised(() => bare.tick(1)), await raised(() => bare.ask('pages'))], [HostEnded.name, HostEnded.name]);
 
 // three members over UDP that lose a third

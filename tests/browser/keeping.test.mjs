@@ -13,6 +13,7 @@ import { drawopOf } from '../../web/member/views.js';
 import { judge } from '../judge.mjs';
 
 const file = process.env.WB_MODULE, PAGE = '1/1', SECOND = 1_000_000;
+const BEYOND = 0x7fff0000; // a place beyond the end of the memory, where a call traps
 const START = { cells: 100, rate: 4_000, many: '2,8,1,6', mayHaveDrawn: false };
 
 // every kind of line that a record of an earlier page had, with a mark of our own number, and two drawings of ours
@@ -104,7 +105,7 @@ async function testNoRoom(program) {
 async function testEnds(program) {
   const record = new Record(null, 'here', 1), { board } = await boardOf(program, record);
   await board.draw(PAGE, 1, 50, 'line 0 0 4 0 +');
-  new Uint8Array(board.host.memory.buffer).fill(255);
+  new DataView(board.host.memory.buffer).setUint32(Number(board.host.place), BEYOND, true);
   const fault = await board.nextNumber(PAGE).catch((it) => it);
   judge('a host that broke off is told', [fault instanceof HostEnded, board.ends.length, (await record.lines()).at(-1).startsWith('# the host broke off')], [true, 1, true]);
   judge('another goes on from the record', [(await board.nextNumber(PAGE)).seq, (await board.view(PAGE)).length], [2, 1]);

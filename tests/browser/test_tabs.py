@@ -22,8 +22,8 @@ ROUNDS, MOST_LATENCY = 15 if IS_MEASURED else 3, 50.0
 # drawings of each window while a third is lost
 DRAWINGS = 12
 
-# what becomes of the memory of a program that broke
-SPOIL = "new Uint8Array(member.board.host.memory.buffer).fill(255), 0"
+# a host whose room is beyond the end of the memory, so that the next call of it traps
+SPOIL = "new DataView(member.board.host.memory.buffer).setUint32(Number(member.board.host.place), 0x7fff0000, true), 0"
 
 
 # a record of an earlier build of the page, and one of a later build, by their numbers; how they come into a browser's database, and what it has

@@ -54,6 +54,12 @@ def test_types_of_python() -> None:
     must_pass(find("mypy", "mypy"), *TYPED)
 
 
+@pytest.mark.parametrize("script", ["tools/static", "web/build"])
+def test_types_of_scripts(script: str) -> None:
+    """Each is a program of its own, and both stand on web/building."""
+    must_pass(find("mypy", "mypy"), script)
+
+
 def test_shell_scripts() -> None:
     """But for names that one script has from another (SC2154)."""
     must_pass(find("shellcheck", "shellcheck"), "--shell=bash", "--severity=warning", "--exclude=SC2154", "-x", *scripts("sh"))

@@ -1,4 +1,4 @@
-"""How `rattle build` is called for the library of a host: what the toolchain's command rt says to it, but for the toolchain's folder."""
+"""How `rattle build` is called for the program and for the library: what the toolchain's command rt says to it, but for its folder."""
 from __future__ import annotations
 
 from pathlib import Path
@@ -6,7 +6,10 @@ from pathlib import Path
 from .needs import Missing
 
 TOP = Path(__file__).resolve().parent.parent.parent
-CRATE = "wb_c"
+PROGRAM, LIBRARY = "wb", "wb_c"
+
+# what tells the two apart: the words for a program, and for a library that C can link
+ROOTS = {PROGRAM: ["src/main.rt"], LIBRARY: ["--crate-type", "staticlib", "src/lib.rt"]}
 
 
 def below() -> dict[str, list[str]]:
@@ -28,17 +31,17 @@ def libraries(crates: dict[str, list[str]], crate: str) -> list[str]:
     return found
 
 
-def build_words(kit: Path) -> list[str]:
-    """The words of `rattle build` for the library, to be called in its folder. Missing where a crate below it is not built."""
-    crates, words = below(), ["--crate-name", CRATE, "--crate-type", "staticlib", "src/lib.rt"]
-    for name in dict.fromkeys(["std", *(name for name in crates[CRATE] if name not in crates)]):
+def build_words(kit: Path, crate: str) -> list[str]:
+    """The words of `rattle build` for one of the two, to be called in its folder. Missing where a crate below it is not built."""
+    crates, words = below(), ["--crate-name", crate, *ROOTS[crate]]
+    for name in dict.fromkeys(["std", *(name for name in crates[crate] if name not in crates)]):
         words += ["--extern", "%s=%s/rlibs/%s.rlib" % (name, kit, name)]
     words += ["-L", "dependency=%s/rlibs" % kit]
-    for name in libraries(crates, CRATE):
+    for name in libraries(crates, crate):
         rlib = folder_of(name) / "out" / "rlib" / (name + ".rlib")
         if not rlib.exists():
             raise Missing("the crate %s has no %s" % (name, rlib.relative_to(TOP)))
-        words += ["--extern", "%s=%s" % (name, rlib)] if name in crates[CRATE] else []
+        words += ["--extern", "%s=%s" % (name, rlib)] if name in crates[crate] else []
         words += ["-L", "dependency=%s" % rlib.parent]
     return [*words, "--antt-project", "%s/rattle/logic/antt-project.json" % kit, "--logic-built", "%s/logic_built" % kit, "--jobs", "2",
-            "--links", CRATE + "=", "--backend", "llvm", "--incremental", "out/incremental"]
+            "--links", crate + "=", "--backend", "llvm", "--incremental", "out/incremental"]

@@ -1,0 +1,12 @@
+pub mod Kept
+pub mod Placed
+pub mod Fixed
+pub mod Numbers
+pub mod Handed
+pub mod Performed
+pub mod Taken
+pub mod Drawn
+pub mod AsKept
+pub mod Heard
+pub mod Followed
+pub mod Recorded

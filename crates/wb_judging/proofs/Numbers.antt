@@ -1,0 +1,94 @@
+-- A judged member keeps its number, and its judge has the number of its board.
+use Rattle.std.proofs.Common.{◌≡◌, ◌∙◌, ℕ, Bool, true, false, cond, List, [], ◌∷◌, Option, Some, refl, sym}
+use Rattle.wb_codec.specs.declared.datagram.Datagram.{Datagram}
+use Rattle.wb_codec.specs.declared.datagram.Datagram.TheVariants.{AskPages, Draw, PageState, Request, Session}
+use Rattle.wb_judge.specs.Judge.{Judge}
+use Rattle.wb_judge.specs.declared.origin.Origin.{Origin}
+use Rattle.wb_member.specs.Lines.{Arrives, Asks, Hears, Line, Says, SetsDistance, Stops, Ticks, Tunes, after_line, after_lines, after_saying}
+use Rattle.wb_member.specs.Members.{Misses}
+use Rattle.wb_member.specs.Opened.{Opened, doing, has_room_for, heard, may_ask, present}
+use Rattle.wb_member.specs.Random.{word_of}
+use Rattle.wb_keeping.specs.Laws.{KeptLine, doing_of}
+use Rattle.wb_keeping.specs.Performing.{Keeping, sees}
+use Rattle.wb_judging.specs.Events.{is_new}
+use Rattle.wb_judging.specs.Handing.{facts_of, handed, judge_after}
+use Rattle.wb_judging.specs.Judged.{CameFrom, DayTold, Garbled, GoneFrom, Judged, JudgedLine, Passed, UserDrew}
+use Rattle.wb_judging.specs.Hearing.{after_fate, after_sending, after_sends}
+use Rattle.wb_judging.specs.Performing.{after_judged, after_kept_line, fate_by, judging, sent_by_kept_line}
+use Rattle.wb_judging.specs.declared.event.Fate.{Fate}
+use Rattle.wb_judging.proofs.Fixed.{Fixed, itself, judged, taken, then}
+
+-- ---- the board
+
+number_if : (b : Bool) (one other : Opened) → one.is.number ≡ other.is.number → (cond b one other).is.number ≡ other.is.number
+number_if true one other e = e
+number_if false one other e = refl
+
+number_said : (v : Datagram) (host : Opened) → (after_saying v host).is.number ≡ host.is.number
+number_said (Draw d) host = refl
+number_said (Session sender sent page marks echoes) host = refl
+number_said (Request asker name) host = refl
+number_said (AskPages asker) host = refl
+number_said (PageState sender page marks) host = refl
+
+number_stays : (line : Line) (host : Opened) → (after_line line host).is.number ≡ host.is.number
+number_stays (Ticks now) host = refl
+number_stays (Arrives d) host = refl
+number_stays (Hears v) host = number_if (has_room_for v host) (heard v host) host refl
+number_stays (Asks name) host = number_if (may_ask name host) (doing (Misses (present host) (name ∷ []) (word_of host.random ∷ [])) 1 host) host refl
+number_stays (Stops name) host = refl
+number_stays (SetsDistance source micros) host = refl
+number_stays (Tunes constants) host = refl
+number_stays (Says v) host = number_said v host
+
+number_through : (lines : List Line) (host : Opened) → (after_lines lines host).is.number ≡ host.is.number
+number_through [] host = refl
+number_through (line ∷ lines) host = number_through lines (after_line line host) ∙ number_stays line host
+
+number_kept : (line : KeptLine) (k : Keeping) → (after_kept_line line k).host.is.number ≡ k.host.is.number
+unfolding after_kept_line
+number_kept line k = number_through (doing_of line (sees k.host) k.policy).lines k.host
+
+-- ---- its judge
+
+pub sending : (v : Datagram) (j : Judge) → Fixed j (after_sending v j)
+sending (Draw d) j = itself j
+sending (Session sender sent page marks echoes) j = record { me = refl; cells = refl; clock = refl }
+sending (Request asker name) j = itself j
+sending (AskPages asker) j = itself j
+sending (PageState sender page marks) j = itself j
+
+pub sends : (sent : List Datagram) (j : Judge) → Fixed j (after_sends sent j)
+sends [] j = itself j
+sends (v ∷ sent) j = then (sending v j) (sends sent (after_sending v j))
+
+either : (b : Bool) (j k : Judge) → Fixed j k → Fixed j (cond b k j)
+either true j k e = e
+either false j k e = itself j
+
+fated : (now : ℕ) (o : Origin) (v : Datagram) (fate : Option Fate) (j : Judge) → Fixed j (after_fate now o v fate j)
+fated now o (Draw d) fate j = either (is_new fate) j _ (taken (record { name = d.name; origin = Some o }) o now j)
+fated now o (Session sender sent page marks echoes) fate j = itself j
+fated now o (Request asker name) fate j = itself j
+fated now o (AskPages asker) fate j = itself j
+fated now o (PageState sender page marks) fate j = itself j
+
+judged_after : (now : ℕ) (o : Origin) (v : Datagram) (h : Judged) → Fixed h.judge (judge_after now o v h)
+unfolding judge_after
+judged_after now o v h = judged o v (facts_of now v h.kept) h.judge
+
+-- a datagram that comes changes neither
+pub came_fixed : (now : ℕ) (o : Origin) (v : Datagram) (h : Judged) → Fixed h.judge (judging (CameFrom now o v) h)
+came_fixed now o v h = then (judged_after now o v h) (fated now o v (fate_by (handed (CameFrom now o v) h) h.kept) (judge_after now o v h))
+
+me_judging : (line : JudgedLine) (h : Judged) → (judging line h).me ≡ h.judge.me
+me_judging (CameFrom now o v) h = (came_fixed now o v h).me
+me_judging (Garbled now) h = refl
+me_judging (Passed now) h = refl
+me_judging (UserDrew now page op) h = refl
+me_judging (DayTold now wall) h = refl
+me_judging (GoneFrom now o) h = refl
+
+pub own_stays : (line : JudgedLine) (h : Judged) → h.judge.me ≡ h.kept.host.is.number → (after_judged line h).judge.me ≡ (after_judged line h).kept.host.is.number
+own_stays line h own =
+    (sends (sent_by_kept_line (handed line h) h.kept) (judging line h)).me ∙ me_judging line h ∙ own ∙ sym (number_kept (handed line h) h.kept)

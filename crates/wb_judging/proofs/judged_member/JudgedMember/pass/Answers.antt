@@ -1,0 +1,19 @@
+use Rattle.std.proofs.Common.{◌∙◌, ap, false, length, refl, subst}
+use Rattle.wb_member.specs.Holding.{MemberValue}
+use Rattle.wb_keeping.specs.Laws.{Ticked}
+use Rattle.wb_judging.specs.Performing.{Goes, JudgedValue}
+use Rattle.wb_judging.proofs.Performed.{went}
+use Rattle.wb_judging.proofs.judged_member.JudgedMember.pass.Goals as goal
+
+pub returns-clause-does : goal.returns-clause-does
+returns-clause-does c =
+    let now = c.args.now in
+    let first = c.args.first.items in
+    let events = c.tell.new.events.items in
+    let old : JudgedValue = record { kept = c.self.inside.kept; judge = c.self.inside.judge } in
+    let mid : JudgedValue = record { kept = c.tick.new.kept; judge = c.self.inside.judge } in
+    subst (λ (v : JudgedValue). Goes now false (Ticked now) first v events c.tell.new.self) c.self.view_is
+    (went now false (Ticked now) old mid c.tell.new.self c.held-held.result c.in_ok-did.did.sent.items c.in_ok-did.did.fate first events
+    c.in_ok-did.ensures.does
+    (c.held-held.ensures ∙ ap (λ (m : MemberValue). length m.board.drawops) c.member.ensures)
+    refl c.in_ok-tell.ensures.kept c.in_ok-tell.ensures.judge c.in_ok-tell.ensures.events)

@@ -1,0 +1,157 @@
+-- What follows for a judged member, whatever comes in.
+use Rattle.std.specs.Prelude.{◌≡◌, ◌⊎◌, ℕ, ◌+◌, ◌≤◌, Bool, true, false, ◌&&◌, List, [], ◌∷◌, ◌++◌, None, Some, AllPairs, length, map}
+use Rattle.wb_names.specs.Values.{DrawopValue}
+use Rattle.wb_names.specs.declared.echo.Echo.{Echo}
+use Rattle.wb_codec.specs.declared.datagram.Datagram.{Datagram}
+use Rattle.wb_codec.specs.declared.datagram.Datagram.TheVariants.{Draw}
+use Rattle.wb_judge.specs.Adding.{own_echo}
+use Rattle.wb_judge.specs.Days.{time_of_day}
+use Rattle.wb_judge.specs.Judge.{is_full, knows}
+use Rattle.wb_judge.specs.Judging.{draws}
+use Rattle.wb_judge.specs.Laws.{is_answer}
+use Rattle.wb_judge.specs.declared.limits.TheConstants.{AHEAD_KNOWN}
+use Rattle.wb_judge.specs.declared.origin.Origin.{Origin}
+use Rattle.wb_member.specs.Judged.{holds}
+use Rattle.wb_member.specs.Opened.{present}
+use Rattle.wb_policy.specs.Choices.{own_echo as echo_of}
+use Rattle.wb_keeping.specs.Laws.{KeptLine, Came, Ticked, after_kept, fault_of}
+use Rattle.wb_judging.specs.Echoing.{echoing, with_echo}
+use Rattle.wb_judging.specs.Handing.{handed}
+use Rattle.wb_judging.specs.Judged.{CameFrom, DayTold, Garbled, GoneFrom, Judged, JudgedLine, Passed, UserDrew, is_ours, moment_of}
+use Rattle.wb_judging.specs.Performing.{after_judged, events_of, judging, sent_by_kept_line}
+use Rattle.wb_judging.specs.declared.event.Event.{Event}
+use Rattle.wb_judging.specs.declared.record.RecordLine.{RecordLine}
+use Rattle.wb_judging.specs.declared.record.RecordLine.TheVariants.{Known, Said, Strange, Tick}
+use Rattle.wb_judging.specs.declared.event.Event.TheVariants.{Became, Dropped, Drew, Fetch, NoDatagram, Record, Send, Warn}
+
+-- ---- a judged member is a kept member
+
+abbrev pub after_all : List JudgedLine → Judged → Judged
+after_all [] h = h
+after_all (line ∷ lines) h = after_all lines (after_judged line h)
+
+-- what its kept member is handed
+abbrev pub expanded : List JudgedLine → Judged → List KeptLine
+expanded [] h = []
+expanded (line ∷ lines) h = handed line h ∷ expanded lines (after_judged line h)
+
+-- It is the kept member that was handed these lines, one in the place of each.
+abbrev pub JudgedMembersAreKept : Type 0
+JudgedMembersAreKept = (lines : List JudgedLine) (h : Judged) → ((after_all lines h).kept ≡ after_kept (expanded lines h) h.kept) × (length (expanded lines h) ≡ length lines)
+
+-- In the place of a datagram that came it is handed that datagram or a tick, so nothing comes in that did not come, nor twice, nor later.
+abbrev pub TheSameOrATick : Type 0
+TheSameOrATick = (now : ℕ) (o : Origin) (v : Datagram) (h : Judged) → (handed (CameFrom now o v) h ≡ Came now v) ⊎ (handed (CameFrom now o v) h ≡ Ticked now)
+
+-- the datagrams among some events
+abbrev pub sends_in : List Event → List Datagram
+sends_in [] = []
+sends_in (Send v ∷ events) = v ∷ sends_in events
+sends_in (NoDatagram ∷ events) = sends_in events
+sends_in (Dropped why ∷ events) = sends_in events
+sends_in (Record line ∷ events) = sends_in events
+sends_in (Drew name ∷ events) = sends_in events
+sends_in (Became fate ∷ events) = sends_in events
+sends_in (Fetch o lacking ∷ events) = sends_in events
+sends_in (Warn warning ∷ events) = sends_in events
+
+-- It sends what its kept member sends, in that order, where a report has one echo besides.
+abbrev pub SendsAsKept : Type 0
+SendsAsKept = (line : JudgedLine) (h : Judged) → sends_in (events_of line h) ≡ map (echoing (own_echo (moment_of line) (judging line h))) (sent_by_kept_line (handed line h) h.kept)
+
+-- To all members of other numbers a report with that echo says the same as without it.
+abbrev pub OthersHearTheSame : Type 0
+OthersHearTheSame = (e : Echo) (echoes : List Echo) (number : ℕ) → ¬ (e.source ≡ number) → echo_of number (with_echo (Some e) echoes) ≡ echo_of number echoes
+
+-- ---- the network refuses nothing
+
+-- Nothing that comes is refused, unless its moment is before the present one.
+abbrev pub TheNetworkRefusesNothing : Type 0
+TheNetworkRefusesNothing = (line : JudgedLine) (h : Judged) → h.judge.me ≡ h.kept.host.is.number → is_ours line ≡ false → present h.kept.host ≤ moment_of line
+    → fault_of (handed line h) h.kept ≡ None
+
+-- ---- members and strangers
+
+-- A member's drawop is handed in if it is not ours, is no more than a day ahead, and has a cell.
+abbrev pub MembersAreHandedIn : Type 0
+MembersAreHandedIn = (now : ℕ) (o : Origin) (d : DrawopValue) (h : Judged) → knows o now h.judge ≡ true → ¬ (d.name.source ≡ h.judge.me)
+    → d.time ≤ time_of_day h.judge.clock now + AHEAD_KNOWN → (draws d.op && is_full (length h.kept.host.is.held) h.judge) ≡ false
+    → handed (CameFrom now o (Draw d)) h ≡ Came now (Draw d)
+
+-- What a stranger gives of what is held is as if it had not come: it puts off no repair.
+abbrev pub StrangersHushNobody : Type 0
+StrangersHushNobody = (now : ℕ) (o : Origin) (d : DrawopValue) (h : Judged) → knows o now h.judge ≡ false → holds h.kept.host d.name ≡ true
+    → handed (CameFrom now o (Draw d)) h ≡ Ticked now
+
+-- An origin becomes known by an answer that came from there, and by nothing else.
+abbrev pub OnlyAnswersMakeKnown : Type 0
+OnlyAnswersMakeKnown = (now : ℕ) (o p : Origin) (v : Datagram) (h : Judged) (later : ℕ) → knows p later (after_judged (CameFrom now o v) h).judge ≡ true
+    → (knows p later h.judge ≡ true) ⊎ (knows p now h.judge ≡ true) ⊎ ((o ≡ p) × (is_answer v now h.judge ≡ true))
+
+-- ---- the time of day
+
+abbrev pub is_told : JudgedLine → Bool
+is_told (DayTold now wall) = true
+is_told (CameFrom now o v) = false
+is_told (Garbled now) = false
+is_told (Passed now) = false
+is_told (UserDrew now page op) = false
+is_told (GoneFrom now o) = false
+
+-- The driver alone tells the time of day, from which our drawings get their times.
+abbrev pub NobodyMovesOurTime : Type 0
+NobodyMovesOurTime = (line : JudgedLine) (h : Judged) (later : ℕ) → is_told line ≡ false → time_of_day (after_judged line h).judge.clock later ≡ time_of_day h.judge.clock later
+
+-- ---- the record
+
+-- the drawop of a line of the record, if it has one
+abbrev pub drawops_in : RecordLine → List DrawopValue
+drawops_in (Tick now) = []
+drawops_in (Said d) = d ∷ []
+drawops_in (Known d) = d ∷ []
+drawops_in (Strange d) = d ∷ []
+
+-- the drawops that some events record
+abbrev pub recorded_in : List Event → List DrawopValue
+recorded_in [] = []
+recorded_in (Record line ∷ events) = drawops_in line ++ recorded_in events
+recorded_in (NoDatagram ∷ events) = recorded_in events
+recorded_in (Dropped why ∷ events) = recorded_in events
+recorded_in (Drew name ∷ events) = recorded_in events
+recorded_in (Send v ∷ events) = recorded_in events
+recorded_in (Became fate ∷ events) = recorded_in events
+recorded_in (Fetch o lacking ∷ events) = recorded_in events
+recorded_in (Warn warning ∷ events) = recorded_in events
+
+abbrev pub recorded_by : List JudgedLine → Judged → List DrawopValue
+recorded_by [] h = []
+recorded_by (line ∷ lines) h = recorded_in (events_of line h) ++ recorded_by lines (after_judged line h)
+
+-- What its board holds is what it held and what was recorded since, in order.
+abbrev pub TheRecordIsTheBoard : Type 0
+TheRecordIsTheBoard = (lines : List JudgedLine) (h : Judged) → (after_all lines h).kept.host.is.held ≡ h.kept.host.is.held ++ recorded_by lines h
+
+-- no line of the record stands after a datagram that is sent
+abbrev pub is_record : Event → Bool
+is_record (Record line) = true
+is_record NoDatagram = false
+is_record (Dropped why) = false
+is_record (Drew name) = false
+is_record (Send v) = false
+is_record (Became fate) = false
+is_record (Fetch o lacking) = false
+is_record (Warn warning) = false
+
+abbrev pub is_send : Event → Bool
+is_send (Send v) = true
+is_send NoDatagram = false
+is_send (Dropped why) = false
+is_send (Record line) = false
+is_send (Drew name) = false
+is_send (Became fate) = false
+is_send (Fetch o lacking) = false
+is_send (Warn warning) = false
+
+-- All that is to be recorded comes before all that is to be sent.
+abbrev pub RecordsComeFirst : Type 0
+RecordsComeFirst = (line : JudgedLine) (h : Judged) → AllPairs (λ one other. is_send one ≡ true → is_record other ≡ false) (events_of line h)

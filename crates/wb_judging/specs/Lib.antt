@@ -1,0 +1,10 @@
+pub mod Judged
+pub mod Echoing
+pub mod Handing
+pub mod Recording
+pub mod Events
+pub mod Hearing
+pub mod Performing
+pub mod Opening
+pub mod Refusing
+pub mod Laws

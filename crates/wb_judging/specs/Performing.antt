@@ -1,0 +1,111 @@
+-- What a judged member does for a line, and which events it gives.
+use Rattle.std.specs.Prelude.{◌≡◌, ℕ, Bool, List, [], ◌∷◌, ◌++◌, Option, Some, None, drop, length}
+use Rattle.wb_names.specs.Values.{DrawopValue}
+use Rattle.wb_codec.specs.declared.datagram.Datagram.{Datagram}
+use Rattle.wb_codec.specs.declared.datagram.Datagram.TheVariants.{AskPages, Draw, PageState, Request, Session}
+use Rattle.wb_judge.specs.Adding.{own_echo}
+use Rattle.wb_judge.specs.Judge.{Judge, after_leaving}
+use Rattle.wb_member.specs.Opened.{Opened, becomes}
+use Rattle.wb_keeping.specs.Laws.{KeptLine, Added, Came, Ticked, Tuned, doing_of}
+use Rattle.wb_keeping.specs.Performing.{IsKeptAt, Keeping, KeptValue, after_doing, sent_by_doing}
+use Rattle.wb_keeping.specs.Refusing.{drawn_as}
+use Rattle.wb_judging.specs.Events.{advice, dropped_events, fate_of, gain_events, told}
+use Rattle.wb_judging.specs.Handing.{facts_of, handed, judge_after, verdict_on}
+use Rattle.wb_judging.specs.Hearing.{after_fate, after_sends}
+use Rattle.wb_judging.specs.Judged.{CameFrom, DayTold, Garbled, GoneFrom, Judged, JudgedLine, Passed, UserDrew, is_ours, moment_of}
+use Rattle.wb_judging.specs.declared.event.Event.{Event}
+use Rattle.wb_judging.specs.declared.event.Event.TheVariants.{NoDatagram}
+use Rattle.wb_judging.specs.declared.event.Fate.{Fate}
+
+-- ---- what a kept member does for a line
+
+unfoldable pub after_kept_line : KeptLine → Keeping → Keeping
+after_kept_line line k = after_doing (doing_of line) k
+
+unfoldable pub sent_by_kept_line : KeptLine → Keeping → List Datagram
+sent_by_kept_line line k = sent_by_doing (doing_of line) k
+
+abbrev pub came_fate : Datagram → Opened → Option Fate
+came_fate (Draw d) host = Some (fate_of (becomes d host))
+came_fate (Session sender sent page marks echoes) host = None
+came_fate (Request asker name) host = None
+came_fate (AskPages asker) host = None
+came_fate (PageState sender page marks) host = None
+
+-- what became of the drawop that was handed in or drawn
+abbrev pub fate_by : KeptLine → Keeping → Option Fate
+fate_by (Came now v) k = came_fate v k.host
+fate_by (Ticked now) k = None
+fate_by (Added now page time op) k = Some (fate_of (drawn_as page time op k.host))
+fate_by (Tuned constants) k = None
+
+-- what the board holds more than before
+abbrev pub gained : KeptLine → Keeping → List DrawopValue
+gained line k = drop (length k.host.is.held) (after_kept_line line k).host.is.held
+
+-- ---- what becomes of the judge
+
+-- the judge, before it hears what is sent
+abbrev pub judging : JudgedLine → Judged → Judge
+judging (CameFrom now o v) h = after_fate now o v (fate_by (handed (CameFrom now o v) h) h.kept) (judge_after now o v h)
+judging (Garbled now) h = h.judge
+judging (Passed now) h = h.judge
+judging (UserDrew now page op) h = h.judge
+judging (DayTold now wall) h = record h.judge { clock = record { wall = wall; at = now } }
+judging (GoneFrom now o) h = after_leaving o h.judge
+
+-- ---- a line
+
+abbrev pub first_events : JudgedLine → Judged → List Event
+first_events (CameFrom now o v) h = dropped_events (verdict_on now o v h).why
+first_events (Garbled now) h = NoDatagram ∷ []
+first_events (Passed now) h = []
+first_events (UserDrew now page op) h = []
+first_events (DayTold now wall) h = []
+first_events (GoneFrom now o) h = []
+
+abbrev pub last_events : JudgedLine → Judged → List Event
+last_events (CameFrom now o v) h = advice (verdict_on now o v h) (facts_of now v h.kept).lacking
+last_events (Garbled now) h = []
+last_events (Passed now) h = []
+last_events (UserDrew now page op) h = []
+last_events (DayTold now wall) h = []
+last_events (GoneFrom now o) h = []
+
+-- the events that a kept member's line gives at a judge
+abbrev pub told_by : ℕ → Bool → KeptLine → Keeping → Judge → List Event
+told_by now ours line k j = told (gain_events now ours j.strange.given (gained line k)) (own_echo now j) (sent_by_kept_line line k) (fate_by line k)
+
+abbrev pub events_of : JudgedLine → Judged → List Event
+events_of line h = first_events line h ++ (told_by (moment_of line) (is_ours line) (handed line h) h.kept (judging line h) ++ last_events line h)
+
+abbrev pub after_judged : JudgedLine → Judged → Judged
+after_judged line h = record {
+  kept = after_kept_line (handed line h) h.kept;
+  judge = after_sends (sent_by_kept_line (handed line h) h.kept) (judging line h);
+}
+
+-- ---- what code holds
+
+pub record JudgedValue : Type 0 where
+  pub kept : KeptValue
+  pub judge : Judge
+
+-- Which judged member that is: its judge has the number of its board.
+pub record IsJudgedAt (v : JudgedValue) (h : Judged) : Type 0 where
+  pub kept : IsKeptAt v.kept h.kept
+  pub judge : v.judge ≡ h.judge
+  pub own : h.judge.me ≡ h.kept.host.is.number
+
+-- A line was performed: whichever judged member the code was at, these are its events, and it is where the line leads.
+abbrev pub Performs : JudgedLine → JudgedValue → List Event → JudgedValue → Type 0
+Performs line old events new = (h : Judged) → IsJudgedAt old h → (events ≡ events_of line h) × IsJudgedAt new (after_judged line h)
+
+-- A kept member performed a line: whichever it was, this was sent, and this became of a drawop.
+abbrev pub KeptDoes : KeptLine → KeptValue → KeptValue → List Datagram → Option Fate → Type 0
+KeptDoes line old new sent fate = (k : Keeping) → IsKeptAt old k → (sent ≡ sent_by_kept_line line k) × (fate ≡ fate_by line k) × IsKeptAt new (after_kept_line line k)
+
+-- A kept member performed a line after these events, and its judge heard what it sent.
+abbrev pub Goes : ℕ → Bool → KeptLine → List Event → JudgedValue → List Event → JudgedValue → Type 0
+Goes now ours line first old events new = (k : Keeping) → IsKeptAt old.kept k
+    → (events ≡ first ++ told_by now ours line k old.judge) × IsKeptAt new.kept (after_kept_line line k) × (new.judge ≡ after_sends (sent_by_kept_line line k) old.judge)

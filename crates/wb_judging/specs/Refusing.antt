@@ -1,0 +1,28 @@
+-- Why a judged member refuses a call.
+use Rattle.std.specs.Prelude.{◌≡◌, ℕ, [], ◌∷◌, Option, Some, None, Result, Ok, Err, length}
+use Rattle.std.specs.Option.{option_map}
+use Rattle.wb_names.specs.Faults.{first_of}
+use Rattle.wb_names.specs.declared.name.PageId.{PageId}
+use Rattle.wb_names.specs.declared.parts.Op.{Op}
+use Rattle.wb_judge.specs.Adding.{adding_fault}
+use Rattle.wb_judge.specs.Days.{time_of_day}
+use Rattle.wb_judge.specs.Judging.{draws}
+use Rattle.wb_keeper.specs.declared.keep_fault.KeepFault.TheVariants.{Memory}
+use Rattle.wb_keeping.specs.Refusing.{add_fault}
+use Rattle.wb_keeping.specs.declared.kept_fault.KeptFault.TheVariants.{Host}
+use Rattle.wb_judging.specs.Judged.{Judged}
+use Rattle.wb_judging.specs.declared.judged_fault.JudgedFault.{JudgedFault}
+use Rattle.wb_judging.specs.declared.judged_fault.JudgedFault.TheVariants.{Judge, Kept}
+
+-- The user draws: the fault of the judge, else that of the kept member.
+abbrev pub draw_fault : ℕ → PageId → Op → Judged → Option JudgedFault
+draw_fault now page op h = first_of (
+    option_map Judge (adding_fault (draws op) (length h.kept.host.is.held) h.judge)
+    ∷ option_map Kept (add_fault now page (time_of_day h.judge.clock now) op h.kept)
+    ∷ [])
+
+-- The result is the fault, or an answer if there is none, unless memory ran out.
+abbrev pub IsRefusedAs : {X : Type 0} → Option JudgedFault → Result X JudgedFault → Type 0
+IsRefusedAs (Some fault) result = result ≡ Err fault
+IsRefusedAs None (Ok x) = Unit {0}
+IsRefusedAs None (Err fault) = fault ≡ Kept (Host Memory)

@@ -1,0 +1,51 @@
+//! What a judge hears of what its kept member did.
+ghost use Rattle.std.specs.Prelude.{◌≡◌};
+ghost use Rattle.wb_judging.specs.Events.{is_new};
+ghost use Rattle.wb_judging.specs.Hearing.{after_fate, after_sending, after_sends};
+
+use crate::event::Fate;
+use wb_codec::Datagram;
+use wb_judge::{Judge, Origin};
+
+/// Which reports of ours were sent.
+pub(crate) fn hear_sent(judge: &mut Judge, sent: &[Datagram])
+    ensures { judge.new ≡ after_sends sent.now judge.old }
+{
+    for datagram in sent {
+        hear_one(judge, datagram);
+    }
+}
+
+/// A datagram was sent.
+fn hear_one(judge: &mut Judge, datagram: &Datagram)
+    ensures { judge.new ≡ after_sending datagram.now judge.old }
+{
+    if let Datagram::Session { sent, .. } = datagram {
+        judge.reported(*sent);
+    }
+}
+
+/// What became of a datagram that came from an origin.
+pub(crate) fn hear_fate(
+    judge: &mut Judge,
+    now: u64,
+    origin: Origin,
+    datagram: &Datagram,
+    fate: Option<Fate>,
+)
+    ensures { judge.new ≡ after_fate now origin datagram.now fate judge.old }
+{
+    if !is_new(fate) {
+        return;
+    }
+    if let Datagram::Draw(drawop) = datagram {
+        judge.took(origin, drawop.name(), now);
+    }
+}
+
+/// Whether a drawop is new.
+fn is_new(fate: Option<Fate>) -> bool
+    ensures { result ≡ is_new fate }
+{
+    matches!(fate, Some(Fate::New))
+}

@@ -1,0 +1,105 @@
+//! The parts of a call.
+ghost use Rattle.std.specs.Prelude.{◌≡◌, ◌++◌, drop, false, IfOk, OnOk, nat_le, true, None};
+ghost use Rattle.wb_names.specs.Moments.{IsMoment};
+ghost use Rattle.wb_judge.specs.Adding.{own_echo};
+ghost use Rattle.wb_member.specs.Opened.{present};
+ghost use Rattle.wb_keeping.specs.Laws.{Ticked};
+ghost use Rattle.wb_keeping.specs.Performing.{IsKeptAt, Keeping};
+ghost use Rattle.wb_keeping.specs.Refusing.{IsRefusedBy};
+ghost use Rattle.wb_judging.specs.Events.{gain_events, told};
+ghost use Rattle.wb_judging.specs.Judged.{CameFrom, Judged};
+ghost use Rattle.wb_judging.specs.Hearing.{after_sends};
+ghost use Rattle.wb_judging.specs.Performing.{Goes, IsJudgedAt, Performs};
+
+use crate::event::Event;
+use crate::facts::facts_of;
+use crate::handing::{Did, hand, tick};
+use crate::hearing::{hear_fate, hear_sent};
+use crate::judged_member::JudgedMember;
+use crate::telling::{add_advice, add_became, add_dropped, add_gain, add_sent, gained};
+use std::alloc::{AllocError, Global};
+use wb_codec::Datagram;
+use wb_judge::Origin;
+use wb_keeping::KeptFault;
+
+impl JudgedMember {
+    /// Whether a moment is not before the present one.
+    pub(super) fn is_time(&self, now: u64) -> bool
+        ensures { (k : Keeping) → IsKeptAt self.now.kept k → result ≡ nat_le (present k.host) now }
+    {
+        self.kept.member().moment() <= now
+    }
+
+    /// Tells what its kept member did for a line before which its board held `held` drawops, and
+    /// has its judge hear which reports were sent.
+    pub(super) fn tell(
+        &mut self,
+        alloc: Global,
+        now: u64,
+        ours: bool,
+        held: u32,
+        did: Did,
+        events: &mut Vec<Event>,
+    ) -> Result<(), AllocError>
+        ensures kept { self.new.kept ≡ self.old.kept }
+        ensures judge { OnOk result (self.new.judge ≡ after_sends did.sent.items self.old.judge) }
+        ensures events { OnOk result ((k : Keeping) → IsKeptAt self.old.kept k →
+            events.new.items ≡ events.old.items ++ told
+            (gain_events now ours self.old.judge.strange.given (drop held k.host.is.held))
+            (own_echo now self.old.judge) did.sent.items did.fate) }
+    {
+        let Did { sent, fate } = did;
+        let gained = gained(self.kept.member().drawops(), held);
+        add_gain(events, now, ours, self.judge.strange(), gained)?;
+        let echo = self.judge.own_echo(now);
+        hear_sent(&mut self.judge, sent.as_slice());
+        add_sent(events, alloc, echo, sent)?;
+        add_became(events, fate)
+    }
+
+    /// Time goes on to a moment that is not before the present one, after these events.
+    pub(super) fn pass(
+        &mut self,
+        alloc: Global,
+        now: u64,
+        first: Vec<Event>,
+    ) -> Result<Vec<Event>, KeptFault>
+        requires { IsMoment now }
+        ensures fault { (k : Keeping) → IsKeptAt self.old.kept k →
+            nat_le (present k.host) now ≡ true → IsRefusedBy None result }
+        ensures does { IfOk result
+            (λ events. Goes now false (Ticked now) first.items self.old events.items self.new) }
+    {
+        let held = self.kept.member().held();
+        let did = tick(&mut self.kept, alloc, now)?;
+        let mut events = first;
+        self.tell(alloc, now, false, held, did, &mut events)?;
+        Ok(events)
+    }
+
+    /// A datagram came in from an origin, at a moment that is not before the present one.
+    pub(super) fn take(
+        &mut self,
+        alloc: Global,
+        now: u64,
+        origin: Origin,
+        datagram: &Datagram,
+    ) -> Result<Vec<Event>, KeptFault>
+        requires { IsMoment now }
+        ensures fault { (h : Judged) → IsJudgedAt self.old h →
+            nat_le (present h.kept.host) now ≡ true → IsRefusedBy None result }
+        ensures does { IfOk result (λ events.
+            Performs (CameFrom now origin datagram.now) self.old events.items self.new) }
+    {
+        let facts = facts_of(&mut self.kept, now, datagram)?;
+        let held = self.kept.member().held();
+        let verdict = self.judge.judge(origin, datagram, &facts);
+        let did = hand(&mut self.kept, alloc, now, datagram, verdict.why)?;
+        hear_fate(&mut self.judge, now, origin, datagram, did.fate);
+        let mut events = Vec::new(alloc);
+        add_dropped(&mut events, verdict.why)?;
+        self.tell(alloc, now, false, held, did, &mut events)?;
+        add_advice(&mut events, &verdict, facts.lacking)?;
+        Ok(events)
+    }
+}

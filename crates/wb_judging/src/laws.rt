@@ -1,0 +1,50 @@
+//! What follows for a judged member, proved for whatever comes in. The functions do nothing: each
+//! stands here for its clause.
+
+ghost use Rattle.wb_judging.specs.Laws.{JudgedMembersAreKept, MembersAreHandedIn, NobodyMovesOurTime, OnlyAnswersMakeKnown, OthersHearTheSame, RecordsComeFirst, SendsAsKept, StrangersHushNobody, TheNetworkRefusesNothing, TheRecordIsTheBoard, TheSameOrATick};
+
+/// A judged member is a kept member that was handed one line in the place of each: the same line,
+/// or a tick. It sends what that sends, where a report has one echo besides.
+pub fn judged_members_are_kept()
+    ensures kept { JudgedMembersAreKept }
+    ensures lines { TheSameOrATick }
+    ensures sends { SendsAsKept }
+{}
+
+/// To all members of other numbers a report says the same with the echo under our own number as
+/// without it.
+pub fn others_hear_the_same()
+    ensures { OthersHearTheSame }
+{}
+
+/// Nothing that comes is refused, unless its moment is before the present one.
+pub fn the_network_refuses_nothing()
+    ensures { TheNetworkRefusesNothing }
+{}
+
+/// What a board holds is what it held and what was recorded since, in order. A call tells all that
+/// is to be recorded before all that is to be sent.
+pub fn the_record_is_the_board()
+    ensures board { TheRecordIsTheBoard }
+    ensures first { RecordsComeFirst }
+{}
+
+/// A member's drawop is handed in if it is not ours, is no more than a day ahead, and has a cell.
+pub fn members_are_handed_in()
+    ensures { MembersAreHandedIn }
+{}
+
+/// A stranger puts off no repair of ours.
+pub fn strangers_hush_nobody()
+    ensures { StrangersHushNobody }
+{}
+
+/// An origin becomes known by an answer that came from there, and by nothing else.
+pub fn only_answers_make_known()
+    ensures { OnlyAnswersMakeKnown }
+{}
+
+/// The driver alone tells the time of day, from which our drawings get their times.
+pub fn nobody_moves_our_time()
+    ensures { NobodyMovesOurTime }
+{}
