@@ -68,8 +68,13 @@ is_current() {
 
 # who has the lock $kept/lock, which its owner has open as 9: one start of ./wb that builds, or ./test
 lock_owner() {
-    local owner
-    owner=$(cat "$kept/lock")
+    local owner=''
+    # whoever has just taken the lock writes next who it is
+    for _ in 1 2 3 4 5 6 7 8 9 10; do
+        owner=$(cat "$kept/lock")
+        [ -z "$owner" ] || break
+        sleep 0.1
+    done
     echo "${owner:-another start}"
 }
 
