@@ -1,5 +1,5 @@
 -- What ranges hold, by where they begin.
-use Rattle.std.proofs.Common.{◌≡◌, ℕ, ◌+◌, ◌<◌, ◌≤◌, Bool, true, false, List, [], ◌∷◌, ◌++◌, refl, ap, ◌∙◌, sym, subst, arith, eqb-true, true≢false, ◌⊎◌, inl, inr, ⊎_elim, Option, Some, None}
+use Rattle.std.proofs.Common.{◌≡◌, ℕ, ◌+◌, ◌-◌, ◌<◌, ◌≤◌, Bool, true, false, List, [], ◌∷◌, ◌++◌, refl, ap, ◌∙◌, sym, subst, arith, eqb-true, true≢false, ◌⊎◌, inl, inr, ⊎_elim, Option, Some, None}
 use Rattle.std.specs.Prelude.{◌≢◌, Contains, IsSome, nat_eq, nat_le, not, ◌&&◌, ◌||◌}
 use Rattle.std.specs.BTreeMap.Range.{IsInRange, IsEntryInRange}
 use Rattle.std.specs.Ordering.{is_gt, is_lt}
@@ -20,6 +20,7 @@ use Rattle.wb_names.proofs.Orders.{page_total, page_ties, and_both, same_page-is
 use Rattle.wb_gaps.specs.Holdings.{HeldRange, has_name, holds, HoldsToo, HoldNamesOf, IsHighest}
 use Rattle.wb_names.specs.History.{highest, name_of, IsHeld}
 use Rattle.wb_gaps.specs.Starts.{start_cmp, start, range_of, ranges_of, last_at, AreApart, AreRanges, Covers, Begins, Ends}
+use Rattle.wb_gaps.specs.Greatest.{IsWholeFrom}
 use Rattle.wb_gaps.specs.declared.holdings.Start.{Start}
 use Rattle.wb_gaps.proofs.Adding.{stay_apart, one_of, itself, still, some_is, none_some}
 use Rattle.wb_gaps.proofs.GreatestNumbers.{one_greatest}
@@ -208,6 +209,25 @@ module _ (m : BTreeMap Start ℕ) (ordered : IsOrdered start_cmp m) (ranges : Ar
     reached = inr (name_covered (name_of page source last) m (first, last, at, (ranges.apart page source).filled first last at, omega arith));
   }
 
+  -- and from where the last range begins, all are held
+  pub none_whole : ((first last : ℕ) → last_at m.entries page source first ≡ Some last → 4294967295 < first) → (high : ℕ) → IsHighest (ranges_of m.entries) page source high → IsWholeFrom (λ n. holds (ranges_of m.entries) (name_of page source n) ≡ true) high 0
+  none_whole none high top =
+      let nothing : (n : ℕ) → holds (ranges_of m.entries) (name_of page source n) ≡ true → ⊥ = λ n h. let c = covers_name (name_of page source n) m ordered h in let over = none c.0 c.1 c.2 in let a = (ranges.apart page source).filled c.0 c.1 c.2 in let b = (ranges.apart page source).fits c.0 c.1 c.2 in absurd (omega arith) in record {
+        whole = λ n low from to. absurd (⊎_elim (λ (e : high ≡ 0). omega arith) (nothing high) top.reached);
+        bound = omega arith;
+        below = nothing 0;
+      }
+
+  pub last_whole : (first last : ℕ) → last_at m.entries page source first ≡ Some last → ((j l : ℕ) → last_at m.entries page source j ≡ Some l → j ≤ 4294967295 → j ≤ first) → (high : ℕ) → IsHighest (ranges_of m.entries) page source high → IsWholeFrom (λ n. holds (ranges_of m.entries) (name_of page source n) ≡ true) high first
+  last_whole first last at last_of high top =
+      let P : ℕ → Type 0 = λ n. holds (ranges_of m.entries) (name_of page source n) ≡ true in
+      let is : high ≡ last = one_greatest P P high last top (last_highest first last at last_of) (λ n h. h) (λ n h. h) in
+      let full = (ranges.apart page source).filled first last at in record {
+        whole = λ n low from to. name_covered (name_of page source n) m (first, last, at, from, omega arith);
+        bound = omega arith;
+        below = λ h. let c = covers_name (name_of page source (first - 1)) m ordered h in let low = (ranges.apart page source).positive first last at in let under = c.3 in let over = c.4 in let apart = (ranges.apart page source).apart c.0 c.1 first last c.2 at (omega arith) in omega arith;
+      }
+
 last_any : {X : Type 0} (p : X → Bool) (xs : List X) (x : X) → list_any p (xs ++ x ∷ []) ≡ (p x || list_any p xs)
 last_any p [] x = refl
 last_any p (y ∷ xs) x = grind (arith, common_steps, nat_tests, last_any p xs x)
@@ -231,3 +251,18 @@ highest_is ranges page source high top history held =
     one_greatest (λ (n : ℕ). holds ranges (name_of page source n) ≡ true) (IsHeld history page source) _ _ top (greatest_held history page source)
     (λ n h. held-by history page source n (sym (held (name_of page source n)) ∙ h))
     (λ n h. held (name_of page source n) ∙ held-from history page source n h)
+
+-- from where on all are held is the same of the list
+pub whole_is : (ranges : List HeldRange) (page : PageId) (source first : ℕ) → ((high : ℕ) → IsHighest ranges page source high → IsWholeFrom (λ n. holds ranges (name_of page source n) ≡ true) high first) → (history : List DrawopValue) → HoldNamesOf history ranges → IsWholeFrom (IsHeld history page source) (highest page source history) first
+whole_is ranges page source first from history held =
+    let there : (n : ℕ) → holds ranges (name_of page source n) ≡ true → IsHeld history page source n = λ n h. held-by history page source n (sym (held (name_of page source n)) ∙ h) in
+    let back : (n : ℕ) → IsHeld history page source n → holds ranges (name_of page source n) ≡ true = λ n h. held (name_of page source n) ∙ held-from history page source n h in
+    let g = greatest_held history page source in
+    let w = from (highest page source history) (record {
+      bound = λ n h. g.bound n (there n h);
+      reached = ⊎_elim (λ (e : highest page source history ≡ 0). inl e) (λ (h : IsHeld history page source (highest page source history)). inr (back _ h)) g.reached;
+    }) in record {
+      whole = λ n low here to. there n (w.whole n low here to);
+      bound = w.bound;
+      below = λ h. w.below (back _ h);
+    }

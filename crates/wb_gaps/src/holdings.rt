@@ -3,8 +3,9 @@
 ghost use Rattle.std.specs.Prelude.{◌≡◌, ◌+◌, ◌<◌, ◌≤◌, [], ◌∷◌, ◌++◌, List, OnOk, OnErr, IsOk, IsTrue, Some as some, None as none, MatchOption, ℕ, length};
 ghost use Rattle.std.specs.BTreeMap.{IsOrdered};
 ghost use Rattle.wb_names.specs.Values.{DrawopValue};
-ghost use Rattle.wb_names.specs.History.{highest, name_of};
+ghost use Rattle.wb_names.specs.History.{IsHeld, highest, name_of};
 ghost use Rattle.wb_gaps.specs.Holdings.{HoldNamesOf, HoldsToo, IsHighest, holds};
+ghost use Rattle.wb_gaps.specs.Greatest.{IsWholeFrom};
 ghost use Rattle.wb_gaps.specs.Starts.{AreRanges, Begins, Covers, last_at, ranges_of, start_cmp};
 
 use std::alloc::{AllocError, Global};
@@ -79,6 +80,15 @@ impl Holdings {
     {
         highest_in(&self.ranges, page, source)
     }
+
+    /// The least number from which on all of a source are held on a page, up to the greatest that
+    /// is. 0 if none is held. It costs one look-up.
+    pub fn whole_from(&self, page: PageId, source: u32) -> u32
+        ensures { (history : List DrawopValue) → HoldNamesOf history self.now →
+            IsWholeFrom (IsHeld history page source) (highest page source history) result }
+    {
+        last_start(&self.ranges, page, source)
+    }
 }
 
 /// The range of this page and source that begins last of those that begin at this number or below.
@@ -132,6 +142,24 @@ fn highest_in(ranges: &BTreeMap<Start, u32>, page: PageId, source: u32) -> u32
     };
     match before(ranges, end) {
         Some((_, last)) => last,
+        None => 0,
+    }
+}
+
+/// Where the last range of a source on a page begins, or 0 if there is none.
+fn last_start(ranges: &BTreeMap<Start, u32>, page: PageId, source: u32) -> u32
+    requires { AreRanges ranges.now.entries }
+    ensures { (high : ℕ) → IsHighest (ranges_of ranges.now.entries) page source high →
+        IsWholeFrom (λ n. IsTrue (holds (ranges_of ranges.now.entries) (name_of page source n)))
+        high result }
+{
+    let end = Start {
+        page,
+        source,
+        first: u32::MAX,
+    };
+    match before(ranges, end) {
+        Some((start, _)) => start.first,
         None => 0,
     }
 }

@@ -11,15 +11,15 @@ use Rattle.wb_gaps.specs.declared.holes.Hole.{Hole}
 use Rattle.wb_policy.specs.Distances.{bounded}
 use Rattle.wb_policy.specs.declared.limits.TheConstants.{UNKNOWN_DISTANCE}
 use Rattle.wb_policy.specs.Choices.{distance_in, own_echo, own_marks, told_names}
-use Rattle.wb_keeping.specs.Kept.{Asks, Doing, Line, Says, SetsDistance, Stops, Transition, and_then, answers, asks_pages, end, ends_full, is_begun, is_unasked, learned, measures, paid_for, reports, reports_due, reports_rest, room_lines, state_of, still, stops_one, timed, turn, turn_to, want, want_near, want_told, Arrives, Hears, hears, hears_session, hears_some, hears_state, of_other, performs, takes, takes_question, lending, hears_request}
-use Rattle.wb_policy.specs.Policy.{Policy, after_answer, after_question, after_turn, after_wanting, in_next_round, after_state, after_taking_up}
+use Rattle.wb_keeping.specs.Kept.{Asks, Doing, Line, Says, SetsDistance, Stops, Transition, and_then, answers, asks_pages, end, ends_full, is_begun, is_unasked, learned, measures, paid_for, reports, reports_due, reports_rest, room_lines, state_of, still, stops_one, timed, turn, turn_if, turn_to, turns_due, want, want_near, want_told, Arrives, Hears, hears, hears_session, hears_some, hears_state, of_other, performs, takes, takes_question, lending, hears_request}
+use Rattle.wb_policy.specs.Policy.{Policy, after_answer, after_beat, after_question, after_turn, after_wanting, in_next_round, after_state, after_taking_up}
 use Rattle.wb_keeping.specs.Views.{View, is_asked, is_full, holds}
 use Rattle.wb_policy.specs.Questions.{is_due, is_to_answer}
 use Rattle.wb_policy.specs.Reports.{rest_after}
 use Rattle.wb_policy.specs.Turns.{name_in, nowhere}
 use Rattle.wb_policy.specs.Wanting.{giving_way}
 use Rattle.wb_policy.specs.declared.wanting.AskedName.{AskedName}
-use Rattle.wb_keeping.proofs.Wanted.{is_wanted_here, lacks_here, lines_wanted, near_here, with_room_done}
+use Rattle.wb_keeping.proofs.Wanted.{is_wanted_here, lines_wanted, near_here, with_room_done}
 use Rattle.wb_codec.specs.declared.datagram.Datagram.{Datagram}
 
 abbrev pub Each : (Line → Type 0) → List Line → Type 0
@@ -125,13 +125,16 @@ module _ (P : Line → Type 0) (is : OfPolicy P) where
   pub ends_each : DoesEach P ends_full
   ends_each see p = choose P (is_full (see [])) (end see p) (still see p) (end_each see p) tt
 
+  turn_if_each : (was : Bool) → DoesEach P (turn_if was)
+  turn_if_each true see p = turn_each see p
+  turn_if_each false see p = tt
+
   pub learned_each : (name : NameValue) (was : Bool) → DoesEach P (learned name was)
   learned_each name was see p =
       let paid = paid_for was p in
       let near = near_here name was see p in
       choose P (is_full (see [])) (end see p) (with_room_done name was see p) (end_each see p)
-      (choose P (lacks_here name was see p) (want_near near see paid) (cond was (turn see paid) (still see p)) (near_each near see paid)
-      (choose P was (turn see paid) (still see p) (turn_each see paid) tt))
+      (then_each P (want_near near) (turn_if was) (near_each near) (turn_if_each was) see paid)
 
   pub measures_each : (sender : ℕ) (distance : Option ℕ) → DoesEach P (measures sender distance)
   measures_each sender None see p = tt
@@ -162,13 +165,19 @@ module _ (P : Line → Type 0) (is : OfPolicy P) where
   pub reports_each : DoesEach P reports
   reports_each see p = rest_each (rest_after p.until p.told (report_of (see []).held p.told_page)) see p
 
-  due_each : DoesEach P reports_due
+  pub due_each : DoesEach P reports_due
   due_each see p =
-      choose P (nat_le p.reports.due (see []).now) (and_then reports turn see p) (still see p) (then_each P reports turn reports_each turn_each see p) tt
+      choose P (nat_le p.reports.due (see []).now) (reports see p) (still see p) (reports_each see p) tt
+
+  pub turns_each : DoesEach P turns_due
+  turns_each see p =
+      let after = after_beat (see []).now p in
+      choose P (nat_le p.pace.due (see []).now) (turn see after) (still see p) (turn_each see after) tt
 
   pub timed_each : DoesEach P timed
   timed_each =
-      then_each P answers (and_then asks_pages reports_due) answers_each (then_each P asks_pages reports_due asks_pages_each due_each)
+      then_each P answers (and_then asks_pages (and_then reports_due turns_due)) answers_each
+      (then_each P asks_pages (and_then reports_due turns_due) asks_pages_each (then_each P reports_due turns_due due_each turns_each))
 
 -- ---- what comes in
 

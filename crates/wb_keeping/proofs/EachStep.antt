@@ -18,10 +18,10 @@ use Rattle.wb_policy.specs.declared.limits.TheConstants.{UNKNOWN_DISTANCE}
 use Rattle.wb_recovery.specs.Timing.{are_constants}
 use Rattle.wb_recovery.specs.declared.tuning.Tuning.{Tuning}
 use Rattle.wb_policy.specs.Choices.{distance_in, own_echo, own_marks, told_names, until_in}
-use Rattle.wb_keeping.specs.Kept.{Arrives, Doing, Hears, Line, Says, SetsDistance, Tunes, Stops, Ticks, Transition, and_then, answers, asks_pages, draws_it, drawing, end, ends_full, hears, hears_session, hears_some, hears_state, is_begun, is_unasked, learned, measures, performs, reports, reports_due, reports_page, reports_rest, state_of, still, takes, takes_question, timed, turn, turn_to, want, want_near, want_told, hears_request}
+use Rattle.wb_keeping.specs.Kept.{Arrives, Doing, Hears, Line, Says, SetsDistance, Tunes, Stops, Ticks, Transition, and_then, answers, asks_pages, draws_it, drawing, end, ends_full, hears, hears_session, hears_some, hears_state, is_begun, is_unasked, learned, measures, performs, reports, reports_due, reports_page, reports_rest, state_of, still, takes, takes_question, timed, turn, turn_if, turn_to, turns_due, want, want_near, want_told, hears_request}
 use Rattle.wb_keeping.specs.Laws.{Added, AreTaken, Came, KeptLine, Ticked, Tuned, after_kept, doing_of, expand, fault_of}
 use Rattle.wb_keeping.specs.Performing.{Keeping, after_doing, after_line, after_lines, sees, view_of}
-use Rattle.wb_policy.specs.Policy.{Policy, after_answer, after_came, after_question, after_state, after_taking_up, after_turn, in_next_round, with_distance}
+use Rattle.wb_policy.specs.Policy.{Policy, after_answer, after_beat, after_came, after_question, after_state, after_taking_up, after_turn, in_next_round, with_distance}
 use Rattle.wb_keeping.specs.Views.{View, holds, is_asked, is_full}
 use Rattle.wb_policy.specs.Questions.{is_due, is_to_answer}
 use Rattle.wb_policy.specs.Reports.{is_telling, page_after, rest_after, slice_after}
@@ -31,7 +31,7 @@ use Rattle.wb_keeping.specs.declared.kept_fault.KeptFault.TheVariants.{Host}
 use Rattle.wb_policy.specs.declared.turns.Turns.{Turns}
 use Rattle.wb_policy.specs.declared.wanting.AskedName.{AskedName}
 use Rattle.wb_keeping.proofs.Performed.{after_both, seen_then}
-use Rattle.wb_keeping.proofs.Wanted.{lacks_here, near_here, with_room_done}
+use Rattle.wb_keeping.proofs.Wanted.{near_here, with_room_done}
 
 -- a host with another policy; one that performed a line
 abbrev pub with_policy : Policy → Keeping → Keeping
@@ -54,6 +54,7 @@ pub record HoldsOfDue (R : Keeping → List Line → Keeping → Type 0) : Type 
   pub both : (k m n : Keeping) (one other : List Line) → R k one m → R m other n → R k (one ++ other) n
   pub wants : (name : NameValue) (anew : Bool) (k : Keeping) → R k (want name anew (sees k.host) k.policy).lines (after_doing (want name anew) k)
   pub turned : (t : Turns) (k : Keeping) → R k [] (with_policy (record k.policy { turns = t }) k)
+  pub beats : (k : Keeping) → nat_le k.policy.pace.due (present k.host) ≡ true → R k [] (with_policy (after_beat (present k.host) k.policy) k)
   pub answers : (k : Keeping) → is_due (present k.host) k.policy.questions.answer ≡ true
       → R k (map (λ page. Says (state_of (view_of k.host) page)) (take 64 (pages_of k.host.is.held))) (having_done (doing (after_answer (present k.host) k.policy) (map (λ page. Says (state_of (view_of k.host) page)) (take 64 (pages_of k.host.is.held)))) k)
   pub asks_pages : (k : Keeping) → is_due (present k.host) k.policy.questions.ask ≡ true → R k (Says (AskPages k.host.is.number) ∷ []) (with_policy (after_question (present k.host) k.policy) k)
@@ -226,11 +227,19 @@ module _ (R : Keeping → List Line → Keeping → Type 0) (is : HoldsOfDue R) 
 
   reports_due_hold : Holds R reports_due
   reports_due_hold k =
-      either (HoldsOf R k) (nat_le k.policy.reports.due (present k.host)) (and_then reports turn (sees k.host) k.policy) (still (sees k.host) k.policy)
-      (λ due. then_at reports turn k (rest_holds k due (rest_after k.policy.until k.policy.told (report_of k.host.is.held k.policy.told_page)) refl) (turn_holds (after_doing reports k))) (λ later. is.nothing k)
+      either (HoldsOf R k) (nat_le k.policy.reports.due (present k.host)) (reports (sees k.host) k.policy) (still (sees k.host) k.policy)
+      (λ due. rest_holds k due (rest_after k.policy.until k.policy.told (report_of k.host.is.held k.policy.told_page)) refl) (λ later. is.nothing k)
+
+  turns_due_hold : Holds R turns_due
+  turns_due_hold k =
+      let p = after_beat (present k.host) k.policy in
+      either (HoldsOf R k) (nat_le k.policy.pace.due (present k.host)) (turn (sees k.host) p) (still (sees k.host) k.policy)
+      (λ due. from_policy p k (turn (sees k.host) p) (is.beats k due) (turn_holds (with_policy p k))) (λ later. is.nothing k)
 
   pub timed_holds : Holds R timed
-  timed_holds = then_holds answers (and_then asks_pages reports_due) answers_hold (then_holds asks_pages reports_due asks_pages_hold reports_due_hold)
+  timed_holds =
+      then_holds answers (and_then asks_pages (and_then reports_due turns_due)) answers_hold
+      (then_holds asks_pages (and_then reports_due turns_due) asks_pages_hold (then_holds reports_due turns_due reports_due_hold turns_due_hold))
 
 module _ (R : Keeping → List Line → Keeping → Type 0) (is : HoldsOfParts R) where
   stops_hold : (asked : List AskedName) (k : Keeping) → is_full (view_of k.host) ≡ true → HoldsOf R k (doing k.policy (map (λ (a : AskedName). Stops a.name) asked))
@@ -244,16 +253,15 @@ module _ (R : Keeping → List Line → Keeping → Type 0) (is : HoldsOfParts R
   asked_holds : (name : NameValue) (k : Keeping) → HoldsOf R (with_policy (after_came k.policy) k) (with_room_done name true (sees k.host) k.policy)
   asked_holds name k =
       let see = sees k.host in
-      let p = after_came k.policy in
-      let paid = with_policy p k in
+      let paid = with_policy (after_came k.policy) k in
       let near = near_here name true see k.policy in
-      either (HoldsOf R paid) (lacks_here name true see k.policy) (want_near near see p) (turn see p) (λ lacks. near_holds R is.due near paid) (λ has. turn_holds R is.due paid)
+      then_holds R is.due (want_near near) (turn_if true) (near_holds R is.due near) (turn_holds R is.due) paid
 
   unasked_holds : (name : NameValue) (k : Keeping) → HoldsOf R k (with_room_done name false (sees k.host) k.policy)
   unasked_holds name k =
       let see = sees k.host in
       let near = near_here name false see k.policy in
-      either (HoldsOf R k) (lacks_here name false see k.policy) (want_near near see k.policy) (still see k.policy) (λ lacks. near_holds R is.due near k) (λ has. is.due.nothing k)
+      then_holds R is.due (want_near near) (turn_if false) (near_holds R is.due near) is.due.nothing k
 
   ends_hold : Holds R ends_full
   ends_hold k = either (HoldsOf R k) (is_full (view_of k.host)) (end (sees k.host) k.policy) (still (sees k.host) k.policy) (λ full. end_holds k full) (λ room. is.due.nothing k)

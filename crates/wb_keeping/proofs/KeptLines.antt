@@ -11,7 +11,7 @@ pub time_comes_first : TimeComesFirst
 time_comes_first now v see p = (_, refl)
 
 pub nothing_is_due : NothingIsDue
-nothing_is_due now see p answer ask report = simp (answer, ask, report)
+nothing_is_due now see p answer ask report turn = simp (answer, ask, report, turn)
 
 -- ---- what is wanted
 

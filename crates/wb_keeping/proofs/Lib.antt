@@ -5,6 +5,7 @@ pub mod AskedTimers
 pub mod Wanted
 pub mod EachLine
 pub mod OneByOne
+pub mod NearNames
 pub mod LeftSome
 pub mod Lending
 pub mod KeptHosts
@@ -20,5 +21,6 @@ pub mod ToldReports
 pub mod WantedNames
 pub mod BackedOff
 pub mod SpacedLines
+pub mod KeptDistances
 pub mod AptLines
 pub mod SeldomRequested

@@ -551,6 +551,7 @@ steps_keep = record {
     both = both_keep;
     wants = wants_keep;
     turned = λ t k. quietly k [] _ (plain_nothing [] k.host tt) refl refl refl refl;
+    beats = λ k due. quietly k [] _ (plain_nothing [] k.host tt) refl refl refl refl;
     answers = answers_keep;
     asks_pages = asks_pages_keep;
     reports = reports_keep;

@@ -56,9 +56,13 @@ IsApt (Says (Request asker name)) host = ⊥
 IsApt (Says (AskPages asker)) host = Unit {0}
 IsApt (Says (PageState sender page marks)) host = Unit {0}
 
+-- Q holds of each of these lines at the host that performs it
+abbrev pub AreAll : (Line → Opened → Type 0) → List Line → Opened → Type 0
+AreAll Q [] host = Unit {0}
+AreAll Q (line ∷ lines) host = Q line host × AreAll Q lines (after_line line host)
+
 abbrev pub AreApt : List Line → Opened → Type 0
-AreApt [] host = Unit {0}
-AreApt (line ∷ lines) host = IsApt line host × AreApt lines (after_line line host)
+AreApt = AreAll IsApt
 
 -- what came to its timers was so
 abbrev pub IsSpacedHost : Opened → Type 0

@@ -1,6 +1,6 @@
 -- A name that is wanted.
-use Rattle.std.proofs.Common.{◌≡◌, ℕ, ◌+◌, Bool, true, false, cond, List, [], ◌∷◌, ◌++◌, ◌∙◌, ap, arith, length, length-append, refl, sym, true≢false, ◌-◌}
-use Rattle.std.specs.Prelude.{Option, Some, filter, nat_lt, nat_eq}
+use Rattle.std.proofs.Common.{◌≡◌, ℕ, Bool, true, false, cond, List, [], ◌∷◌, ◌++◌, ◌∙◌, ap, arith, length, length-append, refl, sym, true≢false}
+use Rattle.std.specs.Prelude.{Option, Some, nat_lt, nat_eq}
 use Rattle.std.proofs.lemmas.Bool.{lt-ltb}
 use Rattle.std.proofs.lemmas.Bool.Decides.{nat_tests}
 use Rattle.wb_names.specs.Values.{NameValue}
@@ -8,12 +8,13 @@ use Rattle.wb_names.specs.History.{highest}
 use Rattle.wb_gaps.specs.Holes.{hole_after}
 use Rattle.wb_gaps.specs.declared.holes.Hole.{Hole}
 use Rattle.wb_policy.specs.Choices.{near_names}
-use Rattle.wb_keeping.specs.Kept.{Asks, Doing, Line, SetsDistance, Stops, end, is_begun, is_unasked, learned, measures, paid_for, performs, room_lines, still, stops_one, turn, turn_to, want, want_near, lending}
+use Rattle.wb_keeping.specs.Kept.{Asks, Doing, Line, SetsDistance, Stops, and_then, turn_if, end, is_begun, learned, measures, paid_for, performs, room_lines, still, stops_one, turn, turn_if, turn_to, want, want_near, lending, and_then}
 use Rattle.wb_policy.specs.Distances.{bounded}
 use Rattle.wb_policy.specs.declared.limits.TheConstants.{UNKNOWN_DISTANCE}
 use Rattle.wb_policy.specs.Policy.{Policy, after_wanting, with_distance}
+use Rattle.wb_keeping.proofs.NearNames.{near_wanted}
 use Rattle.wb_keeping.specs.Views.{View, holds, is_asked, is_full, level, is_known}
-use Rattle.wb_keeping.specs.Steps.{makes_room, performs_all, want_in}
+use Rattle.wb_keeping.specs.Steps.{AreNear, makes_room, performs_all, want_in}
 use Rattle.wb_policy.specs.Turns.{nowhere}
 use Rattle.wb_policy.specs.Wanting.{giving_way, is_wanted}
 
@@ -80,17 +81,21 @@ module _ (name : NameValue) (was : Bool) (see : List Line → View) (p : Policy)
   abbrev pub near_here : List NameValue
   near_here = near_names name (highest name.page name.source (see []).held)
 
-  abbrev pub lacks_here : Bool
-  lacks_here = nat_lt 0 (length (filter (is_unasked (see [])) near_here))
-
   abbrev pub with_room_done : Doing
-  with_room_done = cond lacks_here (want_near near_here see (paid_for was p)) (cond was (turn see (paid_for was p)) (still see p))
+  with_room_done = and_then (want_near near_here) (turn_if was) see (paid_for was p)
 
   pub learned_full : is_full (see []) ≡ true → learned name was see p ≡ end see p
   learned_full e = ap (λ (b : Bool). cond b (end see p) with_room_done) e
 
   pub learned_room : is_full (see []) ≡ false → learned name was see p ≡ with_room_done
   learned_room e = ap (λ (b : Bool). cond b (end see p) with_room_done) e
+
+-- with the names near it, or without them where all are held
+pub learns : (name : NameValue) (was : Bool) (ns : List NameValue) (see : List Line → View) (p : Policy) → is_full (see []) ≡ false → AreNear (see []) name ns
+    → learned name was see p ≡ and_then (want_near ns) (turn_if was) see (paid_for was p)
+learns name was ns see p room near =
+    learned_room name was see p room
+    ∙ ap (λ (one : Doing). let two = turn_if was (λ lines. see (one.lines ++ lines)) one.policy in let both : Doing = record { policy = two.policy; lines = one.lines ++ two.lines } in both) (near_wanted name ns see (paid_for was p) near)
 
 -- ---- the turn of a hole
 

@@ -1,6 +1,6 @@
 -- A self-managing host as a whole: what it does for a datagram that comes, as time goes on, and for a drawing. Each is a list of lines
 -- that a host performs, one after the other. So a kept host is a host whose driver hands in these lines.
-use Rattle.std.specs.Prelude.{ℕ, ◌+◌, Bool, true, false, not, ◌||◌, List, [], ◌∷◌, ◌++◌, Option, Some, None, filter, length, map, nat_eq, nat_le, nat_lt, take, if◌then◌else◌}
+use Rattle.std.specs.Prelude.{ℕ, ◌+◌, Bool, true, false, not, ◌||◌, List, [], ◌∷◌, ◌++◌, Option, Some, None, length, map, nat_eq, nat_le, nat_lt, take, if◌then◌else◌}
 use Rattle.wb_names.specs.History.{highest, name_of}
 use Rattle.wb_names.specs.Values.{NameValue, DrawopValue, MarkValue}
 use Rattle.wb_names.specs.declared.echo.Echo.{Echo}
@@ -16,7 +16,7 @@ use Rattle.wb_policy.specs.Choices.{distance_in, last_heard, last_source, near_n
 use Rattle.wb_policy.specs.Distances.{bounded}
 use Rattle.wb_policy.specs.declared.limits.TheConstants.{MOST_PAGES, UNKNOWN_DISTANCE}
 use Rattle.wb_keeping.specs.Drawings.{drawing_time}
-use Rattle.wb_policy.specs.Policy.{Policy, after_answer, after_came, after_question, after_report, after_state, after_taking_up, after_turn, after_wanting, in_next_round, with_distance}
+use Rattle.wb_policy.specs.Policy.{Policy, after_answer, after_beat, after_came, after_question, after_report, after_state, after_taking_up, after_turn, after_wanting, in_next_round, with_distance}
 use Rattle.wb_keeping.specs.Views.{View, holds, is_asked, is_full, level, is_known}
 use Rattle.wb_policy.specs.Questions.{is_due, is_to_answer}
 use Rattle.wb_policy.specs.Reports.{members_in, page_after, rest_after, slice_after, report_bytes}
@@ -107,15 +107,17 @@ end see p = record { policy = p; lines = map (λ a. Stops a.name) (see []).asked
 abbrev pub paid_for : Bool → Policy → Policy
 paid_for was_asked p = if was_asked then after_came p else p
 
--- A drawop is new: its neighbours are wanted, and if none is missing, another hole has its turn instead.
+-- a turn, if a name that was asked for came
+abbrev pub turn_if : Bool → Transition
+turn_if was_asked see p = if was_asked then turn see p else still see p
+
+-- A drawop is new: its neighbours are wanted, and then, if it was asked for, the next hole has its turn.
 abbrev pub learned : NameValue → Bool → Transition
 learned name was_asked see p =
     let v = see [] in
     let near = near_names name (highest name.page name.source v.held) in
     if is_full v then end see p
-    else if nat_lt 0 (length (filter (is_unasked v) near)) then want_near near see (paid_for was_asked p)
-    else if was_asked then turn see (paid_for was_asked p)
-    else still see p
+    else and_then (want_near near) (turn_if was_asked) see (paid_for was_asked p)
 
 -- ---- what is due
 
@@ -163,10 +165,17 @@ abbrev pub reports : Transition
 reports see p = reports_rest (rest_after p.until p.told (report_of (see []).held p.told_page)) see p
 
 abbrev pub reports_due : Transition
-reports_due see p = if nat_le p.reports.due (see []).now then and_then reports turn see p else still see p
+reports_due see p = if nat_le p.reports.due (see []).now then reports see p else still see p
+
+-- Turns come by the clock, whatever is reported.
+abbrev pub turn_by_clock : Transition
+turn_by_clock see p = turn see (after_beat (see []).now p)
+
+abbrev pub turns_due : Transition
+turns_due see p = if nat_le p.pace.due (see []).now then turn_by_clock see p else still see p
 
 abbrev pub timed : Transition
-timed = and_then answers (and_then asks_pages reports_due)
+timed = and_then answers (and_then asks_pages (and_then reports_due turns_due))
 
 -- ---- what comes in
 

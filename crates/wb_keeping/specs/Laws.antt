@@ -1,5 +1,5 @@
 -- Laws of a policy.
-use Rattle.std.specs.Prelude.{◌≡◌, ◌⊎◌, ℕ, ◌+◌, ◌≤◌, ◌<◌, Bool, false, List, [], ◌∷◌, ◌++◌, IsTrue, Option, None, map, nat_le, ◌||◌}
+use Rattle.std.specs.Prelude.{◌≡◌, ◌⊎◌, ℕ, ◌≤◌, ◌<◌, Bool, false, List, [], ◌∷◌, ◌++◌, IsTrue, Option, None, map, nat_le, ◌||◌}
 use Rattle.wb_names.specs.Drawing.{op_fault}
 use Rattle.wb_names.specs.Faults.{fault_unless}
 use Rattle.wb_names.specs.Values.{NameValue, greatest_number}
@@ -27,10 +27,10 @@ use Rattle.wb_policy.specs.Wanting.{is_paid}
 abbrev pub TimeComesFirst : Type 0
 TimeComesFirst = (now : ℕ) (v : Datagram) (see : List Line → View) (p : Policy) → (later : List Line) × ((came now v see p).lines ≡ Ticks now ∷ later)
 
--- If neither an answer nor a question nor a report is due, time goes on as at a host that its driver drives, and the policy stays.
+-- If neither an answer nor a question nor a report nor a turn is due, time goes on as at a host that its driver drives, and the policy stays.
 abbrev pub NothingIsDue : Type 0
 NothingIsDue = (now : ℕ) (see : List Line → View) (p : Policy)
-    → is_due (see (Ticks now ∷ [])).now p.questions.answer ≡ false → is_due (see (Ticks now ∷ [])).now p.questions.ask ≡ false → nat_le p.reports.due (see (Ticks now ∷ [])).now ≡ false
+    → is_due (see (Ticks now ∷ [])).now p.questions.answer ≡ false → is_due (see (Ticks now ∷ [])).now p.questions.ask ≡ false → nat_le p.reports.due (see (Ticks now ∷ [])).now ≡ false → nat_le p.pace.due (see (Ticks now ∷ [])).now ≡ false
     → ticks now see p ≡ record { policy = p; lines = Ticks now ∷ [] }
 
 -- What is wanted is asked for only if it is not held and there is credit for it, and then it costs; else nothing is done.

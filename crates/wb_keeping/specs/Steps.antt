@@ -1,12 +1,25 @@
 -- The parts of a transition, as a member performs them one by one.
-use Rattle.std.specs.Prelude.{ℕ, true, List, [], ◌∷◌, Option, Some, None, nat_eq, if◌then◌else◌}
+use Rattle.std.specs.Prelude.{◌≡◌, ◌⊎◌, ℕ, ◌-◌, true, max, All, IsTrue, List, [], ◌∷◌, Option, Some, None, nat_eq, if◌then◌else◌}
+use Rattle.wb_names.specs.History.{highest}
 use Rattle.wb_names.specs.Values.{NameValue}
 use Rattle.wb_gaps.specs.Holes.{hole_after}
 use Rattle.wb_gaps.specs.declared.holes.Hole.{Hole}
-use Rattle.wb_policy.specs.declared.limits.TheConstants.{UNKNOWN_DISTANCE}
+use Rattle.wb_policy.specs.Choices.{near_names}
+use Rattle.wb_policy.specs.declared.limits.TheConstants.{REACH, UNKNOWN_DISTANCE}
 use Rattle.wb_keeping.specs.Kept.{Line, SetsDistance, Transition, room_lines, turn_to, want, and_then, performs}
+use Rattle.wb_keeping.specs.Views.{View, holds}
 use Rattle.wb_policy.specs.Policy.{after_turn}
 use Rattle.wb_policy.specs.Turns.{name_in, nowhere}
+
+-- the least number near one: 64 below it, and at least 1
+abbrev pub lowest_near : NameValue → ℕ
+lowest_near name = max 1 (name.seq - REACH)
+
+-- these are the names near one, which may be left out if all of them are held
+abbrev pub AreNear : View → NameValue → List NameValue → Type 0
+AreNear v name names =
+    let near = near_names name (highest name.page name.source v.held) in
+    (names ≡ near) ⊎ ((names ≡ []) × All (λ n. IsTrue (holds v n)) near)
 
 -- these lines, whatever is seen
 abbrev pub performs_all : List Line → Transition

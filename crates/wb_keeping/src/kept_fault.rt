@@ -11,10 +11,11 @@ pub enum KeptFault {
     /// The moment is before the present one, or an allocation failed.
     #[error("{0}")]
     Host(KeepFault),
-    /// It still listens, and nothing is added.
+    /// The member still listens, and draws nothing.
     #[error("listening")]
     Listening,
-    /// A drawop of its own that it does not hold, with a number that it would never reach.
+    /// A drawop under our own source number, with a sequence number from 2^31 on, that is not held:
+    /// it is forged.
     #[error("a drawop of ours that is not held")]
     Ours,
     /// No number is left on the page.

@@ -8,5 +8,6 @@ pub mod Driving
 pub mod Items
 pub mod Groups
 pub mod Moments
+pub mod Progress
 pub mod Steps
 pub mod Faults

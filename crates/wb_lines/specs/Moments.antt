@@ -1,5 +1,7 @@
 -- Where a driver is: what was read, taken and written, and what follows.
 use Rattle.std.specs.Prelude.{◌≡◌, ◌≢◌, ◌≤◌, ◌<◌, ◌+◌, ℕ, List, [], ◌∷◌, ◌++◌, length, Bool, true, false, Option, Some, None, Result, Ok, Err}
+use Rattle.wb_names.specs.declared.stream.Sink.{Ghosts as SinkOf}
+use Rattle.wb_names.specs.declared.stream.Source.{Ghosts as SourceOf}
 use Rattle.wb_lines.specs.declared.fault.DriveFault.{DriveFault}
 use Rattle.wb_lines.specs.declared.fault.DriveFault.TheVariants as faults
 use Rattle.wb_lines.specs.declared.line_reader.Found.{Found}
@@ -90,6 +92,10 @@ pub record Moment (S : Type 0) : Type 0 where
 
 abbrev pub moment : {S : Type 0} → LinesValue S → List ℕ → Option (List ℕ) → Bool → Option (List ℕ) → Bool → Moment S
 moment lines output left failed taken stuck = record { lines = lines; output = output; left = left; failed = failed; taken = taken; stuck = stuck }
+
+-- the same, of a source and a sink
+abbrev pub moment_of : {S R W : Type 0} → SourceOf R → SinkOf W → LinesValue S → List ℕ → R → W → Moment S
+moment_of R W lines output source sink = moment lines output (R.left source) (R.has_failed source) (W.taken sink) (W.has_failed sink)
 
 -- The source or the sink was found to have failed only if it did.
 pub record IsTrue {S : Type 0} (m : Moment S) : Type 0 where

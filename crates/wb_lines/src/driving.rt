@@ -6,7 +6,7 @@ ghost use Rattle.wb_lines.specs.Output.{Sends};
 ghost use Rattle.wb_lines.specs.Items.{alone};
 ghost use Rattle.wb_lines.specs.Groups.{only_step};
 ghost use Rattle.wb_lines.specs.Driving.{rules_of, outcome, Gave, Meets, is_stop};
-ghost use Rattle.wb_lines.specs.Moments.{moment};
+ghost use Rattle.wb_lines.specs.Progress.{reached};
 ghost use Rattle.wb_lines.specs.Steps.{fault_of, Handles, DrivesAll, Closes};
 
 use crate::fault::DriveFault;
@@ -65,10 +65,8 @@ fn hand_over<H: Handler, R: Source, W: Sink>(
 ) -> Result<(), Stop<H::Fault>>
     requires taken { progress.old.lines.seen ≡ seens.Nothing }
     ensures { Handles alone (only_step H.step) (H.is_at handler.old) (H.is_at handler.new) first
-        (moment progress.old.lines progress.old.output (R.left source.old) (R.has_failed source.old)
-        (W.taken sink.old) (W.has_failed sink.old))
-        (moment progress.new.lines progress.new.output (R.left source.new) (R.has_failed source.new)
-        (W.taken sink.new) (W.has_failed sink.new)) result }
+        (reached R.Source W.Sink progress.old source.old sink.old)
+        (reached R.Source W.Sink progress.new source.new sink.new) result }
 {
     let number = progress.lines.done();
     match first {
@@ -95,10 +93,8 @@ fn drive_all<H: Handler, R: Source, W: Sink>(
 ) -> Result<u64, DriveFault<H::Fault>>
     requires start { progress.old.lines.seen ≡ seens.Nothing }
     ensures all { DrivesAll alone (only_step H.step) (H.is_at handler.old) (H.is_at handler.new)
-        (moment progress.old.lines progress.old.output (R.left source.old) (R.has_failed source.old)
-        (W.taken sink.old) (W.has_failed sink.old))
-        (moment progress.new.lines progress.new.output (R.left source.new) (R.has_failed source.new)
-        (W.taken sink.new) (W.has_failed sink.new)) result }
+        (reached R.Source W.Sink progress.old source.old sink.old)
+        (reached R.Source W.Sink progress.new source.new sink.new) result }
     ensures few { IfOk result (λ lines. lines ≤ progress.old.lines.most) }
     ensures faults { (result ≡ Err DriveFault.Read → progress.new.lines.seen ≡ seens.Failed) ×
         (result ≡ Err DriveFault.Write → progress.new.lines.seen ≡ seens.Unwritten) }

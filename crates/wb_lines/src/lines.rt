@@ -1,7 +1,7 @@
 //! The lines of a source, of which the next is looked at before it is taken.
 ghost use Rattle.std.specs.Prelude.{◌≡◌, ◌≢◌, ◌<◌, ◌≤◌, [], List, ℕ, Err, IfOk, IfSome};
 ghost use Rattle.wb_lines.specs.declared.lines.Seen.TheVariants as seens;
-ghost use Rattle.wb_lines.specs.Moments.{moment, is_broken, with_seen, Reads, IsSound, IsLineOrMemory, TakesLine, TakesSeen, IsJoining, Moves, PassesLine, at_start, found_over};
+ghost use Rattle.wb_lines.specs.Moments.{moment_of, is_broken, with_seen, Reads, IsSound, IsLineOrMemory, TakesLine, TakesSeen, IsJoining, Moves, PassesLine, at_start, found_over};
 
 use crate::fault::DriveFault;
 use crate::line_reader::{Found, LineReader, Pulled};
@@ -160,10 +160,9 @@ impl<S: Saying> Lines<S> {
         sink: &mut W,
     ) -> Seen<S>
         requires next { (self.old.seen ≡ seens.Nothing) × (self.old.done < self.old.most) }
-        ensures reads { Reads S.by (moment self.old output.old (R.left source.old)
-            (R.has_failed source.old) (W.taken sink.old) (W.has_failed sink.old))
-            (moment (with_seen self.new result) output.new (R.left source.new)
-            (R.has_failed source.new) (W.taken sink.new) (W.has_failed sink.new)) [] [] }
+        ensures reads { Reads S.by
+            (moment_of R.Source W.Sink self.old output.old source.old sink.old) (moment_of R.Source
+            W.Sink (with_seen self.new result) output.new source.new sink.new) [] [] }
         ensures sound { IsSound S.says (with_seen self.new result) }
         ensures found { result ≢ seens.Nothing }
         ensures count { (self.new.done ≡ self.old.done) × (self.new.most ≡ self.old.most) }
@@ -187,10 +186,9 @@ impl<S: Saying> Lines<S> {
         sink: &mut W,
     ) -> Seen<S>
         requires last { (self.old.seen ≡ seens.Nothing) × (self.old.done ≡ self.old.most) }
-        ensures reads { Reads S.by (moment self.old output.old (R.left source.old)
-            (R.has_failed source.old) (W.taken sink.old) (W.has_failed sink.old))
-            (moment (with_seen self.new result) output.new (R.left source.new)
-            (R.has_failed source.new) (W.taken sink.new) (W.has_failed sink.new)) [] [] }
+        ensures reads { Reads S.by
+            (moment_of R.Source W.Sink self.old output.old source.old sink.old) (moment_of R.Source
+            W.Sink (with_seen self.new result) output.new source.new sink.new) [] [] }
         ensures sound { IsSound S.says (with_seen self.new result) }
         ensures found { result ≢ seens.Nothing }
         ensures count { (self.new.done ≡ self.old.done) × (self.new.most ≡ self.old.most) }
@@ -212,10 +210,9 @@ impl<S: Saying> Lines<S> {
         sink: &mut W,
     ) -> Seen<S>
         requires next { self.old.seen ≡ seens.Nothing }
-        ensures reads { Reads S.by (moment self.old output.old (R.left source.old)
-            (R.has_failed source.old) (W.taken sink.old) (W.has_failed sink.old))
-            (moment (with_seen self.new result) output.new (R.left source.new)
-            (R.has_failed source.new) (W.taken sink.new) (W.has_failed sink.new)) [] [] }
+        ensures reads { Reads S.by
+            (moment_of R.Source W.Sink self.old output.old source.old sink.old) (moment_of R.Source
+            W.Sink (with_seen self.new result) output.new source.new sink.new) [] [] }
         ensures sound { IsSound S.says (with_seen self.new result) }
         ensures found { result ≢ seens.Nothing }
         ensures count { (self.new.done ≡ self.old.done) × (self.new.most ≡ self.old.most) }
@@ -235,10 +232,9 @@ impl<S: Saying> Lines<S> {
         output: &mut Output,
         sink: &mut W,
     )
-        ensures reads { Reads S.by (moment self.old output.old (R.left source.old)
-            (R.has_failed source.old) (W.taken sink.old) (W.has_failed sink.old))
-            (moment self.new output.new (R.left source.new) (R.has_failed source.new)
-            (W.taken sink.new) (W.has_failed sink.new)) [] [] }
+        ensures reads { Reads S.by
+            (moment_of R.Source W.Sink self.old output.old source.old sink.old)
+            (moment_of R.Source W.Sink self.new output.new source.new sink.new) [] [] }
         ensures looked { self.new.seen ≢ seens.Nothing }
         ensures count { (self.new.done ≡ self.old.done) × (self.new.most ≡ self.old.most) }
         ensures sound { IsSound S.says self.old }
@@ -310,10 +306,9 @@ impl<S: Saying> Lines<S> {
         sink: &mut W,
     )
         requires taken { (self.old.seen ≡ seens.Nothing) × (self.old.done ≤ self.old.most) }
-        ensures passes { (moves : Moves (moment self.old output.old (R.left source.old)
-            (R.has_failed source.old) (W.taken sink.old) (W.has_failed sink.old))
-            (moment self.new output.new (R.left source.new)
-            (R.has_failed source.new) (W.taken sink.new) (W.has_failed sink.new)) []) ×
+        ensures passes { (moves : Moves
+            (moment_of R.Source W.Sink self.old output.old source.old sink.old)
+            (moment_of R.Source W.Sink self.new output.new source.new sink.new) []) ×
             PassesLine S.by self.old self.new moves.given }
         ensures count { (self.new.done ≡ self.old.done) × (self.new.most ≡ self.old.most) }
     {

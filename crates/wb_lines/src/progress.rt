@@ -1,7 +1,8 @@
 //! How far a driver has come.
 ghost use Rattle.std.specs.Prelude.{◌≡◌, ◌≤◌, ◌<◌, [], List, ℕ, Err, IfSome};
 ghost use Rattle.wb_lines.specs.declared.lines.Seen.TheVariants as seens;
-ghost use Rattle.wb_lines.specs.Moments.{moment, IsSound, TakesNext, TakesJoined};
+ghost use Rattle.wb_lines.specs.Moments.{IsSound, TakesNext, TakesJoined};
+ghost use Rattle.wb_lines.specs.Progress.{reached};
 
 use crate::fault::DriveFault;
 use crate::lines::{First, Lines};
@@ -27,10 +28,9 @@ impl<S: Saying> Progress<S> {
         sink: &mut W,
     ) -> Result<Option<First<S>>, DriveFault<F>>
         ensures sound { IsSound S.says self.old.lines }
-        ensures next { TakesNext S.says S.by (moment self.old.lines self.old.output
-            (R.left source.old) (R.has_failed source.old) (W.taken sink.old)
-            (W.has_failed sink.old)) (moment self.new.lines self.new.output (R.left source.new)
-            (R.has_failed source.new) (W.taken sink.new) (W.has_failed sink.new)) result }
+        ensures next { TakesNext S.says S.by
+            (reached R.Source W.Sink self.old source.old sink.old)
+            (reached R.Source W.Sink self.new source.new sink.new) result }
         ensures faults { (result ≡ Err DriveFault.Read → self.new.lines.seen ≡ seens.Failed) ×
             (result ≡ Err DriveFault.Write → self.new.lines.seen ≡ seens.Unwritten) }
     {
@@ -45,10 +45,9 @@ impl<S: Saying> Progress<S> {
         source: &mut R,
         sink: &mut W,
     ) -> Option<S>
-        ensures joined { TakesJoined S.says S.by (moment self.old.lines self.old.output
-            (R.left source.old) (R.has_failed source.old) (W.taken sink.old)
-            (W.has_failed sink.old)) (moment self.new.lines self.new.output (R.left source.new)
-            (R.has_failed source.new) (W.taken sink.new) (W.has_failed sink.new)) result }
+        ensures joined { TakesJoined S.says S.by
+            (reached R.Source W.Sink self.old source.old sink.old)
+            (reached R.Source W.Sink self.new source.new sink.new) result }
         ensures few { IfSome result (λ said. self.new.lines.done ≤ S.at_most) }
     {
         self.lines.look(alloc, source, &mut self.output, sink);

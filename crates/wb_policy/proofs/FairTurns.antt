@@ -12,9 +12,10 @@ use Rattle.wb_names.specs.Values.{DrawopValue}
 use Rattle.wb_gaps.specs.Holes.{begins_after, hole_after, holes_of}
 use Rattle.wb_gaps.specs.declared.holes.Hole.{Hole}
 use Rattle.wb_policy.specs.Fairness.{EachHoleHasItsTurn, EachNumberHasItsTurn, after_turn, after_turns, hole_in_turn, led_to, name_in_turn}
-use Rattle.wb_policy.specs.Turns.{name_in, nowhere}
+use Rattle.wb_policy.specs.Turns.{name_in, nowhere, spread}
 use Rattle.wb_policy.specs.declared.turns.Turns.{Turns}
 use Rattle.wb_policy.proofs.Cycle.{found_at, found_next, found_none}
+use Rattle.wb_policy.proofs.Spreads.{reaches, spread_around}
 use Rattle.wb_policy.proofs.HolesRise.{Rise, found_first, holes_ascend, holes_rise, is_behind}
 
 -- ---- turns, one after the other
@@ -201,10 +202,11 @@ module _ (held : List DrawopValue) (d : Hole) where
   half : (q : ℕ) → (2 * q + 1) / 2 ≡ q
   half q = omega arith
 
-  chosen : (h : Hole) (q : ℕ) → name_in (2 * q + 1) h ≡ name_of h.page h.gap.source (h.gap.first + q % (h.gap.last + 1 - h.gap.first))
+  chosen : (h : Hole) (q : ℕ) → name_in (2 * q + 1) h ≡ name_of h.page h.gap.source (h.gap.first + spread (h.gap.last + 1 - h.gap.first) q % (h.gap.last + 1 - h.gap.first))
   chosen h q =
-      ap (λ (b : Bool). name_of h.page h.gap.source (cond b h.gap.first (h.gap.first + (2 * q + 1) / 2 % (h.gap.last + 1 - h.gap.first)))) (odd q)
-      ∙ ap (λ (n : ℕ). name_of h.page h.gap.source (h.gap.first + n % (h.gap.last + 1 - h.gap.first))) (half q)
+      let numbers = h.gap.last + 1 - h.gap.first in
+      ap (λ (b : Bool). name_of h.page h.gap.source (cond b h.gap.first (h.gap.first + spread numbers ((2 * q + 1) / 2) % numbers))) (odd q)
+      ∙ ap (λ (n : ℕ). name_of h.page h.gap.source (h.gap.first + spread numbers n % numbers)) (half q)
 
   named : (t : Turns) (count round i : ℕ) → Visits t count round i → name_in_turn held (after_turns held count t) ≡ Some (name_in round (at i))
   named t count round i v =
@@ -259,7 +261,8 @@ each_number_has_its_turn held t hole number (i, lt, e) low high few =
     let numbers = hole.gap.last + 1 - hole.gap.first in
     let s = soon held hole t i lt in
     let early = s.early in
-    let c = comes (s.round / 2) numbers (number - hole.gap.first) (omega (arith, low, high)) in
+    let reach = reaches numbers (number - hole.gap.first) (omega (arith, low, high)) in
+    let c = comes (s.round / 2) numbers reach.from reach.within in
     let q = s.round / 2 + c.more in
     let some = c.few in
     let more = 2 * q + 1 - s.round in
@@ -267,7 +270,8 @@ each_number_has_its_turn held t hole number (i, lt, e) low high few =
     let others : s.round ≤ 2 * (s.round / 2) + 1 = other_half s.round in
     let there = agains held hole t s.count s.round i more (omega (arith, early, few, some, halves, others)) s.visits in
     let round : more + s.round ≡ 2 * q + 1 = omega (arith, others) in
-    let this : number_of hole q ≡ number = ap (λ (n : ℕ). hole.gap.first + n) c.is ∙ omega (arith, low) in (
+    let this : number_of hole q ≡ number =
+    ap (λ (n : ℕ). hole.gap.first + n) (spread_around numbers q ∙ ap (λ (n : ℕ). spread numbers n % numbers) c.is ∙ reach.is) ∙ omega (arith, low) in (
       more * length (holes_of held) + s.count,
       few_turns s.count (length (holes_of held)) more numbers s.few (omega (arith, some, halves, others)),
       named held hole t (more * length (holes_of held) + s.count) (more + s.round) i there
@@ -283,7 +287,7 @@ each_number_has_its_turn held t hole number (i, lt, e) low high few =
       other_half n = omega arith
 
       number_of : Hole → ℕ → ℕ
-      number_of h q = h.gap.first + q % (h.gap.last + 1 - h.gap.first)
+      number_of h q = let numbers : ℕ = h.gap.last + 1 - h.gap.first in h.gap.first + spread numbers q % numbers
 
 -- ---- whatever the round is
 
@@ -313,15 +317,17 @@ pub a_number_has_its_turn : (held : List DrawopValue) (t : Turns) (hole : Hole) 
     → (count : ℕ) × (name_in_turn held (after_turns held count t) ≡ Some (name_of hole.page hole.gap.source number))
 a_number_has_its_turn held t hole number (i, lt, e) low high few =
     let numbers = hole.gap.last + 1 - hole.gap.first in
-    let q = number - hole.gap.first in
+    let within : number - hole.gap.first < numbers = omega (arith, low, high) in
+    let reach = reaches numbers (number - hole.gap.first) within in
+    let q = reach.from in
+    let below : q < 2147483648 = ⊎_elim (λ (e : q ≡ number - hole.gap.first). omega (arith, few, low, e)) (λ (le : numbers ≤ 65536). let lt = reach.within in omega (arith, lt, le)) reach.soon in
     let start = first_round held hole t (omega (arith, lt)) in
     let there = onwards held hole t start.0 0 0 i start.1 (omega (arith, lt)) in
     let more = 2 * q + 1 in
-    let last = agains held hole t (i + start.0) 0 (i + 0) more (omega (arith, few, low)) there in
+    let last = agains held hole t (i + start.0) 0 (i + 0) more (omega (arith, below)) there in
     let round : more + 0 ≡ 2 * q + 1 = omega arith in
     let place : i + 0 ≡ i = omega arith in
-    let within : q < numbers = omega (arith, low, high) in
-    let this : hole.gap.first + q % numbers ≡ number = ap (λ (n : ℕ). hole.gap.first + n) (mod-eq_of_lt within) ∙ omega (arith, low) in (
+    let this : hole.gap.first + spread numbers q % numbers ≡ number = ap (λ (n : ℕ). hole.gap.first + n) reach.is ∙ omega (arith, low) in (
       more * length (holes_of held) + (i + start.0),
       named held hole t (more * length (holes_of held) + (i + start.0)) (more + 0) (i + 0) last
           ∙ ap (λ (r : ℕ). Some (name_in r (get_or (holes_of held) (i + 0) hole))) round

@@ -1,12 +1,14 @@
 pub mod Spending
 pub mod NextPages
-pub mod NamesDown
 pub mod Parts
 pub mod FilledHoles
 pub mod Latest
 pub mod Lasts
 pub mod Cycle
 pub mod HolesRise
+pub mod NearNumbers
+pub mod Spreads
 pub mod FairTurns
 pub mod ToldMarks
 pub mod Rising
+pub mod Gaps

@@ -1,5 +1,5 @@
 -- Which part of what is heard or held a policy takes.
-use Rattle.std.specs.Prelude.{ℕ, zero, suc, ◌+◌, ◌-◌, Bool, not, ◌&&◌, List, [], ◌∷◌, Option, Some, None, filter, map, max, min, nat_eq, nat_le, nat_lt, unwrap_or}
+use Rattle.std.specs.Prelude.{ℕ, zero, suc, ◌+◌, ◌-◌, Bool, not, ◌&&◌, List, [], ◌∷◌, ◌++◌, Option, Some, None, filter, map, nat_eq, nat_le, nat_lt, unwrap_or, if◌then◌else◌}
 use Rattle.std.specs.List.{count_by}
 use Rattle.std.specs.Ordering.{is_lt, nat_cmp, ordering_then}
 use Rattle.wb_names.specs.History.{name_of}
@@ -32,17 +32,18 @@ heard_later e f = is_lt (ordering_then (nat_cmp e.held f.held) (nat_cmp e.source
 abbrev pub last_heard : List Echo → List Echo
 last_heard echoes = filter (λ e. nat_lt (count_by (λ f. heard_later f e) echoes) MOST_ECHOES) echoes
 
--- `count` numbers, from n down
-abbrev pub downwards : ℕ → ℕ → List ℕ
-downwards n zero = []
-downwards n (suc count) = n ∷ downwards (n - 1) count
+-- a number of a source, if it is below the greatest that is held
+abbrev pub if_below : ℕ → ℕ → List ℕ
+if_below top number = if nat_le 1 number && nat_lt number top then number ∷ [] else []
 
--- The numbers near one, from 64 above to 64 below, as far as the source is known.
-abbrev pub near_names : NameValue → ℕ → List NameValue
-near_names name top =
-    let high = min (name.seq + REACH) (top - 1) in
-    let low = max 1 (name.seq - REACH) in
-    map (name_of name.page name.source) (downwards high (high + 1 - low))
+-- the numbers that are at most so far from n, the nearest first
+abbrev pub numbers_near : ℕ → ℕ → ℕ → List ℕ
+numbers_near n top zero = []
+numbers_near n top (suc far) = numbers_near n top far ++ (if_below top (n + suc far) ++ if_below top (n - suc far))
+
+-- The names near one, up to 64 away: what others hold lies side by side, so the nearest come first.
+unfoldable pub near_names : NameValue → ℕ → List NameValue
+near_names name top = map (name_of name.page name.source) (numbers_near name.seq top REACH)
 
 -- the last source of some marks, or this one if there are none
 abbrev pub last_source : Option ℕ → List MarkValue → Option ℕ

@@ -1,12 +1,14 @@
 -- Laws of a policy that know no host.
-use Rattle.std.specs.Prelude.{ℕ, ◌+◌, ◌-◌, ◌*◌, ◌≤◌, List, [], ◌∷◌, IsTrue, Option, length}
+use Rattle.std.specs.Prelude.{◌≡◌, ◌≢◌, ◌<◌, All, Contains, ℕ, ◌+◌, ◌-◌, ◌*◌, ◌≤◌, List, [], ◌∷◌, IsTrue, Option, length}
 use Rattle.wb_names.specs.Ascending.{AreEchoes}
 use Rattle.wb_names.specs.Values.{MarkValue}
 use Rattle.wb_names.specs.declared.echo.Echo.{Echo}
-use Rattle.wb_policy.specs.Choices.{last_heard}
+use Rattle.wb_policy.specs.Choices.{last_heard, numbers_near}
 use Rattle.wb_policy.specs.Credit.{has_credit, repaid, spent}
+use Rattle.wb_policy.specs.Pace.{hurried, next_pace}
 use Rattle.wb_policy.specs.Reports.{report_bytes, slice_after}
-use Rattle.wb_policy.specs.declared.limits.TheConstants.{COST, MOST_MARKS, MOST_REPORT_BYTES, PAYS, PLACES}
+use Rattle.wb_policy.specs.declared.limits.TheConstants.{COST, LONGEST_GAP, MOST_MARKS, MOST_REPORT_BYTES, PAYS, PLACES, SHORTEST_GAP}
+use Rattle.wb_policy.specs.declared.pace.Pace.{Pace}
 
 -- ---- what is asked for
 
@@ -41,6 +43,40 @@ IsSpent owed start end (Comes ∷ before) = IsSpent owed start end before
 -- From one moment to another at most 64 names are asked for, one more for each quarter of a second, and two more for each that came.
 abbrev pub FewAreAsked : Type 0
 FewAreAsked = (owed start end : ℕ) (spending : List Spending) → IsSpent owed start end spending → asks_in spending * COST ≤ (PLACES + PAYS * comes_in spending) * COST + (end - start)
+
+-- ---- when turns come
+
+-- The next turn comes 1 to 16 seconds after one; and a second after it, once something that was asked for came since the turn before.
+abbrev pub TurnsArePaced : Type 0
+TurnsArePaced = (now : ℕ) (p : Pace) → (now + SHORTEST_GAP ≤ (next_pace now p).due) × ((next_pace now p).due ≤ now + LONGEST_GAP)
+
+abbrev pub SuccessHurries : Type 0
+SuccessHurries = (now : ℕ) (p : Pace) → (next_pace now (hurried p)).due ≡ now + SHORTEST_GAP
+
+-- the pace after turns at some moments that brought nothing, the newest first
+abbrev pub pace_after : Pace → List ℕ → Pace
+pace_after p [] = p
+pace_after p (now ∷ before) = next_pace now (pace_after p before)
+
+-- After 513 turns that brought nothing they are 16 seconds apart.
+abbrev pub IdleTurnsAreRare : Type 0
+IdleTurnsAreRare = (p : Pace) (now : ℕ) (before : List ℕ) → 513 ≤ length before → (pace_after p (now ∷ before)).due ≡ now + LONGEST_GAP
+
+-- ---- what is near
+
+-- a number that is at most so far from n, below the greatest that is held
+pub record IsNear (n top far m : ℕ) : Type 0 where
+  pub counted : 1 ≤ m
+  pub below : m < top
+  pub above : n ≤ m + far
+  pub under : m ≤ n + far
+
+-- All numbers near one are such numbers, and all others that are such numbers are among them.
+abbrev pub NumbersAreNear : Type 0
+NumbersAreNear = (n top far : ℕ) → All (IsNear n top far) (numbers_near n top far)
+
+abbrev pub NearIsAmong : Type 0
+NearIsAmong = (n top far m : ℕ) → IsNear n top far m → m ≢ n → Contains (numbers_near n top far) m
 
 -- ---- what is reported
 

@@ -3,6 +3,7 @@ pub mod Credit
 pub mod Distances
 pub mod Questions
 pub mod Reports
+pub mod Pace
 pub mod Turns
 pub mod Wanting
 pub mod Choices

@@ -5,11 +5,13 @@ use Rattle.wb_names.specs.declared.name.PageId.{PageId}
 use Rattle.wb_gaps.specs.declared.holes.Hole.{Hole}
 use Rattle.wb_policy.specs.Credit.{repaid, spent}
 use Rattle.wb_policy.specs.Distances.{bounded, usual_with}
+use Rattle.wb_policy.specs.Pace.{begun_pace, hurried, next_pace}
 use Rattle.wb_policy.specs.Questions.{answered_at, asked_at, heard_at, opened_at, to_answer}
 use Rattle.wb_policy.specs.Reports.{mean_time, next_report}
 use Rattle.wb_policy.specs.Turns.{after_hole, next_round, nowhere}
 use Rattle.wb_policy.specs.Words.{after_word, drawn, started}
 use Rattle.wb_policy.specs.declared.limits.TheConstants.{ANSWER, FIRST_DISTANCE, FIRST_QUESTION, FIRST_REPORT}
+use Rattle.wb_policy.specs.declared.pace.Pace.{Pace}
 use Rattle.wb_policy.specs.declared.questions.Questions.{Questions}
 use Rattle.wb_policy.specs.declared.reports.Reports.{Reports}
 use Rattle.wb_policy.specs.declared.turns.Turns.{Turns}
@@ -21,6 +23,7 @@ pub record Policy : Type 0 where
   pub reports : Reports
   pub questions : Questions
   pub turns : Turns
+  pub pace : Pace
   pub told_page : PageId
   pub told : Option ℕ
   pub until : ℕ
@@ -44,6 +47,7 @@ begun now rate listen seed =
       reports = record { rate = rate; due = now + drawn FIRST_REPORT words };
       questions = opened_at now (drawn FIRST_QUESTION (after_word words));
       turns = record { page = nowhere; source = 0; number = 0; round = 0 };
+      pace = begun_pace now;
       told_page = nowhere;
       told = None;
       until = 0;
@@ -59,7 +63,7 @@ abbrev pub after_wanting : ℕ → Policy → Policy
 after_wanting now p = record p { owed = spent p.owed now }
 
 abbrev pub after_came : Policy → Policy
-after_came p = record p { owed = repaid p.owed }
+after_came p = record p { owed = repaid p.owed; pace = hurried p.pace }
 
 -- a hole has its turn; another round begins
 abbrev pub after_turn : Hole → Policy → Policy
@@ -67,6 +71,10 @@ after_turn hole p = record p { turns = after_hole p.turns hole }
 
 abbrev pub in_next_round : Policy → Policy
 in_next_round p = record p { turns = next_round p.turns }
+
+-- a turn comes by the clock
+abbrev pub after_beat : ℕ → Policy → Policy
+after_beat now p = record p { pace = next_pace now p.pace }
 
 -- an echo told a distance
 abbrev pub with_distance : ℕ → Policy → Policy
@@ -97,4 +105,4 @@ sooner moment None = moment
 sooner moment (Some other) = min moment other
 
 abbrev pub next_moment : Policy → ℕ
-next_moment p = sooner (sooner p.reports.due p.questions.ask) p.questions.answer
+next_moment p = sooner (sooner (min p.reports.due p.pace.due) p.questions.ask) p.questions.answer

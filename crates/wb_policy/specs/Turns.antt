@@ -1,20 +1,27 @@
 -- Whose turn it is: the holes one after the other, round after round.
-use Rattle.std.specs.Prelude.{ℕ, ◌+◌, ◌-◌, ◌/◌, ◌%◌, nat_eq, if◌then◌else◌}
+use Rattle.std.specs.Prelude.{ℕ, ◌||◌, ◌+◌, ◌-◌, ◌*◌, ◌/◌, ◌%◌, nat_eq, nat_lt, if◌then◌else◌}
 use Rattle.wb_names.specs.Values.{NameValue}
 use Rattle.wb_names.specs.History.{name_of}
 use Rattle.wb_names.specs.declared.gap.Gap.{Gap}
 use Rattle.wb_names.specs.declared.name.PageId.{PageId}
 use Rattle.wb_gaps.specs.declared.holes.Hole.{Hole}
-use Rattle.wb_policy.specs.declared.limits.TheConstants.{ROUND_LIMIT}
+use Rattle.wb_policy.specs.declared.limits.TheConstants.{LONG, ROUND_LIMIT, STRIDE}
 use Rattle.wb_policy.specs.declared.turns.Turns.{Turns}
 
 abbrev pub nowhere : PageId
 nowhere = record { creator = 0; number = 0 }
 
--- The first number of a hole in an even round, since its neighbours come with it; in odd rounds each of its numbers in
--- turn, since the first may be one that nobody holds.
+-- How far a step leads from the first of `count` numbers, counted on past the last: 19 numbers, so that a part of a hole that others hold
+-- is met soon. It is one number if 19 divides `count`, so that each has its turn, and in a hole of more numbers than a board has cells,
+-- which ends below a forged number.
+abbrev pub spread : ℕ → ℕ → ℕ
+spread count step = if nat_lt LONG count || nat_eq (count % STRIDE) 0 then step else STRIDE * step
+
+-- The first number of a hole in an even round, since what was lost before a forged number is there; in odd rounds each of its numbers in turn.
 abbrev pub number_in : ℕ → Gap → ℕ
-number_in round gap = if nat_eq (round % 2) 0 then gap.first else gap.first + round / 2 % (gap.last + 1 - gap.first)
+number_in round gap =
+    let count : ℕ = gap.last + 1 - gap.first in
+    if nat_eq (round % 2) 0 then gap.first else gap.first + spread count (round / 2) % count
 
 abbrev pub name_in : ℕ → Hole → NameValue
 name_in round hole = name_of hole.page hole.gap.source (number_in round hole.gap)

@@ -1,9 +1,9 @@
 //! Which part of what is heard or held a policy takes.
-ghost use Rattle.std.specs.Prelude.{◌≡◌, ◌≤◌, ◌<◌, IfOk, Bool, filter, length, map, nat_eq, nat_le, nat_lt, not, ◌&&◌};
+ghost use Rattle.std.specs.Prelude.{◌≡◌, ◌≤◌, ◌<◌, ◌++◌, IfOk, OnOk, Bool, filter, length, map, nat_eq, nat_le, nat_lt, not, ◌&&◌};
 ghost use Rattle.wb_names.specs.History.{name_of};
 ghost use Rattle.std.specs.List.{count_by};
 ghost use Rattle.std.specs.Ordering.{is_lt};
-ghost use Rattle.wb_policy.specs.Choices.{distance_in, downwards, heard_later, last_heard, last_source, near_names, own_echo, own_marks, told_names, until_in};
+ghost use Rattle.wb_policy.specs.Choices.{distance_in, heard_later, if_below, last_heard, last_source, near_names, own_echo, own_marks, told_names, until_in};
 ghost use Rattle.wb_policy.specs.declared.limits.TheConstants.{FIRST_FORGED, MOST_ECHOES};
 ghost use Rattle.wb_policy.specs.Reports.{slice_after};
 ghost use Rattle.std.specs.Prelude.{None};
@@ -175,25 +175,29 @@ fn name_of(page: PageId, mark: Mark) -> Name
     Name::new(mark.source(), page, mark.high()).unwrap()
 }
 
-/// The names near one, from 64 above to 64 below, down to number 1 and below the greatest that is
-/// held.
+/// The names near one, up to 64 away, from number 1 on and below the greatest that is held: the
+/// nearest first.
 pub fn near_names(alloc: Global, name: &Name, top: u32) -> Result<Vec<Name>, AllocError>
     ensures { IfOk result (λ names. names.items ≡ near_names name.now top) }
 {
-    let high = name.seq().saturating_add(REACH).min(top.saturating_sub(1));
-    let low = name.seq().saturating_sub(REACH).max(1);
-    names_down(alloc, name, high, (high + 1).saturating_sub(low))
-}
-
-/// `count` names of the source and page of `name`, from the number `high` down.
-fn names_down(alloc: Global, name: &Name, high: u32, count: u32) -> Result<Vec<Name>, AllocError>
-    requires { count ≤ high }
-    ensures { IfOk result (λ names.
-        names.items ≡ map (name_of name.now.page name.now.source) (downwards high count)) }
-{
     let mut names = Vec::new(alloc);
-    for below in 0..count {
-        names.push(Name::new(name.source(), name.page(), high - below).unwrap())?;
+    for far in 0..REACH {
+        let above = name.seq().saturating_add(far + 1);
+        let below = name.seq().saturating_sub(far + 1);
+        push_below(&mut names, name, above, top)?;
+        push_below(&mut names, name, below, top)?;
     }
     Ok(names)
+}
+
+/// The name of the source and page of `name` with this number, if there may be one below `top`.
+fn push_below(names: &mut Vec<Name>, name: &Name, number: u32, top: u32) -> Result<(), AllocError>
+    ensures { OnOk result (names.new.items ≡ names.old.items ++
+        map (name_of name.now.page name.now.source) (if_below top number)) }
+{
+    if number == 0 || top <= number {
+        return Ok(());
+    }
+    names.push(Name::new(name.source(), name.page(), number).unwrap())?;
+    Ok(())
 }

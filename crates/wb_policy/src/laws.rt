@@ -3,13 +3,20 @@
 
 ghost use Rattle.std.specs.Prelude.{◌≡◌, ◌^◌};
 ghost use Rattle.wb_policy.specs.Fairness.{EachHoleHasItsTurn, EachMarkIsTold, EachNumberHasItsTurn, TellingsRise};
-ghost use Rattle.wb_policy.specs.Laws.{FewAreAsked, ReportsAreSmall, SlicesAreShort};
-ghost use Rattle.wb_policy.specs.declared.limits.TheConstants.{ANSWER, COST, ECHO_BYTES, FIRST_DISTANCE, FIRST_FORGED, FIRST_QUESTION, FIRST_REPORT, FIRST_WAIT, HEAD_BYTES, HEARD, LEAST_DISTANCE, LISTEN_LIMIT, LONGEST_MEAN, LONGEST_PAUSE, MARK_BYTES, MEMBERS, MOST_BYTES, MOST_DISTANCE, MOST_ECHOES, MOST_MARKS, MOST_PAGES, MOST_REPORT_BYTES, MOST_TIMERS, MOST_WAIT, OLD_LEVEL, PAYS, PLACES, PLACES_OF_LAST, QUIET, REACH, ROUND_LIMIT, SECOND, SHORTEST_MEAN, SHORTEST_PAUSE, STREAM, UNKNOWN_DISTANCE};
+ghost use Rattle.wb_policy.specs.Laws.{FewAreAsked, IdleTurnsAreRare, NearIsAmong, NumbersAreNear, ReportsAreSmall, SlicesAreShort, SuccessHurries, TurnsArePaced};
+ghost use Rattle.wb_policy.specs.declared.limits.TheConstants.{ANSWER, COST, ECHO_BYTES, FIRST_DISTANCE, FIRST_FORGED, FIRST_QUESTION, FIRST_REPORT, FIRST_WAIT, HEAD_BYTES, HEARD, LEAST_DISTANCE, LISTEN_LIMIT, LONG, LONGEST_GAP, LONGEST_MEAN, LONGEST_PAUSE, MARK_BYTES, MEMBERS, MOST_BYTES, MOST_DISTANCE, MOST_ECHOES, MOST_MARKS, MOST_PAGES, MOST_REPORT_BYTES, MOST_TIMERS, MOST_WAIT, OLD_LEVEL, PAYS, PLACES, PLACES_OF_LAST, QUIET, REACH, ROUND_LIMIT, SECOND, SHORTEST_GAP, SHORTEST_MEAN, SHORTEST_PAUSE, STEADINESS, STREAM, STRIDE, UNKNOWN_DISTANCE};
 
 /// From one moment to another at most 64 names are asked for, one more for each quarter of a
 /// second, and two more for each that was asked for and came.
 pub fn few_are_asked()
     ensures few { FewAreAsked }
+{}
+
+/// The neighbours of a number: those up to so far away, below the greatest that is held, and each
+/// of these is among them.
+pub fn neighbours_are_near()
+    ensures near { NumbersAreNear }
+    ensures among { NearIsAmong }
 {}
 
 /// A report or a page state has at most 64 marks, whatever is held. A report has at most 32 echoes
@@ -24,6 +31,15 @@ pub fn slices_are_short()
 pub fn turns_are_fair()
     ensures holes { EachHoleHasItsTurn }
     ensures numbers { EachNumberHasItsTurn }
+{}
+
+/// Turns come by the clock, 1 to 16 seconds after one another: after 513 that brought nothing, 16
+/// seconds. Once something that was asked for came, the next turn but one comes a second after the
+/// next.
+pub fn turns_keep_a_pace()
+    ensures paced { TurnsArePaced }
+    ensures hurried { SuccessHurries }
+    ensures rare { IdleTurnsAreRare }
 {}
 
 /// While what is held stays as it is, each mark of a board of S slices is reported within S
@@ -48,11 +64,12 @@ pub fn limits()
 {}
 
 /// The other numbers: what a name costs and pays, and how many are asked for at once; when a timer
-/// is old, and how far neighbours reach; distances; the times between reports, and for how long a
+/// is old, and how far neighbours reach; the times between turns; distances; the times between reports, and for how long a
 /// member counts; the bytes of a report; the times of answers; and the stream of the words.
 pub fn numbers()
     ensures credit { (COST ≡ 250000) × (PAYS ≡ 2) × (PLACES ≡ 64) × (PLACES_OF_LAST ≡ 48) }
-    ensures wanting { (OLD_LEVEL ≡ 4) × (REACH ≡ 64) }
+    ensures wanting { (OLD_LEVEL ≡ 4) × (REACH ≡ 64) × (STRIDE ≡ 19) × (LONG ≡ 65536) }
+    ensures turns { (SHORTEST_GAP ≡ 1000000) × (LONGEST_GAP ≡ 16000000) × (STEADINESS ≡ 128) }
     ensures distances { (UNKNOWN_DISTANCE ≡ 100000) × (LEAST_DISTANCE ≡ 10000) }
     ensures means { (SHORTEST_MEAN ≡ 2000000) × (LONGEST_MEAN ≡ 64000000) }
     ensures pauses { (SHORTEST_PAUSE ≡ 1000000) × (LONGEST_PAUSE ≡ 96000000) }

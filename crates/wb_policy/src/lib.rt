@@ -8,8 +8,8 @@
 //! handed in. Who performs what is decided is the crate wb_keeping.
 //!
 //! In reading order: `limits` has the numbers; `words` are its random words; `credit` says how much
-//! may be asked for, `wanting` which names, and `turns` which hole comes next; `questions` asks for
-//! pages and answers others; `reports` says when a report is due, and which marks it has;
+//! may be asked for, `wanting` which names, `turns` which hole comes next, and `pace` when; `questions`
+//! asks for pages and answers others; `reports` says when a report is due, and which marks it has;
 //! `distances` bounds what echoes give; `choices` takes parts of what was heard and is held;
 //! `policy` joins what is remembered. `laws` says what follows.
 #![tactic(auto)]
@@ -19,6 +19,7 @@ mod credit;
 mod distances;
 pub mod laws;
 pub mod limits;
+mod pace;
 mod policy;
 mod questions;
 mod reports;
@@ -32,6 +33,7 @@ pub use choices::{
 };
 pub use credit::Credit;
 pub use distances::Distances;
+pub use pace::Pace;
 pub use policy::{Policy, sooner};
 pub use questions::Questions;
 pub use reports::{Reports, is_telling, members, page_after, report_bytes, slice_after};

@@ -30,8 +30,25 @@ pub const OLD_LEVEL: u32 = 4;
 /// How far the neighbours of a drawop reach, which are wanted when it comes.
 pub const REACH: u32 = 64;
 
+/// Turns go through a hole in steps of as many numbers. It is prime, so that each has its turn.
+pub const STRIDE: u64 = 19;
+
+/// A hole of more numbers ends below a forged one: no board has more than 65,535 cells.
+pub const LONG: u64 = 65_536;
+
 /// Rounds of turns are counted below this number, and begin again at 0.
 pub const ROUND_LIMIT: u64 = 1 << 32;
+
+// ---- when a name has its turn
+
+/// The shortest time from one turn to the next.
+pub const SHORTEST_GAP: u64 = SECOND;
+
+/// The longest time from one turn to the next.
+pub const LONGEST_GAP: u64 = 16 * SECOND;
+
+/// While turns bring nothing, each gap is longer than the one before by this part of it.
+pub const STEADINESS: u64 = 128;
 
 // ---- what is believed
 

@@ -3,9 +3,9 @@
 
 ghost use Rattle.std.specs.Prelude.{◌≡◌, ◌≤◌, ◌<◌, ◌+◌, if◌then◌else◌, nat_le, nat_lt};
 ghost use Rattle.wb_names.specs.Moments.{IsMoment};
-ghost use Rattle.wb_policy.specs.declared.limits.TheConstants.{LISTEN_LIMIT, LONGEST_PAUSE, MEMBERS, MOST_BYTES, MOST_DISTANCE, SHORTEST_PAUSE};
+ghost use Rattle.wb_policy.specs.declared.limits.TheConstants.{LISTEN_LIMIT, LONGEST_GAP, LONGEST_PAUSE, MEMBERS, MOST_BYTES, MOST_DISTANCE, SHORTEST_GAP, SHORTEST_PAUSE};
 ghost use Rattle.wb_policy.specs.Distances.{bounded};
-ghost use Rattle.wb_policy.specs.Policy.{after_answer, after_came, after_question, after_report, after_state, after_taking_up, after_turn, after_wanting, begun, in_next_round, next_moment, sooner, with_distance};
+ghost use Rattle.wb_policy.specs.Policy.{after_answer, after_beat, after_came, after_question, after_report, after_state, after_taking_up, after_turn, after_wanting, begun, in_next_round, next_moment, sooner, with_distance};
 ghost use Rattle.wb_policy.specs.Questions.{is_due, is_to_answer};
 ghost use Rattle.wb_policy.specs.Reports.{is_telling};
 ghost use Rattle.wb_policy.specs.Turns.{name_in};
@@ -14,6 +14,7 @@ ghost use Rattle.wb_policy.specs.Wanting.{is_wanted};
 use crate::credit::Credit;
 use crate::distances::Distances;
 use crate::limits::{ANSWER, FIRST_QUESTION, FIRST_REPORT};
+use crate::pace::Pace;
 use crate::questions::Questions;
 use crate::reports::{Reports, is_telling};
 use crate::turns::Turns;
@@ -32,6 +33,7 @@ pub struct Policy {
     reports: Reports,
     questions: Questions,
     turns: Turns,
+    pace: Pace,
     /// The page of the last report.
     told_page: PageId,
     /// The last source of the last report, if it had one.
@@ -55,6 +57,7 @@ impl Model for Policy {
       reports = p.reports;
       questions = p.questions;
       turns = p.turns;
+      pace = p.pace;
       told_page = p.told_page;
       told = p.told;
       until = p.until;
@@ -87,6 +90,7 @@ impl Policy {
             },
             questions: Questions::new(now, question),
             turns: Turns::START,
+            pace: Pace::new(now),
             told_page: Turns::START.page,
             told: None,
             until: 0,
@@ -107,7 +111,8 @@ impl Policy {
     pub fn due(&self) -> u64
         ensures { result ≡ next_moment self.now }
     {
-        let question = sooner(self.reports.due, self.questions.ask);
+        let first = self.reports.due.min(self.pace.due);
+        let question = sooner(first, self.questions.ask);
         sooner(question, self.questions.answer)
     }
 
@@ -125,11 +130,12 @@ impl Policy {
         true
     }
 
-    /// A name that was asked for came.
+    /// A name that was asked for came: it pays, and turns come each second again.
     pub fn came(&mut self)
         ensures { self.new ≡ after_came self.old }
     {
         self.credit.repay();
+        self.pace.hurry();
     }
 
     /// The next hole in turn begins after this number of this source on this page.
@@ -137,6 +143,23 @@ impl Policy {
         ensures { result ≡ self.now.turns }
     {
         self.turns
+    }
+
+    /// Whether a turn is due.
+    pub fn is_turn(&self, now: u64) -> bool
+        ensures { result ≡ nat_le self.now.pace.due now }
+    {
+        self.pace.is_due(now)
+    }
+
+    /// A turn comes by the clock. So turns are at least a second apart, and at most 16.
+    pub fn beat(&mut self, now: u64)
+        requires { IsMoment now }
+        ensures after { self.new ≡ after_beat now self.old }
+        ensures rare { now + SHORTEST_GAP ≤ self.new.pace.due }
+        ensures soon { self.new.pace.due ≤ now + LONGEST_GAP }
+    {
+        self.pace.turned(now);
     }
 
     /// It is the turn of a hole: which of its names is wanted.

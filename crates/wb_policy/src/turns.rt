@@ -1,8 +1,9 @@
 //! Whose turn it is among the holes.
 
-ghost use Rattle.std.specs.Prelude.{◌≡◌, ◌≤◌};
-ghost use Rattle.wb_policy.specs.Turns.{after_hole, name_in, next_round, number_in};
+ghost use Rattle.std.specs.Prelude.{◌≡◌, ◌≤◌, ◌<◌};
+ghost use Rattle.wb_policy.specs.Turns.{after_hole, name_in, next_round, number_in, spread};
 
+use crate::limits::{LONG, STRIDE};
 use wb_gaps::Hole;
 use wb_names::{Gap, Name, PageId};
 
@@ -64,8 +65,20 @@ fn number_in(round: u32, gap: Gap) -> u32
     ensures last { result ≤ gap.last }
 {
     if round % 2 == 0 {
-        gap.first
+        return gap.first;
+    }
+    let count = (gap.last - gap.first) as u64 + 1;
+    let place = spread(count, round / 2) % count;
+    gap.first + place as u32
+}
+
+/// How far a step leads from the first of `count` numbers, counted on past the last.
+fn spread(count: u64, step: u32) -> u64
+    ensures { result ≡ spread count step }
+{
+    if LONG < count || count % STRIDE == 0 {
+        step as u64
     } else {
-        gap.first + round / 2 % (gap.last - gap.first + 1)
+        STRIDE * step as u64
     }
 }

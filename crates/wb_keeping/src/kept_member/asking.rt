@@ -1,21 +1,19 @@
 //! What a self-managing member asks for.
-ghost use Rattle.std.specs.Prelude.{◌≡◌, ◌≤◌, ◌<◌, ◌^◌, ◌∷◌, [], IfOk, OnErr, OnOk, IfSome, filter, length, nat_lt};
+ghost use Rattle.std.specs.Prelude.{◌≡◌, ◌≤◌, ◌<◌, ◌^◌, ◌∷◌, [], IfOk, OnErr, OnOk, IfSome};
 ghost use Rattle.wb_recovery.specs.Delays.{IsDelay};
-ghost use Rattle.wb_policy.specs.Choices.{near_names};
-ghost use Rattle.wb_keeping.specs.Kept.{Asks, and_then, end, ends_full, is_begun, is_unasked, learned, paid_for, performs, stops_one, turn, want, want_near, want_told};
+ghost use Rattle.wb_keeping.specs.Kept.{Asks, and_then, end, ends_full, is_begun, is_unasked, learned, paid_for, performs, stops_one, turn, turn_if, turns_due, want, want_near, want_told};
 ghost use Rattle.wb_recovery.specs.Events.{timers_of};
 ghost use Rattle.wb_member.specs.Opened.{events};
 ghost use Rattle.wb_keeping.specs.Performing.{DoesQuietly, IsKeptAt, Keeping, LeavesSome, asked_with, sees, view_of};
 ghost use Rattle.wb_keeping.specs.Views.{holds, is_asked, is_full, is_known, level};
 ghost use Rattle.wb_policy.specs.Wanting.{giving_way};
-ghost use Rattle.wb_keeping.specs.Steps.{lends_for, lent_at, makes_room, performs_all, turn_again, want_in};
-ghost use Rattle.wb_names.specs.History.{highest};
+ghost use Rattle.wb_keeping.specs.Steps.{AreNear, lends_for, lent_at, lowest_near, makes_room, performs_all, turn_again, want_in};
 
 use crate::kept_member::KeptMember;
 use std::alloc::{AllocError, Global};
 use wb_gaps::Hole;
 use wb_names::Name;
-use wb_policy::limits::UNKNOWN_DISTANCE;
+use wb_policy::limits::{REACH, UNKNOWN_DISTANCE};
 use wb_policy::{AskedName, Candidate, Turns, giving_way, near_names};
 
 impl KeptMember {
@@ -56,7 +54,7 @@ impl KeptMember {
         Ok(())
     }
 
-    /// What it shows of a name that it might ask for.
+    /// What the policy sees of a name that might be asked for.
     fn candidate(&self, name: &Name) -> Candidate
         ensures held { (k : Keeping) → IsKeptAt self.now k →
             result.is_held ≡ holds (view_of k.host) name.now }
@@ -170,8 +168,8 @@ impl KeptMember {
         Ok(())
     }
 
-    /// A drawop is new: its missing neighbours are wanted. If none is missing and it was asked for,
-    /// another hole has its turn in its place.
+    /// A drawop is new: its missing neighbours are wanted. If it had been asked for, the next hole has
+    /// its turn too.
     pub(super) fn learned(
         &mut self,
         alloc: Global,
@@ -187,28 +185,39 @@ impl KeptMember {
         }
         let near = self.near(alloc, name)?;
         self.pay(was_asked);
-        if self.lacks_some(&near) {
-            self.want_near(alloc, &near)?;
-            return Ok(());
-        }
-        if was_asked {
-            self.turn(alloc)?;
-            return Ok(());
-        }
+        self.want_near(alloc, &near)?;
+        self.turn_if(alloc, was_asked)?;
         Ok(())
     }
 
-    /// The names near one.
+    /// The next hole has its turn, if a name that was asked for came.
+    fn turn_if(&mut self, alloc: Global, was_asked: bool) -> Result<(), AllocError>
+        ensures does { OnOk result (DoesQuietly (turn_if was_asked) self.old self.new) }
+        ensures left { OnErr result (LeavesSome (turn_if was_asked) self.old self.new) }
+    {
+        if !was_asked {
+            return Ok(());
+        }
+        self.turn(alloc)?;
+        Ok(())
+    }
+
+    /// The names near one, which may be left out if all of them are held. Mostly one look-up shows
+    /// that they are: from the least of them on nothing is missing.
     fn near(&mut self, alloc: Global, name: &Name) -> Result<Vec<Name>, AllocError>
         ensures same { self.new ≡ self.old }
-        ensures near { IfOk result (λ near. (k : Keeping) → IsKeptAt self.old k → near.items ≡
-            near_names name.now (highest name.now.page name.now.source (view_of k.host).held)) }
+        ensures near { IfOk result (λ near. (k : Keeping) → IsKeptAt self.old k →
+            AreNear (view_of k.host) name.now near.items) }
     {
+        let whole_from = self.member.whole_from(name.page(), name.source())?;
+        if whole_from <= lowest_near(name) {
+            return Ok(Vec::new(alloc));
+        }
         let top = self.member.highest(name.page(), name.source())?;
         near_names(alloc, name, top)
     }
 
-    /// What was asked for pays.
+    /// Refunds the credit of a request that was answered.
     fn pay(&mut self, was_asked: bool)
         ensures member { self.new.member ≡ self.old.member }
         ensures policy { self.new.policy ≡ paid_for was_asked self.old.policy }
@@ -216,19 +225,6 @@ impl KeptMember {
         if was_asked {
             self.policy.came();
         }
-    }
-
-    /// Whether some of these names is neither held nor asked for.
-    fn lacks_some(&self, names: &[Name]) -> bool
-        ensures { (k : Keeping) → IsKeptAt self.now k →
-            result ≡ nat_lt 0 (length (filter (is_unasked (view_of k.host)) names.now)) }
-    {
-        for name in names {
-            if self.is_unasked(name) {
-                return true;
-            }
-        }
-        false
     }
 
     /// Whether a name is neither held nor asked for.
@@ -257,8 +253,22 @@ impl KeptMember {
         Ok(())
     }
 
+    /// The next hole has its turn, if one is due by the clock.
+    pub(super) fn turns_due(&mut self, alloc: Global) -> Result<(), AllocError>
+        ensures does { OnOk result (DoesQuietly turns_due self.old self.new) }
+        ensures left { OnErr result (LeavesSome turns_due self.old self.new) }
+    {
+        let now = self.member.moment();
+        if !self.policy.is_turn(now) {
+            return Ok(());
+        }
+        self.policy.beat(now);
+        self.turn(alloc)?;
+        Ok(())
+    }
+
     /// The next hole has its turn, or the first one in another round.
-    pub(super) fn turn(&mut self, alloc: Global) -> Result<(), AllocError>
+    fn turn(&mut self, alloc: Global) -> Result<(), AllocError>
         ensures does { OnOk result (DoesQuietly turn self.old self.new) }
         ensures left { OnErr result (LeavesSome turn self.old self.new) }
     {
@@ -294,7 +304,7 @@ impl KeptMember {
         }
     }
 
-    /// A hole has its turn: one of its names is wanted. No hole is without a number.
+    /// A hole has its turn: one of its names is wanted. A hole is never empty.
     fn want_in(&mut self, alloc: Global, hole: Hole) -> Result<(), AllocError>
         ensures does { OnOk result (1 ≤ hole.gap.first → hole.gap.first ≤ hole.gap.last →
             DoesQuietly (want_in hole) self.old self.new) }
@@ -310,7 +320,7 @@ impl KeptMember {
         Ok(())
     }
 
-    /// It gives up asking if its board is full.
+    /// If the board is full, the member stops all of its request timers.
     pub(super) fn end_where_full(&mut self, alloc: Global) -> Result<(), AllocError>
         ensures does { OnOk result (DoesQuietly ends_full self.old self.new) }
         ensures err { OnErr result (self.new ≡ self.old) }
@@ -321,7 +331,7 @@ impl KeptMember {
         Ok(())
     }
 
-    /// It gives up asking.
+    /// The member stops all of its request timers.
     fn end(&mut self, alloc: Global) -> Result<(), AllocError>
         ensures does { OnOk result (DoesQuietly end self.old self.new) }
         ensures err { OnErr result (self.new ≡ self.old) }
@@ -330,4 +340,11 @@ impl KeptMember {
         self.stop_all(&names);
         Ok(())
     }
+}
+
+/// The least number near a name: 64 below it, and at least 1.
+fn lowest_near(name: &Name) -> u32
+    ensures { result ≡ lowest_near name.now }
+{
+    name.seq().saturating_sub(REACH).max(1)
 }

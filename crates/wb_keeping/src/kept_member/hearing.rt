@@ -115,7 +115,7 @@ impl KeptMember {
         Ok(())
     }
 
-    /// An echo gave a distance, or none did.
+    /// Records the distance measured from our echo, if there was one.
     fn measures(&mut self, sender: u32, distance: Option<u64>) -> Result<(), AllocError>
         ensures does { OnOk result (DoesQuietly (measures sender distance) self.old self.new) }
         ensures left { OnErr result (LeavesSome (measures sender distance) self.old self.new) }

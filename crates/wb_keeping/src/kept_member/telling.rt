@@ -15,8 +15,8 @@ use wb_policy::limits::MOST_PAGES;
 use wb_policy::{last_heard, last_source, members, page_after, report_bytes, slice_of, until_in};
 
 impl KeptMember {
-    /// What is due is sent: an answer, then a question, then a report, after which a hole has its
-    /// turn.
+    /// What is due is sent: an answer, then a question, then a report; and then a hole has its turn,
+    /// if that is due.
     pub(super) fn timed(
         &mut self,
         alloc: Global,
@@ -28,6 +28,7 @@ impl KeptMember {
         self.answers(alloc, sent)?;
         self.asks_pages(sent)?;
         self.reports_due(alloc, sent)?;
+        self.turns_due(alloc)?;
         Ok(())
     }
 
@@ -92,7 +93,7 @@ impl KeptMember {
         Ok(())
     }
 
-    /// It reports, if that is due, and then a hole has its turn.
+    /// It reports, if that is due.
     fn reports_due(&mut self, alloc: Global, sent: &mut Vec<Datagram>) -> Result<(), AllocError>
         ensures does { OnOk result
             (Does reports_due self.old self.new sent.old.items sent.new.items) }
@@ -102,7 +103,6 @@ impl KeptMember {
             return Ok(());
         }
         self.reports(alloc, sent)?;
-        self.turn(alloc)?;
         Ok(())
     }
 

@@ -1,6 +1,8 @@
 //! What a member shows to whoever judges for it: when it is to ask, and for what. None of it
 //! changes the member.
 ghost use Rattle.std.specs.Prelude.{◌≡◌, ◌<◌, ◌≤◌, ◌^◌, length, IfOk, IfSome};
+ghost use Rattle.wb_names.specs.History.{IsHeld};
+ghost use Rattle.wb_gaps.specs.Greatest.{IsWholeFrom};
 ghost use Rattle.wb_recovery.specs.Delays.{IsDelay};
 ghost use Rattle.wb_board.specs.Counts.{MAX_CELLS};
 ghost use Rattle.wb_member.specs.Holding.{IsOpenAt};
@@ -81,6 +83,16 @@ impl Member {
             number ≡ highest page source host) }
     {
         self.board.highest(page, source)
+    }
+
+    /// The least number from which on all of a source are held on a page, up to the greatest that
+    /// is. 0 if none is held. It costs one look-up.
+    pub fn whole_from(&mut self, page: PageId, source: u32) -> Result<u32, AllocError>
+        ensures same { self.new ≡ self.old }
+        ensures number { IfOk result (λ number. (host : Opened) → IsOpenAt self.old host →
+            IsWholeFrom (IsHeld host.is.held page source) (highest page source host) number) }
+    {
+        self.board.whole_from(page, source)
     }
 
     /// The first hole that begins after this number of a source on a page: holes are the missing

@@ -1,7 +1,8 @@
 //! What a board shows to whoever judges for its member.
 ghost use Rattle.std.specs.Prelude.{◌≡◌, IfOk};
+ghost use Rattle.wb_gaps.specs.Greatest.{IsWholeFrom};
 ghost use Rattle.wb_gaps.specs.Holes.{hole_after};
-ghost use Rattle.wb_names.specs.History.{highest};
+ghost use Rattle.wb_names.specs.History.{IsHeld, highest};
 ghost use Rattle.wb_member.specs.Judged.{has_no_cell};
 
 use crate::own_board::OwnBoard;
@@ -23,6 +24,16 @@ impl OwnBoard {
         ensures number { IfOk result (λ number. number ≡ highest page source self.old.drawops) }
     {
         self.board.highest(&mut self.desk, page, source)
+    }
+
+    /// The least number from which on all of a source are held on a page, or 0 if none is.
+    pub fn whole_from(&mut self, page: PageId, source: u32) -> Result<u32, AllocError>
+        ensures same { self.new ≡ self.old }
+        ensures number { IfOk result (λ number. IsWholeFrom (IsHeld self.old.drawops page source)
+            (highest page source self.old.drawops) number) }
+    {
+        let holdings = self.desk.holdings()?;
+        Ok(holdings.whole_from(page, source))
     }
 
     /// The first hole that begins after this number of a source on a page.

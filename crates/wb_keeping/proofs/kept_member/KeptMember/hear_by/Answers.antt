@@ -1,7 +1,7 @@
 use Rattle.std.proofs.Common.{ap}
 use Rattle.wb_keeping.specs.Kept.{Hears, and_then, performs}
 use Rattle.wb_keeping.specs.Performing.{KeptValue}
-use Rattle.wb_keeping.specs.Steps.{back_lines, lends_for, performs_all, set_lines}
+use Rattle.wb_keeping.specs.Steps.{back_lines, performs_all, set_lines}
 use Rattle.wb_keeping.proofs.LeftSome.{left_later, left_none, on_err}
 use Rattle.wb_keeping.proofs.Performed.{quiet_then}
 use Rattle.wb_keeping.proofs.kept_member.KeptMember.hear_by.Goals as goal

@@ -1,6 +1,6 @@
-use Rattle.std.proofs.Common.{◌≡◌, List, [], ◌∷◌, ap, subst}
+use Rattle.std.proofs.Common.{◌≡◌, List, ap, subst}
 use Rattle.std.specs.Prelude.{Some}
-use Rattle.wb_keeping.specs.Kept.{Line, SetsDistance}
+use Rattle.wb_keeping.specs.Kept.{Line}
 use Rattle.wb_keeping.specs.Performing.{DoesQuietly}
 use Rattle.wb_keeping.specs.Steps.{performs_all, set_lines}
 use Rattle.wb_keeping.proofs.kept_member.KeptMember.lend.Goals as goal
