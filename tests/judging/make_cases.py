@@ -17,7 +17,7 @@ sys.dont_write_bytecode = True
 sys.path.insert(0, str(Path(__file__).resolve().parents[2]))
 
 from tests.judging import attacks, numbers, walks  # noqa: E402
-from tests.judging.table import REFERENCE, TABLE, faults_of  # noqa: E402
+from tests.judging.table import TABLE, faults_of  # noqa: E402
 
 
 def text_of(cases: List[Dict[str, Any]]) -> str:
@@ -31,7 +31,7 @@ def text_of(cases: List[Dict[str, Any]]) -> str:
 
 def main(words: List[str]) -> int:
     cases = [*attacks.cases(), *numbers.cases(), *walks.cases()]
-    faults = [fault for case in cases for fault in faults_of(case, REFERENCE)]
+    faults = [fault for case in cases for fault in faults_of(case)]
     for fault in faults:
         print(fault)
     names = [case["name"] for case in cases]

@@ -15,7 +15,7 @@ DAY, MINUTE = reference.DAY, reference.MINUTE
 
 
 def cases() -> List[Dict[str, Any]]:
-    return [*answers(), *known(), *numbers(), *rooms(), *marks(), *streams(), *drawops(), *cells(), *adding()]
+    return [*answers(), *known(), *numbers(), *rooms(), *marks(), *streams(), *drawops(), *repairs(), *firm(), *cells(), *adding()]
 
 
 def answers() -> List[Dict[str, Any]]:
@@ -119,7 +119,7 @@ def streams() -> List[Dict[str, Any]]:
 
 def drawops() -> List[Dict[str, Any]]:
     return [
-        case("what is held", met(), came(S, "b", line(3), "in", holds=True), came(S, "x", line(3), "dropped again", holds=True)),
+        case("what is held", met(2, "b"), met(3, "c"), came(S, "b", line(2), "in", holds=True), came(S, "x", line(2), "dropped again", holds=True)),
         case("a member's drawop is a day ahead at most",
              met(), came(S, "b", line(2, 1, WALL + S + DAY), "in"), came(S, "b", line(2, 2, WALL + S + DAY + 1), "dropped ahead")),
         case("a stranger's drawop is a minute ahead at most",
@@ -130,6 +130,69 @@ def drawops() -> List[Dict[str, Any]]:
         case("a drawop of ours that only we draw", met(), came(S, "b", line(1, 1), "in"), came(S, "b", line(1, 65_536), "in"),
              came(S, "b", line(1, 65_537), "dropped own"), came(S, "b", line(1, 2**31 - 1), "in", top=2**31 - 2),
              came(S, "b", line(1, 2**31), "dropped own", top=2**31 - 1)),
+    ]
+
+
+def repairs() -> List[Dict[str, Any]]:
+    at, last = 9_000 * S, 2_000
+    one, other = "request 2 1 1/1 {}", "request 3 1 1/1 {}"
+    taken = [came(at, origin, words.format(number), "in", holds=True) for number in range(1, 129) for origin, words in (("b", one), ("c", other))]
+    return [
+        case("256 requests of one member for what is held at once, and then one in two milliseconds",
+             met(now=at), loop(1, 256, 0, came(at, "b", one, "in", holds=True)), came(at, "b", "request 2 1 1/1 9", "dropped flood", holds=True),
+             came(at + last - 1, "b", "request 2 1 1/1 9", "dropped flood", holds=True), loop(1, 50, last, came(at + last, "b", one, "in", holds=True)),
+             came(at + 51 * last - 1, "b", "request 2 1 1/1 9", "dropped flood", holds=True)),
+        case("512 of two, each half",
+             met(2, "b", at), met(3, "c", at), taken, taken, came(at, "b", "request 2 1 1/1 9", "dropped flood", holds=True),
+             came(at, "c", "request 3 1 1/1 9", "dropped flood", holds=True), came(at + last, "c", "request 3 1 1/1 9", "dropped flood", holds=True),
+             came(at + last, "b", "request 2 1 1/1 9", "in", holds=True), came(at + 2 * last, "b", "request 2 1 1/1 9", "dropped flood", holds=True),
+             came(at + 2 * last, "c", "request 3 1 1/1 9", "in", holds=True), came(at + 258 * last, "c", "request 3 1 1/1 9", "dropped flood", holds=True),
+             came(at + 259 * last, "c", "request 3 1 1/1 9", "in", holds=True)),
+        case("of one after another while half of them is left, as often as it likes",
+             met(2, "b", at), met(3, "c", at), loop(1, 256, 0, came(at, "b", one, "in", holds=True)), came(at, "c", "request 3 1 1/1 1", "in", holds=True),
+             came(at, "c", "request 3 1 1/1 1", "dropped flood", holds=True), came(at, "b", "request 2 1 1/1 1", "in", holds=True),
+             came(at, "b", "request 2 1 1/1 1", "dropped flood", holds=True)),
+        case("what is dropped pays for nothing",
+             met(now=at), loop(1, 256, 0, came(at, "b", one, "in", holds=True)), loop(1, 1000, 0, came(at, "b", one, "dropped flood", holds=True)),
+             came(at + last, "b", "request 2 1 1/1 9", "in", holds=True)),
+        case("strangers take nothing of it, and questions of members neither",
+             met(now=at), loop(1, 64, 0, came(at, "x", "request 9 1 1/1 1", "in", holds=True)), came(at, "x", "request 9 1 1/1 1", "dropped flood", holds=True),
+             loop(1, 600, 0, came(at, "b", "ask-pages 2", "in")), loop(1, 256, 0, came(at, "b", one, "in", holds=True)),
+             came(at, "b", "request 2 1 1/1 9", "dropped flood", holds=True), came(at, "b", "ask-pages 2", "in")),
+    ]
+
+
+def firm() -> List[Dict[str, Any]]:
+    """The name 2 1/1 2 at a member of number 1 is firm when its turn is 0 of those that there are then."""
+    copy, miss = line(2, 2), "request 3 2 1/1 2"
+    members = [sent(0), loop(2, 32, 0, came(0, "o{}", report("{}", "1@0+0"), "in"))]
+    return [
+        case("beside two others a name is firm for 2 s in each 10 s",
+             met(2, "b"), met(3, "c"), came(0, "b", copy, "dropped again", holds=True), came(2 * S - 1, "c", copy, "dropped again", holds=True),
+             came(2 * S, "c", copy, "in", holds=True), came(10 * S - 1, "b", copy, "in", holds=True), came(10 * S, "b", copy, "dropped again", holds=True),
+             came(12 * S - 1, "b", copy, "dropped again", holds=True), came(12 * S, "b", copy, "in", holds=True)),
+        case("and so are requests for it, while it is not held",
+             met(2, "b"), met(3, "c"), came(0, "c", miss, "dropped again"), came(2 * S - 1, "b", miss, "dropped again"), came(2 * S, "b", miss, "in"),
+             came(10 * S - 1, "c", miss, "in"), came(10 * S, "c", miss, "dropped again"), came(12 * S, "c", miss, "in")),
+        case("a request for what is held is none that is hushed", met(2, "b"), met(3, "c"), came(0, "c", miss, "in", holds=True)),
+        case("a drawop that is not held is taken, firm or not", met(2, "b"), met(3, "c"), came(0, "b", copy, "in")),
+        case("each name has turns of its own",
+             met(2, "b"), met(3, "c"), came(0, "b", line(2, 3), "in", holds=True), came(8 * S, "b", line(2, 3), "dropped again", holds=True),
+             came(9 * S, "b", line(3, 2), "dropped again", holds=True), came(9 * S, "b", line(3, 3), "in", holds=True),
+             came(9 * S, "b", line(2, 3, WALL, "7/9"), "dropped again", holds=True)),
+        case("beside one other every name is always firm",
+             met(), loop(1, 30, S, came(S, "b", line(2, "{}"), "dropped again", holds=True)), loop(1, 30, S, came(40 * S, "b", "request 2 9 1/1 {}", "dropped again"))),
+        case("who has not answered makes no turn",
+             met(), loop(1001, 1100, 0, came(0, "x{}", report("{}"), "in")), loop(1, 20, S, came(S, "b", copy, "dropped again", holds=True))),
+        case("who was silent for 192 s makes none either",
+             met(2, "b"), met(3, "c"), came(S, "b", report(2), "in"), came(PATIENCE, "b", copy, "in", holds=True),
+             came(PATIENCE + 1, "b", copy, "dropped again", holds=True)),
+        case("beside 31 others there are 121 turns",
+             members, came(0, "o2", line(2, 118), "dropped again", holds=True), came(0, "o2", line(2, 122), "in", holds=True)),
+        case("beside 32 and more there are 125",
+             members, came(0, "o33", report(33, "1@0+0"), "in"), came(0, "o2", line(2, 122), "dropped again", holds=True),
+             came(0, "o2", line(2, 118), "in", holds=True), loop(34, 99, 0, came(0, "o{}", report("{}", "1@0+0"), "in")),
+             came(0, "o2", line(2, 122), "dropped again", holds=True), came(2 * S, "o2", line(2, 122), "in", holds=True)),
     ]
 
 

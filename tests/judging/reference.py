@@ -1,6 +1,6 @@
 """The judgement of a member, as the table of cases has it: which datagrams are handed to its host, and why the others are not.
 
-It is written to be read, and kept apart from those that have to be fast: `live/judge.py` and `web/member/judge.js` pass the table that
+It is written to be read, and kept apart from those that have to be fast: `web/member/judge.js` and the crate wb_judge pass the table that
 make_cases.py makes by it. It has no host, no clock and no socket: whoever asks tells the moment, and what the host holds. Moments and times
 are microseconds. A datagram is said in the words of `wb words`."""
 
@@ -35,6 +35,12 @@ RESERVE = 32
 # are not known.
 MOST_NEW, MOST_ANSWERING, NEW_PAUSE = 256, 256, SECOND
 MOST_ASKED, ASKED_PAUSE = 64, SECOND // 16
+
+# So many requests of members for what is held, each of which brings a repair; above REPAIRS_OF_ONE, not two in a row of one member.
+MOST_REPAIRS, REPAIR_PAUSE, REPAIRS_OF_ONE = 512, SECOND // 500, 256
+
+# A name that is firm stays so for FIRM_TIME. Beside more than MOST_SHARING others it is firm as seldom as beside one more than these.
+FIRM_TIME, MOST_SHARING = 2 * SECOND, 31
 
 # A member that lacks LACKING numbers takes a stream, unless one began lately, or one of that member.
 LACKING, FETCH_PAUSE, FETCH_AGAIN = 500, 10 * SECOND, 60 * SECOND
@@ -113,8 +119,8 @@ class Bucket:
         self.most, self.pause = most, pause
         self.paid = 0  # up to this moment
 
-    def takes(self, now: int) -> bool:
-        if max(self.paid, now) - now > (self.most - 1) * self.pause:
+    def takes(self, now: int, most: Optional[int] = None) -> bool:
+        if max(self.paid, now) - now > ((self.most if most is None else most) - 1) * self.pause:
             return False
         self.paid = max(self.paid, now) + self.pause
         return True
@@ -136,6 +142,8 @@ class Judge:
         self.new = Bucket(MOST_NEW, NEW_PAUSE)
         self.answering = Bucket(MOST_ANSWERING, NEW_PAUSE)
         self.asked = Bucket(MOST_ASKED, ASKED_PAUSE)
+        self.repairs = Bucket(MOST_REPAIRS, REPAIR_PAUSE)
+        self.served: Optional[Origin] = None  # whose request for what is held was taken last, of members
         self.fetch_at = 0
         self.has_twin = False
 
@@ -187,6 +195,16 @@ class Judge:
             return False
         owner = self.here if number == self.me else self.others[number].origin.owner if number in self.others else None
         return owner is not None and owner != origin.owner
+
+    def is_firm(self, name: Name, now: int) -> bool:
+        """Whether nothing that others send of a name hushes us. Each has its turns; beside one other member all turns are its."""
+        others = sum(other.answered is not None and now - other.at <= PATIENCE for other in self.others.values())
+        turns = 4 * min(max(others - 1, 0), MOST_SHARING) + 1
+        return (name.source + name.number + self.me + now // FIRM_TIME) % turns == 0
+
+    def hushes(self, origin: Origin, name: Name, now: int) -> bool:
+        """Whether what came from there of a name may keep us from answering, or back our request off."""
+        return self.is_known(origin, now) and not self.is_firm(name, now)
 
     def is_full(self, held: int) -> bool:
         """No drawing has room, and deletes and restores of members alone have."""
@@ -271,17 +289,26 @@ class Judge:
         return other.origin
 
     def judge_question(self, origin: Origin, datagram: Datagram, facts: Facts) -> Verdict:
-        """A stranger's request for what is not held puts off no request of ours, and its others are answered few at a time."""
-        if self.is_known(origin, facts.now):
-            return Verdict()
-        if datagram.kind == "request" and not facts.holds:
-            return Verdict("stranger")
-        return Verdict(None if self.asked.takes(facts.now) else "flood")
+        """What a request for what is held or a question brings is sent to everybody, so few are taken at a time; but questions of members bring
+        one answer a second at most, whoever asks. A request for what is not held puts off ours."""
+        is_known, name = self.is_known(origin, facts.now), datagram.name
+        if name is not None and not facts.holds:
+            return Verdict(None if self.hushes(origin, name, facts.now) else "again" if is_known else "stranger")
+        if not is_known:
+            return Verdict(None if self.asked.takes(facts.now) else "flood")
+        return Verdict(None if name is None or self.is_repaired(origin, facts.now) else "flood")
+
+    def is_repaired(self, origin: Origin, now: int) -> bool:
+        """Whether a repair for a member is paid for, which it then is."""
+        if not self.repairs.takes(now, REPAIRS_OF_ONE if origin == self.served else MOST_REPAIRS):
+            return False
+        self.served = origin
+        return True
 
     def judge_drawop(self, origin: Origin, datagram: Datagram, facts: Facts) -> Verdict:
         is_known = self.is_known(origin, facts.now)
-        if facts.holds:  # a repair that a member gave keeps us from giving it, and one of a stranger does not
-            return Verdict(None if is_known else "again")
+        if facts.holds:  # a repair that a member gave keeps us from giving it, unless its name is firm, and one of a stranger does not
+            return Verdict("again" if datagram.name is None or not self.hushes(origin, datagram.name, facts.now) else None)
         if self.is_forged_drawop(is_known, datagram, facts):
             return Verdict("own")
         if not is_known and self.is_bound_elsewhere(datagram.speaker, origin, facts.now):

@@ -1,37 +1,19 @@
-"""Runs the table of cases on a judge. README.md says what a step is."""
+"""Runs the table of cases on the reference. README.md says what a step is."""
 
 from __future__ import annotations
 
 import json
 from pathlib import Path
-from typing import Any, Dict, Iterator, List, NamedTuple
+from typing import Any, Dict, Iterator, List
 
-from . import reference, words
+from .reference import Facts, Judge
+from .words import datagram_of, name_of, origin_of
 
 TABLE = Path(__file__).with_name("cases.json")
 
 FACTS = ("held", "listens", "holds", "top", "lacking")
 
 Step = Dict[str, Any]
-
-
-class Kit(NamedTuple):
-    """What a judge is and is given: its classes of itself and of facts; an origin, a datagram and a name by their texts; how many drawops of
-    strangers it remembers, and in which order pages are with names that are held."""
-
-    judge: Any
-    facts: Any
-    origin: Any
-    datagram: Any
-    name: Any
-    strange: Any
-    pages: Any
-
-
-REFERENCE = Kit(
-    reference.Judge, reference.Facts, words.origin_of, words.datagram_of, words.name_of, lambda judge: len(judge.strange),
-    lambda judge, names: judge.order_of(names),
-)
 
 
 def cases() -> List[Dict[str, Any]]:
@@ -54,13 +36,12 @@ def each_of(step: Step) -> Iterator[Step]:
 class Player:
     """One judge, as a case begins it."""
 
-    def __init__(self, kit: Kit, start: Dict[str, Any]) -> None:
-        self.kit = kit
-        self.judge = kit.judge(start["me"], start["cells"], start["now"], start["wall"], start.get("here"), start.get("strangers"))
+    def __init__(self, start: Dict[str, Any]) -> None:
+        self.judge = Judge(start["me"], start["cells"], start["now"], start["wall"], start.get("here"), start.get("strangers"))
 
     def answer(self, step: Step) -> Any:
         """What a step gives, or None if it only tells something."""
-        kit, judge, now = self.kit, self.judge, step["now"]
+        judge, now = self.judge, step["now"]
         if "came" in step:
             return self.came(step)
         if "add" in step:
@@ -71,21 +52,20 @@ class Player:
         if "time" in step:
             return judge.time_of_day(now)
         if "known" in step:
-            return judge.is_known(kit.origin(step["known"]), now)
+            return judge.is_known(origin_of(step["known"]), now)
         if "heard" in step:
             return step["heard"] in judge.others
         if "strange" in step:
-            return kit.strange(judge)
+            return len(judge.strange)
         if "pages" in step:
-            return kit.pages(judge, [kit.name(name) for name in step["pages"]])
+            return judge.order_of([name_of(name) for name in step["pages"]])
         return self.tell(step)
 
     def came(self, step: Step) -> str:
         """What became of a datagram, in one text."""
-        kit, now = self.kit, step["now"]
-        origin, datagram = kit.origin(step["from"]), kit.datagram(step["came"])
-        verdict = self.judge.judge(origin, datagram, kit.facts(now, **{key: step[key] for key in FACTS if key in step}))
-        if verdict.why is None and step["came"].startswith("draw ") and not step.get("holds"):
+        now, origin, datagram = step["now"], origin_of(step["from"]), datagram_of(step["came"])
+        verdict = self.judge.judge(origin, datagram, Facts(now, **{key: step[key] for key in FACTS if key in step}))
+        if verdict.why is None and datagram.kind == "draw" and datagram.name is not None and not step.get("holds"):
             self.judge.took(origin, datagram.name, now)
         told = ["in" if verdict.why is None else "dropped " + verdict.why]
         told += ["warn " + verdict.warn] if verdict.warn else []
@@ -99,16 +79,16 @@ class Player:
         elif "wall" in step:
             judge.tell_time(now, step["wall"])
         elif "gone" in step:
-            judge.leave(self.kit.origin(step["gone"]))
+            judge.leave(origin_of(step["gone"]))
         elif "record" in step:
-            judge.remember(self.kit.name(step["record"]))
+            judge.remember(name_of(step["record"]))
         else:
             raise ValueError(step)
 
 
-def faults_of(case: Dict[str, Any], kit: Kit) -> Iterator[str]:
+def faults_of(case: Dict[str, Any]) -> Iterator[str]:
     """The steps of a case that give something else."""
-    player = Player(kit, case["judge"])
+    player = Player(case["judge"])
     for step in case["steps"]:
         for one in each_of(step):
             given = player.answer(one)

@@ -6,7 +6,7 @@ import random
 from typing import Any, Dict, List
 
 from .steps import S, WALL, case, delete, line, report
-from .table import REFERENCE, Player
+from .table import Player
 
 WALKS, STEPS = 16, 60
 
@@ -58,7 +58,7 @@ class Walk:
 
     def case(self, name: str) -> Dict[str, Any]:
         made = case(name, cells=64, here=self.random.choice([None, "anna"]))
-        player = Player(REFERENCE, made["judge"])
+        player = Player(made["judge"])
         for _ in range(STEPS):
             step = self.step()
             given = player.answer(step)

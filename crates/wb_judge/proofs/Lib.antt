@@ -1,4 +1,5 @@
 pub mod Sharing
+pub mod Lessening
 pub mod Listing
 pub mod Anywhere
 pub mod Sizes
@@ -11,3 +12,5 @@ pub mod Bounds
 pub mod Taking
 pub mod Twins
 pub mod Gathering
+pub mod Firmness
+pub mod Repairing

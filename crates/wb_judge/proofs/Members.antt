@@ -6,7 +6,7 @@ use Rattle.std.specs.Prelude.{◌&&◌, ◌||◌, nat_eq, nat_le, nat_lt, not}
 use Rattle.wb_names.specs.Values.{DrawopValue}
 use Rattle.std.specs.List.{list_any}
 use Rattle.wb_judge.specs.Days.{time_of_day}
-use Rattle.wb_judge.specs.Judge.{Judge, is_full, knows}
+use Rattle.wb_judge.specs.Judge.{Judge, is_firm, is_full, knows}
 use Rattle.wb_judge.specs.Judging.{after_coming, after_judging, draws, drawop_verdict, is_ahead, is_forged_drawop}
 use Rattle.wb_judge.specs.Known.{is_known, known_from, left, renewed}
 use Rattle.wb_judge.specs.Laws.{AMemberIsNotDropped, OnlyAnswersMakeKnown, StrangersHushNobody, is_answer}
@@ -99,31 +99,33 @@ unfolding is_ahead
 ahead_no time now j soon = grind (arith, nat_tests)
 
 -- the verdict on what a member gives
-ruled : (holds forged ahead full : Bool) → Verdict
-ruled holds forged ahead full = cond holds taken (cond forged (dropped Own) (cond ahead (dropped Ahead) (cond full (warned Full NoCell) taken)))
+ruled : (holds firm forged ahead full : Bool) → Verdict
+ruled holds firm forged ahead full = cond holds (cond (not firm) taken (dropped Again)) (cond forged (dropped Own) (cond ahead (dropped Ahead) (cond full (warned Full NoCell) taken)))
 
-let_in : (holds forged ahead full : Bool) → forged ≡ false → ahead ≡ false → full ≡ false → (ruled holds forged ahead full).why ≡ None
+let_in : (holds firm forged ahead full : Bool) → (holds && firm) ≡ false → forged ≡ false → ahead ≡ false → full ≡ false → (ruled holds firm forged ahead full).why ≡ None
 unfolding ruled
-let_in true forged ahead full e g h = refl
-let_in false true ahead full e g h = absurd (true≢false e)
-let_in false false true full e g h = absurd (true≢false g)
-let_in false false false true e g h = absurd (true≢false h)
-let_in false false false false e g h = refl
+let_in true true forged ahead full d e g h = absurd (true≢false d)
+let_in true false forged ahead full d e g h = refl
+let_in false firm true ahead full d e g h = absurd (true≢false e)
+let_in false firm false true full d e g h = absurd (true≢false g)
+let_in false firm false false true d e g h = absurd (true≢false h)
+let_in false firm false false false d e g h = refl
 
 or_false : (b : Bool) → (b || false) ≡ b
 or_false true = refl
 or_false false = refl
 
-member_at : (o : Origin) (d : DrawopValue) (f : Facts) (j : Judge) → knows o f.at j ≡ true → drawop_verdict o d f j ≡ ruled f.holds (is_forged_drawop true d f j) (is_ahead true d.time f.at j) (is_full f.held j && (draws d.op || false))
+member_at : (o : Origin) (d : DrawopValue) (f : Facts) (j : Judge) → knows o f.at j ≡ true
+    → drawop_verdict o d f j ≡ ruled f.holds (is_firm d.name f.at j) (is_forged_drawop true d f j) (is_ahead true d.time f.at j) (is_full f.held j && (draws d.op || false))
 unfolding drawop_verdict ruled
 member_at o d f j e = rw e refl
 
 pub a_member_is_not_dropped : AMemberIsNotDropped
-a_member_is_not_dropped o d f j known other soon room =
+a_member_is_not_dropped o d f j known other copied soon room =
     let i = after_coming o f.at j in
     let stays : knows o f.at i ≡ true = stays_known o f.at j.known known in
     ap (λ (v : Verdict). v.why) (member_at o d f i stays)
-    ∙ let_in f.holds _ _ (is_full f.held i && (draws d.op || false)) (forged_no true d f i other) (ahead_no d.time f.at i soon) (swapped (draws d.op) (is_full f.held j) room) where
+    ∙ let_in f.holds (is_firm d.name f.at i) _ _ (is_full f.held i && (draws d.op || false)) copied (forged_no true d f i other) (ahead_no d.time f.at i soon) (swapped (draws d.op) (is_full f.held j) room) where
       swapped : (a b : Bool) → (a && b) ≡ false → (b && (a || false)) ≡ false
       swapped true true e = e
       swapped true false e = refl

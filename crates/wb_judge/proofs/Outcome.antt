@@ -1,20 +1,20 @@
 -- What a datagram makes of the lists of a judge.
 use Rattle.std.proofs.Common.{◌≡◌, ◌⊎◌, ◌∙◌, ℕ, Bool, true, false, cond, [], ap, inl, inr, refl}
 use Rattle.std.specs.List.{list_any}
-use Rattle.std.specs.Prelude.{Some, nat_eq, not, ◌||◌}
+use Rattle.std.specs.Prelude.{Some, nat_eq, ◌||◌}
 use Rattle.wb_codec.specs.declared.datagram.Datagram.{Datagram}
 use Rattle.wb_codec.specs.declared.datagram.Datagram.TheVariants.{AskPages, Draw, PageState, Request, Session}
 use Rattle.wb_judge.specs.Answers.{answers}
 use Rattle.wb_judge.specs.Buckets.{has_room, paid_after}
 use Rattle.wb_judge.specs.Judge.{Judge, is_forged, knows}
-use Rattle.wb_judge.specs.Judging.{after_admitted, after_admitting, after_answer, after_fetching, after_hearing, after_of, after_own, after_question, after_report, after_said, fetching_at, is_fetched, is_forged_mark, is_twin, speaking, with_payment}
+use Rattle.wb_judge.specs.Judging.{after_admitted, after_admitting, after_answer, after_fetching, after_hearing, after_held, after_of, after_own, after_question, after_repair, after_report, after_request, after_said, after_stranger, fetching_at, is_fetched, is_forged_mark, is_repaired, is_twin, speaking, with_payment}
 use Rattle.wb_judge.specs.Known.{known_from}
 use Rattle.wb_judge.specs.Laws.{is_answer}
 use Rattle.wb_judge.specs.Others.{other_with}
 use Rattle.wb_judge.specs.Reports.{report_of}
 use Rattle.wb_judge.specs.Strange.{without_origin}
 use Rattle.wb_judge.specs.declared.facts.Facts.{Facts}
-use Rattle.wb_judge.specs.declared.limits.TheConstants.{ASKED_AHEAD, ASKED_PAUSE}
+use Rattle.wb_judge.specs.declared.limits.TheConstants.{ASKED_AHEAD, ASKED_PAUSE, REPAIR_PAUSE}
 use Rattle.wb_judge.specs.declared.origin.Origin.{Origin}
 use Rattle.wb_judge.specs.declared.others.Other.{Other}
 use Rattle.wb_judge.specs.declared.report.Report.{Report}
@@ -48,11 +48,23 @@ admitting : (o : Origin) (number : ℕ) (answer : Bool) (now : ℕ) (j : Judge) 
 unfolding after_admitting
 admitting o number answer now j = either _ j j _ (same j) (paid answer _ j)
 
-question : (o : Origin) (misses : Bool) (now : ℕ) (j : Judge) → Same j (after_question o misses now j)
+stranger : (now : ℕ) (j : Judge) → Same j (after_stranger now j)
+unfolding after_stranger
+stranger now j = either (has_room ASKED_AHEAD j.asked now) j (record j { asked = paid_after ASKED_PAUSE j.asked now }) j (record { own = refl; known = refl; others = refl; strange = refl }) (same j)
+
+question : (o : Origin) (now : ℕ) (j : Judge) → Same j (after_question o now j)
 unfolding after_question
-question o misses now j =
-    either (knows o now j || (misses || not (has_room ASKED_AHEAD j.asked now))) j j (record j { asked = paid_after ASKED_PAUSE j.asked now }) (same j)
-    (record { own = refl; known = refl; others = refl; strange = refl })
+question o now j = either (knows o now j) j j (after_stranger now j) (same j) (stranger now j)
+
+repair : (o : Origin) (now : ℕ) (j : Judge) → Same j (after_repair o now j)
+unfolding after_repair
+repair o now j =
+    either (is_repaired o now j) j (record j { repairs = paid_after REPAIR_PAUSE j.repairs now; served = Some o }) j
+    (record { own = refl; known = refl; others = refl; strange = refl }) (same j)
+
+request : (o : Origin) (f : Facts) (j : Judge) → Same j (after_request o f j)
+unfolding after_held
+request o f j = either f.holds j (after_held o f.at j) j (either (knows o f.at j) j (after_repair o f.at j) (after_stranger f.at j) (repair o f.at j) (stranger f.at j)) (same j)
 
 owned : (sent : ℕ) (r : Report) (now : ℕ) (j : Judge) → Same j (after_own sent r now j)
 unfolding after_own
@@ -128,5 +140,5 @@ pub outcome : (o : Origin) (v : Datagram) (f : Facts) (j : Judge) → Same j (af
 outcome o (Draw d) f j = inl (same j)
 outcome o (Session s sent page marks echoes) f j = let r = report_of j.me s marks echoes in said o s _ f.at j _ _ (owned sent r f.at j) (reported o r f j)
 outcome o (PageState s page marks) f j = said o s _ f.at j _ _ (same j) (reported o (report_of j.me s marks []) f j)
-outcome o (Request asker name) f j = said o asker _ f.at j _ _ (same j) (inl (question o (not f.holds) f.at j))
-outcome o (AskPages asker) f j = said o asker _ f.at j _ _ (same j) (inl (question o false f.at j))
+outcome o (Request asker name) f j = said o asker _ f.at j _ _ (same j) (inl (request o f j))
+outcome o (AskPages asker) f j = said o asker _ f.at j _ _ (same j) (inl (question o f.at j))

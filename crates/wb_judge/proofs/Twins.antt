@@ -6,12 +6,12 @@ use Rattle.wb_codec.specs.declared.datagram.Datagram.TheVariants.{AskPages, Draw
 use Rattle.wb_judge.specs.Answers.{answers}
 use Rattle.wb_judge.specs.Buckets.{has_room, paid_after}
 use Rattle.wb_judge.specs.Judge.{Judge, is_forged, knows}
-use Rattle.wb_judge.specs.Judging.{after_admitted, after_admitting, after_answer, after_coming, after_fetching, after_hearing, after_own, after_question, after_report, after_said, is_admitted, is_elsewhere, is_fetched, is_forged_mark, is_twin, speaking, with_payment}
+use Rattle.wb_judge.specs.Judging.{after_admitted, after_admitting, after_answer, after_coming, after_fetching, after_hearing, after_held, after_own, after_question, after_repair, after_report, after_request, after_said, after_stranger, is_admitted, is_elsewhere, is_fetched, is_forged_mark, is_repaired, is_twin, speaking, with_payment}
 use Rattle.wb_judge.specs.Laws.{NumbersStay, ReplayIsNoTwin}
 use Rattle.wb_judge.specs.Others.{is_bound_elsewhere}
 use Rattle.wb_judge.specs.Reports.{report_of}
 use Rattle.wb_judge.specs.declared.facts.Facts.{Facts}
-use Rattle.wb_judge.specs.declared.limits.TheConstants.{ASKED_AHEAD, ASKED_PAUSE}
+use Rattle.wb_judge.specs.declared.limits.TheConstants.{ASKED_AHEAD, ASKED_PAUSE, REPAIR_PAUSE}
 use Rattle.wb_judge.specs.declared.origin.Origin.{Origin}
 use Rattle.wb_judge.specs.declared.report.Report.{Report}
 
@@ -51,9 +51,22 @@ reported o r f j =
     either (is_elsewhere o r answer f.at j || not (is_admitted o r.speaker answer f.at j)) j.has_twin j _ refl
     (either (is_forged_mark r f) j.has_twin k _ (admitting o r.speaker answer f.at j) (hearing o r.speaker answer f.lacking f.at k ∙ admitting o r.speaker answer f.at j))
 
-question : (o : Origin) (misses : Bool) (now : ℕ) (j : Judge) → (after_question o misses now j).has_twin ≡ j.has_twin
+stranger : (now : ℕ) (j : Judge) → (after_stranger now j).has_twin ≡ j.has_twin
+unfolding after_stranger
+stranger now j = either (has_room ASKED_AHEAD j.asked now) j.has_twin (record j { asked = paid_after ASKED_PAUSE j.asked now }) j refl refl
+
+question : (o : Origin) (now : ℕ) (j : Judge) → (after_question o now j).has_twin ≡ j.has_twin
 unfolding after_question
-question o misses now j = either (knows o now j || (misses || not (has_room ASKED_AHEAD j.asked now))) j.has_twin j (record j { asked = paid_after ASKED_PAUSE j.asked now }) refl refl
+question o now j = either (knows o now j) j.has_twin j (after_stranger now j) refl (stranger now j)
+
+repair : (o : Origin) (now : ℕ) (j : Judge) → (after_repair o now j).has_twin ≡ j.has_twin
+unfolding after_repair
+repair o now j = either (is_repaired o now j) j.has_twin (record j { repairs = paid_after REPAIR_PAUSE j.repairs now; served = Some o }) j refl refl
+
+request : (o : Origin) (f : Facts) (j : Judge) → (after_request o f j).has_twin ≡ j.has_twin
+unfolding after_held
+request o f j =
+    either f.holds j.has_twin (after_held o f.at j) j (either (knows o f.at j) j.has_twin (after_repair o f.at j) (after_stranger f.at j) (repair o f.at j) (stranger f.at j)) refl
 
 owned : (sent : ℕ) (r : Report) (now : ℕ) (j : Judge) → answers j.own r.echo now ≡ false → (after_own sent r now j).has_twin ≡ j.has_twin
 unfolding after_own
@@ -75,8 +88,8 @@ replay_is_no_twin o (Session s sent page marks echoes) f j silent =
     said o s i (after_own sent r f.at i) (after_report o r f i) (owned sent r f.at i silent) (reported o r f i)
 replay_is_no_twin o (PageState s page marks) f j silent =
     let i = after_coming o f.at j in let r = report_of j.me s marks [] in said o s i i (after_report o r f i) refl (reported o r f i)
-replay_is_no_twin o (Request asker name) f j silent = let i = after_coming o f.at j in said o asker i i (after_question o (not f.holds) f.at i) refl (question o (not f.holds) f.at i)
-replay_is_no_twin o (AskPages asker) f j silent = let i = after_coming o f.at j in said o asker i i (after_question o false f.at i) refl (question o false f.at i)
+replay_is_no_twin o (Request asker name) f j silent = let i = after_coming o f.at j in said o asker i i (after_request o f i) refl (request o f i)
+replay_is_no_twin o (AskPages asker) f j silent = let i = after_coming o f.at j in said o asker i i (after_question o f.at i) refl (question o f.at i)
 
 -- ---- where numbers speak
 

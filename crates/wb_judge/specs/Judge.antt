@@ -1,5 +1,7 @@
 -- What a judge remembers.
-use Rattle.std.specs.Prelude.{ℕ, ◌-◌, ◌/◌, Bool, false, not, List, [], Option, Some, None, nat_eq, nat_le, if◌then◌else◌}
+use Rattle.std.specs.Prelude.{ℕ, ◌-◌, ◌/◌, Bool, false, not, ◌&&◌, List, [], Option, Some, None, nat_eq, nat_le, if◌then◌else◌}
+use Rattle.wb_names.specs.Values.{NameValue}
+use Rattle.wb_judge.specs.Firm.{is_firm_beside, present}
 use Rattle.wb_judge.specs.Known.{is_known, left}
 use Rattle.wb_judge.specs.Others.{gone_from, other_of}
 use Rattle.wb_judge.specs.Shares.{Shares}
@@ -14,7 +16,8 @@ use Rattle.wb_judge.specs.declared.strange.Given.{Given}
 
 -- Our number, the cells of our board and the owner of our own origin; the time of day; the moments of our reports; the origins that are known, the
 -- numbers that were heard, and what is held of strangers; the last report under our number that is not ours; up to which moments new numbers,
--- new numbers that answer, and questions are paid for; before which moment no stream begins; and whether somebody has our number too.
+-- new numbers that answer, questions of strangers and repairs for members are paid for, and for which of these the last one was; before which
+-- moment no stream begins; and whether somebody has our number too.
 pub record Judge : Type 0 where
   pub me : ℕ
   pub cells : ℕ
@@ -28,6 +31,8 @@ pub record Judge : Type 0 where
   pub hearing : ℕ
   pub answering : ℕ
   pub asked : ℕ
+  pub repairs : ℕ
+  pub served : Option Origin
   pub fetch_at : ℕ
   pub has_twin : Bool
 
@@ -45,6 +50,8 @@ opened me cells now wall here strangers = record {
   hearing = 0;
   answering = 0;
   asked = 0;
+  repairs = 0;
+  served = None;
   fetch_at = 0;
   has_twin = false;
 }
@@ -53,6 +60,14 @@ opened me cells now wall here strangers = record {
 
 abbrev pub knows : Origin → ℕ → Judge → Bool
 knows o now j = is_known o now j.known
+
+-- beside the members that are here, a name is firm
+abbrev pub is_firm : NameValue → ℕ → Judge → Bool
+is_firm name now j = is_firm_beside (present now j.others) j.me name now
+
+-- what came from there may hush us: a member's, while the name is not firm
+abbrev pub hushes : Origin → NameValue → ℕ → Judge → Bool
+hushes o name now j = knows o now j && not (is_firm name now j)
 
 -- who owns where a number speaks from
 abbrev pub owner_in : Option Other → Option ℕ

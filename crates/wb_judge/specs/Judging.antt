@@ -1,7 +1,7 @@
 -- What becomes of a datagram, and of the judge.
 use Rattle.std.specs.Prelude.{ℕ, ◌+◌, ◌-◌, Bool, true, false, not, ◌&&◌, ◌||◌, [], Option, Some, None, is_some, nat_eq, nat_le, nat_lt, if◌then◌else◌}
 use Rattle.std.specs.List.{list_any}
-use Rattle.wb_names.specs.Values.{DrawopValue}
+use Rattle.wb_names.specs.Values.{DrawopValue, NameValue}
 use Rattle.wb_names.specs.declared.parts.Op.{Op}
 use Rattle.wb_names.specs.declared.parts.Op.TheVariants.{Aimed, Drawn, Text}
 use Rattle.wb_codec.specs.declared.datagram.Datagram.{Datagram}
@@ -9,15 +9,15 @@ use Rattle.wb_codec.specs.declared.datagram.Datagram.TheVariants.{AskPages, Draw
 use Rattle.wb_judge.specs.Answers.{answers}
 use Rattle.wb_judge.specs.Buckets.{has_room, paid_after}
 use Rattle.wb_judge.specs.Days.{time_of_day}
-use Rattle.wb_judge.specs.Judge.{Judge, is_forged, is_full, knows}
+use Rattle.wb_judge.specs.Judge.{Judge, hushes, is_forged, is_full, knows}
 use Rattle.wb_judge.specs.Known.{known_from, renewed}
 use Rattle.wb_judge.specs.Origins.{same_origin}
 use Rattle.wb_judge.specs.Others.{is_bound_elsewhere, other_of, other_with, spoken}
 use Rattle.wb_judge.specs.Reports.{report_of}
-use Rattle.wb_judge.specs.Strange.{is_over, is_wide, without_origin}
+use Rattle.wb_judge.specs.Strange.{is_over, is_there, is_wide, without_origin}
 use Rattle.wb_judge.specs.Verdicts.{dropped, taken, warned}
 use Rattle.wb_judge.specs.declared.facts.Facts.{Facts}
-use Rattle.wb_judge.specs.declared.limits.TheConstants.{AHEAD_KNOWN, AHEAD_STRANGER, ASKED_AHEAD, ASKED_PAUSE, FETCH_AGAIN, FETCH_PAUSE, FORGED_ABOVE, FORGED_NUMBER, LACKING, NEW_AHEAD, NEW_PAUSE}
+use Rattle.wb_judge.specs.declared.limits.TheConstants.{AHEAD_KNOWN, AHEAD_STRANGER, ASKED_AHEAD, ASKED_PAUSE, FETCH_AGAIN, FETCH_PAUSE, FORGED_ABOVE, FORGED_NUMBER, LACKING, NEW_AHEAD, NEW_PAUSE, REPAIRS_AHEAD, REPAIRS_OF_ONE, REPAIR_PAUSE}
 use Rattle.wb_judge.specs.declared.origin.Origin.{Origin}
 use Rattle.wb_judge.specs.declared.others.Other.{Other}
 use Rattle.wb_judge.specs.declared.report.Report.{Report}
@@ -46,7 +46,7 @@ is_ahead known time now j = nat_lt (time_of_day j.clock now + ahead_of known) ti
 
 unfoldable pub drawop_verdict : Origin → DrawopValue → Facts → Judge → Verdict
 drawop_verdict o d f j = let known = knows o f.at j in
-    if f.holds then (if known then taken else dropped Again)
+    if f.holds then (if hushes o d.name f.at j then taken else dropped Again)
     else if is_forged_drawop known d f j then dropped Own
     else if not known && is_bound_elsewhere d.name.source o f.at j.others then dropped Speaks
     else if is_ahead known d.time f.at j then dropped Ahead
@@ -55,19 +55,52 @@ drawop_verdict o d f j = let known = knows o f.at j in
     else if not known && is_wide d.name j.strange then dropped Pages
     else taken
 
--- ---- a question, and a request, which may ask for what is not held
+-- ---- a question for pages, and a request
 
-unfoldable pub question_verdict : Origin → Bool → ℕ → Judge → Verdict
-question_verdict o misses now j =
-    if knows o now j then taken
-    else if misses then dropped Stranger
-    else if has_room ASKED_AHEAD j.asked now then taken
-    else dropped Flood
+-- a stranger asks for what has an answer
+unfoldable pub stranger_verdict : ℕ → Judge → Verdict
+stranger_verdict now j = if has_room ASKED_AHEAD j.asked now then taken else dropped Flood
 
-unfoldable pub after_question : Origin → Bool → ℕ → Judge → Judge
-after_question o misses now j =
-    if knows o now j || (misses || not (has_room ASKED_AHEAD j.asked now)) then j
-    else record j { asked = paid_after ASKED_PAUSE j.asked now }
+unfoldable pub after_stranger : ℕ → Judge → Judge
+after_stranger now j = if has_room ASKED_AHEAD j.asked now then record j { asked = paid_after ASKED_PAUSE j.asked now } else j
+
+-- A member requests what is held, which brings a repair. The second half of those at once is kept for another member than the one of the last.
+abbrev pub repairs_ahead : Origin → Option Origin → ℕ
+repairs_ahead o served = if is_there o served then REPAIRS_OF_ONE else REPAIRS_AHEAD
+
+unfoldable pub is_repaired : Origin → ℕ → Judge → Bool
+is_repaired o now j = has_room (repairs_ahead o j.served) j.repairs now
+
+unfoldable pub after_repair : Origin → ℕ → Judge → Judge
+after_repair o now j = if is_repaired o now j then record j { repairs = paid_after REPAIR_PAUSE j.repairs now; served = Some o } else j
+
+-- a request for what is held
+unfoldable pub held_verdict : Origin → ℕ → Judge → Verdict
+held_verdict o now j =
+    if knows o now j then (if is_repaired o now j then taken else dropped Flood)
+    else stranger_verdict now j
+
+unfoldable pub after_held : Origin → ℕ → Judge → Judge
+after_held o now j = if knows o now j then after_repair o now j else after_stranger now j
+
+-- A request for what is not held backs our own off.
+unfoldable pub missed_verdict : Origin → NameValue → ℕ → Judge → Verdict
+missed_verdict o name now j =
+    if hushes o name now j then taken
+    else if knows o now j then dropped Again
+    else dropped Stranger
+
+abbrev pub request_verdict : Origin → NameValue → Facts → Judge → Verdict
+request_verdict o name f j = if f.holds then held_verdict o f.at j else missed_verdict o name f.at j
+
+abbrev pub after_request : Origin → Facts → Judge → Judge
+after_request o f j = if f.holds then after_held o f.at j else j
+
+unfoldable pub question_verdict : Origin → ℕ → Judge → Verdict
+question_verdict o now j = if knows o now j then taken else stranger_verdict now j
+
+unfoldable pub after_question : Origin → ℕ → Judge → Judge
+after_question o now j = if knows o now j then j else after_stranger now j
 
 -- ---- a report of another number, which answers us or not
 
@@ -191,16 +224,16 @@ verdict_of o (Draw d) f j = drawop_verdict o d f j
 verdict_of o (Session s sent page marks echoes) f j =
     let r = report_of j.me s marks echoes in said_verdict o s j (own_verdict sent r f.at j) (report_verdict o r f j)
 verdict_of o (PageState s page marks) f j = said_verdict o s j (dropped Own) (report_verdict o (report_of j.me s marks []) f j)
-verdict_of o (Request asker name) f j = said_verdict o asker j (dropped Own) (question_verdict o (not f.holds) f.at j)
-verdict_of o (AskPages asker) f j = said_verdict o asker j (dropped Own) (question_verdict o false f.at j)
+verdict_of o (Request asker name) f j = said_verdict o asker j (dropped Own) (request_verdict o name f j)
+verdict_of o (AskPages asker) f j = said_verdict o asker j (dropped Own) (question_verdict o f.at j)
 
 abbrev pub after_of : Origin → Datagram → Facts → Judge → Judge
 after_of o (Draw d) f j = j
 after_of o (Session s sent page marks echoes) f j =
     let r = report_of j.me s marks echoes in after_said o s j (after_own sent r f.at j) (after_report o r f j)
 after_of o (PageState s page marks) f j = after_said o s j j (after_report o (report_of j.me s marks []) f j)
-after_of o (Request asker name) f j = after_said o asker j j (after_question o (not f.holds) f.at j)
-after_of o (AskPages asker) f j = after_said o asker j j (after_question o false f.at j)
+after_of o (Request asker name) f j = after_said o asker j j (after_request o f j)
+after_of o (AskPages asker) f j = after_said o asker j j (after_question o f.at j)
 
 -- whatever comes from a known origin renews it
 abbrev pub after_coming : Origin → ℕ → Judge → Judge

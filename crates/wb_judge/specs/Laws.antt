@@ -1,20 +1,21 @@
 -- What follows of the judgement, whatever comes in.
-use Rattle.std.specs.Prelude.{◌≡◌, ◌⊎◌, ℕ, ◌+◌, ◌-◌, ◌*◌, ◌≤◌, Bool, true, false, not, ◌&&◌, List, [], ◌∷◌, ◌++◌, Option, Some, None, AllPairs, filter, is_none, length, if◌then◌else◌}
+use Rattle.std.specs.Prelude.{◌≡◌, ◌⊎◌, ℕ, ◌+◌, ◌-◌, ◌*◌, ◌≤◌, ◌<◌, Bool, true, false, not, ◌&&◌, List, [], ◌∷◌, ◌++◌, Option, Some, None, AllPairs, filter, is_none, is_some, length, if◌then◌else◌}
 use Rattle.wb_names.specs.Orders.{same_name}
 use Rattle.wb_names.specs.Values.{DrawopValue, NameValue}
 use Rattle.wb_names.specs.declared.echo.Echo.{Echo}
 use Rattle.wb_codec.specs.declared.datagram.Datagram.{Datagram}
-use Rattle.wb_codec.specs.declared.datagram.Datagram.TheVariants.{Draw, PageState, Session}
+use Rattle.wb_codec.specs.declared.datagram.Datagram.TheVariants.{AskPages, Draw, PageState, Request, Session}
 use Rattle.wb_judge.specs.Answers.{answers, reported}
 use Rattle.wb_judge.specs.Buckets.{has_room, paid_after}
 use Rattle.wb_judge.specs.Days.{DayClock, time_of_day}
-use Rattle.wb_judge.specs.Judge.{Judge, after_leaving, after_taking, is_full, knows}
+use Rattle.wb_judge.specs.Firm.{is_firm_beside, turn_at, turns}
+use Rattle.wb_judge.specs.Judge.{Judge, after_leaving, after_taking, is_firm, is_full, knows}
 use Rattle.wb_judge.specs.Judging.{after_judging, draws, verdict}
 use Rattle.wb_judge.specs.Others.{is_bound_elsewhere}
 use Rattle.wb_judge.specs.Reports.{echo_to}
-use Rattle.wb_judge.specs.Strange.{has_name, is_given_by, with_given}
+use Rattle.wb_judge.specs.Strange.{has_name, is_given_by, is_there, with_given}
 use Rattle.wb_judge.specs.declared.facts.Facts.{Facts}
-use Rattle.wb_judge.specs.declared.limits.TheConstants.{AHEAD_KNOWN, MOST_KNOWN, MOST_OTHERS, MOST_OWN}
+use Rattle.wb_judge.specs.declared.limits.TheConstants.{AHEAD_KNOWN, ASKED_AHEAD, ASKED_PAUSE, MOST_KNOWN, MOST_OTHERS, MOST_OWN, REPAIRS_AHEAD, REPAIRS_OF_ONE, REPAIR_PAUSE}
 use Rattle.wb_judge.specs.declared.origin.Origin.{Origin}
 use Rattle.wb_judge.specs.declared.strange.Given.{Given}
 use Rattle.wb_judge.specs.declared.verdict.Why.TheVariants.{Again}
@@ -35,10 +36,10 @@ abbrev pub OnlyAnswersMakeKnown : Type 0
 OnlyAnswersMakeKnown = (o p : Origin) (v : Datagram) (f : Facts) (j : Judge) (now : ℕ) → knows p now (after_judging o v f j) ≡ true
     → (knows p now j ≡ true) ⊎ (knows p f.at j ≡ true) ⊎ ((o ≡ p) × (is_answer v f.at j ≡ true))
 
--- A member's drawop is not dropped if it is not ours, is no more than a day ahead, and has a cell.
+-- A member's drawop is not dropped if it is not ours, is no more than a day ahead, and has a cell; but a copy of what is held is while its name is firm.
 abbrev pub AMemberIsNotDropped : Type 0
 AMemberIsNotDropped = (o : Origin) (d : DrawopValue) (f : Facts) (j : Judge) → knows o f.at j ≡ true → ¬ (d.name.source ≡ j.me)
-    → d.time ≤ time_of_day j.clock f.at + AHEAD_KNOWN → (draws d.op && is_full f.held j) ≡ false → (verdict o (Draw d) f j).why ≡ None
+    → (f.holds && is_firm d.name f.at j) ≡ false → d.time ≤ time_of_day j.clock f.at + AHEAD_KNOWN → (draws d.op && is_full f.held j) ≡ false → (verdict o (Draw d) f j).why ≡ None
 
 -- who speaks in a report
 abbrev pub speaker_in : Datagram → Option ℕ
@@ -76,6 +77,25 @@ NamesCountOnce = (g : Given) (j : Judge) → StandOnce j.strange.given → Stand
 abbrev pub StrangersHushNobody : Type 0
 StrangersHushNobody = (o : Origin) (d : DrawopValue) (f : Facts) (j : Judge) → knows o f.at j ≡ false → f.holds ≡ true
     → (verdict o (Draw d) f j).why ≡ Some Again
+
+-- ---- firm names
+
+-- Of a name that is firm nothing that others send hushes us: no copy of what is held, and no request for what is not.
+abbrev pub NobodyHushesFirmNames : Type 0
+NobodyHushesFirmNames = (o : Origin) (f : Facts) (j : Judge)
+    → ((d : DrawopValue) → f.holds ≡ true → is_firm d.name f.at j ≡ true → (verdict o (Draw d) f j).why ≡ Some Again)
+    × ((asker : ℕ) (name : NameValue) → f.holds ≡ false → is_firm name f.at j ≡ true → is_some (verdict o (Request asker name) f j).why ≡ true)
+
+-- Each name has its turn: whenever it is, a name is firm for all of one of the turns from now on, as many as there are.
+abbrev pub NamesTakeTurns : Type 0
+NamesTakeTurns = (others me : ℕ) (name : NameValue) (now : ℕ)
+    → (wait : ℕ) × (wait < turns others) × ((at : ℕ) → turn_at at ≡ turn_at now + wait → is_firm_beside others me name at ≡ true)
+
+-- Beside one other member all names are firm, and there are never more than 125 turns.
+abbrev pub TurnsAreFew : Type 0
+TurnsAreFew = (others : ℕ) → (turns others ≤ 125) × (others ≤ 1 → turns others ≡ 1)
+
+-- ---- how much is taken
 
 -- moments that rise, from one to another
 abbrev pub AreFrom : ℕ → ℕ → List ℕ → Type 0
@@ -123,7 +143,52 @@ abbrev pub after_steps : List Step → Judge → Judge
 after_steps [] j = j
 after_steps (s ∷ steps) j = after_steps steps (after_step s j)
 
--- all that is remembered is bounded
+-- ---- what is answered
+
+-- the moment at which a datagram comes, if one does
+abbrev pub moments_in : Step → List ℕ
+moments_in (Comes o v f) = f.at ∷ []
+moments_in s = []
+
+abbrev pub moments_of : List Step → List ℕ
+moments_of [] = []
+moments_of (s ∷ steps) = moments_in s ++ moments_of steps
+
+abbrev pub is_in : Origin → Datagram → Facts → Judge → Bool
+is_in o v f j = is_none (verdict o v f j).why
+
+-- a member's request for what is held is handed in
+abbrev pub is_repaired_in : Step → Judge → Bool
+is_repaired_in (Comes o (Request asker name) f) j = (f.holds && knows o f.at j) && is_in o (Request asker name) f j
+is_repaired_in s j = false
+
+-- and a stranger's, or its question for pages
+abbrev pub is_asked_in : Step → Judge → Bool
+is_asked_in (Comes o (Request asker name) f) j = not (knows o f.at j) && is_in o (Request asker name) f j
+is_asked_in (Comes o (AskPages asker) f) j = not (knows o f.at j) && is_in o (AskPages asker) f j
+is_asked_in s j = false
+
+-- how many of the steps are such
+abbrev pub how_many : (Step → Judge → Bool) → List Step → Judge → ℕ
+how_many some [] j = 0
+how_many some (s ∷ steps) j = (if some s j then 1 else 0) + how_many some steps (after_step s j)
+
+-- Whatever comes from one moment to another, in whatever order: of members' requests for what is held some are handed in at once, and then one in each pause.
+abbrev pub RepairsAreFew : Type 0
+RepairsAreFew = (start end : ℕ) (steps : List Step) (j : Judge) → AreFrom start end (moments_of steps)
+    → how_many is_repaired_in steps j * REPAIR_PAUSE ≤ REPAIRS_AHEAD + REPAIR_PAUSE + (end - start)
+
+-- And so it is with what strangers request and ask, which takes nothing from members.
+abbrev pub StrangersAreFew : Type 0
+StrangersAreFew = (start end : ℕ) (steps : List Step) (j : Judge) → AreFrom start end (moments_of steps)
+    → how_many is_asked_in steps j * ASKED_PAUSE ≤ ASKED_AHEAD + ASKED_PAUSE + (end - start)
+
+-- While the second half is being used, no two of these in a row are of one member.
+abbrev pub RepairsAreShared : Type 0
+RepairsAreShared = (o : Origin) (asker : ℕ) (name : NameValue) (f : Facts) (j : Judge) → f.holds ≡ true → knows o f.at j ≡ true
+    → is_there o j.served ≡ true → (verdict o (Request asker name) f j).why ≡ None → has_room REPAIRS_OF_ONE j.repairs f.at ≡ true
+
+-- ---- all that is remembered is bounded
 pub record IsBounded (j : Judge) : Type 0 where
   pub own : length j.own ≤ MOST_OWN
   pub known : length j.known ≤ MOST_KNOWN

@@ -4,6 +4,7 @@ pub mod Lists
 pub mod Answers
 pub mod Known
 pub mod Others
+pub mod Firm
 pub mod Shares
 pub mod Strange
 pub mod Holding

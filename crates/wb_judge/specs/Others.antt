@@ -41,6 +41,13 @@ with_place_for others = if nat_lt (length others) MOST_OTHERS then others else r
 unfoldable pub other_with : Other → List Other → List Other
 other_with x others = with_place_for (without x.number others) ++ x ∷ []
 
+-- heard so lately that it is still here
+abbrev pub is_here : ℕ → Other → Bool
+is_here now x = nat_le (now - x.at) PATIENCE
+
+abbrev pub heard_lately : ℕ → List Other → List Other
+heard_lately now others = filter (is_here now) others
+
 -- whoever spoke from there is gone
 abbrev pub gone_from : Origin → List Other → List Other
 gone_from o others = filter (λ x. not (same_origin x.origin o)) others

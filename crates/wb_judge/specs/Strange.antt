@@ -1,5 +1,5 @@
 -- The share of strangers: what is held that no known origin gave. A name counts once.
-use Rattle.std.specs.Prelude.{ℕ, ◌/◌, Bool, false, not, ◌&&◌, ◌||◌, List, [], ◌∷◌, ◌++◌, Option, Some, None, count_by, filter, length, max, min, nat_eq, nat_le, nat_lt, if◌then◌else◌}
+use Rattle.std.specs.Prelude.{ℕ, ◌/◌, Bool, false, not, ◌&&◌, ◌||◌, List, [], ◌∷◌, ◌++◌, Option, Some, None, count_by, filter, length, map, max, min, nat_eq, nat_le, nat_lt, if◌then◌else◌}
 use Rattle.std.specs.List.{list_any}
 use Rattle.wb_names.specs.Orders.{same_name, same_page}
 use Rattle.wb_names.specs.Values.{NameValue}
@@ -47,6 +47,17 @@ with_one most g given = if nat_lt (length given) most then given ++ g ∷ [] els
 -- a drawop is held that no known origin gave: its name counts once
 unfoldable pub with_given : Given → Shares → Shares
 with_given g s = if has_name g.name s.given then s else record s { given = with_one s.most g s.given }
+
+-- a member gave it: it is strange no more
+unfoldable pub without_name : NameValue → Shares → Shares
+without_name name s = record s { given = filter (λ g. not (same_name g.name name)) s.given }
+
+-- the names of some, and of what an origin gave
+abbrev pub names_of : List Given → List NameValue
+names_of given = map (λ g. g.name) given
+
+abbrev pub given_by : Origin → List Given → List NameValue
+given_by o given = names_of (filter (is_given_by o) given)
 
 -- the pages of some, each once, and their sources on each page
 abbrev pub with_page : PageId → List PageId → List PageId

@@ -7,7 +7,7 @@ ghost use Rattle.wb_judge.specs.Answers.{reported};
 ghost use Rattle.wb_judge.specs.Days.{time_of_day};
 ghost use Rattle.wb_judge.specs.Judge.{after_leaving, after_taking, is_another, is_forged, is_full, knows, opened, owner_of};
 ghost use Rattle.wb_judge.specs.Pages.{rank_of};
-ghost use Rattle.wb_judge.specs.Strange.{with_given};
+ghost use Rattle.wb_judge.specs.Strange.{with_given, without_name};
 
 use crate::bucket::Bucket;
 use crate::day_clock::DayClock;
@@ -23,6 +23,7 @@ use std::marker::Model;
 use wb_names::{Echo, Name};
 
 mod drawops;
+mod hushing;
 mod judging;
 mod questions;
 mod reports;
@@ -72,6 +73,8 @@ pub struct Judge {
     hearing: Bucket,
     answering: Bucket,
     asked: Bucket,
+    repairs: Bucket,
+    served: Option<Origin>,
     fetch_at: u64,
     has_twin: bool,
 }
@@ -94,6 +97,8 @@ impl Model for Judge {
       hearing = j.hearing.paid;
       answering = j.answering.paid;
       asked = j.asked.paid;
+      repairs = j.repairs.paid;
+      served = j.served;
       fetch_at = j.fetch_at;
       has_twin = j.has_twin;
     } };
@@ -124,6 +129,8 @@ impl Judge {
             hearing: Bucket::WHOLE,
             answering: Bucket::WHOLE,
             asked: Bucket::WHOLE,
+            repairs: Bucket::WHOLE,
+            served: None,
             fetch_at: 0,
             has_twin: false,
         })
@@ -161,6 +168,15 @@ impl Judge {
         ensures { self.new ≡ record self.old { strange = with_given (record { name = name; origin = None }) self.old.strange } }
     {
         self.strange.put(Given { name, origin: None });
+    }
+
+    /// The record says that we or a member gave a drawop: if it was strange, it is so no more.
+    pub fn forget(&mut self, name: &Name)
+        ensures { self.new ≡ record self.old { strange = without_name name.now self.old.strange } }
+    {
+        if self.strange.has(name) {
+            self.strange.remove(name);
+        }
     }
 
     /// The network says that whoever spoke from there is gone.

@@ -2,8 +2,8 @@
 //! stands here for its clause.
 
 ghost use Rattle.std.specs.Prelude.{◌≡◌, ◌^◌};
-ghost use Rattle.wb_judge.specs.declared.limits.TheConstants.{AHEAD_KNOWN, AHEAD_STRANGER, FRESH, LEAST_SHARE, MOST_KNOWN, MOST_OTHERS, MOST_OWN, OF_ORIGIN, PATIENCE, RESERVE, SILENCE, STRANGERS, STRANGE_PAGES, STRANGE_ROWS, TIME_LIMIT};
-ghost use Rattle.wb_judge.specs.Laws.{AMemberIsNotDropped, FewAreTaken, NamesCountOnce, NumbersStay, OnlyAnswersMakeKnown, ReplayIsNoTwin, SharesStay, StateIsBounded, StaysStrange, StrangersHaveAShare, StrangersHushNobody, VouchesForNobody};
+ghost use Rattle.wb_judge.specs.declared.limits.TheConstants.{AHEAD_KNOWN, AHEAD_STRANGER, ASKED_AHEAD, ASKED_PAUSE, FIRM_TIME, FRESH, LEAST_SHARE, MOST_KNOWN, MOST_OTHERS, MOST_OWN, MOST_SHARING, OF_ORIGIN, PATIENCE, REPAIRS_AHEAD, REPAIRS_OF_ONE, REPAIR_PAUSE, RESERVE, SILENCE, STRANGERS, STRANGE_PAGES, STRANGE_ROWS, TIME_LIMIT};
+ghost use Rattle.wb_judge.specs.Laws.{AMemberIsNotDropped, FewAreTaken, NamesCountOnce, NamesTakeTurns, NobodyHushesFirmNames, NumbersStay, OnlyAnswersMakeKnown, RepairsAreFew, RepairsAreShared, ReplayIsNoTwin, SharesStay, StateIsBounded, StaysStrange, StrangersAreFew, StrangersHaveAShare, StrangersHushNobody, TurnsAreFew, VouchesForNobody};
 
 /// An origin becomes known by an answer that came from there, and by nothing else. A number that
 /// has answered us stays where it speaks, while it speaks, until it answers from elsewhere.
@@ -13,7 +13,7 @@ pub fn only_answers_make_known()
 {}
 
 /// A member's drawop is not dropped that is not ours, is at most a day ahead of the time of day,
-/// and has a cell.
+/// and has a cell. But a copy of what is held is dropped while its name is firm.
 pub fn a_member_is_not_dropped()
     ensures { AMemberIsNotDropped }
 {}
@@ -40,25 +40,49 @@ pub fn strangers_hush_nobody()
     ensures few { FewAreTaken }
 {}
 
+/// Of a name that is firm here nothing that others send hushes us: a copy of what is held ends no
+/// answer of ours, and a request for what is not held backs none of ours off. Each name is firm for
+/// two seconds, in one of as many turns as the members that are here make it.
+pub fn nobody_hushes_firm_names()
+    ensures firm { NobodyHushesFirmNames }
+    ensures turns { NamesTakeTurns }
+    ensures few { TurnsAreFew }
+{}
+
+/// From one moment to another at most 512 requests of members for what is held are handed in, and
+/// one in each 2 ms; of strangers' requests and questions 64, and one in each 62.5 ms. The second
+/// half of those of members is for more than one.
+pub fn repairs_are_few()
+    ensures members { RepairsAreFew }
+    ensures strangers { StrangersAreFew }
+    ensures shared { RepairsAreShared }
+{}
+
 /// What answers nobody, as a replay, shows no twin.
 pub fn a_replay_is_no_twin()
     ensures { ReplayIsNoTwin }
 {}
 
-/// How many moments of ours, origins and numbers are remembered, and the limit of times.
+/// How many moments of ours, origins and numbers are remembered; the limit of times; and by how many
+/// others names take turns at being firm, at most.
 pub fn limits()
     ensures remembered { (MOST_OWN ≡ 256) × (MOST_KNOWN ≡ 1024) × (MOST_OTHERS ≡ 1024) }
     ensures time { TIME_LIMIT ≡ 2 ^ 62 }
+    ensures sharing { MOST_SHARING ≡ 31 }
 {}
 
 /// The other numbers of the judgement: in microseconds how long an echo is fresh, and an origin or
-/// a number may be silent; the parts of a board, pages and sources for strangers; and how far ahead
-/// a time may be.
+/// a number may be silent; the parts of a board, pages and sources for strangers; how far ahead a
+/// time may be; how far ahead repairs for members and questions of strangers are paid for, and what
+/// one costs; and how long a turn of a firm name is.
 pub fn numbers()
     ensures silent { (FRESH ≡ 256000000) × (SILENCE ≡ 600000000) × (PATIENCE ≡ 192000000) }
     ensures shares { (STRANGERS ≡ 16) × (OF_ORIGIN ≡ 128) × (LEAST_SHARE ≡ 16) × (RESERVE ≡ 32) }
     ensures wide { (STRANGE_PAGES ≡ 16) × (STRANGE_ROWS ≡ 256) }
     ensures ahead { (AHEAD_KNOWN ≡ 86400000000) × (AHEAD_STRANGER ≡ 60000000) }
+    ensures repairs { (REPAIRS_AHEAD ≡ 1022000) × (REPAIRS_OF_ONE ≡ 510000) × (REPAIR_PAUSE ≡ 2000) }
+    ensures asked { (ASKED_AHEAD ≡ 3937500) × (ASKED_PAUSE ≡ 62500) }
+    ensures firm { FIRM_TIME ≡ 2000000 }
 {}
 
 /// All that a judge remembers is bounded.

@@ -20,6 +20,7 @@
 mod bucket;
 mod day_clock;
 mod facts;
+mod firm;
 mod judge;
 mod known;
 pub mod laws;

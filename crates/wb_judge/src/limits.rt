@@ -55,6 +55,22 @@ pub const ASKED_AHEAD: u64 = 3_937_500;
 /// What such a question costs.
 pub const ASKED_PAUSE: u64 = 62_500;
 
+/// 512 requests of members for what is held are taken at once, and then 500 in each second. Each
+/// brings a repair at most, which is sent to everybody.
+pub const REPAIRS_AHEAD: u64 = 1_022_000;
+
+/// While more than half of these are used up, none is taken of the member that had the last.
+pub const REPAIRS_OF_ONE: u64 = 510_000;
+
+/// What such a request costs.
+pub const REPAIR_PAUSE: u64 = 2_000;
+
+/// For how long a name that is firm stays so.
+pub const FIRM_TIME: u64 = 2_000_000;
+
+/// Beside 32 others and more a name is firm for 2 s in each 250 s.
+pub const MOST_SHARING: usize = 31;
+
 /// A member that lacks this many numbers takes a stream; one that lacks fewer asks for each.
 pub const LACKING: u64 = 500;
 

@@ -1,7 +1,8 @@
 //! The numbers that were heard.
 
 ghost use Rattle.std.specs.Prelude.{◌≡◌, ◌≤◌, ◌<◌, [], IfOk, IfSome, is_none, length, position};
-ghost use Rattle.wb_judge.specs.Others.{first_to_go, gone_from, is_bound_elsewhere, other_of, other_with, spoken, without};
+ghost use Rattle.wb_judge.specs.Firm.{is_present, present};
+ghost use Rattle.wb_judge.specs.Others.{first_to_go, gone_from, heard_lately, is_bound_elsewhere, other_of, other_with, spoken, without};
 
 use crate::limits::{MOST_OTHERS, PATIENCE};
 use crate::origin::Origin;
@@ -52,6 +53,17 @@ impl Others {
         other_of(&self.items, number)
     }
 
+    /// Those that were heard within 192 s, the one that was heard last at the end.
+    pub fn heard_lately(&self, alloc: Global, now: u64) -> Result<Vec<Other>, AllocError>
+        ensures { IfOk result (λ others. others.items ≡ heard_lately now self.now) }
+    {
+        let here = self
+            .items
+            .iter()
+            .filter(|other| now.saturating_sub(other.at) <= PATIENCE);
+        here.copied().collect(alloc)
+    }
+
     /// Whether it is that of a member that has answered us and speaks from another origin.
     #[tactic(auto, unfolding(crate::specs::Others::is_bound_elsewhere))]
     pub(crate) fn is_bound_elsewhere(&self, number: u32, origin: Origin, now: u64) -> bool
@@ -65,6 +77,16 @@ impl Others {
                     && now.saturating_sub(other.at) <= PATIENCE
             }
         }
+    }
+
+    /// How many have answered us and were heard lately.
+    pub fn present(&self, now: u64) -> usize
+        ensures { result ≡ present now self.now }
+    {
+        self.items
+            .iter()
+            .filter(|other| is_present(other, now))
+            .count()
     }
 
     /// What is remembered of a number that speaks from there.
@@ -132,6 +154,13 @@ fn other_of(others: &[Other], number: u32) -> Option<Other>
     ensures { result ≡ other_of number others.now }
 {
     others.iter().find(|other| other.number == number).copied()
+}
+
+/// Whether a number has answered us and was heard lately.
+fn is_present(other: &Other, now: u64) -> bool
+    ensures { result ≡ is_present now other.now }
+{
+    other.answered.is_some() && now.saturating_sub(other.at) <= PATIENCE
 }
 
 /// The place of the first that has not answered us, if there is one.

@@ -35,13 +35,14 @@ impl Rank {
     }
 }
 
-/// A page that is drawn on, and when: of two drawops the one that came later has the greater
-/// number.
+/// A page that is drawn on: whose drawops it has, when it was drawn on last, and how many of its
+/// drawops are held. Of two drawops the one that came later has the greater number in `last`.
 #[derive(Clone, Copy, Debug)]
 pub struct Listed {
     pub page: PageId,
     pub rank: Rank,
     pub last: u32,
+    pub count: u32,
 }
 
 /// Whose drawops a page has: these names are held of it.

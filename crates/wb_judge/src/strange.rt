@@ -1,7 +1,7 @@
 //! What is held that no known origin gave.
 
 ghost use Rattle.std.specs.Prelude.{◌≡◌, ◌≤◌, ◌<◌, [], IfOk, count_by, length, nat_lt, vec_capacity, vec_len};
-ghost use Rattle.wb_judge.specs.Strange.{has_name, is_given_by, is_over, is_wide, no_shares, pages_in, rows_in, share_of, with_given, without_origin};
+ghost use Rattle.wb_judge.specs.Strange.{given_by, has_name, is_given_by, is_over, is_wide, no_shares, pages_in, rows_in, share_of, with_given, without_name, without_origin};
 
 use crate::limits::{LEAST_SHARE, OF_ORIGIN, STRANGERS};
 use crate::origin::Origin;
@@ -88,6 +88,14 @@ impl Strange {
         self.items.iter().any(|given| given.name == *name)
     }
 
+    /// The names of what an origin gave.
+    pub fn given_by(&self, alloc: Global, origin: Origin) -> Result<Vec<Name>, AllocError>
+        ensures { IfOk result (λ names. names.items ≡ given_by origin self.now.given) }
+    {
+        let given = self.items.iter().filter(|given| is_given_by(given, origin));
+        given.map(|given| given.name).collect(alloc)
+    }
+
     /// Whether no more new drawops are taken from an unknown origin.
     #[tactic(auto, unfolding(crate::specs::Strange::is_over))]
     pub(crate) fn is_over(&self, origin: Origin) -> bool
@@ -124,6 +132,16 @@ impl Strange {
             add_row(&mut self.rows, Row::of(&given.name));
             self.items.push_reserved(given);
         }
+    }
+
+    /// A member gave a drawop: it is no longer strange.
+    #[tactic(auto, unfolding(crate::specs::Strange::without_name))]
+    pub(crate) fn remove(&mut self, name: &Name)
+        ensures { self.new ≡ without_name name.now self.old }
+    {
+        self.items.retain(|given| given.name != *name);
+        gather_pages(&mut self.pages, &self.items);
+        gather_rows(&mut self.rows, &self.items);
     }
 
     /// A member speaks from there: what came from there is no longer strange.

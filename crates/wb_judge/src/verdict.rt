@@ -18,9 +18,10 @@ pub enum Why {
     Mark,
     /// An origin that is not known asks for what is not held.
     Stranger,
-    /// Origins that are not known ask for too much.
+    /// Members, or origins that are not known, ask for too much.
     Flood,
-    /// The drawop is held, and no known origin gave it again.
+    /// It would hush us: the drawop is held, and no known origin gave it again, or its name is firm;
+    /// or a member requests what we lack, and its name is firm.
     Again,
     /// The time of the drawop is too far ahead.
     Ahead,

@@ -1,24 +1,24 @@
 -- A judged member is a kept member, and sends what that sends.
-use Rattle.std.proofs.Common.{◌≡◌, ◌⊎◌, ◌∙◌, ℕ, Bool, List, [], ◌∷◌, ◌++◌, None, ap, append-nil, inl, inr, map, refl, suc}
+use Rattle.std.proofs.Common.{◌≡◌, ◌⊎◌, ◌∙◌, ℕ, List, [], ◌∷◌, ◌++◌, None, ap, append-nil, inl, inr, map, refl, suc}
 use Rattle.std.specs.Prelude.{Option, Some}
 use Rattle.wb_names.specs.Values.{DrawopValue}
 use Rattle.wb_names.specs.declared.echo.Echo.{Echo}
 use Rattle.wb_codec.specs.declared.datagram.Datagram.{Datagram}
 use Rattle.wb_judge.specs.Adding.{own_echo}
 use Rattle.wb_judge.specs.declared.origin.Origin.{Origin}
-use Rattle.wb_judge.specs.declared.strange.Given.{Given}
 use Rattle.wb_judge.specs.declared.verdict.Warning.{Warning}
 use Rattle.wb_judge.specs.declared.verdict.Why.{Why}
 use Rattle.wb_keeping.specs.Laws.{Came, Ticked}
 use Rattle.wb_judging.specs.Echoing.{echoing}
-use Rattle.wb_judging.specs.Events.{became_events, drew_event, dropped_events, fetch_events, gain_events, record_event, record_events, send_event, told, warn_events}
+use Rattle.wb_judging.specs.Events.{became_events, drew_event, dropped_events, fetch_events, gain_events, record_events, send_event, told, warn_events}
 use Rattle.wb_judging.specs.Handing.{facts_of, handed, handed_for, verdict_on}
-use Rattle.wb_judging.specs.Judged.{CameFrom, DayTold, Garbled, GoneFrom, Judged, JudgedLine, Passed, UserDrew, is_ours, moment_of}
+use Rattle.wb_judging.specs.Judged.{CameFrom, DayTold, Garbled, GoneFrom, Held, Judged, JudgedLine, Passed, UserDrew, moment_of}
 use Rattle.wb_judging.specs.Laws.{JudgedMembersAreKept, SendsAsKept, TheSameOrATick, sends_in}
-use Rattle.wb_judging.specs.Performing.{after_judged, after_kept_line, fate_by, first_events, gained, judging, last_events, sent_by_kept_line, told_by}
+use Rattle.wb_judging.specs.Performing.{after_judged, after_kept_line, fate_by, first_events, gained, judging, last_events, lines_of, sent_by_kept_line}
 use Rattle.wb_judging.specs.declared.event.Event.{Event}
 use Rattle.wb_judging.specs.declared.event.Event.TheVariants.{Became, Dropped, Drew, Fetch, NoDatagram, Record, Send, Warn}
 use Rattle.wb_judging.specs.declared.event.Fate.{Fate}
+use Rattle.wb_judging.specs.declared.record.RecordLine.{RecordLine}
 
 pub judged_members_are_kept : JudgedMembersAreKept
 unfolding after_kept_line
@@ -67,18 +67,18 @@ sends_advice None (Some warning) lacking = refl
 sends_advice (Some o) None lacking = refl
 sends_advice (Some o) (Some warning) lacking = refl
 
-sends_records : (ours : Bool) (given : List Given) (gained : List DrawopValue) → sends_in (map (record_event ours given) gained) ≡ []
-sends_records ours given [] = refl
-sends_records ours given (d ∷ gained) = sends_records ours given gained
+sends_records : (lines : List RecordLine) → sends_in (map Record lines) ≡ []
+sends_records [] = refl
+sends_records (line ∷ lines) = sends_records lines
 
-sends_recorded : (now : ℕ) (ours : Bool) (given : List Given) (gained : List DrawopValue) → sends_in (record_events now ours given gained) ≡ []
-sends_recorded now ours given [] = refl
-sends_recorded now ours given (d ∷ gained) = sends_records ours given (d ∷ gained)
+sends_recorded : (now : ℕ) (lines : List RecordLine) → sends_in (record_events now lines) ≡ []
+sends_recorded now [] = refl
+sends_recorded now (line ∷ lines) = sends_records (line ∷ lines)
 
-sends_gain : (now : ℕ) (ours : Bool) (given : List Given) (gained : List DrawopValue) → sends_in (gain_events now ours given gained) ≡ []
-sends_gain now ours given gained =
-    sends_both (record_events now ours given gained) (map drew_event gained)
-    ∙ ap (λ (vs : List Datagram). vs ++ sends_in (map drew_event gained)) (sends_recorded now ours given gained)
+sends_gain : (now : ℕ) (lines : List RecordLine) (gained : List DrawopValue) → sends_in (gain_events now lines gained) ≡ []
+sends_gain now lines gained =
+    sends_both (record_events now lines) (map drew_event gained)
+    ∙ ap (λ (vs : List Datagram). vs ++ sends_in (map drew_event gained)) (sends_recorded now lines)
     ∙ sends_drew gained
 
 sends_told : (gain : List Event) (echo : Option Echo) (sent : List Datagram) (fate : Option Fate) → sends_in gain ≡ [] → sends_in (told gain echo sent fate) ≡ map (echoing echo) sent
@@ -97,6 +97,7 @@ sends_first (Passed now) h = refl
 sends_first (UserDrew now page op) h = refl
 sends_first (DayTold now wall) h = refl
 sends_first (GoneFrom now o) h = refl
+sends_first (Held line) h = refl
 
 sends_last : (line : JudgedLine) (h : Judged) → sends_in (last_events line h) ≡ []
 sends_last (CameFrom now o v) h = let verdict = verdict_on now o v h in sends_advice verdict.fetch verdict.warning (facts_of now v h.kept).lacking
@@ -105,17 +106,19 @@ sends_last (Passed now) h = refl
 sends_last (UserDrew now page op) h = refl
 sends_last (DayTold now wall) h = refl
 sends_last (GoneFrom now o) h = refl
+sends_last (Held line) h = refl
 
 pub sends_as_kept : SendsAsKept
 sends_as_kept line h =
     let kept = handed line h in
     let j = judging line h in
-    let echo = own_echo (moment_of line) j in
-    let more = gained kept h.kept in
-    let middle = told_by (moment_of line) (is_ours line) kept h.kept j in
+    let now = moment_of line h in
+    let echo = own_echo now j in
+    let gain = gain_events now (lines_of line h) (gained kept h.kept) in
+    let middle = told gain echo (sent_by_kept_line kept h.kept) (fate_by kept h.kept) in
     sends_both (first_events line h) (middle ++ last_events line h)
     ∙ ap (λ (vs : List Datagram). vs ++ sends_in (middle ++ last_events line h)) (sends_first line h)
     ∙ sends_both middle (last_events line h)
     ∙ ap (λ (vs : List Datagram). sends_in middle ++ vs) (sends_last line h)
     ∙ append-nil (sends_in middle)
-    ∙ sends_told (gain_events (moment_of line) (is_ours line) j.strange.given more) echo (sent_by_kept_line kept h.kept) (fate_by kept h.kept) (sends_gain (moment_of line) (is_ours line) j.strange.given more)
+    ∙ sends_told gain echo (sent_by_kept_line kept h.kept) (fate_by kept h.kept) (sends_gain now (lines_of line h) (gained kept h.kept))

@@ -1,5 +1,5 @@
 -- The user's drawing: what becomes of it, by what each part of the call does.
-use Rattle.std.proofs.Common.{◌≡◌, ◌∙◌, ℕ, Bool, true, List, [], ◌∷◌, ◌++◌, None, ap, append-nil, drop, length, refl, subst, sym}
+use Rattle.std.proofs.Common.{◌≡◌, ◌∙◌, ℕ, Bool, List, [], ◌∷◌, ◌++◌, None, ap, append-nil, drop, length, refl, subst, sym}
 use Rattle.std.specs.Prelude.{IsTrue, Option, Some, Result, Err, is_some}
 use Rattle.std.specs.Option.{option_map}
 use Rattle.wb_names.specs.Faults.{first_of}
@@ -20,11 +20,14 @@ use Rattle.wb_judging.specs.Handing.{handed}
 use Rattle.wb_judging.specs.Hearing.{after_sends}
 use Rattle.wb_judging.specs.Judged.{Judged, UserDrew}
 use Rattle.wb_judging.specs.Performing.{IsJudgedAt, JudgedValue, KeptDoes, after_judged, events_of}
+use Rattle.wb_judging.specs.Recording.{gain_lines}
 use Rattle.wb_judging.specs.Refusing.{IsRefusedAs, draw_fault}
 use Rattle.wb_judging.specs.declared.event.Event.{Event}
 use Rattle.wb_judging.specs.declared.event.Fate.{Fate}
 use Rattle.wb_judging.specs.declared.judged_fault.JudgedFault.{JudgedFault}
 use Rattle.wb_judging.specs.declared.judged_fault.JudgedFault.TheVariants.{Judge, Kept}
+use Rattle.wb_judging.specs.declared.record.Giver.TheVariants.{User}
+use Rattle.wb_judging.specs.declared.record.RecordLine.{RecordLine}
 use Rattle.wb_judging.proofs.Handed.{alone}
 use Rattle.wb_judging.proofs.Performed.{performed, went}
 
@@ -52,17 +55,17 @@ none_of (Some g) other = absurd (other g refl)
 
 -- ---- it draws
 
-pub drew : (now : ℕ) (page : PageId) (op : Op) (h : Judged) (k0 k2 : KeptValue) (j0 : JudgeState) (time held : ℕ) (sent : List Datagram) (fate : Option Fate) (e0 e2 : List Event) (new : JudgedValue)
-    → IsJudgedAt (record { kept = k0; judge = j0 }) h → held ≡ length k0.member.board.drawops → time ≡ time_of_day j0.clock now → KeptDoes (Added now page time op) k0 k2 sent fate
-    → e0 ≡ [] → new.kept ≡ k2 → new.judge ≡ after_sends sent j0
-    → ((k : Keeping) → IsKeptAt k2 k → e2 ≡ e0 ++ told (gain_events now true j0.strange.given (drop held k.host.is.held)) (own_echo now j0) sent fate)
+pub drew : (now : ℕ) (page : PageId) (op : Op) (h : Judged) (k0 k2 : KeptValue) (j0 : JudgeState) (time held : ℕ) (sent : List Datagram) (fate : Option Fate) (lines : List RecordLine) (e0 e2 : List Event) (new : JudgedValue)
+    → IsJudgedAt (record { kept = k0; judge = j0 }) h → time ≡ time_of_day j0.clock now → KeptDoes (Added now page time op) k0 k2 held sent fate
+    → lines ≡ [] → e0 ≡ [] → new.kept ≡ k2 → new.judge ≡ after_sends sent j0
+    → ((k : Keeping) → IsKeptAt k2 k → e2 ≡ e0 ++ told (gain_events now (lines ++ gain_lines User j0.strange.given (drop held k.host.is.held)) (drop held k.host.is.held)) (own_echo now j0) sent fate)
     → (e2 ≡ events_of (UserDrew now page op) h) × IsJudgedAt new (after_judged (UserDrew now page op) h)
-drew now page op h k0 k2 j0 time held sent fate e0 e2 new at count clock draws_it begun kept judge tells =
+drew now page op h k0 k2 j0 time held sent fate lines e0 e2 new at clock draws_it none begun kept judge tells =
     let line = UserDrew now page op in
     let old : JudgedValue = record { kept = k0; judge = j0 } in
     let mid : JudgedValue = record { kept = k2; judge = j0 } in
     let there : Added now page time op ≡ handed line h = ap (λ (t : ℕ). Added now page t op) (clock ∙ ap (λ (j : JudgeState). time_of_day j.clock now) at.judge) in
-    let does = subst (λ (l : KeptLine). KeptDoes l k0 k2 sent fate) there draws_it in
-    performed line h old old new e0 e2 e2 at refl at.judge begun
-    (went now true (handed line h) old mid new held sent fate e0 e2 does count refl kept judge tells)
+    let does = subst (λ (l : KeptLine). KeptDoes l k0 k2 held sent fate) there draws_it in
+    performed line h old old new lines e0 e2 e2 at refl at.judge none begun
+    (went now lines User (handed line h) old mid new held sent fate e0 e2 does refl kept judge tells)
     (sym (append-nil e2))

@@ -7,12 +7,12 @@ use Rattle.wb_codec.specs.declared.datagram.Datagram.TheVariants.{AskPages, Draw
 use Rattle.wb_judge.specs.Answers.{answers}
 use Rattle.wb_judge.specs.Buckets.{has_room, paid_after}
 use Rattle.wb_judge.specs.Judge.{Judge, after_taking, is_forged, knows}
-use Rattle.wb_judge.specs.Judging.{after_admitted, after_admitting, after_answer, after_coming, after_fetching, after_hearing, after_judging, after_of, after_own, after_question, after_report, after_said, is_admitted, is_elsewhere, is_fetched, is_forged_mark, is_heard, is_twin, speaking, with_payment}
+use Rattle.wb_judge.specs.Judging.{after_admitted, after_admitting, after_answer, after_coming, after_fetching, after_hearing, after_held, after_judging, after_of, after_own, after_question, after_repair, after_report, after_request, after_said, after_stranger, is_admitted, is_elsewhere, is_fetched, is_forged_mark, is_heard, is_repaired, is_twin, speaking, with_payment}
 use Rattle.wb_judge.specs.Others.{other_of}
 use Rattle.wb_judge.specs.Reports.{report_of}
 use Rattle.wb_judge.specs.Strange.{with_given}
 use Rattle.wb_judge.specs.declared.facts.Facts.{Facts}
-use Rattle.wb_judge.specs.declared.limits.TheConstants.{ASKED_AHEAD, ASKED_PAUSE}
+use Rattle.wb_judge.specs.declared.limits.TheConstants.{ASKED_AHEAD, ASKED_PAUSE, REPAIR_PAUSE}
 use Rattle.wb_judge.specs.declared.origin.Origin.{Origin}
 use Rattle.wb_judge.specs.declared.report.Report.{Report}
 use Rattle.wb_judge.specs.declared.strange.Given.{Given}
@@ -68,11 +68,23 @@ reported o r f j =
     either (is_elsewhere o r answer f.at j || not (is_admitted o r.speaker answer f.at j)) j j _ (itself j)
     (then (admitting o r.speaker answer f.at j) (admitted o r answer f k))
 
-question : (o : Origin) (misses : Bool) (now : ℕ) (j : Judge) → Fixed j (after_question o misses now j)
+stranger : (now : ℕ) (j : Judge) → Fixed j (after_stranger now j)
+unfolding after_stranger
+stranger now j = either (has_room ASKED_AHEAD j.asked now) j (record j { asked = paid_after ASKED_PAUSE j.asked now }) j (record { me = refl; cells = refl; clock = refl }) (itself j)
+
+question : (o : Origin) (now : ℕ) (j : Judge) → Fixed j (after_question o now j)
 unfolding after_question
-question o misses now j =
-    either (knows o now j || (misses || not (has_room ASKED_AHEAD j.asked now))) j j (record j { asked = paid_after ASKED_PAUSE j.asked now }) (itself j)
-    (record { me = refl; cells = refl; clock = refl })
+question o now j = either (knows o now j) j j (after_stranger now j) (itself j) (stranger now j)
+
+repair : (o : Origin) (now : ℕ) (j : Judge) → Fixed j (after_repair o now j)
+unfolding after_repair
+repair o now j =
+    either (is_repaired o now j) j (record j { repairs = paid_after REPAIR_PAUSE j.repairs now; served = Some o }) j (record { me = refl; cells = refl; clock = refl }) (itself j)
+
+request : (o : Origin) (f : Facts) (j : Judge) → Fixed j (after_request o f j)
+unfolding after_held
+request o f j =
+    either f.holds j (after_held o f.at j) j (either (knows o f.at j) j (after_repair o f.at j) (after_stranger f.at j) (repair o f.at j) (stranger f.at j)) (itself j)
 
 owned : (sent : ℕ) (r : Report) (now : ℕ) (j : Judge) → Fixed j (after_own sent r now j)
 unfolding after_own
@@ -87,8 +99,8 @@ after_it : (o : Origin) (v : Datagram) (f : Facts) (j : Judge) → Fixed j (afte
 after_it o (Draw d) f j = itself j
 after_it o (Session s sent page marks echoes) f j = let r = report_of j.me s marks echoes in said o s j _ _ (owned sent r f.at j) (reported o r f j)
 after_it o (PageState s page marks) f j = said o s j _ _ (itself j) (reported o (report_of j.me s marks []) f j)
-after_it o (Request asker name) f j = said o asker j _ _ (itself j) (question o (not f.holds) f.at j)
-after_it o (AskPages asker) f j = said o asker j _ _ (itself j) (question o false f.at j)
+after_it o (Request asker name) f j = said o asker j _ _ (itself j) (request o f j)
+after_it o (AskPages asker) f j = said o asker j _ _ (itself j) (question o f.at j)
 
 -- a datagram
 pub judged : (o : Origin) (v : Datagram) (f : Facts) (j : Judge) → Fixed j (after_judging o v f j)

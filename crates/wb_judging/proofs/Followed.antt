@@ -22,12 +22,12 @@ use Rattle.wb_keeping.specs.declared.kept_fault.KeptFault.TheVariants.{Host}
 use Rattle.wb_judging.specs.Events.{is_new}
 use Rattle.wb_judging.specs.Handing.{facts_of, handed, handed_for, judge_after, verdict_on}
 use Rattle.wb_judging.specs.Hearing.{after_fate, after_sending, after_sends}
-use Rattle.wb_judging.specs.Judged.{CameFrom, DayTold, Garbled, GoneFrom, Judged, JudgedLine, Passed, UserDrew}
+use Rattle.wb_judging.specs.Judged.{CameFrom, DayTold, Garbled, GoneFrom, Held, Judged, JudgedLine, Passed, UserDrew}
 use Rattle.wb_judging.specs.Laws.{MembersAreHandedIn, NobodyMovesOurTime, OnlyAnswersMakeKnown, StrangersHushNobody, TheNetworkRefusesNothing, is_told}
 use Rattle.wb_judging.specs.Performing.{after_judged, fate_by, judging, sent_by_kept_line}
 use Rattle.wb_judging.specs.declared.event.Fate.{Fate}
 use Rattle.wb_judging.proofs.Handed.{alone, handed_fault}
-use Rattle.wb_judging.proofs.Numbers.{came_fixed, sends}
+use Rattle.wb_judging.proofs.Numbers.{came_fixed, recalled_fixed, sends}
 
 -- ---- nothing is refused
 
@@ -44,14 +44,15 @@ the_network_refuses_nothing (Garbled now) h own other later = alone (back_in_tim
 the_network_refuses_nothing (Passed now) h own other later = alone (back_in_time now h.kept) ∙ timely now h.kept later
 the_network_refuses_nothing (DayTold now wall) h own other later = alone (back_in_time now h.kept) ∙ timely now h.kept later
 the_network_refuses_nothing (GoneFrom now o) h own other later = alone (back_in_time now h.kept) ∙ timely now h.kept later
-the_network_refuses_nothing (UserDrew now page op) h own other later = absurd (true≢false other)
+the_network_refuses_nothing (UserDrew now page op) h own other later = absurd cc
+the_network_refuses_nothing (Held line) h own other later = absurd cc
 
 -- ---- members and strangers
 
 pub members_are_handed_in : MembersAreHandedIn
 unfolding verdict_on
-members_are_handed_in now o d h known other soon room =
-    ap (λ (why : Option Why). handed_for now (Draw d) why) (a_member_is_not_dropped o d (facts_of now (Draw d) h.kept) h.judge known other soon room)
+members_are_handed_in now o d h known other copied soon room =
+    ap (λ (why : Option Why). handed_for now (Draw d) why) (a_member_is_not_dropped o d (facts_of now (Draw d) h.kept) h.judge known other copied soon room)
 
 pub strangers_hush : StrangersHushNobody
 unfolding verdict_on
@@ -114,6 +115,7 @@ clock_after (Garbled now) h other = refl
 clock_after (Passed now) h other = refl
 clock_after (UserDrew now page op) h other = refl
 clock_after (GoneFrom now o) h other = refl
+clock_after (Held line) h other = (recalled_fixed line (fate_by (handed (Held line) h) h.kept) h.judge).clock
 clock_after (DayTold now wall) h other = absurd (true≢false other)
 
 pub nobody_moves_our_time : NobodyMovesOurTime

@@ -1,11 +1,12 @@
 -- What the judge hands in is not refused but for its moment.
-use Rattle.std.proofs.Common.{◌≡◌, ◌+◌, ℕ, Bool, true, false, cond, [], ◌∷◌, None, refl, sym, true≢false}
+use Rattle.std.proofs.Common.{◌≡◌, ◌+◌, ℕ, Bool, true, false, cond, List, [], ◌∷◌, None, ap, refl, sym, true≢false}
 use Rattle.std.specs.Prelude.{Option, Some, ◌&&◌, ◌||◌, nat_eq, nat_le, nat_lt, not}
 use Rattle.wb_names.specs.Faults.{fault_unless, first_of}
-use Rattle.wb_names.specs.Values.{DrawopValue}
+use Rattle.wb_names.specs.Values.{DrawopValue, MarkValue}
+use Rattle.wb_names.specs.declared.name.PageId.{PageId}
 use Rattle.wb_codec.specs.declared.datagram.Datagram.{Datagram}
 use Rattle.wb_codec.specs.declared.datagram.Datagram.TheVariants.{AskPages, Draw, PageState, Request, Session}
-use Rattle.wb_judge.specs.Judge.{Judge, knows}
+use Rattle.wb_judge.specs.Judge.{Judge, hushes, knows}
 use Rattle.wb_judge.specs.Judging.{after_coming, drawop_verdict, is_forged_drawop}
 use Rattle.wb_judge.specs.Verdicts.{dropped, taken}
 use Rattle.wb_judge.specs.declared.facts.Facts.{Facts}
@@ -15,18 +16,21 @@ use Rattle.wb_judge.specs.declared.verdict.Verdict.{Verdict}
 use Rattle.wb_judge.specs.declared.verdict.Why.{Why}
 use Rattle.wb_judge.specs.declared.verdict.Why.TheVariants.{Again, Own}
 use Rattle.wb_keeping.specs.Laws.{fault_of}
-use Rattle.wb_keeping.specs.Refusing.{back_in_time, is_unknown_of_ours}
+use Rattle.wb_keeper.specs.declared.keep_fault.KeepFault.TheVariants.{BackInTime}
+use Rattle.wb_member.specs.Opened.{present}
+use Rattle.wb_keeping.specs.Performing.{Keeping}
+use Rattle.wb_keeping.specs.Refusing.{back_in_time, came_fault, is_unknown_of_ours}
 use Rattle.wb_keeping.specs.declared.kept_fault.KeptFault.{KeptFault}
-use Rattle.wb_keeping.specs.declared.kept_fault.KeptFault.TheVariants.{Ours}
+use Rattle.wb_keeping.specs.declared.kept_fault.KeptFault.TheVariants.{Host, Ours}
 use Rattle.wb_judging.specs.Handing.{facts_of, handed_for, verdict_on}
 use Rattle.wb_judging.specs.Judged.{Judged}
 
 -- ---- a drawop of ours
 
-not_forged : (known holds forged : Bool) (rest : Verdict) → (cond holds (cond known taken (dropped Again)) (cond forged (dropped Own) rest)).why ≡ None → holds ≡ false → forged ≡ false
-not_forged known true forged rest e f = absurd (true≢false f)
-not_forged known false true rest e f = absurd cc
-not_forged known false false rest e f = refl
+not_forged : (may holds forged : Bool) (rest : Verdict) → (cond holds (cond may taken (dropped Again)) (cond forged (dropped Own) rest)).why ≡ None → holds ≡ false → forged ≡ false
+not_forged may true forged rest e f = absurd (true≢false f)
+not_forged may false true rest e f = absurd cc
+not_forged may false false rest e f = refl
 
 -- a number that we would never reach, of a drawop that is not held
 in_reach : (own far more holds : Bool) → (holds ≡ false → (own && (far || more)) ≡ false) → (own && (far && not holds)) ≡ false
@@ -39,7 +43,7 @@ reached : (o : Origin) (d : DrawopValue) (f : Facts) (j : Judge) → (drawop_ver
 unfolding drawop_verdict is_forged_drawop
 reached o d f j e =
     in_reach (nat_eq d.name.source j.me) (nat_le FORGED_NUMBER d.name.seq) (nat_lt (f.top + FORGED_ABOVE) d.name.seq || not (f.listens || knows o f.at j)) f.holds
-    (not_forged (knows o f.at j) f.holds (is_forged_drawop (knows o f.at j) d f j) _ e)
+    (not_forged (hushes o d.name f.at j) f.holds (is_forged_drawop (knows o f.at j) d f j) _ e)
 
 unknown_not : (now : ℕ) (o : Origin) (v : Datagram) (h : Judged) → h.judge.me ≡ h.kept.host.is.number → (verdict_on now o v h).why ≡ None → is_unknown_of_ours v h.kept.host ≡ false
 unfolding verdict_on
@@ -66,3 +70,7 @@ by_why now v h (Some why) known = alone (back_in_time now h.kept)
 
 pub handed_fault : (now : ℕ) (o : Origin) (v : Datagram) (h : Judged) → h.judge.me ≡ h.kept.host.is.number → fault_of (handed_for now v (verdict_on now o v h).why) h.kept ≡ back_in_time now h.kept
 handed_fault now o v h own = by_why now v h (verdict_on now o v h).why (unknown_not now o v h own)
+
+-- a page state is refused for its moment alone
+pub state_fault : (now speaker : ℕ) (page : PageId) (marks : List MarkValue) (k : Keeping) → nat_le (present k.host) now ≡ true → came_fault now (PageState speaker page marks) k ≡ None
+state_fault now speaker page marks k time = ap (λ (b : Bool). first_of (fault_unless b (Host BackInTime) ∷ fault_unless (not false) Ours ∷ [])) time

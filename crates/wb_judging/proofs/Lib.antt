@@ -10,3 +10,8 @@ pub mod AsKept
 pub mod Heard
 pub mod Followed
 pub mod Recorded
+pub mod Histories
+pub mod StrangeNames
+pub mod Boards
+pub mod Again
+pub mod Asked

@@ -1,5 +1,6 @@
 -- A judged member keeps its number, and its judge has the number of its board.
 use Rattle.std.proofs.Common.{◌≡◌, ◌∙◌, ℕ, Bool, true, false, cond, List, [], ◌∷◌, Option, Some, refl, sym}
+use Rattle.wb_names.specs.Values.{NameValue}
 use Rattle.wb_codec.specs.declared.datagram.Datagram.{Datagram}
 use Rattle.wb_codec.specs.declared.datagram.Datagram.TheVariants.{AskPages, Draw, PageState, Request, Session}
 use Rattle.wb_judge.specs.Judge.{Judge}
@@ -12,10 +13,12 @@ use Rattle.wb_keeping.specs.Laws.{KeptLine, doing_of}
 use Rattle.wb_keeping.specs.Performing.{Keeping, sees}
 use Rattle.wb_judging.specs.Events.{is_new}
 use Rattle.wb_judging.specs.Handing.{facts_of, handed, judge_after}
-use Rattle.wb_judging.specs.Judged.{CameFrom, DayTold, Garbled, GoneFrom, Judged, JudgedLine, Passed, UserDrew}
-use Rattle.wb_judging.specs.Hearing.{after_fate, after_sending, after_sends}
+use Rattle.wb_judging.specs.Judged.{CameFrom, DayTold, Garbled, GoneFrom, Held, Judged, JudgedLine, Passed, UserDrew}
+use Rattle.wb_judging.specs.Hearing.{after_fate, after_recalling, after_sending, after_sends, with_members, with_strange}
 use Rattle.wb_judging.specs.Performing.{after_judged, after_kept_line, fate_by, judging, sent_by_kept_line}
 use Rattle.wb_judging.specs.declared.event.Fate.{Fate}
+use Rattle.wb_judging.specs.declared.record.RecordLine.{RecordLine}
+use Rattle.wb_judging.specs.declared.record.RecordLine.TheVariants.{Known, Mark, Said, Strange, Tick}
 use Rattle.wb_judging.proofs.Fixed.{Fixed, itself, judged, taken, then}
 
 -- ---- the board
@@ -41,7 +44,7 @@ number_stays (SetsDistance source micros) host = refl
 number_stays (Tunes constants) host = refl
 number_stays (Says v) host = number_said v host
 
-number_through : (lines : List Line) (host : Opened) → (after_lines lines host).is.number ≡ host.is.number
+pub number_through : (lines : List Line) (host : Opened) → (after_lines lines host).is.number ≡ host.is.number
 number_through [] host = refl
 number_through (line ∷ lines) host = number_through lines (after_line line host) ∙ number_stays line host
 
@@ -81,6 +84,20 @@ judged_after now o v h = judged o v (facts_of now v h.kept) h.judge
 pub came_fixed : (now : ℕ) (o : Origin) (v : Datagram) (h : Judged) → Fixed h.judge (judging (CameFrom now o v) h)
 came_fixed now o v h = then (judged_after now o v h) (fated now o v (fate_by (handed (CameFrom now o v) h) h.kept) (judge_after now o v h))
 
+members_fixed : (name : NameValue) (j : Judge) → Fixed j (with_members name j)
+members_fixed name j = record { me = refl; cells = refl; clock = refl }
+
+strange_fixed : (name : NameValue) (j : Judge) → Fixed j (with_strange name j)
+strange_fixed name j = record { me = refl; cells = refl; clock = refl }
+
+-- nor does a line of the record
+pub recalled_fixed : (line : RecordLine) (fate : Option Fate) (j : Judge) → Fixed j (after_recalling line fate j)
+recalled_fixed (Tick past) fate j = itself j
+recalled_fixed (Said d) fate j = members_fixed d.name j
+recalled_fixed (Known d) fate j = members_fixed d.name j
+recalled_fixed (Strange d) fate j = either (is_new fate) j (with_strange d.name j) (strange_fixed d.name j)
+recalled_fixed (Mark speaker page mark) fate j = itself j
+
 me_judging : (line : JudgedLine) (h : Judged) → (judging line h).me ≡ h.judge.me
 me_judging (CameFrom now o v) h = (came_fixed now o v h).me
 me_judging (Garbled now) h = refl
@@ -88,6 +105,7 @@ me_judging (Passed now) h = refl
 me_judging (UserDrew now page op) h = refl
 me_judging (DayTold now wall) h = refl
 me_judging (GoneFrom now o) h = refl
+me_judging (Held line) h = (recalled_fixed line (fate_by (handed (Held line) h) h.kept) h.judge).me
 
 pub own_stays : (line : JudgedLine) (h : Judged) → h.judge.me ≡ h.kept.host.is.number → (after_judged line h).judge.me ≡ (after_judged line h).kept.host.is.number
 own_stays line h own =

@@ -5,16 +5,15 @@ use Rattle.wb_names.specs.Values.{DrawopValue}
 use Rattle.wb_names.specs.declared.echo.Echo.{Echo}
 use Rattle.wb_codec.specs.declared.datagram.Datagram.{Datagram}
 use Rattle.wb_judge.specs.declared.origin.Origin.{Origin}
-use Rattle.wb_judge.specs.declared.strange.Given.{Given}
 use Rattle.wb_judge.specs.declared.verdict.Verdict.{Verdict}
 use Rattle.wb_judge.specs.declared.verdict.Warning.{Warning}
 use Rattle.wb_judge.specs.declared.verdict.Why.{Why}
 use Rattle.wb_judging.specs.Echoing.{echoing}
-use Rattle.wb_judging.specs.Recording.{record_of}
 use Rattle.wb_judging.specs.declared.event.Event.{Event}
 use Rattle.wb_judging.specs.declared.event.Event.TheVariants.{Became, Dropped, Drew, Fetch, Record, Send, Warn}
 use Rattle.wb_judging.specs.declared.event.Fate.{Fate}
 use Rattle.wb_judging.specs.declared.event.Fate.TheVariants.{Again, Clash, Left, New}
+use Rattle.wb_judging.specs.declared.record.RecordLine.{RecordLine}
 use Rattle.wb_judging.specs.declared.record.RecordLine.TheVariants.{Tick}
 
 -- what became of a drawop
@@ -35,13 +34,10 @@ abbrev pub dropped_events : Option Why → List Event
 dropped_events None = []
 dropped_events (Some why) = Dropped why ∷ []
 
--- A moment, and then what the board gained.
-abbrev pub record_event : Bool → List Given → DrawopValue → Event
-record_event ours given d = Record (record_of ours given d)
-
-abbrev pub record_events : ℕ → Bool → List Given → List DrawopValue → List Event
-record_events now ours given [] = []
-record_events now ours given (d ∷ gained) = Record (Tick now) ∷ map (record_event ours given) (d ∷ gained)
+-- a moment, and then the lines
+abbrev pub record_events : ℕ → List RecordLine → List Event
+record_events now [] = []
+record_events now (line ∷ lines) = Record (Tick now) ∷ map Record (line ∷ lines)
 
 abbrev pub drew_event : DrawopValue → Event
 drew_event d = Drew d.name
@@ -61,9 +57,9 @@ abbrev pub warn_events : Option Warning → List Event
 warn_events None = []
 warn_events (Some warning) = Warn warning ∷ []
 
--- what the board gained, which is recorded, what is sent, and what became of a drawop
-abbrev pub gain_events : ℕ → Bool → List Given → List DrawopValue → List Event
-gain_events now ours given gained = record_events now ours given gained ++ map drew_event gained
+-- what is recorded, what the board gained, what is sent, and what became of a drawop
+abbrev pub gain_events : ℕ → List RecordLine → List DrawopValue → List Event
+gain_events now lines gained = record_events now lines ++ map drew_event gained
 
 abbrev pub told : List Event → Option Echo → List Datagram → Option Fate → List Event
 told gain echo sent fate = gain ++ (map (send_event echo) sent ++ became_events fate)

@@ -1,5 +1,5 @@
 -- What the judge hands to the kept member in the place of each line: the same, or a tick of that moment.
-use Rattle.std.specs.Prelude.{ℕ, ◌-◌, Bool, false, List, Option, Some, None, length, nat_eq, nat_lt, take, if◌then◌else◌}
+use Rattle.std.specs.Prelude.{ℕ, ◌-◌, Bool, false, List, [], ◌∷◌, Option, Some, None, length, nat_eq, nat_lt, take, if◌then◌else◌}
 use Rattle.std.specs.List.{sum_by}
 use Rattle.wb_names.specs.Values.{MarkValue}
 use Rattle.wb_names.specs.declared.name.PageId.{PageId}
@@ -13,10 +13,12 @@ use Rattle.wb_judge.specs.declared.verdict.Verdict.{Verdict}
 use Rattle.wb_judge.specs.declared.verdict.Why.{Why}
 use Rattle.wb_judge.specs.Judge.{Judge}
 use Rattle.wb_member.specs.Judged.{highest, holds}
-use Rattle.wb_member.specs.Opened.{Opened}
+use Rattle.wb_member.specs.Opened.{Opened, present}
 use Rattle.wb_keeping.specs.Laws.{KeptLine, Added, Came, Ticked}
 use Rattle.wb_keeping.specs.Performing.{Keeping}
-use Rattle.wb_judging.specs.Judged.{CameFrom, DayTold, Garbled, GoneFrom, Judged, JudgedLine, Passed, UserDrew}
+use Rattle.wb_judging.specs.Judged.{CameFrom, DayTold, Garbled, GoneFrom, Held, Judged, JudgedLine, Passed, UserDrew}
+use Rattle.wb_judging.specs.declared.record.RecordLine.{RecordLine}
+use Rattle.wb_judging.specs.declared.record.RecordLine.TheVariants.{Known, Mark, Said, Strange, Tick}
 
 -- ---- what the kept member says of itself, and of a datagram
 
@@ -66,6 +68,14 @@ abbrev pub handed_for : ℕ → Datagram → Option Why → KeptLine
 handed_for now v None = Came now v
 handed_for now v (Some why) = Ticked now
 
+-- a line of the record: its drawop, or its mark in a page state; a moment of the past is none of the present
+abbrev pub recalled : ℕ → RecordLine → KeptLine
+recalled now (Tick past) = Ticked now
+recalled now (Said d) = Came now (Draw d)
+recalled now (Known d) = Came now (Draw d)
+recalled now (Strange d) = Came now (Draw d)
+recalled now (Mark speaker page mark) = Came now (PageState speaker page (mark ∷ []))
+
 abbrev pub handed : JudgedLine → Judged → KeptLine
 handed (CameFrom now o v) h = handed_for now v (verdict_on now o v h).why
 handed (Garbled now) h = Ticked now
@@ -73,3 +83,4 @@ handed (Passed now) h = Ticked now
 handed (UserDrew now page op) h = Added now page (time_of_day h.judge.clock now) op
 handed (DayTold now wall) h = Ticked now
 handed (GoneFrom now o) h = Ticked now
+handed (Held line) h = recalled (present h.kept.host) line

@@ -1,12 +1,16 @@
 -- What a judge hears of what its kept member did.
-use Rattle.std.specs.Prelude.{ℕ, List, [], ◌∷◌, Option, Some, if◌then◌else◌}
+use Rattle.std.specs.Prelude.{ℕ, List, [], ◌∷◌, Option, Some, None, if◌then◌else◌}
+use Rattle.wb_names.specs.Values.{NameValue}
 use Rattle.wb_codec.specs.declared.datagram.Datagram.{Datagram}
 use Rattle.wb_codec.specs.declared.datagram.Datagram.TheVariants.{AskPages, Draw, PageState, Request, Session}
 use Rattle.wb_judge.specs.Answers.{reported}
 use Rattle.wb_judge.specs.Judge.{Judge, after_taking}
+use Rattle.wb_judge.specs.Strange.{with_given, without_name}
 use Rattle.wb_judge.specs.declared.origin.Origin.{Origin}
 use Rattle.wb_judging.specs.Events.{is_new}
 use Rattle.wb_judging.specs.declared.event.Fate.{Fate}
+use Rattle.wb_judging.specs.declared.record.RecordLine.{RecordLine}
+use Rattle.wb_judging.specs.declared.record.RecordLine.TheVariants.{Known, Mark, Said, Strange, Tick}
 
 -- a report of ours was sent
 abbrev pub after_sending : Datagram → Judge → Judge
@@ -27,3 +31,17 @@ after_fate now o (Session sender sent page marks echoes) fate j = j
 after_fate now o (Request asker name) fate j = j
 after_fate now o (AskPages asker) fate j = j
 after_fate now o (PageState sender page marks) fate j = j
+
+-- The record tells a drawop that is strange, and new here; or one that the user or a member gave, which is strange no more.
+abbrev pub with_strange : NameValue → Judge → Judge
+with_strange name j = record j { strange = with_given (record { name = name; origin = None }) j.strange }
+
+abbrev pub with_members : NameValue → Judge → Judge
+with_members name j = record j { strange = without_name name j.strange }
+
+abbrev pub after_recalling : RecordLine → Option Fate → Judge → Judge
+after_recalling (Tick past) fate j = j
+after_recalling (Said d) fate j = with_members d.name j
+after_recalling (Known d) fate j = with_members d.name j
+after_recalling (Strange d) fate j = if is_new fate then with_strange d.name j else j
+after_recalling (Mark speaker page mark) fate j = j

@@ -1,14 +1,16 @@
 -- What follows for a judged member, whatever comes in.
-use Rattle.std.specs.Prelude.{◌≡◌, ◌⊎◌, ℕ, ◌+◌, ◌≤◌, Bool, true, false, ◌&&◌, List, [], ◌∷◌, ◌++◌, None, Some, AllPairs, length, map}
+use Rattle.std.specs.Prelude.{◌≡◌, ◌⊎◌, ℕ, ◌+◌, ◌≤◌, Bool, true, false, ◌&&◌, List, [], ◌∷◌, ◌++◌, None, Some, All, AllPairs, length, map}
+use Rattle.wb_names.specs.Arrivals.{history_after}
 use Rattle.wb_names.specs.Values.{DrawopValue}
 use Rattle.wb_names.specs.declared.echo.Echo.{Echo}
 use Rattle.wb_codec.specs.declared.datagram.Datagram.{Datagram}
 use Rattle.wb_codec.specs.declared.datagram.Datagram.TheVariants.{Draw}
 use Rattle.wb_judge.specs.Adding.{own_echo}
 use Rattle.wb_judge.specs.Days.{time_of_day}
-use Rattle.wb_judge.specs.Judge.{is_full, knows}
+use Rattle.wb_judge.specs.Judge.{is_firm, is_full, knows}
 use Rattle.wb_judge.specs.Judging.{draws}
-use Rattle.wb_judge.specs.Laws.{is_answer}
+use Rattle.wb_judge.specs.Laws.{StandOnce, is_answer}
+use Rattle.wb_judge.specs.Strange.{names_of}
 use Rattle.wb_judge.specs.declared.limits.TheConstants.{AHEAD_KNOWN}
 use Rattle.wb_judge.specs.declared.origin.Origin.{Origin}
 use Rattle.wb_member.specs.Judged.{holds}
@@ -17,11 +19,12 @@ use Rattle.wb_policy.specs.Choices.{own_echo as echo_of}
 use Rattle.wb_keeping.specs.Laws.{KeptLine, Came, Ticked, after_kept, fault_of}
 use Rattle.wb_judging.specs.Echoing.{echoing, with_echo}
 use Rattle.wb_judging.specs.Handing.{handed}
-use Rattle.wb_judging.specs.Judged.{CameFrom, DayTold, Garbled, GoneFrom, Judged, JudgedLine, Passed, UserDrew, is_ours, moment_of}
+use Rattle.wb_judging.specs.Judged.{CameFrom, DayTold, Garbled, GoneFrom, Held, Judged, JudgedLine, Passed, UserDrew, giver_of, moment_of}
 use Rattle.wb_judging.specs.Performing.{after_judged, events_of, judging, sent_by_kept_line}
 use Rattle.wb_judging.specs.declared.event.Event.{Event}
+use Rattle.wb_judging.specs.declared.record.Giver.TheVariants.{Others}
 use Rattle.wb_judging.specs.declared.record.RecordLine.{RecordLine}
-use Rattle.wb_judging.specs.declared.record.RecordLine.TheVariants.{Known, Said, Strange, Tick}
+use Rattle.wb_judging.specs.declared.record.RecordLine.TheVariants.{Known, Mark, Said, Strange, Tick}
 use Rattle.wb_judging.specs.declared.event.Event.TheVariants.{Became, Dropped, Drew, Fetch, NoDatagram, Record, Send, Warn}
 
 -- ---- a judged member is a kept member
@@ -57,7 +60,7 @@ sends_in (Warn warning ∷ events) = sends_in events
 
 -- It sends what its kept member sends, in that order, where a report has one echo besides.
 abbrev pub SendsAsKept : Type 0
-SendsAsKept = (line : JudgedLine) (h : Judged) → sends_in (events_of line h) ≡ map (echoing (own_echo (moment_of line) (judging line h))) (sent_by_kept_line (handed line h) h.kept)
+SendsAsKept = (line : JudgedLine) (h : Judged) → sends_in (events_of line h) ≡ map (echoing (own_echo (moment_of line h) (judging line h))) (sent_by_kept_line (handed line h) h.kept)
 
 -- To all members of other numbers a report with that echo says the same as without it.
 abbrev pub OthersHearTheSame : Type 0
@@ -65,17 +68,17 @@ OthersHearTheSame = (e : Echo) (echoes : List Echo) (number : ℕ) → ¬ (e.sou
 
 -- ---- the network refuses nothing
 
--- Nothing that comes is refused, unless its moment is before the present one.
+-- Nothing that others give is refused, unless its moment is before the present one.
 abbrev pub TheNetworkRefusesNothing : Type 0
-TheNetworkRefusesNothing = (line : JudgedLine) (h : Judged) → h.judge.me ≡ h.kept.host.is.number → is_ours line ≡ false → present h.kept.host ≤ moment_of line
+TheNetworkRefusesNothing = (line : JudgedLine) (h : Judged) → h.judge.me ≡ h.kept.host.is.number → giver_of line ≡ Others → present h.kept.host ≤ moment_of line h
     → fault_of (handed line h) h.kept ≡ None
 
 -- ---- members and strangers
 
--- A member's drawop is handed in if it is not ours, is no more than a day ahead, and has a cell.
+-- A member's drawop is handed in if it is not ours, is no more than a day ahead, and has a cell; but a copy of what is held is not while its name is firm.
 abbrev pub MembersAreHandedIn : Type 0
 MembersAreHandedIn = (now : ℕ) (o : Origin) (d : DrawopValue) (h : Judged) → knows o now h.judge ≡ true → ¬ (d.name.source ≡ h.judge.me)
-    → d.time ≤ time_of_day h.judge.clock now + AHEAD_KNOWN → (draws d.op && is_full (length h.kept.host.is.held) h.judge) ≡ false
+    → (holds h.kept.host d.name && is_firm d.name now h.judge) ≡ false → d.time ≤ time_of_day h.judge.clock now + AHEAD_KNOWN → (draws d.op && is_full (length h.kept.host.is.held) h.judge) ≡ false
     → handed (CameFrom now o (Draw d)) h ≡ Came now (Draw d)
 
 -- What a stranger gives of what is held is as if it had not come: it puts off no repair.
@@ -97,6 +100,7 @@ is_told (Garbled now) = false
 is_told (Passed now) = false
 is_told (UserDrew now page op) = false
 is_told (GoneFrom now o) = false
+is_told (Held line) = false
 
 -- The driver alone tells the time of day, from which our drawings get their times.
 abbrev pub NobodyMovesOurTime : Type 0
@@ -104,32 +108,60 @@ NobodyMovesOurTime = (line : JudgedLine) (h : Judged) (later : ℕ) → is_told 
 
 -- ---- the record
 
--- the drawop of a line of the record, if it has one
+-- the lines that some events record
+abbrev pub lines_in : List Event → List RecordLine
+lines_in [] = []
+lines_in (Record line ∷ events) = line ∷ lines_in events
+lines_in (NoDatagram ∷ events) = lines_in events
+lines_in (Dropped why ∷ events) = lines_in events
+lines_in (Drew name ∷ events) = lines_in events
+lines_in (Send v ∷ events) = lines_in events
+lines_in (Became fate ∷ events) = lines_in events
+lines_in (Fetch o lacking ∷ events) = lines_in events
+lines_in (Warn warning ∷ events) = lines_in events
+
+-- The record of many lines: it has what they record, and what was handed in from it.
+abbrev pub record_of : JudgedLine → Judged → List RecordLine
+record_of (Held line) h = line ∷ []
+record_of line h = lines_in (events_of line h)
+
+abbrev pub record_by : List JudgedLine → Judged → List RecordLine
+record_by [] h = []
+record_by (line ∷ lines) h = record_of line h ++ record_by lines (after_judged line h)
+
+-- the drawops of some lines of the record
 abbrev pub drawops_in : RecordLine → List DrawopValue
 drawops_in (Tick now) = []
 drawops_in (Said d) = d ∷ []
 drawops_in (Known d) = d ∷ []
 drawops_in (Strange d) = d ∷ []
+drawops_in (Mark speaker page mark) = []
 
--- the drawops that some events record
-abbrev pub recorded_in : List Event → List DrawopValue
-recorded_in [] = []
-recorded_in (Record line ∷ events) = drawops_in line ++ recorded_in events
-recorded_in (NoDatagram ∷ events) = recorded_in events
-recorded_in (Dropped why ∷ events) = recorded_in events
-recorded_in (Drew name ∷ events) = recorded_in events
-recorded_in (Send v ∷ events) = recorded_in events
-recorded_in (Became fate ∷ events) = recorded_in events
-recorded_in (Fetch o lacking ∷ events) = recorded_in events
-recorded_in (Warn warning ∷ events) = recorded_in events
+abbrev pub drawops_of : List RecordLine → List DrawopValue
+drawops_of [] = []
+drawops_of (line ∷ lines) = drawops_in line ++ drawops_of lines
 
-abbrev pub recorded_by : List JudgedLine → Judged → List DrawopValue
-recorded_by [] h = []
-recorded_by (line ∷ lines) h = recorded_in (events_of line h) ++ recorded_by lines (after_judged line h)
-
--- What its board holds is what it held and what was recorded since, in order.
+-- What its board holds is what a board holds that takes the drawops of the record, in their order, each name once.
 abbrev pub TheRecordIsTheBoard : Type 0
-TheRecordIsTheBoard = (lines : List JudgedLine) (h : Judged) → (after_all lines h).kept.host.is.held ≡ h.kept.host.is.held ++ recorded_by lines h
+TheRecordIsTheBoard = (lines : List JudgedLine) (h : Judged)
+    → (after_all lines h).kept.host.is.held ≡ history_after h.kept.host.is.cells h.kept.host.is.held (drawops_of (record_by lines h))
+
+-- each that is strange is held, and its name stands once
+pub record IsSound (h : Judged) : Type 0 where
+  pub held : All (λ g. holds h.kept.host g.name ≡ true) h.judge.strange.given
+  pub once : StandOnce h.judge.strange.given
+
+-- They hold the same drawops in the same order, of which the same are strange, and take as many.
+pub record AreAlike (h other : Judged) : Type 0 where
+  pub cells : h.kept.host.is.cells ≡ other.kept.host.is.cells
+  pub held : h.kept.host.is.held ≡ other.kept.host.is.held
+  pub most : h.judge.strange.most ≡ other.judge.strange.most
+  pub strange : names_of h.judge.strange.given ≡ names_of other.judge.strange.given
+
+-- However its moments, its number and its network differ, a member that begins anew and is handed the record of another, line by line, is alike.
+abbrev pub ItBeginsAgain : Type 0
+ItBeginsAgain = (lines : List JudgedLine) (h anew : Judged) → IsSound h → AreAlike h anew
+    → AreAlike (after_all lines h) (after_all (map Held (record_by lines h)) anew)
 
 -- no line of the record stands after a datagram that is sent
 abbrev pub is_record : Event → Bool

@@ -7,4 +7,5 @@ pub mod Hearing
 pub mod Performing
 pub mod Opening
 pub mod Refusing
+pub mod Asking
 pub mod Laws

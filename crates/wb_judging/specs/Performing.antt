@@ -1,5 +1,5 @@
 -- What a judged member does for a line, and which events it gives.
-use Rattle.std.specs.Prelude.{◌≡◌, ℕ, Bool, List, [], ◌∷◌, ◌++◌, Option, Some, None, drop, length}
+use Rattle.std.specs.Prelude.{◌≡◌, ℕ, List, [], ◌∷◌, ◌++◌, Option, Some, None, drop, length}
 use Rattle.wb_names.specs.Values.{DrawopValue}
 use Rattle.wb_codec.specs.declared.datagram.Datagram.{Datagram}
 use Rattle.wb_codec.specs.declared.datagram.Datagram.TheVariants.{AskPages, Draw, PageState, Request, Session}
@@ -11,11 +11,14 @@ use Rattle.wb_keeping.specs.Performing.{IsKeptAt, Keeping, KeptValue, after_doin
 use Rattle.wb_keeping.specs.Refusing.{drawn_as}
 use Rattle.wb_judging.specs.Events.{advice, dropped_events, fate_of, gain_events, told}
 use Rattle.wb_judging.specs.Handing.{facts_of, handed, judge_after, verdict_on}
-use Rattle.wb_judging.specs.Hearing.{after_fate, after_sends}
-use Rattle.wb_judging.specs.Judged.{CameFrom, DayTold, Garbled, GoneFrom, Judged, JudgedLine, Passed, UserDrew, is_ours, moment_of}
+use Rattle.wb_judging.specs.Hearing.{after_fate, after_recalling, after_sends}
+use Rattle.wb_judging.specs.Judged.{CameFrom, DayTold, Garbled, GoneFrom, Held, Judged, JudgedLine, Passed, UserDrew, giver_of, moment_of}
+use Rattle.wb_judging.specs.Recording.{freed_lines, gain_lines, mark_lines}
 use Rattle.wb_judging.specs.declared.event.Event.{Event}
 use Rattle.wb_judging.specs.declared.event.Event.TheVariants.{NoDatagram}
 use Rattle.wb_judging.specs.declared.event.Fate.{Fate}
+use Rattle.wb_judging.specs.declared.record.Giver.{Giver}
+use Rattle.wb_judging.specs.declared.record.RecordLine.{RecordLine}
 
 -- ---- what a kept member does for a line
 
@@ -53,6 +56,7 @@ judging (Passed now) h = h.judge
 judging (UserDrew now page op) h = h.judge
 judging (DayTold now wall) h = record h.judge { clock = record { wall = wall; at = now } }
 judging (GoneFrom now o) h = after_leaving o h.judge
+judging (Held line) h = after_recalling line (fate_by (handed (Held line) h) h.kept) h.judge
 
 -- ---- a line
 
@@ -63,6 +67,7 @@ first_events (Passed now) h = []
 first_events (UserDrew now page op) h = []
 first_events (DayTold now wall) h = []
 first_events (GoneFrom now o) h = []
+first_events (Held line) h = []
 
 abbrev pub last_events : JudgedLine → Judged → List Event
 last_events (CameFrom now o v) h = advice (verdict_on now o v h) (facts_of now v h.kept).lacking
@@ -71,13 +76,34 @@ last_events (Passed now) h = []
 last_events (UserDrew now page op) h = []
 last_events (DayTold now wall) h = []
 last_events (GoneFrom now o) h = []
+last_events (Held line) h = []
 
--- the events that a kept member's line gives at a judge
-abbrev pub told_by : ℕ → Bool → KeptLine → Keeping → Judge → List Event
-told_by now ours line k j = told (gain_events now ours j.strange.given (gained line k)) (own_echo now j) (sent_by_kept_line line k) (fate_by line k)
+-- what is recorded before what the board gained: what the origin gave that has answered by this datagram, and a mark of ours
+abbrev pub first_lines : JudgedLine → Judged → List RecordLine
+first_lines (CameFrom now o v) h =
+    freed_lines o h.judge.strange.given (judge_after now o v h).strange.given h.kept.host.is.held ++ mark_lines now v (verdict_on now o v h).why h.kept
+first_lines (Garbled now) h = []
+first_lines (Passed now) h = []
+first_lines (UserDrew now page op) h = []
+first_lines (DayTold now wall) h = []
+first_lines (GoneFrom now o) h = []
+first_lines (Held line) h = []
+
+-- all that is recorded after these lines, as a kept member does a line at a judge
+abbrev pub lines_by : List RecordLine → Giver → KeptLine → Keeping → Judge → List RecordLine
+lines_by first giver line k j = first ++ gain_lines giver j.strange.given (gained line k)
+
+abbrev pub lines_of : JudgedLine → Judged → List RecordLine
+lines_of line h = lines_by (first_lines line h) (giver_of line) (handed line h) h.kept (judging line h)
+
+-- the events of that
+abbrev pub told_by : ℕ → List RecordLine → Giver → KeptLine → Keeping → Judge → List Event
+told_by now first giver line k j =
+    told (gain_events now (lines_by first giver line k j) (gained line k)) (own_echo now j) (sent_by_kept_line line k) (fate_by line k)
 
 abbrev pub events_of : JudgedLine → Judged → List Event
-events_of line h = first_events line h ++ (told_by (moment_of line) (is_ours line) (handed line h) h.kept (judging line h) ++ last_events line h)
+events_of line h =
+    first_events line h ++ (told_by (moment_of line h) (first_lines line h) (giver_of line) (handed line h) h.kept (judging line h) ++ last_events line h)
 
 abbrev pub after_judged : JudgedLine → Judged → Judged
 after_judged line h = record {
@@ -101,11 +127,12 @@ pub record IsJudgedAt (v : JudgedValue) (h : Judged) : Type 0 where
 abbrev pub Performs : JudgedLine → JudgedValue → List Event → JudgedValue → Type 0
 Performs line old events new = (h : Judged) → IsJudgedAt old h → (events ≡ events_of line h) × IsJudgedAt new (after_judged line h)
 
--- A kept member performed a line: whichever it was, this was sent, and this became of a drawop.
-abbrev pub KeptDoes : KeptLine → KeptValue → KeptValue → List Datagram → Option Fate → Type 0
-KeptDoes line old new sent fate = (k : Keeping) → IsKeptAt old k → (sent ≡ sent_by_kept_line line k) × (fate ≡ fate_by line k) × IsKeptAt new (after_kept_line line k)
+-- A kept member performed a line: whichever it was; how many drawops were held before; what was sent; and what became of a drawop.
+abbrev pub KeptDoes : KeptLine → KeptValue → KeptValue → ℕ → List Datagram → Option Fate → Type 0
+KeptDoes line old new held sent fate = (k : Keeping) → IsKeptAt old k
+    → (held ≡ length k.host.is.held) × (sent ≡ sent_by_kept_line line k) × (fate ≡ fate_by line k) × IsKeptAt new (after_kept_line line k)
 
--- A kept member performed a line after these events, and its judge heard what it sent.
-abbrev pub Goes : ℕ → Bool → KeptLine → List Event → JudgedValue → List Event → JudgedValue → Type 0
-Goes now ours line first old events new = (k : Keeping) → IsKeptAt old.kept k
-    → (events ≡ first ++ told_by now ours line k old.judge) × IsKeptAt new.kept (after_kept_line line k) × (new.judge ≡ after_sends (sent_by_kept_line line k) old.judge)
+-- A kept member performed a line after these events and lines of the record, and its judge heard what it sent.
+abbrev pub Goes : ℕ → List RecordLine → Giver → KeptLine → List Event → JudgedValue → List Event → JudgedValue → Type 0
+Goes now lines giver line first old events new = (k : Keeping) → IsKeptAt old.kept k
+    → (events ≡ first ++ told_by now lines giver line k old.judge) × IsKeptAt new.kept (after_kept_line line k) × (new.judge ≡ after_sends (sent_by_kept_line line k) old.judge)

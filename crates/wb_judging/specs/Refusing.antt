@@ -8,11 +8,19 @@ use Rattle.wb_judge.specs.Adding.{adding_fault}
 use Rattle.wb_judge.specs.Days.{time_of_day}
 use Rattle.wb_judge.specs.Judging.{draws}
 use Rattle.wb_keeper.specs.declared.keep_fault.KeepFault.TheVariants.{Memory}
+use Rattle.wb_keeping.specs.Laws.{fault_of}
 use Rattle.wb_keeping.specs.Refusing.{add_fault}
+use Rattle.wb_keeping.specs.declared.kept_fault.KeptFault.{KeptFault}
 use Rattle.wb_keeping.specs.declared.kept_fault.KeptFault.TheVariants.{Host}
-use Rattle.wb_judging.specs.Judged.{Judged}
+use Rattle.wb_judging.specs.Handing.{handed}
+use Rattle.wb_judging.specs.Judged.{Held, Judged}
 use Rattle.wb_judging.specs.declared.judged_fault.JudgedFault.{JudgedFault}
 use Rattle.wb_judging.specs.declared.judged_fault.JudgedFault.TheVariants.{Judge, Kept}
+use Rattle.wb_judging.specs.declared.record.RecordLine.{RecordLine}
+
+-- A line of the record is refused only if it has a drawop of ours under a number that we would never reach.
+abbrev pub held_fault : RecordLine → Judged → Option KeptFault
+held_fault line h = fault_of (handed (Held line) h) h.kept
 
 -- The user draws: the fault of the judge, else that of the kept member.
 abbrev pub draw_fault : ℕ → PageId → Op → Judged → Option JudgedFault

@@ -1,28 +1,30 @@
 //! What a kept member does for the line that it is handed.
-ghost use Rattle.std.specs.Prelude.{◌≡◌, IfOk, IsTrue, is_some};
+ghost use Rattle.std.specs.Prelude.{◌≡◌, ◌∷◌, [], IfOk, IsTrue, is_some, nat_le, true};
 ghost use Rattle.wb_names.specs.Moments.{IsMoment};
 ghost use Rattle.wb_names.specs.Shapes.{op_of};
 ghost use Rattle.wb_member.specs.Holding.{outcome_in};
-ghost use Rattle.wb_member.specs.Opened.{Opened};
+ghost use Rattle.wb_member.specs.Opened.{Opened, present};
 ghost use Rattle.wb_keeping.specs.Laws.{Added, Came, Ticked, fault_of};
 ghost use Rattle.wb_keeping.specs.Performing.{IsKeptAt, Keeping};
 ghost use Rattle.wb_keeping.specs.Refusing.{IsRefusedBy, add_fault, came_as, came_fault, tick_fault};
 ghost use Rattle.wb_judging.specs.Events.{fate_of};
-ghost use Rattle.wb_judging.specs.Handing.{handed_for};
+ghost use Rattle.wb_judging.specs.Handing.{handed_for, recalled};
 ghost use Rattle.wb_judging.specs.Performing.{KeptDoes, came_fate};
 
 use crate::event::{Fate, fate_of};
-use std::alloc::Global;
+use crate::record::RecordLine;
+use std::alloc::{AllocError, Global};
 use wb_board::Reply;
 use wb_codec::Datagram;
 use wb_judge::Why;
 use wb_keeping::{Done, KeptFault, KeptMember};
-use wb_names::{PageId, Shape};
+use wb_names::{Mark, Marks, PageId, Shape};
 
-/// What a kept member did for a line: what is to be sent, in this order, and what became of the
-/// drawop that was handed in or drawn, if there is one.
+/// What a kept member did for a line: how many drawops it held before, what is to be sent, in this
+/// order, and what became of the drawop that was handed in or drawn, if there is one.
 #[derive(Drop)]
 pub(crate) struct Did {
+    pub(crate) held: u32,
     pub(crate) sent: Vec<Datagram>,
     pub(crate) fate: Option<Fate>,
 }
@@ -39,12 +41,56 @@ pub(crate) fn hand(
     ensures fault { (k : Keeping) → IsKeptAt kept.old k →
         IsRefusedBy (fault_of (handed_for now datagram.now why) k) result }
     ensures does { IfOk result (λ did. KeptDoes (handed_for now datagram.now why)
-        kept.old kept.new did.sent.items did.fate) }
+        kept.old kept.new did.held did.sent.items did.fate) }
 {
     match why {
         None => hand_in(kept, alloc, now, datagram),
         Some(_) => tick(kept, alloc, now),
     }
+}
+
+/// It is handed a line of the record.
+pub(crate) fn recall(
+    kept: &mut KeptMember,
+    alloc: Global,
+    now: u64,
+    line: &RecordLine,
+) -> Result<Did, KeptFault>
+    requires { IsMoment now }
+    ensures fault { (k : Keeping) → IsKeptAt kept.old k → nat_le (present k.host) now ≡ true →
+        IsRefusedBy (fault_of (recalled now line.now) k) result }
+    ensures refused { (k : Keeping) → IsKeptAt kept.old k →
+        IsTrue (is_some (fault_of (recalled now line.now) k)) → kept.new ≡ kept.old }
+    ensures does { IfOk result (λ did. KeptDoes (recalled now line.now)
+        kept.old kept.new did.held did.sent.items did.fate) }
+{
+    match line {
+        RecordLine::Tick(_) => tick(kept, alloc, now),
+        RecordLine::Said(drawop) | RecordLine::Known(drawop) | RecordLine::Strange(drawop) => {
+            hand_in(kept, alloc, now, &Datagram::Draw(*drawop))
+        }
+        RecordLine::Mark {
+            speaker,
+            page,
+            mark,
+        } => {
+            let datagram = Datagram::PageState {
+                sender: *speaker,
+                page: *page,
+                marks: only(alloc, *mark)?,
+            };
+            hand_in(kept, alloc, now, &datagram)
+        }
+    }
+}
+
+/// The list of one mark.
+fn only(alloc: Global, mark: Mark) -> Result<Marks, AllocError>
+    ensures { IfOk result (λ marks. marks ≡ mark ∷ []) }
+{
+    let mut marks = Vec::new(alloc);
+    marks.push(mark)?;
+    Ok(Marks::from_ascending(marks))
 }
 
 /// It is handed a datagram.
@@ -58,11 +104,15 @@ fn hand_in(
     requires { IsMoment now }
     ensures fault { (k : Keeping) → IsKeptAt kept.old k →
         IsRefusedBy (came_fault now datagram.now k) result }
+    ensures refused { (k : Keeping) → IsKeptAt kept.old k →
+        IsTrue (is_some (came_fault now datagram.now k)) → kept.new ≡ kept.old }
     ensures does { IfOk result (λ did. KeptDoes (Came now datagram.now)
-        kept.old kept.new did.sent.items did.fate) }
+        kept.old kept.new did.held did.sent.items did.fate) }
 {
+    let held = kept.member().held();
     match kept.came(alloc, now, datagram) {
         Ok(Done { sent, became }) => Ok(Did {
+            held,
             sent,
             fate: came_fate(datagram, became),
         }),
@@ -85,11 +135,18 @@ fn came_fate(datagram: &Datagram, became: Option<Reply>) -> Option<Fate>
 pub(crate) fn tick(kept: &mut KeptMember, alloc: Global, now: u64) -> Result<Did, KeptFault>
     requires { IsMoment now }
     ensures fault { (k : Keeping) → IsKeptAt kept.old k → IsRefusedBy (tick_fault now k) result }
+    ensures refused { (k : Keeping) → IsKeptAt kept.old k →
+        IsTrue (is_some (tick_fault now k)) → kept.new ≡ kept.old }
     ensures does { IfOk result (λ did. KeptDoes (Ticked now)
-        kept.old kept.new did.sent.items did.fate) }
+        kept.old kept.new did.held did.sent.items did.fate) }
 {
+    let held = kept.member().held();
     let sent = kept.tick(alloc, now)?;
-    Ok(Did { sent, fate: None })
+    Ok(Did {
+        held,
+        sent,
+        fate: None,
+    })
 }
 
 /// Its user draws.
@@ -108,10 +165,12 @@ pub(crate) fn draw(
     ensures refused { (k : Keeping) → IsKeptAt kept.old k →
         IsTrue (is_some (add_fault now page time (op_of shape.entry) k)) → kept.new ≡ kept.old }
     ensures does { IfOk result (λ did. KeptDoes (Added now page time (op_of shape.entry))
-        kept.old kept.new did.sent.items did.fate) }
+        kept.old kept.new did.held did.sent.items did.fate) }
 {
+    let held = kept.member().held();
     match kept.add(alloc, now, page, time, shape) {
         Ok(Done { sent, became }) => Ok(Did {
+            held,
             sent,
             fate: Some(fate_of(became)),
         }),

@@ -1,9 +1,10 @@
 //! What a judge hears of what its kept member did.
 ghost use Rattle.std.specs.Prelude.{◌≡◌};
 ghost use Rattle.wb_judging.specs.Events.{is_new};
-ghost use Rattle.wb_judging.specs.Hearing.{after_fate, after_sending, after_sends};
+ghost use Rattle.wb_judging.specs.Hearing.{after_fate, after_recalling, after_sending, after_sends};
 
 use crate::event::Fate;
+use crate::record::RecordLine;
 use wb_codec::Datagram;
 use wb_judge::{Judge, Origin};
 
@@ -40,6 +41,21 @@ pub(crate) fn hear_fate(
     }
     if let Datagram::Draw(drawop) = datagram {
         judge.took(origin, drawop.name(), now);
+    }
+}
+
+/// What became of the drawop of a line of the record.
+pub(crate) fn hear_recalled(judge: &mut Judge, line: &RecordLine, fate: Option<Fate>)
+    ensures { judge.new ≡ after_recalling line.now fate judge.old }
+{
+    match line {
+        RecordLine::Tick(_) | RecordLine::Mark { .. } => {}
+        RecordLine::Said(drawop) | RecordLine::Known(drawop) => judge.forget(&drawop.name()),
+        RecordLine::Strange(drawop) => {
+            if is_new(fate) {
+                judge.remember(drawop.name());
+            }
+        }
     }
 }
 

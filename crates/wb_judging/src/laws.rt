@@ -1,7 +1,7 @@
 //! What follows for a judged member, proved for whatever comes in. The functions do nothing: each
 //! stands here for its clause.
 
-ghost use Rattle.wb_judging.specs.Laws.{JudgedMembersAreKept, MembersAreHandedIn, NobodyMovesOurTime, OnlyAnswersMakeKnown, OthersHearTheSame, RecordsComeFirst, SendsAsKept, StrangersHushNobody, TheNetworkRefusesNothing, TheRecordIsTheBoard, TheSameOrATick};
+ghost use Rattle.wb_judging.specs.Laws.{ItBeginsAgain, JudgedMembersAreKept, MembersAreHandedIn, NobodyMovesOurTime, OnlyAnswersMakeKnown, OthersHearTheSame, RecordsComeFirst, SendsAsKept, StrangersHushNobody, TheNetworkRefusesNothing, TheRecordIsTheBoard, TheSameOrATick};
 
 /// A judged member is a kept member that was handed one line in the place of each: the same line,
 /// or a tick. It sends what that sends, where a report has one echo besides.
@@ -22,14 +22,21 @@ pub fn the_network_refuses_nothing()
     ensures { TheNetworkRefusesNothing }
 {}
 
-/// What a board holds is what it held and what was recorded since, in order. A call tells all that
-/// is to be recorded before all that is to be sent.
+/// What a board holds is what it held and what was recorded since, in order, each name once. A call
+/// tells all that is to be recorded before all that is to be sent.
 pub fn the_record_is_the_board()
     ensures board { TheRecordIsTheBoard }
     ensures first { RecordsComeFirst }
 {}
 
+/// A member that begins anew and is handed the record of another holds the same in the same order,
+/// and the same is strange.
+pub fn it_begins_again()
+    ensures { ItBeginsAgain }
+{}
+
 /// A member's drawop is handed in if it is not ours, is no more than a day ahead, and has a cell.
+/// But a copy of what is held is not handed in while its name is firm.
 pub fn members_are_handed_in()
     ensures { MembersAreHandedIn }
 {}

@@ -12,8 +12,9 @@
 //! In reading order: `event` has what follows from a call; `facts` is what the kept member says of
 //! a datagram, for the judge; `handing` hands it a line, and the judge hears in `hearing` what it
 //! did; `echoing` is the echo under our own number that a report has besides; `record` is what is
-//! recorded; `telling` makes events; `judged_member` joins them. `laws` says what follows, and
-//! `specs/Handing.antt` and `specs/Performing.antt` what each call does.
+//! recorded; `weighing` has a datagram judged; `telling` makes events; `judged_member` joins them.
+//! `laws` says what follows, and `specs/Handing.antt` and `specs/Performing.antt` what each call
+//! does.
 #![tactic(auto)]
 
 mod echoing;
@@ -26,6 +27,7 @@ mod judged_member;
 pub mod laws;
 mod record;
 mod telling;
+mod weighing;
 
 pub use event::{Event, Fate};
 pub use judged_fault::JudgedFault;

@@ -1,13 +1,14 @@
 //! The events of a call.
 ghost use Rattle.std.specs.Prelude.{◌≡◌, ◌++◌, ◌∷◌, [], drop, map, OnOk};
-ghost use Rattle.wb_judging.specs.Events.{advice, became_events, drew_event, dropped_events, fetch_events, gain_events, record_event, send_event, warn_events};
+ghost use Rattle.wb_judging.specs.Events.{advice, became_events, drew_event, dropped_events, fetch_events, gain_events, send_event, warn_events};
+ghost use Rattle.wb_judging.specs.declared.event.Event.TheVariants.{Record};
 
 use crate::echoing::echoing;
 use crate::event::{Event, Fate};
-use crate::record::{RecordLine, record_of};
+use crate::record::RecordLine;
 use std::alloc::{AllocError, Global};
 use wb_codec::Datagram;
-use wb_judge::{Origin, Strange, Verdict, Warning, Why};
+use wb_judge::{Origin, Verdict, Warning, Why};
 use wb_names::{Drawop, Echo};
 
 /// Adds an event.
@@ -28,37 +29,29 @@ pub(crate) fn add_dropped(events: &mut Vec<Event>, why: Option<Why>) -> Result<(
     }
 }
 
-/// Adds what is to be recorded of drawops that the board gained at a moment, and their names.
+/// Adds the moment and these lines, if there are any, and the names that the board gained.
 pub(crate) fn add_gain(
     events: &mut Vec<Event>,
     now: u64,
-    ours: bool,
-    strange: &Strange,
+    lines: &[RecordLine],
     gained: &[Drawop],
 ) -> Result<(), AllocError>
     ensures { OnOk result (events.new.items ≡
-        events.old.items ++ gain_events now ours strange.now.given gained.now) }
+        events.old.items ++ gain_events now lines.now gained.now) }
 {
-    if gained.is_empty() {
-        return Ok(());
+    if !lines.is_empty() {
+        add(events, Event::Record(RecordLine::Tick(now)))?;
+        add_records(events, lines)?;
     }
-    add(events, Event::Record(RecordLine::Tick(now)))?;
-    add_records(events, ours, strange, gained)?;
     add_drew(events, gained)
 }
 
-/// Adds what is to be recorded of some drawops.
-fn add_records(
-    events: &mut Vec<Event>,
-    ours: bool,
-    strange: &Strange,
-    gained: &[Drawop],
-) -> Result<(), AllocError>
-    ensures { OnOk result (events.new.items ≡
-        events.old.items ++ map (record_event ours strange.now.given) gained.now) }
+/// Adds lines of the record.
+fn add_records(events: &mut Vec<Event>, lines: &[RecordLine]) -> Result<(), AllocError>
+    ensures { OnOk result (events.new.items ≡ events.old.items ++ map Record lines.now) }
 {
-    for drawop in gained {
-        add(events, Event::Record(record_of(ours, strange, drawop)))?;
+    for line in lines {
+        add(events, Event::Record(*line))?;
     }
     Ok(())
 }

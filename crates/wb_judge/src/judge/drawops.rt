@@ -20,7 +20,7 @@ impl Judge {
     {
         let known = self.knows(origin, facts.at);
         if facts.holds {
-            return if known {
+            return if self.hushes(origin, &drawop.name(), facts.at) {
                 Verdict::TAKEN
             } else {
                 Verdict::dropped(Why::Again)

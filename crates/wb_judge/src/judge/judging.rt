@@ -2,7 +2,7 @@
 
 ghost use Rattle.std.specs.Prelude.{◌≡◌};
 ghost use Rattle.wb_names.specs.Moments.{IsMoment};
-ghost use Rattle.wb_judge.specs.Judging.{after_judging, after_own, after_question, after_report, after_said, own_verdict, question_verdict, report_verdict, said_verdict, verdict};
+ghost use Rattle.wb_judge.specs.Judging.{after_judging, after_own, after_question, after_report, after_request, after_said, own_verdict, question_verdict, report_verdict, request_verdict, said_verdict, verdict};
 ghost use Rattle.wb_judge.specs.Verdicts.{dropped, warned};
 
 use super::Judge;
@@ -11,6 +11,7 @@ use crate::origin::Origin;
 use crate::report::Report;
 use crate::verdict::{Verdict, Warning, Why};
 use wb_codec::Datagram;
+use wb_names::Name;
 
 impl Judge {
     /// What becomes of a datagram that came from an origin.
@@ -41,10 +42,8 @@ impl Judge {
                 let report = Report::of_page(self.me, *sender, marks.as_slice());
                 self.judge_page(origin, &report, facts)
             }
-            Datagram::Request { asker, .. } => {
-                self.judge_asking(origin, *asker, !facts.holds, facts.at)
-            }
-            Datagram::AskPages { asker } => self.judge_asking(origin, *asker, false, facts.at),
+            Datagram::Request { asker, name } => self.judge_asked(origin, *asker, name, facts),
+            Datagram::AskPages { asker } => self.judge_asking(origin, *asker, facts.at),
         }
     }
 
@@ -84,11 +83,11 @@ impl Judge {
         self.judge_report(origin, report, facts)
     }
 
-    /// A request, or a question for pages.
-    fn judge_asking(&mut self, origin: Origin, asker: u32, misses: bool, now: u64) -> Verdict
-        requires { IsMoment now }
-        ensures verdict { result ≡ said_verdict origin asker self.old (dropped Why.Own) (question_verdict origin misses now self.old) }
-        ensures after { self.new ≡ after_said origin asker self.old self.old (after_question origin misses now self.old) }
+    /// A request.
+    fn judge_asked(&mut self, origin: Origin, asker: u32, name: &Name, facts: &Facts) -> Verdict
+        requires { IsMoment facts.now.at }
+        ensures verdict { result ≡ said_verdict origin asker self.old (dropped Why.Own) (request_verdict origin name.now facts.now self.old) }
+        ensures after { self.new ≡ after_said origin asker self.old self.old (after_request origin facts.now self.old) }
     {
         if self.is_forged(asker, origin) {
             return impostor(asker);
@@ -96,7 +95,22 @@ impl Judge {
         if asker == self.me {
             return Verdict::dropped(Why::Own);
         }
-        self.judge_question(origin, misses, now)
+        self.judge_request(origin, name, facts)
+    }
+
+    /// A question for pages.
+    fn judge_asking(&mut self, origin: Origin, asker: u32, now: u64) -> Verdict
+        requires { IsMoment now }
+        ensures verdict { result ≡ said_verdict origin asker self.old (dropped Why.Own) (question_verdict origin now self.old) }
+        ensures after { self.new ≡ after_said origin asker self.old self.old (after_question origin now self.old) }
+    {
+        if self.is_forged(asker, origin) {
+            return impostor(asker);
+        }
+        if asker == self.me {
+            return Verdict::dropped(Why::Own);
+        }
+        self.judge_question(origin, now)
     }
 }
 

@@ -4,14 +4,16 @@ ghost use Rattle.wb_names.specs.Moments.{IsMoment};
 ghost use Rattle.wb_names.specs.Shapes.{op_of};
 ghost use Rattle.wb_judge.specs.Judging.{draws};
 ghost use Rattle.wb_keeping.specs.Refusing.{IsRefusedBy, back_in_time};
-ghost use Rattle.wb_judging.specs.Judged.{CameFrom, DayTold, Garbled, GoneFrom, Judged, Passed, UserDrew};
+ghost use Rattle.wb_judging.specs.Judged.{CameFrom, DayTold, Garbled, GoneFrom, Held, Judged, Passed, UserDrew};
 ghost use Rattle.wb_judging.specs.Performing.{IsJudgedAt, Performs};
-ghost use Rattle.wb_judging.specs.Refusing.{IsRefusedAs, draw_fault};
+ghost use Rattle.wb_judging.specs.Refusing.{IsRefusedAs, draw_fault, held_fault};
 
 use crate::event::Event;
-use crate::handing::draw;
+use crate::handing::{draw, recall};
+use crate::hearing::hear_recalled;
 use crate::judged_fault::JudgedFault;
 use crate::judged_member::JudgedMember;
+use crate::record::{Giver, RecordLine};
 use crate::telling::add;
 use std::alloc::Global;
 use wb_codec::Datagram;
@@ -142,7 +144,28 @@ impl JudgedMember {
         let time = self.judge.time_of_day(now);
         let did = draw(&mut self.kept, alloc, now, page, time, shape)?;
         let mut events = Vec::new(alloc);
-        self.tell(alloc, now, true, held, did, &mut events)?;
+        self.tell(alloc, now, Giver::User, Vec::new(alloc), did, &mut events)?;
+        Ok(events)
+    }
+
+    /// A line of its record, which is taken at the present moment. It is not judged, and not
+    /// recorded again. A drawop that no known origin gave counts as a stranger's again, unless the
+    /// user or a member gave it too. A moment changes nothing but what a tick at the present
+    /// moment does. Refused only if the line has a drawop of ours that is not held and has a number
+    /// that we would never reach.
+    pub fn held(&mut self, alloc: Global, line: &RecordLine) -> Result<Vec<Event>, KeptFault>
+        ensures fault { (h : Judged) → IsJudgedAt self.old h →
+            IsRefusedBy (held_fault line.now h) result }
+        ensures refused { (h : Judged) → IsJudgedAt self.old h →
+            IsTrue (is_some (held_fault line.now h)) → self.new ≡ self.old }
+        ensures does { IfOk result (λ events.
+            Performs (Held line.now) self.old events.items self.new) }
+    {
+        let now = self.kept.member().moment();
+        let did = recall(&mut self.kept, alloc, now, line)?;
+        hear_recalled(&mut self.judge, line, did.fate);
+        let mut events = Vec::new(alloc);
+        self.tell(alloc, now, Giver::Past, Vec::new(alloc), did, &mut events)?;
         Ok(events)
     }
 }

@@ -1,5 +1,5 @@
 //! The parts of a call.
-ghost use Rattle.std.specs.Prelude.{◌≡◌, ◌++◌, drop, false, IfOk, OnOk, nat_le, true, None};
+ghost use Rattle.std.specs.Prelude.{◌≡◌, ◌++◌, [], drop, IfOk, OnOk, nat_le, true, None};
 ghost use Rattle.wb_names.specs.Moments.{IsMoment};
 ghost use Rattle.wb_judge.specs.Adding.{own_echo};
 ghost use Rattle.wb_member.specs.Opened.{present};
@@ -10,13 +10,17 @@ ghost use Rattle.wb_judging.specs.Events.{gain_events, told};
 ghost use Rattle.wb_judging.specs.Judged.{CameFrom, Judged};
 ghost use Rattle.wb_judging.specs.Hearing.{after_sends};
 ghost use Rattle.wb_judging.specs.Performing.{Goes, IsJudgedAt, Performs};
+ghost use Rattle.wb_judging.specs.Recording.{gain_lines};
+ghost use Rattle.wb_judging.specs.declared.record.Giver.TheVariants.{Others};
 
 use crate::event::Event;
 use crate::facts::facts_of;
 use crate::handing::{Did, hand, tick};
 use crate::hearing::{hear_fate, hear_sent};
 use crate::judged_member::JudgedMember;
+use crate::record::{Giver, RecordLine, add_gain_lines};
 use crate::telling::{add_advice, add_became, add_dropped, add_gain, add_sent, gained};
+use crate::weighing::{Weighed, weigh};
 use std::alloc::{AllocError, Global};
 use wb_codec::Datagram;
 use wb_judge::Origin;
@@ -30,14 +34,14 @@ impl JudgedMember {
         self.kept.member().moment() <= now
     }
 
-    /// Tells what its kept member did for a line before which its board held `held` drawops, and
-    /// has its judge hear which reports were sent.
+    /// Tells what its kept member did for a line, after these lines of the record, and has its
+    /// judge hear which reports were sent.
     pub(super) fn tell(
         &mut self,
         alloc: Global,
         now: u64,
-        ours: bool,
-        held: u32,
+        giver: Giver,
+        first: Vec<RecordLine>,
         did: Did,
         events: &mut Vec<Event>,
     ) -> Result<(), AllocError>
@@ -45,12 +49,16 @@ impl JudgedMember {
         ensures judge { OnOk result (self.new.judge ≡ after_sends did.sent.items self.old.judge) }
         ensures events { OnOk result ((k : Keeping) → IsKeptAt self.old.kept k →
             events.new.items ≡ events.old.items ++ told
-            (gain_events now ours self.old.judge.strange.given (drop held k.host.is.held))
+            (gain_events now
+            (first.items ++ gain_lines giver self.old.judge.strange.given (drop did.held k.host.is.held))
+            (drop did.held k.host.is.held))
             (own_echo now self.old.judge) did.sent.items did.fate) }
     {
-        let Did { sent, fate } = did;
+        let Did { held, sent, fate } = did;
+        let mut lines = first;
         let gained = gained(self.kept.member().drawops(), held);
-        add_gain(events, now, ours, self.judge.strange(), gained)?;
+        add_gain_lines(&mut lines, giver, self.judge.strange(), gained)?;
+        add_gain(events, now, &lines, gained)?;
         let echo = self.judge.own_echo(now);
         hear_sent(&mut self.judge, sent.as_slice());
         add_sent(events, alloc, echo, sent)?;
@@ -68,12 +76,11 @@ impl JudgedMember {
         ensures fault { (k : Keeping) → IsKeptAt self.old.kept k →
             nat_le (present k.host) now ≡ true → IsRefusedBy None result }
         ensures does { IfOk result
-            (λ events. Goes now false (Ticked now) first.items self.old events.items self.new) }
+            (λ events. Goes now [] Others (Ticked now) first.items self.old events.items self.new) }
     {
-        let held = self.kept.member().held();
         let did = tick(&mut self.kept, alloc, now)?;
         let mut events = first;
-        self.tell(alloc, now, false, held, did, &mut events)?;
+        self.tell(alloc, now, Giver::Others, Vec::new(alloc), did, &mut events)?;
         Ok(events)
     }
 
@@ -92,13 +99,13 @@ impl JudgedMember {
             Performs (CameFrom now origin datagram.now) self.old events.items self.new) }
     {
         let facts = facts_of(&mut self.kept, now, datagram)?;
-        let held = self.kept.member().held();
-        let verdict = self.judge.judge(origin, datagram, &facts);
+        let weighed = weigh(&mut self.judge, &self.kept, alloc, origin, datagram, &facts)?;
+        let Weighed { verdict, lines } = weighed;
         let did = hand(&mut self.kept, alloc, now, datagram, verdict.why)?;
         hear_fate(&mut self.judge, now, origin, datagram, did.fate);
         let mut events = Vec::new(alloc);
         add_dropped(&mut events, verdict.why)?;
-        self.tell(alloc, now, false, held, did, &mut events)?;
+        self.tell(alloc, now, Giver::Others, lines, did, &mut events)?;
         add_advice(&mut events, &verdict, facts.lacking)?;
         Ok(events)
     }

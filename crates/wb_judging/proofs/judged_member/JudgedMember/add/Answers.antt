@@ -49,8 +49,7 @@ returns-in_err-did-clause-refused c = λ h here some.
 pub returns-clause-does : goal.returns-clause-does
 returns-clause-does c = λ h here.
     let at = subst (λ (v : JudgedValue). IsJudgedAt v h) (sym c.self.view_is) here in
-    drew c.args.now c.args.page (op_of c.args.shape) h c.self.inside.kept c.draw.new.kept c.self.inside.judge c.time_of_day-time.result c.held-held.result
-    c.in_ok-did.did.sent.items c.in_ok-did.did.fate c.new-events.result.items c.tell.new.events.items c.tell.new.self
-    at
-    (c.held-held.ensures ∙ ap (λ (m : MemberValue). length m.board.drawops) c.member.ensures)
-    c.time_of_day-time.ensures c.in_ok-did.ensures.does c.new-events.ensures.items c.in_ok-tell.ensures.kept c.in_ok-tell.ensures.judge c.in_ok-tell.ensures.events
+    drew c.args.now c.args.page (op_of c.args.shape) h c.self.inside.kept c.draw.new.kept c.self.inside.judge c.time_of_day-time.result c.in_ok-did.did.held
+    c.in_ok-did.did.sent.items c.in_ok-did.did.fate c.new.result.items c.new-events.result.items c.tell.new.events.items c.tell.new.self
+    at c.time_of_day-time.ensures c.in_ok-did.ensures.does c.new.ensures.items c.new-events.ensures.items
+    c.in_ok-tell.ensures.kept c.in_ok-tell.ensures.judge c.in_ok-tell.ensures.events

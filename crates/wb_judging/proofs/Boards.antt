@@ -1,0 +1,176 @@
+-- What a board holds after the lines of a kept member: what it held, and the drawops that arrived.
+use Rattle.std.proofs.Common.{◌≡◌, ◌∙◌, ℕ, Bool, true, false, cond, List, [], ◌∷◌, ◌++◌, ap, append-nil, drop, length, refl, subst, sym}
+use Rattle.std.specs.Prelude.{◌||◌}
+use Rattle.std.proofs.lemmas.List.{drop_at}
+use Rattle.wb_names.specs.Arrivals.{history_after, history_with, outcome_of}
+use Rattle.wb_names.specs.Values.{DrawopValue, NameValue}
+use Rattle.wb_codec.specs.declared.datagram.Datagram.{Datagram}
+use Rattle.wb_codec.specs.declared.datagram.Datagram.TheVariants.{AskPages, Draw, PageState, Request, Session}
+use Rattle.wb_member.specs.Lines.{Arrives, Asks, Hears, Line, Says, SetsDistance, Stops, Ticks, Tunes, after_line, after_lines, after_saying}
+use Rattle.wb_member.specs.Members.{Misses}
+use Rattle.wb_member.specs.Opened.{Opened, doing, has_room_for, heard, may_ask, present, ticked}
+use Rattle.wb_member.specs.Random.{word_of}
+use Rattle.wb_keeping.specs.Kept.{Transition, and_then, came, hears, learned, performs, takes, ticks, timed}
+use Rattle.wb_keeping.specs.Laws.{Came, KeptLine, Ticked, doing_of}
+use Rattle.wb_keeping.specs.Performing.{Keeping, sees}
+use Rattle.wb_keeping.specs.Views.{View, holds, is_asked, is_full}
+use Rattle.wb_policy.specs.Policy.{Policy}
+use Rattle.wb_keeping.proofs.EachLine.{DoesEach, Each, OfPolicy, hears_each, learned_each, then_each, timed_each}
+use Rattle.wb_keeping.proofs.Performed.{after_both as lines_then}
+use Rattle.wb_judging.specs.Handing.{recalled}
+use Rattle.wb_judging.specs.Laws.{drawops_in}
+use Rattle.wb_judging.specs.Performing.{after_kept_line, gained}
+use Rattle.wb_judging.specs.declared.record.RecordLine.{RecordLine}
+use Rattle.wb_judging.specs.declared.record.RecordLine.TheVariants.{Known, Mark, Said, Strange, Tick}
+use Rattle.wb_judging.proofs.Histories.{Gains, after_both, gained_is, gains}
+
+-- ---- whatever a host does
+
+-- some drawops arrive, and it has as many cells
+pub record Takes (host after : Opened) : Type 0 where
+  pub ds : List DrawopValue
+  pub held : after.is.held ≡ history_after host.is.cells host.is.held ds
+  pub cells : after.is.cells ≡ host.is.cells
+
+takes_none : (host : Opened) → Takes host host
+takes_none host = record { ds = []; held = refl; cells = refl }
+
+takes_if : (b : Bool) (host one other : Opened) → Takes host one → Takes host other → Takes host (cond b one other)
+takes_if true host one other t u = t
+takes_if false host one other t u = u
+
+takes_said : (v : Datagram) (host : Opened) → Takes host (after_saying v host)
+takes_said (Draw d) host = record { ds = d ∷ []; held = refl; cells = refl }
+takes_said (Session sender sent page marks echoes) host = takes_none host
+takes_said (Request asker name) host = takes_none host
+takes_said (AskPages asker) host = takes_none host
+takes_said (PageState sender page marks) host = takes_none host
+
+takes_line : (line : Line) (host : Opened) → Takes host (after_line line host)
+takes_line (Ticks now) host = record { ds = []; held = refl; cells = refl }
+takes_line (Arrives d) host = record { ds = d ∷ []; held = refl; cells = refl }
+takes_line (Hears v) host = takes_if (has_room_for v host) host (heard v host) host (record { ds = []; held = refl; cells = refl }) (takes_none host)
+takes_line (Asks name) host =
+    takes_if (may_ask name host) host (doing (Misses (present host) (name ∷ []) (word_of host.random ∷ [])) 1 host) host (record { ds = []; held = refl; cells = refl }) (takes_none host)
+takes_line (Stops name) host = record { ds = []; held = refl; cells = refl }
+takes_line (SetsDistance source micros) host = record { ds = []; held = refl; cells = refl }
+takes_line (Tunes constants) host = record { ds = []; held = refl; cells = refl }
+takes_line (Says v) host = takes_said v host
+
+takes_through : (lines : List Line) (host : Opened) → Takes host (after_lines lines host)
+takes_through [] host = takes_none host
+takes_through (line ∷ lines) host =
+    let one = takes_line line host in
+    let rest = takes_through lines (after_line line host) in
+    record {
+      ds = one.ds ++ rest.ds;
+      held = rest.held
+          ∙ ap (λ (cells : ℕ). history_after cells (after_line line host).is.held rest.ds) one.cells
+          ∙ ap (λ (held : List DrawopValue). history_after host.is.cells held rest.ds) one.held
+          ∙ sym (after_both host.is.cells host.is.held one.ds rest.ds);
+      cells = rest.cells ∙ one.cells;
+    }
+
+pub takes_kept : (line : KeptLine) (k : Keeping) → Takes k.host (after_kept_line line k).host
+unfolding after_kept_line
+takes_kept line k = takes_through (doing_of line (sees k.host) k.policy).lines k.host
+
+pub gains_kept : (line : KeptLine) (k : Keeping) → Gains k.host.is.cells k.host.is.held (after_kept_line line k).host.is.held
+gains_kept line k =
+    let t = takes_kept line k in
+    subst (λ (after : List DrawopValue). Gains k.host.is.cells k.host.is.held after) (sym t.held) (gains k.host.is.cells k.host.is.held t.ds)
+
+pub gained_kept : (line : KeptLine) (k : Keeping) → gained line k ≡ (gains_kept line k).more
+gained_kept line k = gained_is k.host.is.cells k.host.is.held (after_kept_line line k).host.is.held (gains_kept line k)
+
+-- ---- what it does for a datagram, and as time goes on
+
+-- a line that brings no drawop
+abbrev IsStill : Line → Type 0
+IsStill line = (host : Opened) → (after_line line host).is.held ≡ host.is.held
+
+all_still : (lines : List Line) (host : Opened) → Each IsStill lines → (after_lines lines host).is.held ≡ host.is.held
+all_still [] host each = refl
+all_still (line ∷ lines) host each = all_still lines (after_line line host) each.1 ∙ each.0 host
+
+held_if : (b : Bool) (one other : Opened) → one.is.held ≡ other.is.held → (cond b one other).is.held ≡ other.is.held
+held_if true one other e = e
+held_if false one other e = refl
+
+still_hears : (v : Datagram) → IsStill (Hears v)
+still_hears v host = held_if (has_room_for v host) (heard v host) host refl
+
+still_asks : (name : NameValue) → IsStill (Asks name)
+still_asks name host = held_if (may_ask name host) (doing (Misses (present host) (name ∷ []) (word_of host.random ∷ [])) 1 host) host refl
+
+still_policy : OfPolicy IsStill
+still_policy = record {
+  asks = still_asks;
+  stops = λ name host. refl;
+  sets = λ source micros host. refl;
+  states = λ v page host. refl;
+  asks_pages = λ asker host. refl;
+  reports = λ sender sent page marks echoes host. refl;
+}
+
+still_ticks : (now : ℕ) → DoesEach IsStill (performs (Ticks now))
+still_ticks now see p = (λ host. refl, tt)
+
+still_timed : DoesEach IsStill timed
+still_timed = timed_each IsStill still_policy
+
+pub held_ticked : (now : ℕ) (k : Keeping) → (after_kept_line (Ticked now) k).host.is.held ≡ k.host.is.held
+unfolding after_kept_line
+held_ticked now k =
+    all_still (ticks now (sees k.host) k.policy).lines k.host (then_each IsStill (performs (Ticks now)) timed (still_ticks now) still_timed (sees k.host) k.policy)
+
+-- it is another datagram than a drawop
+abbrev pub IsOther : Datagram → Type 0
+IsOther v = (d : DrawopValue) → v ≡ Draw d → ⊥
+
+pub held_heard : (now : ℕ) (v : Datagram) (k : Keeping) → IsOther v → (after_kept_line (Came now v) k).host.is.held ≡ k.host.is.held
+unfolding after_kept_line
+held_heard now v k other =
+    all_still (came now v (sees k.host) k.policy).lines k.host
+    (then_each IsStill (performs (Ticks now)) (and_then (hears v) timed) (still_ticks now)
+    (then_each IsStill (hears v) timed (hears_each IsStill still_policy still_hears v (λ d is. absurd (other d is))) still_timed) (sees k.host) k.policy)
+
+held_takes : (d : DrawopValue) (see : List Line → View) (p : Policy) (host : Opened) → (after_lines (takes d see p).lines host).is.held ≡ (after_line (Arrives d) host).is.held
+held_takes d see p host = by (holds (see []) d.name || is_full (see [])) where
+  learns : Transition
+  learns = learned d.name (is_asked (see []) d.name)
+
+  by : (b : Bool) → (after_lines (cond b (performs (Arrives d) see p) (and_then (performs (Arrives d)) learns see p)).lines host).is.held ≡ (after_line (Arrives d) host).is.held
+  by true = refl
+  by false =
+      all_still (learns (λ (lines : List Line). see (Arrives d ∷ lines)) p).lines (after_line (Arrives d) host)
+      (learned_each IsStill still_policy d.name (is_asked (see []) d.name) (λ (lines : List Line). see (Arrives d ∷ lines)) p)
+
+pub held_drawn : (now : ℕ) (d : DrawopValue) (k : Keeping) → (after_kept_line (Came now (Draw d)) k).host.is.held ≡ history_with k.host.is.held d (outcome_of k.host.is.cells k.host.is.held d)
+unfolding after_kept_line
+held_drawn now d k =
+    let see : List Line → View = λ lines. sees k.host (Ticks now ∷ lines) in
+    let one = takes d see k.policy in
+    let two = timed (λ (lines : List Line). see (one.lines ++ lines)) one.policy in
+    let host = ticked now k.host in
+    ap (λ (h : Opened). h.is.held) (lines_then one.lines two.lines host)
+    ∙ all_still two.lines (after_lines one.lines host) (still_timed (λ (lines : List Line). see (one.lines ++ lines)) one.policy)
+    ∙ held_takes d see k.policy host
+
+-- a line of the record
+pub held_recalled : (now : ℕ) (line : RecordLine) (k : Keeping) → (after_kept_line (recalled now line) k).host.is.held ≡ history_after k.host.is.cells k.host.is.held (drawops_in line)
+held_recalled now (Tick past) k = held_ticked now k
+held_recalled now (Said d) k = held_drawn now d k
+held_recalled now (Known d) k = held_drawn now d k
+held_recalled now (Strange d) k = held_drawn now d k
+held_recalled now (Mark speaker page mark) k = held_heard now (PageState speaker page (mark ∷ [])) k (λ d is. absurd cc)
+
+-- what is gained
+none_more : (h after : List DrawopValue) → after ≡ h → drop (length h) after ≡ []
+none_more h after same = ap (λ (ds : List DrawopValue). drop (length h) ds) (same ∙ sym (append-nil h)) ∙ drop_at h [] (length h) refl
+
+pub gained_ticked : (now : ℕ) (k : Keeping) → gained (Ticked now) k ≡ []
+gained_ticked now k = none_more k.host.is.held (after_kept_line (Ticked now) k).host.is.held (held_ticked now k)
+
+pub gained_heard : (now : ℕ) (v : Datagram) (k : Keeping) → IsOther v → gained (Came now v) k ≡ []
+gained_heard now v k other = none_more k.host.is.held (after_kept_line (Came now v) k).host.is.held (held_heard now v k other)
