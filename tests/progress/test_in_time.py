@@ -1,5 +1,5 @@
-"""By when all has come, in sessions that keep to stated times: to hosts whose drivers look, by the bound of `AllComes`, which is proved of keepers
-alone, and to hosts that keep themselves by that of `SessionsBecomeWhole`. A line for each of these says when all held all, and by when the law says so."""
+"""By when all has come to self-managing hosts, in sessions that keep to stated times, by the bound of `SessionsBecomeWhole`; and how much they sent
+then. A line for each says when all held all, and by when the law says so."""
 
 from __future__ import annotations
 
@@ -9,9 +9,7 @@ import pytest
 
 from ..host import datagrams
 from . import timely_kept
-from .hosts import PLACE, Host
-from .timely import ANSWERED, DRAWOP, FAR, KNOWN, QUIET, SETTLED, TimelySession, bound, kind, name
-from .timely_kept import Loses, TimelyKept, holes_of, rows_of, whole_by
+from .timely_kept import DRAWOP, Loses, TimelyKept, by_rate, holes_of, kind, name, rows_of, slowest, soonest, whole_by
 
 TWO_PAGES = [(7, 1), (7, 2)]
 STRANGER = 9  # of this number there is no member
@@ -114,13 +112,38 @@ def test_whole(seed: int) -> None:
     session.run_until_all_hold(every, GOES_ON)
     at = session.now
     session.run_until(GOES_ON)
-    by = whole_by(session.sizes, wait, most)
+    sizes, hosts = session.sizes, len(session.hosts)
+    by = min(whole_by(sizes, soon, wait, most) for soon in (slowest(sizes, most), by_rate(sizes, most, hosts)))
     print(f"whole {seed}, {title}: {most} lacked, all held by all at {at / 1e6:.1f} s, by the law at {by / 1e6:,.0f} s")
     strangers = {asked for asked in session.requests if int(asked[:8], 16) >= 100}
     assert (empty, session.sizes.holes >= 70, len(strangers) >= 60) == want, "it is as its title says"
     assert (session.refused, session.latest <= timely_kept.LATE) == ([], True), "no line was refused, and no host called late"
     assert (at < by, list(session.held.values())) == (True, [every] * len(session.held)), "all hold all by then, and nothing new"
     check_shown(session, every)
+    check_reports(session)
+    check_sent(session)
+
+
+def check_reports(session: TimelyKept) -> None:
+    """Once the strangers are forgotten, each host reports as soon after its last report as the law says of their number."""
+    soon = soonest(len(session.hosts))
+    for member in session.hosts:
+        times = [soon.since, *(time for time, sender in session.reports if sender == member and time > soon.since), session.now]
+        apart = max(later - time for time, later in zip(times, times[1:]))
+        assert apart <= soon.pause + timely_kept.LATE, f"{member} reports in time"
+
+
+def check_sent(session: TimelyKept) -> None:
+    """Each host sent no more since its opening than the laws say of such a time, which is less than ten minutes."""
+    for member, sent in session.sent.items():
+        micros = session.clock(member, session.now) - sent.since
+        assert micros <= 600_000_000
+        kinds, called = sent.kinds, sent.called
+        assert kinds[timely_kept.SESSION] * timely_kept.SECOND <= timely_kept.SECOND + micros, f"reports of {member}"
+        assert kinds[timely_kept.PAGE_STATE] * timely_kept.SECOND <= 64 * (timely_kept.SECOND + micros), f"page states of {member}"
+        assert kinds[timely_kept.ASK_PAGES] * timely_kept.SECOND <= timely_kept.SECOND + 2 * micros, f"questions of {member}"
+        assert kinds[timely_kept.REQUEST] * timely_kept.COST <= 15 * ((128 + 2 * called["came"]) * timely_kept.COST + micros), f"requests of {member}"
+        assert kinds[DRAWOP] <= called["drawop"], f"drawops of {member}"
 
 
 def check_shown(session: TimelyKept, every: set[str]) -> None:
@@ -135,34 +158,3 @@ def check_shown(session: TimelyKept, every: set[str]) -> None:
             told = session.shows(member, "report", page) + session.shows(member, "gaps", page)
             view = [line for line in session.shows(member, "view", page) if line.startswith("draw ")]
             assert (told, len(view)) == want, f"what {member} shows of page {page[1]}"
-
-
-@pytest.mark.parametrize("seed", (1, 2, 3))
-def test_bound(seed: int) -> None:
-    """Sessions that keep to stated times: 180 drawings of which two thirds of the others' were lost at each place, and one that nobody holds."""
-    session = TimelySession(3, 200, seed)
-    gone = Host(4)
-    gone.draw(1)
-    last = gone.draw(2)
-    for member in session.hosts:
-        for number in range(1, 61):
-            session.draw(number * 15_000 + member, member, number)
-        session.put(950_000, member, f"datagram {last}")
-    session.run_until(QUIET)
-    session.keep_on()
-    session.run_until(SETTLED)
-    held = session.held()
-    every = set.union(*held)
-    most = max(len(every - own) for own in held)
-    assert most > 64, "a look cannot ask for all that is lost"
-    session.run_until(KNOWN)
-    session.run_until(bound(session.wait(), most, 1))
-    assert session.held() == [every] * 3, "all hold all by then"
-    nobody = f"{4:08x}{7:08x}{1:08x}{1:08x}"
-    shown = [[told for word in ("report", "view", "gaps") for told in session.tell(member, f"{word} {PLACE}")] for member in session.hosts]
-    assert shown == shown[:1] * 3, "they report and show one page"
-    assert shown[0][-2:] == ["gaps 1", "4 1 1"], "and lack what nobody holds"
-    asked = [(time, name) for time, name in session.requests if time >= SETTLED + 3 * FAR and name != nobody]
-    assert asked != [], "requests were sent that late"
-    late = [time for time, name in asked if session.all_hold(name) > time + ANSWERED]
-    assert late == [], "each of them was answered in time"

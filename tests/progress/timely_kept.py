@@ -14,17 +14,26 @@ from collections import Counter
 from typing import Callable, NamedTuple
 
 from ..host.program import Dialog
-from .timely import DRAWOP, REQUEST, kind, name
+
+DRAWOP, SESSION, REQUEST, ASK_PAGES, PAGE_STATE = "01", "02", "03", "04", "05"  # the kind of a datagram, in the digits of its bytes
 
 QUIET, DELIVERY, LATE, DRIFT = 3_000_000, 50_000, 10_000, 4_000
 LASTS = 300_000_000  # a clock that is slow loses DRIFT in this time
-REPORTING = 1  # nothing is asked of reports
 FAR = 1_000_000  # a host uses no greater distance, whatever echoes it hears
 ASKING, ANSWERING = 4, 2  # delays that a request waits at first, and an answer, by the constants 2,2,1,1
 SETTLED = QUIET + DELIVERY
 REPAIRING = ANSWERING * FAR + 2 * DELIVERY + LATE + LATE
-KNOWN = SETTLED + DELIVERY + max(REPORTING, 3 * FAR + DRIFT)
+KNOWN = SETTLED + DELIVERY + 3 * FAR + DRIFT + 1
 IS_NEW = "batch 1 0 0 0"
+RATE = 4_000  # bytes a second, which all reports together may take
+HEARD = 192_000_000  # for so long a member counts after it was heard
+LONGEST_MEAN = 64_000_000
+LONGEST_PAUSE = LONGEST_MEAN + LONGEST_MEAN // 2
+LONGEST_GAP = 16_000_000  # from one turn to the next
+MOST_REPORT_BYTES = 1_184
+COUNTED = SETTLED + HEARD + DRIFT + LONGEST_PAUSE  # from then on reports go by the number of hosts
+
+SECOND, COST = 1_000_000, 250_000
 
 Loses = Callable[["TimelyKept", int, str], bool]
 
@@ -37,23 +46,71 @@ class Sizes(NamedTuple):
     numbers: int
 
 
-def report_span() -> int:
-    return 96_000_000 + LATE
+class Soon(NamedTuple):
+    """How many names a host gives up one after the other, how long its turns take until they come to a missing number that is held, and how long after
+    a call, or after `since`, its next report is due."""
+
+    gives: int
+    turning: int
+    pause: int
+    since: int
+
+
+class Sent(NamedTuple):
+    """What a host sent since its opening, by kinds, what it was called for: requests for what it held and drawings, and how many drawops came in."""
+
+    since: int
+    kinds: Counter[str]
+    called: Counter[str]
+
+
+def kind(datagram: str) -> str:
+    return datagram[6:8]
+
+
+def name(datagram: str) -> str:
+    """The name of a drawop, or of what a request asks for, in digits."""
+    return datagram[-32:] if kind(datagram) == REQUEST else datagram[16:48]
+
+
+def slowest(sizes: Sizes, most: int) -> Soon:
+    """So it is in each session."""
+    return with_pause(sizes, most, LONGEST_PAUSE, QUIET)
+
+
+def by_rate(sizes: Sizes, most: int, members: int) -> Soon:
+    """And so, by how many hosts there are."""
+    return with_pause(sizes, most, pause_of(RATE, members), COUNTED)
+
+
+def with_pause(sizes: Sizes, most: int, pause: int, since: int) -> Soon:
+    return Soon(most, 2 * sizes.numbers * sizes.holes * (LONGEST_GAP + LATE), pause, since)
+
+
+def pause_of(rate: int, members: int) -> int:
+    return 3 * min(max(members * MOST_REPORT_BYTES * 1_000_000 // rate, 2_000_000), LONGEST_MEAN) // 2
+
+
+def soonest(members: int) -> Soon:
+    """So it is if each missing number is held, and none is given up before its timer was backed off."""
+    pause = pause_of(RATE, members)
+    return Soon(1, LONGEST_GAP + LATE, pause, COUNTED)
 
 
 def request_span() -> int:
     return ASKING * FAR + LATE
 
 
-def step(sizes: Sizes, most: int) -> int:
+def step(sizes: Sizes, soon: Soon) -> int:
     """For so long nothing new comes at most, while something is lacked that another holds."""
-    reports = sizes.slices + 2 * sizes.numbers * sizes.holes + 1
-    return 21_000_000 + DRIFT + request_span() + reports * report_span() + DELIVERY + most * request_span() + REPAIRING
+    span = soon.pause + LATE
+    asked_within = 21_000_000 + DRIFT + request_span() + sizes.slices * span + soon.turning + DELIVERY
+    return span + asked_within + soon.gives * request_span() + REPAIRING
 
 
-def whole_by(sizes: Sizes, wait: int, most: int) -> int:
+def whole_by(sizes: Sizes, soon: Soon, wait: int, most: int) -> int:
     """The time at which all hold all: no request timer waits for longer at `KNOWN`, and all together lack no more."""
-    return KNOWN + wait + REPAIRING + (most + 1) * step(sizes, most)
+    return max(KNOWN + wait + REPAIRING, soon.since) + (most + 1) * step(sizes, soon)
 
 
 def rows_of(held: set[str]) -> dict[str, list[int]]:
@@ -92,6 +149,8 @@ class TimelyKept:
         self.events: list[tuple[int, int, int, str, str]] = []
         self.order = itertools.count()
         self.requests: list[str] = []
+        self.reports: list[tuple[int, int]] = []  # when, and by whom
+        self.sent: dict[int, Sent] = {}
         self.held: dict[int, set[str]] = {member: set() for member in range(1, members + 1)}
         self.records: dict[int, list[str]] = {member: [] for member in self.held}
         self.sizes = sizes_of(set())
@@ -111,8 +170,9 @@ class TimelyKept:
         dialog = self.hosts[member] = Dialog()
         dialog.ask(f"board {member} {self.cells} 1 {self.seed * 100 + member}")
         dialog.ask(f"tick {moment}")
+        self.sent[member] = Sent(moment, Counter(), Counter())
         self.lag[member] = self.now - self.slow(member, self.now) - moment
-        self.due[member] = int(dialog.ask("keep 4000 0").split()[1])
+        self.due[member] = int(dialog.ask(f"keep {RATE} 0").split()[1])
         self.called_by[member] = self.now + self.random.randrange(LATE + 1)
 
     def join(self, time: int) -> None:
@@ -137,6 +197,7 @@ class TimelyKept:
         the quiet time, no host is to be behind its DUE by more than `LATE`."""
         if self.now > QUIET:
             self.latest = max(self.latest, *(self.now - self.lag[other] - due for other, due in self.due.items()))
+        self.counts_call(member, word, rest.strip())
         *block, closing = self.hosts[member].ask(f"{word} {self.clock(member, self.now)}{rest}").splitlines()
         if not closing.startswith("ok "):
             self.refused.append(closing)
@@ -149,15 +210,26 @@ class TimelyKept:
                 self.send(member, told.removeprefix("send "))
         return block
 
+    def counts_call(self, member: int, word: str, came: str) -> None:
+        """What a host may send a drawop for, and which drawops come to it."""
+        called = self.sent[member].called
+        if word == "add" or word == "came" and kind(came) == REQUEST and name(came) in self.held[member]:
+            called["drawop"] += 1
+        if word == "came" and kind(came) == DRAWOP and name(came) not in self.held[member]:
+            called["came"] += 1
+
     def put(self, time: int, member: int, word: str, rest: str) -> None:
         heapq.heappush(self.events, (time, next(self.order), member, word, rest))
 
     def send(self, sender: int, datagram: str) -> None:
         """What is sent before the quiet time may be lost. Then it comes to each, at times twice."""
+        self.sent[sender].kinds[kind(datagram)] += 1
         if kind(datagram) == DRAWOP:
             self.holds(sender, datagram)
         if kind(datagram) == REQUEST:
             self.requests.append(name(datagram))
+        if kind(datagram) == SESSION:
+            self.reports.append((self.now, sender))
         for member in self.hosts:
             if member != sender and not (self.now <= QUIET and self.loses(self, member, datagram)):
                 for _ in range(self.random.choices((1, 2), (4, 1))[0]):

@@ -91,7 +91,7 @@ pub record Stays (k m : Keeping) : Type 0 where
   pub held : m.host.is.held ≡ k.host.is.held
   pub now : present m.host ≡ present k.host
   pub turns : m.policy.turns ≡ k.policy.turns
-  pub due : m.policy.reports.due ≡ k.policy.reports.due
+  pub due : m.policy.pace.due ≡ k.policy.pace.due
 
 pub as_it_was : (k : Keeping) → Stays k k
 as_it_was k = record { held = refl; now = refl; turns = refl; due = refl }
@@ -100,7 +100,7 @@ stays_then : (k m n : Keeping) → Stays k m → Stays m n → Stays k n
 stays_then k m n a b = record { held = b.held ∙ a.held; now = b.now ∙ a.now; turns = b.turns ∙ a.turns; due = b.due ∙ a.due }
 
 -- by lines that do not take anything in
-small_stays : (k : Keeping) (lines : List Line) (p : Policy) → AreSmall lines → p.turns ≡ k.policy.turns → p.reports.due ≡ k.policy.reports.due
+small_stays : (k : Keeping) (lines : List Line) (p : Policy) → AreSmall lines → p.turns ≡ k.policy.turns → p.pace.due ≡ k.policy.pace.due
     → Stays k (having_done (doing p lines) k)
 small_stays k lines p small turns due = let r = lines_rest lines k.host small in record { held = r.held; now = r.now; turns = turns; due = due }
 
@@ -127,7 +127,7 @@ new_is_more d k lines lacks room =
 
 -- ---- what is heard
 
--- what is held, the turns and the next report stay; it asks for names of P alone, and spends for nothing else
+-- what is held, the turns and the moment of the next one stay; it asks for names of P alone, and spends for nothing else
 pub record AsksFor (P : NameValue → Type 0) (k : Keeping) (lines : List Line) (m : Keeping) : Type 0 where
   pub stays : Stays k m
   pub asks : AskFor P lines

@@ -158,6 +158,7 @@ steps_stand = record {
     both = both_stand;
     wants = wants_stand;
     turned = λ t k. asks_nothing k [] _ refl tt;
+    beats = λ k due. asks_nothing k [] _ refl tt;
     answers = λ k is. asks_nothing k _ _ refl (states_each (IsAskOf (λ n. ⊥)) (view_of k.host) (λ page. tt) (take 64 (pages_of k.host.is.held)));
     asks_pages = λ k is. asks_nothing k _ _ refl (tt, tt);
     reports = λ page until told k is. asks_nothing k _ _ refl (tt, tt);

@@ -10,7 +10,7 @@ use Rattle.std.proofs.lemmas.List.Elements.{Contains-append_left, Contains-appen
 use Rattle.wb_names.proofs.Listings.{Contains-cases, Contains-here, Contains-none, Contains-there}
 use Rattle.wb_codec.specs.declared.datagram.Datagram.TheVariants.{Draw, Session, Request, AskPages, PageState}
 use Rattle.wb_keeper.proofs.KeptCalls.{holds_from}
-use Rattle.wb_progress.specs.InTime.{known_from, repairing}
+use Rattle.wb_progress.specs.InTime.{AreApart, known_from, repairing}
 use Rattle.wb_progress.specs.Turns.{Terms, settled_by}
 use Rattle.wb_progress.proofs.Giving.{held_as}
 use Rattle.wb_keeper.specs.Keeper.{holds as history_holds}
@@ -22,24 +22,18 @@ use Rattle.wb_keeping.specs.Kept.{Line, Arrives, Asks, Hears, Says, SetsDistance
 use Rattle.wb_keeping.specs.Laws.{doing_of}
 use Rattle.wb_keeping.specs.Performing.{Keeping, after_doing, after_line, after_lines, sees}
 use Rattle.wb_kept_progress.specs.Sessions.{Opening, kept_at}
-use Rattle.wb_kept_progress.specs.Timed.{AllKeptHoldBehind, Performed, TimedLine, called_at, host_after, lines_of, performed, start_of, time_of, until}
-use Rattle.wb_kept_progress.specs.Whole.{AreApart, AreCalledInOrder, IsHeldBySome, IsLackedAt, Lack, SessionsBecomeWhole, Sizes, report_span, request_span, step, there, whole_by}
-use Rattle.wb_kept_progress.proofs.CallLines.{lines_have_calls}
+use Rattle.wb_kept_progress.specs.Timed.{AllKeptHoldBehind, TimedLine, called_at, host_after, lines_of, performed, start_of, until}
+use Rattle.wb_kept_progress.specs.Promises.{Holds, IsLate, IsStill, LackIsAsked, PromisesSuffice}
+use Rattle.wb_kept_progress.specs.Whole.{AreCalledInOrder, IsHeldBySome, IsLackedAt, Lack, Sizes, asked_within, report_span, request_span, step, there, whole_by}
 use Rattle.wb_kept_progress.proofs.CallsInTime.{performed_is_timely}
-use Rattle.wb_kept_progress.proofs.Causes.{asks_have_cause}
 use Rattle.wb_kept_progress.proofs.GivenUp.{timer_leads_or_is_given_up}
-use Rattle.wb_kept_progress.proofs.LackWanted.{lack_is_wanted}
-use Rattle.wb_kept_progress.proofs.NoCredit.{no_credit_is_asked}
 use Rattle.wb_kept_progress.proofs.NothingNew.{held_was_held}
-use Rattle.wb_kept_progress.proofs.OwedAndDue.{reports_are_due}
-use Rattle.wb_kept_progress.proofs.Spent.{credit_is_spent}
 use Rattle.wb_kept_progress.proofs.Stillness.{stillness_ends}
-use Rattle.wb_kept_progress.proofs.StopCauses.{stops_have_cause}
 use Rattle.wb_kept_progress.proofs.Young.{timers_are_young}
-use Rattle.wb_kept_progress.proofs.CallParts.{calls_order, due_by_report, lacked_until, lines_end}
-use Rattle.wb_kept_progress.proofs.KeptInTime.{front_of}
+use Rattle.wb_kept_progress.proofs.CallParts.{calls_order, lacked_until}
+use Rattle.wb_kept_progress.proofs.Reached.{reached}
 use Rattle.wb_kept_progress.proofs.Repairs.{held_once}
-use Rattle.wb_kept_progress.proofs.WholeParts.{HasNoCredit, HeldWasHeld, Holds, IsAsking, IsStill, LackIsWanted, NoCreditIsAsked, ReportsAreDue, StillnessEnds}
+use Rattle.wb_kept_progress.proofs.WholeParts.{HeldWasHeld, StillnessEnds}
 
 -- ---- what is held is followed by what comes
 
@@ -134,13 +128,13 @@ module _ (hosts : ℕ → Opening) where
   appends (e ∷ front) part i = joined (held_at part i) (held_at (front ++ part) i) (held_at (e ∷ (front ++ part)) i) (appends front part i) (call_appends e (front ++ part) i)
 
   -- what is held stays
-  held_on : (front part : List TimedLine) (i : ℕ) (n : NameValue) → holds (there hosts part i).host n ≡ true → holds (there hosts (front ++ part) i).host n ≡ true
+  pub held_on : (front part : List TimedLine) (i : ℕ) (n : NameValue) → holds (there hosts part i).host n ≡ true → holds (there hosts (front ++ part) i).host n ≡ true
   held_on front part i n h =
       let a = appends front part i in
       let d = held_as (held_at part i) n h in
       holds_from (held_at (front ++ part) i) n d.0 (subst (λ (held : List DrawopValue). Contains held d.0) (sym a.is) (Contains-append_left (held_at part i) a.more d.0 d.1)) d.2
 
-  lacked_before : (front part : List TimedLine) (i : ℕ) (n : NameValue) → holds (there hosts (front ++ part) i).host n ≡ false → holds (there hosts part i).host n ≡ false
+  pub lacked_before : (front part : List TimedLine) (i : ℕ) (n : NameValue) → holds (there hosts (front ++ part) i).host n ≡ false → holds (there hosts part i).host n ≡ false
   lacked_before front part i n lacks = by (holds (there hosts part i).host n) refl where
     by : (b : Bool) → holds (there hosts part i).host n ≡ b → b ≡ false
     by false e = refl
@@ -191,35 +185,9 @@ module _ (hosts : ℕ → Opening) where
 -- ---- a session
 
 module _ (hosts : ℕ → Opening) (terms : Terms) (trace : List TimedLine) (sizes : Sizes) (wait most : ℕ) (all : Holds hosts terms trace sizes wait most)
-    (was_held : HeldWasHeld) (due_soon : ReportsAreDue) (wanted : LackIsWanted) (no_credit : NoCreditIsAsked) (ends : StillnessEnds) where
+    (was_held : HeldWasHeld) (asked : LackIsAsked) (ends : StillnessEnds) where
   abbrev start : ℕ
-  start = known_from terms + wait + repairing terms
-
-  -- ---- calls come one after the other soon enough
-
-  gap : (newer older : List TimedLine) (e : TimedLine) (i : ℕ) → trace ≡ newer ++ e ∷ older → Contains terms.live i → terms.quiet < e.time → e.time ≤ max (called_at older) terms.quiet + report_span terms
-  gap newer older e i split live after =
-      let soon = all.session.soon newer older e i split live after in
-      let due_by = due_soon hosts terms trace (newer ++ e ∷ []) older i all.session (split ∙ sym (append_assoc newer (e ∷ []) older)) live in
-      let least = due_by_report (there hosts older i) in
-      omega (arith, soon, due_by, least)
-
-  -- the first part behind a time
-  record IsReached (later : List TimedLine) (s : ℕ) : Type 0 where
-    window : List TimedLine
-    base : List TimedLine
-    split : later ≡ window ++ base
-    from : s < called_at base
-    soon : called_at base ≤ s + report_span terms
-
-  reached : (newer later : List TimedLine) (s i : ℕ) → trace ≡ newer ++ later → Contains terms.live i → terms.quiet ≤ s → s < called_at later → IsReached later s
-  reached newer [] s i split live after lt = absurd (omega (arith, lt))
-  reached newer (e ∷ older) s i split live after lt = ⊎_elim
-      (λ no. let g = gap newer older e i split live (omega (arith, after, lt)) in let le = no.1 in record { window = []; base = e ∷ older; split = refl; from = lt; soon = omega (arith, g, le, after) })
-      (λ yes.
-      let r = reached (newer ++ e ∷ []) older s i (split ∙ sym (append_assoc newer (e ∷ []) older)) live after yes.1 in
-      record { window = e ∷ r.window; base = r.base; split = ap (λ (t : List TimedLine). e ∷ t) r.split; from = r.from; soon = r.soon })
-      (leb_tells (called_at older) s)
+  start = max (known_from terms + wait + repairing terms) sizes.since
 
   -- ---- a still window in which something is lacked
 
@@ -228,67 +196,23 @@ module _ (hosts : ℕ → Opening) (terms : Terms) (trace : List TimedLine) (siz
 
   -- a still window ends by then
   abbrev still_by : ℕ → ℕ
-  still_by from = from + 21000000 + terms.drift + request_span terms + (sizes.slices + 2 * sizes.numbers * sizes.holes) * report_span terms + terms.delivery + most * request_span terms + repairing terms
+  still_by from = from + asked_within terms sizes + sizes.gives * request_span terms + repairing terms
 
-  module _ (newest window base : List TimedLine) (still : IsStill hosts terms trace newest window base) (late : start ≤ called_at base) (i : ℕ) (live : Contains terms.live i) (n : NameValue) (held : IsHeldBySome hosts terms trace n)
-      (lacks : holds (there hosts base i).host n ≡ false) where
-    abbrev from : ℕ
-    from = called_at base + 21000000 + terms.drift + request_span terms
-
-    abbrev by : ℕ
-    by = from + (sizes.slices + 2 * sizes.numbers * sizes.holes) * report_span terms + terms.delivery
-
-    -- it asks for what some hold
-    asking : (back : List Performed) → IsAsking hosts terms trace (window ++ base) i back → called_at base + request_span terms < time_of back → time_of back ≤ by → called_at (window ++ base) ≤ still_by (called_at base)
-    asking back a behind soon = let e = ends hosts terms trace newest window base sizes wait most i back all still late live a behind in omega (arith, e, soon)
-
-    -- what is still in a window is so in a part of it
-    still_part : (front part : List TimedLine) → window ≡ front ++ part → IsStill hosts terms trace (newest ++ front) part base
-    still_part front part is = record {
-      split = still.split ∙ ap (λ (t : List TimedLine). newest ++ (t ++ base)) is ∙ ap (λ (t : List TimedLine). newest ++ t) (append_assoc front part base) ∙ sym (append_assoc newest front (part ++ base));
-      same = λ before rest j split live_j. still.same (front ++ before) rest j (is ∙ ap (λ (t : List TimedLine). front ++ t) split ∙ sym (append_assoc front before rest)) live_j;
-    }
-
-    without : (front part : List TimedLine) → window ≡ front ++ part → from < called_at (part ++ base) → called_at (part ++ base) ≤ by
-        → HasNoCredit hosts terms (part ++ base) i → called_at (window ++ base) ≤ still_by (called_at base)
-    without front part is behind soon none =
-        let s = still_part front part is in
-        let found = no_credit hosts terms trace (newest ++ front) part base [] part sizes wait most i all s late live refl (omega (arith, behind)) none in
-        let back = found.0 in
-        let a = found.1 in
-        let since = found.2 in
-        let last : time_of back ≤ called_at (part ++ base) = lines_end hosts (part ++ base) a.front back (ordered (newest ++ front) (part ++ base) s.split) a.split in
-        asking back (widened front part is back a) (omega (arith, since, behind)) (omega (arith, last, soon)) where
-          widened : (front part : List TimedLine) → window ≡ front ++ part → (back : List Performed) → IsAsking hosts terms trace (part ++ base) i back → IsAsking hosts terms trace (window ++ base) i back
-          widened front part is back a =
-              let f = front_of hosts front (part ++ base) in record {
-                front = f.0 ++ a.front;
-                split = ap (λ (t : List TimedLine). performed hosts (t ++ base)) is ∙ ap (performed hosts) (append_assoc front part base) ∙ f.1 ∙ ap (λ (t : List Performed). f.0 ++ t) a.split ∙ sym (append_assoc f.0 a.front back);
-                name = a.name;
-                ask = a.ask;
-                stands = a.stands;
-                held = a.held;
-              }
-
-    pub ends_soon : called_at (window ++ base) ≤ still_by (called_at base)
-    ends_soon = ⊎_elim
-        (λ no. let le = no.1 in omega (arith, le))
-        (λ yes.
-        let w = wanted hosts terms trace newest window base sizes wait most i from n all still late live held lacks (omega arith) yes.1 in
-        let behind = w.behind in
-        ⊎_elim
-        (λ (a : (back : List Performed) × IsAsking hosts terms trace (window ++ base) i back × (time_of back ≡ called_at (w.part ++ base))).
-        let at = a.2 in
-        let soon = w.soon in
-        asking a.0 a.1 (omega (arith, at, behind)) (omega (arith, at, soon)))
-        (λ (none : HasNoCredit hosts terms (w.part ++ base) i). without w.front w.part w.split behind w.soon none)
-        w.wants)
-        (leb_tells (called_at (window ++ base)) by)
+  ends_soon : (newest window base : List TimedLine) → IsStill hosts terms trace newest window base → IsLate terms sizes wait base → (i : ℕ) → Contains terms.live i → (n : NameValue) → IsHeldBySome hosts terms trace n
+      → holds (there hosts base i).host n ≡ false → called_at (window ++ base) ≤ still_by (called_at base)
+  ends_soon newest window base still late i live n held lacks = ⊎_elim
+      (λ no. let le = no.1 in omega (arith, le))
+      (λ yes.
+      let a = asked hosts terms trace newest window base sizes wait most i n all still late live held lacks yes.1 in
+      let soon = a.3 in
+      let e = ends hosts terms trace newest window base sizes wait most i a.0 all still late live a.1 a.2 in
+      omega (arith, e, soon))
+      (leb_tells (called_at (window ++ base)) (called_at base + asked_within terms sizes))
 
   -- ---- step by step
 
   abbrev at_step : ℕ → ℕ
-  at_step k = start + k * step terms sizes most
+  at_step k = start + k * step terms sizes
 
   -- Of k + 1 lacks at first, each but the last is filled after k steps.
   record AreFilled (part : List TimedLine) (i : ℕ) (n : NameValue) (k : ℕ) : Type 0 where
@@ -320,9 +244,9 @@ module _ (hosts : ℕ → Opening) (terms : Terms) (trace : List TimedLine) (siz
     then = λ x c. ⊎_elim (λ (same : record { place = i; name = n } ≡ x). inl (sym same)) (λ (none : Contains [] x). absurd (Contains-none x none)) (Contains-cases (record { place = i; name = n }) x [] c);
   }
   filled (suc k) newer part i n split late live held lacks =
-      let r = reached newer part (at_step k) i split live (omega arith) (omega (arith, late)) in
+      let r = reached hosts terms trace all.session sizes.since sizes.pause all.soon.reports newer part (at_step k) i split live (omega arith) (omega arith) (omega (arith, late)) in
       by_window r.window r.base r.split r.from r.soon (filled k (newer ++ r.window) r.base) where
-        by_window : (window base : List TimedLine) → part ≡ window ++ base → at_step k < called_at base → called_at base ≤ at_step k + report_span terms
+        by_window : (window base : List TimedLine) → part ≡ window ++ base → at_step k < called_at base → called_at base ≤ at_step k + report_span terms sizes
             → ((j : ℕ) (m : NameValue) → trace ≡ (newer ++ window) ++ base → at_step k < called_at base → Contains terms.live j → IsHeldBySome hosts terms trace m → holds (there hosts base j).host m ≡ false → AreFilled base j m k) → AreFilled part i n (suc k)
         by_window window base is from soon before = ⊎_elim
             (λ (same : AreSame hosts terms.live window base).
@@ -331,7 +255,7 @@ module _ (hosts : ℕ → Opening) (terms : Terms) (trace : List TimedLine) (siz
               same = λ front mid j f live_j. nothing_more (held_at hosts base j) (held_at hosts (mid ++ base) j) (held_at hosts (window ++ base) j) (appends hosts mid base j)
                   (subst (λ (t : List TimedLine). Appends (held_at hosts (mid ++ base) j) (held_at hosts t j)) (sym (ap (λ (t : List TimedLine). t ++ base) f ∙ append_assoc front mid base)) (appends hosts front (mid ++ base) j)) (same j live_j);
             } in
-            let e = ends_soon newer window base still (omega (arith, from)) i live n held lacked in
+            let e = ends_soon newer window base still (record { known = omega (arith, from); since = omega (arith, from) }) i live n held lacked in
             let top : called_at part ≡ called_at (window ++ base) = ap called_at is in
             absurd (omega (arith, e, soon, late, top)))
             (λ (g : Gains hosts terms.live window base). more g (before g.place g.name (whole ∙ sym (append_assoc newer window base)) from g.among
@@ -374,9 +298,8 @@ module _ (hosts : ℕ → Opening) (terms : Terms) (trace : List TimedLine) (siz
         let c = f.count in
         absurd (omega (arith, le, c))
 
-pub sessions_become_whole : SessionsBecomeWhole
-sessions_become_whole hosts terms trace sizes wait most n session within waits lacks short held =
-    all_hold hosts terms trace sizes wait most (record { session = session; within = within; waits = waits; lacks = lacks; short = short })
-    held_was_held reports_are_due (lack_is_wanted held_was_held) (no_credit_is_asked (credit_is_spent held_was_held))
-    (stillness_ends timers_are_young timer_leads_or_is_given_up performed_is_timely lines_have_calls (asks_have_cause held_was_held) (stops_have_cause lines_have_calls))
+pub promises_suffice : PromisesSuffice
+promises_suffice promises hosts terms trace sizes wait most n session within soon waits lacks short held =
+    all_hold hosts terms trace sizes wait most (record { session = session; within = within; soon = soon; waits = waits; lacks = lacks; short = short })
+    held_was_held promises.asks (stillness_ends timers_are_young timer_leads_or_is_given_up performed_is_timely promises.keeps)
     n held

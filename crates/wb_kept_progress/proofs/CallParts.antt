@@ -1,6 +1,6 @@
 -- Parts of a trace of calls, and of the lines that are performed in them.
 use Rattle.std.proofs.Common.{◌≡◌, ℕ, ◌<◌, ◌≤◌, Bool, true, false, cond, List, [], ◌∷◌, ◌++◌, ◌∙◌, ap, arith, refl, subst, sym, ⊎_elim, true≢false}
-use Rattle.std.specs.Prelude.{◌⊎◌, Option, Some, None, nat_le}
+use Rattle.std.specs.Prelude.{◌⊎◌, Option, Some, None, min, nat_le}
 use Rattle.std.proofs.lemmas.Bool.Decides.{leb_tells}
 use Rattle.wb_names.specs.Values.{NameValue}
 use Rattle.wb_member.specs.Judged.{holds}
@@ -24,9 +24,9 @@ pub calls_end : (front part : List TimedLine) → AreCalledInOrder (front ++ par
 calls_end [] part order = omega arith
 calls_end (e ∷ front) part order = let rest = calls_end front part order.1 in let first = order.0 in omega (arith, rest, first)
 
--- a host has something to do when its report is due
-pub due_by_report : (k : Keeping) → due k ≤ k.policy.reports.due
-due_by_report k = by where
+-- a host has something to do when its report is due, and when its turn is
+due_by_first : (k : Keeping) → due k ≤ min k.policy.reports.due k.policy.pace.due
+due_by_first k = by where
   less : (m : ℕ) (other : Option ℕ) → sooner_of m other ≤ m
   less m None = omega arith
   less m (Some o) = omega arith
@@ -35,12 +35,18 @@ due_by_report k = by where
   fewer m None = omega arith
   fewer m (Some o) = omega arith
 
-  by : due k ≤ k.policy.reports.due
+  by : due k ≤ min k.policy.reports.due k.policy.pace.due
   by =
       let a = less (next_moment k.policy) (next_due k.host) in
-      let b = fewer (sooner k.policy.reports.due k.policy.questions.ask) k.policy.questions.answer in
-      let c = fewer k.policy.reports.due k.policy.questions.ask in
+      let b = fewer (sooner (min k.policy.reports.due k.policy.pace.due) k.policy.questions.ask) k.policy.questions.answer in
+      let c = fewer (min k.policy.reports.due k.policy.pace.due) k.policy.questions.ask in
       omega (arith, a, b, c)
+
+pub due_by_report : (k : Keeping) → due k ≤ k.policy.reports.due
+due_by_report k = let le = due_by_first k in omega (arith, le)
+
+pub due_by_turn : (k : Keeping) → due k ≤ k.policy.pace.due
+due_by_turn k = let le = due_by_first k in omega (arith, le)
 
 -- the lines of one call have its time
 lines_in_order : (time place : ℕ) (lines : List Line) (older : List Performed) → time_of older ≤ time → AreInOrder older → AreInOrder (performed_then time place lines older)

@@ -8,14 +8,14 @@ use Rattle.wb_codec.specs.declared.datagram.Datagram.TheVariants.{Draw, Request}
 use Rattle.wb_recovery.specs.Events.{timers_of}
 use Rattle.wb_recovery.specs.declared.tuning.Tuning.{Tuning}
 use Rattle.wb_progress.specs.Bounds.{IsUnder}
-use Rattle.wb_progress.specs.Turns.{IsNowAt, Terms, longest, settled_by}
+use Rattle.wb_progress.specs.Turns.{AreNotOverdue, IsNowAt, Terms, longest, settled_by}
 use Rattle.wb_member.specs.Judged.{holds, is_full}
 use Rattle.wb_member.specs.Opened.{Opened, events, opened_with}
 use Rattle.wb_keeping.specs.Kept.{Line, Arrives, Hears, Says, Ticks, Tunes}
 use Rattle.wb_keeping.specs.Laws.{KeptLine, doing_of}
 use Rattle.wb_keeping.specs.Performing.{Keeping, after_line, after_lines, sees, sent_by_line}
 use Rattle.wb_kept_progress.specs.Sessions.{Opening}
-use Rattle.wb_kept_progress.specs.Timed.{AreNotOverdue, ComesTo, GoByShort, IsQuietLine, SaysNow, Performed, Start, TellTimes, TimedLine, WasSent, greatest_distance, host_after, performed, performed_then, lines_of as lines_of_calls, sends, start_of, time_of, timers_after}
+use Rattle.wb_kept_progress.specs.Timed.{ComesTo, GoByShort, IsQuietLine, SaysNow, Performed, Start, TellTimes, TimedLine, WasSent, greatest_distance, host_after, performed, performed_then, lines_of as lines_of_calls, sends, start_of, time_of, timers_after}
 use Rattle.wb_kept_progress.specs.Whole.{IsHandedIn, IsTimelySession, WasSentBy, sends_then, there}
 use Rattle.wb_kept_progress.proofs.CallLines.{Ends, call_ends, ends_both, host_amid, host_apart, host_before, line_stands, lines_have_calls, sent_in}
 use Rattle.wb_kept_progress.proofs.CallParts.{host_is, lines_order}
@@ -231,7 +231,6 @@ performed_is_timely hosts terms trace s = record {
   waits = s.waits;
   tuned = λ newer older i split live. tuned hosts terms trace s newer older i split live;
   order = lines_order hosts trace s.order;
-  reported = s.reported;
   moments = λ i live. s.moments i;
   begun = s.begun;
   onward = λ newer older e now split live is. kept_goes_onward hosts trace s.taken newer older e now split is;

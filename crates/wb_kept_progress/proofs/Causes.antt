@@ -55,28 +55,28 @@ module _ (held_was : HeldWasHeld) (hosts : ℕ → Opening) (terms : Terms) (tra
     next_is = moved hosts (lines_of older) e.at.place e.at.line
 
     names_held : (v : Datagram) → WasSentBy hosts older e.time terms.delivery v → (page : PageId) (marks : List MarkValue) (me : ℕ)
-        → ((held : List DrawopValue) → TellsHeld held v → AreHeld held page marks) → (n : NameValue) → Contains (told_names me page marks) n
+        → ((number : ℕ) (held : List DrawopValue) → TellsHeld number held v → AreHeld held page marks) → (n : NameValue) → Contains (told_names me page marks) n
         → IsSome n
     names_held v was page marks me tells n c =
         let parted : trace ≡ (newer ++ e ∷ was.newer) ++ was.e ∷ was.before = split
         ∙ ap (λ (t : List TimedLine). newer ++ e ∷ t) was.split ∙ sym (append_assoc newer (e ∷ was.newer) (was.e ∷ was.before)) in
         let sender = there hosts was.before was.e.at.place in
         let none = call_taken hosts (newer ++ e ∷ was.newer) was.before was.e (subst (λ (t : List TimedLine). AreTaken hosts (lines_of t)) parted session.taken) in
-        let told : TellsHeld (after_doing (doing_of was.e.at.line) sender).host.is.held v = call_tells was.e.at.line sender none v was.sent in
-        let behind : TellsHeld (there hosts (was.e ∷ was.before) was.e.at.place).host.is.held v =
-        subst (λ (m : Keeping). TellsHeld m.host.is.held v) (sym (moved hosts (lines_of was.before) was.e.at.place was.e.at.line)) told in
+        let told : TellsHeld sender.host.is.number (after_doing (doing_of was.e.at.line) sender).host.is.held v = call_tells was.e.at.line sender none v was.sent in
+        let behind : TellsHeld sender.host.is.number (there hosts (was.e ∷ was.before) was.e.at.place).host.is.held v =
+        subst (λ (m : Keeping). TellsHeld sender.host.is.number m.host.is.held v) (sym (moved hosts (lines_of was.before) was.e.at.place was.e.at.line)) told in
         let live = session.alone (newer ++ e ∷ was.newer) was.before was.e parted (after_quiet was.e.time was.soon) in
         held_was hosts terms trace (newer ++ e ∷ was.newer) (was.e ∷ was.before) was.e.at.place n session parted live
-        (named_by (there hosts (was.e ∷ was.before) was.e.at.place).host.is.held me page marks n (tells _ behind) c) where
+        (named_by (there hosts (was.e ∷ was.before) was.e.at.place).host.is.held me page marks n (tells _ _ behind) c) where
           after_quiet : (then : ℕ) → e.time ≤ then + terms.delivery → terms.quiet < then
           after_quiet then soon = omega (arith, late, soon)
 
     all_told : (v : Datagram) (me : ℕ) → WasSentBy hosts older e.time terms.delivery v → AreTold IsSome me v
     all_told (Draw d) me was = tt
-    all_told (Session sender sent page marks echoes) me was = names_held (Session sender sent page marks echoes) was page marks me (λ held tells. tells)
+    all_told (Session sender sent page marks echoes) me was = names_held (Session sender sent page marks echoes) was page marks me (λ number held tells. tells.1)
     all_told (Request asker name) me was = tt
     all_told (AskPages asker) me was = tt
-    all_told (PageState sender page marks) me was = names_held (PageState sender page marks) was page marks me (λ held tells. tells)
+    all_told (PageState sender page marks) me was = names_held (PageState sender page marks) was page marks me (λ number held tells. tells)
 
     -- What is held grows by a call, or it takes its course.
     abbrev pub Goes : Type 0

@@ -14,20 +14,21 @@ use Rattle.wb_gaps.specs.declared.holes.Hole.{Hole}
 use Rattle.wb_member.specs.Opened.{present}
 use Rattle.wb_policy.specs.Credit.{spent}
 use Rattle.wb_policy.specs.Fairness.{led_to, name_in_turn}
-use Rattle.wb_keeping.specs.Kept.{Asks, Doing, Line, Says, Ticks, Transition, and_then, answers, asks_pages, came, hears, performs, reports, reports_due, reports_rest, state_of, still, ticks, timed, turn, turn_to, want}
+use Rattle.wb_keeping.specs.Kept.{Asks, Doing, Line, Says, Ticks, Transition, and_then, answers, asks_pages, came, hears, performs, reports, reports_due, reports_rest, state_of, still, ticks, timed, turn, turn_by_clock, turn_to, turns_due, want}
 use Rattle.wb_keeping.specs.Performing.{Keeping, after_doing, sees, view_of}
-use Rattle.wb_policy.specs.Policy.{Policy, after_answer, after_question, after_turn, after_wanting, in_next_round}
+use Rattle.wb_policy.specs.Policy.{Policy, after_answer, after_beat, after_question, after_turn, after_wanting, in_next_round}
 use Rattle.wb_keeping.specs.Views.{View, holds, is_full, level, is_known}
 use Rattle.wb_policy.specs.Questions.{is_due}
 use Rattle.wb_policy.specs.Reports.{rest_after}
 use Rattle.wb_policy.specs.Turns.{name_in, nowhere}
 use Rattle.wb_policy.specs.Wanting.{is_wanted}
 use Rattle.wb_policy.specs.declared.turns.Turns.{Turns}
-use Rattle.wb_keeping.proofs.EachStep.{doing, having, having_done}
+use Rattle.wb_keeping.proofs.EachStep.{doing, having, having_done, with_policy}
 use Rattle.wb_keeping.proofs.Performed.{then_after}
 use Rattle.wb_keeping.proofs.Wanted.{lines_wanted}
 use Rattle.wb_kept_progress.proofs.Lines.{AreSmall, lines_rest, IsSmall, are_small, lines_grow}
 use Rattle.wb_kept_progress.proofs.Repairs.{came_after}
+use Rattle.wb_kept_progress.proofs.Leaving.{reports_leave}
 use Rattle.wb_kept_progress.proofs.WholeParts.{HasTurn}
 use Rattle.wb_kept_progress.proofs.AskedInCalls.{AreTold, AskFor, AskNothing, AsksFor, HasAsk, IsMore, as_it_was, asked_is, asks_as, for_nothing, hears_asks, lines_by, then_lines, IsAskOf}
 use Rattle.wb_keeping.proofs.EachLine.{answers_each, each_both, states_each, wanted_each}
@@ -91,7 +92,7 @@ record IsPlain (k : Keeping) (lines : List Line) (m : Keeping) : Type 0 where
   owed : m.policy.owed ≡ k.policy.owed
   asks : AskNothing lines
 
-answers_plain : (k : Keeping) → IsPlain k (lines_by answers k) (after_doing answers k) × ((after_doing answers k).policy.reports.due ≡ k.policy.reports.due)
+answers_plain : (k : Keeping) → IsPlain k (lines_by answers k) (after_doing answers k) × ((after_doing answers k).policy.pace.due ≡ k.policy.pace.due)
 answers_plain k = by (is_due v.now k.policy.questions.answer) (answers_each IsSmall are_small (sees k.host) k.policy) where
   v : View
   v = view_of k.host
@@ -103,13 +104,13 @@ answers_plain k = by (is_due v.now k.policy.questions.answer) (answers_each IsSm
   none = still (sees k.host) k.policy
 
   by : (b : Bool) → AreSmall (cond b some none).lines
-      → IsPlain k (cond b some none).lines (having_done (cond b some none) k) × ((having_done (cond b some none) k).policy.reports.due ≡ k.policy.reports.due)
+      → IsPlain k (cond b some none).lines (having_done (cond b some none) k) × ((having_done (cond b some none) k).policy.pace.due ≡ k.policy.pace.due)
   by true small = let r = lines_rest some.lines k.host small in
       (record { held = r.held; now = r.now; turns = refl; owed = refl; asks = states_each (IsAskOf (λ n. ⊥)) v (λ page. tt) (take 64 (pages_of v.held)) }, refl)
   by false small = (record { held = refl; now = refl; turns = refl; owed = refl; asks = tt }, refl)
 
 questions_plain : (k : Keeping)
-    → IsPlain k (lines_by asks_pages k) (after_doing asks_pages k) × ((after_doing asks_pages k).policy.reports.due ≡ k.policy.reports.due)
+    → IsPlain k (lines_by asks_pages k) (after_doing asks_pages k) × ((after_doing asks_pages k).policy.pace.due ≡ k.policy.pace.due)
 questions_plain k = by (is_due v.now k.policy.questions.ask) where
   v : View
   v = view_of k.host
@@ -121,7 +122,7 @@ questions_plain k = by (is_due v.now k.policy.questions.ask) where
   none = still (sees k.host) k.policy
 
   by : (b : Bool)
-      → IsPlain k (cond b some none).lines (having_done (cond b some none) k) × ((having_done (cond b some none) k).policy.reports.due ≡ k.policy.reports.due)
+      → IsPlain k (cond b some none).lines (having_done (cond b some none) k) × ((having_done (cond b some none) k).policy.pace.due ≡ k.policy.pace.due)
   by true = (record { held = refl; now = refl; turns = refl; owed = refl; asks = (tt, tt) }, refl)
   by false = (record { held = refl; now = refl; turns = refl; owed = refl; asks = tt }, refl)
 
@@ -129,63 +130,60 @@ rest_plain : (marks : List MarkValue) (k : Keeping) → IsPlain k (lines_by (rep
 rest_plain [] k = record { held = refl; now = refl; turns = refl; owed = refl; asks = (tt, tt) }
 rest_plain (m ∷ marks) k = record { held = refl; now = refl; turns = refl; owed = refl; asks = (tt, tt) }
 
-reports_plain : (k : Keeping) → IsPlain k (lines_by reports k) (after_doing reports k)
-reports_plain k = rest_plain (rest_after k.policy.until k.policy.told (report_of k.host.is.held k.policy.told_page)) k
+report_plain : (k : Keeping)
+    → IsPlain k (lines_by reports_due k) (after_doing reports_due k) × ((after_doing reports_due k).policy.pace.due ≡ k.policy.pace.due)
+report_plain k = (by (nat_le k.policy.reports.due (present k.host)), (reports_leave (sees k.host) k.policy).beat) where
+  by : (b : Bool) → (let d : Doing = cond b (reports (sees k.host) k.policy) (still (sees k.host) k.policy) in IsPlain k d.lines (having_done d k))
+  by true = rest_plain (rest_after k.policy.until k.policy.told (report_of k.host.is.held k.policy.told_page)) k
+  by false = record { held = refl; now = refl; turns = refl; owed = refl; asks = tt }
 
--- What is due asks for the name in turn, once a report is due, and spends for that alone.
+-- What is due asks for the name in turn, once a turn is due, and spends for that alone.
 record TakesDue (k : Keeping) (lines : List Line) (m : Keeping) : Type 0 where
   asks : AskFor (HasTurn k (present k.host)) lines
-  owed : (m.policy.owed ≡ k.policy.owed) ⊎ ((k.policy.reports.due ≤ present k.host) × (m.policy.owed ≡ spent k.policy.owed (present k.host)))
+  owed : (m.policy.owed ≡ k.policy.owed) ⊎ ((k.policy.pace.due ≤ present k.host) × (m.policy.owed ≡ spent k.policy.owed (present k.host)))
 
 -- from a host on that a plain step led to
-due_from : (k m n : Keeping) (one other : List Line) → IsPlain k one m → m.policy.reports.due ≡ k.policy.reports.due → TakesDue m other n
+due_from : (k m n : Keeping) (one other : List Line) → IsPlain k one m → m.policy.pace.due ≡ k.policy.pace.due → TakesDue m other n
     → TakesDue k (one ++ other) n
 due_from k m n one other p due d = record {
   asks = each_both (IsAskOf (HasTurn k (present k.host))) one other (for_nothing (HasTurn k (present k.host)) one p.asks)
       (asks_as (HasTurn m (present m.host)) (HasTurn k (present k.host)) had other d.asks);
   owed = ⊎_elim (λ (e : n.policy.owed ≡ m.policy.owed). inl (e ∙ p.owed))
-      (λ (e : (m.policy.reports.due ≤ present m.host) × (n.policy.owed ≡ spent m.policy.owed (present m.host))).
+      (λ (e : (m.policy.pace.due ≤ present m.host) × (n.policy.owed ≡ spent m.policy.owed (present m.host))).
       inr (in_time e.0, e.1 ∙ same_spent k.policy.owed (present k.host) m.policy.owed (present m.host) p.owed p.now)) d.owed;
 } where
-  in_time : m.policy.reports.due ≤ present m.host → k.policy.reports.due ≤ present k.host
-  in_time le = subst (λ (x : ℕ). x ≤ present k.host) due (subst (λ (x : ℕ). m.policy.reports.due ≤ x) p.now le)
+  in_time : m.policy.pace.due ≤ present m.host → k.policy.pace.due ≤ present k.host
+  in_time le = subst (λ (x : ℕ). x ≤ present k.host) due (subst (λ (x : ℕ). m.policy.pace.due ≤ x) p.now le)
 
   had : (x : NameValue) → HasTurn m (present m.host) x → HasTurn k (present k.host) x
   had x h = record { due = in_time h.due; named = same_turn k m x p.held p.turns h.named }
 
-due_taken : (k : Keeping) → TakesDue k (lines_by reports_due k) (after_doing reports_due k)
-due_taken k = by (nat_le k.policy.reports.due (present k.host)) refl where
-  some : Doing
-  some = and_then reports turn (sees k.host) k.policy
+due_taken : (k : Keeping) → TakesDue k (lines_by turns_due k) (after_doing turns_due k)
+due_taken k = by (nat_le k.policy.pace.due (present k.host)) refl where
+  -- where the clock gives a turn
+  m : Keeping
+  m = with_policy (after_beat (present k.host) k.policy) k
 
   none : Doing
   none = still (sees k.host) k.policy
 
-  m : Keeping
-  m = after_doing reports k
-
-  reported : nat_le k.policy.reports.due (present k.host) ≡ true → TakesDue k (lines_by reports k ++ lines_by turn m) (after_doing turn m)
-  reported e =
-      let p = reports_plain k in
+  turned : nat_le k.policy.pace.due (present k.host) ≡ true → TakesDue k (lines_by turn m) (after_doing turn m)
+  turned e =
       let t = turn_takes m in
       let due = leb-true _ _ e in
-      let had : (x : NameValue) → name_in_turn m.host.is.held m.policy.turns ≡ Some x → HasTurn k (present k.host) x =
-      λ x named. record { due = due; named = same_turn k m x p.held p.turns named } in
+      let had : (x : NameValue) → name_in_turn m.host.is.held m.policy.turns ≡ Some x → HasTurn k (present k.host) x = λ x named. record { due = due; named = named } in
       record {
-        asks = each_both (IsAskOf (HasTurn k (present k.host))) (lines_by reports k) (lines_by turn m) (for_nothing (HasTurn k (present k.host)) (lines_by reports k) p.asks)
-            (asks_as (λ x. name_in_turn m.host.is.held m.policy.turns ≡ Some x) (HasTurn k (present k.host)) had (lines_by turn m) t.asks);
-        owed = ⊎_elim (λ (same : (after_doing turn m).policy.owed ≡ m.policy.owed). inl (same ∙ p.owed))
-            (λ (more : (after_doing turn m).policy.owed ≡ spent m.policy.owed (present m.host)).
-            inr (due, more ∙ same_spent k.policy.owed (present k.host) m.policy.owed (present m.host) p.owed p.now)) t.owed;
+        asks = asks_as (λ x. name_in_turn m.host.is.held m.policy.turns ≡ Some x) (HasTurn k (present k.host)) had (lines_by turn m) t.asks;
+        owed = ⊎_elim (λ (same : (after_doing turn m).policy.owed ≡ m.policy.owed). inl same)
+            (λ (more : (after_doing turn m).policy.owed ≡ spent m.policy.owed (present m.host)). inr (due, more)) t.owed;
       }
 
-  by : (b : Bool) → nat_le k.policy.reports.due (present k.host) ≡ b → TakesDue k (cond b some none).lines (having_done (cond b some none) k)
-  by true e = subst (λ (n : Keeping). TakesDue k (lines_by (and_then reports turn) k) n) (sym (then_after reports turn k))
-      (subst (λ (lines : List Line). TakesDue k lines (after_doing turn m)) (sym (then_lines reports turn k)) (reported e))
+  by : (b : Bool) → nat_le k.policy.pace.due (present k.host) ≡ b → TakesDue k (cond b (turn_by_clock (sees k.host) k.policy) none).lines (having_done (cond b (turn_by_clock (sees k.host) k.policy) none) k)
+  by true e = turned e
   by false e = record { asks = tt; owed = inl refl }
 
 then_due : (first second : Transition) (k : Keeping) → IsPlain k (lines_by first k) (after_doing first k)
-    → (after_doing first k).policy.reports.due ≡ k.policy.reports.due
+    → (after_doing first k).policy.pace.due ≡ k.policy.pace.due
     → TakesDue (after_doing first k) (lines_by second (after_doing first k)) (after_doing second (after_doing first k))
     → TakesDue k (lines_by (and_then first second) k) (after_doing (and_then first second) k)
 then_due first second k plain due d =
@@ -199,14 +197,19 @@ timed_taken k =
     let a = answers_plain k in
     let m = after_doing answers k in
     let q = questions_plain m in
-    then_due answers (and_then asks_pages reports_due) k a.0 a.1 (then_due asks_pages reports_due m q.0 q.1 (due_taken (after_doing asks_pages m)))
+    let n = after_doing asks_pages m in
+    let r = report_plain n in
+    then_due answers (and_then asks_pages two) k a.0 a.1
+    (then_due asks_pages two m q.0 q.1 (then_due reports_due turns_due n r.0 r.1 (due_taken (after_doing reports_due n)))) where
+      two : Transition
+      two = and_then reports_due turns_due
 
 -- ---- a call
 
--- From one moment on it asks for what reports tell, and for the name in turn, once a report is due; it spends for that alone.
+-- From one moment on it asks for what reports tell, and for the name in turn, once a turn is due; it spends for that alone.
 pub record IsCourse (P : NameValue → Type 0) (k : Keeping) (now : ℕ) (lines : List Line) (m : Keeping) : Type 0 where
   pub asks : AskFor (λ n. P n ⊎ HasTurn k now n) lines
-  pub owed : ((n : NameValue) × Contains lines (Asks n) × P n) ⊎ ((m.policy.owed ≡ k.policy.owed) ⊎ ((k.policy.reports.due ≤ now) × (m.policy.owed ≡ spent k.policy.owed now)))
+  pub owed : ((n : NameValue) × Contains lines (Asks n) × P n) ⊎ ((m.policy.owed ≡ k.policy.owed) ⊎ ((k.policy.pace.due ≤ now) × (m.policy.owed ≡ spent k.policy.owed now)))
 
 module _ (P : NameValue → Type 0) (k : Keeping) (now : ℕ) where
   abbrev m : Keeping
@@ -230,13 +233,13 @@ module _ (P : NameValue → Type 0) (k : Keeping) (now : ℕ) where
             inl (h.0, Contains-there (Ticks now) (Asks h.0) (lines ++ lines_by timed x) (Contains-append_left lines (lines_by timed x) (Asks h.0) h.1), asked_is P lines h.0 a.asks h.1))
             (λ (e : x.policy.owed ≡ k.policy.owed). ⊎_elim
             (λ (f : (after_doing timed x).policy.owed ≡ x.policy.owed). inr (inl (f ∙ e)))
-            (λ (f : (x.policy.reports.due ≤ present x.host) × ((after_doing timed x).policy.owed ≡ spent x.policy.owed (present x.host))).
+            (λ (f : (x.policy.pace.due ≤ present x.host) × ((after_doing timed x).policy.owed ≡ spent x.policy.owed (present x.host))).
             inr (inr (in_time f.0, f.1 ∙ same_spent k.policy.owed now x.policy.owed (present x.host) e s.now)))
             t.owed)
             a.owed;
       } where
-        in_time : x.policy.reports.due ≤ present x.host → k.policy.reports.due ≤ now
-        in_time le = subst (λ (t : ℕ). t ≤ now) a.stays.due (subst (λ (t : ℕ). x.policy.reports.due ≤ t) a.stays.now le)
+        in_time : x.policy.pace.due ≤ present x.host → k.policy.pace.due ≤ now
+        in_time le = subst (λ (t : ℕ). t ≤ now) a.stays.due (subst (λ (t : ℕ). x.policy.pace.due ≤ t) a.stays.now le)
 
         had : (n : NameValue) → HasTurn x (present x.host) n → HasTurn k now n
         had n h = record { due = in_time h.due; named = same_turn k x n a.stays.held a.stays.turns h.named }

@@ -21,12 +21,12 @@ use Rattle.wb_keeping.proofs.EachLine.{learned_each, measures_each, timed_each, 
 
 -- ---- a line of a call
 
--- a request is heard only where it is handed in
+-- a request is heard only where it is handed in, and a report where one of its sender is: of its marks and echoes not all are heard. No question is.
 abbrev pub IsHeardBy : KeptLine → Datagram → Type 0
 IsHeardBy call (Draw d) = Unit {0}
-IsHeardBy call (Session sender sent page marks echoes) = Unit {0}
+IsHeardBy call (Session sender sent page marks echoes) = (now : ℕ) × (all : List MarkValue) × (told : List Echo) × (call ≡ Came now (Session sender sent page all told))
 IsHeardBy call (Request asker name) = (now : ℕ) × (call ≡ Came now (Request asker name))
-IsHeardBy call (AskPages asker) = Unit {0}
+IsHeardBy call (AskPages asker) = ⊥
 IsHeardBy call (PageState sender page marks) = Unit {0}
 
 -- a drawop is said only where the user draws, under the host's own number, and no request is
@@ -154,7 +154,7 @@ module _ (now : ℕ) (start : Opened) where
     more = and_then measuring wanting
 
     other : HasFirst call start host (and_then (performs (Hears own)) more (sees host) p).lines
-    other = one_first call start host (Hears own) (more (sees heard) p).lines tt
+    other = one_first call start host (Hears own) (more (sees heard) p).lines (now, marks, echoes, refl)
         (then_each IsSmall measuring wanting (measures_each IsSmall are_small sender (distance_in v.now (own_echo v.me echoes))) (told_each IsSmall are_small (told_names v.me page marks)) (sees heard) p)
 
   state_first : (sender : ℕ) (page : PageId) (marks : List MarkValue) (p : Policy) → HasFirst (Came now (PageState sender page marks)) start host (hears (PageState sender page marks) (sees host) p).lines

@@ -163,6 +163,7 @@ due_asked n = record {
   both = λ k m l one other a b is. b (a is);
   wants = λ name anew k is. stays_asked name anew k n is;
   turned = λ t k is. asked_as k _ n refl refl is;
+  beats = λ k due is. asked_as k _ n refl refl is;
   answers = λ k due is. asked_as k _ n (says_after (view_of k.host) (take 64 (pages_of k.host.is.held)) k.host) refl is;
   asks_pages = λ k due is. asked_as k _ n refl refl is;
   reports = λ page until told k due is. asked_as k _ n refl refl is;

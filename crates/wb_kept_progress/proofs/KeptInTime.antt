@@ -89,7 +89,7 @@ module _ (hosts : ℕ → Opening) where
     same : (part : List TimedLine) (i : ℕ) → host_after starts (performed hosts part) i ≡ (kept_at hosts (lines_of part) i).host
     same part i = (kept_is_performed hosts part).same i
 
-    holding : (n : NameValue) (time : ℕ) → AllHoldBehind starts terms (performed hosts trace) time n → AllKeptHoldBehind hosts terms trace time n
+    pub holding : (n : NameValue) (time : ℕ) → AllHoldBehind starts terms (performed hosts trace) time n → AllKeptHoldBehind hosts terms trace time n
     holding n time all newer later i split lt live =
         let f = front_of newer later in
         sym (ap (λ (h : Opened). holds h n) (same later i))

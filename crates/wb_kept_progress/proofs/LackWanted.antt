@@ -1,5 +1,5 @@
 -- What a live host lacks is wanted in time: a report tells it the greatest number of its source, or its hole has its turn.
-use Rattle.std.proofs.Common.{◌≡◌, ℕ, suc, ◌+◌, ◌-◌, ◌*◌, ◌^◌, ◌<◌, ◌≤◌, Bool, true, false, List, [], ◌∷◌, ◌++◌, ◌∙◌, Some, ap, append_assoc, arith, eqb-true, length, mul-le-mul, refl, subst, sym, true≢false}
+use Rattle.std.proofs.Common.{◌≡◌, ℕ, suc, ◌+◌, ◌-◌, ◌*◌, ◌^◌, ◌<◌, ◌≤◌, Bool, true, false, List, [], ◌∷◌, ◌++◌, ◌∙◌, Some, ap, append_assoc, arith, eqb-true, length, mul-le-mul, refl, subst, sym, true≢false, ⊎_elim}
 use Rattle.std.specs.Prelude.{◌⊎◌, ◌&&◌, Contains, filter, nat_eq, nat_le, not}
 use Rattle.std.proofs.lemmas.Bool.{leb-true, false_from_ne_true}
 use Rattle.wb_names.specs.History.{IsHeld, highest, name_of}
@@ -26,14 +26,17 @@ use Rattle.wb_policy.proofs.FairTurns.{each_number_has_its_turn}
 use Rattle.wb_policy.proofs.ToldMarks.{each_mark_is_told}
 use Rattle.wb_kept_progress.specs.Sessions.{Opening}
 use Rattle.wb_kept_progress.specs.Timed.{SaysNow, TimedLine, called_at, host_after, lines_of, performed, start_of, until}
-use Rattle.wb_kept_progress.specs.Whole.{AreCalledInOrder, AreWithin, IsHandedIn, IsHeldBySome, IsTimelySession, Sizes, report_span, there}
+use Rattle.wb_kept_progress.specs.Whole.{AreCalledInOrder, AreSoon, AreWithin, HolesAreHeld, IsHandedIn, IsHeldBySome, IsTimelySession, Sizes, there, wanting}
 use Rattle.wb_kept_progress.proofs.CallParts.{calls_end, lacked_until}
 use Rattle.wb_kept_progress.proofs.Coming.{below_top, missing_below, page_there, top_held, top_told}
-use Rattle.wb_kept_progress.proofs.NextReports.{IsBehind, IsCut, Reports, before_is, first, held_there, is_behind, ordered, quiet_before, quiet_behind, report_behind, room_there, split_there, start, still_older, still_there, tells_there, told_there, turns_there, window_there}
+use Rattle.wb_kept_progress.proofs.Beats.{ByReport, ByTurn, Kind, state_of, states_after}
+use Rattle.wb_kept_progress.proofs.OwedAndDue.{beat_there}
+use Rattle.wb_kept_progress.proofs.NextDue.{DueWithin, First, IsBehind, IsCut, before_is, cut, held_there, is_behind, next_behind, ordered, quiet_before, quiet_behind, room_there, split_there, state_there, still_older, still_there, told_there, window_there}
 use Rattle.wb_kept_progress.proofs.Repairs.{is_itself, of_opening}
 use Rattle.wb_kept_progress.proofs.StillCalls.{came_now}
 use Rattle.wb_kept_progress.proofs.Told.{told_wants}
-use Rattle.wb_kept_progress.proofs.Turning.{answers_at, in_hole, in_map}
+use Rattle.wb_kept_progress.proofs.Turning.{answers_at, in_hole, in_map, missing_is_lacked}
+use Rattle.wb_kept_progress.proofs.TurnNames.{turn_names}
 use Rattle.wb_kept_progress.proofs.WantedIn.{IsAskedInCall, LacksCredit}
 use Rattle.wb_kept_progress.proofs.WantingCalls.{wanting_in_call}
 use Rattle.wb_kept_progress.proofs.WholeParts.{HeldWasHeld, IsStill, IsWanting, LackIsWanted}
@@ -66,71 +69,90 @@ within (x ∷ newest) front [] between rest call order split lt =
 within (x ∷ newest) front (y ∷ later) between rest call order split lt =
     within newest front later between rest call order.1 (tails x y (newest ++ front) (later ++ call ∷ between) split) lt
 
-module _ (was_held : HeldWasHeld) (hosts : ℕ → Opening) (terms : Terms) (trace newest window base : List TimedLine) (sizes : Sizes)
-    (s : IsTimelySession hosts terms trace) (small : AreWithin hosts terms trace sizes) (still : IsStill hosts terms trace newest window base)
-    (settled : settled_by terms < called_at base) (from : ℕ) (since : called_at base ≤ from) where
-  abbrev span : ℕ
-  span = report_span terms
+module _ (was_held : HeldWasHeld) (hosts : ℕ → Opening) (terms : Terms) (trace newest window base : List TimedLine) (sizes : Sizes) (most : ℕ)
+    (s : IsTimelySession hosts terms trace) (small : AreWithin hosts terms trace sizes) (soonest : AreSoon hosts terms trace sizes most)
+    (still : IsStill hosts terms trace newest window base) (settled : settled_by terms < called_at base) (behind_since : sizes.since ≤ called_at base) (from : ℕ) (since : called_at base ≤ from) where
+  -- how soon the next report, or the next turn, is due, and since when; the longest from one to the next
+  abbrev pause : Kind → ℕ
+  pause ByReport = sizes.pause
+  pause ByTurn = 16000000
 
-  abbrev turns_most : ℕ
-  turns_most = sizes.slices + 2 * sizes.numbers * sizes.holes
+  abbrev since_of : Kind → ℕ
+  since_of ByReport = sizes.since
+  since_of ByTurn = terms.quiet
+
+  abbrev span : Kind → ℕ
+  span kind = pause kind + terms.late
+
+  within_pause : (kind : Kind) → DueWithin kind hosts terms trace (since_of kind) (pause kind)
+  within_pause ByReport = soonest.reports
+  within_pause ByTurn = λ newer older i split live. beat_there hosts terms trace newer older i s split live
+
+  -- by then enough have come
+  abbrev enough : ℕ
+  enough = sizes.slices * span ByReport + sizes.turning
 
   abbrev by : ℕ
-  by = from + turns_most * span + terms.delivery
+  by = from + wanting terms sizes
 
   quiet : terms.quiet < called_at base
   quiet = omega (arith, settled)
+
+  behind_first : (kind : Kind) → since_of kind ≤ called_at base
+  behind_first ByReport = behind_since
+  behind_first ByTurn = let q = quiet in omega (arith, q)
 
   abbrev held_by : ℕ → List DrawopValue
   held_by j = (there hosts base j).host.is.held
 
   -- the calls of the window behind its first moment, and the policy of a host there
-  abbrev cut_at : (k : ℕ) → Contains terms.live k → IsCut window base from
-  cut_at k live = start hosts terms trace newest window base s still quiet k live from since
+  abbrev cut_at : IsCut window base from
+  cut_at = cut window base from since
 
-  abbrev policy_at : (k : ℕ) → Contains terms.live k → Policy
-  policy_at k live = first hosts terms trace newest window base s still quiet k live from since
+  abbrev policy_at : ℕ → Policy
+  policy_at k = (there hosts (cut_at.grown ++ base) k).policy
 
-  -- a part after `count` of its reports, and the next report
-  abbrev BehindAt : (k : ℕ) → Contains terms.live k → ℕ → Type 0
-  BehindAt k live count = IsBehind hosts terms trace newest window base s still quiet k live from since count
+  module _ (kind : Kind) (k : ℕ) (live : Contains terms.live k) where
+    -- a part after `count` of them, and the next one
+    abbrev BehindAt : ℕ → Type 0
+    BehindAt count = IsBehind kind hosts terms trace newest window base (since_of kind) (pause kind) s (within_pause kind) still quiet (behind_first kind) k live from since count
 
-  behind_at : (k : ℕ) (live : Contains terms.live k) (count : ℕ) → from + count * span < called_at (window ++ base) → BehindAt k live count
-  behind_at k live count lt = is_behind hosts terms trace newest window base s still quiet k live from since count lt
+    abbrev NextAt : (count : ℕ) → BehindAt count → Type 0
+    NextAt count p = First hosts terms trace s k live kind p.front p.part
 
-  report_at : (k : ℕ) (live : Contains terms.live k) (count : ℕ) (b : BehindAt k live count) → from + suc count * span < called_at (window ++ base)
-      → (r : Reports hosts terms trace s k live b.front b.part) × (r.e.time ≤ from + suc count * span)
-  report_at k live count b lt = report_behind hosts terms trace newest window base s still quiet k live from since count b lt
+    behind_at : (count : ℕ) → from + count * span kind < called_at (window ++ base) → BehindAt count
+    behind_at count lt = is_behind kind hosts terms trace newest window base (since_of kind) (pause kind) s (within_pause kind) still quiet (behind_first kind) k live from since count lt
 
-  -- what stands at such a report
-  module _ (k : ℕ) (live : Contains terms.live k) (count : ℕ) (b : BehindAt k live count) (r : Reports hosts terms trace s k live b.front b.part) where
-    still_report : IsStill hosts terms trace newest (r.later ++ r.e ∷ r.between) b.part
-    still_report = still_there hosts terms trace newest window base s still quiet k live from since count b r
+    next_at : (count : ℕ) (p : BehindAt count) → from + suc count * span kind < called_at (window ++ base)
+        → (r : NextAt count p) × (r.e.time ≤ from + suc count * span kind)
+    next_at count p lt = next_behind kind hosts terms trace newest window base (since_of kind) (pause kind) s (within_pause kind) still quiet (behind_first kind) k live from since count p lt
 
-    split_report : trace ≡ (newest ++ r.later) ++ r.e ∷ (r.between ++ b.part)
-    split_report = split_there hosts terms trace newest window base s still quiet k live from since count b r
+    -- what stands at it
+    module _ (count : ℕ) (p : BehindAt count) (r : NextAt count p) where
+      still_next : IsStill hosts terms trace newest (r.later ++ r.e ∷ r.between) p.part
+      still_next = still_there kind hosts terms trace newest window base (since_of kind) (pause kind) s (within_pause kind) still quiet (behind_first kind) k live from since count p r
 
-    held_report : (there hosts (r.between ++ b.part) k).host.is.held ≡ held_by k
-    held_report = held_there hosts terms trace newest window base s still quiet k live from since count b r
+      split_next : trace ≡ (newest ++ r.later) ++ r.e ∷ (r.between ++ p.part)
+      split_next = split_there kind hosts terms trace newest window base (since_of kind) (pause kind) s (within_pause kind) still quiet (behind_first kind) k live from since count p r
 
-    turns_report : (there hosts (r.between ++ b.part) k).policy.turns ≡ after_turns (held_by k) count (policy_at k live).turns
-    turns_report = turns_there hosts terms trace newest window base s still quiet k live from since count b r
+      held_next : (there hosts (r.between ++ p.part) k).host.is.held ≡ held_by k
+      held_next = held_there kind hosts terms trace newest window base (since_of kind) (pause kind) s (within_pause kind) still quiet (behind_first kind) k live from since count p r
 
-    tells_report : told_of (there hosts (r.between ++ b.part) k).policy ≡ after_tellings (held_by k) count (told_of (policy_at k live))
-    tells_report = tells_there hosts terms trace newest window base s still quiet k live from since count b r
+      state_next : state_of kind (there hosts (r.between ++ p.part) k).policy ≡ states_after kind (held_by k) count (state_of kind (policy_at k))
+      state_next = state_there kind hosts terms trace newest window base (since_of kind) (pause kind) s (within_pause kind) still quiet (behind_first kind) k live from since count p r
 
-    window_report : window ≡ r.later ++ r.e ∷ (r.between ++ b.grown)
-    window_report = window_there hosts terms trace newest window base s still quiet k live from since count b r
+      window_next : window ≡ r.later ++ r.e ∷ (r.between ++ p.grown)
+      window_next = window_there kind hosts terms trace newest window base (since_of kind) (pause kind) s (within_pause kind) still quiet (behind_first kind) k live from since count p r
 
-    before_report : r.between ++ b.part ≡ (r.between ++ b.grown) ++ base
-    before_report = before_is hosts terms trace newest window base s still quiet k live from since count b r
+      before_next : r.between ++ p.part ≡ (r.between ++ p.grown) ++ base
+      before_next = before_is kind hosts terms trace newest window base (since_of kind) (pause kind) s (within_pause kind) still quiet (behind_first kind) k live from since count p r
 
-    -- what it tells
-    abbrev told_in : Datagram
-    told_in =
-        let h = there hosts (r.between ++ b.part) k in
-        Session h.host.is.number r.reporting.moment (page_in_turn h.host.is.held (told_of h.policy))
-        (marks_in_turn h.host.is.held (told_of h.policy)) r.reporting.echoes
+  -- what a report tells
+  abbrev told_in : (k : ℕ) (live : Contains terms.live k) (count : ℕ) (p : BehindAt ByReport k live count) → NextAt ByReport k live count p → Datagram
+  told_in k live count p r =
+      let h = there hosts (r.between ++ p.part) k in
+      Session h.host.is.number r.comes.moment (page_in_turn h.host.is.held (told_of h.policy))
+      (marks_in_turn h.host.is.held (told_of h.policy)) r.comes.echoes
 
   abbrev WantedBy : ℕ → Type 0
   WantedBy i = IsWanting hosts terms trace window base i from by
@@ -147,20 +169,42 @@ module _ (was_held : HeldWasHeld) (hosts : ℕ → Opening) (terms : Terms) (tra
   cut_quiet c = quiet_behind hosts terms trace s (newest ++ c.front) c.grown base (cut_split c) quiet
 
   module _ (before_end : by < called_at (window ++ base)) (i : ℕ) (live : Contains terms.live i) where
-    -- `count` + 1 reports come before the end
-    in_time : (count : ℕ) → suc count ≤ turns_most → from + suc count * span < called_at (window ++ base)
-    in_time count le = let m = more_spans (suc count) turns_most span le in omega (arith, m, before_end)
+    -- `count` + 1 of them come before the end
+    in_time : (kind : Kind) (count : ℕ) → suc count * span kind ≤ enough → from + suc count * span kind < called_at (window ++ base)
+    in_time kind count le = omega (arith, le, before_end)
 
-    in_time_at_least : (count : ℕ) → suc count ≤ turns_most → from + count * span < called_at (window ++ base)
-    in_time_at_least count le = let m = more_spans (suc count) turns_most span le in let n = more_spans count (suc count) span (omega arith) in omega (arith, m, n, before_end)
+    in_time_at_least : (kind : Kind) (count : ℕ) → suc count * span kind ≤ enough → from + count * span kind < called_at (window ++ base)
+    in_time_at_least kind count le = let n = more_spans count (suc count) (span kind) (omega arith) in omega (arith, le, n, before_end)
 
     -- ---- the turn of a number that is missing
 
-    by_turn : (n : NameValue) → IsHeldBySome hosts terms trace n → holds (held_by i) n ≡ false → IsMissing (held_by i) n.page [] n.source n.seq
-        → WantedBy i
-    by_turn n held lacks missing =
-        let p = policy_at i live in
-        let st = cut_at i live in
+    -- the call in which it has its turn
+    at_turn : (n : NameValue) → IsHeldBySome hosts terms trace n → holds (held_by i) n ≡ false → (count : ℕ) → suc count * span ByTurn ≤ enough
+        → (p : BehindAt ByTurn i live count)
+        → name_in_turn (held_by i) (after_turns (held_by i) count (policy_at i).turns) ≡ Some n → WantedBy i
+    at_turn n held lacks count fits p n_is =
+        let found = next_at ByTurn i live count p (in_time ByTurn count fits) in
+        wanted_at n held lacks count fits p n_is found.0 found.1 where
+          wanted_at : (n : NameValue) → IsHeldBySome hosts terms trace n → holds (held_by i) n ≡ false → (count : ℕ) → suc count * span ByTurn ≤ enough → (p : BehindAt ByTurn i live count)
+              → name_in_turn (held_by i) (after_turns (held_by i) count (policy_at i).turns) ≡ Some n
+              → (r : NextAt ByTurn i live count p) → r.e.time ≤ from + suc count * span ByTurn → WantedBy i
+          wanted_at n held lacks count fits p n_is r soon =
+              let older = r.between ++ p.part in
+              let k = there hosts older i in
+              let k_held = held_next ByTurn i live count p r in
+              let wants = r.comes.wants n (ap (λ (h : List DrawopValue). holds h n) k_held ∙ lacks)
+              (room_there hosts terms trace s (newest ++ r.later) older r.e i (split_next ByTurn i live count p r) live (quiet_before hosts terms trace s (newest ++ r.later) r.between p.part r.e (split_next ByTurn i live count p r) p.quiet))
+              (ap (λ (h : List DrawopValue). name_in_turn h k.policy.turns) k_held ∙ ap (name_in_turn (held_by i)) (state_next ByTurn i live count p r) ∙ n_is) in
+              let m = fits in
+              wanting_in_call hosts terms trace i n held window base r.later (r.between ++ p.grown) older r.e from by
+              (window_next ByTurn i live count p r) (before_next ByTurn i live count p r) r.place (subst (IsNowAt terms r.e.time i) (sym r.comes.now_is) r.now) wants (p.behind r.later r.between r.e r.split)
+              (omega (arith, soon, m))
+
+    by_its_turn : (n : NameValue) → IsHeldBySome hosts terms trace n → holds (held_by i) n ≡ false → IsMissing (held_by i) n.page [] n.source n.seq
+        → 2 * sizes.numbers * sizes.holes * span ByTurn ≤ sizes.turning → WantedBy i
+    by_its_turn n held lacks missing long =
+        let p = policy_at i in
+        let st = cut_at in
         let h = in_hole (held_by i) n missing in
         let hole = hole_on n.page h.gap in
         let first_number = h.first in
@@ -173,37 +217,37 @@ module _ (was_held : HeldWasHeld) (hosts : ℕ → Opening) (terms : Terms) (tra
         let count = turn.0 in
         let less = turn.1 in
         let most = more_turns (h.gap.last + 1 - h.gap.first) sizes.numbers (length (holes_of (held_by i))) sizes.holes numbers holes in
-        let fits : suc count ≤ turns_most =
-        under count (2 * (h.gap.last + 1 - h.gap.first) * length (holes_of (held_by i))) (2 * sizes.numbers * sizes.holes) sizes.slices less most in
-        let b = behind_at i live count (in_time_at_least count fits) in
+        let fits : suc count * span ByTurn ≤ enough =
+        under (sizes.slices * span ByReport) (more_spans (suc count) (2 * sizes.numbers * sizes.holes) (span ByTurn) (one_less count (2 * (h.gap.last + 1 - h.gap.first) * length (holes_of (held_by i))) (2 * sizes.numbers * sizes.holes) less most)) long in
+        let b = behind_at ByTurn i live count (in_time_at_least ByTurn count fits) in
         let n_is = turn.2 ∙ ap (λ (source : ℕ). Some (name_of n.page source n.seq)) h.source in
-        at_report n held lacks count fits b n_is where
+        at_turn n held lacks count fits b n_is where
           few_rounds : (round numbers most : ℕ) → numbers ≤ most → round + 2 * most < 2 ^ 32 → round + 2 * numbers < 2 ^ 32
           few_rounds round numbers most le lt = omega (arith, le, lt)
 
-          under : (count a b slices : ℕ) → count < a → a ≤ b → suc count ≤ slices + b
-          under count a b slices lt le = omega (arith, lt, le)
+          one_less : (count a b : ℕ) → count < a → a ≤ b → suc count ≤ b
+          one_less count a b lt le = omega (arith, lt, le)
 
-          at_report : (n : NameValue) → IsHeldBySome hosts terms trace n → holds (held_by i) n ≡ false → (count : ℕ) → suc count ≤ turns_most
-              → (b : BehindAt i live count)
-              → name_in_turn (held_by i) (after_turns (held_by i) count (policy_at i live).turns) ≡ Some n → WantedBy i
-          at_report n held lacks count fits b n_is =
-              let found = report_at i live count b (in_time count fits) in
-              wanted_at n held lacks count fits b n_is found.0 found.1 where
-                wanted_at : (n : NameValue) → IsHeldBySome hosts terms trace n → holds (held_by i) n ≡ false → (count : ℕ) → suc count ≤ turns_most → (b : BehindAt i live count)
-                    → name_in_turn (held_by i) (after_turns (held_by i) count (policy_at i live).turns) ≡ Some n
-                    → (r : Reports hosts terms trace s i live b.front b.part) → r.e.time ≤ from + suc count * span → WantedBy i
-                wanted_at n held lacks count fits b n_is r soon =
-                    let older = r.between ++ b.part in
-                    let k = there hosts older i in
-                    let k_held = held_report i live count b r in
-                    let wants = r.reporting.wants n (ap (λ (h : List DrawopValue). holds h n) k_held ∙ lacks)
-                    (room_there hosts terms trace s (newest ++ r.later) older r.e i (split_report i live count b r) live (quiet_before hosts terms trace s (newest ++ r.later) r.between b.part r.e (split_report i live count b r) b.quiet))
-                    (ap (λ (h : List DrawopValue). name_in_turn h k.policy.turns) k_held ∙ ap (name_in_turn (held_by i)) (turns_report i live count b r) ∙ n_is) in
-                    let m = more_spans (suc count) turns_most span fits in
-                    wanting_in_call hosts terms trace i n held window base r.later (r.between ++ b.grown) older r.e from by
-                    (window_report i live count b r) (before_report i live count b r) r.place (subst (IsNowAt terms r.e.time i) (sym r.reporting.now_is) r.now) wants (b.behind r.later r.between r.e r.split)
-                    (omega (arith, soon, m))
+          under : {a b c : ℕ} (slices : ℕ) → a ≤ b → b ≤ c → a ≤ slices + c
+          under slices le more = omega (arith, le, more)
+
+    -- the next turn is of one that is held
+    by_next_turn : (n : NameValue) → IsMissing (held_by i) n.page [] n.source n.seq → span ByTurn ≤ sizes.turning → HolesAreHeld hosts terms trace → WantedBy i
+    by_next_turn n missing soon are_held =
+        let p = policy_at i in
+        let h = in_hole (held_by i) n missing in
+        let next = turn_names (held_by i) p.turns (hole_on n.page h.gap) h.there in
+        let m = next.0 in
+        let fits : 1 * span ByTurn ≤ enough = omega (arith, soon) in
+        let b = behind_at ByTurn i live 0 (in_time_at_least ByTurn 0 fits) in
+        at_turn m (are_held (newest ++ window) base i m split_base live settled next.2) (missing_is_lacked (held_by i) m next.2) 0 fits b next.1
+
+    by_turn : (n : NameValue) → IsHeldBySome hosts terms trace n → holds (held_by i) n ≡ false → IsMissing (held_by i) n.page [] n.source n.seq
+        → WantedBy i
+    by_turn n held lacks missing = ⊎_elim
+        (λ (all : 2 * sizes.numbers * sizes.holes * span ByTurn ≤ sizes.turning). by_its_turn n held lacks missing all)
+        (λ (any : (span ByTurn ≤ sizes.turning) × HolesAreHeld hosts terms trace). by_next_turn n missing any.0 any.1)
+        soonest.turns
 
     -- ---- a report tells the greatest number of a source
 
@@ -222,7 +266,7 @@ module _ (was_held : HeldWasHeld) (hosts : ℕ → Opening) (terms : Terms) (tra
       mark = top_mark (held_by j) page d.name.source
 
       abbrev u : Told
-      u = told_of (policy_at j live_j)
+      u = told_of (policy_at j)
 
       -- among the names of a report
       in_names : (me : ℕ) (told : PageId) (marks : List MarkValue) → told ≡ page → Contains marks mark → Contains (told_names me told marks) top_name
@@ -245,28 +289,31 @@ module _ (was_held : HeldWasHeld) (hosts : ℕ → Opening) (terms : Terms) (tra
 
       -- `count` reports come before the one that tells it
       record IsToldAt (count : ℕ) : Type 0 where
-        fits : suc count ≤ turns_most
+        fits : suc count * span ByReport ≤ enough
         page_is : page_in_turn (held_by j) (after_tellings (held_by j) count u) ≡ page
         among : Contains (marks_in_turn (held_by j) (after_tellings (held_by j) count u)) mark
 
       told_at : (count : ℕ) × IsToldAt count
       told_at =
-          let st = cut_at j live_j in
+          let st = cut_at in
           let same = still.same st.front st.grown j st.split live_j in
           let slices : slices_of (held_by j) + slices_on (held_by j) u.page ≤ sizes.slices =
           subst (λ (h : List DrawopValue). slices_of h + slices_on h u.page ≤ sizes.slices) same
           (small.slices (newest ++ st.front) (st.grown ++ base) j (cut_split st) live_j (cut_quiet st)) in
           let t = each_mark_is_told (held_by j) u page mark (page_there (held_by j) d there_d counted) (top_told (held_by j) d there_d counted) in
           let less = t.1 in
-          (t.0, record { fits = under t.0 (slices_of (held_by j) + slices_on (held_by j) u.page) sizes.slices (2 * sizes.numbers * sizes.holes) less slices; page_is = t.2; among = t.3 }) where
-            under : (count a slices b : ℕ) → count < a → a ≤ slices → suc count ≤ slices + b
-            under count a slices b lt le = omega (arith, lt, le)
+          (t.0, record { fits = under (more_spans (suc t.0) sizes.slices (span ByReport) (one_less t.0 (slices_of (held_by j) + slices_on (held_by j) u.page) sizes.slices less slices)); page_is = t.2; among = t.3 }) where
+            one_less : (count a slices : ℕ) → count < a → a ≤ slices → suc count ≤ slices
+            one_less count a slices lt le = omega (arith, lt, le)
+
+            under : {a b : ℕ} → a ≤ b → a ≤ b + sizes.turning
+            under le = omega (arith, le)
 
       module _ (lacks : holds (held_by i) top_name ≡ false) (held : IsHeldBySome hosts terms trace top_name) where
         -- the report of it is handed in, and then it is wanted
         handed_in : (count : ℕ) → IsToldAt count
-            → (b : BehindAt j live_j count) (r : Reports hosts terms trace s j live_j b.front b.part)
-            → r.e.time ≤ from + suc count * span
+            → (b : BehindAt ByReport j live_j count) (r : NextAt ByReport j live_j count b)
+            → r.e.time ≤ from + suc count * span ByReport
             → IsHandedIn (newest ++ r.later) i (r.e.time + terms.delivery) (told_in j live_j count b r) → WantedBy i
         handed_in count t b r soon h =
             wanting_in_call hosts terms trace i top_name held window base c.0
@@ -288,17 +335,17 @@ module _ (was_held : HeldWasHeld) (hosts : ℕ → Opening) (terms : Terms) (tra
               kj = there hosts (r.between ++ b.part) j
 
               st_all : IsStill hosts terms trace newest (r.later ++ more) b.part
-              st_all = still_report j live_j count b r
+              st_all = still_next ByReport j live_j count b r
 
               st_later : IsStill hosts terms trace newest r.later part
               st_later = still_older hosts terms trace newest r.later more b.part st_all
 
               last : called_at (window ++ base) ≡ called_at (r.later ++ part)
-              last = ap called_at (ap (λ (t : List TimedLine). t ++ base) (window_report j live_j count b r) ∙ append_assoc r.later (more ++ b.grown) base
-                  ∙ ap (λ (t : List TimedLine). r.later ++ r.e ∷ t) (sym (before_report j live_j count b r)))
+              last = ap called_at (ap (λ (t : List TimedLine). t ++ base) (window_next ByReport j live_j count b r) ∙ append_assoc r.later (more ++ b.grown) base
+                  ∙ ap (λ (t : List TimedLine). r.later ++ r.e ∷ t) (sym (before_next ByReport j live_j count b r)))
 
               in_by : h.call.time ≤ by
-              in_by = let at = h.soon in let m = more_spans (suc count) turns_most span t.fits in omega (arith, at, soon, m)
+              in_by = let at = h.soon in let m = t.fits in omega (arith, at, soon, m)
 
               order : AreCalledInOrder (newest ++ (r.later ++ part))
               order = subst AreCalledInOrder st_later.split s.order
@@ -308,11 +355,11 @@ module _ (was_held : HeldWasHeld) (hosts : ℕ → Opening) (terms : Terms) (tra
 
               split_w : window ≡ c.0 ++ h.call ∷ (h.between ++ (more ++ b.grown))
               split_w =
-                  window_report j live_j count b r ∙ ap (λ (t : List TimedLine). t ++ (more ++ b.grown)) c.1
+                  window_next ByReport j live_j count b r ∙ ap (λ (t : List TimedLine). t ++ (more ++ b.grown)) c.1
                   ∙ append_assoc c.0 (h.call ∷ h.between) (more ++ b.grown)
 
               is_w : older ≡ (h.between ++ (more ++ b.grown)) ++ base
-              is_w = ap (λ (t : List TimedLine). h.between ++ r.e ∷ t) (before_report j live_j count b r) ∙ sym (append_assoc h.between (more ++ b.grown) base)
+              is_w = ap (λ (t : List TimedLine). h.between ++ r.e ∷ t) (before_next ByReport j live_j count b r) ∙ sym (append_assoc h.between (more ++ b.grown) base)
 
               whole : trace ≡ (newest ++ c.0) ++ h.call ∷ older
               whole =
@@ -322,7 +369,7 @@ module _ (was_held : HeldWasHeld) (hosts : ℕ → Opening) (terms : Terms) (tra
               quiet_older : terms.quiet < called_at older
               quiet_older =
                   quiet_before hosts terms trace s (newest ++ c.0) h.between part h.call whole
-                  (quiet_behind hosts terms trace s (newest ++ r.later) more b.part (split_report j live_j count b r) b.quiet)
+                  (quiet_behind hosts terms trace s (newest ++ r.later) more b.part (split_next ByReport j live_j count b r) b.quiet)
 
               same_place : (a b : ℕ) → a ≡ b → nat_eq a b ≡ true
               same_place a b e = subst (λ (x : ℕ). nat_eq a x ≡ true) e (is_itself a)
@@ -333,10 +380,10 @@ module _ (was_held : HeldWasHeld) (hosts : ℕ → Opening) (terms : Terms) (tra
                   ∙ st_all.same r.later more i refl live ∙ b.kept i live
 
               kj_held : kj.host.is.held ≡ held_by j
-              kj_held = held_report j live_j count b r
+              kj_held = held_next ByReport j live_j count b r
 
               kj_told : told_of kj.policy ≡ after_tellings (held_by j) count u
-              kj_told = tells_report j live_j count b r
+              kj_told = state_next ByReport j live_j count b r
 
               told_page : PageId
               told_page = page_in_turn kj.host.is.held (told_of kj.policy)
@@ -360,7 +407,7 @@ module _ (was_held : HeldWasHeld) (hosts : ℕ → Opening) (terms : Terms) (tra
 
               told_so : IsAskedInCall top_name (came h.now report) k ⊎ LacksCredit (after_doing (came h.now report) k)
               told_so =
-                  told_wants k h.now kj.host.is.number r.reporting.moment told_page marks r.reporting.echoes other top_name
+                  told_wants k h.now kj.host.is.number r.comes.moment told_page marks r.comes.echoes other top_name
                   (in_names k.host.is.number told_page marks page_is among) (record {
                     answers_held = answers_at hosts (lines_of older) i;
                     lacks = ap (λ (x : List DrawopValue). holds x top_name) k_held ∙ lacks;
@@ -385,25 +432,25 @@ module _ (was_held : HeldWasHeld) (hosts : ℕ → Opening) (terms : Terms) (tra
         by_report =
             let t = told_at in
             let count = t.0 in
-            let b = behind_at j live_j count (in_time_at_least count t.1.fits) in
-            let found = report_at j live_j count b (in_time count t.1.fits) in
+            let b = behind_at ByReport j live_j count (in_time_at_least ByReport count t.1.fits) in
+            let found = next_at ByReport j live_j count b (in_time ByReport count t.1.fits) in
             told_by count t.1 b found.0 found.1 where
               told_by : (count : ℕ) → IsToldAt count
-                  → (b : BehindAt j live_j count) (r : Reports hosts terms trace s j live_j b.front b.part)
-                  → r.e.time ≤ from + suc count * span → WantedBy i
+                  → (b : BehindAt ByReport j live_j count) (r : NextAt ByReport j live_j count b)
+                  → r.e.time ≤ from + suc count * span ByReport → WantedBy i
               told_by count t b r soon =
                   let older = r.between ++ b.part in
                   let at_j : r.e.at.place ≡ j = eqb-true r.e.at.place j r.place in
                   let sent =
                   subst (λ (p : ℕ). Contains (sent_by_doing (doing_of r.e.at.line) (there hosts older p)) (told_in j live_j count b r))
-                  (sym at_j) r.reporting.sends in
+                  (sym at_j) r.comes.sends in
                   let first = b.behind r.later r.between r.e r.split in
-                  let m = more_spans (suc count) turns_most span t.fits in
+                  let m = t.fits in
                   let end = calls_end newest (window ++ base) (subst AreCalledInOrder still.split s.order) in
                   let last = ap called_at still.split in
                   let q = quiet in
                   handed_in count t b r soon
-                  (s.delivered (newest ++ r.later) older r.e i (told_in j live_j count b r) (split_report j live_j count b r) live (λ same. differ (sym at_j ∙ same))
+                  (s.delivered (newest ++ r.later) older r.e i (told_in j live_j count b r) (split_next ByReport j live_j count b r) live (λ same. differ (sym at_j ∙ same))
                   (omega (arith, q, first, since)) sent (omega (arith, soon, m, end, last, before_end)))
 
       -- which of both
@@ -464,7 +511,7 @@ module _ (was_held : HeldWasHeld) (hosts : ℕ → Opening) (terms : Terms) (tra
 
 pub lack_is_wanted : HeldWasHeld → LackIsWanted
 lack_is_wanted was_held hosts terms trace newest window base sizes wait most i from n all still late live held lacks since before_end =
-    lack_is_wanted_here was_held hosts terms trace newest window base sizes all.session all.within still
-    (settled terms (called_at base) wait all.session.reported late) from since before_end i live n held lacks where
-      settled : (terms : Terms) (time wait : ℕ) → 1 ≤ terms.reporting → known_from terms + wait + repairing terms ≤ time → settled_by terms < time
-      settled terms time wait some le = omega (arith, some, le)
+    lack_is_wanted_here was_held hosts terms trace newest window base sizes most all.session all.within all.soon still
+    (settled terms (called_at base) wait late.known) late.since from since before_end i live n held lacks where
+      settled : (terms : Terms) (time wait : ℕ) → known_from terms + wait + repairing terms ≤ time → settled_by terms < time
+      settled terms time wait le = omega (arith, le)

@@ -1,26 +1,27 @@
--- What the parts of a call leave as it was: turns, what is owed, the last report, and when the next one is due.
+-- What the parts of a call leave as it was: turns, what is owed, the last report, and when the next report and the next turn are due.
 use Rattle.std.proofs.Common.{◌≡◌, ℕ, ◌+◌, ◌/◌, ◌≤◌, Bool, true, false, cond, List, [], ◌∷◌, ◌++◌, ◌∙◌, Option, Some, None, arith, map, refl}
-use Rattle.std.specs.Prelude.{◌||◌, ◌%◌, length, max, min, nat_eq, nat_lt, take}
+use Rattle.std.specs.Prelude.{◌||◌, ◌%◌, length, max, min, nat_eq, nat_le, nat_lt, take}
 use Rattle.wb_names.specs.Values.{DrawopValue, MarkValue, NameValue}
 use Rattle.wb_names.specs.declared.echo.Echo.{Echo}
 use Rattle.wb_names.specs.declared.name.PageId.{PageId}
 use Rattle.wb_codec.specs.declared.datagram.Datagram.{Datagram}
 use Rattle.wb_codec.specs.declared.datagram.Datagram.TheVariants.{Draw, Session, Request, AskPages, PageState}
-use Rattle.wb_gaps.specs.Answers.{pages_of}
+use Rattle.wb_gaps.specs.Answers.{pages_of, report_of}
 use Rattle.wb_gaps.specs.Holes.{hole_after}
 use Rattle.wb_gaps.specs.declared.holes.Hole.{Hole}
 use Rattle.wb_policy.specs.Fairness.{Told}
 use Rattle.wb_keeping.specs.Fairness.{AnswersWhatIsHeld}
 use Rattle.wb_policy.specs.Choices.{distance_in, own_echo, own_marks, told_names}
-use Rattle.wb_keeping.specs.Kept.{Arrives, Doing, Hears, Line, Says, Transition, and_then, answers, asks_pages, end, hears, hears_session, hears_some, hears_state, is_begun, is_unasked, learned, measures, of_other, paid_for, performs, reports_rest, state_of, still, takes, takes_question, turn, turn_to, want, want_near, want_told, hears_request}
+use Rattle.wb_keeping.specs.Kept.{Arrives, Doing, Hears, Line, Says, Transition, and_then, answers, asks_pages, end, hears, hears_session, hears_some, hears_state, is_begun, is_unasked, learned, measures, of_other, paid_for, performs, reports, reports_due, reports_rest, state_of, still, takes, takes_question, turn, turn_if, turn_to, turns_due, want, want_near, want_told, hears_request}
 use Rattle.wb_keeping.specs.Performing.{Keeping, after_doing, sees}
-use Rattle.wb_policy.specs.Policy.{Policy, after_answer, after_question, after_state, after_taking_up, after_turn, after_wanting, in_next_round}
+use Rattle.wb_policy.specs.Policy.{Policy, after_answer, after_beat, after_question, after_state, after_taking_up, after_turn, after_wanting, in_next_round}
 use Rattle.wb_keeping.specs.Views.{View, holds, is_asked, is_full}
+use Rattle.wb_policy.specs.Pace.{gap_within}
 use Rattle.wb_policy.specs.Questions.{is_due, is_to_answer}
-use Rattle.wb_policy.specs.Reports.{next_report}
+use Rattle.wb_policy.specs.Reports.{next_report, rest_after}
 use Rattle.wb_policy.specs.Turns.{name_in, nowhere}
 use Rattle.wb_policy.specs.Words.{word_of}
-use Rattle.wb_keeping.proofs.Wanted.{is_wanted_here, lacks_here, lines_wanted, near_here, with_room_done}
+use Rattle.wb_keeping.proofs.Wanted.{is_wanted_here, lines_wanted, near_here, with_room_done}
 use Rattle.wb_keeping.proofs.WantedNames.{lines_answer_held}
 
 -- it answers for what it holds alone
@@ -33,11 +34,12 @@ told_of p = record { page = p.told_page; last = p.told; until = p.until }
 
 -- ---- what is due before a report, and a report
 
--- What a policy has due before it reports leaves its turns, its reports and what it owes.
+-- What a policy has due before it reports leaves its turns, its reports, their moments and what it owes.
 pub record Leaves (p q : Policy) : Type 0 where
   pub turns : q.turns ≡ p.turns
   pub owed : q.owed ≡ p.owed
   pub due : q.reports.due ≡ p.reports.due
+  pub beat : q.pace.due ≡ p.pace.due
   pub told : told_of q ≡ told_of p
 
 either : (p : Policy) (b : Bool) (x y : Doing) → Leaves p x.policy → Leaves p y.policy → Leaves p (cond b x y).policy
@@ -48,17 +50,29 @@ pub answers_leave : (see : List Line → View) (p : Policy) → Leaves p (answer
 answers_leave see p =
     let v = see [] in
     either p (is_due v.now p.questions.answer) (record { policy = after_answer v.now p; lines = map (λ (page : PageId). Says (state_of v page)) (take 64 (pages_of v.held)) }) (still see p)
-    (record { turns = refl; owed = refl; due = refl; told = refl }) (record { turns = refl; owed = refl; due = refl; told = refl })
+    (record { turns = refl; owed = refl; due = refl; beat = refl; told = refl }) (record { turns = refl; owed = refl; due = refl; beat = refl; told = refl })
 
 pub asks_leave : (see : List Line → View) (p : Policy) → Leaves p (asks_pages see p).policy
 asks_leave see p =
     let v = see [] in
     either p (is_due v.now p.questions.ask) (record { policy = after_question v.now p; lines = Says (AskPages v.me) ∷ [] }) (still see p)
-    (record { turns = refl; owed = refl; due = refl; told = refl }) (record { turns = refl; owed = refl; due = refl; told = refl })
+    (record { turns = refl; owed = refl; due = refl; beat = refl; told = refl }) (record { turns = refl; owed = refl; due = refl; beat = refl; told = refl })
 
-pub rest_leaves : (marks : List MarkValue) (see : List Line → View) (p : Policy) → ((reports_rest marks see p).policy.turns ≡ p.turns) × ((reports_rest marks see p).policy.owed ≡ p.owed)
-rest_leaves [] see p = (refl, refl)
-rest_leaves (m ∷ marks) see p = (refl, refl)
+-- a report leaves turns, their moment and what is owed
+pub record LeavesTurns (p q : Policy) : Type 0 where
+  pub turns : q.turns ≡ p.turns
+  pub owed : q.owed ≡ p.owed
+  pub beat : q.pace.due ≡ p.pace.due
+
+rest_leaves : (marks : List MarkValue) (see : List Line → View) (p : Policy) → LeavesTurns p (reports_rest marks see p).policy
+rest_leaves [] see p = record { turns = refl; owed = refl; beat = refl }
+rest_leaves (m ∷ marks) see p = record { turns = refl; owed = refl; beat = refl }
+
+pub reports_leave : (see : List Line → View) (p : Policy) → LeavesTurns p (reports_due see p).policy
+reports_leave see p = by (nat_le p.reports.due (see []).now) where
+  by : (b : Bool) → LeavesTurns p (let d : Doing = cond b (reports see p) (still see p) in d.policy)
+  by true = rest_leaves (rest_after p.until p.told (report_of (see []).held p.told_page)) see p
+  by false = record { turns = refl; owed = refl; beat = refl }
 
 -- a report is followed by the next within 96 seconds, and a second later at least
 pub next_soon : (now sum word : ℕ) → next_report now (min (max sum 2000000) 64000000) (word % (min (max sum 2000000) 64000000 + 1)) ≤ now + 96000000
@@ -82,17 +96,25 @@ pub rest_late : (marks : List MarkValue) (see : List Line → View) (p : Policy)
 rest_late [] see p = next_late (see []).now _ _
 rest_late (m ∷ marks) see p = next_late (see []).now _ _
 
--- ---- what is heard, asked for and turned to tells nothing, and puts no report off
+-- the next turn is 1 to 16 seconds after one
+pub gap_least : (gap : ℕ) → 1000000 ≤ gap_within gap
+gap_least gap = omega arith
+
+pub gap_most : (gap : ℕ) → gap_within gap ≤ 16000000
+gap_most gap = omega arith
+
+-- ---- what is heard, asked for and turned to tells nothing, and puts neither a report nor a turn off
 
 pub record SameReports (p q : Policy) : Type 0 where
   pub due : q.reports.due ≡ p.reports.due
+  pub beat : q.pace.due ≡ p.pace.due
   pub told : told_of q ≡ told_of p
 
 same : (p : Policy) → SameReports p p
-same p = record { due = refl; told = refl }
+same p = record { due = refl; beat = refl; told = refl }
 
 behind : (p q r : Policy) → SameReports p q → SameReports q r → SameReports p r
-behind p q r one other = record { due = other.due ∙ one.due; told = other.told ∙ one.told }
+behind p q r one other = record { due = other.due ∙ one.due; beat = other.beat ∙ one.beat; told = other.told ∙ one.told }
 
 choose : (p : Policy) (b : Bool) (x y : Doing) → SameReports p x.policy → SameReports p y.policy → SameReports p (cond b x y).policy
 choose p true x y s t = s
@@ -110,7 +132,7 @@ both first second f s see p =
 want_tells : (name : NameValue) (anew : Bool) → TellsNothing (want name anew)
 want_tells name anew see p =
     choose p (is_wanted_here name anew see p) (record { policy = after_wanting (see []).now p; lines = lines_wanted name anew see p }) (still see p)
-    (record { due = refl; told = refl }) (same p)
+    (record { due = refl; beat = refl; told = refl }) (same p)
 
 told_tells : (names : List NameValue) → TellsNothing (want_told names)
 told_tells [] see p = same p
@@ -125,32 +147,43 @@ near_tells (name ∷ names) see p =
     (near_tells names see p)
 
 -- the same from another policy on, which reported nothing
-from : (p q r : Policy) → q.reports.due ≡ p.reports.due → told_of q ≡ told_of p → SameReports q r → SameReports p r
-from p q r due told s = behind p q r (record { due = due; told = told }) s
+from : (p q r : Policy) → q.reports.due ≡ p.reports.due → q.pace.due ≡ p.pace.due → told_of q ≡ told_of p → SameReports q r → SameReports p r
+from p q r due beat told s = behind p q r (record { due = due; beat = beat; told = told }) s
 
 turn_to_tells : (next first : Option Hole) → TellsNothing (turn_to next first)
-turn_to_tells (Some h) first see p = from p (after_turn h p) _ refl refl (want_tells (name_in p.turns.round h) true see (after_turn h p))
+turn_to_tells (Some h) first see p = from p (after_turn h p) _ refl refl refl (want_tells (name_in p.turns.round h) true see (after_turn h p))
 turn_to_tells None (Some h) see p =
     let q = in_next_round p in
-    from p (after_turn h q) _ refl refl (want_tells (name_in q.turns.round h) true see (after_turn h q))
-turn_to_tells None None see p = record { due = refl; told = refl }
+    from p (after_turn h q) _ refl refl refl (want_tells (name_in q.turns.round h) true see (after_turn h q))
+turn_to_tells None None see p = record { due = refl; beat = refl; told = refl }
 
 pub turn_tells : TellsNothing turn
 turn_tells see p = turn_to_tells (hole_after (see []).held p.turns.page p.turns.source p.turns.number) (hole_after (see []).held nowhere 0 0) see p
 
+-- a turn by the clock puts the next one off, and tells nothing
+pub turns_tell : (see : List Line → View) (p : Policy) → ((turns_due see p).policy.reports.due ≡ p.reports.due) × (told_of (turns_due see p).policy ≡ told_of p)
+turns_tell see p = by (nat_le p.pace.due (see []).now) where
+  q : Policy
+  q = after_beat (see []).now p
+
+  by : (b : Bool) → (let d : Doing = cond b (turn see q) (still see p) in (d.policy.reports.due ≡ p.reports.due) × (told_of d.policy ≡ told_of p))
+  by true = let t = turn_tells see q in (t.due, t.told)
+  by false = (refl, refl)
+
 paid_tells : (was : Bool) (p : Policy) → SameReports p (paid_for was p)
-paid_tells true p = record { due = refl; told = refl }
+paid_tells true p = record { due = refl; beat = refl; told = refl }
 paid_tells false p = same p
+
+turn_if_tells : (was : Bool) → TellsNothing (turn_if was)
+turn_if_tells true see p = turn_tells see p
+turn_if_tells false see p = same p
 
 learned_tells : (name : NameValue) (was : Bool) → TellsNothing (learned name was)
 learned_tells name was see p =
     let near = near_here name was see p in
     let paid = paid_for was p in
-    let other = cond was (turn see paid) (still see p) in
-    let so = paid_tells was p in
     choose p (is_full (see [])) (end see p) (with_room_done name was see p) (same p)
-    (choose p (lacks_here name was see p) (want_near near see paid) other (behind p paid _ so (near_tells near see paid))
-    (choose p was (turn see paid) (still see p) (behind p paid _ so (turn_tells see paid)) (same p)))
+    (behind p paid _ (paid_tells was p) (both (want_near near) (turn_if was) (near_tells near) (turn_if_tells was) see paid))
 
 takes_tells : (d : DrawopValue) → TellsNothing (takes d)
 takes_tells d see p =
@@ -160,7 +193,7 @@ takes_tells d see p =
 
 measures_tells : (sender : ℕ) (distance : Option ℕ) → TellsNothing (measures sender distance)
 measures_tells sender None see p = same p
-measures_tells sender (Some micros) see p = record { due = refl; told = refl }
+measures_tells sender (Some micros) see p = record { due = refl; beat = refl; told = refl }
 
 session_tells : (sender sent : ℕ) (page : PageId) (marks : List MarkValue) (echoes : List Echo) → TellsNothing (hears_session sender sent page marks echoes)
 session_tells sender sent page marks echoes see p =
@@ -181,7 +214,7 @@ state_tells sender page marks see p =
     let v = see [] in
     let own = own_marks v.me (nat_lt v.now p.ready) marks in
     let q = after_state v.now p in
-    from p q _ refl refl
+    from p q _ refl refl refl
     (both (hears_some sender page own) (want_told (told_names v.me page marks)) (some_tells sender page own) (told_tells (told_names v.me page marks)) see q)
 
 other_tells : (sender : ℕ) (does : Transition) → TellsNothing does → TellsNothing (of_other sender does)
@@ -191,7 +224,7 @@ question_tells : TellsNothing takes_question
 question_tells see p =
     let v = see [] in
     choose p (is_to_answer v.now (nat_lt 0 (length v.held)) p.questions) (still see (after_taking_up v.now p)) (still see p)
-    (record { due = refl; told = refl }) (same p)
+    (record { due = refl; beat = refl; told = refl }) (same p)
 
 pub hears_tells : (v : Datagram) → TellsNothing (hears v)
 hears_tells (Draw d) = takes_tells d

@@ -1,5 +1,5 @@
 -- Where there is no credit behind a call, what another holds was asked for in the last 21 seconds: what is owed is at most 16 seconds ahead of the present
--- moment, and turns alone, one a report, cost a quarter of a second a second at most.
+-- moment, and turns, which are a second apart or more, cost a quarter of a second a second at most.
 use Rattle.std.proofs.Common.{◌≡◌, ℕ, ◌+◌, ◌-◌, ◌*◌, ◌<◌, ◌≤◌, Bool, true, false, List, [], ◌∷◌, ◌++◌, ◌∙◌, None, ap, append_assoc, arith, eqb-true, inl, inr, max, refl, subst, sym, true≢false, ⊎_elim}
 use Rattle.std.specs.Prelude.{◌≢◌, ◌⊎◌, Contains, min, nat_eq}
 use Rattle.std.proofs.lemmas.Bool.Decides.{leb_tells}
@@ -18,8 +18,8 @@ use Rattle.wb_kept_progress.specs.Timed.{Performed, TimedLine, called_at, lines_
 use Rattle.wb_kept_progress.specs.Whole.{IsHeldBySome, IsTimelySession, there}
 use Rattle.wb_kept_progress.proofs.AsksStand.{asks_stand}
 use Rattle.wb_kept_progress.proofs.CallParts.{calls_end}
-use Rattle.wb_kept_progress.proofs.InTurn.{IsIdle, IsReporting, IsTimedCall, one_or_other}
-use Rattle.wb_kept_progress.proofs.NextReports.{ordered, still_newer, there_here, there_other, window_call}
+use Rattle.wb_kept_progress.proofs.InTurn.{IsIdle, IsTimedCall, IsTurning, call_is_now, idle_or_turning}
+use Rattle.wb_kept_progress.proofs.NextDue.{ordered, still_newer, there_here, there_other, window_call}
 use Rattle.wb_kept_progress.proofs.OwedAndDue.{near_there, now_there, taken_of}
 use Rattle.wb_kept_progress.proofs.Moments.{moment_of}
 use Rattle.wb_kept_progress.proofs.Onward.{call_later}
@@ -31,7 +31,7 @@ use Rattle.std.proofs.lemmas.Bool.{le-leb}
 
 -- ---- what is owed at moments up to one, from 21 seconds before it on
 
--- at a moment, where a report is due at one: a report costs a quarter of a second, and the next comes a second later at least
+-- at a moment, where a turn is due at one: a turn costs a quarter of a second, and the next comes a second later at least
 abbrev IsCovered : ℕ → ℕ → ℕ → ℕ → Type 0
 IsCovered owed due now last = 4 * owed ≤ 1000000 + 3 * last + max (min due (now + 1000000)) (last - 21000000)
 
@@ -41,9 +41,9 @@ covered_first owed due now moment last le before = omega (arith, le, before)
 covered_on : (owed owes due later now then last : ℕ) → owes ≤ owed → due ≤ later → now ≤ then → IsCovered owed due now last → IsCovered owes later then last
 covered_on owed owes due later now then last le rises goes covered = omega (arith, le, rises, goes, covered)
 
-covered_report : (owed owes due later now then last : ℕ) → owes ≤ max owed then + 250000 → due ≤ then → then + 1000000 ≤ later → last ≤ then + 21000000
+covered_turn : (owed owes due later now then last : ℕ) → owes ≤ max owed then + 250000 → due ≤ then → then + 1000000 ≤ later → last ≤ then + 21000000
     → then ≤ last → IsCovered owed due now last → IsCovered owes later then last
-covered_report owed owes due later now then last le due_then next after before covered = omega (arith, le, due_then, next, after, before, covered)
+covered_turn owed owes due later now then last le due_then next after before covered = omega (arith, le, due_then, next, after, before, covered)
 
 covered_last : (owed due last : ℕ) → 21000000 ≤ last → IsCovered owed due last last → has_credit owed last ≡ true
 covered_last owed due last long covered = le-leb (max owed last - last) (63 * COST) (omega (arith, long, covered))
@@ -58,7 +58,7 @@ module _ (is_spent : CreditIsSpent) (hosts : ℕ → Opening) (terms : Terms) (t
   IsFound = (back : List Performed) × IsAsking hosts terms trace (window ++ base) i back × (last ≤ time_of back + 21000000 + terms.drift)
 
   abbrev IsPaid : Keeping → Type 0
-  IsPaid k = IsCovered k.policy.owed k.policy.reports.due (present k.host) moment
+  IsPaid k = IsCovered k.policy.owed k.policy.pace.due (present k.host) moment
 
   split_at : (front part : List TimedLine) → window ≡ front ++ part → trace ≡ (newest ++ front) ++ (part ++ base)
   split_at front part split =
@@ -69,7 +69,7 @@ module _ (is_spent : CreditIsSpent) (hosts : ℕ → Opening) (terms : Terms) (t
   paid_first front part split before =
       let k = there hosts (part ++ base) i in
       let near = near_there hosts terms trace (newest ++ front) (part ++ base) i s (split_at front part split) live in
-      covered_first k.policy.owed k.policy.reports.due (present k.host) (present k.host) moment near.owed before
+      covered_first k.policy.owed k.policy.pace.due (present k.host) (present k.host) moment near.owed before
 
   -- a call in the last 21 seconds
   module _ (front rest : List TimedLine) (e : TimedLine) (split : window ≡ front ++ e ∷ rest) (here : nat_eq e.at.place i ≡ true)
@@ -132,33 +132,33 @@ module _ (is_spent : CreditIsSpent) (hosts : ℕ → Opening) (terms : Terms) (t
         ((n : NameValue) × Contains (does hosts e older) (Asks n) × IsHeldBySome hosts terms trace n)
         ⊎ ((next.host.is.held ≢ k.host.is.held)
         ⊎ ((next.policy.owed ≤ k.policy.owed)
-        ⊎ ((k.policy.reports.due ≤ then) × (next.policy.owed ≤ spent k.policy.owed then))))
+        ⊎ ((k.policy.pace.due ≤ then) × (next.policy.owed ≤ spent k.policy.owed then))))
 
     spends : Spends i
     spends = subst Spends at_i (is_spent hosts terms trace (newest ++ front) older e s whole settled)
 
-    -- by what became of the moment and of the next report
+    -- by what became of the moment and of the next turn
     record IsLater : Type 0 where
       now_is : present next.host ≡ then
-      rises : k.policy.reports.due ≤ next.policy.reports.due
-      reports : k.policy.reports.due ≤ then → then + 1000000 ≤ next.policy.reports.due
+      rises : k.policy.pace.due ≤ next.policy.pace.due
+      turns : k.policy.pace.due ≤ then → then + 1000000 ≤ next.policy.pace.due
 
-    idle_later : IsIdle (doing_of e.at.line) k then → IsLater
-    idle_later idle =
-        let is = there_here hosts e older i here in
-        let due = ap (λ (x : Keeping). x.policy.reports.due) is ∙ idle.same.due in
-        let now = ap (λ (x : Keeping). present x.host) is ∙ idle.now_is in
-        let early = idle.early in
-        record { now_is = now; rises = omega (arith, due); reports = λ le. absurd (omega (arith, early, le)) }
+    module _ (call : IsTimedCall (doing_of e.at.line) k then) where
+      now_next : present next.host ≡ then
+      now_next = ap (λ (x : Keeping). present x.host) (there_here hosts e older i here) ∙ call_is_now (doing_of e.at.line) k then call
 
-    reporting_later : IsReporting (doing_of e.at.line) k then → IsLater
-    reporting_later reports =
-        let is = there_here hosts e older i here in
-        let due = ap (λ (x : Keeping). x.policy.reports.due) is in
-        let now = ap (λ (x : Keeping). present x.host) is ∙ reports.now_is in
-        let least = reports.least in
-        let before = reports.late in
-        record { now_is = now; rises = omega (arith, due, least, before); reports = λ le. omega (arith, due, least) }
+      idle_later : IsIdle (doing_of e.at.line) k then → IsLater
+      idle_later idle =
+          let due = ap (λ (x : Keeping). x.policy.pace.due) (there_here hosts e older i here) ∙ idle.due in
+          let early = idle.early in
+          record { now_is = now_next; rises = omega (arith, due); turns = λ le. absurd (omega (arith, early, le)) }
+
+      turning_later : IsTurning (doing_of e.at.line) k then → IsLater
+      turning_later turns =
+          let due = ap (λ (x : Keeping). x.policy.pace.due) (there_here hosts e older i here) in
+          let least = turns.least in
+          let before = turns.late in
+          record { now_is = now_next; rises = omega (arith, due, least, before); turns = λ le. omega (arith, due, least) }
 
     by_later : IsNowAt terms e.time i then → IsLater → IsPaid k → IsFound ⊎ IsPaid next
     by_later now later paid = ⊎_elim
@@ -166,20 +166,20 @@ module _ (is_spent : CreditIsSpent) (hosts : ℕ → Opening) (terms : Terms) (t
         (⊎_elim
         (λ (differs : next.host.is.held ≢ k.host.is.held). absurd (differs same_held))
         (⊎_elim
-        (λ (le : next.policy.owed ≤ k.policy.owed). inr (covered_on k.policy.owed next.policy.owed k.policy.reports.due next.policy.reports.due (present k.host) (present next.host) moment le later.rises goes_on paid))
-        (λ (r : (k.policy.reports.due ≤ then) × (next.policy.owed ≤ spent k.policy.owed then)).
+        (λ (le : next.policy.owed ≤ k.policy.owed). inr (covered_on k.policy.owed next.policy.owed k.policy.pace.due next.policy.pace.due (present k.host) (present next.host) moment le later.rises goes_on paid))
+        (λ (r : (k.policy.pace.due ≤ then) × (next.policy.owed ≤ spent k.policy.owed then)).
         let is = later.now_is in
-        inr (subst (λ (now : ℕ). IsCovered next.policy.owed next.policy.reports.due now moment) (sym is)
-        (covered_report k.policy.owed next.policy.owed k.policy.reports.due next.policy.reports.due (present k.host) then moment r.1 r.0 (later.reports r.0) (omega (arith, lately, is)) (omega (arith, by_moment, is)) paid)))))
+        inr (subst (λ (now : ℕ). IsCovered next.policy.owed next.policy.pace.due now moment) (sym is)
+        (covered_turn k.policy.owed next.policy.owed k.policy.pace.due next.policy.pace.due (present k.host) then moment r.1 r.0 (later.turns r.0) (omega (arith, lately, is)) (omega (arith, by_moment, is)) paid)))))
         spends
 
     paid_next : IsPaid k → IsFound ⊎ IsPaid next
     paid_next paid = ⊎_elim
         (λ (t : IsTuning (doing_of e.at.line) k).
         let is = there_here hosts e older i here in
-        inr (subst IsPaid (sym is) (subst (λ (p : Policy). IsCovered p.owed p.reports.due (present (after_doing (doing_of e.at.line) k).host) moment) (sym t.policy)
-        (subst (λ (now : ℕ). IsCovered k.policy.owed k.policy.reports.due now moment) (sym t.now_is) paid))))
-        (λ (c : IsTimedCall (doing_of e.at.line) k then × IsNowAt terms e.time i then). by_later c.1 (⊎_elim idle_later reporting_later (one_or_other (doing_of e.at.line) k then c.0)) paid)
+        inr (subst IsPaid (sym is) (subst (λ (p : Policy). IsCovered p.owed p.pace.due (present (after_doing (doing_of e.at.line) k).host) moment) (sym t.policy)
+        (subst (λ (now : ℕ). IsCovered k.policy.owed k.policy.pace.due now moment) (sym t.now_is) paid))))
+        (λ (c : IsTimedCall (doing_of e.at.line) k then × IsNowAt terms e.time i then). by_later c.1 (⊎_elim (idle_later c.0) (turning_later c.0) (idle_or_turning (doing_of e.at.line) k then c.0)) paid)
         (window_call hosts terms trace s i live (newest ++ front) rest base e still_here (omega (arith, late)) here)
 
   -- one call more, after those before it
@@ -210,12 +210,12 @@ no_credit_is_asked is_spent hosts terms trace newest window base front part size
     let moment = present k.host in
     ⊎_elim
     (λ (f : (back : List Performed) × IsAsking hosts terms trace (window ++ base) i back × (last ≤ time_of back + 21000000 + terms.drift)). f)
-    (λ (paid : IsCovered k.policy.owed k.policy.reports.due moment moment).
+    (λ (paid : IsCovered k.policy.owed k.policy.pace.due moment moment).
     let behind = none.0.not_behind in
     let began = all.session.begun i live in
-    let after = settled terms (called_at base) wait all.session.reported late in
-    let credit = covered_last k.policy.owed k.policy.reports.due moment (omega (arith, long, behind, began, after)) paid in
+    let after = settled terms (called_at base) wait late in
+    let credit = covered_last k.policy.owed k.policy.pace.due moment (omega (arith, long, behind, began, after)) paid in
     absurd (true≢false (sym credit ∙ none.1)))
-    (paid_at is_spent hosts terms trace newest window base all.session still (settled terms (called_at base) wait all.session.reported late) i live last moment none.0 (omega (arith, long)) front part split (omega arith)) where
-      settled : (terms : Terms) (time wait : ℕ) → 1 ≤ terms.reporting → known_from terms + wait + repairing terms ≤ time → settled_by terms < time
-      settled terms time wait some le = omega (arith, some, le)
+    (paid_at is_spent hosts terms trace newest window base all.session still (settled terms (called_at base) wait late) i live last moment none.0 (omega (arith, long)) front part split (omega arith)) where
+      settled : (terms : Terms) (time wait : ℕ) → known_from terms + wait + repairing terms ≤ time → settled_by terms < time
+      settled terms time wait le = omega (arith, le)

@@ -1,4 +1,4 @@
--- What is owed is at most 16 seconds ahead of the present moment, and the next report is due within 96 seconds of it.
+-- What is owed is at most 16 seconds ahead of the present moment, the next report is due within 96 seconds of it, and the next turn within 16.
 use Rattle.std.proofs.Common.{◌≡◌, ℕ, ◌+◌, ◌-◌, ◌*◌, ◌≤◌, Bool, true, false, cond, List, [], ◌∷◌, ◌++◌, ap, arith, eqb-true, map, max, refl, subst, ⊎_elim}
 use Rattle.std.specs.Prelude.{◌%◌, Contains, None, nat_eq, not, take, ◌||◌}
 use Rattle.std.proofs.lemmas.Bool.{and_parts, leb-true}
@@ -11,6 +11,7 @@ use Rattle.wb_policy.specs.declared.limits.TheConstants.{COST}
 use Rattle.wb_keeping.specs.Kept.{Doing, Hears, Line, Says, Ticks, state_of, still, want}
 use Rattle.wb_keeping.specs.Laws.{doing_of, fault_of}
 use Rattle.wb_keeping.specs.Performing.{Keeping, after_doing, sees, view_of}
+use Rattle.wb_policy.specs.Pace.{gap_within}
 use Rattle.wb_policy.specs.Policy.{after_answer, after_wanting}
 use Rattle.wb_keeping.specs.Views.{View, holds, is_full, level, is_known}
 use Rattle.wb_policy.specs.Wanting.{goes_on, is_wanted}
@@ -22,41 +23,46 @@ use Rattle.wb_keeping.proofs.Wanted.{lines_wanted}
 use Rattle.wb_kept_progress.specs.Sessions.{AreTaken, LineAt, Opening, kept_at, opened, opened_host}
 use Rattle.wb_kept_progress.specs.Timed.{SaysNow, TellTimes, TimedLine, called_at, lines_of}
 use Rattle.wb_kept_progress.proofs.Moments.{IsTuned, moment_of, told_itself, told_or_tuned}
-use Rattle.wb_kept_progress.specs.Whole.{AreCalledInOrder, IsTimelySession, there}
+use Rattle.wb_kept_progress.specs.Whole.{AreCalledInOrder, IsTimelySession, ReportsAreDue, there}
 use Rattle.wb_kept_progress.proofs.CallParts.{calls_order}
 use Rattle.wb_kept_progress.proofs.Lines.{IsSmall, are_small, does_rest}
 use Rattle.wb_kept_progress.proofs.StillCalls.{IsTuning, call_now, tuned_only}
-use Rattle.wb_kept_progress.proofs.WholeParts.{ReportsAreDue}
 use Rattle.wb_keeping.proofs.EachLine.{want_each}
-use Rattle.wb_kept_progress.proofs.Leaving.{next_soon}
+use Rattle.wb_kept_progress.proofs.Leaving.{gap_most, next_soon}
 
 -- ---- each step of a policy
 
 pub record IsNearNow (k : Keeping) : Type 0 where
   pub owed : k.policy.owed ≤ present k.host + 16000000
   pub due : k.policy.reports.due ≤ present k.host + 96000000
+  pub beat : k.policy.pace.due ≤ present k.host + 16000000
 
 record StaysNear (k : Keeping) (lines : List Line) (m : Keeping) : Type 0 where
   near : IsNearNow k → IsNearNow m
 
-near_then : (k m : Keeping) → m.policy.owed ≤ k.policy.owed → m.policy.reports.due ≡ k.policy.reports.due → present k.host ≤ present m.host → IsNearNow k
+near_then : (k m : Keeping) → m.policy.owed ≤ k.policy.owed → m.policy.reports.due ≡ k.policy.reports.due → m.policy.pace.due ≡ k.policy.pace.due → present k.host ≤ present m.host → IsNearNow k
     → IsNearNow m
-near_then k m owed due now n = record { owed = let o = n.owed in omega (arith, o, owed, now); due = let d = n.due in omega (arith, d, due, now) }
+near_then k m owed due beat now n = record {
+  owed = let o = n.owed in omega (arith, o, owed, now);
+  due = let d = n.due in omega (arith, d, due, now);
+  beat = let b = n.beat in omega (arith, b, beat, now);
+}
 
-same_near : (k m : Keeping) → m.policy.owed ≡ k.policy.owed → m.policy.reports.due ≡ k.policy.reports.due → present m.host ≡ present k.host → IsNearNow k
+same_near : (k m : Keeping) → m.policy.owed ≡ k.policy.owed → m.policy.reports.due ≡ k.policy.reports.due → m.policy.pace.due ≡ k.policy.pace.due → present m.host ≡ present k.host → IsNearNow k
     → IsNearNow m
-same_near k m owed due now n = near_then k m (omega (arith, owed)) due (omega (arith, now)) n
+same_near k m owed due beat now n = near_then k m (omega (arith, owed)) due beat (omega (arith, now)) n
 
 hears_near : (v : Datagram) (k : Keeping) → IsNearNow k → IsNearNow (having (Hears v) k)
 hears_near v k n = by (has_room_for v k.host) where
   by : (b : Bool) → IsNearNow (record { host = cond b (heard v k.host) k.host; policy = k.policy })
-  by true = record { owed = n.owed; due = n.due }
-  by false = record { owed = n.owed; due = n.due }
+  by true = record { owed = n.owed; due = n.due; beat = n.beat }
+  by false = record { owed = n.owed; due = n.due; beat = n.beat }
 
 wants_near : (name : NameValue) (anew : Bool) (k : Keeping) → IsNearNow k → IsNearNow (after_doing (want name anew) k)
 wants_near name anew k n = record {
   owed = let o = by (is_wanted (holds v name) (is_full v) anew (is_known v name.source) (level v name) k.policy.owed v.now) refl in let t = now in omega (arith, o, t);
   due = let d = due_by (is_wanted (holds v name) (is_full v) anew (is_known v name.source) (level v name) k.policy.owed v.now) in let t = now in let near = n.due in omega (arith, d, t, near);
+  beat = let d = beat_by (is_wanted (holds v name) (is_full v) anew (is_known v name.source) (level v name) k.policy.owed v.now) in let t = now in let near = n.beat in omega (arith, d, t, near);
 } where
   v : View
   v = view_of k.host
@@ -84,36 +90,44 @@ wants_near name anew k n = record {
   due_by true = refl
   due_by false = refl
 
+  beat_by : (b : Bool) → (let d : Doing = cond b wanted (still (sees k.host) k.policy) in d.policy.pace.due) ≡ k.policy.pace.due
+  beat_by true = refl
+  beat_by false = refl
+
+turn_soon : (now gap : ℕ) → now + gap_within gap ≤ now + 16000000
+turn_soon now gap = let most = gap_most gap in omega (arith, most)
+
 steps_stay_near : HoldsOfSteps StaysNear
 steps_stay_near = record {
   due = record {
     nothing = λ k. record { near = λ n. n };
     both = λ k m l one other a b. record { near = λ n. b.near (a.near n) };
     wants = λ name anew k. record { near = wants_near name anew k };
-    turned = λ t k. record { near = λ n. record { owed = n.owed; due = n.due } };
-    answers = λ k is. record { near = λ n. same_near k (having_done (doing (after_answer (present k.host) k.policy) (map (λ page. Says (state_of (view_of k.host) page)) (take 64 (pages_of k.host.is.held)))) k) refl refl (ap present (says_after (view_of k.host) (take 64 (pages_of k.host.is.held)) k.host)) n };
-    asks_pages = λ k is. record { near = λ n. record { owed = n.owed; due = n.due } };
-    reports = λ page until told k is. record { near = λ n. record { owed = n.owed; due = next_soon (present k.host) _ (word_of k.policy.words) } };
+    turned = λ t k. record { near = λ n. record { owed = n.owed; due = n.due; beat = n.beat } };
+    beats = λ k is. record { near = λ n. record { owed = n.owed; due = n.due; beat = turn_soon (present k.host) k.policy.pace.gap } };
+    answers = λ k is. record { near = λ n. same_near k (having_done (doing (after_answer (present k.host) k.policy) (map (λ page. Says (state_of (view_of k.host) page)) (take 64 (pages_of k.host.is.held)))) k) refl refl refl (ap present (says_after (view_of k.host) (take 64 (pages_of k.host.is.held)) k.host)) n };
+    asks_pages = λ k is. record { near = λ n. record { owed = n.owed; due = n.due; beat = n.beat } };
+    reports = λ page until told k is. record { near = λ n. record { owed = n.owed; due = next_soon (present k.host) _ (word_of k.policy.words); beat = n.beat } };
   };
-  ticks = λ now k later. record { near = λ n. near_then k (having (Ticks now) k) (omega arith) refl later n };
-  arrives = λ d k. record { near = λ n. record { owed = n.owed; due = n.due } };
-  answered = λ d k lacks asked. record { near = λ n. record { owed = let o = n.owed in omega (arith, o); due = n.due } };
+  ticks = λ now k later. record { near = λ n. near_then k (having (Ticks now) k) (omega arith) refl refl later n };
+  arrives = λ d k. record { near = λ n. record { owed = n.owed; due = n.due; beat = n.beat } };
+  answered = λ d k lacks asked. record { near = λ n. record { owed = let o = n.owed in omega (arith, o); due = n.due; beat = n.beat } };
   hears = λ v k. record { near = hears_near v k };
-  stops = λ name k full. record { near = λ n. record { owed = n.owed; due = n.due } };
-  sets = λ source micros k. record { near = λ n. record { owed = n.owed; due = n.due } };
-  lends = λ source k. record { near = λ n. record { owed = n.owed; due = n.due } };
-  takes_back = λ source k. record { near = λ n. record { owed = n.owed; due = n.due } };
-  tunes = λ constants k within. record { near = λ n. record { owed = n.owed; due = n.due } };
-  draws = λ d k. record { near = λ n. record { owed = n.owed; due = n.due } };
-  measured = λ micros k. record { near = λ n. record { owed = n.owed; due = n.due } };
-  told = λ k. record { near = λ n. record { owed = n.owed; due = n.due } };
-  takes_up = λ k is. record { near = λ n. record { owed = n.owed; due = n.due } };
+  stops = λ name k full. record { near = λ n. record { owed = n.owed; due = n.due; beat = n.beat } };
+  sets = λ source micros k. record { near = λ n. record { owed = n.owed; due = n.due; beat = n.beat } };
+  lends = λ source k. record { near = λ n. record { owed = n.owed; due = n.due; beat = n.beat } };
+  takes_back = λ source k. record { near = λ n. record { owed = n.owed; due = n.due; beat = n.beat } };
+  tunes = λ constants k within. record { near = λ n. record { owed = n.owed; due = n.due; beat = n.beat } };
+  draws = λ d k. record { near = λ n. record { owed = n.owed; due = n.due; beat = n.beat } };
+  measured = λ micros k. record { near = λ n. record { owed = n.owed; due = n.due; beat = n.beat } };
+  told = λ k. record { near = λ n. record { owed = n.owed; due = n.due; beat = n.beat } };
+  takes_up = λ k is. record { near = λ n. record { owed = n.owed; due = n.due; beat = n.beat } };
 }
 
 -- ---- hosts after calls
 
 begins_near : (o : Opening) → IsNearNow (opened o)
-begins_near o = record { owed = omega arith; due = soon (present (opened_host o)) (word_of (started o.seed)) } where
+begins_near o = record { owed = omega arith; due = soon (present (opened_host o)) (word_of (started o.seed)); beat = omega arith } where
   soon : (now word : ℕ) → now + word % (1000000 + 1) ≤ now + 96000000
   soon now word = omega arith
 
@@ -171,5 +185,9 @@ module _ (hosts : ℕ → Opening) (terms : Terms) (trace newer older : List Tim
   pub due_there : (there hosts older i).policy.reports.due + terms.lag i ≤ max (called_at older) terms.quiet + 96000000
   due_there = let n = near_there in let d = n.due in let now = now_there in omega (arith, d, now)
 
+  -- and the next turn, within 16 seconds
+  pub beat_there : (there hosts older i).policy.pace.due + terms.lag i ≤ max (called_at older) terms.quiet + 16000000
+  beat_there = let n = near_there in let b = n.beat in let now = now_there in omega (arith, b, now)
+
 pub reports_are_due : ReportsAreDue
-reports_are_due hosts terms trace newer older i s split live = due_there hosts terms trace newer older i s split live
+reports_are_due hosts terms trace s newer older i split live = due_there hosts terms trace newer older i s split live

@@ -1,7 +1,8 @@
 -- What came since the last start of each member is a session of hosts that keeps to times.
-use Rattle.std.proofs.Common.{◌≡◌, ◌≢◌, ℕ, ◌+◌, ◌<◌, ◌≤◌, Bool, true, false, cond, List, [], ◌∷◌, ◌++◌, ◌∙◌, ap, append_assoc, arith, eqb-true, eq-eqb, inl, map, refl, subst, sym, true≢false, ⊎_elim}
+use Rattle.std.proofs.Common.{◌≡◌, ◌≢◌, ℕ, ◌+◌, ◌<◌, ◌≤◌, Bool, true, false, cond, List, [], ◌∷◌, ◌++◌, ◌∙◌, ap, append_assoc, arith, eqb-true, eq-eqb, inl, map, max, refl, subst, sym, true≢false, ⊎_elim}
 use Rattle.std.specs.Prelude.{Contains, nat_eq}
 use Rattle.std.proofs.lemmas.Bool.{cases_lt}
+use Rattle.wb_names.specs.Values.{NameValue}
 use Rattle.wb_codec.specs.declared.datagram.Datagram.{Datagram}
 use Rattle.wb_recovery.specs.declared.tuning.Tuning.{Tuning}
 use Rattle.wb_progress.specs.Bounds.{IsUnder}
@@ -15,12 +16,14 @@ use Rattle.wb_laws_kept.specs.Openings.{opened, opened_host}
 use Rattle.wb_laws_kept.specs.Sessions.{Begins, Call, CallAt, Handed, given_lines, kept_at}
 use Rattle.wb_kept_progress.specs.Sessions as hosts
 use Rattle.wb_kept_progress.specs.Sessions.{LineAt, Opening, at}
-use Rattle.wb_kept_progress.specs.Since.{AreFittingSince, AreInOrder, IsFitting, IsFittingSince, IsHandedIn, IsTimelyWithStarts, RestartedBecomeWhole, SinceIsSame, SinceIsTimely, WasSentBy, called_at, elsewhere, handed_at, hosts_of, opening_at, opening_by, since, since_by, with_number}
+use Rattle.wb_kept_progress.specs.Since.{AreFittingSince, AreInOrder, IsFitting, IsFittingSince, IsHandedIn, IsTimelyWithStarts, RestartedBecomeWhole, RestartedBecomeWholeByRounds, SinceIsSame, SinceIsTimely, WasSentBy, called_at, elsewhere, handed_at, hosts_of, opening_at, opening_by, since, since_by, with_number}
 use Rattle.wb_kept_progress.specs.Timed.{TellTimes, TimedLine}
 use Rattle.wb_kept_progress.specs.Timed as timed
 use Rattle.wb_kept_progress.specs.Whole.{AreCalledInOrder, there}
 use Rattle.wb_kept_progress.specs.Whole as whole
-use Rattle.wb_kept_progress.proofs.Becoming.{sessions_become_whole}
+use Rattle.wb_kept_progress.specs.Rounds.{rounds_by}
+use Rattle.wb_kept_progress.proofs.Promised.{sessions_become_whole}
+use Rattle.wb_kept_progress.proofs.Rounds.{sessions_become_whole_by_rounds}
 use Rattle.wb_kept_progress.proofs.CallParts.{calls_end}
 use Rattle.wb_kept_progress.proofs.Starts.{are_fit, are_taken, is_kept, onto, same_opening, without}
 use Rattle.wb_kept_progress.proofs.Starts as lines
@@ -425,7 +428,6 @@ since_is_timely numbers terms calls s = record {
   tuned = tuned numbers terms calls s;
   taken = subst (hosts.AreTaken (hosts_of numbers calls)) (sym (lines_since numbers calls)) (are_taken numbers calls s.taken);
   order = (ordered numbers terms calls s).order;
-  reported = s.reported;
   times = tells_all terms (since numbers calls) (λ q live. since_fits terms numbers q calls (s.fitting q live));
   covered = s.covered;
   soon = λ newer older e i split live late. soon numbers terms calls s newer older e late (late_line numbers terms calls s newer older e split late) i live;
@@ -446,19 +448,16 @@ since_is_timely numbers terms calls s = record {
 pub since_is_same : SinceIsSame
 since_is_same numbers calls i = since_same numbers calls i
 
-pub restarted_become_whole : RestartedBecomeWhole
-restarted_become_whole numbers terms calls newer [] sizes wait most i n s within waits lacks short held split late live = absurd (none (whole.whole_by terms sizes wait most) late) where
+-- what the hosts since the last starts hold, the members do
+holding_since : (numbers : ℕ → ℕ) (terms : Terms) (calls newer later : List CallAt) (time i : ℕ) (n : NameValue) → IsTimelyWithStarts numbers terms calls → timed.AllKeptHoldBehind (hosts_of numbers calls) terms (since numbers calls) time n
+    → terms.quiet ≤ time → calls ≡ newer ++ later → time < called_at later → Contains terms.live i → holds (kept_at numbers later i).host n ≡ true
+holding_since numbers terms calls newer [] time i n s comes after split late live = absurd (none time late) where
   none : (time : ℕ) → time < 0 → ⊥
   none time lt = omega (arith, lt)
-restarted_become_whole numbers terms calls newer (e ∷ older) sizes wait most i n s within waits lacks short held split late live =
+holding_since numbers terms calls newer (e ∷ older) time i n s comes after split late live =
     sym (ap (λ (k : Keeping). holds k.host n) (after_late numbers terms calls s newer older e split quiet i)) ∙ all where
       quiet : terms.quiet < e.time
-      quiet = past terms.quiet (whole.whole_by terms sizes wait most) e.time (later terms.quiet terms.delivery _ wait _ _) late where
-        later : (q d m w r x : ℕ) → q ≤ q + d + d + m + w + r + x
-        later q d m w r x = omega arith
-
-        past : (q by time : ℕ) → q ≤ by → by < time → q < time
-        past q by time le lt = omega (arith, le, lt)
+      quiet = omega (arith, after, late)
 
       are : AreHanded numbers newer
       are = front_handed numbers terms calls s newer e (handed_from numbers terms calls s newer older e [] split quiet)
@@ -470,6 +469,20 @@ restarted_become_whole numbers terms calls newer (e ∷ older) sizes wait most i
       one = (s.alone newer older e split quiet).1
 
       all : holds (there (hosts_of numbers calls) (since numbers (e ∷ older)) i).host n ≡ true
-      all = sessions_become_whole (hosts_of numbers calls) terms (since numbers calls) sizes wait most n (since_is_timely numbers terms calls s) within waits lacks short held
-          (timed_of numbers newer are) (since numbers (e ∷ older)) i parted
-          (subst (λ (t : List TimedLine). whole.whole_by terms sizes wait most < timed.called_at t) (sym (since_one numbers e older one)) late) live
+      all = comes (timed_of numbers newer are) (since numbers (e ∷ older)) i parted (subst (λ (t : List TimedLine). time < timed.called_at t) (sym (since_one numbers e older one)) late) live
+
+pub restarted_become_whole : RestartedBecomeWhole
+restarted_become_whole numbers terms calls newer later sizes wait most i n s within soon waits lacks short held split late live =
+    holding_since numbers terms calls newer later (whole.whole_by terms sizes wait most) i n s
+    (sessions_become_whole (hosts_of numbers calls) terms (since numbers calls) sizes wait most n (since_is_timely numbers terms calls s) within soon waits lacks short held)
+    (after terms.quiet terms.delivery _ wait _ sizes.since _) split late live where
+      after : (q d m w r first x : ℕ) → q ≤ max (q + d + d + m + 1 + w + r) first + x
+      after q d m w r first x = omega arith
+
+pub restarted_become_whole_by_rounds : RestartedBecomeWholeByRounds
+restarted_become_whole_by_rounds numbers terms calls newer later from pause wait most places rounds i n s reports waits lacks kept filled enough held split late live =
+    holding_since numbers terms calls newer later (rounds_by terms from pause wait rounds) i n s
+    (sessions_become_whole_by_rounds (hosts_of numbers calls) terms (since numbers calls) from pause wait most places rounds n (since_is_timely numbers terms calls s) reports waits lacks kept filled enough held)
+    (after terms.quiet terms.delivery _ wait _ from _) split late live where
+      after : (q d m w r first x : ℕ) → q ≤ max (q + d + d + m + 1 + w + r) first + x
+      after q d m w r first x = omega arith

@@ -23,9 +23,9 @@ credit_is_spent held_was hosts terms trace newer older e session split late =
     (λ (more : IsMore k next). inr (inl (more_differs k next more)))
     (λ (c : IsCourse (λ n. IsHeldBySome hosts terms trace n) k now (does hosts e older) next). ⊎_elim
     (λ (h : (n : NameValue) × Contains (does hosts e older) (Asks n) × IsHeldBySome hosts terms trace n). inl h)
-    (λ (rest : (next.policy.owed ≡ k.policy.owed) ⊎ ((k.policy.reports.due ≤ now) × (next.policy.owed ≡ spent k.policy.owed now))). ⊎_elim
+    (λ (rest : (next.policy.owed ≡ k.policy.owed) ⊎ ((k.policy.pace.due ≤ now) × (next.policy.owed ≡ spent k.policy.owed now))). ⊎_elim
     (λ (same : next.policy.owed ≡ k.policy.owed). inr (inr (inl (at_most _ _ same))))
-    (λ (one : (k.policy.reports.due ≤ now) × (next.policy.owed ≡ spent k.policy.owed now)). inr (inr (inr (one.0, at_most _ _ one.1))))
+    (λ (one : (k.policy.pace.due ≤ now) × (next.policy.owed ≡ spent k.policy.owed now)). inr (inr (inr (one.0, at_most _ _ one.1))))
     rest)
     c.owed)
     (goes held_was hosts terms trace session newer older e split late)

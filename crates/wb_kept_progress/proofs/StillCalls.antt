@@ -77,7 +77,7 @@ hears_leave v k same =
     let reports = hears_tells v (sees k.host) k.policy in
     ⊎_elim
     (λ (more : IsMore k m). absurd (more_differs k m more same))
-    (λ (a : AsksFor Any k (lines_by (hears v) k) m). record { turns = a.stays.turns; due = reports.due; told = reports.told })
+    (λ (a : AsksFor Any k (lines_by (hears v) k) m). record { turns = a.stays.turns; due = reports.due; beat = reports.beat; told = reports.told })
     (hears_asks Any v k (any_told k.host.is.number v))
 
 -- ---- a call

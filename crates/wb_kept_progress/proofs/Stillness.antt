@@ -1,6 +1,6 @@
 -- While nothing new comes, a host does not ask for long for what another holds: what it asks for comes, or is given up, and then it asks for
 -- something greater that another holds.
-use Rattle.std.proofs.Common.{◌≡◌, ℕ, zero, suc, ◌+◌, ◌-◌, ◌*◌, ◌<◌, ◌≤◌, Bool, true, false, List, [], ◌∷◌, ◌++◌, ◌∙◌, Option, Some, None, ap, append_assoc, arith, inl, inr, length, max, refl, subst, sym, true≢false, ⊎_elim}
+use Rattle.std.proofs.Common.{◌≡◌, ℕ, zero, suc, ◌+◌, ◌-◌, ◌*◌, ◌<◌, ◌≤◌, Bool, true, false, List, [], ◌∷◌, ◌++◌, ◌∙◌, Option, Some, None, ap, append_assoc, arith, inl, inr, length, max, mul-le-mul, refl, subst, sym, true≢false, ⊎_elim}
 use Rattle.std.specs.Prelude.{◌⊎◌, ◌≢◌, Contains, IfSome, nat_le}
 use Rattle.std.specs.Ordering.{ordering_reverse}
 use Rattle.std.specs.declared.cmp.Ordering.TheVariants.{Less}
@@ -12,27 +12,29 @@ use Rattle.wb_names.proofs.Listings.{Contains-cases, Contains-here, Contains-non
 use Rattle.wb_names.proofs.Orders.{name_total}
 use Rattle.wb_recovery.specs.declared.timers.AskTimer.{AskTimer}
 use Rattle.wb_recovery.specs.declared.tuning.Tuning.{Tuning}
-use Rattle.wb_progress.specs.InTime.{known_from, repairing}
-use Rattle.wb_progress.specs.Turns.{Terms, quiet_span, settled_by}
+use Rattle.wb_progress.specs.InTime.{AreApart, known_from, repairing}
+use Rattle.wb_progress.specs.Turns.{Terms, settled_by}
 use Rattle.wb_progress.proofs.NamesApart.{most_are, less_greater}
 use Rattle.wb_member.specs.Judged.{holds, level}
 use Rattle.wb_member.specs.Opened.{Opened}
 use Rattle.wb_keeper.specs.Keeper.{holds as history_holds}
-use Rattle.wb_keeping.specs.Kept.{Line, Asks, Tunes}
+use Rattle.wb_keeping.specs.Kept.{Line, Asks, Stops, Tunes}
 use Rattle.wb_keeping.specs.Laws.{KeptLine, doing_of}
 use Rattle.wb_keeping.specs.Performing.{sees, view_of}
 use Rattle.wb_policy.specs.Wanting.{oldest}
 use Rattle.wb_policy.specs.declared.wanting.AskedName.{AskedName}
+use Rattle.wb_kept_progress.specs.Promises.{GivesUpForAnother, Holds, IsForAnother, IsLate, IsStill, host_then, timer_then}
 use Rattle.wb_kept_progress.specs.Sessions.{Opening}
 use Rattle.wb_kept_progress.specs.Timed.{AllHoldBehind, AreInOrder, IsGivenUp, IsTimely, Performed, Start, TellTimes, TimedLine, TimerLeadsOrIsGivenUp, called_at, performed, start_of, time_of, until}
-use Rattle.wb_kept_progress.specs.Whole.{AreApart, AreCalledInOrder, IsHeldBySome, IsLackedAt, Lack, Sizes, request_span, there}
+use Rattle.wb_kept_progress.specs.Whole.{AreCalledInOrder, IsHeldBySome, IsLackedAt, Lack, NewAreKept, Sizes, request_span, there}
+use Rattle.wb_kept_progress.proofs.AskedComes.{asked_comes}
 use Rattle.wb_kept_progress.proofs.AskedSince.{WasAsked, was_asked}
 use Rattle.wb_kept_progress.proofs.CallParts.{calls_end, calls_order, host_is, lacked_until, lines_order}
 use Rattle.wb_kept_progress.proofs.KeptInTime.{front_of, time_is}
 use Rattle.wb_kept_progress.proofs.Moments.{IsTuned, moment_of}
 use Rattle.wb_kept_progress.proofs.Timely.{before_end, held_later, in_past, none_held, order_of}
 use Rattle.wb_kept_progress.proofs.TurnsHad.{AreOrdinary, Had, had}
-use Rattle.wb_kept_progress.proofs.WholeParts.{AsksHaveCause, HasTurn, Holds, IsOfCall, IsStill, LinesHaveCalls, PerformedIsTimely, StillnessEnds, StopsHaveCause, TimersAreYoung, does, host_then, timer_then}
+use Rattle.wb_kept_progress.proofs.WholeParts.{AsksHaveCause, HasTurn, IsOfCall, LinesHaveCalls, PerformedIsTimely, StillnessEnds, StopsHaveCause, TimersAreYoung, does}
 use Rattle.wb_kept_progress.proofs.WindowParts.{IsInWindow, in_window, line_by, told_in, two_parts}
 use Rattle.wb_kept_progress.proofs.YoungestAsked.{Others, new_level, new_timer, others}
 use Rattle.std.proofs.lemmas.Option.{same_Some}
@@ -52,7 +54,10 @@ few_turns from now span drift turns is short few = omega (arith, is, short, few)
 -- ---- a window in which nothing new comes
 
 module _ (hosts : ℕ → Opening) (terms : Terms) (trace newest window base : List TimedLine) (sizes : Sizes) (wait most i : ℕ) (timely_so : PerformedIsTimely) (are : Holds hosts terms trace sizes wait most) (still : IsStill hosts terms trace newest window base)
-    (known : known_from terms + wait + repairing terms ≤ called_at base) (live : Contains terms.live i) where
+    (late_base : IsLate terms sizes wait base) (live : Contains terms.live i) where
+  known : known_from terms + wait + repairing terms ≤ called_at base
+  known = late_base.known
+
   abbrev starts : ℕ → Start
   starts j = start_of (hosts j)
 
@@ -84,9 +89,7 @@ module _ (hosts : ℕ → Opening) (terms : Terms) (trace newest window base : L
   order_back front back split = order_of front back (subst AreInOrder split order_lines)
 
   settled : settled_by terms < called_at base
-  settled = let r = are.session.reported in past (settled_by terms) terms.delivery terms.reporting (quiet_span terms) wait (repairing terms) (called_at base) r known where
-    past : (s d r f w m b : ℕ) → 1 ≤ r → s + d + max r f + w + m ≤ b → s < b
-    past s d r f w m b some le = omega (arith, some, le)
+  settled = omega (arith, known)
 
   -- ---- what is asked for is lacked
 
@@ -151,20 +154,7 @@ module _ (hosts : ℕ → Opening) (terms : Terms) (trace newest window base : L
         let s = settled in
         omega (arith, first, end, s)
 
-  -- ---- where something is given up
-
-  -- behind some lines it asks for something greater that another holds
-  record Next (back : List Performed) (n : NameValue) : Type 0 where
-    front : List Performed
-    later : List Performed
-    split : lines ≡ front ++ later
-    since : time_of back ≤ time_of later
-    soon : time_of later ≤ time_of back + request_span terms
-    name : NameValue
-    greater : name_cmp n name ≡ Less
-    ask : AskTimer
-    stands : timer_then hosts later i name ≡ Some ask
-    held : IsHeldBySome hosts terms trace name
+  -- ---- why something is given up
 
   -- a line of the window, so late that what is asked for behind it and was not backed off was asked for in the window
   module _ (calls_of : LinesHaveCalls) (causes : AsksHaveCause) (front back : List Performed) (e : Performed) (split : lines ≡ front ++ e ∷ back) (late : called_at base + request_span terms < time_of back) where
@@ -264,24 +254,53 @@ module _ (hosts : ℕ → Opening) (terms : Terms) (trace newest window base : L
         had_cause m t.0 t.1 w (calls_of hosts whole ((front ++ e ∷ []) ++ w.newer) w.x w.older (before_it ∙ ap (λ (l : List Performed). (front ++ e ∷ []) ++ l) w.split ∙ sym (append_assoc (front ++ e ∷ []) w.newer (w.x ∷ w.older))))
 
     -- of 64 that are asked for, and of which none was backed off, another than the least is held by some
-    record Another (n : NameValue) : Type 0 where
-      name : NameValue
-      greater : name_cmp n name ≡ Less
-      held : IsHeldBySome hosts terms trace name
-      timer : (ask : AskTimer) × (timer_then hosts back i name ≡ Some ask) × (ask.level ≡ 0)
-
-    another : (n : NameValue) (a : AskedName) → level (host_then hosts back i) n ≡ Some 0 → 64 ≤ length (view_of (host_then hosts back i)).asked → oldest (view_of (host_then hosts back i)).asked ≡ Some a → a.name ≡ n → Another n
+    another : (n : NameValue) (a : AskedName) → level (host_then hosts back i) n ≡ Some 0 → 64 ≤ length (view_of (host_then hosts back i)).asked → oldest (view_of (host_then hosts back i)).asked ≡ Some a → a.name ≡ n → IsForAnother hosts terms trace i back n
     another n a new many is named =
         let o = others (host_then hosts back i) n new a is named in
         let m = most_are (IsHeldBySome hosts terms trace) o.names turns.names o.apart (λ x c. cause x (o.new x c)) in
         first o m.those m.among m.most where
-          first : (o : Others (host_then hosts back i) n) (those : List NameValue) → ((x : NameValue) → Contains those x → Contains o.names x × IsHeldBySome hosts terms trace x) → length o.names ≤ length those + length turns.names → Another n
+          first : (o : Others (host_then hosts back i) n) (those : List NameValue) → ((x : NameValue) → Contains those x → Contains o.names x × IsHeldBySome hosts terms trace x) → length o.names ≤ length those + length turns.names → IsForAnother hosts terms trace i back n
           first o [] among le = let count = o.count in let f = few in absurd (omega (arith, le, count, f, many))
           first o (x ∷ those) among le =
               let r = among x (Contains-here x those) in
-              record { name = x; greater = o.greater x r.0; held = r.1; timer = new_timer (timer_then hosts back i x) (o.new x r.0) }
+              let t = new_timer (timer_then hosts back i x) (o.new x r.0) in
+              record { name = x; greater = o.greater x r.0; held = r.1; ask = t.0; stands = t.1 }
 
-  module _ (calls_of : LinesHaveCalls) (causes : AsksHaveCause) (stops : StopsHaveCause) (front back : List Performed) (split : lines ≡ front ++ back) (late : called_at base + request_span terms < time_of back) (n : NameValue) (ask : AskTimer) (due : ℕ) (g : IsGivenUp starts all back i n ask due) (new : ask.level ≡ 0)
+  -- ---- what is given up before its timer was backed off
+
+  module _ (calls_of : LinesHaveCalls) (causes : AsksHaveCause) (stops : StopsHaveCause) (front back : List Performed) (e : Performed) (n : NameValue) (ask : AskTimer) (split : lines ≡ front ++ e ∷ back) (late : called_at base + request_span terms < time_of back)
+      (place : e.place ≡ i) (line : e.line ≡ Stops n) (stands : timer_then hosts back i n ≡ Some ask) (new : ask.level ≡ 0) where
+    abbrev Stopped : ℕ → Type 0
+    Stopped p = ((a : AskTimer) × (timer_then hosts back p n ≡ Some a) × (4 ≤ a.level))
+        ⊎ ((64 ≤ length (view_of (host_then hosts back p)).asked) × (a : AskedName) × (oldest (view_of (host_then hosts back p)).asked ≡ Some a) × (a.name ≡ n))
+
+    for_another : IsForAnother hosts terms trace i back n
+    for_another = ⊎_elim
+        (λ (h : (a : AskTimer) × (timer_then hosts back i n ≡ Some a) × (4 ≤ a.level)).
+        let same = same_Some ask h.0 (sym stands ∙ h.1) in
+        let zero_level : h.0.level ≡ 0 = sym (ap (λ (a : AskTimer). a.level) same) ∙ new in
+        let four = h.2 in
+        absurd (omega (arith, zero_level, four)))
+        (λ (h : (64 ≤ length (view_of (host_then hosts back i)).asked) × (a : AskedName) × (oldest (view_of (host_then hosts back i)).asked ≡ Some a) × (a.name ≡ n)).
+        another calls_of causes front back e split late n h.1 (new_level (timer_then hosts back i n) ask stands new) h.0 h.2 h.3)
+        (subst Stopped place (stops hosts terms trace (newest_lines.0 ++ front) e back n are.session (subst (Contains terms.live) (sym place) live) (after_quiet calls_of causes front back e split late) (part_of_all front (e ∷ back) split) line))
+
+  -- ---- where something is given up
+
+  -- behind some lines it asks for something greater that another holds
+  record Next (back : List Performed) (n : NameValue) : Type 0 where
+    front : List Performed
+    later : List Performed
+    split : lines ≡ front ++ later
+    since : time_of back ≤ time_of later
+    soon : time_of later ≤ time_of back + request_span terms
+    name : NameValue
+    greater : name_cmp n name ≡ Less
+    ask : AskTimer
+    stands : timer_then hosts later i name ≡ Some ask
+    held : IsHeldBySome hosts terms trace name
+
+  module _ (keeps : GivesUpForAnother) (front back : List Performed) (split : lines ≡ front ++ back) (late : called_at base + request_span terms < time_of back) (n : NameValue) (ask : AskTimer) (due : ℕ) (g : IsGivenUp starts all back i n ask due) (new : ask.level ≡ 0)
       (soon : due ≤ time_of back + request_span terms) where
     abbrev then_back : List Performed
     then_back = g.between ++ back
@@ -303,8 +322,8 @@ module _ (hosts : ℕ → Opening) (terms : Terms) (trace newest window base : L
     behind_part : time_of back ≤ time_of then_back
     behind_part = before_end g.between back order_then.1
 
-    next_of : (w : List Performed) (is : lines ≡ w ++ g.e ∷ then_back) (late_then : called_at base + request_span terms < time_of then_back) → Another calls_of causes w then_back g.e is late_then n → Next back n
-    next_of w is late_then other = record {
+    next_of : (w : List Performed) (is : lines ≡ w ++ g.e ∷ then_back) → IsForAnother hosts terms trace i then_back n → Next back n
+    next_of w is other = record {
       front = w ++ g.e ∷ [];
       later = then_back;
       split = is ∙ sym (append_assoc w (g.e ∷ []) then_back);
@@ -312,29 +331,15 @@ module _ (hosts : ℕ → Opening) (terms : Terms) (trace newest window base : L
       soon = let o = order_then.0 in let by = g.soon in omega (arith, o, by, soon);
       name = other.name;
       greater = other.greater;
-      ask = other.timer.0;
-      stands = other.timer.1;
+      ask = other.ask;
+      stands = other.stands;
       held = other.held;
     }
 
-    abbrev Stopped : ℕ → Type 0
-    Stopped p = ((a : AskTimer) × (timer_then hosts then_back p n ≡ Some a) × (4 ≤ a.level))
-        ⊎ ((64 ≤ length (view_of (host_then hosts then_back p)).asked) × (a : AskedName) × (oldest (view_of (host_then hosts then_back p)).asked ≡ Some a) × (a.name ≡ n))
-
     inside : (w : List Performed) → lines ≡ w ++ g.e ∷ then_back → Goal
-    inside w is = ⊎_elim
-        (λ (h : (a : AskTimer) × (timer_then hosts then_back i n ≡ Some a) × (4 ≤ a.level)).
-        let same = same_Some ask h.0 (sym g.stands ∙ h.1) in
-        let zero_level : h.0.level ≡ 0 = sym (ap (λ (a : AskTimer). a.level) same) ∙ new in
-        let four = h.2 in
-        absurd (omega (arith, zero_level, four)))
-        (λ (h : (64 ≤ length (view_of (host_then hosts then_back i)).asked) × (a : AskedName) × (oldest (view_of (host_then hosts then_back i)).asked ≡ Some a) × (a.name ≡ n)).
+    inside w is =
         let le = behind_part in
-        let late_then : called_at base + request_span terms < time_of then_back = omega (arith, le, late) in
-        inr (next_of w is late_then (another calls_of causes w then_back g.e is late_then n h.1 (new_level (timer_then hosts then_back i n) ask g.stands new) h.0 h.2 h.3)))
-        (subst Stopped g.place (stops hosts terms trace g.front g.e then_back n are.session (subst (Contains terms.live) (sym g.place) live) after_quiet g.split g.line)) where
-          after_quiet : terms.quiet < g.e.time
-          after_quiet = let s = settled in let le = behind_part in let o = order_then.0 in omega (arith, s, late, le, o)
+        inr (next_of w is (keeps hosts terms trace newest window base sizes wait most i w then_back g.e n ask are still late_base live is (omega (arith, le, late)) g.place g.line g.stands new))
 
     given_up : Goal
     given_up = ⊎_elim
@@ -353,7 +358,7 @@ module _ (hosts : ℕ → Opening) (terms : Terms) (trace newest window base : L
     apart : AreApart lacks
     each : (x : Lack) → Contains lacks x → IsLackedAt hosts terms trace (until (settled_by terms) all) x × (name_cmp x.name n ≡ Less)
 
-  module _ (calls_of : LinesHaveCalls) (causes : AsksHaveCause) (stops : StopsHaveCause) (young : TimersAreYoung) (leads : TimerLeadsOrIsGivenUp) where
+  module _ (keeps : GivesUpForAnother) (young : TimersAreYoung) (leads : TimerLeadsOrIsGivenUp) where
     module _ (front back : List Performed) (n : NameValue) (ask : AskTimer) (lacks : List Lack) (is : IsFollowed front back n ask lacks) where
       abbrev one : Lack
       one = record { place = i; name = n }
@@ -394,7 +399,7 @@ module _ (hosts : ℕ → Opening) (terms : Terms) (trace newest window base : L
           (λ (g : IsGivenUp starts all back i n ask (max (time_of back) (time_of back + terms.asking * terms.far) + terms.late)). ⊎_elim
           (λ (le : called_at whole ≤ time_of back + request_span terms). inl (omega (arith, le)))
           (λ (next : Next back n). inr next)
-          (given_up calls_of causes stops front back is.split is.late n ask (max (time_of back) (time_of back + terms.asking * terms.far) + terms.late) g new (omega arith)))
+          (given_up keeps front back is.split is.late n ask (max (time_of back) (time_of back + terms.asking * terms.far) + terms.late) g new (omega arith)))
           (leads starts terms all (newest_lines.0 ++ front) back i n ask (time_of back + terms.asking * terms.far) timely in_all live (omega (arith, k, s)) is.stands (let after = settled in omega (arith, due, by, after, s)) is.held)
 
       ends : Ends
@@ -407,6 +412,16 @@ module _ (hosts : ℕ → Opening) (terms : Terms) (trace newest window base : L
           let le = not_by front back is.split soon n ask is.stands (time_of back + repairing terms) comes in
           inl (omega (arith, le)))
           (young hosts terms trace (newest_lines.0 ++ front) back i wait n ask timely are.waits in_all live (omega (arith, k, s)) is.held is.stands)
+
+      -- where no new timer is given up
+      module _ (kept : NewAreKept hosts terms trace sizes.since) where
+        kept_end : called_at whole ≤ time_of back + request_span terms + repairing terms
+        kept_end =
+            let k = known in
+            let s = soon in
+            let first = late_base.since in
+            not_by front back is.split soon n ask is.stands (time_of back + request_span terms + repairing terms)
+            (asked_comes hosts terms trace sizes.since wait timely are.waits kept (newest_lines.0 ++ front) back i n ask in_all (omega (arith, k, s)) (omega (arith, first, s)) live is.held is.stands)
 
       followed : (next : Next back n) → IsFollowed next.front next.later next.name next.ask (one ∷ lacks)
       followed next = record {
@@ -438,9 +453,26 @@ module _ (hosts : ℕ → Opening) (terms : Terms) (trace newest window base : L
           more : (end back later span repair fuel : ℕ) → later ≤ back + span → end ≤ later + fuel * span + repair → end ≤ back + suc fuel * span + repair
           more end back later span repair fuel near le = let product : suc fuel * span ≡ fuel * span + span = omega arith in omega (arith, near, le, product)
 
-pub stillness_ends : TimersAreYoung → TimerLeadsOrIsGivenUp → PerformedIsTimely → LinesHaveCalls → AsksHaveCause → StopsHaveCause → StillnessEnds
-stillness_ends young leads timely_so calls_of causes stops hosts terms trace newest window base sizes wait most i back are still known live asking late =
-    follow hosts terms trace newest window base sizes wait most i timely_so are still known live calls_of causes stops young leads most asking.front back asking.name asking.ask []
-    (record { split = asking.split; late = late; stands = asking.stands; held = asking.held; apart = tt; each = λ x c. absurd (Contains-none x c) }) (none_yet most) where
+pub gives_up_for_another : PerformedIsTimely → LinesHaveCalls → AsksHaveCause → StopsHaveCause → GivesUpForAnother
+gives_up_for_another timely_so calls_of causes stops hosts terms trace newest window base sizes wait most i front back e n ask are still late_base live split late place line stands new =
+    for_another hosts terms trace newest window base sizes wait most i timely_so are still late_base live calls_of causes stops front back e n ask split late place line stands new
+
+pub stillness_ends : TimersAreYoung → TimerLeadsOrIsGivenUp → PerformedIsTimely → GivesUpForAnother → StillnessEnds
+stillness_ends young leads timely_so keeps hosts terms trace newest window base sizes wait most i back are still late_base live asking late =
+    let is : IsFollowed hosts terms trace newest window base sizes wait most i timely_so are still late_base live asking.front back asking.name asking.ask [] =
+    record { split = asking.split; late = late; stands = asking.stands; held = asking.held; apart = tt; each = λ x c. absurd (Contains-none x c) } in
+    ⊎_elim
+    (λ (enough : most ≤ sizes.gives).
+    let le = follow hosts terms trace newest window base sizes wait most i timely_so are still late_base live keeps young leads most asking.front back asking.name asking.ask [] is (none_yet most) in
+    at_most (called_at (window ++ base)) (time_of back) (request_span terms) (repairing terms) most sizes.gives le enough)
+    (λ (kept : (1 ≤ sizes.gives) × NewAreKept hosts terms trace sizes.since).
+    let le = kept_end hosts terms trace newest window base sizes wait most i timely_so are still late_base live keeps young leads asking.front back asking.name asking.ask [] is kept.1 in
+    at_most (called_at (window ++ base)) (time_of back) (request_span terms) (repairing terms) 1 sizes.gives (omega (arith, le)) kept.0)
+    are.soon.gives where
+      at_most : (end back span repair few many : ℕ) → end ≤ back + few * span + repair → few ≤ many → end ≤ back + many * span + repair
+      at_most end back span repair few many le more = let product = mul-le-mul more (same span) in omega (arith, le, product) where
+        same : (n : ℕ) → n ≤ n
+        same n = omega arith
+
       none_yet : (n : ℕ) → n ≤ 0 + n
       none_yet n = omega arith

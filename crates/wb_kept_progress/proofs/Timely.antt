@@ -374,7 +374,6 @@ module _ (hosts : ℕ → Start) (terms : Terms) (trace : List Performed) (timel
   pub keep_time : (n : NameValue) → KeepTimeBut (IsOtherOrLacked at n) at terms all
   keep_time n = record {
     order = order_is hosts trace timely.order;
-    reported = timely.reported;
     are = are;
     alone = λ newer older x same. by_line hosts trace (λ newer x older. terms.quiet < x.time → Contains terms.live x.place) timely.alone newer older x same;
     quiet = λ newer older x same. by_line hosts trace (λ newer x older. terms.quiet < x.time → IsQuietBut (IsOtherOrLacked at n) at older x) (λ front back e split late. is_quiet front back e split late n) newer older x same;
@@ -396,7 +395,7 @@ module _ (hosts : ℕ → Start) (terms : Terms) (trace : List Performed) (timel
           (λ front back e split late accepts. request_sent front back e split late now asker word held m accepts) newer older x same late accepts;
     };
     soon = λ newer older x i m same live. by_line hosts trace (λ newer x older. terms.quiet < x.time → turning.AreNotOverdue (turning.timers_there at older i m) x.time (terms.lag i + terms.late))
-        (λ front back e split late. let soon = timely.soon front back e i m split live late in subst (λ (s : Timers). turning.AreNotOverdue s e.time (terms.lag i + terms.late)) (sym (timers_here hosts back i m)) (record { ask = soon.ask; answer = soon.answer })) newer older x same;
+        (λ front back e split late. subst (λ (s : Timers). turning.AreNotOverdue s e.time (terms.lag i + terms.late)) (sym (timers_here hosts back i m)) (timely.soon front back e i m split live late)) newer older x same;
   }
 
   -- ---- what follows

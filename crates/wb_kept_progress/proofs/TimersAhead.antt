@@ -27,7 +27,7 @@ use Rattle.wb_keeping.specs.Kept.{Arrives, Asks, Doing, Hears, Line, Says, SetsD
 use Rattle.wb_keeping.specs.Laws.{KeptLine, Came, Ticked, Added, Tuned, doing_of}
 use Rattle.wb_keeping.specs.Performing.{Keeping, after_line, after_lines, due, sees, sooner_of}
 use Rattle.wb_policy.specs.Policy.{next_moment}
-use Rattle.wb_kept_progress.specs.Timed.{AreNotOverdue}
+use Rattle.wb_progress.specs.Turns.{AreNotOverdue}
 use Rattle.wb_kept_progress.proofs.Moments.{IsTold, IsTuned}
 use Rattle.wb_kept_progress.proofs.Performed.{AreNoTicks, Begins, IsNoTick, adds_begin, came_begins, ticks_begin}
 use Rattle.wb_kept_progress.proofs.PerLine.{line_moment}

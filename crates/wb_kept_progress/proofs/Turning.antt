@@ -40,7 +40,7 @@ use Rattle.wb_kept_progress.specs.Sessions.{AreHosts, AreSent, AreTaken, LineAt,
 use Rattle.wb_kept_progress.proofs.Lines.{IsOf, lines_of}
 use Rattle.wb_kept_progress.proofs.Repairs.{asked_can_come, did_send, is_itself, places_differ, tick_in_time, tick_rests}
 use Rattle.wb_kept_progress.proofs.Leaving.{answers_on, told_of}
-use Rattle.wb_kept_progress.proofs.InTurn.{IsReporting, due_asks, due_owed, is_reporting}
+use Rattle.wb_kept_progress.proofs.InTurn.{IsReporting, IsTurning, call_is_now, due_asks, due_owed, is_reporting, is_turning}
 use Rattle.wb_kept_progress.proofs.StillCalls.{ticked_call}
 use Rattle.wb_kept_progress.proofs.WantedIn.{MayBeWanted}
 
@@ -58,8 +58,8 @@ answers_at hosts (e ∷ older) i = by (answers_at hosts older i) (nat_eq e.place
 
 -- ---- one tick
 
--- by a tick at which a report is due, and all names are paid for
-module _ (k : Keeping) (now : ℕ) (late : k.policy.reports.due ≤ now) (paid : k.policy.owed ≤ now) where
+-- by a tick at which a report and a turn are due, and all names are paid for
+module _ (k : Keeping) (now : ℕ) (late : k.policy.reports.due ≤ now) (turn : k.policy.pace.due ≤ now) (paid : k.policy.owed ≤ now) where
   abbrev m : Keeping
   m = having (Ticks now) k
 
@@ -69,20 +69,23 @@ module _ (k : Keeping) (now : ℕ) (late : k.policy.reports.due ≤ now) (paid :
   -- it may do so again 96 seconds later at most
   tick_soon : AnswersWhatIsHeld k.host → ready_at (after_doing (ticks now) k) ≤ now + 96000000
   tick_soon answers_held =
-      let r = is_reporting (ticks now) k now (ticked_call now k answers_held) late in
+      let call = ticked_call now k answers_held in
+      let r = is_reporting (ticks now) k now call late in
+      let t = is_turning (ticks now) k now call turn in
       let most = r.most in
-      let at_now = r.now_is in
+      let next = t.most in
+      let at_now = call_is_now (ticks now) k now call in
       let e = ap (λ (x : Keeping). x.policy.owed) there in
-      let le = due_owed m late paid in
-      later (present (after_doing (ticks now) k).host) (after_doing (ticks now) k).policy.reports.due (after_doing (ticks now) k).policy.owed now at_now most (omega (arith, e, le)) where
-        later : (a b c now : ℕ) → a ≡ now → b ≤ now + 96000000 → c ≤ now + 250000 → max a (max b c) ≤ now + 96000000
-        later a b c now e f g = omega (arith, e, f, g)
+      let le = due_owed m turn paid in
+      later (present (after_doing (ticks now) k).host) (after_doing (ticks now) k).policy.reports.due (after_doing (ticks now) k).policy.pace.due (after_doing (ticks now) k).policy.owed now at_now most next (omega (arith, e, le)) where
+        later : (a b c d now : ℕ) → a ≡ now → b ≤ now + 96000000 → c ≤ now + 16000000 → d ≤ now + 250000 → max a (max (max b c) d) ≤ now + 96000000
+        later a b c d now e f g h = omega (arith, e, f, g, h)
 
   tick_asks : (n : NameValue) → AnswersWhatIsHeld k.host → holds k.host.is.held n ≡ false → is_full k.host ≡ false → name_in_turn k.host.is.held k.policy.turns ≡ Some n
       → asks_for n (after_doing (ticks now) k).host ≡ true
   tick_asks n answers_held lacks room in_turn =
       let may : MayBeWanted m n = record { answers_held = answers_on (performs (Ticks now)) k answers_held; lacks = lacks; room = room } in
-      ap (λ (x : Keeping). asks_for n x.host) there ∙ due_asks m late paid n may in_turn
+      ap (λ (x : Keeping). asks_for n x.host) there ∙ due_asks m turn paid n may in_turn
 
 -- a report has few marks
 few_in_turn : (held : List DrawopValue) (t : Told) → length (marks_in_turn held t) ≤ 64
@@ -115,32 +118,48 @@ module _ (hosts : ℕ → Opening) (older : List LineAt) (i : ℕ) where
   are_ticks zero = tt
   are_ticks (suc count) = ((refl, ready_at (behind count), refl), are_ticks count)
 
-  first_of_three : (a b c : ℕ) → a ≤ max a (max b c)
-  first_of_three a b c = omega arith
+  first_of_four : (a b c d : ℕ) → a ≤ max a (max (max b c) d)
+  first_of_four a b c d = omega arith
 
-  second_of_three : (a b c : ℕ) → b ≤ max a (max b c)
-  second_of_three a b c = omega arith
+  second_of_four : (a b c d : ℕ) → b ≤ max a (max (max b c) d)
+  second_of_four a b c d = omega arith
 
-  third_of_three : (a b c : ℕ) → c ≤ max a (max b c)
-  third_of_three a b c = omega arith
+  third_of_four : (a b c d : ℕ) → c ≤ max a (max (max b c) d)
+  third_of_four a b c d = omega arith
+
+  fourth_of_four : (a b c d : ℕ) → d ≤ max a (max (max b c) d)
+  fourth_of_four a b c d = omega arith
 
   pub due_for : (k : Keeping) → k.policy.reports.due ≤ ready_at k
-  due_for k = second_of_three (present k.host) k.policy.reports.due k.policy.owed
+  due_for k = second_of_four (present k.host) k.policy.reports.due k.policy.pace.due k.policy.owed
+
+  pub turn_for : (k : Keeping) → k.policy.pace.due ≤ ready_at k
+  turn_for k = third_of_four (present k.host) k.policy.reports.due k.policy.pace.due k.policy.owed
 
   pub paid_for : (k : Keeping) → k.policy.owed ≤ ready_at k
-  paid_for k = third_of_three (present k.host) k.policy.reports.due k.policy.owed
+  paid_for k = fourth_of_four (present k.host) k.policy.reports.due k.policy.pace.due k.policy.owed
 
-  -- each of them reports
+  -- each of them reports, and a name has its turn
   reporting : (count : ℕ) → IsReporting (ticks (ready_at (behind count))) (behind count) (ready_at (behind count))
   reporting count =
       let k = behind count in
       is_reporting (ticks (ready_at k)) k (ready_at k) (ticked_call (ready_at k) k (answers_at hosts (some_ticks count ++ older) i)) (due_for k)
 
+  turning : (count : ℕ) → IsTurning (ticks (ready_at (behind count))) (behind count) (ready_at (behind count))
+  turning count =
+      let k = behind count in
+      is_turning (ticks (ready_at k)) k (ready_at k) (ticked_call (ready_at k) k (answers_at hosts (some_ticks count ++ older) i)) (turn_for k)
+
+  now_behind : (count : ℕ) → present (after_doing (ticks (ready_at (behind count))) (behind count)).host ≡ ready_at (behind count)
+  now_behind count =
+      let k = behind count in
+      call_is_now (ticks (ready_at k)) k (ready_at k) (ticked_call (ready_at k) k (answers_at hosts (some_ticks count ++ older) i))
+
   pub ticks_taken : (count : ℕ) → AreTaken hosts older → AreTaken hosts (some_ticks count ++ older)
   ticks_taken zero taken = taken
   ticks_taken (suc count) taken =
       let k = behind count in
-      (tick_in_time k (ready_at k) (first_of_three (present k.host) k.policy.reports.due k.policy.owed), ticks_taken count taken)
+      (tick_in_time k (ready_at k) (first_of_four (present k.host) k.policy.reports.due k.policy.pace.due k.policy.owed), ticks_taken count taken)
 
   -- nothing comes by them
   pub ticks_sent : (count : ℕ) → AreSent hosts (some_ticks count) older
@@ -171,7 +190,7 @@ module _ (hosts : ℕ → Opening) (older : List LineAt) (i : ℕ) where
   ticks_turn zero = refl
   ticks_turn (suc count) =
       let k = behind count in
-      ap (λ (x : Keeping). x.policy.turns) (behind_next count) ∙ (reporting count).turns
+      ap (λ (x : Keeping). x.policy.turns) (behind_next count) ∙ (turning count).turns
       ∙ ap (λ (h : List DrawopValue). after_turn h k.policy.turns) (ticks_hold count) ∙ ap (after_turn (host_at hosts older i).is.held) (ticks_turn count)
 
   ticks_tell : (count : ℕ) → told_of (behind count).policy ≡ after_tellings (host_at hosts older i).is.held count (told_of (kept_at hosts older i).policy)
@@ -191,7 +210,7 @@ module _ (hosts : ℕ → Opening) (older : List LineAt) (i : ℕ) where
   ready_soon (suc count) =
       let k = behind count in
       let rest = ready_soon count in
-      let one = tick_soon k (ready_at k) (due_for k) (paid_for k) (answers_at hosts (some_ticks count ++ older) i) in
+      let one = tick_soon k (ready_at k) (due_for k) (turn_for k) (paid_for k) (answers_at hosts (some_ticks count ++ older) i) in
       let e = ap ready_at (behind_next count) in
       next (ready_at (behind (suc count))) (ready_at (after_doing (ticks (ready_at k)) k)) (ready_at k) (ready_at (kept_at hosts older i)) count e one rest where
         next : (a b c start count : ℕ) → a ≡ b → b ≤ c + 96000000 → c ≤ start + count * 96000000 → a ≤ start + suc count * 96000000
@@ -201,7 +220,7 @@ module _ (hosts : ℕ → Opening) (older : List LineAt) (i : ℕ) where
   ticks_soon count =
       let k = behind count in
       let rest = ready_soon count in
-      let now = ap (λ (x : Keeping). present x.host) (behind_next count) ∙ (reporting count).now_is in
+      let now = ap (λ (x : Keeping). present x.host) (behind_next count) ∙ now_behind count in
       let many = length_is count in
       fits (present (behind (suc count)).host) (ready_at k) (ready_at (kept_at hosts older i)) (length (some_ticks count)) count now rest many where
         fits : (a b start many count : ℕ) → a ≡ b → b ≤ start + count * 96000000 → many ≡ count → a + 96000000 ≤ start + suc many * 96000000
@@ -224,7 +243,7 @@ module _ (hosts : ℕ → Opening) (older : List LineAt) (i : ℕ) where
         taken = ticks_taken (suc count) taken;
         soon = ticks_soon count;
         same = ticks_hold (suc count);
-        asked = subst (λ (x : Keeping). asks_for n x.host ≡ true) (sym (behind_next count)) (tick_asks k (ready_at k) (due_for k) (paid_for k) n (answers_at hosts (some_ticks count ++ older) i) lacks_k (room_behind count room) turn_k);
+        asked = subst (λ (x : Keeping). asks_for n x.host ≡ true) (sym (behind_next count)) (tick_asks k (ready_at k) (due_for k) (turn_for k) (paid_for k) n (answers_at hosts (some_ticks count ++ older) i) lacks_k (room_behind count room) turn_k);
       }
 
   -- after `count` reports, the next one tells what has its turn
@@ -313,7 +332,7 @@ has_a_turn held t n missing small =
 
 -- a hole is of what is not held
 module _ {X Y : Type 0} (f : X → List Y) where
-  from_flat : (xs : List X) (y : Y) → Contains (flat_map f xs) y → (x : X) × Contains (f x) y
+  pub from_flat : (xs : List X) (y : Y) → Contains (flat_map f xs) y → (x : X) × Contains (f x) y
   from_flat [] y c = absurd (Contains-none y c)
   from_flat (x ∷ xs) y c = ⊎_elim
       (λ (h : Contains (f x) y). (x, h))
@@ -321,7 +340,7 @@ module _ {X Y : Type 0} (f : X → List Y) where
       (Contains-append_cases (f x) (flat_map f xs) y c)
 
 module _ {X Y : Type 0} (f : X → Y) where
-  from_map : (xs : List X) (y : Y) → Contains (map f xs) y → (x : X) × Contains xs x × (f x ≡ y)
+  pub from_map : (xs : List X) (y : Y) → Contains (map f xs) y → (x : X) × Contains xs x × (f x ≡ y)
   from_map [] y c = absurd (Contains-none y c)
   from_map (x ∷ xs) y c = ⊎_elim
       (λ (e : f x ≡ y). (x, Contains-here x xs, e))

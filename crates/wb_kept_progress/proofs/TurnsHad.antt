@@ -1,4 +1,4 @@
--- How many names have their turn in a time: no more than reports of a host, which are a second apart or more.
+-- How many names have their turn in a time: turns of a host by the clock are a second apart or more.
 use Rattle.std.proofs.Common.{◌≡◌, ℕ, ◌+◌, ◌*◌, ◌<◌, ◌≤◌, Bool, true, false, cond, List, [], ◌∷◌, ◌++◌, ◌∙◌, Option, Some, None, ap, arith, eq-eqb, eqb-true, length, refl, subst, sym, true≢false, ⊎_elim}
 use Rattle.std.specs.Prelude.{Contains, max, nat_eq, nat_le, unwrap_or}
 use Rattle.std.proofs.lemmas.Bool.{leb-false, leb-true}
@@ -12,7 +12,7 @@ use Rattle.wb_kept_progress.specs.Sessions.{Opening}
 use Rattle.wb_kept_progress.specs.Timed.{SaysNow, TimedLine}
 use Rattle.wb_kept_progress.proofs.Moments.{IsTuned, moment_of, told_itself, told_or_tuned}
 use Rattle.wb_kept_progress.specs.Whole.{there}
-use Rattle.wb_kept_progress.proofs.ReportsApart.{DrawsNothing, IsDueThen, call_due}
+use Rattle.wb_kept_progress.proofs.TurnsApart.{DrawsNothing, IsDueThen, call_due}
 use Rattle.wb_kept_progress.proofs.WholeParts.{HasTurn}
 use Rattle.wb_progress.proofs.Parts.{heads, tails, nil_ends}
 
@@ -59,7 +59,7 @@ module _ (hosts : ℕ → Opening) (terms : Terms) (i : ℕ) (base : List TimedL
   at_i part = there hosts (part ++ base) i
 
   abbrev due_at : Keeping → ℕ
-  due_at k = k.policy.reports.due
+  due_at k = k.policy.pace.due
 
   -- the latest time at which the clock there tells a moment
   abbrev at_latest : ℕ → ℕ
@@ -101,7 +101,7 @@ module _ (hosts : ℕ → Opening) (terms : Terms) (i : ℕ) (base : List TimedL
       few = h.few;
     }
 
-    -- where a report is due
+    -- where a turn is due
     module _ (now : ℕ) (at : IsNowAt terms e.time i now) (next : Keeping) (h : Had part (at_i part)) (due : due_at (at_i part) ≤ now) (later : now + 1000000 ≤ due_at next) where
       abbrev in_turn : Option NameValue
       in_turn = name_in_turn (at_i part).host.is.held (at_i part).policy.turns
@@ -127,8 +127,8 @@ module _ (hosts : ℕ → Opening) (terms : Terms) (i : ℕ) (base : List TimedL
       out_of_time : (from ≤ e.time → e.time ≤ by → ⊥) → Had (e ∷ part) next
       out_of_time out = same_names (at_i part) next h (omega (arith, due, later)) (λ n place since soon untuned turn. absurd (out since soon))
 
-      with_report : Had (e ∷ part) next
-      with_report = in_time (nat_le from e.time) (nat_le e.time by) refl refl where
+      with_turn_due : Had (e ∷ part) next
+      with_turn_due = in_time (nat_le from e.time) (nat_le e.time by) refl refl where
         in_time : (a b : Bool) → nat_le from e.time ≡ a → nat_le e.time by ≡ b → Had (e ∷ part) next
         in_time true true s t = one_turn (leb-true _ _ s) (leb-true _ _ t)
         in_time true false s t = let lt = leb-false _ _ t in out_of_time (λ since soon. omega (arith, lt, soon))
@@ -140,7 +140,7 @@ module _ (hosts : ℕ → Opening) (terms : Terms) (i : ℕ) (base : List TimedL
         (λ (at : IsNowAt terms e.time i now). ⊎_elim
         (λ (then : IsDueThen now (due_at k) (due_at next)). ⊎_elim
         (λ (not_yet : (now < due_at k) × (due_at next ≡ due_at k)). let lt = not_yet.0 in same_names k next h (le_same (due_at k) (due_at next) not_yet.1) (λ n place since soon untuned turn. let due = turn.due in absurd (omega (arith, lt, due))))
-        (λ (report : (due_at k ≤ now) × (now + 1000000 ≤ due_at next)). with_report now at next h report.0 report.1)
+        (λ (turn : (due_at k ≤ now) × (now + 1000000 ≤ due_at next)). with_turn_due now at next h turn.0 turn.1)
         then)
         (λ (tuned : IsTuned e.at.line × (due_at next ≡ due_at k)). same_names k next h (le_same (due_at k) (due_at next) tuned.1) (λ n place since soon untuned turn. absurd (untuned tuned.0)))
         (call_due e.at.line now k (told_itself e.at.line) draws))

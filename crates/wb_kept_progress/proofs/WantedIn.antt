@@ -166,6 +166,7 @@ costs = record {
   both = λ k m n one other a b. costs_both k m n a b;
   wants = want_costs;
   turned = λ t k. record { owed = omega arith; now = refl };
+  beats = λ k due. record { owed = omega arith; now = refl };
   answers = λ k is. record { owed = omega arith; now = ap present (says_after (view_of k.host) (take 64 (pages_of k.host.is.held)) k.host) };
   asks_pages = λ k is. record { owed = omega arith; now = refl };
   reports = λ page until told k is. record { owed = omega arith; now = refl };

@@ -12,13 +12,13 @@ use Rattle.wb_keeping.specs.Performing.{Keeping, after_doing, after_lines, sees}
 use Rattle.wb_kept_progress.specs.Sessions.{Opening}
 use Rattle.wb_kept_progress.specs.Timed.{Performed, TimedLine, host_after, performed, performed_then, start_of, time_of}
 use Rattle.wb_kept_progress.specs.Whole.{IsHeldBySome, there}
+use Rattle.wb_kept_progress.proofs.AskedComes.{the_ask}
 use Rattle.wb_kept_progress.proofs.CallParts.{host_is}
 use Rattle.wb_kept_progress.proofs.KeptInTime.{front_of, then_both, then_front, then_time}
-use Rattle.wb_kept_progress.proofs.NextReports.{there_here}
+use Rattle.wb_kept_progress.proofs.NextDue.{there_here}
 use Rattle.wb_kept_progress.proofs.Performed.{after_all}
 use Rattle.wb_kept_progress.proofs.WantedIn.{IsAskedInCall, LacksCredit}
 use Rattle.wb_kept_progress.proofs.WholeParts.{HasNoCredit, IsAsking, IsWanting, does, timer_then}
-use Rattle.wb_progress.proofs.Rounds.{the_ask}
 
 module _ (hosts : ℕ → Opening) (terms : Terms) (trace : List TimedLine) (i : ℕ) (n : NameValue)
     (held : IsHeldBySome hosts terms trace n) where

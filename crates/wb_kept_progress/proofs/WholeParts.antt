@@ -1,11 +1,11 @@
 -- What follows one after the other, from what a call asks for and gives up to where a session is whole.
-use Rattle.std.specs.Prelude.{◌≡◌, ◌≢◌, ◌⊎◌, ℕ, ◌+◌, ◌*◌, ◌<◌, ◌≤◌, true, false, List, ◌∷◌, ◌++◌, Contains, Option, Some, length, max}
+use Rattle.std.specs.Prelude.{◌≡◌, ◌≢◌, ◌⊎◌, ℕ, ◌+◌, ◌*◌, ◌<◌, ◌≤◌, true, false, List, ◌∷◌, ◌++◌, Contains, Some, length}
 use Rattle.wb_names.specs.Values.{NameValue}
 use Rattle.wb_recovery.specs.declared.timers.AskTimer.{AskTimer}
 use Rattle.wb_progress.specs.InTime.{known_from, repairing}
 use Rattle.wb_progress.specs.Turns.{IsNowAt, Terms, settled_by}
 use Rattle.wb_member.specs.Judged.{holds}
-use Rattle.wb_member.specs.Opened.{Opened, present}
+use Rattle.wb_member.specs.Opened.{present}
 use Rattle.wb_policy.specs.Credit.{has_credit, spent}
 use Rattle.wb_policy.specs.Fairness.{name_in_turn}
 use Rattle.wb_keeping.specs.Kept.{Line, Asks, Stops}
@@ -14,17 +14,12 @@ use Rattle.wb_keeping.specs.Performing.{Keeping, sees, view_of}
 use Rattle.wb_policy.specs.Wanting.{oldest}
 use Rattle.wb_policy.specs.declared.wanting.AskedName.{AskedName}
 use Rattle.wb_kept_progress.specs.Sessions.{Opening}
-use Rattle.wb_kept_progress.specs.Timed.{IsTimely, Performed, TimedLine, called_at, host_after, performed, performed_then, start_of, time_of, timers_after}
+use Rattle.wb_kept_progress.specs.Timed.{IsTimely, Performed, TimedLine, called_at, performed, performed_then, start_of, time_of}
+pub use Rattle.wb_kept_progress.specs.Promises.{Holds, IsAsking, IsForAnother, IsLate, IsStill, host_then, timer_then}
 use Rattle.wb_kept_progress.proofs.Moments.{moment_of}
-use Rattle.wb_kept_progress.specs.Whole.{IsHeldBySome, IsTimelySession, LackAtMost, AreWithin, Sizes, WaitAtMost, report_span, request_span, there}
+use Rattle.wb_kept_progress.specs.Whole.{IsHeldBySome, IsTimelySession, Sizes, WaitAtMost, request_span, there, wanting}
 
 -- ---- calls and their lines
-
-abbrev pub host_then : (ℕ → Opening) → List Performed → ℕ → Opened
-host_then hosts back i = host_after (λ j. start_of (hosts j)) back i
-
-abbrev pub timer_then : (ℕ → Opening) → List Performed → ℕ → NameValue → Option AskTimer
-timer_then hosts back i n = (timers_after (λ j. start_of (hosts j)) back i n).ask
 
 -- the lines that a call performs
 abbrev pub does : (ℕ → Opening) → TimedLine → List TimedLine → List Line
@@ -56,9 +51,9 @@ HeldWasHeld = (hosts : ℕ → Opening) (terms : Terms) (trace newer older : Lis
 
 -- ---- why a name is asked for, and why it is given up
 
--- a report is due, and it is the name whose turn comes after it
+-- a turn is due by the clock, and it is the name that has it
 pub record HasTurn (k : Keeping) (now : ℕ) (n : NameValue) : Type 0 where
-  pub due : k.policy.reports.due ≤ now
+  pub due : k.policy.pace.due ≤ now
   pub named : name_in_turn k.host.is.held k.policy.turns ≡ Some n
 
 -- Some live host holds it, or it has its turn, or a drawop came that was new.
@@ -73,7 +68,7 @@ StopsHaveCause = (hosts : ℕ → Opening) (terms : Terms) (trace : List TimedLi
     → ((ask : AskTimer) × (timer_then hosts back x.place n ≡ Some ask) × (4 ≤ ask.level))
     ⊎ ((64 ≤ length (view_of (host_then hosts back x.place)).asked) × (a : AskedName) × (oldest (view_of (host_then hosts back x.place)).asked ≡ Some a) × (a.name ≡ n))
 
--- What a call spends of the credit: something for what some live host holds, nothing, or one ask behind a report; or a drawop came that was new.
+-- What a call spends of the credit: something for what some live host holds, nothing, or one ask in turn; or a drawop came that was new.
 abbrev pub CreditIsSpent : Type 0
 CreditIsSpent = (hosts : ℕ → Opening) (terms : Terms) (trace newer older : List TimedLine) (e : TimedLine) → IsTimelySession hosts terms trace → trace ≡ newer ++ e ∷ older → settled_by terms < e.time
     → let k = there hosts older e.at.place in
@@ -81,11 +76,7 @@ CreditIsSpent = (hosts : ℕ → Opening) (terms : Terms) (trace newer older : L
     ((n : NameValue) × Contains (does hosts e older) (Asks n) × IsHeldBySome hosts terms trace n)
     ⊎ ((next.host.is.held ≢ k.host.is.held)
     ⊎ ((next.policy.owed ≤ k.policy.owed)
-    ⊎ ((k.policy.reports.due ≤ moment_of e.at.line) × (next.policy.owed ≤ spent k.policy.owed (moment_of e.at.line)))))
-
--- The next report is due within 96 seconds.
-abbrev pub ReportsAreDue : Type 0
-ReportsAreDue = (hosts : ℕ → Opening) (terms : Terms) (trace newer older : List TimedLine) (i : ℕ) → IsTimelySession hosts terms trace → trace ≡ newer ++ older → Contains terms.live i → (there hosts older i).policy.reports.due + terms.lag i ≤ max (called_at older) terms.quiet + 96000000
+    ⊎ ((k.policy.pace.due ≤ moment_of e.at.line) × (next.policy.owed ≤ spent k.policy.owed (moment_of e.at.line)))))
 
 -- ---- timers
 
@@ -97,32 +88,11 @@ TimersAreYoung = (hosts : ℕ → Opening) (terms : Terms) (trace : List TimedLi
 
 -- ---- while nothing new comes
 
-pub record IsStill (hosts : ℕ → Opening) (terms : Terms) (trace newest window base : List TimedLine) : Type 0 where
-  pub split : trace ≡ newest ++ (window ++ base)
-  pub same : (front part : List TimedLine) (i : ℕ) → window ≡ front ++ part → Contains terms.live i → (there hosts (part ++ base) i).host.is.held ≡ (there hosts base i).host.is.held
-
--- all that the lemmas below take of a session
-pub record Holds (hosts : ℕ → Opening) (terms : Terms) (trace : List TimedLine) (sizes : Sizes) (wait most : ℕ) : Type 0 where
-  pub session : IsTimelySession hosts terms trace
-  pub within : AreWithin hosts terms trace sizes
-  pub waits : WaitAtMost hosts terms trace wait
-  pub lacks : LackAtMost hosts terms trace most
-  pub short : request_span terms + terms.drift ≤ 60000000
-
--- behind some lines a live host asks for what another holds
-pub record IsAsking (hosts : ℕ → Opening) (terms : Terms) (trace part : List TimedLine) (i : ℕ) (back : List Performed) : Type 0 where
-  pub front : List Performed
-  pub split : performed hosts part ≡ front ++ back
-  pub name : NameValue
-  pub ask : AskTimer
-  pub stands : timer_then hosts back i name ≡ Some ask
-  pub held : IsHeldBySome hosts terms trace name
-
 -- It does not go on for long where a live host asks for what another holds.
 abbrev pub StillnessEnds : Type 0
-StillnessEnds = (hosts : ℕ → Opening) (terms : Terms) (trace newest window base : List TimedLine) (sizes : Sizes) (wait most i : ℕ) (back : List Performed) → Holds hosts terms trace sizes wait most → IsStill hosts terms trace newest window base
-    → known_from terms + wait + repairing terms ≤ called_at base → Contains terms.live i → IsAsking hosts terms trace (window ++ base) i back → called_at base + request_span terms < time_of back
-    → called_at (window ++ base) ≤ time_of back + most * request_span terms + repairing terms
+StillnessEnds = (hosts : ℕ → Opening) (terms : Terms) (trace newest window base : List TimedLine) (sizes : Sizes) (wait most i : ℕ) (back : List Performed) → Holds hosts terms trace sizes wait most → IsStill hosts terms trace newest window base → IsLate terms sizes wait base
+    → Contains terms.live i → IsAsking hosts terms trace (window ++ base) i back → called_at base + request_span terms < time_of back
+    → called_at (window ++ base) ≤ time_of back + sizes.gives * request_span terms + repairing terms
 
 -- There is no credit behind the newest call, which is one of this host.
 abbrev pub HasNoCredit : (ℕ → Opening) → Terms → List TimedLine → ℕ → Type 0
@@ -147,5 +117,5 @@ pub record IsWanting (hosts : ℕ → Opening) (terms : Terms) (trace window bas
 -- What a live host lacks is wanted in time.
 abbrev pub LackIsWanted : Type 0
 LackIsWanted = (hosts : ℕ → Opening) (terms : Terms) (trace newest window base : List TimedLine) (sizes : Sizes) (wait most i from : ℕ) (n : NameValue) → Holds hosts terms trace sizes wait most → IsStill hosts terms trace newest window base
-    → known_from terms + wait + repairing terms ≤ called_at base → Contains terms.live i → IsHeldBySome hosts terms trace n → holds (there hosts base i).host n ≡ false → called_at base ≤ from
-    → (let by = from + (sizes.slices + 2 * sizes.numbers * sizes.holes) * report_span terms + terms.delivery in by < called_at (window ++ base) → IsWanting hosts terms trace window base i from by)
+    → IsLate terms sizes wait base → Contains terms.live i → IsHeldBySome hosts terms trace n → holds (there hosts base i).host n ≡ false → called_at base ≤ from
+    → (let by = from + wanting terms sizes in by < called_at (window ++ base) → IsWanting hosts terms trace window base i from by)

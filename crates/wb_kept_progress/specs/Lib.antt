@@ -3,5 +3,9 @@ pub mod Repairs
 pub mod Starts
 pub mod Timed
 pub mod Whole
+pub mod Promises
+pub mod Rounds
 pub mod Agreement
 pub mod Since
+pub mod Traffic
+pub mod Judged

@@ -65,12 +65,12 @@ abbrev pub AreTicks : ℕ → List LineAt → Type 0
 AreTicks i [] = Unit {0}
 AreTicks i (e ∷ lines) = ((e.place ≡ i) × (now : ℕ) × (e.line ≡ Ticked now)) × AreTicks i lines
 
--- from when on the next report is due, and all names that were asked for are paid for
+-- from when on the next report and the next turn are due, and all names that were asked for are paid for
 abbrev pub ready_at : Keeping → ℕ
-ready_at k = max (present k.host) (max k.policy.reports.due k.policy.owed)
+ready_at k = max (present k.host) (max (max k.policy.reports.due k.policy.pace.due) k.policy.owed)
 
 -- By some ticks, of which none is refused, the request timer of a name comes to stand, and what the host holds stays. At each a report
--- is due, so that two of them are 96 seconds apart at most.
+-- and a turn are due, so that two of them are 96 seconds apart at most.
 pub record ComesToAsk (hosts : ℕ → Opening) (newer older : List LineAt) (i : ℕ) (n : NameValue) : Type 0 where
   pub ticks : AreTicks i newer
   pub taken : AreTaken hosts (newer ++ older)

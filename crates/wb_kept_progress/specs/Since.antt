@@ -1,6 +1,6 @@
 -- Sessions in which programs start, and start anew. What came since the last start of each member is a session of hosts: by when it becomes
 -- whole is said of that.
-use Rattle.std.specs.Prelude.{◌≡◌, ◌≢◌, ℕ, ◌+◌, ◌<◌, ◌≤◌, Bool, true, false, List, [], ◌∷◌, ◌++◌, Contains, nat_eq, if◌then◌else◌}
+use Rattle.std.specs.Prelude.{◌≡◌, ◌≢◌, ℕ, ◌+◌, ◌*◌, ◌<◌, ◌≤◌, Bool, true, false, List, [], ◌∷◌, ◌++◌, Contains, nat_eq, if◌then◌else◌}
 use Rattle.wb_names.specs.Values.{NameValue}
 use Rattle.wb_names.specs.declared.name.PageId.{PageId}
 use Rattle.wb_names.specs.declared.parts.Op.{Op}
@@ -18,7 +18,8 @@ use Rattle.wb_laws_kept.specs.Openings.{opened, opened_host}
 use Rattle.wb_laws_kept.specs.Sessions.{AreTaken, Begins, Call, CallAt, Handed, given_lines, kept_at}
 use Rattle.wb_kept_progress.specs.Sessions.{Opening, at}
 use Rattle.wb_kept_progress.specs.Timed.{SaysNow, TimedLine, greatest_distance}
-use Rattle.wb_kept_progress.specs.Whole.{AreWithin, IsHeldBySome, IsTimelySession, LackAtMost, Sizes, WaitAtMost, request_span, there, whole_by}
+use Rattle.wb_kept_progress.specs.Rounds.{OneLacksAtMost, PlacesAreFilled, rounds_by}
+use Rattle.wb_kept_progress.specs.Whole.{AreSoon, AreWithin, IsHeldBySome, IsTimelySession, LackAtMost, NewAreKept, ReportWithin, Sizes, WaitAtMost, request_span, there, whole_by}
 
 -- ---- the last start of each member, and the lines since then
 
@@ -112,7 +113,6 @@ pub record IsTimelyWithStarts (numbers : ℕ → ℕ) (terms : Terms) (calls : L
   pub apart : AreApart numbers
   pub taken : AreTaken numbers calls
   pub order : AreInOrder calls
-  pub reported : 1 ≤ terms.reporting
   pub covered : terms.drift ≤ terms.late
   pub far : greatest_distance ≤ terms.far
   pub fitting : (i : ℕ) → Contains terms.live i → AreFittingSince terms (numbers i) i calls
@@ -140,5 +140,13 @@ abbrev pub RestartedBecomeWhole : Type 0
 RestartedBecomeWhole = (numbers : ℕ → ℕ) (terms : Terms) (calls newer later : List CallAt) (sizes : Sizes) (wait most i : ℕ) (n : NameValue) → IsTimelyWithStarts numbers terms calls
     → let hosts = hosts_of numbers calls in
     let trace = since numbers calls in
-    AreWithin hosts terms trace sizes → WaitAtMost hosts terms trace wait → LackAtMost hosts terms trace most → request_span terms + terms.drift ≤ 60000000 → IsHeldBySome hosts terms trace n
+    AreWithin hosts terms trace sizes → AreSoon hosts terms trace sizes most → WaitAtMost hosts terms trace wait → LackAtMost hosts terms trace most → request_span terms + terms.drift ≤ 60000000 → IsHeldBySome hosts terms trace n
     → calls ≡ newer ++ later → whole_by terms sizes wait most < called_at later → Contains terms.live i → holds (kept_at numbers later i).host n ≡ true
+
+-- So it does by rounds.
+abbrev pub RestartedBecomeWholeByRounds : Type 0
+RestartedBecomeWholeByRounds = (numbers : ℕ → ℕ) (terms : Terms) (calls newer later : List CallAt) (from pause wait most places rounds i : ℕ) (n : NameValue) → IsTimelyWithStarts numbers terms calls
+    → let hosts = hosts_of numbers calls in
+    let trace = since numbers calls in
+    ReportWithin hosts terms trace from pause → WaitAtMost hosts terms trace wait → OneLacksAtMost hosts terms trace most → NewAreKept hosts terms trace from → PlacesAreFilled hosts terms trace from places → most ≤ rounds * places
+    → IsHeldBySome hosts terms trace n → calls ≡ newer ++ later → rounds_by terms from pause wait rounds < called_at later → Contains terms.live i → holds (kept_at numbers later i).host n ≡ true

@@ -1,17 +1,16 @@
 -- Hosts in real time, by the lines that they perform. A self-managing host performs such lines, one after the other.
-use Rattle.std.specs.Prelude.{◌≡◌, ◌≢◌, ◌⊎◌, ℕ, ◌+◌, ◌<◌, ◌≤◌, Bool, true, false, map, max, List, [], ◌∷◌, ◌++◌, Contains, IfSome, Some, nat_eq, nat_le, if◌then◌else◌}
+use Rattle.std.specs.Prelude.{◌≡◌, ◌≢◌, ◌⊎◌, ℕ, ◌+◌, ◌<◌, ◌≤◌, Bool, true, false, map, max, List, [], ◌∷◌, ◌++◌, Contains, Some, nat_eq, nat_le, if◌then◌else◌}
 use Rattle.wb_names.specs.Values.{DrawopValue, NameValue}
 use Rattle.wb_codec.specs.declared.datagram.Datagram.{Datagram}
 use Rattle.wb_codec.specs.declared.datagram.Datagram.TheVariants.{Draw, Session, Request, AskPages, PageState}
 use Rattle.wb_recovery.specs.Events.{constants_after, timers_of}
-use Rattle.wb_recovery.specs.declared.timers.AnswerTimer.{AnswerTimer}
 use Rattle.wb_recovery.specs.declared.timers.AskTimer.{AskTimer}
 use Rattle.wb_recovery.specs.declared.timers.Timers.{Timers}
 use Rattle.wb_recovery.specs.declared.tuning.Tuning.{Tuning}
 use Rattle.wb_progress.specs.InTime.{answering_by, known_from, repairing}
 use Rattle.wb_progress.specs.Bounds.{IsUnder}
 use Rattle.wb_progress.specs.Keepers.{is_request}
-use Rattle.wb_progress.specs.Turns.{IsNowAt, Terms, longest, quiet_span, settled_by}
+use Rattle.wb_progress.specs.Turns.{AreNotOverdue, IsNowAt, Terms, longest, quiet_span, settled_by}
 use Rattle.wb_member.specs.Judged.{delay, holds, is_full}
 use Rattle.wb_member.specs.Opened.{Opened, events, opened_with, present}
 use Rattle.wb_keeping.specs.Kept.{Line, Arrives, Asks, Hears, Says, SetsDistance, Stops, Ticks, Tunes}
@@ -67,11 +66,6 @@ pub record IsQuietLine (line : Line) : Type 0 where
   pub drawn : (d : DrawopValue) → line ≢ Says (Draw d)
   pub said : (asker : ℕ) (m : NameValue) → line ≢ Says (Request asker m)
 
--- no timer is overdue by more than this
-pub record AreNotOverdue (s : Timers) (now late : ℕ) : Type 0 where
-  pub ask : IfSome s.ask (λ (ask : AskTimer). now ≤ ask.due + late)
-  pub answer : IfSome s.answer (λ (answer : AnswerTimer). now ≤ answer.due + late)
-
 -- one of the newer lines is this one, at a place and soon enough
 pub record ComesTo (newer : List Performed) (j by : ℕ) (line : Line) : Type 0 where
   pub later : List Performed
@@ -113,13 +107,12 @@ goes_by_distances (Tunes constants) = false
 abbrev pub GoByShort : (ℕ → Start) → Terms → List Performed → Type 0
 GoByShort hosts terms trace = (newer older : List Performed) (e : Performed) (source : ℕ) → trace ≡ newer ++ e ∷ older → Contains terms.live e.place → goes_by_distances e.line ≡ true → delay (host_after hosts older e.place) source ≤ terms.far
 
--- The terms are those of wb_progress, without pages: nothing is asked of looks, of reports, and of what is asked for and given up.
+-- The terms are those of wb_progress: nothing is asked of reports, and of what is asked for and given up.
 pub record IsTimely (hosts : ℕ → Start) (terms : Terms) (trace : List Performed) : Type 0 where
   pub distinct : (i j : ℕ) → (hosts i).number ≡ (hosts j).number → i ≡ j
   pub waits : (i : ℕ) → Contains terms.live i → IsUnder (longest terms) (hosts i).constants
   pub tuned : (newer older : List Performed) (i : ℕ) → trace ≡ newer ++ older → Contains terms.live i → let host = host_after hosts older i in IsUnder (longest terms) (constants_after host.is.constants (events host))
   pub order : AreInOrder trace
-  pub reported : 1 ≤ terms.reporting
   -- moments do not go back at a live place; the last before its first line is one of `quiet` or before
   pub moments : (i : ℕ) → Contains terms.live i → DoNotGoBack 0 (hosts i).moments
   pub begun : (i : ℕ) → Contains terms.live i → present (host_after hosts [] i) + terms.lag i ≤ terms.quiet

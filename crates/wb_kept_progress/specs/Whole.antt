@@ -1,19 +1,23 @@
 -- By when all of a session has come to self-managing hosts, if from some time on nobody draws and nothing is lost.
-use Rattle.std.specs.Prelude.{◌≡◌, ◌≢◌, ◌⊎◌, ℕ, ◌+◌, ◌*◌, ◌^◌, ◌-◌, ◌<◌, ◌≤◌, false, List, [], ◌∷◌, ◌++◌, Contains, Some, length}
+use Rattle.std.specs.Prelude.{◌≡◌, ◌≢◌, ◌⊎◌, ℕ, ◌+◌, ◌*◌, ◌/◌, ◌^◌, ◌-◌, ◌<◌, ◌≤◌, false, List, [], ◌∷◌, ◌++◌, Contains, Some, length, max}
 use Rattle.wb_names.specs.Values.{DrawopValue, NameValue}
 use Rattle.wb_names.specs.declared.name.PageId.{PageId}
 use Rattle.wb_names.specs.declared.parts.Op.{Op}
 use Rattle.wb_codec.specs.declared.datagram.Datagram.{Datagram}
 use Rattle.wb_recovery.specs.declared.timers.AskTimer.{AskTimer}
 use Rattle.wb_recovery.specs.declared.tuning.Tuning.{Tuning}
+use Rattle.wb_gaps.specs.Gaps.{IsMissing}
 use Rattle.wb_gaps.specs.Holes.{holes_of}
 use Rattle.wb_gaps.specs.declared.holes.Hole.{Hole}
 use Rattle.wb_progress.specs.Bounds.{IsUnder}
-use Rattle.wb_progress.specs.InTime.{known_from, repairing}
+use Rattle.wb_progress.specs.InTime.{AreApart, known_from, repairing}
 use Rattle.wb_progress.specs.Turns.{Terms, longest, settled_by}
-use Rattle.wb_member.specs.Judged.{holds, is_full}
+use Rattle.wb_member.specs.Judged.{echoes, holds, is_full}
 use Rattle.wb_member.specs.Opened.{present}
 use Rattle.wb_policy.specs.Fairness.{slices_of, slices_on}
+use Rattle.wb_policy.specs.Reports.{mean_time, members_in}
+use Rattle.wb_policy.specs.declared.limits.TheConstants.{HEARD, LONGEST_GAP, LONGEST_PAUSE, MOST_REPORT_BYTES}
+use Rattle.wb_keeping.specs.Kept.{Stops}
 use Rattle.wb_keeping.specs.Laws.{Added, Came, Tuned, doing_of}
 use Rattle.wb_keeping.specs.Performing.{Keeping, due, sent_by_doing}
 use Rattle.wb_kept_progress.specs.Sessions.{AreTaken, DoNotGoBack, Opening, kept_at, opened_host}
@@ -64,7 +68,6 @@ pub record IsTimelySession (hosts : ℕ → Opening) (terms : Terms) (trace : Li
   pub tuned : (newer older : List TimedLine) (e : TimedLine) (constants : Tuning) → trace ≡ newer ++ e ∷ older → Contains terms.live e.at.place → e.at.line ≡ Tuned constants → IsUnder (longest terms) constants
   pub taken : AreTaken hosts (lines_of trace)
   pub order : AreCalledInOrder trace
-  pub reported : 1 ≤ terms.reporting
   -- each line says a moment of its time, and `late` is at least as long as clocks drift
   pub times : TellTimes terms trace
   pub covered : terms.drift ≤ terms.late
@@ -80,11 +83,18 @@ pub record IsTimelySession (hosts : ℕ → Opening) (terms : Terms) (trace : Li
   pub fresh : (newer older : List TimedLine) (e : TimedLine) (now : ℕ) (v : Datagram) → trace ≡ newer ++ e ∷ older → settled_by terms < e.time → e.at.line ≡ Came now v → WasSentBy hosts older e.time terms.delivery v
 
 -- The most that the board of a live host has from `quiet` on: slices of marks, counted with those of the page that it reported last, holes,
--- and numbers in a hole. Rounds stay below 2^32. No number that is held is 0, or 2^31 or more.
+-- and numbers in a hole. The most names that it gives up one after the other. And from `since` on, in microseconds, the most from a call to its
+-- next report, and until its turns come to a missing number that is held.
 pub record Sizes : Type 0 where
   pub slices : ℕ
   pub holes : ℕ
   pub numbers : ℕ
+  pub gives : ℕ
+  pub turning : ℕ
+  pub pause : ℕ
+  pub since : ℕ
+
+-- Rounds stay below 2^32. No number that is held is 0, or 2^31 or more.
 
 pub record AreWithin (hosts : ℕ → Opening) (terms : Terms) (trace : List TimedLine) (sizes : Sizes) : Type 0 where
   pub slices : (newer older : List TimedLine) (i : ℕ) → trace ≡ newer ++ older → Contains terms.live i → terms.quiet < called_at older → let k = there hosts older i in slices_of k.host.is.held + slices_on k.host.is.held k.policy.told_page ≤ sizes.slices
@@ -92,6 +102,39 @@ pub record AreWithin (hosts : ℕ → Opening) (terms : Terms) (trace : List Tim
   pub numbers : (newer older : List TimedLine) (i : ℕ) (hole : Hole) → trace ≡ newer ++ older → Contains terms.live i → terms.quiet < called_at older → Contains (holes_of (there hosts older i).host.is.held) hole → hole.gap.last + 1 - hole.gap.first ≤ sizes.numbers
   pub rounds : (newer older : List TimedLine) (i : ℕ) → trace ≡ newer ++ older → Contains terms.live i → terms.quiet < called_at older → (there hosts older i).policy.turns.round + 2 * sizes.numbers < 2 ^ 32
   pub named : (newer older : List TimedLine) (i : ℕ) (d : DrawopValue) → trace ≡ newer ++ older → Contains terms.live i → terms.quiet < called_at older → Contains (there hosts older i).host.is.held d → (1 ≤ d.name.seq) × (d.name.seq < 2147483648)
+
+-- ---- how often live hosts report
+
+-- After each call the next report of a live host is due within `pause` of it, or of `since`.
+abbrev pub ReportWithin : (ℕ → Opening) → Terms → List TimedLine → (since pause : ℕ) → Type 0
+ReportWithin hosts terms trace since pause = (newer older : List TimedLine) (i : ℕ) → trace ≡ newer ++ older → Contains terms.live i → (there hosts older i).policy.reports.due + terms.lag i ≤ max (called_at older) since + pause
+
+-- It is due within 96 seconds, whatever comes in.
+abbrev pub ReportsAreDue : Type 0
+ReportsAreDue = (hosts : ℕ → Opening) (terms : Terms) (trace : List TimedLine) → IsTimelySession hosts terms trace → ReportWithin hosts terms trace terms.quiet LONGEST_PAUSE
+
+-- A live host counts itself, and those of whom it heard a report within 192 seconds. Once its clock is so long after what was on its way has arrived,
+-- these are live hosts.
+abbrev pub LiveHostsAreCounted : Type 0
+LiveHostsAreCounted = (hosts : ℕ → Opening) (terms : Terms) (trace newer older : List TimedLine) (i : ℕ) → IsTimelySession hosts terms trace → trace ≡ newer ++ older → Contains terms.live i
+    → (let host = (there hosts older i).host in settled_by terms + HEARD ≤ present host + terms.lag i → members_in (echoes host) ≤ length terms.live)
+
+-- one and a half of the mean time between two reports
+abbrev pub pause_of : (rate members : ℕ) → ℕ
+pause_of rate members = 3 * mean_time rate members MOST_REPORT_BYTES / 2
+
+-- Live hosts report with `rate` bytes a second or more.
+abbrev pub AreNoSlower : (ℕ → Opening) → Terms → ℕ → Type 0
+AreNoSlower hosts terms rate = (i : ℕ) → Contains terms.live i → rate ≤ (hosts i).rate
+
+-- from then on live hosts count live hosts alone, and the reports have come that were due before
+abbrev pub counted_from : Terms → ℕ
+counted_from terms = settled_by terms + HEARD + terms.drift + LONGEST_PAUSE
+
+-- So it is due as soon as the rate says for as many members as there are live hosts.
+abbrev pub ReportsGoByRates : Type 0
+ReportsGoByRates = (hosts : ℕ → Opening) (terms : Terms) (trace : List TimedLine) (rate : ℕ) → IsTimelySession hosts terms trace → 1 ≤ rate → AreNoSlower hosts terms rate
+    → ReportWithin hosts terms trace (counted_from terms) (pause_of rate (length terms.live))
 
 -- ---- what is lacked
 
@@ -103,10 +146,6 @@ IsHeldBySome hosts terms trace n = IsAnswerable (λ j. start_of (hosts j)) terms
 pub record Lack : Type 0 where
   pub place : ℕ
   pub name : NameValue
-
-abbrev pub AreApart : List Lack → Type 0
-AreApart [] = Unit {0}
-AreApart (x ∷ lacks) = (Contains lacks x → ⊥) × AreApart lacks
 
 -- After lines that were performed a live host lacks the name, and one of them held it.
 abbrev pub IsLackedAt : (ℕ → Opening) → Terms → List TimedLine → List Performed → Lack → Type 0
@@ -121,28 +160,88 @@ abbrev pub WaitAtMost : (ℕ → Opening) → Terms → List TimedLine → ℕ �
 WaitAtMost hosts terms trace wait = (i : ℕ) (n : NameValue) (ask : AskTimer) → Contains terms.live i → IsHeldBySome hosts terms trace n
     → (timers_after (λ j. start_of (hosts j)) (until (known_from terms) (performed hosts trace)) i n).ask ≡ Some ask → ask.due + terms.lag i ≤ known_from terms + wait
 
+-- ---- how soon what is lacked is asked for, and comes
+
+-- Each number that a live host lacks below one that it holds is held by one of them.
+abbrev pub HolesAreHeld : (ℕ → Opening) → Terms → List TimedLine → Type 0
+HolesAreHeld hosts terms trace = (newer older : List TimedLine) (i : ℕ) (n : NameValue) → trace ≡ newer ++ older → Contains terms.live i → settled_by terms < called_at older
+    → IsMissing (there hosts older i).host.is.held n.page [] n.source n.seq → IsHeldBySome hosts terms trace n
+
+-- From a time on a live host gives up no name before its request timer was backed off.
+abbrev pub NewAreKept : (ℕ → Opening) → Terms → List TimedLine → ℕ → Type 0
+NewAreKept hosts terms trace from = (front back : List Performed) (x : Performed) (n : NameValue) (ask : AskTimer) → performed hosts trace ≡ front ++ x ∷ back → Contains terms.live x.place → from < x.time → x.line ≡ Stops n
+    → (timers_after (λ j. start_of (hosts j)) back x.place n).ask ≡ Some ask → 1 ≤ ask.level
+
+-- the longest from one report to the next
+abbrev pub report_span : Terms → Sizes → ℕ
+report_span terms sizes = sizes.pause + terms.late
+
+-- the longest from one turn to the next: one is due within 16 seconds, whatever is reported
+abbrev pub turn_span : Terms → ℕ
+turn_span terms = LONGEST_GAP + terms.late
+
+-- Live hosts report so soon. Each number has its turn within twice as many turns as all holes may have numbers, or the next turn is enough
+-- since any number is held. At most all names that are lacked are given up one after the other, or one if none is before its timer was backed off.
+pub record AreSoon (hosts : ℕ → Opening) (terms : Terms) (trace : List TimedLine) (sizes : Sizes) (most : ℕ) : Type 0 where
+  pub reports : ReportWithin hosts terms trace sizes.since sizes.pause
+  pub turns : (2 * sizes.numbers * sizes.holes * turn_span terms ≤ sizes.turning) ⊎ ((turn_span terms ≤ sizes.turning) × HolesAreHeld hosts terms trace)
+  pub gives : (most ≤ sizes.gives) ⊎ ((1 ≤ sizes.gives) × NewAreKept hosts terms trace sizes.since)
+
+-- the sizes of a session in which nothing more is known of that
+abbrev pub slowest : Terms → (slices holes numbers most : ℕ) → Sizes
+slowest terms slices holes numbers most = record {
+  slices = slices;
+  holes = holes;
+  numbers = numbers;
+  gives = most;
+  turning = 2 * numbers * holes * (LONGEST_GAP + terms.late);
+  pause = LONGEST_PAUSE;
+  since = terms.quiet;
+}
+
+-- Live hosts are always as soon as that.
+abbrev pub AllAreSoon : Type 0
+AllAreSoon = (hosts : ℕ → Opening) (terms : Terms) (trace : List TimedLine) (slices holes numbers most : ℕ) → IsTimelySession hosts terms trace → AreSoon hosts terms trace (slowest terms slices holes numbers most) most
+
+-- with reports that go by a rate
+abbrev pub by_rate : Terms → ℕ → Sizes → Sizes
+by_rate terms rate sizes = record sizes { pause = pause_of rate (length terms.live); since = counted_from terms }
+
+-- And they are as soon as that, if none reports with less.
+abbrev pub AllAreSoonByRates : Type 0
+AllAreSoonByRates = (hosts : ℕ → Opening) (terms : Terms) (trace : List TimedLine) (rate slices holes numbers most : ℕ) → IsTimelySession hosts terms trace → 1 ≤ rate → AreNoSlower hosts terms rate
+    → AreSoon hosts terms trace (by_rate terms rate (slowest terms slices holes numbers most)) most
+
 -- ---- spans, in microseconds
 
--- the longest from one report to the next, and from where a name is asked for to its first request
-abbrev pub report_span : Terms → ℕ
-report_span terms = 96000000 + terms.late
-
+-- the longest from where a name is asked for to its first request
 abbrev pub request_span : Terms → ℕ
 request_span terms = terms.asking * terms.far + terms.late
 
+-- until a report tells it the greatest number of a source, or a missing number has its turn
+abbrev pub wanting : Terms → Sizes → ℕ
+wanting terms sizes = sizes.slices * report_span terms sizes + sizes.turning + terms.delivery
+
+-- credit that is used up was used for what is held within this time
+abbrev pub credit_span : Terms → ℕ
+credit_span terms = 21000000 + terms.drift
+
+-- until it asks for something that another holds
+abbrev pub asked_within : Terms → Sizes → ℕ
+asked_within terms sizes = credit_span terms + request_span terms + wanting terms sizes
+
 -- While a live host lacks what another holds, something new comes to one of them within this time.
-abbrev pub step : Terms → Sizes → ℕ → ℕ
-step terms sizes most =
-    21000000 + terms.drift + request_span terms
-    + (sizes.slices + 2 * sizes.numbers * sizes.holes + 1) * report_span terms + terms.delivery
-    + most * request_span terms + repairing terms
+abbrev pub step : Terms → Sizes → ℕ
+step terms sizes =
+    report_span terms sizes + asked_within terms sizes
+    + sizes.gives * request_span terms + repairing terms
 
 -- the time at which each holds what one of them held
 abbrev pub whole_by : Terms → Sizes → ℕ → ℕ → ℕ
-whole_by terms sizes wait most = known_from terms + wait + repairing terms + (most + 1) * step terms sizes most
+whole_by terms sizes wait most = max (known_from terms + wait + repairing terms) sizes.since + (most + 1) * step terms sizes
 
 -- After that time each live host holds what one of them held, if a first request follows within a minute.
 abbrev pub SessionsBecomeWhole : Type 0
 SessionsBecomeWhole = (hosts : ℕ → Opening) (terms : Terms) (trace : List TimedLine) (sizes : Sizes) (wait most : ℕ) (n : NameValue)
-    → IsTimelySession hosts terms trace → AreWithin hosts terms trace sizes → WaitAtMost hosts terms trace wait → LackAtMost hosts terms trace most → request_span terms + terms.drift ≤ 60000000
+    → IsTimelySession hosts terms trace → AreWithin hosts terms trace sizes → AreSoon hosts terms trace sizes most → WaitAtMost hosts terms trace wait → LackAtMost hosts terms trace most → request_span terms + terms.drift ≤ 60000000
     → IsHeldBySome hosts terms trace n → AllKeptHoldBehind hosts terms trace (whole_by terms sizes wait most) n

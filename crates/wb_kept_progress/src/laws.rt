@@ -2,11 +2,15 @@
 //! proofs to cite.
 
 ghost use Rattle.wb_kept_progress.specs.Agreement.{SessionsAgree};
+ghost use Rattle.wb_kept_progress.specs.Judged.{JudgedMembersSendFewDrawops};
+ghost use Rattle.wb_kept_progress.specs.Promises.{Promises, PromisesSuffice};
 ghost use Rattle.wb_kept_progress.specs.Repairs.{AskedCanCome, MarksComeToBeTold, MissingCanCome, MissingIsAsked, MissingIsAskedSoon};
-ghost use Rattle.wb_kept_progress.specs.Since.{RestartedBecomeWhole, SinceIsSame, SinceIsTimely};
+ghost use Rattle.wb_kept_progress.specs.Rounds.{SessionsBecomeWholeByRounds};
+ghost use Rattle.wb_kept_progress.specs.Since.{RestartedBecomeWhole, RestartedBecomeWholeByRounds, SinceIsSame, SinceIsTimely};
 ghost use Rattle.wb_kept_progress.specs.Starts.{NoStateIsADeadEnd};
 ghost use Rattle.wb_kept_progress.specs.Timed.{KeptGoByShort, KeptIsPerformed, KeptKeepsMoments, KeptRequestIsAnswered, KeptTimerLeadsOrIsGivenUp, RequestIsAnswered, TimerLeadsOrIsGivenUp};
-ghost use Rattle.wb_kept_progress.specs.Whole.{SessionsBecomeWhole};
+ghost use Rattle.wb_kept_progress.specs.Traffic.{DrawopsAreCalledFor, FewRequestsAreSent, LittleIsSent, NoAnswerStands};
+ghost use Rattle.wb_kept_progress.specs.Whole.{AllAreSoon, AllAreSoonByRates, LiveHostsAreCounted, ReportsAreDue, ReportsGoByRates, SessionsBecomeWhole};
 
 /// Whatever came in before, a drawop that one host asks for, and that another holds, comes by six
 /// more lines of the two. None of them is refused, and none hands in what was not sent.
@@ -55,12 +59,50 @@ pub fn kept_hosts_perform_lines()
 
 /// A session of self-managing hosts becomes whole. If from some time on nobody draws, nothing is
 /// lost, and drivers tick in time, each live host comes to hold, by a stated time, what one of them
-/// held. After it any two of them report, list and show the same, if no name means two drawops.
-/// None does if each drawop that comes was sent by one of the hosts, and no two of these have one
+/// held. How soon they report, take turns and get what they ask for are letters of that time, which
+/// have greatest values, and less than that where reports go by rates. After it any two of them report, list and show the same, if no name means
+/// two drawops. None does if each drawop that comes was sent by one of the hosts, and no two of these have one
 /// number.
 pub fn sessions_become_whole()
     ensures whole { SessionsBecomeWhole }
+    ensures always { AllAreSoon }
+    ensures by_rates { AllAreSoonByRates }
     ensures agree { SessionsAgree }
+{}
+
+/// It becomes whole by rounds while live hosts keep places filled, and give up no name before its
+/// timer was backed off. Then each round brings as many names as there are places, to each of them
+/// at once.
+pub fn filled_places_bring_rounds()
+    ensures whole { SessionsBecomeWholeByRounds }
+{}
+
+/// What `sessions_become_whole` takes of the policy of self-managing hosts. They promise that, while nothing
+/// new comes, a host that lacks what another holds asks for something by a time, and that it gives
+/// up such a name early only for another. From these promises alone the law follows.
+pub fn policies_keep_promises()
+    ensures kept { Promises }
+    ensures suffice { PromisesSuffice }
+{}
+
+/// How often live hosts report. The next report of each is due within 96 seconds, whatever comes
+/// in. Once they hear live hosts alone, each counts no more members than these are, and its next
+/// report is due within one and a half of the mean time that the rate gives for so many.
+pub fn reports_follow_one_another()
+    ensures always { ReportsAreDue }
+    ensures counted { LiveHostsAreCounted }
+    ensures by_rates { ReportsGoByRates }
+{}
+
+/// Whatever comes in, a self-managing host sends few reports, page states and questions, by the
+/// time between two of them, and few requests, by how many names it may ask for. It sends a drawop
+/// only as its user draws, or once for a request for what it holds. A judge lets few of these in.
+pub fn little_is_sent()
+    ensures said { LittleIsSent }
+    ensures requests { FewRequestsAreSent }
+    ensures drawops { DrawopsAreCalledFor }
+    ensures first { NoAnswerStands }
+    ensures judged { JudgedMembersSendFewDrawops }
 {}
 
 /// Of a session in which programs start, and start anew, what came since the last start of each
@@ -70,4 +112,5 @@ pub fn starts_begin_sessions()
     ensures same { SinceIsSame }
     ensures timely { SinceIsTimely }
     ensures whole { RestartedBecomeWhole }
+    ensures rounds { RestartedBecomeWholeByRounds }
 {}

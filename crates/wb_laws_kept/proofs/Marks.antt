@@ -34,7 +34,7 @@ use Rattle.wb_policy.specs.Choices.{last_heard}
 use Rattle.wb_keeping.specs.Kept.{state_of, still, want}
 use Rattle.wb_keeping.specs.Laws.{doing_of, expand}
 use Rattle.wb_keeping.specs.Performing.{Keeping, sees, view_of}
-use Rattle.wb_policy.specs.Policy.{after_came, after_state, after_taking_up, after_wanting, with_distance}
+use Rattle.wb_policy.specs.Policy.{after_beat, after_came, after_state, after_taking_up, after_wanting, with_distance}
 use Rattle.wb_policy.specs.Reports.{is_untold, slice_after}
 use Rattle.wb_keeping.proofs.EachLine.{Each, wanted_each}
 use Rattle.wb_keeping.proofs.EachStep.{HoldsOfDue, HoldsOfSteps, all_hold, having, having_done, line_holds, with_policy}
@@ -265,6 +265,7 @@ due_tell = record {
   both = both_tell;
   wants = wants_tells;
   turned = λ t k. silent k [] (with_policy (record k.policy { turns = t }) k) refl tt;
+  beats = λ k due. silent k [] (with_policy (after_beat (present k.host) k.policy) k) refl tt;
   answers = λ k due. record {
     same = refl;
     tells = λ fits v c. tells_later (map (λ page. Says (state_of (view_of k.host) page)) (take 64 (pages_of k.host.is.held))) k.host v (states_tell k.host (take 64 (pages_of k.host.is.held)) k.host (few_held k.host fits) refl v c);

@@ -7,7 +7,7 @@ use Rattle.wb_codec.specs.declared.datagram.Datagram.TheVariants.{Request}
 use Rattle.wb_recovery.specs.declared.timers.AnswerTimer.{AnswerTimer}
 use Rattle.wb_keeper.specs.Keeper.{KeeperCall, Hear}
 use Rattle.wb_progress.specs.Calls.{Brings, Fires, Answers}
-use Rattle.wb_progress.specs.InTime.{answering_by, RequestIsAnswered, RequestIsAnsweredBut}
+use Rattle.wb_progress.specs.InTime.{answering_by, RequestIsAnsweredBut}
 use Rattle.wb_progress.specs.Keepers.{AreWithin}
 use Rattle.wb_progress.specs.Repairs.{timers_at}
 use Rattle.wb_progress.specs.Turns.{longest, Terms, quiet_span, settled_by, IsNowAt, Turn, Places, desk_at, has, timers_there, time_of, AreInOrder, IsAnswerable, AllHoldBehind, IsTurn, IsHeardAt, IsOtherOrLacked, KeepTimeBut}
@@ -191,9 +191,6 @@ module _ {MayStop : List Turn → Turn → NameValue → Type 0} (places : Place
 pub request_is_answered_but : (MayStop : List Turn → Turn → NameValue → Type 0) (places : Places) (terms : Terms) (turns newer older : List Turn) (e : Turn) (asker : ℕ) (n : NameValue) → KeepTimeBut MayStop places terms turns → Spares places MayStop n → turns ≡ newer ++ e ∷ older
     → settled_by terms < e.time → settled_by terms + quiet_span terms ≤ e.time → Contains e.sent (Request asker n) → IsAnswerable places terms turns n → AllHoldBehind places terms turns (e.time + answering_by terms) n
 request_is_answered_but MayStop places terms turns newer older e asker n is spares split late later_yet sent a = answered_to_all places terms turns is newer older e asker n split late later_yet sent a spares
-
-pub request_is_answered : RequestIsAnswered
-request_is_answered places terms turns newer older e asker n is split late later_yet sent a = request_is_answered_but (λ older e n. ⊥) places terms turns newer older e asker n is (λ older e held none. none) split late later_yet sent a
 
 pub request_is_answered_other : RequestIsAnsweredBut
 request_is_answered_other places terms turns newer older e asker n is split late later_yet sent a = request_is_answered_but (IsOtherOrLacked places n) places terms turns newer older e asker n is (spares_held places n) split late later_yet sent a

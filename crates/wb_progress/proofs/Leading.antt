@@ -9,10 +9,10 @@ use Rattle.wb_recovery.specs.declared.timers.AskTimer.{AskTimer}
 use Rattle.wb_keeper.specs.Keeper.{KeeperCall, GiveUp}
 use Rattle.wb_keeper.specs.Ticks.{sent_by_tick}
 use Rattle.wb_progress.specs.Calls.{Brings, Fires, Requests}
-use Rattle.wb_progress.specs.InTime.{answering_by, repairing, known_from, IsGivenUp, TimerLeads, TimerLeadsBut, TimerLeadsOrIsGivenUp}
+use Rattle.wb_progress.specs.InTime.{answering_by, repairing, known_from, IsGivenUp, TimerLeadsBut, TimerLeadsOrIsGivenUp}
 use Rattle.wb_progress.specs.Keepers.{AreWithin}
 use Rattle.wb_progress.specs.Repairs.{timers_at}
-use Rattle.wb_progress.specs.Turns.{longest, Terms, quiet_span, settled_by, Turn, Places, Accepts, desk_at, has, timers_there, time_of, AreInOrder, IsAnswerable, AllHoldBehind, IsOtherOrLacked, WasSent, KeepTimeBut}
+use Rattle.wb_progress.specs.Turns.{longest, Terms, settled_by, Turn, Places, Accepts, desk_at, has, timers_there, time_of, AreInOrder, IsAnswerable, AllHoldBehind, IsOtherOrLacked, WasSent, KeepTimeBut}
 use Rattle.wb_progress.proofs.Answering.{sooner, request_is_answered_but}
 use Rattle.wb_progress.proofs.Calls.{ask_goes_on}
 use Rattle.wb_progress.proofs.Giving.{Spares, spares_held, Called, Copy, IsGiven, changes, came_or_given, copy_comes}
@@ -45,17 +45,13 @@ module _ {MayStop : List Turn → Turn → NameValue → Type 0} (places : Place
     Leads ask = (asks (e ∷ older) ≡ Some ask) ⊎ (Gives ⊎ HoldBy e.time)
 
     settled : settled_by terms < e.time
-    settled = let some = is.reported in let one : terms.reporting ≤ max terms.reporting (quiet_span terms) = omega arith in omega (arith, late, some, one)
+    settled = omega (arith, late)
 
     -- a request that was sent shortly before, or by this turn
     asked_for : (front back : List Turn) (x : Turn) (asker : ℕ) → turns ≡ front ++ x ∷ back → e.time ≤ x.time + terms.delivery → x.time ≤ e.time → Contains x.sent (Request asker n) → HoldBy e.time
     asked_for front back x asker at within le sent =
-        let some = is.reported in
-        let most : (terms.reporting ≤ max terms.reporting (quiet_span terms)) × (quiet_span terms ≤ max terms.reporting (quiet_span terms)) = (omega arith, omega arith) in
-        let one = most.0 in
-        let three = most.1 in
         sooner places terms turns is (x.time + answering_by terms) (e.time + answering_by terms) n (omega (arith, le))
-        (request_is_answered_but MayStop places terms turns front back x asker n is spares at (omega (arith, late, within, some, one)) (omega (arith, late, within, three)) sent a)
+        (request_is_answered_but MayStop places terms turns front back x asker n is spares at (omega (arith, late, within)) (omega (arith, late, within)) sent a)
 
     some_none : (o : Option AskTimer) (ask : AskTimer) → o ≡ Some ask → o ≡ None → ⊥
     some_none o ask e f = cc
@@ -111,7 +107,7 @@ module _ {MayStop : List Turn → Turn → NameValue → Type 0} (places : Place
 
   -- no timer is overdue before a turn that comes so late
   pub not_over : (newer older : List Turn) (e : Turn) (ask : AskTimer) → turns ≡ newer ++ e ∷ older → known_from terms ≤ e.time → asks older ≡ Some ask → e.time ≤ ask.due + (terms.lag i + terms.late)
-  not_over newer older e ask split late stands = subst (λ o. IfSome o (λ (k : AskTimer). e.time ≤ k.due + (terms.lag i + terms.late))) stands (is.soon newer older e i n split live (let some = is.reported in let one : terms.reporting ≤ max terms.reporting (quiet_span terms) = omega arith in omega (arith, late, some, one))).ask
+  not_over newer older e ask split late stands = subst (λ o. IfSome o (λ (k : AskTimer). e.time ≤ k.due + (terms.lag i + terms.late))) stands (is.soon newer older e i n split live (omega (arith, late))).ask
 
   -- ---- the turns behind a part
 
@@ -160,11 +156,9 @@ module _ {MayStop : List Turn → Turn → NameValue → Type 0} (places : Place
         (leads_or_given newer split late stands le) where
           given : IsGivenUp places turns base i n ask limit → ⊥
           given g =
-              let some = is.reported in
-              let one : terms.reporting ≤ max terms.reporting (quiet_span terms) = omega arith in
               let there : newer ≡ g.front ++ g.e ∷ g.between = append_cancel_right newer (g.front ++ g.e ∷ g.between) base (sym split ∙ g.split ∙ sym (append_assoc g.front (g.e ∷ g.between) base)) in
               let late_then : known_from terms ≤ g.e.time = (from_tail (known_from terms) g.front (g.e ∷ g.between) (subst (AreFrom (known_from terms)) there late)).0 in
-              never (g.between ++ base) g.e ((is.quiet g.front (g.between ++ base) g.e g.split (omega (arith, late_then, some, one))).goes_on g.now n g.given)
+              never (g.between ++ base) g.e ((is.quiet g.front (g.between ++ base) g.e g.split (omega (arith, late_then))).goes_on g.now n g.given)
 
 pub timer_leads_or_given : (MayStop : List Turn → Turn → NameValue → Type 0) (places : Places) (terms : Terms) (turns newer older : List Turn) (i : ℕ) (n : NameValue) (ask : AskTimer) (due : ℕ) → KeepTimeBut MayStop places terms turns → Spares places MayStop n → turns ≡ newer ++ older → Contains terms.live i → known_from terms ≤ time_of older
     → (timers_there places older i n).ask ≡ Some ask → ask.due + terms.lag i ≤ due → IsAnswerable places terms turns n
@@ -192,9 +186,6 @@ timer_leads_but MayStop places terms turns newer older i n ask due is never spli
     let second : due ≤ max (time_of older) due = omega arith in
     sooner places terms turns is (limit + answering_by terms) (max (time_of older) due + repairing terms) n (omega arith)
     (leads_from places terms turns is i live n a (λ older e held may. never older e may) older ask limit (omega (arith, by, second)) never newer split (from_at (known_from terms) newer older order late) stands (omega (arith, first)))
-
-pub timer_leads : TimerLeads
-timer_leads places terms turns newer older i n ask due is split live late stands by a = timer_leads_but (λ older e n. ⊥) places terms turns newer older i n ask due is (λ older e none. none) split live late stands by a
 
 pub timer_leads_other : TimerLeadsBut
 timer_leads_other places terms turns newer older i n ask due is split live late stands by a = timer_leads_but (λ older e m. m ≢ n) places terms turns newer older i n ask due is (λ older e other. other refl) split live late stands by a

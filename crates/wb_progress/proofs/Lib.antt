@@ -9,6 +9,4 @@ pub mod Giving
 pub mod Answering
 pub mod Leading
 pub mod NamesApart
-pub mod Setting
-pub mod Rounds
 pub mod Young

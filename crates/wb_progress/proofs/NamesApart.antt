@@ -1,17 +1,16 @@
--- Lists in which no name stands twice.
-use Rattle.std.proofs.Common.{◌≡◌, ℕ, zero, suc, ◌+◌, ◌≤◌, Bool, true, false, cond, List, [], ◌∷◌, ◌++◌, length, take, refl, ap, ◌∙◌, sym, subst, arith, ◌⊎◌, inl, inr, ⊎_elim, true≢false}
-use Rattle.std.specs.Prelude.{Contains, if◌then◌else◌}
+-- Lists in which nothing stands twice.
+use Rattle.std.proofs.Common.{◌≡◌, ℕ, zero, suc, ◌+◌, ◌≤◌, List, [], ◌∷◌, ◌++◌, length, take, ap, ◌∙◌, sym, subst, arith, ◌⊎◌, inl, inr, ⊎_elim}
+use Rattle.std.specs.Prelude.{Contains}
 use Rattle.std.specs.List.Sorted.{IsStrictlySortedBy}
 use Rattle.std.specs.Ordering.{ordering_reverse}
 use Rattle.std.specs.declared.cmp.Ordering.{Ordering}
 use Rattle.std.specs.declared.cmp.Ordering.TheVariants.{Less, Greater}
-use Rattle.std.proofs.lemmas.List.Elements.{Contains-append_cases}
 use Rattle.std.proofs.lemmas.Map.Keys.{sorted_tail}
+use Rattle.std.proofs.lemmas.List.Elements.{Contains-append_cases}
 use Rattle.wb_names.specs.Values.{NameValue}
-use Rattle.wb_names.specs.Orders.{name_cmp, same_name}
-use Rattle.wb_names.proofs.Orders.{name_total, same_name-is}
+use Rattle.wb_names.specs.Orders.{name_cmp}
+use Rattle.wb_names.proofs.Orders.{name_total}
 use Rattle.wb_names.proofs.Listings.{Contains-here, Contains-there, Contains-cases, Contains-none, below_all}
-use Rattle.wb_keeper.proofs.KeptCalls.{same_here}
 use Rattle.wb_progress.specs.InTime.{AreApart}
 
 pub less_greater : ◌≡◌ {A = Ordering} Less Greater → ⊥
@@ -32,74 +31,84 @@ from_take {X} (suc k) (y ∷ xs) x c = ⊎_elim
     (λ (d : Contains (take k xs) x). Contains-there y x xs (from_take k xs x d))
     (Contains-cases y x (take k xs) c)
 
-pub apart_take : (k : ℕ) (names : List NameValue) → AreApart names → AreApart (take k names)
-apart_take zero [] a = tt
-apart_take zero (m ∷ names) a = tt
-apart_take (suc k) [] a = tt
-apart_take (suc k) (m ∷ names) a = ((λ c. a.0 (from_take k names m c)), apart_take k names a.1)
+-- ---- one less
 
-pub apart_append : (one other : List NameValue) → AreApart one → AreApart other → ((n : NameValue) → Contains one n → Contains other n → ⊥) → AreApart (one ++ other)
-apart_append [] other a b f = b
-apart_append (n ∷ one) other a b f = (
-  (λ c. ⊎_elim (λ (d : Contains one n). a.0 d) (λ (d : Contains other n). f n (Contains-here n one) d) (Contains-append_cases one other n c)),
-  apart_append one other a.1 b (λ m c d. f m (Contains-there n m one c) d),
-)
+module _ {X : Type 0} where
+  -- what is left without one of the members
+  pub record IsLeft (ys : List X) (x : X) : Type 0 where
+    pub rest : List X
+    pub fewer : length ys ≡ length rest + 1
+    pub others : (z : X) → Contains ys z → (x ≡ z) ⊎ Contains rest z
 
--- ---- one name less
-
-abbrev drop_one : NameValue → List NameValue → List NameValue
-drop_one n [] = []
-drop_one n (m ∷ names) = if same_name m n then names else m ∷ drop_one n names
-
-dropped : (n : NameValue) (names : List NameValue) → Contains names n → length (drop_one n names) + 1 ≤ length names
-dropped n [] c = absurd (Contains-none n c)
-dropped n (m ∷ names) c = from (λ d. dropped n names d) (same_name m n) refl where
-  from : (Contains names n → length (drop_one n names) + 1 ≤ length names) → (b : Bool) → same_name m n ≡ b → length (cond b names (m ∷ drop_one n names)) + 1 ≤ length (m ∷ names)
-  from rest true e = omega arith
-  from rest false e = ⊎_elim
-      (λ (s : m ≡ n). absurd (true≢false (sym (same_here m n s) ∙ e)))
-      (λ (d : Contains names n). let r = rest d in omega (arith, r))
-      (Contains-cases m n names c)
-
-left : (n k : NameValue) (names : List NameValue) → (k ≡ n → ⊥) → Contains names k → Contains (drop_one n names) k
-left n k [] other c = c
-left n k (m ∷ names) other c = from (λ d. left n k names other d) (same_name m n) refl (Contains-cases m k names c) where
-  from : (Contains names k → Contains (drop_one n names) k) → (b : Bool) → same_name m n ≡ b → (m ≡ k) ⊎ Contains names k → Contains (cond b names (m ∷ drop_one n names)) k
-  from rest true e h = ⊎_elim (λ (s : m ≡ k). absurd (other (sym s ∙ same_name-is m n e))) (λ (d : Contains names k). d) h
-  from rest false e h = ⊎_elim
-      (λ (s : m ≡ k). subst (λ (x : NameValue). Contains (m ∷ drop_one n names) x) s (Contains-here m (drop_one n names)))
-      (λ (d : Contains names k). Contains-there m k (drop_one n names) (rest d))
-      h
-
--- ---- names of which only few are not of a kind
-
--- those of the kind, and how many there are at least
-pub record AreMost (P : NameValue → Type 0) (names : List NameValue) (few : ℕ) : Type 0 where
-  pub those : List NameValue
-  pub apart : AreApart those
-  pub among : (n : NameValue) → Contains those n → Contains names n × P n
-  pub most : length names ≤ length those + few
-
-pub most_are : (P : NameValue → Type 0) (names wanting : List NameValue) → AreApart names → ((n : NameValue) → Contains names n → Contains wanting n ⊎ P n) → AreMost P names (length wanting)
-most_are P [] wanting a f = record { those = []; apart = tt; among = λ n c. absurd (Contains-none n c); most = omega arith }
-most_are P (n ∷ names) wanting a f = from (f n (Contains-here n names)) (λ w g. most_are P names w a.1 g) where
-  later : (m : NameValue) → Contains names m → Contains wanting m ⊎ P m
-  later m c = f m (Contains-there n m names c)
-
-  from : Contains wanting n ⊎ P n → ((w : List NameValue) → ((m : NameValue) → Contains names m → Contains w m ⊎ P m) → AreMost P names (length w)) → AreMost P (n ∷ names) (length wanting)
-  from h rest = ⊎_elim
-      (λ (c : Contains wanting n).
-      let r = rest (drop_one n wanting) (λ m d. ⊎_elim (λ (w : Contains wanting m). inl (left n m wanting (λ same. a.0 (subst (Contains names) same d)) w)) (λ (p : P m). inr p) (later m d)) in
-      let most = r.most in
-      let less = dropped n wanting c in
-      record { those = r.those; apart = r.apart; among = λ m d. let x = r.among m d in (Contains-there n m names x.0, x.1); most = omega (arith, most, less) })
-      (λ (p : P n).
-      let r = rest wanting later in
-      let most = r.most in
+  left : (ys : List X) (x : X) → Contains ys x → IsLeft ys x
+  left [] x c = absurd (Contains-none x c)
+  left (y ∷ ys) x c = ⊎_elim
+      (λ (same : y ≡ x). record { rest = ys; fewer = omega arith; others = λ z d. ⊎_elim (λ (is : y ≡ z). inl (sym same ∙ is)) (λ (e : Contains ys z). inr e) (Contains-cases y z ys d) })
+      (λ (d : Contains ys x).
+      let l = left ys x d in
+      let fewer = l.fewer in
       record {
-        those = n ∷ r.those;
-        apart = ((λ c. a.0 (r.among n c).0), r.apart);
-        among = λ m d. ⊎_elim (λ (s : n ≡ m). (subst (Contains (n ∷ names)) s (Contains-here n names), subst P s p)) (λ (c : Contains r.those m). let x = r.among m c in (Contains-there n m names x.0, x.1)) (Contains-cases n m r.those d);
-        most = omega (arith, most);
+        rest = y ∷ l.rest;
+        fewer = omega (arith, fewer);
+        others = λ z e. ⊎_elim
+            (λ (is : y ≡ z). inr (subst (Contains (y ∷ l.rest)) is (Contains-here y l.rest)))
+            (λ (f : Contains ys z). ⊎_elim (λ (same : x ≡ z). inl same) (λ (g : Contains l.rest z). inr (Contains-there y z l.rest g)) (l.others z f))
+            (Contains-cases y z ys e);
       })
-      h
+      (Contains-cases y x ys c)
+
+  -- what stands once each in a list is no more than the list
+  pub no_longer : (xs ys : List X) → AreApart xs → ((x : X) → Contains xs x → Contains ys x) → length xs ≤ length ys
+  no_longer [] ys apart among = omega arith
+  no_longer (x ∷ xs) ys apart among =
+      let l = left ys x (among x (Contains-here x xs)) in
+      let fewer = l.fewer in
+      let rest = no_longer xs l.rest apart.1 (λ z c. ⊎_elim
+      (λ (same : x ≡ z). absurd (apart.0 (subst (Contains xs) (sym same) c)))
+      (λ (d : Contains l.rest z). d)
+      (l.others z (among z (Contains-there x z xs c)))) in
+      omega (arith, fewer, rest)
+
+  pub apart_append : (one other : List X) → AreApart one → AreApart other → ((x : X) → Contains one x → Contains other x → ⊥) → AreApart (one ++ other)
+  apart_append [] other a b never = b
+  apart_append (x ∷ one) other a b never = (
+    (λ c. ⊎_elim (λ (d : Contains one x). a.0 d) (λ (d : Contains other x). never x (Contains-here x one) d) (Contains-append_cases one other x c)),
+    apart_append one other a.1 b (λ y c d. never y (Contains-there x y one c) d),
+  )
+
+  -- ---- members of which only few are not of a kind
+
+  -- those of the kind, and how many there are at least
+  pub record AreMost (P : X → Type 0) (xs : List X) (few : ℕ) : Type 0 where
+    pub those : List X
+    pub apart : AreApart those
+    pub among : (x : X) → Contains those x → Contains xs x × P x
+    pub most : length xs ≤ length those + few
+
+  pub most_are : (P : X → Type 0) (xs wanting : List X) → AreApart xs → ((x : X) → Contains xs x → Contains wanting x ⊎ P x) → AreMost P xs (length wanting)
+  most_are P [] wanting a f = record { those = []; apart = tt; among = λ x c. absurd (Contains-none x c); most = omega arith }
+  most_are P (x ∷ xs) wanting a f = from (f x (Contains-here x xs)) (λ w g. most_are P xs w a.1 g) where
+    later : (y : X) → Contains xs y → Contains wanting y ⊎ P y
+    later y c = f y (Contains-there x y xs c)
+
+    from : Contains wanting x ⊎ P x → ((w : List X) → ((y : X) → Contains xs y → Contains w y ⊎ P y) → AreMost P xs (length w)) → AreMost P (x ∷ xs) (length wanting)
+    from h rest = ⊎_elim
+        (λ (c : Contains wanting x).
+        let l = left wanting x c in
+        let r = rest l.rest (λ y d. ⊎_elim
+        (λ (w : Contains wanting y). ⊎_elim (λ (same : x ≡ y). absurd (a.0 (subst (Contains xs) (sym same) d))) (λ (e : Contains l.rest y). inl e) (l.others y w))
+        (λ (p : P y). inr p)
+        (later y d)) in
+        let most = r.most in
+        let less = l.fewer in
+        record { those = r.those; apart = r.apart; among = λ y d. let m = r.among y d in (Contains-there x y xs m.0, m.1); most = omega (arith, most, less) })
+        (λ (p : P x).
+        let r = rest wanting later in
+        let most = r.most in
+        record {
+          those = x ∷ r.those;
+          apart = ((λ c. a.0 (r.among x c).0), r.apart);
+          among = λ y d. ⊎_elim (λ (s : x ≡ y). (subst (Contains (x ∷ xs)) s (Contains-here x xs), subst P s p)) (λ (c : Contains r.those y). let m = r.among y c in (Contains-there x y xs m.0, m.1)) (Contains-cases x y r.those d);
+          most = omega (arith, most);
+        })
+        h

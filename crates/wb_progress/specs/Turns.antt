@@ -1,40 +1,31 @@
 -- Keepers at places, in real time: what a network and drivers keep to, so that what is lost comes by a stated time.
-use Rattle.std.specs.Prelude.{◌≡◌, ◌≢◌, ◌⊎◌, ℕ, ◌+◌, ◌*◌, ◌<◌, ◌≤◌, Bool, true, false, List, [], ◌∷◌, ◌++◌, length, Contains, max, nat_eq, nat_le, is_some, IfSome, None, if◌then◌else◌}
+use Rattle.std.specs.Prelude.{◌≡◌, ◌≢◌, ◌⊎◌, ℕ, ◌+◌, ◌*◌, ◌<◌, ◌≤◌, Bool, true, false, List, [], ◌∷◌, ◌++◌, Contains, max, nat_eq, nat_le, IfSome, None, if◌then◌else◌}
 use Rattle.wb_names.specs.Values.{NameValue, DrawopValue}
 use Rattle.wb_names.specs.History.{IsHistory}
-use Rattle.wb_names.specs.declared.name.PageId.{PageId}
 use Rattle.wb_codec.specs.declared.datagram.Datagram.{Datagram}
 use Rattle.wb_codec.specs.declared.datagram.Datagram.TheVariants.{Draw, Request}
-use Rattle.wb_gaps.specs.Gaps.{IsMissing}
 use Rattle.wb_recovery.specs.declared.tuning.Tuning.{Tuning}
 use Rattle.wb_recovery.specs.declared.timers.AskTimer.{AskTimer}
 use Rattle.wb_recovery.specs.declared.timers.AnswerTimer.{AnswerTimer}
 use Rattle.wb_recovery.specs.declared.timers.Timers.{Timers}
-use Rattle.wb_keeper.specs.Hearing.{marks_heard}
-use Rattle.wb_keeper.specs.Keeper.{KeeperCall, Hear, Arrive, Miss, GoOn, GiveUp, moment_at, events_of, holds}
-use Rattle.wb_keeper.specs.Missing.{wanted_of}
+use Rattle.wb_keeper.specs.Keeper.{KeeperCall, Hear, Arrive, GoOn, GiveUp, moment_at, holds}
 use Rattle.wb_keeper.specs.Ticks.{sent_by_tick, stopped_after}
 use Rattle.wb_progress.specs.Keepers.{AreWithin}
 use Rattle.wb_progress.specs.Repairs.{timers_at}
 
 -- ---- the terms
 
--- Times in microseconds: from `quiet` on nobody draws; what is printed arrives within `delivery`; each place reports its page every `reporting`
--- and looks at it every `looking`; a tick is at most `late`; no delay is above `far`. No request waits for more than `asking` delays at first, and no answer
--- for more than `answering`. At most `unanswerable` names are held by nobody. The clock of a place is behind the time by its `lag`, and by at most
+-- Times in microseconds: from `quiet` on nobody draws; what is printed arrives within `delivery`; a tick is at most `late`; no delay is above
+-- `far`. No request waits for more than `asking` delays at first, and no answer for more than `answering`. The clock of a place is behind the time by its `lag`, and by at most
 -- `drift` more: so clocks need not go alike, and a place may begin at any time.
 pub record Terms : Type 0 where
   pub live : List ℕ
-  pub page : PageId
   pub quiet : ℕ
   pub delivery : ℕ
-  pub reporting : ℕ
-  pub looking : ℕ
   pub late : ℕ
   pub far : ℕ
   pub asking : ℕ
   pub answering : ℕ
-  pub unanswerable : ℕ
   pub drift : ℕ
   pub lag : ℕ → ℕ
 
@@ -134,10 +125,6 @@ pub record IsQuietBut (MayStop : List Turn → Turn → NameValue → Type 0) (p
   pub held : (d : DrawopValue) → Contains e.sent (Draw d) → has places older e.place d.name ≡ true
   pub asked : (asker : ℕ) (n : NameValue) → Contains e.sent (Request asker n) → (asker ≡ places.me e.place) × (has places older e.place n ≡ false)
 
--- when none may be
-abbrev pub IsQuietTurn : Places → List Turn → Turn → Type 0
-IsQuietTurn places older e = IsQuietBut (λ older e n. ⊥) places older e
-
 -- any other name, and this one if it is not held
 abbrev pub IsOtherOrLacked : Places → NameValue → List Turn → Turn → NameValue → Type 0
 IsOtherOrLacked places n older e m = m ≡ n → has places older e.place n ≡ false
@@ -187,20 +174,6 @@ pub record AreNotOverdue (s : Timers) (now late : ℕ) : Type 0 where
   pub ask : IfSome s.ask (λ (ask : AskTimer). now ≤ ask.due + late)
   pub answer : IfSome s.answer (λ (answer : AnswerTimer). now ≤ answer.due + late)
 
--- a place looks at the page after one time, and by another: it misses the names that it wants
-pub record LooksWithin (places : Places) (terms : Terms) (turns : List Turn) (i from to : ℕ) : Type 0 where
-  pub newer : List Turn
-  pub older : List Turn
-  pub e : Turn
-  pub split : turns ≡ newer ++ e ∷ older
-  pub place : e.place ≡ i
-  pub begun : from < time_of older
-  pub ended : e.time ≤ to
-  pub now : ℕ
-  pub words : List ℕ
-  pub enough : length words ≡ length (wanted_of (places.constants i) (events_of (places.me i) (desk_at places older i).calls) (desk_at places older i).held terms.page (marks_heard (places.me i) (desk_at places older i).calls terms.page))
-  pub looked : Accepts places older e (Miss now (wanted_of (places.constants i) (events_of (places.me i) (desk_at places older i).calls) (desk_at places older i).held terms.page (marks_heard (places.me i) (desk_at places older i).calls terms.page)) words)
-
 -- ---- all of it
 
 -- What live places do, each by itself.
@@ -217,7 +190,6 @@ pub record AreTurns (places : Places) (terms : Terms) (turns : List Turn) : Type
 -- They keep to the terms, and give up names only if they may.
 pub record KeepTimeBut (MayStop : List Turn → Turn → NameValue → Type 0) (places : Places) (terms : Terms) (turns : List Turn) : Type 0 where
   pub order : AreInOrder turns
-  pub reported : 1 ≤ terms.reporting
   pub are : AreTurns places terms turns
   pub alone : (newer older : List Turn) (e : Turn) → turns ≡ newer ++ e ∷ older → terms.quiet < e.time → Contains terms.live e.place
   pub quiet : (newer older : List Turn) (e : Turn) → turns ≡ newer ++ e ∷ older → terms.quiet < e.time → IsQuietBut MayStop places older e
@@ -225,18 +197,3 @@ pub record KeepTimeBut (MayStop : List Turn → Turn → NameValue → Type 0) (
   pub fresh : IsFresh places terms turns
   -- from `quiet` on a tick comes once a timer is due: until a turn comes, no timer that stands is overdue
   pub soon : (newer older : List Turn) (e : Turn) (i : ℕ) (n : NameValue) → turns ≡ newer ++ e ∷ older → Contains terms.live i → terms.quiet < e.time → AreNotOverdue (timers_there places older i n) e.time (terms.lag i + terms.late)
-
--- They give up none.
-abbrev pub KeepTime : Places → Terms → List Turn → Type 0
-KeepTime places terms turns = KeepTimeBut (λ older e n. ⊥) places terms turns
-
--- They look at the page as often as the terms say, at no other, and know what they lack.
-pub record KeepLooking (places : Places) (terms : Terms) (turns : List Turn) : Type 0 where
-  pub looks : (i s : ℕ) → Contains terms.live i → settled_by terms ≤ s → s + terms.looking < time_of turns → LooksWithin places terms turns i s (s + terms.looking)
-  pub alone : (newer older : List Turn) (e : Turn) (now : ℕ) (names : List NameValue) (words : List ℕ) (n : NameValue) → turns ≡ newer ++ e ∷ older → settled_by terms < e.time → Accepts places older e (Miss now names words) → Contains names n → n.page ≡ terms.page
-  pub known : (newer older : List Turn) (i : ℕ) (n : NameValue) → turns ≡ newer ++ older → Contains terms.live i → settled_by terms + terms.reporting + terms.delivery < time_of older → n.page ≡ terms.page → IsAnswerable places terms turns n → has places older i n ≡ false
-      → IsMissing (desk_at places older i).held terms.page (marks_heard (places.me i) (desk_at places older i).calls terms.page) n.source n.seq
-  pub few : terms.unanswerable ≤ 63
-  -- of the names that a place asks for at once, only so few are held by nobody
-  pub unanswered : (newer older : List Turn) (i : ℕ) → turns ≡ newer ++ older → Contains terms.live i → settled_by terms < time_of older
-      → (wanting : List NameValue) × (length wanting ≤ terms.unanswerable) × ((n : NameValue) → is_some (timers_there places older i n).ask ≡ true → Contains wanting n ⊎ IsAnswerable places terms turns n)

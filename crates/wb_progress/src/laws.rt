@@ -2,7 +2,7 @@
 
 ghost use Rattle.wb_progress.specs.Bounds.{TimersAreBounded};
 ghost use Rattle.wb_progress.specs.Calls.{AnswersGoOn, QuietBegins, RequestsAreHeard, RequestsBegin, RequestsGoOn};
-ghost use Rattle.wb_progress.specs.InTime.{AllComes, RequestIsAnswered, RequestIsAnsweredBut, RoundsEnd, TimerLeads, TimerLeadsBut, TimerLeadsOrIsGivenUp};
+ghost use Rattle.wb_progress.specs.InTime.{RequestIsAnsweredBut, TimerLeadsBut, TimerLeadsOrIsGivenUp};
 ghost use Rattle.wb_progress.specs.Standing.{AnswersAreKept, QuietHasCause, RequestsAreKept, RequestsAreTaken, RequestsLeadOn};
 ghost use Rattle.wb_progress.specs.Keepers.{DelaysFit, KeepersAreBounded};
 ghost use Rattle.wb_progress.specs.Repairs.{AnswersAreSoon, AskedAnewIsSoon, AskerAsks, GivenUpIsIdle, HolderAnswers, MissesStand, RequestsSet, TicksAnswer, TicksAsk, TicksClear, TicksEnd, TicksLeave};
@@ -59,19 +59,10 @@ pub fn calls_begin_and_end_timers()
     ensures heard { RequestsAreHeard }
 {}
 
-/// If keepers, their drivers and the network keep to stated times: a request for what a live place
-/// held is answered to all, a request timer leads to one, what a look asks for comes in one round,
-/// and all of the page has come by a stated time.
-pub fn all_comes_in_time()
-    ensures answered { RequestIsAnswered }
-    ensures leads { TimerLeads }
-    ensures round { RoundsEnd }
-    ensures all { AllComes }
-{}
-
-/// The first two hold whatever other names are given up: a request for a name is answered to all if
-/// no place that holds it gives it up, and a request timer leads to one if the name is not given
-/// up. If it is, the timer leads to one, or its own place gives it up first.
+/// If keepers, their drivers and the network keep to stated times, whatever other names are given
+/// up: a request for a name that a live place held is answered to all if no place that holds it
+/// gives it up, and a request timer leads to one if the name is not given up. If it is, the timer
+/// leads to one, or its own place gives it up first.
 pub fn what_is_not_given_up_comes()
     ensures answered { RequestIsAnsweredBut }
     ensures leads { TimerLeadsBut }
