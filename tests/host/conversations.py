@@ -2,8 +2,7 @@
 
 from __future__ import annotations
 
-OPENS = "```host"
-GOES_ON = "```host goes on"
+HOST, JUDGED_HOST = "host", "judged host"
 
 
 def parted(conversation: str) -> tuple[str, str]:
@@ -17,14 +16,15 @@ def parted(conversation: str) -> tuple[str, str]:
     return "".join(f"{line}\n" for line in given), "".join(f"{line}\n" for line in printed)
 
 
-def documented(document: str) -> list[str]:
-    """The conversations of a document. A fence names each part, and whether it goes on with the host of the one before."""
+def documented(document: str, kind: str = HOST) -> list[str]:
+    """The conversations of a document. A fence names each part, and whether it goes on with the host of the one before. Those with a judged host
+    have a name of their own, since the library has none."""
     found: list[str] = []
     inside = False
     for line in document.split("\n"):
         if line.startswith("```"):
-            inside = not inside and line in (OPENS, GOES_ON)
-            if inside and line == OPENS:
+            inside = not inside and line in (f"```{kind}", f"```{kind} goes on")
+            if inside and line == f"```{kind}":
                 found.append("")
         elif inside:
             found[-1] += line + "\n"

@@ -17,7 +17,11 @@ COST = 250_000
 NAMES = 64
 STRANGERS = 48  # places of the credit for neighbours of what came, where their source told no distance
 REACH = 64
+STRIDE = 19
+LONG = 65_536
 OLD = 4
+SHORTEST_GAP, LONGEST_GAP = SECOND, 16 * SECOND  # from one turn to the next
+STEADINESS = 128
 ECHOES = 32
 MARKS = 64
 PAGES = 64
@@ -97,18 +101,21 @@ class Kept:
     round: int = 0
     owed: int = 0
     usual: int = 20_000
+    turn_at: int = 0
+    gap: int = SHORTEST_GAP
     sent: list[str] = field(default_factory=list)
 
     def __post_init__(self) -> None:
         self.ready = self.host.now + self.listen
         self.report_at = self.host.now + self.word(SECOND)
         self.ask_at = self.host.now + self.word(SECOND // 5)
+        self.turn_at = self.host.now + SHORTEST_GAP
 
     def word(self, most: int) -> int:
         return self.words.next() % (most + 1)
 
     def due(self) -> int:
-        moments = [self.report_at, self.ask_at, self.answer_at]
+        moments = [self.report_at, self.turn_at, self.ask_at, self.answer_at]
         timers = self.host.due()
         return min([moment for moment in moments if moment is not None] + ([] if timers == "never" else [int(timers)]))
 
@@ -226,18 +233,18 @@ class Kept:
                 self.want(name, True)
 
     def learned(self, name: Name, was_asked: bool) -> None:
-        """A drawop is new: its neighbours are wanted, or else the next hole has its turn."""
+        """A drawop is new: its neighbours are wanted, and if it was asked for, the next hole has its turn."""
         if self.is_full():
             self.end()
             return
         if was_asked:
             self.owed = max(0, self.owed - 2 * COST)
+            self.gap = SHORTEST_GAP
         top = dict(self.host.highest(name.page))[name.source]
-        near = [Name(name.source, name.page, n) for n in range(min(name.seq + REACH, top - 1), max(name.seq - REACH, 1) - 1, -1)]
-        missing = [other for other in near if self.is_unasked(other)]
-        if missing:
-            self.want_near(near)
-        elif was_asked:
+        around = [number for far in range(1, REACH + 1) for number in (name.seq + far, name.seq - far)]
+        near = [Name(name.source, name.page, number) for number in around if 1 <= number < top]
+        self.want_near(near)
+        if was_asked:
             self.turn()
 
     def want_near(self, names: list[Name]) -> None:
@@ -297,7 +304,9 @@ class Kept:
             return
         page, source, first, last = behind[0]
         self.looked = page, source, last
-        number = first if self.round % 2 == 0 else first + self.round // 2 % (last - first + 1)
+        count, step = last - first + 1, self.round // 2
+        far = step if count > LONG or count % STRIDE == 0 else STRIDE * step
+        number = first if self.round % 2 == 0 else first + far % count
         self.want(Name(source, page, number), True)
 
     # ---- what is due
@@ -314,6 +323,10 @@ class Kept:
             self.wait = min(2 * self.wait, 64 * SECOND)
         if self.report_at <= now:
             self.report()
+        if self.turn_at <= now:
+            self.gap = min(max(self.gap, SHORTEST_GAP), LONGEST_GAP)
+            self.turn_at = now + self.gap
+            self.gap += self.gap // STEADINESS
             self.turn()
 
     def send(self, digits: str) -> None:

@@ -37,13 +37,14 @@ def asked_at(now: int, word: int, delay: int = 20_000, level: int = 0) -> int:
     return drawn(now, delay, TIMERS[word], 2, 2, level)
 
 
-# a host of this seed that keeps itself from 0 on: when it first reports, when it asks for pages, and when it asks again
+# a host of this seed that keeps itself from 0 on: when it first reports, when it asks for pages, when it asks again, and when it has its first turn
 REPORT = DRAWN[0] % 1_000_001
 QUESTION = DRAWN[1] % 200_001
 AGAIN = QUESTION + 500_000 + DRAWN[2] % 1_000_001
 THIRD = AGAIN + 1_000_000 + DRAWN[3] % 2_000_001
 ANSWER = DRAWN[2] % 500_001
-assert ANSWER < QUESTION < AGAIN < REPORT < THIRD
+TURN = 1_000_000
+assert ANSWER < QUESTION < AGAIN < REPORT < TURN < 2 * TURN < THIRD
 
 
 def kept(listen: int = 0, cells: int = 100, rate: int = 4000) -> str:
@@ -185,7 +186,11 @@ TELLING = {
 ok {QUESTION}
 {questions()}> tick {REPORT}
 send {report(REPORT, (0, 0), [], [])}
-ok {min(THIRD, REPORT + 1_000_000 + DRAWN[4] % 2_000_001)}
+ok {TURN}
+> tick {TURN}
+ok {2 * TURN}
+> tick {2 * TURN}
+ok {min(THIRD, REPORT + 1_000_000 + DRAWN[4] % 2_000_001, 3 * TURN + TURN // 128)}
 """,
     "a report has its marks and echoes, and the more members the rarer": f"""
 {kept(rate=40)}> came 9 {session(9, 50, PAGE, [], [])}
@@ -197,7 +202,11 @@ batch 1 0 0 0
 ok {QUESTION}
 {questions()}> tick {REPORT}
 send {report(REPORT, PAGE, [(7, 1)], [(8, 7, REPORT - 11), (9, 50, REPORT - 9)])}
-ok {min(THIRD, REPORT + 3_000_000 + DRAWN[4] % 6_000_001)}
+ok {TURN}
+> tick {TURN}
+ok {2 * TURN}
+> tick {2 * TURN}
+ok {min(THIRD, REPORT + 3_000_000 + DRAWN[4] % 6_000_001, 3 * TURN + TURN // 128)}
 """,
     "a question for pages is answered once": f"""
 {kept()}> came 0 {datagrams.ask_pages(9)}
@@ -227,7 +236,7 @@ ok {min(QUESTION, ANSWER)}
 ok {REPORT}
 > came 1000004 {datagrams.ask_pages(9)}
 send {report(1_000_004, PAGE, [(7, 1)], [])}
-ok {1_000_004 + 1_000_000 + DRAWN[3] % 2_000_001}
+ok {1_000_004 + TURN}
 > came 1000005 {datagrams.ask_pages(9)}
 ok {1_000_005 + DRAWN[4] % 500_001}
 """,
@@ -542,14 +551,11 @@ class KeptSession(Session):
 
 
 def test_seldom() -> None:
-    """A name of a far hole is not asked for anew in ten minutes, and is requested 15 times: the bound that is proved is reached."""
+    """A name that a report told, and that lies in no hole, is not asked for anew in ten minutes, and is requested 15 times: the bound that is proved is reached."""
     dialog = Dialog()
-    pages = [(7, number) for number in range(1, 61)]
-    for line in (f"board {ME} 100 1 {SEED}", "keep 1 0", "tuning 1 1 1 1", f"came 1000 {session(9, 50, PAGE, [], [(ME, 500, 500)])}"):
+    for line in (f"board {ME} 100 1 {SEED}", "keep 1 0", "tuning 1 1 1 1", f"came 1000 {session(9, 50, PAGE, [(9, 1)], [(ME, 500, 500)])}"):
         block = dialog.ask(line)
-    for page in pages:
-        block = dialog.ask(f"came 1000 {dot(9, page, 2)}")
-    wanted = f"send {datagrams.request(ME, 9, pages[-1], 1)}"
+    wanted = f"send {datagrams.request(ME, 9, PAGE, 1)}"
     moments: list[int] = []
     moment = 1000
     while not moments or moment <= moments[0] + TEN_MINUTES:

@@ -176,6 +176,19 @@ Or the host is self-managing: it decides what to ask for and to report. A driver
     tick NOW                   time is NOW: to be written when it comes to DUE
     add NOW TIME C/N DRAWING   the user draws, as `line 0 0 4 0 *`
 
+Or the host is judged: it decides besides which datagrams it takes. WALL is the time of day, ORIGIN
+is PLACE or PLACE@OWNER, and a driver writes:
+
+    judge NOW RATE LISTEN WALL HERE STRANGERS    once, in place of `keep`
+    held LINE                  a line of its record, before all others
+    came NOW ORIGIN HEX        a datagram came in from there
+    tick NOW                   as above
+    add NOW C/N DRAWING        the user draws
+    wall NOW WALL              the time of day
+    gone NOW ORIGIN            whoever spoke from there is gone
+    members                    which numbers were heard lately
+    list MOST                  the first pages that are drawn on
+
 docs/HOST.md says what to write when.";
 
 fn host_command<'a>(alloc: Global) -> Result<Command<'a>, AllocError>

@@ -18,11 +18,11 @@ use Rattle.wb_member.specs.Members.{Misses}
 use Rattle.wb_member.specs.Opened.{Opened, answered, becomes, doing, has_room_for, heard, may_ask, present, sent_by}
 use Rattle.wb_member.specs.Random.{word_of}
 use Rattle.wb_policy.specs.Choices.{distance_in, near_names, own_echo, own_marks, told_names}
-use Rattle.wb_keeping.specs.Kept.{Doing, Line, Ticks, Arrives, Hears, Asks, Stops, SetsDistance, Tunes, Says, Transition, and_then, answers, asks_pages, draws_it, end, ends_full, hears, hears_session, hears_some, hears_state, is_begun, is_unasked, learned, measures, of_other, paid_for, performs, reports, reports_due, reports_rest, room_lines, state_of, still, stops_one, takes, takes_question, timed, turn, turn_to, want, want_near, want_told, hears_request, lending}
+use Rattle.wb_keeping.specs.Kept.{Doing, Line, Ticks, Arrives, Hears, Asks, Stops, SetsDistance, Tunes, Says, Transition, and_then, answers, asks_pages, draws_it, end, ends_full, hears, hears_session, hears_some, hears_state, is_begun, is_unasked, learned, measures, of_other, paid_for, performs, reports, reports_due, reports_rest, room_lines, state_of, still, stops_one, takes, takes_question, timed, turn, turn_if, turn_to, turns_due, want, want_near, want_told, hears_request, lending}
 use Rattle.wb_policy.specs.Distances.{bounded}
 use Rattle.wb_policy.specs.declared.limits.TheConstants.{UNKNOWN_DISTANCE}
 use Rattle.wb_keeping.specs.Performing.{Keeping, after_line, after_lines, after_saying, said, said_where, sees, sent_by_line}
-use Rattle.wb_policy.specs.Policy.{Policy, after_answer, after_question, after_state, after_taking_up, after_turn, after_wanting, in_next_round}
+use Rattle.wb_policy.specs.Policy.{Policy, after_answer, after_beat, after_question, after_state, after_taking_up, after_turn, after_wanting, in_next_round}
 use Rattle.wb_keeping.specs.Views.{View, holds, is_asked, is_full, level, is_known}
 use Rattle.wb_policy.specs.Questions.{is_due, is_to_answer}
 use Rattle.wb_keeping.specs.Refusing.{back_in_time, drawing_fault, is_unknown_of_ours, waits_fault}
@@ -131,15 +131,17 @@ module _ (n : ℕ) where
   own_end : Owns n end
   own_end see p same = own_stops (see []).asked
 
+  own_turn_if : (was_asked : Bool) → Owns n (turn_if was_asked)
+  own_turn_if true see p same = own_turn see p same
+  own_turn_if false see p same = tt
+
   own_learned : (name : NameValue) (was_asked : Bool) → Owns n (learned name was_asked)
   own_learned name was_asked see p same =
       let v = see [] in
       let near : List NameValue = near_names name (highest name.page name.source v.held) in
       let q : Policy = paid_for was_asked p in
-      let missing : Bool = nat_lt 0 (length (filter (is_unasked v) near)) in
-      let other : Doing = if was_asked then turn see q else still see p in
-      own_if n (is_full v) (end see p) (if missing then want_near near see q else other) (own_end see p same)
-      (own_if n missing (want_near near see q) other (own_near near see q same) (own_if n was_asked (turn see q) (still see p) (own_turn see q same) tt))
+      own_if n (is_full v) (end see p) (and_then (want_near near) (turn_if was_asked) see q) (own_end see p same)
+      (own_then (want_near near) (turn_if was_asked) (own_near near) (own_turn_if was_asked) see q same)
 
   -- ---- what is due
 
@@ -167,10 +169,16 @@ module _ (n : ℕ) where
   own_reports see p same = own_rest (rest_after p.until p.told (report_of (see []).held p.told_page)) see p same
 
   own_due : Owns n reports_due
-  own_due see p same = own_if n (nat_le p.reports.due (see []).now) (and_then reports turn see p) (still see p) (own_then reports turn own_reports own_turn see p same) tt
+  own_due see p same = own_if n (nat_le p.reports.due (see []).now) (reports see p) (still see p) (own_reports see p same) tt
+
+  own_turns : Owns n turns_due
+  own_turns see p same =
+      let q : Policy = after_beat (see []).now p in
+      own_if n (nat_le p.pace.due (see []).now) (turn see q) (still see p) (own_turn see q same) tt
 
   own_timed : Owns n timed
-  own_timed = own_then answers (and_then asks_pages reports_due) own_answers (own_then asks_pages reports_due own_asks own_due)
+  own_timed = own_then answers (and_then asks_pages (and_then reports_due turns_due)) own_answers
+      (own_then asks_pages (and_then reports_due turns_due) own_asks (own_then reports_due turns_due own_due own_turns))
 
   -- ---- what comes in
 

@@ -1,0 +1,54 @@
+-- A self-managing host stays one, and keeps its number, whatever its driver tells it.
+use Rattle.std.proofs.Common.{◌≡◌, ℕ, List, [], Option, Some, None, Result, Ok, Err, refl}
+use Rattle.wb_keeping.specs.Kept.{Transition, Tunes, adds, came, performs, ticks}
+use Rattle.wb_keeping.specs.Refusing.{add_fault, came_as, came_fault, drawn_as, tick_fault}
+use Rattle.wb_keeping.specs.Performing.{Keeping, sees}
+use Rattle.wb_keeping.specs.declared.kept_fault.KeptFault.{KeptFault}
+use Rattle.wb_judging.proofs.Numbers.{number_through}
+use Rattle.wb_recovery.specs.declared.tuning.Tuning.{Tuning}
+use Rattle.wb_commands.specs.declared.command.Command.{Command}
+use Rattle.wb_commands.specs.declared.command.Command.TheVariants as lines
+use Rattle.wb_dialog.specs.declared.fault.Refusal.{Refusal}
+use Rattle.wb_dialog.specs.declared.line.DriverLine.{DriverLine}
+use Rattle.wb_dialog.specs.declared.line.DriverLine.TheVariants.{Script, Say, Ask, Stop, Keep, Came, Add, Version}
+use Rattle.wb_dialog.specs.Dialog.{Answer, gives, refuses, answer_at}
+use Rattle.wb_dialog.specs.Hosting.{Driven, Kept, Reply, prints, denies, came_text, kept_does, kept_shows, kept_reply, reply, unsent_text}
+
+-- after a reply it is self-managing, and has this number
+abbrev pub IsKept : ℕ → Reply → Type 0
+IsKept number (prints (Some (Kept k)) text) = k.host.is.number ≡ number
+IsKept number (prints (Some (Driven host seed)) text) = ⊥
+IsKept number (prints None text) = ⊥
+IsKept number (denies e) = Unit {0}
+
+done : (fault : Option KeptFault) (does : Transition) (text : List ℕ) (k : Keeping) → IsKept k.host.is.number (kept_does fault does text k)
+done (Some fault) does text k = tt
+done None does text k = number_through (does (sees k.host) k.policy).lines k.host
+
+shown : (a : Answer) (k : Keeping) → IsKept k.host.is.number (kept_shows k a)
+shown (gives next text) k = refl
+shown (refuses e) k = tt
+
+scripted : (line : Command) (k : Keeping) → IsKept k.host.is.number (kept_reply (Script line) k)
+scripted lines.Skip k = shown (answer_at (Script lines.Skip) k.host) k
+scripted (lines.Board member cells workers seed) k = shown (answer_at (Script (lines.Board member cells workers seed)) k.host) k
+scripted (lines.Arrive d) k = tt
+scripted (lines.Hear v) k = tt
+scripted (lines.Distance source micros) k = tt
+scripted (lines.Tune constants) k = done None (performs (Tunes constants)) [] k
+scripted (lines.Tick now) k = done (tick_fault now k) (ticks now) [] k
+scripted (lines.Look page) k = tt
+scripted (lines.Session page) k = tt
+scripted (lines.Question query) k = shown (answer_at (Script (lines.Question query)) k.host) k
+
+-- whatever a line says
+pub stays_kept : (tuning : Tuning) (said : Result DriverLine Refusal) (k : Keeping) → IsKept k.host.is.number (reply tuning (Some (Kept k)) said)
+stays_kept tuning (Ok (Script line)) k = scripted line k
+stays_kept tuning (Ok (Say v)) k = tt
+stays_kept tuning (Ok (Ask name)) k = tt
+stays_kept tuning (Ok (Stop name)) k = tt
+stays_kept tuning (Ok (Keep rate listen)) k = tt
+stays_kept tuning (Ok (Came now v)) k = done (came_fault now v k) (came now v) (came_text v (came_as v k.host)) k
+stays_kept tuning (Ok (Add a)) k = done (add_fault a.moment a.page a.time a.op k) (adds a.moment a.page a.time a.op) (unsent_text (drawn_as a.page a.time a.op k.host)) k
+stays_kept tuning (Ok Version) k = shown (answer_at Version k.host) k
+stays_kept tuning (Err e) k = tt

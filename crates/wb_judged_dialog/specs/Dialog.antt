@@ -1,0 +1,170 @@
+-- What a judged host does for a line.
+use Rattle.std.specs.Prelude.{ℕ, List, [], Option, Some, None, Result, Ok, Err}
+use Rattle.std.specs.Option.{option_map}
+use Rattle.wb_judge.specs.Judge.{Judge}
+use Rattle.wb_member.specs.Opened.{opened_with, ticked}
+use Rattle.wb_recovery.specs.declared.tuning.Tuning.{Tuning}
+use Rattle.wb_keeping.specs.Refusing.{back_in_time}
+use Rattle.wb_judging.specs.Asking.{members_of}
+use Rattle.wb_judging.specs.Judged.{Judged, JudgedLine as Deed, CameFrom, DayTold, Garbled as GarbledAt, GoneFrom, Held as TakenUp, Passed, UserDrew}
+use Rattle.wb_judging.specs.Opening.{opened}
+use Rattle.wb_judging.specs.Performing.{after_judged, events_of}
+use Rattle.wb_judging.specs.Refusing.{draw_fault, held_fault}
+use Rattle.wb_judging.specs.declared.judged_member.Opening.{Opening}
+use Rattle.wb_commands.specs.declared.command.Command.{Command}
+use Rattle.wb_commands.specs.declared.command.Command.TheVariants as lines
+use Rattle.wb_commands.specs.declared.fault.LineFault.{LineFault}
+use Rattle.wb_commands.specs.declared.fault.LineFault.TheVariants as faults
+use Rattle.wb_commands.specs.Parsing.{line_of as script_line_of}
+use Rattle.wb_dialog.specs.declared.fault.Refusal.TheVariants as refusals
+use Rattle.wb_dialog.specs.Lines.{line_of}
+use Rattle.wb_dialog.specs.Hosting.{Host as HostState, Hosting, Kept, Reply, prints, denies, keep_reply, reply as reply_today}
+use Rattle.wb_judged_dialog.specs.declared.beginning.Board.{Board}
+use Rattle.wb_judged_dialog.specs.declared.fault.JudgedRefusal.{JudgedRefusal}
+use Rattle.wb_judged_dialog.specs.declared.fault.JudgedRefusal.TheVariants.{Host}
+use Rattle.wb_judged_dialog.specs.declared.line.JudgeLine.{JudgeLine}
+use Rattle.wb_judged_dialog.specs.declared.line.JudgedLine.{JudgedLine}
+use Rattle.wb_judged_dialog.specs.declared.line.JudgedLine.TheVariants.{Held, Skip, Came, Garbled, Tick, Add, Wall, Gone, Members, List as Lists, Today}
+use Rattle.wb_judged_dialog.specs.Lines.{judge_line_of, judged_line_of}
+use Rattle.wb_judged_dialog.specs.Listing.{listed_first}
+use Rattle.wb_judged_dialog.specs.Refusals.{judged_refusal, kept_refusal}
+use Rattle.wb_judged_dialog.specs.Texts.{events_text, list_text, members_text}
+
+-- ---- a judged member
+
+-- What a line does there: it leads to a judged member, and a text is printed; or it is refused.
+pub data Act : Type 0 where
+  does : Judged → List ℕ → Act
+  fails : JudgedRefusal → Act
+
+-- It does what a deed leads to, and prints the events of that, unless it is refused.
+abbrev pub did : Option JudgedRefusal → Deed → Judged → Act
+did None deed h = does (after_judged deed h) (events_text (events_of deed h))
+did (Some e) deed h = fails e
+
+abbrev pub did_at : ℕ → Deed → Judged → Act
+did_at now deed h = did (option_map kept_refusal (back_in_time now h.kept)) deed h
+
+-- what a line does at a judged member that is for it alone
+abbrev pub act : JudgedLine → Judged → Act
+act (Held line) h = did (option_map kept_refusal (held_fault line h)) (TakenUp line) h
+act Skip h = does h []
+act (Came now o v) h = did_at now (CameFrom now o v) h
+act (Garbled now) h = did_at now (GarbledAt now) h
+act (Tick now) h = did_at now (Passed now) h
+act (Add now page op) h = did (option_map judged_refusal (draw_fault now page op h)) (UserDrew now page op) h
+act (Wall now wall) h = did_at now (DayTold now wall) h
+act (Gone now o) h = did_at now (GoneFrom now o) h
+act Members h = does h (members_text (members_of h))
+act (Lists most) h = does h (list_text (listed_first most h))
+act Today h = does h []
+
+-- ---- a host
+
+-- What a host is without its judge; the board that its first board line opened; and its judge, once it is judged.
+pub record JudgedHosting : Type 0 where
+  pub today : Hosting
+  pub board : Option Board
+  pub judge : Option Judge
+
+-- its judged member, if it is judged
+abbrev pub judged_by : Option Judge → Option HostState → Option Judged
+judged_by (Some j) (Some (Kept k)) = Some (record { kept = k; judge = j })
+judged_by judge host = None
+
+abbrev pub judged_in : JudgedHosting → Option Judged
+judged_in s = judged_by s.judge s.today.host
+
+-- From now on this is its judged member.
+abbrev pub with_judged : Judged → JudgedHosting → JudgedHosting
+with_judged h s = record {
+  today = record { tuning = s.today.tuning; host = Some (Kept h.kept) };
+  board = s.board;
+  judge = Some h.judge;
+}
+
+-- What a line does: it leads to a host, and a text is printed before the block is closed; or it is refused.
+pub data JudgedReply : Type 0 where
+  answers : JudgedHosting → List ℕ → JudgedReply
+  refuses : JudgedRefusal → JudgedReply
+
+-- ---- a line that any host has
+
+-- the board that a line opens, if none was opened
+abbrev pub opens : Result Command LineFault → Option Board
+opens (Ok (lines.Board member cells workers seed)) = Some (record { member = member; cells = cells; seed = seed })
+opens said = None
+
+abbrev pub board_in : List ℕ → Option Board
+board_in line = opens (script_line_of line)
+
+abbrev pub board_after : Option Board → List ℕ → Option Board
+board_after None line = board_in line
+board_after (Some b) line = Some b
+
+-- It is answered as at a host that is not judged. So a judged host refuses what is for its driver to judge, as a self-managing one does.
+abbrev pub as_today : Option Board → JudgedHosting → Reply → JudgedReply
+as_today board s (prints next text) = answers (record { today = record { tuning = s.today.tuning; host = next }; board = board; judge = s.judge }) text
+as_today board s (denies e) = refuses (Host e)
+
+abbrev pub today_reply : JudgedHosting → List ℕ → JudgedReply
+today_reply s line = as_today (board_after s.board line) s (reply_today s.today.tuning s.today.host (line_of line))
+
+-- ---- a line that a judged host has for itself
+
+abbrev pub as_act : JudgedHosting → Act → JudgedReply
+as_act s (does h text) = answers (with_judged h s) text
+as_act s (fails e) = refuses e
+
+abbrev pub act_reply : JudgedHosting → List ℕ → JudgedLine → Option Judged → JudgedReply
+act_reply s line Today h = today_reply s line
+act_reply s line said (Some h) = as_act s (act said h)
+act_reply s line said None = today_reply s line
+
+abbrev pub judged_reply : JudgedHosting → List ℕ → Result JudgedLine LineFault → JudgedReply
+judged_reply s line (Ok said) = act_reply s line said (judged_in s)
+judged_reply s line (Err e) = refuses (Host (refusals.Line e))
+
+-- ---- a line that begins to judge
+
+abbrev pub opening_of : JudgeLine → Board → Opening
+opening_of line b = record {
+  cells = b.cells;
+  wall = line.wall;
+  here = line.here;
+  strangers = line.strangers;
+  rate = line.rate;
+  listen = line.listen;
+  seed = b.seed;
+}
+
+-- a judged member of an empty board, at a moment
+abbrev pub begun : Tuning → JudgeLine → Board → Judged
+begun tuning line b = opened (opening_of line b) (ticked line.now (opened_with tuning b.member b.cells b.seed))
+
+-- It stands in the place of `keep`: it is refused as that is, so after a line that acts it is too late.
+abbrev pub begins_with : JudgedHosting → JudgeLine → Option Board → JudgedReply
+begins_with s line (Some b) = answers (with_judged (begun s.today.tuning line b) s) []
+begins_with s line None = refuses (Host (refusals.Line faults.NoBoard))
+
+abbrev pub begins_if : JudgedHosting → JudgeLine → Reply → JudgedReply
+begins_if s line (prints next text) = begins_with s line s.board
+begins_if s line (denies e) = refuses (Host e)
+
+abbrev pub judge_reply : JudgedHosting → Result JudgeLine LineFault → JudgedReply
+judge_reply s (Ok line) = begins_if s line (keep_reply 1 0 s.today.host)
+judge_reply s (Err e) = refuses (Host (refusals.Line e))
+
+-- ---- one line
+
+abbrev pub taken_reply : JudgedHosting → List ℕ → Option Judge → JudgedReply
+taken_reply s line None = today_reply s line
+taken_reply s line (Some j) = judged_reply s line (judged_line_of line)
+
+abbrev pub line_reply : JudgedHosting → List ℕ → Option (Result JudgeLine LineFault) → JudgedReply
+line_reply s line None = taken_reply s line s.judge
+line_reply s line (Some said) = judge_reply s said
+
+-- what a host answers to a line, which stands without its end
+abbrev pub reply : JudgedHosting → List ℕ → JudgedReply
+reply s line = line_reply s line (judge_line_of line)

@@ -1,0 +1,11 @@
+pub mod Refusals
+pub mod Words
+pub mod Records
+pub mod Lines
+pub mod Texts
+pub mod Listing
+pub mod RecordLaws
+pub mod Dialog
+pub mod Hosting
+pub mod Doing
+pub mod Laws
