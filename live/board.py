@@ -1,20 +1,21 @@
-"""A self-managing host, with its record: every drawing is in the record before its datagrams leave, and a host that ended starts
+"""A judged host, with its record: what it says is to be recorded is in the record before its datagrams leave, and a host that ended starts
 from it."""
 from __future__ import annotations
 
 import contextlib
 import secrets
 import time
-from typing import Callable, Dict, Iterator, List, Optional, Sequence, Set, Tuple
+from typing import Callable, Iterator, List, Optional, Sequence, Set, Tuple
 
 from wbhost import LINES, Block, Host, HostEnded
 
-from .clock import SECOND, Clock
+from .carriers.carrier import Origin, number_of
+from .clock import SECOND, Clock, wall
 from .constants import FEW
 from .held import Held, held_of
 from .options import Options
 from .record import FIRST_LINE, MOST_MOMENT, Act, NoRoom, Record, RecordFault, comment, write_record
-from .views import Drawop, Name, Page, Report, page_text
+from .views import Drawop, Name, Page, name_in, name_of
 from .waiting import Waiting
 from .words import Words
 
@@ -33,21 +34,23 @@ LEAST_LISTENING = 1
 # guesses: who echoes a moment of ours has heard it. However often a record is started, moments are left.
 LEAD_PART = 512
 
-# a line for which a record has room has room for any drawing of ours, with its moment
-ROOM = "#" + 255 * "-"
-
-# how a drawop begins, in either version, and where it has its source and page, and its number
-DRAWOPS, OWNER, NUMBER = ("57420101", "57420201"), slice(16, 40), slice(40, 48)
-
 # a host that is started so often within a minute is not started again
 MOST_STARTS = 4
 
-# what `batch` tells of one drawop
-NEW, AGAIN, CLASH, FULL = (["batch " + counts] for counts in ("1 0 0 0", "0 1 0 0", "0 0 1 0", "0 0 0 1"))
+# the lines that tell a host a moment, as the word after their first
+MOMENTS = ("judge ", "tick ", "came ", "add ", "wall ", "gone ")
+
+# by how much the time of day may be another than the host reckons
+SLACK = SECOND
 
 
 class BoardFault(Exception):
     """The host can't be started again."""
+
+
+def said(block: Block, kind: str) -> List[str]:
+    """What the lines of this kind say that a host printed for a line that acts."""
+    return [line[len(kind) + 1:] for line in block.lines if line.startswith(kind + " ")]
 
 
 class Board:
@@ -62,13 +65,13 @@ class Board:
         self.tuning = FEW  # the constants of the timers, also of the next host
         self.moment = 0
         self.ready_at = 0  # from then on it may draw
-        self.kept_moment = 0
+        self.begun_at = 0  # the moment of the present host's first
+        self.wall_at = self.wall = 0  # a moment, and the time of day that the host was told for it
         self.due: Optional[int] = None
         self.ends: List[float] = []
         self.unkept: List[str] = []  # lines that the record has no room for yet
         self.is_broken = False  # the record could not be written
-        self.own_marks: Dict[Page, int] = {}  # marks of our number, that were heard while the host listened
-        self.strange: Set[Name] = set()  # what of the record's drawops no member gave
+        self.strange: Set[Name] = set()  # what of the drawops no member gave, by the lines of the record
 
     def open(self, me: int) -> None:
         """Starts the host: with what the record has, or with a new board. It listens where the number may have drawn what the record lacks."""
@@ -87,27 +90,33 @@ class Board:
         self.clock = Clock(self.moment + 1, self.options.speed)
 
     def start(self, listening: int = 0, waiting: Optional[Waiting] = None, lead: float = 0.0) -> List[Tuple[str, Block]]:
-        """Starts a self-managing host, after this part of the moments that the record leaves, and gives it the datagrams of the record, each
-        with its block. A record that is shown has a host that keeps nothing."""
+        """Starts a judged host, after this part of the moments that the record leaves, and gives it the lines of the record: each datagram
+        with its block. A record that is shown has a host that judges nothing."""
         held = held_of(self.program, [*self.record.acts(), *map(Act, self.unkept)])
         self.me, self.cells = map(int, held.board.split()[1:3])
         self.host = Host(self.program, "--tuning", self.tuning)
         try:
             self.begin(held, listening, lead)
-            return [each for some in self.parts(held.datagrams, waiting, 0) for each in zip(some, self.ask(["came %d %s" % (self.moment, digits) for digits in some]))]
+            blocks = [block for some in self.parts(held.lines, waiting, 0) for block in self.ask(["held " + line for line in some])]
+            return list(zip(held.datagrams, blocks))
         except BaseException:
             self.host.end()
             raise
 
     def begin(self, held: Held, listening: int, lead: float) -> None:
         """Gives a new host its board. RecordFault if it can't have that one."""
-        self.moment, self.kept_moment = max(self.moment, held.moment + int(lead * (MOST_MOMENT - held.moment))), held.moment
+        self.begun_at = self.moment = 1 + max(self.moment, held.moment + int(lead * (MOST_MOMENT - held.moment)))
         self.ready_at = self.moment + max(LEAST_LISTENING, listening)
-        keep = "keep %d %d" % (self.options.rate, self.ready_at - self.moment)
         self.strange = held.strange
-        begun = self.ask([held.board] if self.options.replay else [held.board, "tick %d" % self.moment, keep])
+        begun = self.ask([held.board] if self.options.replay else [held.board, self.line_to_judge()])
         if any(block.fault is not None for block in begun):
             raise RecordFault("%s: no host can have its board: %s" % (self.record.path, held.board))
+
+    def line_to_judge(self) -> str:
+        """The line that makes a host judge. Under a key nobody is a stranger for long, and what came before is replayed from outside."""
+        self.wall, self.wall_at = wall(), self.moment
+        here = number_of(self.options.login.name) if self.options.login else "-"
+        return "judge %d %d %d %d %s %s" % (self.moment, self.options.rate, self.ready_at - self.moment, self.wall, here, "0" if self.options.key else "-")
 
     def parts(self, many: List[str], waiting: Optional[Waiting], half: int) -> Iterator[List[str]]:
         """Some at a time, and how far the first or the second half of a start is with them."""
@@ -122,7 +131,7 @@ class Board:
         for line, block in zip(lines, blocks):
             if block.fault is None:
                 self.due = block.due
-                self.moment = int(line.split(" ", 2)[1]) if line.startswith(("tick ", "came ", "add ")) else self.moment
+                self.moment = int(line.split(" ", 2)[1]) if line.startswith(MOMENTS) else self.moment
         return blocks
 
     def now(self) -> int:
@@ -131,7 +140,7 @@ class Board:
 
     def tell_held(self, given: List[Tuple[str, Block]], waiting: Waiting) -> None:
         """Tells the drawops that a host was given at its start."""
-        for some in self.parts([each for each, block in given if block.lines[-1:] == NEW], waiting, 1):
+        for some in self.parts([each for each, block in given if said(block, "drew")], waiting, 1):
             for each, told in zip(some, self.words.all(some)):
                 if told.words is not None:
                     self.listener(Drawop(told.words, each))
@@ -182,74 +191,96 @@ class Board:
         self.tuning = constants
         self.tell("tuning " + constants.replace(",", " "))
 
-    def came(self, many: Sequence[str]) -> List[Block]:
-        """Gives the host datagrams that came in."""
-        now = self.now()
-        return self.tell_all(["came %d %s" % (now, digits) for digits in many])
-
-    def take(self, drawops: Sequence[Drawop], is_strange: bool = False) -> List[Block]:
-        """Gives the host drawops of others. Those that are new are kept and told: in words if no member gave them, as the record has it."""
-        blocks = self.came([drawop.digits for drawop in drawops])
-        new = [drawop for drawop, block in zip(drawops, blocks) if block.lines[-1:] == NEW]
-        self.keep([drawop.words if is_strange else "datagram " + drawop.digits for drawop in new])
-        for drawop in new:
-            self.listener(drawop)
+    def act(self, lines: Sequence[str]) -> List[Block]:
+        """The blocks of lines of others and of the clock. What they record is recorded."""
+        blocks = self.tell_all(lines)
+        self.keep([line for block in blocks for line in said(block, "record")])
         return blocks
 
+    def came(self, many: Sequence[str], origin: Origin) -> List[Block]:
+        """Gives the host datagrams that came in from there."""
+        now = self.now()
+        return self.act(["came %d %s %s" % (now, origin.word, digits) for digits in many])
+
+    def take(self, drawops: Sequence[Drawop], origin: Origin) -> List[Block]:
+        """Gives the host drawops that came in from there. The listener gets those that are new."""
+        blocks = self.came([drawop.digits for drawop in drawops], origin)
+        for drawop, block in zip(drawops, blocks):
+            if said(block, "drew"):
+                self.listener(drawop)
+        return blocks
+
+    def take_over(self, drawops: List[Drawop], strange: Set[Name]) -> None:
+        """Takes in what another member of this program holds, and what of it no member gave."""
+        lines = [line_of(drawop, strange) for drawop in drawops]
+        blocks = self.tell_all(["held " + line for line in lines])
+        new = [(drawop, line) for drawop, line, block in zip(drawops, lines, blocks) if said(block, "drew")]
+        self.keep([line for _, line in new])
+        for drawop, _ in new:
+            self.listener(drawop)
+
+    def line_of_time(self, now: int, time_of_day: int) -> str:
+        """The line that gives the host the time of day at a moment."""
+        self.wall, self.wall_at = time_of_day, now
+        return "wall %d %d" % (now, time_of_day)
+
+    def is_wrong(self) -> bool:
+        """Whether the host reckons with another time of day than this machine's."""
+        return abs(self.wall + self.now() - self.wall_at - wall()) > SLACK
+
     def draw(self, page: Page, time_of_day: int, operation: str) -> Tuple[Block, Optional[Drawop]]:
-        """Has the host draw, which gives a drawing its number and its time. The record has room for it before. NoRoom where it has none.
-        What it repairs besides, of ours on that page, has lesser numbers. If nobody says it in words, the record can't have it: then a host starts
-        that has not drawn it, or the next start would use its number again."""
-        self.keep([])
-        self.reserve()
+        """Has the host draw, which gives a drawing its number and its time. NoRoom where the record can't have it: then a host starts that has
+        not drawn it, and its number is free, since nobody was told. What it repairs besides is sent too."""
+        self.find_room()
+        now = self.now()
+        before, block = self.tell_all([self.line_of_time(now, time_of_day), "add %d %d/%d %s" % (now, *page, operation)])
+        block = block._replace(lines=before.lines + block.lines)
+        lines = said(block, "record")
         try:
-            block = self.tell("add %d %d %d/%d %s" % (self.now(), time_of_day, *page, operation))
-        finally:
-            self.record.take_back()
-        own = [each for each in block.sent() if each.startswith(DRAWOPS) and each[OWNER] == "%08x%08x%08x" % (self.me, *page)]
-        if block.lines[-1:] == FULL or not own:
-            return block, None
-        digits = max(own, key=lambda each: each[NUMBER])
-        words = self.words.of(digits).words or self.words.all([digits])[0].words
-        if words is None:
+            self.write(lines)
+        except NoRoom:
             self.begin_again()
-            raise HostEnded("wb words ended")
-        drawop = Drawop(words, digits)
-        self.keep(["say " + words])
+            raise
+        words = next((line[4:] for line in lines if line.startswith("say ")), None)
+        if words is None:
+            return block, None
+        drawop = Drawop(words)
+        drawop.digits = next(each for each in block.sent() if name_of(each) == drawop.name)
         self.listener(drawop)
         return block, drawop
 
-    def reserve(self) -> None:
-        """Puts a line into the record that is taken off again. NoRoom where it can't have it."""
+    def find_room(self) -> None:
+        """NoRoom where the record can't be written, also for what came before."""
+        self.keep([])
         if self.unkept:
-            raise NoRoom("the record can't be written")
-        self.write([ROOM])
+            raise NoRoom("no room")
+        if self.is_broken:
+            self.write([comment("there is room again")])
 
     def keep(self, lines: List[str]) -> None:
         """Puts lines into the record, and those before them for which there was no room."""
-        if lines and self.moment > self.kept_moment:
-            self.unkept.append("tick %d" % self.moment)
+        for line in lines:
+            self.note_giver(line)
         self.unkept += lines
-        if self.unkept:
-            self.kept_moment = self.moment
-            try:
-                self.write(self.unkept)
-                self.unkept = []
-            except NoRoom:
-                pass
+        try:
+            self.write(self.unkept)
+            self.unkept = []
+        except NoRoom:
+            pass
 
-    def keep_mark(self, report: Report, top: int) -> None:
-        """Puts a mark of our own number into the record, which a host that listens has heard: the next start counts on from there too.
-        `top` is the greatest number of ours that is held there."""
-        page, own = report.page, report.marks.get(self.me, 0)
-        if self.moment < self.ready_at and own > max(top, self.own_marks.get(page, 0)):
-            self.own_marks[page] = own
-            self.keep(["page-state %d %s %d=%d" % (report.speaker, page_text(page), self.me, own)])
+    def note_giver(self, line: str) -> None:
+        """What others gave stands in the record in words if no member gave it."""
+        name = name_in(line) if line.startswith("draw ") else None
+        if name:
+            self.strange.add(name)
+        elif line.startswith("datagram "):
+            self.strange.difference_update([name_of(line[9:])])
 
     def write(self, lines: List[str]) -> None:
-        self.is_broken = True
-        self.record.add(*lines)
-        self.is_broken = False
+        if lines:
+            self.is_broken = True
+            self.record.add(*lines)
+            self.is_broken = False
 
     def sync(self) -> None:
         """Puts what is kept on the disk, and tries again what could not be kept."""
@@ -259,11 +290,11 @@ class Board:
         except NoRoom:
             self.is_broken = True
 
-    def renumber(self, me: int, path: Optional[str], held: List[Drawop], strange: Set[Name]) -> None:
-        """Goes on under another number, with a record of its own and with all that was held; returns what of it no member gave. NoRoom,
-        RecordFault or OSError if there is no room for that record: then all stays as it is."""
+    def renumber(self, me: int, path: Optional[str], held: List[Drawop]) -> None:
+        """Goes on under another number, with a record of its own and with all that was held. NoRoom, RecordFault or OSError if there is no
+        room for that record: then all stays as it is."""
         head = [FIRST_LINE, "board %d %d 1 %d" % (me, self.cells, secrets.randbits(64))]
-        lines = [*head, "tick %d" % self.moment, *(drawop.words if drawop.name in strange else "datagram " + drawop.digits for drawop in held)]
+        lines = [*head, "tick %d" % self.moment, *(line_of(drawop, self.strange) for drawop in held)]
         before, self.record = self.record, write_record(path, lines)
         self.unkept, self.ready_at = [], self.moment
         if path == before.path:
@@ -291,9 +322,18 @@ class Board:
         """The drawops that a page shows, in words, in the order of display."""
         return self.tell("view %d %d" % page).lines[1:]
 
+    def pages(self, most: int) -> List[Page]:
+        """The first `most` of the pages that are drawn on: first those of ours, then those of members, and of each kind first those drawn on last."""
+        return [(int(creator), int(number)) for creator, number, _ in (line.split(" ") for line in self.tell("list %d" % most).lines[1:])]
+
     def canvas(self, page: Page) -> List[str]:
         """The rows of a page, without what is empty at their right and at the end."""
         rows = [row.rstrip(" ") for row in self.tell("show %d %d %d %d" % (page + (COLUMNS, ROWS))).lines]
         while rows and not rows[-1]:
             rows.pop()
         return rows
+
+
+def line_of(drawop: Drawop, strange: Set[Name]) -> str:
+    """The line of a record for what others gave: in words if no member did."""
+    return drawop.words if drawop.name in strange else "datagram " + drawop.digits

@@ -2,7 +2,7 @@
 from __future__ import annotations
 
 from bisect import bisect_left
-from typing import Dict, Iterable, List, Tuple
+from typing import Dict, Iterable, List, Optional, Tuple
 
 from .views import Drawop, Key, Name, Page
 
@@ -93,8 +93,11 @@ class Drawn:
         """Shows of a page what the host's view has."""
         self.pages.setdefault(page, Sheet()).replace(lines)
 
+    def get(self, name: Name) -> Optional[Drawop]:
+        return self.pages[name[1]].drawops.get(name) if name[1] in self.pages else None
+
     def holds(self, name: Name) -> bool:
-        return name[1] in self.pages and name in self.pages[name[1]].drawops
+        return self.get(name) is not None
 
     def top(self, page: Page, source: int) -> int:
         """The greatest number of a source that is held of a page; 0 if there is none."""

@@ -5,19 +5,26 @@ import subprocess
 from typing import Dict, Iterable, List, NamedTuple, Optional, Sequence, Set
 
 from .record import Act, RecordFault
-from .views import Name, name_in
+from .views import Name, Report, name_in, name_of, page_text
 
 # what of a datagram in words changes what is held, or the next number
-WORDS = ("draw ", "page-state ", "session-message ")
+REPORTS = ("page-state ", "session-message ")
+WORDS = ("draw ", *REPORTS)
 HEX = ("datagram ", "arrive ", "hear ")
 
 
+# a line of a record that changes nothing
+NOTHING = "#"
+
+
 class Held(NamedTuple):
-    """The line of a board, a moment, datagrams in hexadecimal, and which drawops of these no member gave."""
+    """The line of a board, a moment, datagrams in hexadecimal, the line of each of these that a judged host takes, and which drawops of
+    these no member gave."""
 
     board: str
     moment: int
     datagrams: List[str]
+    lines: List[str]
     strange: Set[Name]
 
 
@@ -30,14 +37,30 @@ def held_of(program: str, acts: Iterable[Act]) -> Held:
             raise line.fault("another driver's host kept itself by it: the record stays as it is")
     told = iter(digits_of(program, said_in(lines)))
     datagrams: List[str] = []
+    given: List[str] = []
     strange: Dict[str, Optional[Name]] = {}
     for line, said in [(line, next(told) if words_in(line) else str(line)) for line in lines]:
         if said.startswith(HEX):
             digits = said.split(" ")[1]
             datagrams.append(digits)
+            given.append(drawop_in(line, digits) if name_of(digits) else mark_in(line, int(board.split(" ")[1])))
             strange[digits] = name_in(line) if line.startswith("draw ") else None
     moments = [int(line[5:]) for line in lines if line.startswith("tick ")]
-    return Held(board, max(moments, default=0), datagrams, {name for name in strange.values() if name})
+    return Held(board, max(moments, default=0), datagrams, given, {name for name in strange.values() if name})
+
+
+def drawop_in(line: str, digits: str) -> str:
+    """The line of a drawop: as it stands if it says it in words."""
+    return str(line) if words_in(line) else "datagram " + digits
+
+
+def mark_in(line: str, me: int) -> str:
+    """The line of a report that has our mark alone, if one in words has it."""
+    words = words_in(line)
+    report = Report(words) if words.startswith(REPORTS) else None
+    if report is None or me not in report.marks:
+        return NOTHING
+    return "page-state %d %s %d=%d" % (report.speaker, page_text(report.page), me, report.marks[me])
 
 
 def words_in(line: str) -> str:

@@ -9,13 +9,15 @@ import threading
 import time
 from collections import Counter
 from concurrent.futures import TimeoutError as TooLate
-from typing import TYPE_CHECKING, Iterator, NamedTuple, Optional
+from typing import TYPE_CHECKING, Dict, Iterator, NamedTuple, Optional
 
 from .carriers.carrier import MOST_BYTES, Origin
 from .carriers.sealed import NONCE, TAG, Seal
 from .carriers.udp import UdpCarrier
+from .clock import SECOND
 from .options import Address
 from .people import Refused
+from .views import Report
 
 if TYPE_CHECKING:
     from .member import Member
@@ -35,6 +37,10 @@ NEXT_TRY = 0.1
 # A stream that brings much brings what is asked for by name too: nothing is asked for so long after it brought so many that were new. What brings
 # less holds no request back, so a member that lies has to give drawops, for which the board has room.
 PAUSE, MANY = 2.0, 100
+
+# A member that lacks LACKING numbers takes a stream, unless one began lately, or one of that member, in microseconds: as its host has it. With fewer
+# it asks for each.
+LACKING, FETCH_PAUSE, FETCH_AGAIN = 500, 10 * SECOND, 60 * SECOND
 
 # streams that a member gives at a time, and datagrams that are taken in at a time
 MOST_GIVEN = 4
@@ -142,13 +148,30 @@ def datagrams_of(talk: Talk, end: float) -> Iterator[bytes]:
 
 
 class Joining:
-    """What a member that lacks much takes: one stream at a time, of the member that its judge names."""
+    """What a member that lacks much takes: one stream at a time, of a member that has answered it."""
 
     def __init__(self, member: Member) -> None:
         self.member = member
         self.is_busy = False
         self.is_ended = False
         self.coming_until = 0.0
+        self.next_at = 0  # from then on a stream may begin
+        self.again_at: Dict[int, int] = {}  # from then on one of that member may
+
+    def consider(self, report: Report, origin: Origin, is_named: bool) -> None:
+        """A member has reported from there. A stream of it is taken if the host says so, or if that member holds much that is lacking here: the host
+        counts what lies above the greatest numbers that it holds, and holes below them are lacking too."""
+        now = self.member.board.moment
+        if not is_named and (now < max(self.next_at, self.again_at.get(report.speaker, 0)) or self.lacking(report) < LACKING):
+            return
+        self.next_at = now + FETCH_PAUSE
+        self.again_at = {number: at for number, at in self.again_at.items() if at > now}
+        self.again_at[report.speaker] = now + FETCH_AGAIN
+        self.fetch(origin)
+
+    def lacking(self, report: Report) -> int:
+        """How many numbers of others up to the marks of a report are not held."""
+        return sum(self.member.drawn.lacking(report.page, source, high) for source, high in report.noted(self.member.me))
 
     def took(self, new: int) -> None:
         """So many drawops of a stream were new."""

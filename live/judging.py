@@ -1,48 +1,49 @@
-"""What a member does by the words of its judge (judge.py), which alone says what is handed to the host: here are the facts that it asks
-for, what is done then, and how people are told. docs/DECISIONS.md says why this is not the host's."""
+"""What a member does by the words of its host, which judges all that comes in: what it sends, and how it tells people. What it decides itself
+docs/DECISIONS.md has."""
 from __future__ import annotations
 
 from functools import partial
 from typing import TYPE_CHECKING, Any, Callable, Dict, List, Optional, Sequence, Set, Tuple
 
-from .board import NEW
+from wbhost import Block
+
+from .board import said
 from .carriers.carrier import Origin
 from .clock import SECOND, wall
 from .constants import constants_for
+from .heard import Heard, Other
 from .inbox import Arrival
 from .joining import Joining
-from .judge import Facts, Judge, Other, Verdict
 from .tails import Tails
-from .views import Datagram, Drawop, Name, Question, Report, datagram_of
-from .wire import with_echo
+from .views import Datagram, Drawop, Name, Report, datagram_of, name_of
 
 if TYPE_CHECKING:
     from .member import Member
 
-# how a session message and a request begin, and where a session message has its moment
-SESSION, REQUEST, SENT = "57420102", "57420103", slice(24, 40)
-
-# marks of a report of which note is taken, as many as a host tells
-MARKS = 64
+# how a session message and a request begin
+SESSION, REQUEST = "57420102", "57420103"
 
 # A member that was not heard for so long is not shown any more, and for some intervals between two reports, since of many members each
 # speaks more seldom than that; and an interval at most.
 GONE_AFTER, GONE_AFTER_INTERVALS, MOST_INTERVAL = 60 * SECOND, 3, 64 * SECOND
 
-# why a datagram is not handed in, for people
+# why a host drops a datagram, for people
 WHYS = {
     "own": "our own number", "speaks": "speaks for another", "crowd": "too many new members", "mark": "a mark of ours",
-    "stranger": "a stranger asks for what is not held", "flood": "too many questions of strangers", "again": "a stranger repeats what is held",
+    "stranger": "a stranger asks for what is not held", "flood": "too many requests or questions", "again": "it would hush us",
     "ahead": "ahead of the clock", "full": "the board is full", "share": "over a stranger's share", "pages": "strangers are on too many pages, or too many numbers",
 }
 
-# what people are warned of; that another has our number is shown as long as it is so
+# what a host warns of, for people; that another has our number is shown as long as it is so
 WARNINGS = {
     "speaks": "{origin} speaks for member {number}, which is another's number: that is not heeded",
     "mark": "a report tells of a drawing of ours that we did not make",
     "full": "the board is full: new drawings are not kept",
     "share": "{origin} has not answered us, and draws more than its share: the rest is not kept",
 }
+
+# why nothing is drawn
+TWIN = "another member has our number: take a new one"
 
 
 class Judging:
@@ -52,13 +53,10 @@ class Judging:
         self.member = member
         self.joining = Joining(member)
         self.tails = Tails(member.me)
+        self.heard = Heard(member.board)
+        self.has_twin = False  # somebody else has our number: for good, also to the host that comes after this one
         self.patience = GONE_AFTER
         self.tuning = member.board.tuning  # the constants of the timers that the host should have
-        options, board = member.options, member.board
-        # under a key nobody is a stranger for long, and what came before is replayed from outside
-        self.judge = Judge(member.me, board.cells, board.now(), wall(), options.login.name if options.login else None, 0 if options.key else None)
-        for name in board.strange:
-            self.judge.remember(name)
 
     def plan(self) -> List[Tuple[int, Callable[[], Any]]]:
         """What is to be done, each with its moment."""
@@ -73,7 +71,8 @@ class Judging:
     def arrive(self, arrivals: Sequence[Arrival]) -> None:
         """Datagrams came in. It takes in what became of each, and sends what the host sends then."""
         member = self.member
-        self.judge.tell_time(member.board.now(), wall())
+        if member.board.is_wrong():
+            member.tell(member.board.line_of_time(member.board.now(), wall()))
         digits = [arrival.data.hex() for arrival in arrivals]
         for arrival, each, told in zip(arrivals, digits, member.words.all(digits)):
             entry = member.wire.came(arrival, told.words)
@@ -84,129 +83,103 @@ class Judging:
             member.send_all(sent)
 
     def heed(self, datagram: Datagram, digits: str, origin: Origin, sent: List[str]) -> Optional[str]:
-        """Hands a datagram to the host, unless the judge refuses it, and tells why it changes nothing. What the host sends is put behind
-        what is sent."""
-        verdict = self.verdict(datagram, origin)
-        if verdict.why is not None:
-            return WHYS[verdict.why]
-        now = self.member.board.now()
-        if self.judge.is_known(origin, now):
-            self.tails.hear(datagram, now)
-        if isinstance(datagram, Drawop):
-            return self.take([datagram], origin, sent)
-        block = self.member.board.came([digits])[0]
+        """Hands a datagram to the host, and tells why it changes nothing. What the host sends is put behind what is sent."""
+        board = self.member.board
+        block = board.take([datagram], origin)[0] if isinstance(datagram, Drawop) else board.came([digits], origin)[0]
         sent += block.sent()
-        if isinstance(datagram, Report) and block.fault is None:
-            self.notice(datagram, origin)
-        if verdict.fetch:
-            self.joining.fetch(verdict.fetch)
-        return block.fault
-
-    def verdict(self, datagram: Datagram, origin: Origin, taken: int = 0) -> Verdict:
-        """What the judge says, beside so many drawops that are about to be handed in. What it says besides is done."""
-        board, drawn = self.member.board, self.member.drawn
-        verdict = self.judge.judge(origin, datagram, self.facts(datagram, taken))
-        board.keep(["datagram " + drawn.pages[name[1]].drawops[name].digits for name in verdict.became])
-        what, _, number = (verdict.warn or "").partition(" ")
-        if what in WARNINGS:
-            self.member.alarms.warn(WARNINGS[what].format(origin=origin.text, number=number))
-        return verdict
-
-    def facts(self, datagram: Datagram, taken: int) -> Facts:
-        member, drawn, now = self.member, self.member.drawn, self.member.board.now()
-        held, listens = drawn.total + taken, not member.is_ready
-        if isinstance(datagram, Question):
-            return Facts(now, held, listens, holds=datagram.name is not None and drawn.holds(datagram.name))
+        why = next(iter(said(block, "dropped")), None)
+        if isinstance(datagram, Report) and why is None and block.fault is None:
+            self.notice(datagram, origin, block)
+        is_member = self.heard.is_member(origin)
+        # what would hush us alone, the others hear too
+        if is_member and why in (None, "again"):
+            self.tails.hear(datagram, board.moment)
         if isinstance(datagram, Drawop):
-            return Facts(now, held, listens, holds=drawn.holds(datagram.name), top=drawn.top(datagram.name[1], member.me))
-        marks = list(datagram.marks.items())[:MARKS]
-        lacking = sum(drawn.lacking(datagram.page, source, high) for source, high in marks if source != member.me)
-        return Facts(now, held, listens, top=drawn.top(datagram.page, member.me), lacking=lacking)
+            self.notice_drawop(datagram, block, is_member)
+        self.warn(block, origin)
+        return block.fault if why is None else WHYS.get(why, why)
 
-    def notice(self, report: Report, origin: Origin) -> None:
+    def notice(self, report: Report, origin: Origin, block: Block) -> None:
         """Draws the conclusions from a report that the host has heard."""
-        member, other = self.member, self.judge.others[report.speaker]
+        member = self.member
+        self.heard.note(report)
         if report.is_session:
             member.wire.learn(origin, report.speaker)
             self.count()
-        if other.answered is not None:
-            member.telling.notice(report, MARKS)
-        member.board.keep_mark(report, member.drawn.top(report.page, member.me))
+        other, is_named = self.heard.get(report.speaker), bool(said(block, "fetch"))
+        has_answered = other is not None and other.answered is not None
+        if has_answered:
+            member.telling.notice(report)
+        if has_answered or is_named:
+            self.joining.consider(report, origin, is_named)
 
-    # ---- drawops
+    def notice_drawop(self, drawop: Drawop, block: Block, is_member: bool) -> None:
+        """What became of a drawop. One that the host dropped, since it would hush us, may clash too."""
+        held = self.member.drawn.get(drawop.name)
+        is_other = is_member and bool(said(block, "dropped")) and held is not None and held.words != drawop.words
+        for fate in ["clash"] if is_other else said(block, "became"):
+            self.member.telling.notice_fate(drawop.name, fate)
 
-    def take(self, drawops: Sequence[Drawop], origin: Origin, sent: List[str]) -> Optional[str]:
-        """Gives the host drawops of one origin. Why it refused the last."""
-        fault, now = None, self.member.board.now()
-        for drawop, block in zip(drawops, self.member.board.take(drawops, not self.judge.is_known(origin, now))):
-            sent += block.sent()
-            fault = block.fault
-            if block.lines[-1:] == NEW:
-                self.judge.took(origin, drawop.name, now)
-            self.member.telling.notice_batch(drawop.name, block.lines[-1:])
-        return fault
+    def warn(self, block: Block, origin: Origin) -> None:
+        """Warns people of what a host says."""
+        for what, _, number in (text.partition(" ") for text in said(block, "warn")):
+            if what == "twin":
+                self.has_twin = True
+            else:
+                self.member.alarms.warn(WARNINGS[what].format(origin=origin.text, number=number))
 
     def take_stream(self, datagrams: List[bytes], origin: Origin) -> None:
         """Takes in the drawops of a stream from there, each judged as any other."""
         member, before = self.member, self.member.drawn.total
         digits = [datagram.hex() for datagram in datagrams]
-        drawops = [datagram_of(told.words, each) for each, told in zip(digits, member.words.all(digits)) if told.words]
-        new = [drawop for drawop in drawops if isinstance(drawop, Drawop) and not member.drawn.holds(drawop.name)]
-        # a stranger's share is used up one by one
-        is_known = self.judge.is_known(origin, member.board.now())
+        drawops = [Drawop(told.words, each) for each, told in zip(digits, member.words.all(digits)) if told.words and name_of(each)]
+        new = [drawop for drawop in drawops if not member.drawn.holds(drawop.name)]
         sent: List[str] = []
-        for some in [new] if is_known else [[drawop] for drawop in new]:
-            taken: List[Drawop] = []
-            for drawop in some:
-                taken += [drawop] if self.verdict(drawop, origin, len(taken)).why is None else []
-            self.take(taken, origin, sent)
+        for drawop, block in zip(new, member.board.take(new, origin)):
+            sent += block.sent()
+            self.notice_drawop(drawop, block, is_member=False)
+            self.warn(block, origin)
         self.joining.took(member.drawn.total - before)
         member.send_all(sent)
 
     # ---- from one member of this program to another
 
     def given(self) -> Tuple[List[Drawop], Set[Name]]:
-        """All that is held, and what of it no known origin gave."""
-        return list(self.member.drawn.all()), set(self.judge.strange.origins)
+        """All that is held, and what of it no member gave."""
+        return list(self.member.drawn.all()), set(self.member.board.strange)
 
     def take_over(self, drawops: List[Drawop], strange: Set[Name]) -> None:
         """Takes in what another member of this program holds."""
-        for is_strange in (False, True):
-            some = [drawop for drawop in drawops if (drawop.name in strange) == is_strange and not self.member.drawn.holds(drawop.name)]
-            for drawop, block in zip(some, self.member.board.take(some, is_strange)):
-                if is_strange and block.lines[-1:] == NEW:
-                    self.judge.remember(drawop.name)
+        self.member.board.take_over([drawop for drawop in drawops if not self.member.drawn.holds(drawop.name)], strange)
 
     # ---- what is sent
 
     def outgoing(self, digits: str) -> Optional[str]:
-        """What goes out for a datagram of the host, if anything: no request while a stream brings what it asks for, and a report of ours echoes
-        the last one under our number that is not ours."""
+        """What goes out for a datagram of the host, if anything: no request while a stream brings what it asks for."""
         if digits.startswith(REQUEST):
             self.tails.asked(self.member.board.now())
             return None if self.joining.is_coming() else digits
-        if not digits.startswith(SESSION):
-            return digits
-        now, member = self.member.board.now(), self.member
-        self.judge.reported(int(digits[SENT], 16))
-        interval = min(MOST_INTERVAL, (len(self.present()) + 1) * (len(digits) // 2) * SECOND // member.options.rate)
+        if digits.startswith(SESSION):
+            self.reported(len(digits) // 2)
+        return digits
+
+    def reported(self, size: int) -> None:
+        """A report of this size in bytes goes out. They come more seldom the more members there are."""
+        member = self.member
+        interval = min(MOST_INTERVAL, (len(self.present()) + 1) * size * SECOND // member.options.rate)
         self.patience = max(GONE_AFTER, GONE_AFTER_INTERVALS * interval)
         self.count()
-        member.telling.notice_room(self.judge.is_full(member.drawn.total))
-        echo = self.judge.own_echo(now)
-        return digits if echo is None else with_echo(digits, member.me, *echo)
+        member.telling.notice_room()
 
-    def fault_of_drawing(self, is_drawing: bool) -> Optional[str]:
-        """Why it can't be drawn now."""
-        fault = self.judge.fault_of_adding(is_drawing, self.member.drawn.total)
-        return "another member has our number: take a new one" if fault == "twin" else fault
+    def fault_of_drawing(self) -> Optional[str]:
+        """Why it can't be drawn now, whatever the host says."""
+        return TWIN if self.has_twin else None
 
     # ---- who is there
 
     def present(self) -> Dict[int, Other]:
         """The members that were heard lately."""
-        now = self.member.board.clock.now()
-        return {number: other for number, other in self.judge.others.items() if now - other.at < self.patience}
+        return self.heard.within(self.patience)
 
     def count(self) -> None:
         """The constants of the timers go by how many are heard."""
@@ -214,7 +187,8 @@ class Judging:
 
     def leave(self, origin: Origin) -> None:
         """The network says that who spoke from there is gone."""
-        self.judge.leave(origin)
+        self.member.tell("gone %d %s" % (self.member.board.now(), origin.word))
+        self.heard.leave(origin)
 
     def end(self) -> None:
         self.joining.end()

@@ -148,8 +148,8 @@ class Member:
         self.board.begin_again()
 
     def tell(self, line: str) -> Block:
-        """The block of a line, after its datagrams were sent."""
-        block = self.board.tell(line)
+        """The block of a line, after what it records is recorded, and its datagrams were sent."""
+        block = self.board.act([line])[0]
         self.send_all(block.sent())
         return block
 
@@ -202,7 +202,7 @@ class Member:
 
     def renumber(self, me: int) -> None:
         """Goes on under another number, with all that is held."""
-        self.board.renumber(me, new_path(self.board.record.path, self.me, me), *self.judging.given())
+        self.board.renumber(me, new_path(self.board.record.path, self.me, me), list(self.drawn.all()))
         self.me = me
         self.presence.renumber(me)
         self.judging.end()

@@ -10,15 +10,15 @@ from wbhost import HostEnded
 from .clock import wall
 from .record import NoRoom, RecordFault
 from .state import random_number
-from .views import AIMED, Page, page_of, page_text
+from .views import Page, page_of, page_text
 
 if TYPE_CHECKING:
     from .member import Member
 
 OPERATIONS = ("line", "frame", "text", "delete", "restore")
 
-# `NOW TIME PAGE` stands before an operation: the place of a wrong word is counted without them
-WORDS_BEFORE = 3
+# `NOW PAGE` stands before an operation: the place of a wrong word is counted without them
+WORDS_BEFORE = 2
 
 # drawings that wait until the member may draw
 MOST_WAITING = 1_024
@@ -92,7 +92,7 @@ class People:
             raise Refused("full")
         if kind not in OPERATIONS or not all(" " <= c <= "~" for c in operation):
             raise Refused("unknown")
-        fault = member.judging.fault_of_drawing(kind not in AIMED)
+        fault = member.judging.fault_of_drawing()
         if fault is not None:
             raise Refused(fault)
         block, drawop = member.board.draw(page, wall(), operation)

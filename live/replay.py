@@ -4,17 +4,18 @@ from __future__ import annotations
 
 from typing import TYPE_CHECKING, Any, Callable, Dict, Iterator, List, Optional, Tuple
 
-from .board import NEW
 from .carriers.carrier import Origin
 from .clock import SECOND
 from .drawn import Drawn
 from .film import Film, scenes_of
 from .inbox import Arrival
-from .judge import Judge
 from .views import Drawop
 
 if TYPE_CHECKING:
     from .member import Member
+
+# what a host that judges nothing says of a drawop that is new
+NEW = ["batch 1 0 0 0"]
 
 # lines that are played before views can look on
 MOST_LINES = 100
@@ -30,7 +31,7 @@ class Playing:
         self.member = member
         self.film = Film(list(lines), member.board.clock.now)
         self.tell_at = 0
-        self.judge = Judge(member.me, member.board.cells, 0, 0)  # to which nothing comes
+        self.has_twin = False
         member.telling.events.tell("scenes", scenes_of(self.film, member.words))
 
     def plan(self) -> List[Tuple[int, Callable[[], Any]]]:
@@ -105,7 +106,7 @@ class Playing:
         """Nothing is sent otherwise than the host says it."""
         return digits
 
-    def fault_of_drawing(self, _is_drawing: bool) -> Optional[str]:
+    def fault_of_drawing(self) -> Optional[str]:
         return "a replay draws nothing"
 
     def present(self) -> Dict[int, Any]:

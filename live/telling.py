@@ -5,11 +5,11 @@ import os
 import time
 from typing import TYPE_CHECKING, Any, Dict, List, Set, Tuple
 
-from .board import CLASH, COLUMNS, FULL, NEW
+from .board import COLUMNS
 from .clock import SECOND
 from .drawn import Drawn, Sheet
 from .events import Events, Whole
-from .judge import Other
+from .heard import Other
 from .views import Name, Page, Report, page_text
 
 if TYPE_CHECKING:
@@ -21,7 +21,7 @@ NOTICE = "Everything shown here came through wb host, which is proved; live/ (ne
 LEAST_PAUSE = 0.015
 PART = 6
 
-# seconds between two tellings of who is there, and of the pages
+# seconds between two tellings of who is there, and of the pages, which take one part in PART of the time at most too
 MEMBERS_PAUSE = 0.5
 PAGES_PAUSE = 0.1
 
@@ -38,6 +38,9 @@ MOST_REPORTED = 512
 
 # for so long it is said that a page has caught up
 CAUGHT_UP = 60 * SECOND
+
+# one cell in RESERVE is kept for deletes and restores of members, as the host has it
+RESERVE = 32
 
 # the percentage of taken cells from which on the board is said to become full
 NEARLY_FULL = 80
@@ -111,8 +114,10 @@ class Telling:
             self.check_at, self.is_checked = max(self.check_at, ended + CHECK_PAUSE), False
         if self.are_pages_changed and began >= self.next_pages:
             self.are_pages_changed = False
+            asked = time.monotonic()
             self.tell_pages()
-            self.next_pages = time.monotonic() + PAGES_PAUSE
+            ended = time.monotonic()
+            self.next_pages = ended + max(PAGES_PAUSE, (PART - 1) * (ended - asked))
         if began >= self.next_members:
             self.tell_members()
             self.tell_health()
@@ -125,7 +130,7 @@ class Telling:
         self.events.tell("hello", {
             "me": member.me, "mode": member.network.where, "notice": notice_of(member), "program": member.board.program,
             "teach": options.teach, "worsen": options.worse(), "cells": member.board.cells, "ready": member.is_ready,
-            "twin": member.judging.judge.has_twin, "broken": member.board.is_broken, "proof": member.stage.told(),
+            "twin": member.judging.has_twin, "broken": member.board.is_broken, "proof": member.stage.told(),
         })
 
     # ---- the page
@@ -180,26 +185,26 @@ class Telling:
 
     # ---- what is noticed of what comes in, for people alone
 
-    def notice(self, report: Report, most: int) -> None:
+    def notice(self, report: Report) -> None:
         """What a member reports that is not held, by a limited number of its marks."""
-        for source, high in list(report.marks.items())[:most]:
-            if source != self.member.me and not self.member.drawn.holds((source, report.page, high)):
+        for source, high in report.noted(self.member.me):
+            if not self.member.drawn.holds((source, report.page, high)):
                 self.reported.tell((source, report.page, high))
 
-    def notice_batch(self, name: Name, batch: List[str]) -> None:
-        """What the host has answered to a drawop."""
+    def notice_fate(self, name: Name, fate: str) -> None:
+        """What became of a drawop."""
         alarms, source = self.member.alarms, name[0]
-        if batch == NEW:
+        if fate == "new":
             self.reported.come(name)
-        elif batch == CLASH:
+        elif fate == "clash":
             alarms.warn("two members draw with number %d: what they drew differs from member to member" % source)
-        elif batch == FULL:
+        elif fate == "left":
             alarms.warn("the board is full: new drawops are not kept")
 
-    def notice_room(self, is_full: bool) -> None:
+    def notice_room(self) -> None:
         """How many cells are left, where they are few."""
         total, cells = self.member.drawn.total, self.member.board.cells
-        if is_full:
+        if total >= cells - cells // RESERVE:
             self.member.alarms.warn("the board is full: %d of %d cells; deletes and restores alone have room" % (total, cells))
         elif total * 100 >= cells * NEARLY_FULL:
             self.member.alarms.warn("the board becomes full: %d of %d cells are taken" % (total, cells))
@@ -212,12 +217,18 @@ class Telling:
 
     def pages(self) -> List[Page]:
         """As many as are shown: the page in view, and those of members before those of strangers alone. They stand by their numbers, since one
-        turns through them."""
-        order = self.member.judging.judge.order_of(self.member.drawn.pages)
-        strange = set(self.member.judging.judge.pages_of_strangers(self.member.drawn.pages))
+        turns through them. If there are more, the host says which."""
+        drawn_on = self.member.drawn.drawn_pages()
+        order = drawn_on if len(drawn_on) <= MOST_PAGES else self.member.board.pages(MOST_PAGES) or drawn_on
+        strange = {page for page in drawn_on if self.is_strange(page)}
         members = [page for page in order if page not in strange]
         told = dict.fromkeys([self.member.page, *members, *self.reported.pages(), *order])
         return sorted(list(told)[:MOST_PAGES], key=lambda page: (page in strange, page))
+
+    def is_strange(self, page: Page) -> bool:
+        """Whether no member has drawn on a page."""
+        sheet, strange = self.member.drawn.sheet(page), self.member.board.strange
+        return self.member.me not in sheet.tops and all(name in strange for name in sheet.drawops)
 
     def tell_members(self) -> None:
         """Those first that have answered us."""
@@ -250,7 +261,7 @@ class Telling:
         """What lasts comes after what goes."""
         member = self.member
         lasting = [
-            (member.judging.judge.has_twin, "another member has our number %d: nothing is drawn until this member has a new one" % member.me),
+            (member.judging.has_twin, "another member has our number %d: nothing is drawn until this member has a new one" % member.me),
             (member.board.is_broken, "the record can't be written: nothing is drawn until there is room"),
             (bool(member.inbox.trouble), member.inbox.trouble),
         ]

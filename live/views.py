@@ -3,7 +3,7 @@ from __future__ import annotations
 
 import json
 import re
-from typing import Any, Dict, Optional, Tuple, Union
+from typing import Any, Dict, List, Optional, Tuple, Union
 
 # of a page: its creator and its number
 Page = Tuple[int, int]
@@ -16,6 +16,12 @@ Key = Tuple[int, int, int]
 
 # a delete or a restore of another drawop
 AIMED = ("delete", "restore")
+
+# marks of a report of which note is taken, as many as a host tells
+MARKS = 64
+
+# how a drawop begins in hexadecimal, in either version, and where its source, the two numbers of its page and its own number stand
+DRAWOPS, NAMED = ("57420101", "57420201"), range(16, 48, 8)
 
 
 def page_of(text: str) -> Page:
@@ -97,6 +103,14 @@ def name_in(words: str) -> Optional[Name]:
     return None
 
 
+def name_of(digits: str) -> Optional[Name]:
+    """The name of a drawop in hexadecimal; none of any other datagram."""
+    if not digits.startswith(DRAWOPS) or len(digits) < NAMED.stop:
+        return None
+    source, creator, number, seq = (int(digits[at:at + 8], 16) for at in NAMED)
+    return source, (creator, number), seq
+
+
 class Report:
     """What a session message or a page state tells: the page, the greatest number of each source, and whom the speaker heard."""
 
@@ -116,6 +130,10 @@ class Report:
             else:
                 source, _, high = word.partition("=")
                 self.marks[int(source)] = int(high)
+
+    def noted(self, me: int) -> List[Tuple[int, int]]:
+        """The marks of others of which note is taken."""
+        return [(source, high) for source, high in list(self.marks.items())[:MARKS] if source != me]
 
 
 class Question:

@@ -1,7 +1,6 @@
 """The datagrams as they go by, in words, and which request a repair answers."""
 from __future__ import annotations
 
-import struct
 import time
 from typing import Any, Dict, Optional
 
@@ -13,9 +12,6 @@ from .views import Name, name_in, page_text, speaker_of
 # characters of a datagram that are shown, and requests and origins that are remembered
 MOST_CHARACTERS = 400
 MOST_REMEMBERED = 1_024
-
-# bytes of a datagram before its body, of a session message before the count of its marks, of a mark, and of an echo
-HEAD, BEFORE_MARKS, MARK, ECHO = 8, 28, 8, 20
 
 COUNTED = ("in", "out", "lost", "twice", "refused", "requests", "repairs")
 
@@ -77,12 +73,3 @@ class Wire:
             if len(self.requests) > MOST_REMEMBERED:
                 del self.requests[next(iter(self.requests))]
         self.events.tell_entry(entry)
-
-
-def with_echo(digits: str, number: int, sent: int, held: int) -> str:
-    """A session message that echoes one number more, at its place among them: the moment of a report, and how long ago it came."""
-    data = bytes.fromhex(digits)
-    at = BEFORE_MARKS + 2 + MARK * int.from_bytes(data[BEFORE_MARKS:BEFORE_MARKS + 2], "big")
-    echoes = sorted([struct.pack(">IQQ", number, sent, held), *(data[each:each + ECHO] for each in range(at + 2, len(data), ECHO))])
-    body = data[HEAD:at] + len(echoes).to_bytes(2, "big") + b"".join(echoes)
-    return (data[:HEAD - 4] + len(body).to_bytes(4, "big") + body).hex()

@@ -2,6 +2,8 @@
 is, and end. Of members, their numbers and drawings it knows nothing."""
 from __future__ import annotations
 
+import hashlib
+import os
 from dataclasses import dataclass, field
 from typing import TYPE_CHECKING, Optional, Protocol
 
@@ -11,6 +13,10 @@ if TYPE_CHECKING:
 # the longest datagram that UDP carries, and by how much a sealed one is longer than a plain one
 MOST_BYTES = 65_507
 SEALED = 45
+
+
+# Texts become numbers with this key. Nobody else knows it, so nobody finds two texts of one number.
+KEY = os.urandom(16)
 
 
 class NetworkFault(Exception):
@@ -31,6 +37,17 @@ class Origin:
     def owner(self) -> Optional[str]:
         """The name of who alone sends from there, if the network keeps names."""
         return self.text if self.is_kept else None
+
+    @property
+    def word(self) -> str:
+        """The word for it in the lines of a host: PLACE, or PLACE@OWNER."""
+        place = number_of(self.text + "\0" + self.tag)
+        return "%d" % place if self.owner is None else "%d@%d" % (place, number_of(self.owner))
+
+
+def number_of(text: str) -> int:
+    """The number below 2^64 that a host knows a place or an owner by."""
+    return int.from_bytes(hashlib.blake2b(text.encode(), digest_size=8, key=KEY).digest(), "big")
 
 
 class Taker(Protocol):

@@ -2,7 +2,6 @@
 from __future__ import annotations
 
 import json
-import random
 from contextlib import ExitStack
 from pathlib import Path
 from typing import Dict, List, Optional
@@ -92,9 +91,7 @@ def note_of(board: Board) -> List[str]:
 
 def seconds_of_drawings(constants: Optional[str] = None) -> List[float]:
     """Three members draw in turn while much is lost: the seconds of each drawing until all have it. With constants, they have these for good."""
-    chance = random.Random(7)  # so that a run is the same each time
     with ExitStack() as held:
-        held.enter_context(mock.patch("live.board.secrets.randbits", chance.getrandbits))
         if constants:
             held.enter_context(mock.patch.multiple("live.board", FEW=constants))
             held.enter_context(mock.patch.multiple("live.judging", constants_for=lambda *_: constants))

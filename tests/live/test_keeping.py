@@ -4,18 +4,20 @@ from __future__ import annotations
 import os
 import time
 from pathlib import Path
-from typing import Callable, List, Sequence, Tuple
+from typing import Callable, List, Tuple
+from unittest import mock
 
 import pytest
 
-from wbhost import Host, HostEnded
+from wbhost import Host
 
 from live.board import Board
+from live.carriers.carrier import Origin
 from live.held import held_of
 from live.options import read_options
-from live.record import MOST_MOMENT, Act, Record, read_played
+from live.record import MOST_MOMENT, Act, NoRoom, Record, read_played
 from live.views import Drawop
-from live.words import Wording, Words
+from live.words import Words
 from ..facts import Facts
 from .test_hostile import Attacker, drawn, session, state
 from .members import Process, answers
@@ -132,7 +134,7 @@ def test_draw(facts: Facts) -> None:
     block, drawop = board.draw((1, 1), 50, 'text 0 0 "a b"')
     facts("one of the same time lies above it", drawop.words if drawop else None, 'draw 1 1/1 2 51 text 0 0 "a b"')
     block, drawop = board.draw((1, 1), 50, "delete 1 3")
-    facts("one that aims at itself is none", (block.fault, drawop), ("word 6: target is the drawop itself", None))
+    facts("one that aims at itself is none", (block.fault, drawop), ("word 5: target is the drawop itself", None))
     drawn_too = [board.draw((1, 1), 50, words)[1] for words in ("delete 1 1", "restore 1 1", "frame 0 0 2 2 #")]
     facts("of each kind", [each.kind for each in drawn_too if each], ["delete", "restore", "frame"])
     lines = [line for line in record.acts() if not line.startswith("tick ")]
@@ -140,41 +142,41 @@ def test_draw(facts: Facts) -> None:
     end(board)
 
 
-class Speechless(Words):
-    """`wb words` that ends whenever it is asked."""
-
-    def some(self, many: Sequence[str]) -> List[Wording]:
-        return [Wording(None, "unread")] * len(many)
-
-
-def test_unsaid(facts: Facts) -> None:
-    """A drawing that nobody says in words is in no record: nor does the host hold it, and its number is free."""
+def test_unwritten(facts: Facts) -> None:
+    """A drawing that the record can't have is not sent: nor does the host hold it, and its number is free. Until there is room no host is asked."""
     record, held = Record(None), []  # type: Tuple[Record, List[Drawop]]
     board = board_of(record, held)
     board.draw((1, 1), 50, "line 0 0 4 0 +")
-    words, board.words = board.words, Speechless(board.program)
-    try:
-        board.draw((1, 1), 60, "line 0 1 4 1 x")
-        facts("it is refused", "drawn", "HostEnded")
-    except HostEnded as fault:
-        facts("it is refused", str(fault), "wb words ended")
-    board.words.end()
-    board.words = words
+    first, size = board.host, record.size
+    with mock.patch.object(record, "add", side_effect=NoRoom("no space")):
+        facts("it is refused", (fault_of(board, "line 0 1 4 1 x"), board.host is first, board.is_broken), ("no space", False, True))
+        second = board.host
+        facts("so is the next, of which no host hears", (fault_of(board, "line 0 1 4 1 y"), board.host is second), ("no space", True))
     facts("the host does not hold it", board.canvas((1, 1)), ["+++++"])
+    facts("nor is it in the record, or told", (record.size, len(held)), (size, 1))
     facts("nor will it report it", board.tell("next 1 1").lines, ["next 2"])
     facts("it counts as no end of a host", board.ends, [])
     _, drawop = board.draw((1, 1), 70, "line 0 2 4 2 -")
     facts("the next drawing has its number", drawop.words if drawop else None, "draw 1 1/1 2 70 line 0 2 4 2 -")
     facts("the record has both, each once", [line for line in record.acts() if line.startswith("say ")],
           ["say draw 1 1/1 1 50 line 0 0 4 0 +", "say draw 1 1/1 2 70 line 0 2 4 2 -"])
+    facts("and is not broken any more", board.is_broken, False)
     end(board)
+
+
+def fault_of(board: Board, operation: str) -> str:
+    try:
+        board.draw((1, 1), 60, operation)
+    except NoRoom as fault:
+        return str(fault)
+    return "drawn"
 
 
 def test_repair(facts: Facts) -> None:
     """A repair of ours that is due with a drawing is not taken for it."""
     board = board_of(Record(None), [], ("--speed", "1000"))
     board.draw((1, 1), 50, "line 0 0 4 0 +")
-    board.came([ASKED])
+    board.came([ASKED], Origin("9"))
     until = board.moment + 300_000  # at a distance of 100 ms a repair waits for 100 to 200
     while board.now() < until:
         time.sleep(0.001)
@@ -182,6 +184,27 @@ def test_repair(facts: Facts) -> None:
     facts("both are sent", sum(digits.startswith("57420101") for digits in block.sent()), 2)
     facts("the drawing is the new one", drawop.name if drawop else None, (1, (1, 1), 2))
     end(board)
+
+
+def test_strange(facts: Facts, tmp_path: Path) -> None:
+    """What no member gave stays so: after a start of the host, for another member of this program, and under another number."""
+    held: List[Drawop] = []
+    board = board_of(Record(str(tmp_path / "1.wb")), held)
+    board.draw((1, 1), 50, "line 0 0 4 0 +")
+    board.take([Drawop("draw 8 1/1 1 999 line 0 2 9 2 o", drawn(8, 1, 999, 2, b"o").hex())], Origin("eve"))
+    name, words = (8, (1, 1), 1), "draw 8 1/1 1 999 line 0 2 9 2 o"
+    facts("a stranger's drawop", ([drawop.words for drawop in held[1:]], board.strange), ([words], {name}))
+    board.begin_again()
+    facts("the next host has it so", (board.strange, board.pages(9), board.tell("list 9").lines), ({name}, [(1, 1)], ["list 1", "1 1 2"]))
+    told: List[Drawop] = []
+    other = board_of(Record(None), told)
+    other.take_over(held, board.strange)
+    facts("another member has both, and what is strange", (len(told), other.strange), (2, {name}))
+    facts("and so has its record", [line.split(" ")[0] for line in other.record.acts()], ["board", "datagram", "draw"])
+    board.renumber(9, str(tmp_path / "9.wb"), held)
+    facts("under another number", (board.me, board.strange, [line.split(" ")[0] for line in board.record.acts()]), (9, {name}, ["board", "tick", "datagram", "draw"]))
+    for each in (board, other):
+        end(each)
 
 
 def check_listening(facts: Facts, folder: Path) -> None:

@@ -168,6 +168,9 @@ LINES_OF_A_HOST = [
     "board 7 64 1 42", "tick 5", "tick 900000", "keep 4000 0", "add 7 50 1/1 line 0 0 4 0 *", 'add 8 60 1/1 text 1 2 "a b"', "add 9 60 1/1 delete 7 1", "say draw 7 1/1 1 10 line 0 0 4 0 *",
     "draw 8 1/1 1 20 frame 0 0 9 5 #", 'draw 9 1/1 3 20 text 3 2 "say \\"hi\\""', "page-state 9 1/1 7=4 8=2", "session-message 9 5 1/1 7=1 8@4+1", "request 9 7 1/1 2", "ask-pages 9",
     "arrive " + drawn(8, 1, 999, 2, b"o").hex(), "hear " + state(9, (1, 1), {8: 2}).hex(), "datagram " + session(9, 5).hex(), "came 10 " + drawn(9, 1, 999, 2, b"o").hex(),
+    "judge 5 4000 0 1764000000000000 - -", "judge 900000 4000 1 1764000000000000 5 16", "wall 900000 1764000000000000", "gone 900000 777", "members", "list 5",
+    "came 900000 777 " + drawn(9, 1, 999, 2, b"o").hex(), "came 900000 777@5 " + session(9, 5, (1, 1), {7: 3}).hex(), "add 900001 1/1 line 0 0 4 0 *",
+    "held draw 8 1/1 1 20 frame 0 0 9 5 #", "held say draw 7 1/1 1 10 line 0 0 4 0 *", "held datagram " + drawn(8, 1, 999, 2, b"o").hex(), "held page-state 9 1/1 7=4", "held tick 5",
     "view 1 1", "show 1 1 20 5", "gaps 1 1", "next 1 1", "pages", "known", "report 1 1", "look 1 1", "distance 8 20000", "tuning 2,4,1,8", "random 7", "due", "# a comment", "",
 ]
 

@@ -6,6 +6,7 @@ import signal
 import socket
 import tempfile
 import time
+from contextlib import ExitStack, suppress
 from pathlib import Path
 from functools import partial
 from typing import Any, Dict, List
@@ -18,13 +19,15 @@ FIRST_PORT = 26_160
 
 
 def free_ports(count: int) -> List[int]:
-    """Ports of UDP that nobody has."""
-    bound = [socket.socket(socket.AF_INET, socket.SOCK_DGRAM) for _ in range(count)]
-    for each in bound:
-        each.bind(("127.0.0.1", 0))
-    ports = [each.getsockname()[1] for each in bound]
-    for each in bound:
-        each.close()
+    """Ports that nobody has, of UDP or of TCP: a member takes both, and connections that other tests ended keep some of TCP for a minute."""
+    ports: List[int] = []
+    with ExitStack() as held:
+        while len(ports) < count:
+            udp, tcp = (held.enter_context(socket.socket(socket.AF_INET, kind)) for kind in (socket.SOCK_DGRAM, socket.SOCK_STREAM))
+            udp.bind(("127.0.0.1", 0))
+            with suppress(OSError):
+                tcp.bind(udp.getsockname())
+                ports.append(udp.getsockname()[1])
     return ports
 
 

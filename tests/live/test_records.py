@@ -210,7 +210,7 @@ if sys.argv[1] != "host":
     sys.exit(subprocess.call([%r, *sys.argv[1:]]))
 host = subprocess.Popen([%r, *sys.argv[1:]], stdin=subprocess.PIPE)
 for line in sys.stdin.buffer:
-    time.sleep(%g if line.startswith(b"came ") else 0)
+    time.sleep(%g if line.startswith(b"held ") else 0)
     host.stdin.write(line)
     host.stdin.flush()
 host.stdin.close()

@@ -10,8 +10,8 @@ import time
 from pathlib import Path
 from typing import Any, Callable, List, Tuple
 
-from live.judge import STRANGE_PAGES
 from ..facts import Facts
+from ..judging.reference import STRANGE_PAGES
 from .test_forgeries import now
 from .test_hostile import Attacker, drawn, framed, session, state
 from .members import Process, comes

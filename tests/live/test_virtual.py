@@ -19,7 +19,6 @@ from live.carriers.carrier import Origin
 from live.clock import SECOND
 from live.events import Events
 from live.inbox import Arrival
-from live.judge import LEAST_SHARE, OF_ORIGIN, STRANGE_PAGES, STRANGERS
 from live.judging import Judging
 from live.member import Member
 from live.options import read_options
@@ -27,6 +26,7 @@ from live.record import Record
 from live.views import Datagram
 from live.words import SharedWords
 from ..facts import Facts
+from ..judging.reference import LEAST_SHARE, OF_ORIGIN, STRANGE_PAGES, STRANGERS
 from .test_hostile import drawn, session
 from .members import program
 
@@ -115,7 +115,7 @@ class Virtual:
         return self.member.drawn.total
 
     def knows(self, other: "Virtual") -> bool:
-        return self.judging.judge.is_known(other.origin, self.now())
+        return self.judging.heard.is_member(other.origin)
 
     def end(self) -> None:
         self.member.board.close()
@@ -134,7 +134,11 @@ class World:
         self.words = SharedWords(os.environ["WB_PROGRAM"])
 
     def __enter__(self) -> "World":
-        self.patch = mock.patch.multiple("live.judging", wall=self.wall), mock.patch.multiple("live.people", wall=self.wall)
+        hosts = random.Random(self.chance.random())  # the seed of each board and when it begins, so that a run is the same each time
+        self.patch = (
+            *(mock.patch.multiple("live." + name, wall=self.wall) for name in ("board", "judging", "people")),
+            mock.patch.multiple("live.board.secrets", randbits=hosts.getrandbits, SystemRandom=lambda: hosts),
+        )
         for patch in self.patch:
             patch.start()
         return self
