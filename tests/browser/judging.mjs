@@ -66,9 +66,10 @@ async function meet(member, number = 9, place = 'x', more = '') {
 async function testHost() {
   const member = memberOf(), sent = [];
   await meet(member, 9, 'x', ' 7=3');
-  for (const words of ['page-state 9 7/1 7=3', 'request 9 7 7/1 2', 'ask-pages 9', drawing(7, 2)]) await heed(member, words, 'x', sent);
-  judge('all that a member sends comes to the host', member.came.map((words) => words.slice(0, 3)), ['ses', 'pag', 'req', 'ask', 'dra']);
+  for (const words of ['page-state 9 7/1 7=3', 'ask-pages 9', drawing(7, 2), 'request 9 7 7/1 2']) await heed(member, words, 'x', sent);
+  judge('all that a member sends comes to the host', member.came.map((words) => words.slice(0, 3)), ['ses', 'pag', 'ask', 'dra', 'req']);
   judge('and what the host sends goes out', sent.map(hex), ['00ff', '00ff', '00ff', '00ff']);
+  judge('but no request for what we lack, of one other', [await heed(member, 'request 9 7 7/1 9'), member.came.length], ['it would hush us', 5]);
   judge('what is told is missing, and what is below', member.telling.reported.missing('7/1', member.drawn), 2);
   await heed(member, drawing(7, 3));
   judge('until it comes, and then it is forgotten', [member.telling.reported.missing('7/1', member.drawn), member.telling.reported.names.size], [1, 0]);
@@ -159,7 +160,10 @@ async function testHeld() {
   [1, 2, 3].forEach((seq) => member.drawn.add(drawopOf(drawing(1, seq))));
   judge('a report of all that we drew warns nobody', [await heed(member, 'session-message 9 78 7/1 1=3'), member.alarms.told()], [null, []]);
   judge('one of more does', [await heed(member, 'session-message 9 79 7/1 1=4'), member.alarms.told()], [null, ['a report tells of a drawing of ours that we did not make']]);
-  judge('a stranger\u2019s copy of what is held', await heed(member, drawing(1, 2), 'z'), 'a copy that a stranger sent');
+  judge('a stranger\u2019s copy of what is held', await heed(member, drawing(1, 2), 'z'), 'it would hush us');
+  judge('a member\u2019s copy of what is held', [await heed(member, drawing(1, 2)), member.alarms.told().slice(1)], ['it would hush us', []]);
+  judge('its drawing of another kind under that name', [await heed(member, drawing(1, 2, 6)), member.alarms.told().slice(1)],
+    ['it would hush us', ['two members draw with number 1: what they drew differs from member to member']]);
   judge('his requests for what is held, and for what is not', [await heed(member, 'request 8 1 7/1 2', 'z'), await heed(member, 'request 8 1 7/1 4', 'z')],
     [null, 'a stranger asks for what is not held']);
   await heed(member, 'page-state 8 7/1 1=3', 'y');

@@ -138,7 +138,7 @@ def texts(path: Path) -> Iterator[str]:
 
 
 # a new comment has its crate proved anew, so these are mended with the next change of theirs
-LATER = {TOP / "crates/wb_feed/src/workers.rt", TOP / "crates/wb_script/proofs/Retold.antt"}
+LATER = {TOP / "crates/wb_feed/src/workers.rt", TOP / "crates/wb_lines/specs/Progress.antt"}
 
 COMMENTS = sorted({path for part in COMMENTED for path in [TOP / part, *(TOP / part).rglob("*")] if is_source(path)} - LATER)
 

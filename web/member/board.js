@@ -1,5 +1,5 @@
 /** A self-managing host, with its record: a drawing of ours is in the record before it is sent, and a host that broke off starts from
- * it. `live/board.py` once more. */
+ * it. As `live/board.py`, whose host judges besides. */
 import { FEW } from './constants.js';
 import { heldOf } from './held.js';
 import { HostEnded } from './host.js';

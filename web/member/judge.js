@@ -1,5 +1,5 @@
 /** The judgement of a member: which datagrams are handed to its host, and why the others are not. It has no host, no clock and no network: who asks
- * tells the moment, and what the host holds. `live/judge.py` is the same, and both pass one table of cases (tests/judging). Moments and times are
+ * tells the moment, and what the host holds. The crate wb_judge is the same, and both pass one table of cases (tests/judging). Moments and times are
  * microseconds. A page takes no streams, so nothing here says from whom one may be taken. */
 
 /** @typedef {import('./datagram.js').Datagram} Datagram */
@@ -42,6 +42,13 @@ const RESERVE = 32;
  * are not known. */
 const MOST_NEW = 256, MOST_ANSWERING = 256, NEW_PAUSE = SECOND, MOST_ASKED = 64, ASKED_PAUSE = SECOND / 16;
 
+/** Members' requests for what is held, each of which brings a repair: MOST_REPAIRS at once, and then one in each pause. Above REPAIRS_OF_ONE no two in a
+ * row are of one member. */
+const MOST_REPAIRS = 512, REPAIR_PAUSE = SECOND / 500, REPAIRS_OF_ONE = 256;
+
+/** How long a name is firm in its turn. Beside MOST_SHARING + 1 others there are as many turns as beside more. */
+const FIRM_TIME = 2 * SECOND, MOST_SHARING = 31;
+
 /** A number of ours that is so far above what is held is forged, and so is any from here on. */
 const FORGED_ABOVE = 65_536, FORGED_NUMBER = 2 ** 31;
 
@@ -69,10 +76,10 @@ class Bucket {
     this.paid = 0; // up to this moment
   }
 
-  /** @param {number} now */
-  takes(now) {
+  /** @param {number} now @param {number} [most] where these may be fewer at once */
+  takes(now, most = this.most) {
     const paid = Math.max(this.paid, now);
-    if (paid - now > (this.most - 1) * this.pause) return false;
+    if (paid - now > (most - 1) * this.pause) return false;
     this.paid = paid + this.pause;
     return true;
   }
@@ -113,6 +120,10 @@ export class Judge {
     this.new = new Bucket(MOST_NEW, NEW_PAUSE);
     this.answering = new Bucket(MOST_ANSWERING, NEW_PAUSE);
     this.asked = new Bucket(MOST_ASKED, ASKED_PAUSE);
+    this.repairs = new Bucket(MOST_REPAIRS, REPAIR_PAUSE);
+    /** From where the last request of a member came that was taken, for what is held.
+     * @type {string | null} */
+    this.served = null;
     this.hasTwin = false;
   }
 
@@ -195,6 +206,23 @@ export class Judge {
     return owner !== null && its !== null && its !== owner;
   }
 
+  /** Whether nothing that others send of a name hushes us now. Each name is firm here in one of some turns, and at others in other turns: beside one
+   * member always, and beside more so that a quarter of a member has it firm. Who is heard and has not answered us does not count.
+   * @param {string} name @param {number} now */
+  isFirm(name, now) {
+    let others = 0;
+    for (const { at, answered } of this.others.values()) others += Number(answered !== null && now - at <= PATIENCE);
+    const turns = 4 * Math.min(Math.max(others - 1, 0), MOST_SHARING) + 1;
+    const source = Number(name.slice(0, name.indexOf(' '))), number = Number(name.slice(name.lastIndexOf(' ')));
+    return (source + number + this.me + Math.floor(now / FIRM_TIME)) % turns === 0;
+  }
+
+  /** Whether what came from there of a name may end our answer, or back our request off.
+   * @param {Origin} origin @param {string} name @param {number} now */
+  hushes(origin, name, now) {
+    return this.isKnown(origin, now) && !this.isFirm(name, now);
+  }
+
   /** No drawing has room, and deletes and restores of members alone have.
    * @param {number} held */
   isFull(held) {
@@ -274,19 +302,29 @@ export class Judge {
     for (const name of this.strange.keys()) this.noteRow(rowOf(name));
   }
 
-  /** A stranger's request for what is not held puts off no request of ours, and its others are answered few at a time.
+  /** A request for what is held brings a repair, so few are taken at a time. One for what is not held puts ours off: of a stranger never, and of a
+   * member not while its name is firm.
    * @param {Origin} origin @param {Datagram} datagram @param {Facts} facts */
-  judgeQuestion(origin, { kind }, { now, holds }) {
-    if (this.isKnown(origin, now)) return HANDED_IN;
-    if (kind === 'request' && !holds) return dropped('stranger');
-    return this.asked.takes(now) ? HANDED_IN : dropped('flood');
+  judgeQuestion(origin, { kind, name }, { now, holds }) {
+    const isKnown = this.isKnown(origin, now), asksForOne = kind === 'request';
+    if (asksForOne && !holds) return this.hushes(origin, name, now) ? HANDED_IN : dropped(isKnown ? 'again' : 'stranger');
+    if (!isKnown) return this.asked.takes(now) ? HANDED_IN : dropped('flood');
+    return !asksForOne || this.isRepaired(origin, now) ? HANDED_IN : dropped('flood');
+  }
+
+  /** Whether a repair for a member is paid for, which it then is.
+   * @param {Origin} origin @param {number} now */
+  isRepaired({ place }, now) {
+    if (!this.repairs.takes(now, place === this.served ? REPAIRS_OF_ONE : MOST_REPAIRS)) return false;
+    this.served = place;
+    return true;
   }
 
   /** @param {Origin} origin @param {Datagram} datagram @param {Facts} facts */
   judgeDrawop(origin, datagram, facts) {
     const { speaker, time, isDrawing } = datagram, { now } = facts, isKnown = this.isKnown(origin, now);
-    // a repair that a member gave keeps us from giving it, and one of a stranger does not
-    if (facts.holds) return isKnown ? HANDED_IN : dropped('again');
+    // a repair that a member gave keeps us from giving it, unless its name is firm, and one of a stranger does not
+    if (facts.holds) return this.hushes(origin, datagram.name, now) ? HANDED_IN : dropped('again');
     if (speaker === this.me && this.isNoneOfOurs(isKnown, datagram, facts)) return dropped('own');
     if (!isKnown && this.isBoundElsewhere(speaker, origin, now)) return dropped('speaks');
     if (time > this.timeOfDay(now) + (isKnown ? AHEAD_KNOWN : AHEAD_STRANGER)) return dropped('ahead');

@@ -1,5 +1,5 @@
 /** What stands between a member and its judge (judge.js): it learns what the host holds, and what it decides is done. What people see
- * stands here and in telling.js. docs/DECISIONS.md says why a host does not judge so by itself. */
+ * stands here and in telling.js. The host of `wb-live` judges so by itself (docs/HOST-LINES.md); that of the page does not yet. */
 import { lineOf } from './board.js';
 import { constantsFor } from './constants.js';
 import { readDatagram, withEcho } from './datagram.js';
@@ -12,7 +12,7 @@ import { drawopOf } from './views.js';
 
 /** Why a datagram is not handed in, for people, by the judge's word. */
 const WHY = /** @type {Record<string, string>} */ ({
-  again: 'a copy that a stranger sent', ahead: 'ahead of the clock', crowd: 'too many new members', flood: 'too many questions of strangers',
+  again: 'it would hush us', ahead: 'ahead of the clock', crowd: 'too many new members', flood: 'too many requests or questions',
   full: 'the board is full', mark: 'a mark of ours', own: 'under our number', share: 'over the share of strangers', speaks: 'under the number of another',
   pages: 'strangers are on too many pages, or too many numbers', stranger: 'a stranger asks for what is not held',
 });
@@ -106,8 +106,12 @@ export class Judging {
     const { why, warn } = judge.judge(origin, datagram, this.facts(datagram, now));
     if (warn !== null) this.warn(warn, datagram.speaker);
     if (judge.strange !== before) this.keepAnew(before);
-    if (why !== null) return WHY[why];
-    if (judge.isKnown(origin, now)) this.tails.hear(datagram, now);
+    // what would hush us alone, the others hear too
+    if (judge.isKnown(origin, now) && (why === null || why === 'again')) this.tails.hear(datagram, now);
+    if (why !== null) {
+      this.noticeClash(datagram, origin, now);
+      return WHY[why];
+    }
     if (datagram.kind === 'draw') return this.take(datagram, bytes, origin, now, sent);
     if (datagram.kind === 'session-message') {
       wire.learn(origin.place, datagram.speaker);
@@ -141,6 +145,13 @@ export class Judging {
       const drawop = this.judge.strange.has(name) ? null : drawn.find(name);
       if (drawop) board.keep(lineOf(drawop, false));
     }
+  }
+
+  /** A member's drawop was dropped. If we hold another under its name, warns people, as of a clash that the host finds.
+   * @param {Datagram} datagram @param {Origin} origin @param {number} now */
+  noticeClash({ kind, words, name, speaker: source, page, seq }, origin, now) {
+    const held = kind === 'draw' && this.judge.isKnown(origin, now) ? this.member.drawn.find(name) : null;
+    if (held && held.words !== words) this.member.telling.noticeOutcome({ source, page, seq }, 'clash');
   }
 
   /** Draws the conclusions from a report of another, which the host has heard.
