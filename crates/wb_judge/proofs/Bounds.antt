@@ -3,14 +3,14 @@ use Rattle.std.proofs.Common.{◌≡◌, ◌⊎◌, ◌∙◌, ◌≤◌, ◌<�
 use Rattle.std.proofs.lemmas.Bool.Decides.{nat_tests}
 use Rattle.std.proofs.lemmas.List.{length-append, length-drop, length-take}
 use Rattle.std.specs.List.{position, position_or_len, remove}
-use Rattle.std.specs.Prelude.{Some, is_none, nat_eq, nat_lt, not, unwrap_or}
+use Rattle.std.specs.Prelude.{Option, Some, is_none, nat_eq, nat_lt, not, unwrap_or}
 use Rattle.wb_names.specs.Values.{DrawopValue}
 use Rattle.wb_codec.specs.declared.datagram.Datagram.{Datagram}
 use Rattle.wb_codec.specs.declared.datagram.Datagram.TheVariants.{AskPages, Draw, PageState, Request, Session}
 use Rattle.wb_judge.specs.Judge.{Judge, after_taking, knows}
 use Rattle.wb_judge.specs.Judging.{after_coming, after_judging}
 use Rattle.wb_judge.specs.Known.{is_known, known_from, left}
-use Rattle.wb_judge.specs.Laws.{Comes, IsBounded, Leaves, Remembers, Reports, SharesStay, StateIsBounded, Step, Tells, after_datagram, after_step, after_steps, is_answer, is_taken}
+use Rattle.wb_judge.specs.Laws.{Comes, IsBounded, Leaves, Remembers, Reports, SharesStay, StateIsBounded, Step, Tells, after_datagram, after_step, after_steps, is_answer, is_taken, speaker_in}
 use Rattle.wb_judge.specs.Origins.{same_origin}
 use Rattle.wb_judge.specs.Others.{first_to_go, other_with, with_place_for, without}
 use Rattle.wb_judge.specs.Shares.{Shares}
@@ -109,8 +109,8 @@ from_same j k s = record {
 fits_bounded : (s t u : Shares) → u ≡ t → Fits s t → length s.given ≤ s.most → length u.given ≤ u.most
 fits_bounded s t u e fit few = subst (λ (w : Shares). length w.given ≤ w.most) (sym e) (subst (λ n. length t.given ≤ n) (sym fit.most) (fit.few few))
 
-from_heard : (o : Origin) (answer : Bool) (now : ℕ) (j k : Judge) → Heard o answer now j k → Leads j k
-from_heard o answer now j k h = record {
+from_heard : (o : Origin) (number : Option ℕ) (answer : Bool) (now : ℕ) (j k : Judge) → Heard o number answer now j k → Leads j k
+from_heard o number answer now j k h = record {
   bounded = λ b. record {
     own = subst (λ (xs : List ℕ). length xs ≤ MOST_OWN) (sym h.own) b.own;
     known = subst (λ (xs : List KnownOrigin). length xs ≤ MOST_KNOWN) (sym h.known) (few_known answer o now j.known b.known);
@@ -122,9 +122,9 @@ from_heard o answer now j k h = record {
 
 judged : (o : Origin) (v : Datagram) (f : Facts) (j : Judge) → Leads j (after_judging o v f j)
 judged o v f j = then j (after_coming o f.at j) (after_judging o v f j) (came o f.at j) (by (outcome o v f (after_coming o f.at j))) where
-  by : Same (after_coming o f.at j) (after_judging o v f j) ⊎ Heard o (is_answer v f.at j) f.at (after_coming o f.at j) (after_judging o v f j) → Leads (after_coming o f.at j) (after_judging o v f j)
+  by : Same (after_coming o f.at j) (after_judging o v f j) ⊎ Heard o (speaker_in v) (is_answer v f.at j) f.at (after_coming o f.at j) (after_judging o v f j) → Leads (after_coming o f.at j) (after_judging o v f j)
   by (inl s) = from_same (after_coming o f.at j) (after_judging o v f j) s
-  by (inr h) = from_heard o (is_answer v f.at j) f.at (after_coming o f.at j) (after_judging o v f j) h
+  by (inr h) = from_heard o (speaker_in v) (is_answer v f.at j) f.at (after_coming o f.at j) (after_judging o v f j) h
 
 given : (g : Given) (j : Judge) → Leads j (record j { strange = with_given g j.strange })
 given g j = record {

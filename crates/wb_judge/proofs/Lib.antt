@@ -14,3 +14,7 @@ pub mod Twins
 pub mod Gathering
 pub mod Firmness
 pub mod Repairing
+pub mod MembersHeard
+pub mod MembersStay
+pub mod NumbersBeside
+pub mod Room

@@ -4,12 +4,13 @@ use Rattle.std.proofs.lemmas.Bool.{and_parts, eqb-true}
 use Rattle.std.proofs.lemmas.Bool.Decides.{nat_tests}
 use Rattle.std.specs.Prelude.{◌&&◌, ◌||◌, nat_eq, nat_le, nat_lt, not}
 use Rattle.wb_names.specs.Values.{DrawopValue}
+use Rattle.wb_codec.specs.declared.datagram.Datagram.TheVariants.{Draw}
 use Rattle.std.specs.List.{list_any}
 use Rattle.wb_judge.specs.Days.{time_of_day}
 use Rattle.wb_judge.specs.Judge.{Judge, is_firm, is_full, knows}
-use Rattle.wb_judge.specs.Judging.{after_coming, after_judging, draws, drawop_verdict, is_ahead, is_forged_drawop}
+use Rattle.wb_judge.specs.Judging.{after_coming, after_judging, draws, drawop_verdict, is_ahead, is_forged_drawop, verdict}
 use Rattle.wb_judge.specs.Known.{is_known, known_from, left, renewed}
-use Rattle.wb_judge.specs.Laws.{AMemberIsNotDropped, OnlyAnswersMakeKnown, StrangersHushNobody, is_answer}
+use Rattle.wb_judge.specs.Laws.{AMemberIsNotDropped, OnlyAnswersMakeKnown, StrangersHushNobody, is_answer, speaker_in}
 use Rattle.wb_judge.specs.Origins.{same_origin}
 use Rattle.wb_judge.specs.declared.facts.Facts.{Facts}
 use Rattle.wb_judge.specs.declared.known.KnownOrigin.{KnownOrigin}
@@ -81,18 +82,23 @@ only_answers_make_known o p v f j now e = by (outcome o v f (after_coming o f.at
     more (inr h) = inr (inr (h, is))
   heard false is g = came g
 
-  by : Same (after_coming o f.at j) (after_judging o v f j) ⊎ Heard o (is_answer v f.at j) f.at (after_coming o f.at j) (after_judging o v f j) → (knows p now j ≡ true) ⊎ (knows p f.at j ≡ true) ⊎ ((o ≡ p) × (is_answer v f.at j ≡ true))
+  by : Same (after_coming o f.at j) (after_judging o v f j) ⊎ Heard o (speaker_in v) (is_answer v f.at j) f.at (after_coming o f.at j) (after_judging o v f j) → (knows p now j ≡ true) ⊎ (knows p f.at j ≡ true) ⊎ ((o ≡ p) × (is_answer v f.at j ≡ true))
   by (inl s) = came (sym (ap (is_known p now) s.known) ∙ e)
   by (inr h) = heard (is_answer v f.at j) refl (sym (ap (is_known p now) h.known) ∙ e)
 
 -- ---- what a member gives
 
-forged_no : (known : Bool) (d : DrawopValue) (f : Facts) (j : Judge) → ¬ (d.name.source ≡ j.me) → is_forged_drawop known d f j ≡ false
+pub forged_no : (known : Bool) (d : DrawopValue) (f : Facts) (j : Judge) → ¬ (d.name.source ≡ j.me) → is_forged_drawop known d f j ≡ false
 unfolding is_forged_drawop
 forged_no known d f j other = by (nat_eq d.name.source j.me) refl where
   by : (b : Bool) → nat_eq d.name.source j.me ≡ b → (b && (nat_le FORGED_NUMBER d.name.seq || (nat_lt (f.top + FORGED_ABOVE) d.name.seq || not (f.listens || known)))) ≡ false
   by true is = absurd (other (eqb-true d.name.source j.me is))
   by false is = refl
+
+-- by our number alone
+same_forged : (d : DrawopValue) (f : Facts) (i j : Judge) → i.me ≡ j.me → is_forged_drawop true d f j ≡ false → is_forged_drawop true d f i ≡ false
+unfolding is_forged_drawop
+same_forged d f i j me e = rw me e
 
 ahead_no : (time now : ℕ) (j : Judge) → time ≤ time_of_day j.clock now + AHEAD_KNOWN → is_ahead true time now j ≡ false
 unfolding is_ahead
@@ -120,17 +126,21 @@ member_at : (o : Origin) (d : DrawopValue) (f : Facts) (j : Judge) → knows o f
 unfolding drawop_verdict ruled
 member_at o d f j e = rw e refl
 
-pub a_member_is_not_dropped : AMemberIsNotDropped
-a_member_is_not_dropped o d f j known other copied soon room =
+pub member_given : (o : Origin) (d : DrawopValue) (f : Facts) (j : Judge) → knows o f.at j ≡ true → is_forged_drawop true d f j ≡ false → d.time ≤ time_of_day j.clock f.at + AHEAD_KNOWN
+    → (draws d.op && is_full f.held j) ≡ false → (f.holds && is_firm d.name f.at j) ≡ false → (verdict o (Draw d) f j).why ≡ None
+member_given o d f j known forged soon room copied =
     let i = after_coming o f.at j in
     let stays : knows o f.at i ≡ true = stays_known o f.at j.known known in
     ap (λ (v : Verdict). v.why) (member_at o d f i stays)
-    ∙ let_in f.holds (is_firm d.name f.at i) _ _ (is_full f.held i && (draws d.op || false)) copied (forged_no true d f i other) (ahead_no d.time f.at i soon) (swapped (draws d.op) (is_full f.held j) room) where
+    ∙ let_in f.holds (is_firm d.name f.at i) _ _ (is_full f.held i && (draws d.op || false)) copied (same_forged d f i j refl forged) (ahead_no d.time f.at i soon) (swapped (draws d.op) (is_full f.held j) room) where
       swapped : (a b : Bool) → (a && b) ≡ false → (b && (a || false)) ≡ false
       swapped true true e = e
       swapped true false e = refl
       swapped false true e = refl
       swapped false false e = refl
+
+pub a_member_is_not_dropped : AMemberIsNotDropped
+a_member_is_not_dropped o d f j known other copied soon room = member_given o d f j known (forged_no true d f j other) soon room copied
 
 hushed : (o : Origin) (d : DrawopValue) (f : Facts) (j : Judge) → knows o f.at j ≡ false → f.holds ≡ true → drawop_verdict o d f j ≡ dropped Again
 unfolding drawop_verdict

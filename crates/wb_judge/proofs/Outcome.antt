@@ -1,16 +1,18 @@
 -- What a datagram makes of the lists of a judge.
-use Rattle.std.proofs.Common.{◌≡◌, ◌⊎◌, ◌∙◌, ℕ, Bool, true, false, cond, [], ap, inl, inr, refl}
+use Rattle.std.proofs.Common.{◌≡◌, ◌⊎◌, ◌∙◌, ℕ, Bool, true, false, cond, List, [], ◌∷◌, ap, inl, inr, refl, sym}
 use Rattle.std.specs.List.{list_any}
-use Rattle.std.specs.Prelude.{Some, nat_eq, ◌||◌}
+use Rattle.std.specs.Prelude.{Option, None, Some, IfSome, nat_eq, ◌||◌}
+use Rattle.std.proofs.lemmas.Bool.{eqb-true}
 use Rattle.wb_codec.specs.declared.datagram.Datagram.{Datagram}
 use Rattle.wb_codec.specs.declared.datagram.Datagram.TheVariants.{AskPages, Draw, PageState, Request, Session}
 use Rattle.wb_judge.specs.Answers.{answers}
 use Rattle.wb_judge.specs.Buckets.{has_room, paid_after}
 use Rattle.wb_judge.specs.Judge.{Judge, is_forged, knows}
-use Rattle.wb_judge.specs.Judging.{after_admitted, after_admitting, after_answer, after_fetching, after_hearing, after_held, after_of, after_own, after_question, after_repair, after_report, after_request, after_said, after_stranger, fetching_at, is_fetched, is_forged_mark, is_repaired, is_twin, speaking, with_payment}
+use Rattle.wb_judge.specs.Judging.{after_admitted, after_admitting, after_answer, after_fetching, after_hearing, after_held, after_of, after_own, after_question, after_repair, after_report, after_request, after_said, after_stranger, answering_at, fetching_at, is_fetched, is_forged_mark, is_repaired, is_twin, speaking, with_payment}
 use Rattle.wb_judge.specs.Known.{known_from}
-use Rattle.wb_judge.specs.Laws.{is_answer}
-use Rattle.wb_judge.specs.Others.{other_with}
+use Rattle.wb_judge.specs.Laws.{is_answer, speaker_in}
+use Rattle.wb_judge.specs.Origins.{same_origin}
+use Rattle.wb_judge.specs.Others.{heard_again, heard_first, other_of, other_with, spoken}
 use Rattle.wb_judge.specs.Reports.{report_of}
 use Rattle.wb_judge.specs.Strange.{without_origin}
 use Rattle.wb_judge.specs.declared.facts.Facts.{Facts}
@@ -18,6 +20,7 @@ use Rattle.wb_judge.specs.declared.limits.TheConstants.{ASKED_AHEAD, ASKED_PAUSE
 use Rattle.wb_judge.specs.declared.origin.Origin.{Origin}
 use Rattle.wb_judge.specs.declared.others.Other.{Other}
 use Rattle.wb_judge.specs.declared.report.Report.{Report}
+use Rattle.wb_judge.proofs.Sameness.{same_itself}
 
 -- the lists are as they were
 pub record Same (j k : Judge) : Type 0 where
@@ -26,11 +29,11 @@ pub record Same (j k : Judge) : Type 0 where
   pub others : k.others ≡ j.others
   pub strange : k.strange ≡ j.strange
 
--- a number was heard from an origin, which answered or not
-pub record Heard (o : Origin) (answer : Bool) (now : ℕ) (j k : Judge) : Type 0 where
+-- a number, if there is one, was heard from an origin, which answered or not
+pub record Heard (o : Origin) (number : Option ℕ) (answer : Bool) (now : ℕ) (j k : Judge) : Type 0 where
   pub own : k.own ≡ j.own
   pub known : k.known ≡ cond answer (known_from o now j.known) j.known
-  pub others : (x : Other) × (k.others ≡ other_with x j.others)
+  pub others : (x : Other) × (k.others ≡ other_with x j.others) × (same_origin x.origin o ≡ true) × (number ≡ Some x.number)
   pub strange : k.strange ≡ cond answer (without_origin o j.strange) j.strange
 
 same : (j : Judge) → Same j j
@@ -89,7 +92,52 @@ unfolding after_answer
 answered true o now j = record { own = refl; known = refl; others = refl; strange = refl }
 answered false o now j = record { own = refl; known = refl; others = refl; strange = refl }
 
-hearing : (o : Origin) (number : ℕ) (answer : Bool) (lacking now : ℕ) (j : Judge) → Heard o answer now j (after_hearing o number answer lacking now j)
+-- who is found has the number
+found_by : (number : ℕ) (others : List Other) → IfSome (other_of number others) (λ x. x.number ≡ number)
+found_by number [] = tt
+found_by number (x ∷ others) = by (nat_eq x.number number) refl (found_by number others) where
+  by : (b : Bool) → nat_eq x.number number ≡ b → IfSome (other_of number others) (λ x. x.number ≡ number) → IfSome (cond b (Some x) (other_of number others)) (λ x. x.number ≡ number)
+  by true is rest = eqb-true x.number number is
+  by false is rest = rest
+
+-- a number that is heard from there speaks from there
+speaks_there : (o : Origin) (number : ℕ) (answer fetch : Bool) (now : ℕ) (j : Judge) → same_origin (fetching_at fetch now (speaking o number answer now j)).origin o ≡ true
+unfolding speaking spoken
+speaks_there o number answer fetch now j = fetched fetch _ (answered_so answer _ (again (other_of number j.others))) where
+  fetched : (b : Bool) (x : Other) → same_origin x.origin o ≡ true → same_origin (fetching_at b now x).origin o ≡ true
+  fetched true x e = e
+  fetched false x e = e
+
+  answered_so : (b : Bool) (x : Other) → same_origin x.origin o ≡ true → same_origin (answering_at b now x).origin o ≡ true
+  answered_so true x e = e
+  answered_so false x e = e
+
+  again : (x : Option Other) → same_origin (heard_again number o now x).origin o ≡ true
+  again None = same_itself o
+  again (Some x) = by (same_origin x.origin o) refl where
+    by : (b : Bool) → same_origin x.origin o ≡ b → same_origin (cond b (record x { at = now }) (heard_first number o now)).origin o ≡ true
+    by true is = is
+    by false is = same_itself o
+
+says_it : (o : Origin) (number : ℕ) (answer fetch : Bool) (now : ℕ) (j : Judge) → Some number ≡ Some (fetching_at fetch now (speaking o number answer now j)).number
+unfolding speaking spoken
+says_it o number answer fetch now j = ap Some (sym (fetched fetch _ ∙ answered_so answer _ ∙ again (other_of number j.others) (found_by number j.others))) where
+  fetched : (b : Bool) (x : Other) → (fetching_at b now x).number ≡ x.number
+  fetched true x = refl
+  fetched false x = refl
+
+  answered_so : (b : Bool) (x : Other) → (answering_at b now x).number ≡ x.number
+  answered_so true x = refl
+  answered_so false x = refl
+
+  again : (x : Option Other) → IfSome x (λ y. y.number ≡ number) → (heard_again number o now x).number ≡ number
+  again None is = refl
+  again (Some x) is = by (same_origin x.origin o) where
+    by : (b : Bool) → (cond b (record x { at = now }) (heard_first number o now)).number ≡ number
+    by true = is
+    by false = refl
+
+hearing : (o : Origin) (number : ℕ) (answer : Bool) (lacking now : ℕ) (j : Judge) → Heard o (Some number) answer now j (after_hearing o number answer lacking now j)
 unfolding after_hearing
 hearing o number answer lacking now j =
     let x = speaking o number answer now j in
@@ -99,46 +147,46 @@ hearing o number answer lacking now j =
     record {
       own = f.own ∙ a.own;
       known = f.known ∙ a.known;
-      others = (fetching_at fetch now x, ap (other_with (fetching_at fetch now x)) (f.others ∙ a.others));
+      others = (fetching_at fetch now x, ap (other_with (fetching_at fetch now x)) (f.others ∙ a.others), speaks_there o number answer fetch now j, says_it o number answer fetch now j);
       strange = f.strange ∙ a.strange;
     }
 
 -- heard after lists that are as they were
-after_same : (o : Origin) (answer : Bool) (now : ℕ) (i j k : Judge) → Same i j → Heard o answer now j k → Heard o answer now i k
-after_same o answer now i j k s h = record {
+after_same : (o : Origin) (n : Option ℕ) (answer : Bool) (now : ℕ) (i j k : Judge) → Same i j → Heard o n answer now j k → Heard o n answer now i k
+after_same o n answer now i j k s h = record {
   own = h.own ∙ s.own;
   known = h.known ∙ ap (λ known. cond answer (known_from o now known) known) s.known;
-  others = (h.others.0, h.others.1 ∙ ap (other_with h.others.0) s.others);
+  others = (h.others.0, h.others.1 ∙ ap (other_with h.others.0) s.others, h.others.2, h.others.3);
   strange = h.strange ∙ ap (λ strange. cond answer (without_origin o strange) strange) s.strange;
 }
 
-choice : (b : Bool) (o : Origin) (answer : Bool) (now : ℕ) (i j k : Judge) → (Same i j ⊎ Heard o answer now i j) → (Same i k ⊎ Heard o answer now i k) → Same i (cond b j k) ⊎ Heard o answer now i (cond b j k)
-choice true o answer now i j k one other = one
-choice false o answer now i j k one other = other
+choice : (b : Bool) (o : Origin) (n : Option ℕ) (answer : Bool) (now : ℕ) (i j k : Judge) → (Same i j ⊎ Heard o n answer now i j) → (Same i k ⊎ Heard o n answer now i k) → Same i (cond b j k) ⊎ Heard o n answer now i (cond b j k)
+choice true o n answer now i j k one other = one
+choice false o n answer now i j k one other = other
 
-admitted : (o : Origin) (r : Report) (answer : Bool) (f : Facts) (j : Judge) → Same j (after_admitted o r answer f j) ⊎ Heard o answer f.at j (after_admitted o r answer f j)
+admitted : (o : Origin) (r : Report) (answer : Bool) (f : Facts) (j : Judge) → Same j (after_admitted o r answer f j) ⊎ Heard o (Some r.speaker) answer f.at j (after_admitted o r answer f j)
 unfolding after_admitted
-admitted o r answer f j = choice (is_forged_mark r f) o answer f.at j j _ (inl (same j)) (inr (hearing o r.speaker answer f.lacking f.at j))
+admitted o r answer f j = choice (is_forged_mark r f) o (Some r.speaker) answer f.at j j _ (inl (same j)) (inr (hearing o r.speaker answer f.lacking f.at j))
 
-later : (o : Origin) (answer : Bool) (now : ℕ) (i j k : Judge) → Same i j → (Same j k ⊎ Heard o answer now j k) → Same i k ⊎ Heard o answer now i k
-later o answer now i j k s (inl t) = inl (record { own = t.own ∙ s.own; known = t.known ∙ s.known; others = t.others ∙ s.others; strange = t.strange ∙ s.strange })
-later o answer now i j k s (inr h) = inr (after_same o answer now i j k s h)
+later : (o : Origin) (n : Option ℕ) (answer : Bool) (now : ℕ) (i j k : Judge) → Same i j → (Same j k ⊎ Heard o n answer now j k) → Same i k ⊎ Heard o n answer now i k
+later o n answer now i j k s (inl t) = inl (record { own = t.own ∙ s.own; known = t.known ∙ s.known; others = t.others ∙ s.others; strange = t.strange ∙ s.strange })
+later o n answer now i j k s (inr h) = inr (after_same o n answer now i j k s h)
 
-reported : (o : Origin) (r : Report) (f : Facts) (j : Judge) → Same j (after_report o r f j) ⊎ Heard o (answers j.own r.echo f.at) f.at j (after_report o r f j)
+reported : (o : Origin) (r : Report) (f : Facts) (j : Judge) → Same j (after_report o r f j) ⊎ Heard o (Some r.speaker) (answers j.own r.echo f.at) f.at j (after_report o r f j)
 unfolding after_report
 reported o r f j =
     let answer = answers j.own r.echo f.at in
     let k = after_admitting o r.speaker answer f.at j in
-    choice _ o answer f.at j j _ (inl (same j)) (later o answer f.at j k _ (admitting o r.speaker answer f.at j) (admitted o r answer f k))
+    choice _ o (Some r.speaker) answer f.at j j _ (inl (same j)) (later o (Some r.speaker) answer f.at j k _ (admitting o r.speaker answer f.at j) (admitted o r answer f k))
 
-said : (o : Origin) (number : ℕ) (answer : Bool) (now : ℕ) (j ours theirs : Judge) → Same j ours → (Same j theirs ⊎ Heard o answer now j theirs)
-    → Same j (after_said o number j ours theirs) ⊎ Heard o answer now j (after_said o number j ours theirs)
-said o number answer now j ours theirs s h = choice (is_forged number o j) o answer now j j _ (inl (same j)) (choice (nat_eq number j.me) o answer now j ours theirs (inl s) h)
+said : (o : Origin) (number : ℕ) (n : Option ℕ) (answer : Bool) (now : ℕ) (j ours theirs : Judge) → Same j ours → (Same j theirs ⊎ Heard o n answer now j theirs)
+    → Same j (after_said o number j ours theirs) ⊎ Heard o n answer now j (after_said o number j ours theirs)
+said o number n answer now j ours theirs s h = choice (is_forged number o j) o n answer now j j _ (inl (same j)) (choice (nat_eq number j.me) o n answer now j ours theirs (inl s) h)
 
 -- a datagram leaves the lists as they were, or a number was heard
-pub outcome : (o : Origin) (v : Datagram) (f : Facts) (j : Judge) → Same j (after_of o v f j) ⊎ Heard o (is_answer v f.at j) f.at j (after_of o v f j)
+pub outcome : (o : Origin) (v : Datagram) (f : Facts) (j : Judge) → Same j (after_of o v f j) ⊎ Heard o (speaker_in v) (is_answer v f.at j) f.at j (after_of o v f j)
 outcome o (Draw d) f j = inl (same j)
-outcome o (Session s sent page marks echoes) f j = let r = report_of j.me s marks echoes in said o s _ f.at j _ _ (owned sent r f.at j) (reported o r f j)
-outcome o (PageState s page marks) f j = said o s _ f.at j _ _ (same j) (reported o (report_of j.me s marks []) f j)
-outcome o (Request asker name) f j = said o asker _ f.at j _ _ (same j) (inl (request o f j))
-outcome o (AskPages asker) f j = said o asker _ f.at j _ _ (same j) (inl (question o f.at j))
+outcome o (Session s sent page marks echoes) f j = let r = report_of j.me s marks echoes in said o s (Some s) _ f.at j _ _ (owned sent r f.at j) (reported o r f j)
+outcome o (PageState s page marks) f j = said o s (Some s) _ f.at j _ _ (same j) (reported o (report_of j.me s marks []) f j)
+outcome o (Request asker name) f j = said o asker None _ f.at j _ _ (same j) (inl (request o f j))
+outcome o (AskPages asker) f j = said o asker None _ f.at j _ _ (same j) (inl (question o f.at j))

@@ -92,10 +92,10 @@ taken_in o d f j =
 -- ---- what one datagram pays for
 
 -- nothing, or one more
-abbrev Moves : (Judge → ℕ) → ℕ → ℕ → Bool → ℕ → Judge → Judge → Type 0
+abbrev pub Moves : (Judge → ℕ) → ℕ → ℕ → Bool → ℕ → Judge → Judge → Type 0
 Moves pays ahead pause some now j k = ((some ≡ false) × (pays k ≡ pays j)) ⊎ ((some ≡ true) × (has_room ahead (pays j) now ≡ true) × (pays k ≡ paid_after pause (pays j) now))
 
-abbrev MovesRepairs : Bool → ℕ → Judge → Judge → Type 0
+abbrev pub MovesRepairs : Bool → ℕ → Judge → Judge → Type 0
 MovesRepairs some now j k = Moves (λ (i : Judge). i.repairs) REPAIRS_AHEAD REPAIR_PAUSE some now j k
 
 abbrev MovesAsked : Bool → ℕ → Judge → Judge → Type 0
@@ -203,7 +203,7 @@ still o at j = by (knows o at j) refl where
   by true is = stays_known o at j.known is
   by false is = stays_unknown o at j.known is
 
-came_repairs : (o : Origin) (v : Datagram) (f : Facts) (j : Judge) → MovesRepairs (is_repaired_in (Comes o v f) j) f.at j (after_step (Comes o v f) j)
+pub came_repairs : (o : Origin) (v : Datagram) (f : Facts) (j : Judge) → MovesRepairs (is_repaired_in (Comes o v f) j) f.at j (after_step (Comes o v f) j)
 came_repairs o (Draw d) f j = inl (refl, (taken_in o d f j).repairs)
 came_repairs o (Session s sent page marks echoes) f j =
     let i = after_coming o f.at j in let r = report_of j.me s marks echoes in
@@ -242,7 +242,7 @@ came_asked o (AskPages asker) f j =
 
 -- ---- what all steps pay for
 
-rises : (start end : ℕ) (moments : List ℕ) → AreFrom start end moments → start ≤ end
+pub rises : (start end : ℕ) (moments : List ℕ) → AreFrom start end moments → start ≤ end
 rises start end [] from = from
 rises start end (now ∷ moments) from = let later = rises now end moments from.1 in omega (arith, from.0, later)
 
@@ -288,7 +288,7 @@ ended : (ahead pause count paid start end : ℕ) → start ≤ end → Within ah
 ended ahead pause count paid start end later (inl none) = rw none (omega arith)
 ended ahead pause count paid start end later (inr few) = omega (arith, few, later)
 
-other_repairs : (s : Step) (j : Judge) → moments_in s ≡ [] → (is_repaired_in s j ≡ false) × ((after_step s j).repairs ≡ j.repairs)
+pub other_repairs : (s : Step) (j : Judge) → moments_in s ≡ [] → (is_repaired_in s j ≡ false) × ((after_step s j).repairs ≡ j.repairs)
 other_repairs (Comes o v f) j e = cc
 other_repairs (Reports sent) j e = (refl, refl)
 other_repairs (Tells clock) j e = (refl, refl)

@@ -8,7 +8,7 @@ use Rattle.std.specs.Prelude.{Some, ◌&&◌, nat_lt, not}
 use Rattle.wb_names.specs.Orders.{same_name}
 use Rattle.wb_names.specs.Values.{NameValue}
 use Rattle.wb_judge.specs.Judging.{after_coming, after_judging}
-use Rattle.wb_judge.specs.Laws.{NamesCountOnce, StandOnce, StaysStrange, VouchesForNobody, is_answer}
+use Rattle.wb_judge.specs.Laws.{NamesCountOnce, StandOnce, StaysStrange, VouchesForNobody, is_answer, speaker_in}
 use Rattle.wb_judge.specs.Shares.{Shares}
 use Rattle.wb_judge.specs.Strange.{has_name, is_given_by, is_there, with_given, with_one, without_origin}
 use Rattle.wb_judge.specs.declared.origin.Origin.{Origin}
@@ -35,14 +35,14 @@ taken_out o false s = refl
 
 pub vouches_for_nobody : VouchesForNobody
 vouches_for_nobody o v f j = by (outcome o v f (after_coming o f.at j)) where
-  by : Same (after_coming o f.at j) (after_judging o v f j) ⊎ Heard o (is_answer v f.at j) f.at (after_coming o f.at j) (after_judging o v f j)
+  by : Same (after_coming o f.at j) (after_judging o v f j) ⊎ Heard o (speaker_in v) (is_answer v f.at j) f.at (after_coming o f.at j) (after_judging o v f j)
       → filter (λ g. not (is_given_by o g)) (after_judging o v f j).strange.given ≡ filter (λ g. not (is_given_by o g)) j.strange.given
   by (inl s) = ap (λ (t : Shares). filter (λ g. not (is_given_by o g)) t.given) s.strange
   by (inr h) = ap (λ (t : Shares). filter (λ g. not (is_given_by o g)) t.given) h.strange ∙ taken_out o (is_answer v f.at j) j.strange
 
 pub stays_strange : StaysStrange
 stays_strange o v f j absent = by (outcome o v f (after_coming o f.at j)) where
-  by : Same (after_coming o f.at j) (after_judging o v f j) ⊎ Heard o (is_answer v f.at j) f.at (after_coming o f.at j) (after_judging o v f j) → (after_judging o v f j).strange ≡ j.strange
+  by : Same (after_coming o f.at j) (after_judging o v f j) ⊎ Heard o (speaker_in v) (is_answer v f.at j) f.at (after_coming o f.at j) (after_judging o v f j) → (after_judging o v f j).strange ≡ j.strange
   by (inl s) = s.strange
   by (inr h) = h.strange ∙ ap (λ b. cond b (without_origin o j.strange) j.strange) absent
 

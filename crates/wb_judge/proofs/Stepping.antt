@@ -10,7 +10,7 @@ use Rattle.wb_codec.specs.declared.datagram.Datagram.TheVariants.{AskPages, Draw
 use Rattle.wb_judge.specs.Judge.{Judge, after_leaving, after_taking, is_full, knows}
 use Rattle.wb_judge.specs.Judging.{after_coming, after_judging, draws, drawop_verdict, is_ahead, is_forged_drawop, verdict}
 use Rattle.wb_judge.specs.Known.{is_known, left}
-use Rattle.wb_judge.specs.Laws.{AreStrange, NeverAnswer, Step, StrangersHaveAShare, after_datagram, after_step, after_steps, answers_from, is_answer, is_taken, names_from, new_name, new_names}
+use Rattle.wb_judge.specs.Laws.{AreStrange, NeverAnswer, Step, StrangersHaveAShare, after_datagram, after_step, after_steps, answers_from, is_answer, is_taken, names_from, new_name, new_names, speaker_in}
 use Rattle.wb_judge.specs.Laws.{Comes, Leaves, Remembers, Reports, Tells}
 use Rattle.wb_judge.specs.Origins.{same_origin}
 use Rattle.wb_judge.specs.Others.{is_bound_elsewhere}
@@ -164,7 +164,7 @@ counted_drawn some o d f j unknown = by (is_taken o d f j) refl where
 
 counted_heard : (some : Origin → Bool) (o : Origin) (v : Datagram) (f : Facts) (j : Judge) → (some o && is_answer v f.at j) ≡ false → count_of some (after_judging o v f j).strange ≡ count_of some j.strange
 counted_heard some o v f j silent = by (outcome o v f (after_coming o f.at j)) where
-  by : Same (after_coming o f.at j) (after_judging o v f j) ⊎ Heard o (is_answer v f.at j) f.at (after_coming o f.at j) (after_judging o v f j) → count_of some (after_judging o v f j).strange ≡ count_of some j.strange
+  by : Same (after_coming o f.at j) (after_judging o v f j) ⊎ Heard o (speaker_in v) (is_answer v f.at j) f.at (after_coming o f.at j) (after_judging o v f j) → count_of some (after_judging o v f j).strange ≡ count_of some j.strange
   by (inl s) = ap (count_of some) s.strange
   by (inr h) = ap (count_of some) h.strange ∙ stays_counted some o (is_answer v f.at j) j.strange silent
 

@@ -16,3 +16,4 @@ pub mod Judging
 pub mod Adding
 pub mod Pages
 pub mod Laws
+pub mod Members

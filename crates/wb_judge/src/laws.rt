@@ -3,6 +3,7 @@
 
 ghost use Rattle.std.specs.Prelude.{◌≡◌, ◌^◌};
 ghost use Rattle.wb_judge.specs.declared.limits.TheConstants.{AHEAD_KNOWN, AHEAD_STRANGER, ASKED_AHEAD, ASKED_PAUSE, FIRM_TIME, FRESH, LEAST_SHARE, MOST_KNOWN, MOST_OTHERS, MOST_OWN, MOST_SHARING, OF_ORIGIN, PATIENCE, REPAIRS_AHEAD, REPAIRS_OF_ONE, REPAIR_PAUSE, RESERVE, SILENCE, STRANGERS, STRANGE_PAGES, STRANGE_ROWS, TIME_LIMIT};
+ghost use Rattle.wb_judge.specs.Members.{KnownAgain, KnownBeside, MembersAreHeard, NumbersBeside, RequestsArePaidFor, RequestsHaveRoom};
 ghost use Rattle.wb_judge.specs.Laws.{AMemberIsNotDropped, FewAreTaken, NamesCountOnce, NamesTakeTurns, NobodyHushesFirmNames, NumbersStay, OnlyAnswersMakeKnown, RepairsAreFew, RepairsAreShared, ReplayIsNoTwin, SharesStay, StateIsBounded, StaysStrange, StrangersAreFew, StrangersHaveAShare, StrangersHushNobody, TurnsAreFew, VouchesForNobody};
 
 /// An origin becomes known by an answer that came from there, and by nothing else. A number that
@@ -16,6 +17,28 @@ pub fn only_answers_make_known()
 /// and has a cell. But a copy of what is held is dropped while its name is firm.
 pub fn a_member_is_not_dropped()
     ensures { AMemberIsNotDropped }
+{}
+
+/// Of a datagram of a member, of any of the five kinds, nothing else is dropped than what would hush
+/// us of a firm name, if its number speaks from there and it is fit: a drawop as above, a request
+/// that is not one of too many, and a report without a forged mark of ours.
+pub fn members_are_heard()
+    ensures { MembersAreHeard }
+{}
+
+/// While members speak they stay members. What comes from one makes it known for ten minutes more,
+/// makes no other unknown, and moves no number.
+pub fn members_stay()
+    ensures again { KnownAgain }
+    ensures beside { KnownBeside }
+    ensures numbers { NumbersBeside }
+{}
+
+/// A member's request for what is held is one of too many only if more than 255 requests of members
+/// were handed in within the last 1.024 seconds.
+pub fn requests_have_room()
+    ensures room { RequestsHaveRoom }
+    ensures paid { RequestsArePaidFor }
 {}
 
 /// A datagram vouches for nobody: what another origin gave stays strange, and what its own gave

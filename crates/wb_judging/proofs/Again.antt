@@ -12,7 +12,7 @@ use Rattle.wb_codec.specs.declared.datagram.Datagram.TheVariants.{AskPages, Draw
 use Rattle.wb_keeper.specs.Keeper.{holds}
 use Rattle.wb_judge.specs.Judge.{Judge, after_taking, knows}
 use Rattle.wb_judge.specs.Judging.{after_coming, after_judging}
-use Rattle.wb_judge.specs.Laws.{is_answer}
+use Rattle.wb_judge.specs.Laws.{is_answer, speaker_in}
 use Rattle.wb_judge.specs.Reports.{mark_in}
 use Rattle.wb_judge.specs.Shares.{Shares}
 use Rattle.wb_judge.specs.Strange.{given_by, has_name, is_given_by, names_of, with_given, with_one, without_name, without_origin}
@@ -320,7 +320,7 @@ strange_judged now o v h = by (outcome o v f (after_coming o f.at h.judge)) wher
   answered true e = inr e
   answered false e = inl e
 
-  by : Same (after_coming o f.at h.judge) (after_judging o v f h.judge) ⊎ Heard o (is_answer v f.at (after_coming o f.at h.judge)) f.at (after_coming o f.at h.judge) (after_judging o v f h.judge)
+  by : Same (after_coming o f.at h.judge) (after_judging o v f h.judge) ⊎ Heard o (speaker_in v) (is_answer v f.at (after_coming o f.at h.judge)) f.at (after_coming o f.at h.judge) (after_judging o v f h.judge)
       → ((after_judging o v f h.judge).strange ≡ h.judge.strange) ⊎ ((after_judging o v f h.judge).strange ≡ without_origin o h.judge.strange)
   by (inl s) = inl s.strange
   by (inr d) = answered (is_answer v f.at (after_coming o f.at h.judge)) d.strange

@@ -61,7 +61,7 @@ strangers_hush now o d h unknown held =
 
 -- ---- who is known
 
-at_now : (now : ℕ) (v : Datagram) (k : Keeping) → (facts_of now v k).at ≡ now
+pub at_now : (now : ℕ) (v : Datagram) (k : Keeping) → (facts_of now v k).at ≡ now
 at_now now (Draw d) k = refl
 at_now now (Session sender sent page marks echoes) k = refl
 at_now now (Request asker name) k = refl

@@ -15,3 +15,5 @@ pub mod StrangeNames
 pub mod Boards
 pub mod Again
 pub mod Asked
+pub mod MembersIn
+pub mod MembersStay

@@ -9,3 +9,4 @@ pub mod Opening
 pub mod Refusing
 pub mod Asking
 pub mod Laws
+pub mod Members

@@ -2,6 +2,7 @@
 //! stands here for its clause.
 
 ghost use Rattle.wb_judging.specs.Laws.{ItBeginsAgain, JudgedMembersAreKept, MembersAreHandedIn, NobodyMovesOurTime, OnlyAnswersMakeKnown, OthersHearTheSame, RecordsComeFirst, SendsAsKept, StrangersHushNobody, TheNetworkRefusesNothing, TheRecordIsTheBoard, TheSameOrATick};
+ghost use Rattle.wb_judging.specs.Members.{EachKindIsHandedIn, MembersAreKnownAgain, MembersStay, NeededIsHandedIn, OthersDrawopsAreFit, ReportsAreFit};
 
 /// A judged member is a kept member that was handed one line in the place of each: the same line,
 /// or a tick. It sends what that sends, where a report has one echo besides.
@@ -37,8 +38,25 @@ pub fn it_begins_again()
 
 /// A member's drawop is handed in if it is not ours, is no more than a day ahead, and has a cell.
 /// But a copy of what is held is not handed in while its name is firm.
+///
+/// So is each other datagram of a member whose number speaks from there: a request that is not one
+/// of too many, a question, and a report or a page state without a forged mark of ours, as each is
+/// once we listen no more. But a request for what is not held is not handed in while its name is
+/// firm. So nothing is dropped that the kept member needs: a drawop that it lacks, a request for
+/// what it holds, a report.
 pub fn members_are_handed_in()
-    ensures { MembersAreHandedIn }
+    ensures drawops { MembersAreHandedIn }
+    ensures kinds { EachKindIsHandedIn }
+    ensures needed { NeededIsHandedIn }
+    ensures drawops_fit { OthersDrawopsAreFit }
+    ensures reports_fit { ReportsAreFit }
+{}
+
+/// A member stays one while only members speak and it is not gone: for ten minutes from what came
+/// from it last.
+pub fn members_stay()
+    ensures stays { MembersStay }
+    ensures again { MembersAreKnownAgain }
 {}
 
 /// A stranger puts off no repair of ours.

@@ -1,0 +1,192 @@
+-- Members stay members while only members speak.
+use Rattle.std.proofs.Common.{◌≡◌, ◌≤◌, ◌+◌, ◌-◌, ◌∙◌, ℕ, Bool, true, false, cond, List, [], ◌∷◌, ap, filter, refl, subst, sym, true≢false}
+use Rattle.std.proofs.lemmas.Bool.{and_parts}
+use Rattle.std.proofs.lemmas.Map.Views.{any-filter_same}
+use Rattle.std.specs.Prelude.{Option, None, Some, ◌&&◌, nat_eq, nat_le, not}
+use Rattle.std.specs.List.{find}
+use Rattle.wb_codec.specs.declared.datagram.Datagram.{Datagram}
+use Rattle.wb_codec.specs.declared.datagram.Datagram.TheVariants.{AskPages, Draw, PageState, Request, Session}
+use Rattle.wb_judge.specs.Judge.{Judge, after_taking, knows}
+use Rattle.wb_judge.specs.Judging.{is_heard}
+use Rattle.wb_judge.specs.Known.{is_known}
+use Rattle.wb_judge.specs.Laws.{IsBounded}
+use Rattle.wb_judge.specs.Members.{IsSpoken, Speaks}
+use Rattle.wb_judge.specs.Origins.{same_origin}
+use Rattle.wb_judge.specs.Others.{other_of}
+use Rattle.wb_judge.specs.Strange.{with_given}
+use Rattle.wb_judge.specs.declared.known.KnownOrigin.{KnownOrigin}
+use Rattle.wb_judge.specs.declared.limits.TheConstants.{SILENCE}
+use Rattle.wb_judge.specs.declared.origin.Origin.{Origin}
+use Rattle.wb_judge.specs.declared.others.Other.{Other}
+use Rattle.wb_judge.specs.declared.strange.Given.{Given}
+use Rattle.wb_judge.proofs.MembersStay.{known_again, known_beside}
+use Rattle.wb_judge.proofs.NumbersBeside.{numbers_beside}
+use Rattle.wb_judge.proofs.Sameness.{same_itself, same_origins}
+use Rattle.wb_judging.specs.Events.{is_new}
+use Rattle.wb_judging.specs.Handing.{facts_of, handed, judge_after}
+use Rattle.wb_judging.specs.Hearing.{after_fate, after_recalling, after_sending, after_sends, with_strange}
+use Rattle.wb_judging.specs.Judged.{CameFrom, DayTold, Garbled, GoneFrom, Held, Judged, JudgedLine, Passed, UserDrew}
+use Rattle.wb_judging.specs.Members.{IsMemberUntil, MembersAreKnownAgain, MembersStay}
+use Rattle.wb_judging.specs.Performing.{after_judged, fate_by, judging, sent_by_kept_line}
+use Rattle.wb_judging.specs.declared.event.Fate.{Fate}
+use Rattle.wb_judging.specs.declared.record.RecordLine.{RecordLine}
+use Rattle.wb_judging.specs.declared.record.RecordLine.TheVariants.{Known, Mark, Said, Strange, Tick}
+use Rattle.wb_judging.proofs.Followed.{at_now}
+use Rattle.wb_judging.proofs.Numbers.{came_fixed}
+
+-- ---- who is known, and who was heard
+
+record Same (j k : Judge) : Type 0 where
+  me : k.me ≡ j.me
+  known : k.known ≡ j.known
+  others : k.others ≡ j.others
+
+itself : (j : Judge) → Same j j
+itself j = record { me = refl; known = refl; others = refl }
+
+then : {i j k : Judge} → Same i j → Same j k → Same i k
+then one other = record { me = other.me ∙ one.me; known = other.known ∙ one.known; others = other.others ∙ one.others }
+
+either : (b : Bool) (j k : Judge) → Same j k → Same j (cond b k j)
+either true j k e = e
+either false j k e = itself j
+
+sending : (v : Datagram) (j : Judge) → Same j (after_sending v j)
+sending (Draw d) j = itself j
+sending (Session sender sent page marks echoes) j = record { me = refl; known = refl; others = refl }
+sending (Request asker name) j = itself j
+sending (AskPages asker) j = itself j
+sending (PageState sender page marks) j = itself j
+
+all_sent : (sent : List Datagram) (j : Judge) → Same j (after_sends sent j)
+all_sent [] j = itself j
+all_sent (v ∷ sent) j = then (sending v j) (all_sent sent (after_sending v j))
+
+taking : (g : Given) (o : Origin) (now : ℕ) (j : Judge) → Same j (after_taking g o now j)
+taking g o now j = by (knows o now j) where
+  by : (b : Bool) → Same j (cond b j (record j { strange = with_given g j.strange }))
+  by true = itself j
+  by false = record { me = refl; known = refl; others = refl }
+
+fated : (now : ℕ) (o : Origin) (v : Datagram) (fate : Option Fate) (j : Judge) → Same j (after_fate now o v fate j)
+fated now o (Draw d) fate j = either (is_new fate) j _ (taking (record { name = d.name; origin = Some o }) o now j)
+fated now o (Session sender sent page marks echoes) fate j = itself j
+fated now o (Request asker name) fate j = itself j
+fated now o (AskPages asker) fate j = itself j
+fated now o (PageState sender page marks) fate j = itself j
+
+recalling : (line : RecordLine) (fate : Option Fate) (j : Judge) → Same j (after_recalling line fate j)
+recalling (Tick past) fate j = itself j
+recalling (Said d) fate j = record { me = refl; known = refl; others = refl }
+recalling (Known d) fate j = record { me = refl; known = refl; others = refl }
+recalling (Strange d) fate j = either (is_new fate) j (with_strange d.name j) (record { me = refl; known = refl; others = refl })
+recalling (Mark speaker page mark) fate j = itself j
+
+-- ---- a member
+
+record IsOne (o : Origin) (number until : ℕ) (j : Judge) : Type 0 where
+  known : knows o until j ≡ true
+  another : ¬ (number ≡ j.me)
+  heard : is_heard o false (other_of number j.others) ≡ true
+
+same_one : (o : Origin) (number until : ℕ) (j k : Judge) → Same j k → IsOne o number until j → IsOne o number until k
+same_one o number until j k s m = record {
+  known = ap (is_known o until) s.known ∙ m.known;
+  another = λ e. m.another (e ∙ s.me);
+  heard = ap (λ (others : List Other). is_heard o false (other_of number others)) s.others ∙ m.heard;
+}
+
+-- after the line, it sends
+and_sends : (line : JudgedLine) (h : Judged) (o : Origin) (number until : ℕ) → IsOne o number until (judging line h) → IsMemberUntil o number until (after_judged line h)
+and_sends line h o number until m =
+    let sent = sent_by_kept_line (handed line h) h.kept in
+    let n = same_one o number until (judging line h) (after_sends sent (judging line h)) (all_sent sent (judging line h)) m in
+    record { known = n.known; speaks = record { another = n.another; heard = n.heard } }
+
+-- ---- something comes
+
+known_after : (b : Bool) (now : ℕ) (p o : Origin) (v : Datagram) (h : Judged) (until : ℕ) → same_origin p o ≡ b → IsBounded h.judge → knows p now h.judge ≡ true → (same_origin p o ≡ true → until ≤ now + SILENCE)
+    → (b ≡ false → knows o until h.judge ≡ true) → knows o until (judge_after now p v h) ≡ true
+unfolding judge_after
+known_after true now p o v h until is bounded known soon was =
+    let f = facts_of now v h.kept in
+    subst (λ (q : Origin). knows q until (judge_after now p v h) ≡ true) (same_origins p o is)
+    (known_again p v f h.judge until (ap (λ (at : ℕ). knows p at h.judge) (at_now now v h.kept) ∙ known) (subst (λ (at : ℕ). until ≤ at + SILENCE) (sym (at_now now v h.kept)) (soon is)))
+known_after false now p o v h until is bounded known soon was =
+    let f = facts_of now v h.kept in
+    known_beside p o v f h.judge until bounded (ap (λ (at : ℕ). knows p at h.judge) (at_now now v h.kept) ∙ known) is (was refl)
+
+heard_after : (now : ℕ) (p o : Origin) (v : Datagram) (h : Judged) (number : ℕ) → IsBounded h.judge → IsSpoken p v h.judge → is_heard o false (other_of number h.judge.others) ≡ true
+    → is_heard o false (other_of number (judge_after now p v h).others) ≡ true
+unfolding judge_after
+heard_after now p o v h number bounded spoken e = numbers_beside p o v (facts_of now v h.kept) h.judge number bounded spoken e
+
+came : (now : ℕ) (p o : Origin) (v : Datagram) (h : Judged) (number until : ℕ) → IsBounded h.judge → IsSpoken p v h.judge → Speaks o number h.judge → knows o until (judge_after now p v h) ≡ true
+    → IsMemberUntil o number until (after_judged (CameFrom now p v) h)
+came now p o v h number until bounded spoken speaks known =
+    let line = CameFrom now p v in
+    let fate = fate_by (handed line h) h.kept in
+    let f = fated now p v fate (judge_after now p v h) in
+    and_sends line h o number until (record {
+      known = ap (is_known o until) f.known ∙ known;
+      another = λ e. speaks.another (e ∙ (came_fixed now p v h).me);
+      heard = ap (λ (others : List Other). is_heard o false (other_of number others)) f.others ∙ heard_after now p o v h number bounded spoken speaks.heard;
+    })
+
+pub members_are_known_again : MembersAreKnownAgain
+members_are_known_again now o v h number until bounded known spoken speaks soon =
+    came now o o v h number until bounded spoken speaks
+    (known_after true now o o v h until (same_itself o) bounded known (λ same. soon) (λ other. absurd (true≢false other)))
+
+-- ---- somebody is gone
+
+-- who is found first stays, if it is not taken out
+found_still : (q p : Other → Bool) (x : Other) (xs : List Other) → find q xs ≡ Some x → p x ≡ true → find q (filter p xs) ≡ Some x
+found_still q p x [] found keeps = found
+found_still q p x (y ∷ ys) found keeps = by (q y) refl (p y) refl found (found_still q p x ys) where
+  by : (b : Bool) → q y ≡ b → (c : Bool) → p y ≡ c → cond b (Some y) (find q ys) ≡ Some x → (find q ys ≡ Some x → p x ≡ true → find q (filter p ys) ≡ Some x) → find q (cond c (y ∷ filter p ys) (filter p ys)) ≡ Some x
+  by true is true at e rest = ap (λ (d : Bool). cond d (Some y) (find q (filter p ys))) is ∙ e
+  by true is false at e rest = absurd (true≢false (sym keeps ∙ ap p (sym (same y x e)) ∙ at)) where
+    same : (y x : Other) → Some y ≡ Some x → y ≡ x
+    same y x e = cc
+  by false is true at e rest = ap (λ (d : Bool). cond d (Some y) (find q (filter p ys))) is ∙ rest e keeps
+  by false is false at e rest = rest e keeps
+
+other_origin : (p o q : Origin) → same_origin p o ≡ false → same_origin q o ≡ true → not (same_origin q p) ≡ true
+other_origin p o q apart at = by (same_origin q p) refl where
+  by : (b : Bool) → same_origin q p ≡ b → not b ≡ true
+  by true is = absurd (true≢false (sym (same_itself o) ∙ ap (λ (x : Origin). same_origin x o) (sym (same_origins q o at) ∙ same_origins q p is) ∙ apart))
+  by false is = refl
+
+heard_left : (p o : Origin) (number : ℕ) (others : List Other) → same_origin p o ≡ false → is_heard o false (other_of number others) ≡ true
+    → is_heard o false (other_of number (filter (λ x. not (same_origin x.origin p)) others)) ≡ true
+heard_left p o number others apart e = by (other_of number others) refl e where
+  by : (x : Option Other) → other_of number others ≡ x → is_heard o false x ≡ true → is_heard o false (other_of number (filter (λ x. not (same_origin x.origin p)) others)) ≡ true
+  by None is f = absurd (true≢false (sym f))
+  by (Some x) is f =
+      ap (is_heard o false) (found_still (λ (y : Other). nat_eq y.number number) (λ (y : Other). not (same_origin y.origin p)) x others is (other_origin p o x.origin apart f)) ∙ f
+
+known_left : (p o : Origin) (until : ℕ) (known : List KnownOrigin) → same_origin p o ≡ false → is_known o until known ≡ true → is_known o until (filter (λ k. not (same_origin k.origin p)) known) ≡ true
+unfolding is_known
+known_left p o until known apart e =
+    any-filter_same (λ (k : KnownOrigin). same_origin k.origin o && nat_le (until - k.at) SILENCE) (λ (k : KnownOrigin). not (same_origin k.origin p)) true
+    (λ (k : KnownOrigin) at. other_origin p o k.origin apart (and_parts (same_origin k.origin o) (nat_le (until - k.at) SILENCE) at).0) known ∙ e
+
+-- ---- any line
+
+one_of : (h : Judged) (o : Origin) (number until : ℕ) → IsMemberUntil o number until h → IsOne o number until h.judge
+one_of h o number until m = record { known = m.known; another = m.speaks.another; heard = m.speaks.heard }
+
+pub members_stay : MembersStay
+members_stay (CameFrom now p v) h o number until bounded leaves m =
+    came now p o v h number until bounded leaves.1 m.speaks
+    (known_after (same_origin p o) now p o v h until refl bounded leaves.0 leaves.2 (λ other. m.known))
+members_stay (Garbled now) h o number until bounded leaves m = and_sends (Garbled now) h o number until (one_of h o number until m)
+members_stay (Passed now) h o number until bounded leaves m = and_sends (Passed now) h o number until (one_of h o number until m)
+members_stay (UserDrew now page op) h o number until bounded leaves m = and_sends (UserDrew now page op) h o number until (one_of h o number until m)
+members_stay (DayTold now wall) h o number until bounded leaves m =
+    and_sends (DayTold now wall) h o number until (record { known = m.known; another = m.speaks.another; heard = m.speaks.heard })
+members_stay (GoneFrom now p) h o number until bounded leaves m =
+    and_sends (GoneFrom now p) h o number until (record { known = known_left p o until h.judge.known leaves m.known; another = m.speaks.another; heard = heard_left p o number h.judge.others leaves m.speaks.heard })
+members_stay (Held line) h o number until bounded leaves m =
+    and_sends (Held line) h o number until (same_one o number until h.judge (judging (Held line) h) (recalling line (fate_by (handed (Held line) h) h.kept) h.judge) (one_of h o number until m))
