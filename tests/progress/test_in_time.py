@@ -9,7 +9,7 @@ import pytest
 
 from ..host import datagrams
 from . import timely_kept
-from .timely_kept import DRAWOP, Loses, TimelyKept, by_rate, holes_of, kind, name, rows_of, slowest, soonest, whole_by
+from .timely_kept import DRAWOP, Loses, TimelyKept, by_rate, holes_of, kind, name, rounds_by, rows_of, slowest, soonest, whole_by
 
 TWO_PAGES = [(7, 1), (7, 2)]
 STRANGER = 9  # of this number there is no member
@@ -22,6 +22,10 @@ def half(session: TimelyKept, _member: int, _datagram: str) -> bool:
 
 def half_and_all_to_the_last(session: TimelyKept, member: int, datagram: str) -> bool:
     return member == max(session.held) or half(session, member, datagram)
+
+
+def all_to_the_last(session: TimelyKept, member: int, _datagram: str) -> bool:
+    return member == max(session.held)
 
 
 def each_second_drawop(_session: TimelyKept, _member: int, datagram: str) -> bool:
@@ -122,6 +126,25 @@ def test_whole(seed: int) -> None:
     check_shown(session, every)
     check_reports(session)
     check_sent(session)
+
+
+def test_rounds() -> None:
+    """One lacks 1,000 names, and holds them within minutes: within the time of 21 rounds of 48. Whether its places are always filled nothing prints."""
+    session = TimelyKept(3, 2_000, 1, all_to_the_last)
+    for number, member in ((number, member) for number in range(1, 1_001) for member in (1, 2)):
+        drawop = datagrams.drawop(STRANGER, TWO_PAGES[0], number, 1, datagrams.line(0, 0, 0, 0, "x"))
+        session.put(1_000_000 + 1_000 * number, member, "came", f" {drawop}")
+    session.run_until(timely_kept.SETTLED)
+    every = set.union(*session.held.values())
+    assert [len(held) for held in session.held.values()] == [1_000, 1_000, 0]
+    session.run_until(timely_kept.KNOWN)
+    wait = session.wait(every)
+    session.run_until_all_hold(every, GOES_ON)
+    rounds = -(-len(every) // timely_kept.PLACES_OF_LAST)
+    by = rounds_by(by_rate(session.sizes, 1_000, 3), wait, rounds)
+    print(f"rounds, 1,000 lacked, all held by all at {session.now / 1e6:.1f} s, by the law at {by / 1e6:,.0f} s")
+    assert (session.refused, session.latest <= timely_kept.LATE) == ([], True), "no line was refused, and no host called late"
+    assert (session.now < by, list(session.held.values())) == (True, [every] * 3), "all hold all by then"
 
 
 def check_reports(session: TimelyKept) -> None:

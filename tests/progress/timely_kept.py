@@ -30,6 +30,7 @@ HEARD = 192_000_000  # for so long a member counts after it was heard
 LONGEST_MEAN = 64_000_000
 LONGEST_PAUSE = LONGEST_MEAN + LONGEST_MEAN // 2
 LONGEST_GAP = 16_000_000  # from one turn to the next
+PLACES_OF_LAST = 48  # for so many names a host asks at once, if there are as many
 MOST_REPORT_BYTES = 1_184
 COUNTED = SETTLED + HEARD + DRIFT + LONGEST_PAUSE  # from then on reports go by the number of hosts
 
@@ -111,6 +112,11 @@ def step(sizes: Sizes, soon: Soon) -> int:
 def whole_by(sizes: Sizes, soon: Soon, wait: int, most: int) -> int:
     """The time at which all hold all: no request timer waits for longer at `KNOWN`, and all together lack no more."""
     return max(KNOWN + wait + REPAIRING, soon.since) + (most + 1) * step(sizes, soon)
+
+
+def rounds_by(soon: Soon, wait: int, rounds: int) -> int:
+    """The time at which all hold all if each host always asks for all that it lacks, or for so many names that `rounds` times as many are all."""
+    return max(KNOWN + wait + REPAIRING, soon.since) + rounds * (soon.pause + LATE + request_span() + REPAIRING)
 
 
 def rows_of(held: set[str]) -> dict[str, list[int]]:

@@ -1,6 +1,6 @@
 -- Of a session that keeps to times, the lines that are performed do.
-use Rattle.std.proofs.Common.{◌≡◌, ◌⊎◌, ℕ, ◌+◌, ◌<◌, ◌≤◌, Bool, true, false, cond, List, [], ◌∷◌, ◌++◌, ◌∙◌, ap, append_assoc, arith, eqb-true, inr, length, refl, subst, sym, ⊎_elim}
-use Rattle.std.specs.Prelude.{◌≢◌, Contains, nat_eq, nat_le}
+use Rattle.std.proofs.Common.{◌≡◌, ◌⊎◌, ℕ, ◌+◌, ◌<◌, ◌≤◌, Bool, true, false, cond, List, [], ◌∷◌, ◌++◌, ◌∙◌, ap, append_assoc, arith, eqb-true, inl, inr, length, refl, subst, sym, true≢false, ⊎_elim}
+use Rattle.std.specs.Prelude.{◌≢◌, Contains, nat_eq, nat_le, not}
 use Rattle.std.proofs.lemmas.List.{append_cancel_right}
 use Rattle.wb_names.specs.Values.{DrawopValue, NameValue}
 use Rattle.wb_codec.specs.declared.datagram.Datagram.{Datagram}
@@ -15,8 +15,8 @@ use Rattle.wb_keeping.specs.Kept.{Line, Arrives, Hears, Says, Ticks, Tunes}
 use Rattle.wb_keeping.specs.Laws.{KeptLine, doing_of}
 use Rattle.wb_keeping.specs.Performing.{Keeping, after_line, after_lines, sees, sent_by_line}
 use Rattle.wb_kept_progress.specs.Sessions.{Opening}
-use Rattle.wb_kept_progress.specs.Timed.{ComesTo, GoByShort, IsQuietLine, SaysNow, Performed, Start, TellTimes, TimedLine, WasSent, greatest_distance, host_after, performed, performed_then, lines_of as lines_of_calls, sends, start_of, time_of, timers_after}
-use Rattle.wb_kept_progress.specs.Whole.{IsHandedIn, IsTimelySession, WasSentBy, sends_then, there}
+use Rattle.wb_kept_progress.specs.Timed.{ComesTo, GoByShort, IsHeldBy, IsQuietLine, SaysNow, Performed, Start, TellTimes, TimedLine, WasSent, called_at, greatest_distance, host_after, performed, performed_then, lines_of as lines_of_calls, sends, start_of, time_of, timers_after}
+use Rattle.wb_kept_progress.specs.Whole.{IsHandedIn, IsSpared, IsTimelySession, WasSentBy, sends_then, there}
 use Rattle.wb_kept_progress.proofs.CallLines.{Ends, call_ends, ends_both, host_amid, host_apart, host_before, line_stands, lines_have_calls, sent_in}
 use Rattle.wb_kept_progress.proofs.CallParts.{host_is, lines_order}
 use Rattle.wb_kept_progress.proofs.FirstLines.{AreLinesOf, IsLineOf, drawop_begins, lines_of_call, one_of_lines, request_begins}
@@ -30,7 +30,7 @@ use Rattle.wb_kept_progress.proofs.PerLine.{asks}
 use Rattle.wb_kept_progress.proofs.Repairs.{moved}
 use Rattle.wb_kept_progress.proofs.ShortDistances.{kept_go_by_short}
 use Rattle.wb_kept_progress.proofs.StopCauses.{room_before}
-use Rattle.wb_kept_progress.proofs.Timely.{none_held, of_start}
+use Rattle.wb_kept_progress.proofs.Timely.{held_later, none_held, of_start}
 use Rattle.wb_kept_progress.proofs.TimersAhead.{AreAhead, ahead_amid, ahead_in_time, due_in_time, tuned_alone}
 use Rattle.wb_kept_progress.proofs.Tunings.{constants_of, line_tuned}
 use Rattle.wb_kept_progress.proofs.WholeParts.{IsOfCall, PerformedIsTimely, does}
@@ -112,34 +112,76 @@ module _ (hosts : ℕ → Opening) (terms : Terms) (trace : List TimedLine) (s :
           is = refl;
         }
 
+    -- what is performed in the calls from there on, and in those after them
+    ends_there : (between : List TimedLine) → Ends (performed hosts (between ++ c.e ∷ c.older)) (x ∷ back)
+    ends_there between =
+        ends_both (performed hosts (between ++ c.e ∷ c.older)) (performed hosts (c.e ∷ c.older)) (x ∷ back) (front_of hosts between (c.e ∷ c.older)) (call_ends hosts trace x back c)
+
+    -- what is held before the line is held behind these calls
+    held_then : (between : List TimedLine) (j : ℕ) (m : NameValue) → holds (host_after starts back j) m ≡ true → holds (there hosts (between ++ c.e ∷ c.older) j).host m ≡ true
+    held_then between j m held =
+        let b = ends_there between in
+        ap (λ (h : Opened). holds h m) (sym (host_is hosts (between ++ c.e ∷ c.older) j))
+        ∙ ap (λ (t : List Performed). holds (host_after starts t j) m) (b.1 ∙ sym (append_assoc b.0 (x ∷ []) back))
+        ∙ held_later starts (b.0 ++ x ∷ []) back j m held
+
+    -- what a host can do without since it holds it, it holds behind the lines of these calls
+    held_by : (newer : List Performed) → all ≡ newer ++ x ∷ back → (j : ℕ) (d : DrawopValue) → IsSpared hosts c.newer (c.e ∷ c.older) j (c.e.time + terms.delivery) (Draw d)
+        → IsHeldBy starts newer (x ∷ back) j (x.time + terms.delivery) d.name
+    held_by newer split j d p =
+        let calls : List TimedLine = p.between ++ c.e ∷ c.older in
+        let f = front_of hosts p.later calls in
+        let b = ends_there p.between in
+        let parts : trace ≡ p.later ++ calls = c.split ∙ ap (λ (t : List TimedLine). t ++ c.e ∷ c.older) p.split ∙ append_assoc p.later p.between (c.e ∷ c.older) in
+        let whole : all ≡ (f.0 ++ b.0) ++ x ∷ back = ap (performed hosts) parts ∙ f.1 ∙ ap (λ (t : List Performed). f.0 ++ t) b.1 ∙ sym (append_assoc f.0 b.0 (x ∷ back)) in
+        let at : time_of (b.0 ++ x ∷ back) ≡ called_at calls = ap time_of (sym b.1) ∙ time_is hosts calls in
+        let time = c.time in
+        let soon = p.soon in
+        record {
+          later = f.0;
+          between = b.0;
+          split = append_cancel_right newer (f.0 ++ b.0) (x ∷ back) (sym split ∙ whole);
+          soon = omega (arith, at, time, soon);
+          held = ap (λ (t : List Performed). holds (host_after starts t j) d.name) (sym b.1) ∙ ap (λ (h : Opened). holds h d.name) (host_is hosts calls j) ∙ is_held (holds (there hosts calls j).host d.name) p.spared;
+        } where
+          is_held : (b : Bool) → not b ≡ false → b ≡ true
+          is_held true e = refl
+          is_held false e = absurd (true≢false e)
+
     module _ (newer : List Performed) (split : all ≡ newer ++ x ∷ back) (j : ℕ) (live : Contains terms.live j) (other : x.place ≢ j) (late : terms.quiet < x.time) (soon : x.time + terms.delivery < time_of all) where
-      handed_in : (v : Datagram) → Contains (sends starts back x) v → IsHandedIn c.newer j (c.e.time + terms.delivery) v
-      handed_in v sent =
+      delivered : (v : Datagram) → Contains (sends starts back x) v → IsHandedIn c.newer j (c.e.time + terms.delivery) v ⊎ IsSpared hosts c.newer (c.e ∷ c.older) j (c.e.time + terms.delivery) v
+      delivered v sent =
           s.delivered c.newer c.older c.e j v c.split live (λ same. other (c.place ∙ same)) (late_call terms.quiet late) (sends_it v sent)
           (subst (λ (t : ℕ). c.e.time + terms.delivery < t) (time_is hosts trace) (subst (λ (t : ℕ). t + terms.delivery < time_of all) c.time soon))
 
-      drawops : (d : DrawopValue) → Contains (sends starts back x) (Draw d) → ComesTo newer j (x.time + terms.delivery) (Arrives d)
-      drawops d sent =
-          let h = handed_in (Draw d) sent in
+      drawops : (d : DrawopValue) → Contains (sends starts back x) (Draw d) → ComesTo newer j (x.time + terms.delivery) (Arrives d) ⊎ IsHeldBy starts newer (x ∷ back) j (x.time + terms.delivery) d.name
+      drawops d sent = ⊎_elim
+          (λ (h : IsHandedIn c.newer j (c.e.time + terms.delivery) (Draw d)).
           let there_j = there hosts (h.between ++ c.e ∷ c.older) h.call.at.place in
           let begins = drawop_begins h.now d there_j in
-          comes newer split j (Draw d) (Arrives d) h ([], begins.0, ap (λ (line : KeptLine). (doing_of line (sees there_j.host) there_j.policy).lines) h.is ∙ begins.1)
+          inl (comes newer split j (Draw d) (Arrives d) h ([], begins.0, ap (λ (line : KeptLine). (doing_of line (sees there_j.host) there_j.policy).lines) h.is ∙ begins.1)))
+          (λ (p : IsSpared hosts c.newer (c.e ∷ c.older) j (c.e.time + terms.delivery) (Draw d)). inr (held_by newer split j d p))
+          (delivered (Draw d) sent)
 
-      requests : (asker : ℕ) (m : NameValue) → Contains (sends starts back x) (Request asker m) → ComesTo newer j (x.time + terms.delivery) (Hears (Request asker m))
-      requests asker m sent =
-          let h = handed_in (Request asker m) sent in
-          let there_j = there hosts (h.between ++ c.e ∷ c.older) h.call.at.place in
-          let begins = request_begins h.now asker m there_j (apart (h.between ++ c.e ∷ c.older) h.call.at.place h.place) in
-          comes newer split j (Request asker m) (Hears (Request asker m)) h (begins.0, begins.1, ap (λ (line : KeptLine). (doing_of line (sees there_j.host) there_j.policy).lines) h.is ∙ begins.2) where
-            own : asker ≡ (hosts x.place).number
-            own = ⊎_elim
-                (λ (g : (asker ≡ before.is.number) × (holds before m ≡ false)). g.0 ∙ (of_start starts back x.place).number)
-                (λ (t : (a : ℕ) × (n : NameValue) × (x.line ≡ Says (Request a n))). absurd ((quiet late).said t.0 t.1 t.2))
-                (asks before (none_held starts back x.place) asker m x.line sent)
+      module _ (asker : ℕ) (m : NameValue) (sent : Contains (sends starts back x) (Request asker m)) where
+        own : asker ≡ (hosts x.place).number
+        own = ⊎_elim
+            (λ (g : (asker ≡ before.is.number) × (holds before m ≡ false)). g.0 ∙ (of_start starts back x.place).number)
+            (λ (t : (a : ℕ) × (n : NameValue) × (x.line ≡ Says (Request a n))). absurd ((quiet late).said t.0 t.1 t.2))
+            (asks before (none_held starts back x.place) asker m x.line sent)
 
-            apart : (calls : List TimedLine) (place : ℕ) → place ≡ j → nat_eq asker (there hosts calls place).host.is.number ≡ false
-            apart calls place here = false_from_ne_true (nat_eq asker (there hosts calls place).host.is.number) (λ same.
-                other (s.distinct x.place j (sym own ∙ eqb-true asker (there hosts calls place).host.is.number same ∙ number_is calls place ∙ ap (λ (i : ℕ). (hosts i).number) here)))
+        apart : (calls : List TimedLine) (place : ℕ) → place ≡ j → nat_eq asker (there hosts calls place).host.is.number ≡ false
+        apart calls place here = false_from_ne_true (nat_eq asker (there hosts calls place).host.is.number) (λ same.
+            other (s.distinct x.place j (sym own ∙ eqb-true asker (there hosts calls place).host.is.number same ∙ number_is calls place ∙ ap (λ (i : ℕ). (hosts i).number) here)))
+
+        requests : holds (host_after starts back j) m ≡ true → ComesTo newer j (x.time + terms.delivery) (Hears (Request asker m))
+        requests held = ⊎_elim
+            (λ (h : IsHandedIn c.newer j (c.e.time + terms.delivery) (Request asker m)).
+            let there_j = there hosts (h.between ++ c.e ∷ c.older) h.call.at.place in
+            let begins = request_begins h.now asker m there_j (apart (h.between ++ c.e ∷ c.older) h.call.at.place h.place) in
+            comes newer split j (Request asker m) (Hears (Request asker m)) h (begins.0, begins.1, ap (λ (line : KeptLine). (doing_of line (sees there_j.host) there_j.policy).lines) h.is ∙ begins.2))
+            (λ (p : IsSpared hosts c.newer (c.e ∷ c.older) j (c.e.time + terms.delivery) (Request asker m)). absurd (true≢false (sym (held_then p.between j m held) ∙ p.spared)))
+            (delivered (Request asker m) sent)
 
     -- ---- what comes was sent
 
@@ -245,7 +287,7 @@ performed_is_timely hosts terms trace s = record {
   quiet = λ newer older e split late. quiet hosts terms trace s e older (of newer older e split) late;
   room = λ newer older e d split late is. room hosts terms trace s e older (of newer older e split) d late is;
   drawops = λ newer older e j d split live other late sent soon. drawops hosts terms trace s e older (of newer older e split) newer split j live other late soon d sent;
-  requests = λ newer older e j asker m split live other late sent soon. requests hosts terms trace s e older (of newer older e split) newer split j live other late soon asker m sent;
+  requests = λ newer older e j asker m split live other late sent held soon. requests hosts terms trace s e older (of newer older e split) newer split j live other late soon asker m sent held;
   fresh_drawops = λ newer older e d split late is. fresh_drawops hosts terms trace s e older (of newer older e split) d late is;
   fresh_requests = λ newer older e asker m split late is. fresh_requests hosts terms trace s e older (of newer older e split) asker m late is;
 } where

@@ -32,6 +32,7 @@ use Rattle.wb_kept_progress.proofs.Coming.{below_top, missing_below, page_there,
 use Rattle.wb_kept_progress.proofs.Beats.{ByReport, ByTurn, Kind, state_of, states_after}
 use Rattle.wb_kept_progress.proofs.OwedAndDue.{beat_there}
 use Rattle.wb_kept_progress.proofs.NextDue.{DueWithin, First, IsBehind, IsCut, before_is, cut, held_there, is_behind, next_behind, ordered, quiet_before, quiet_behind, room_there, split_there, state_there, still_older, still_there, told_there, window_there}
+use Rattle.wb_kept_progress.proofs.ReportsCome.{reports_come}
 use Rattle.wb_kept_progress.proofs.Repairs.{is_itself, of_opening}
 use Rattle.wb_kept_progress.proofs.StillCalls.{came_now}
 use Rattle.wb_kept_progress.proofs.Told.{told_wants}
@@ -450,8 +451,8 @@ module _ (was_held : HeldWasHeld) (hosts : ℕ → Opening) (terms : Terms) (tra
                   let last = ap called_at still.split in
                   let q = quiet in
                   handed_in count t b r soon
-                  (s.delivered (newest ++ r.later) older r.e i (told_in j live_j count b r) (split_next ByReport j live_j count b r) live (λ same. differ (sym at_j ∙ same))
-                  (omega (arith, q, first, since)) sent (omega (arith, soon, m, end, last, before_end)))
+                  (reports_come hosts (newest ++ r.later) (r.e ∷ older) i (r.e.time + terms.delivery) (told_in j live_j count b r) refl (s.delivered (newest ++ r.later) older r.e i (told_in j live_j count b r) (split_next ByReport j live_j count b r) live (λ same. differ (sym at_j ∙ same))
+                  (omega (arith, q, first, since)) sent (omega (arith, soon, m, end, last, before_end))))
 
       -- which of both
       top_or_turn : (is_lacked : holds (held_by i) d.name ≡ false) → IsHeldBySome hosts terms trace d.name → WantedBy i

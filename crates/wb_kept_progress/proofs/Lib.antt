@@ -66,3 +66,9 @@ pub mod SentKinds
 pub mod FewRequests
 pub mod FewDrawops
 pub mod JudgedTraffic
+pub mod ReportsCome
+pub mod SameDatagrams
+pub mod Testing
+pub mod Tested
+pub mod Lacking
+pub mod Examples

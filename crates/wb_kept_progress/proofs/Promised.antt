@@ -1,7 +1,7 @@
 -- The policy of self-managing hosts keeps its promises, so that a session of them becomes whole.
 use Rattle.std.proofs.Common.{ℕ, ◌+◌, ◌*◌, ◌≤◌, arith, inl}
 use Rattle.wb_kept_progress.specs.Promises.{Promises}
-use Rattle.wb_kept_progress.specs.Whole.{AllAreSoon, AllAreSoonByRates, SessionsBecomeWhole, by_rate, slowest, turn_span}
+use Rattle.wb_kept_progress.specs.Whole.{AllAreSoon, AllAreSoonByRates, SessionsBecomeWhole, turn_span}
 use Rattle.wb_kept_progress.proofs.Becoming.{promises_suffice}
 use Rattle.wb_kept_progress.proofs.CallLines.{lines_have_calls}
 use Rattle.wb_kept_progress.proofs.CallsInTime.{performed_is_timely}

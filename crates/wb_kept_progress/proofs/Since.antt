@@ -1,6 +1,6 @@
 -- What came since the last start of each member is a session of hosts that keeps to times.
-use Rattle.std.proofs.Common.{◌≡◌, ◌≢◌, ℕ, ◌+◌, ◌<◌, ◌≤◌, Bool, true, false, cond, List, [], ◌∷◌, ◌++◌, ◌∙◌, ap, append_assoc, arith, eqb-true, eq-eqb, inl, map, max, refl, subst, sym, true≢false, ⊎_elim}
-use Rattle.std.specs.Prelude.{Contains, nat_eq}
+use Rattle.std.proofs.Common.{◌≡◌, ◌≢◌, ℕ, ◌+◌, ◌<◌, ◌≤◌, Bool, true, false, cond, List, [], ◌∷◌, ◌++◌, ◌∙◌, ap, append_assoc, arith, eqb-true, eq-eqb, inl, inr, map, max, refl, subst, sym, true≢false, ⊎_elim}
+use Rattle.std.specs.Prelude.{◌⊎◌, Contains, nat_eq}
 use Rattle.std.proofs.lemmas.Bool.{cases_lt}
 use Rattle.wb_names.specs.Values.{NameValue}
 use Rattle.wb_codec.specs.declared.datagram.Datagram.{Datagram}
@@ -12,11 +12,12 @@ use Rattle.wb_member.specs.Judged.{holds, is_full}
 use Rattle.wb_member.specs.Opened.{present}
 use Rattle.wb_keeping.specs.Laws.{KeptLine, Came, Tuned, doing_of}
 use Rattle.wb_keeping.specs.Performing.{Keeping, due, sent_by_doing}
+use Rattle.wb_judging.specs.Members.{needs}
 use Rattle.wb_laws_kept.specs.Openings.{opened, opened_host}
 use Rattle.wb_laws_kept.specs.Sessions.{Begins, Call, CallAt, Handed, given_lines, kept_at}
 use Rattle.wb_kept_progress.specs.Sessions as hosts
 use Rattle.wb_kept_progress.specs.Sessions.{LineAt, Opening, at}
-use Rattle.wb_kept_progress.specs.Since.{AreFittingSince, AreInOrder, IsFitting, IsFittingSince, IsHandedIn, IsTimelyWithStarts, RestartedBecomeWhole, RestartedBecomeWholeByRounds, SinceIsSame, SinceIsTimely, WasSentBy, called_at, elsewhere, handed_at, hosts_of, opening_at, opening_by, since, since_by, with_number}
+use Rattle.wb_kept_progress.specs.Since.{AreFittingSince, AreInOrder, IsFitting, IsFittingSince, IsHandedIn, IsSpared, IsTimelyWithStarts, RestartedBecomeWhole, RestartedBecomeWholeByRounds, SinceIsSame, SinceIsTimely, WasSentBy, called_at, elsewhere, handed_at, hosts_of, opening_at, opening_by, since, since_by, with_number}
 use Rattle.wb_kept_progress.specs.Timed.{TellTimes, TimedLine}
 use Rattle.wb_kept_progress.specs.Timed as timed
 use Rattle.wb_kept_progress.specs.Whole.{AreCalledInOrder, there}
@@ -358,7 +359,50 @@ module _ (numbers : ℕ → ℕ) (terms : Terms) (calls : List CallAt) (s : IsTi
               let r = from_part later between c are.1 is place soon in
               record { later = timed_line x.time x.place are.0.0 ∷ r.later; call = r.call; between = r.between; split = ap (λ (t : List TimedLine). timed_line x.time x.place are.0.0 ∷ t) r.split; place = r.place; soon = r.soon; now = r.now; is = r.is }
 
-    delivered : (j : ℕ) (v : Datagram) → Contains terms.live j → e.at.place ≢ j → Contains (whole.sends_then opens older e) v → e.time + terms.delivery < timed.called_at trace → whole.IsHandedIn newer j (e.time + terms.delivery) v
+    -- what a member can do without behind some of the newer calls, its host can
+    spared_then : (front : List CallAt) (are : AreHanded numbers front) → calls ≡ front ++ l.call ∷ l.back → (j by : ℕ) (v : Datagram) → IsSpared numbers front (l.call ∷ l.back) j by v
+        → whole.IsSpared opens (timed_of numbers front are) (e ∷ older) j by v
+    spared_then front are split j by v p =
+        subst (λ (f : List CallAt). (are : AreHanded numbers f) → whole.IsSpared opens (timed_of numbers f are) (e ∷ older) j by v) (sym p.split) (λ are. from_parts p.later are (laters p.later are)) are where
+          parted : calls ≡ p.later ++ (p.between ++ l.call ∷ l.back)
+          parted = split ∙ ap (λ (f : List CallAt). f ++ l.call ∷ l.back) p.split ∙ append_assoc p.later p.between (l.call ∷ l.back)
+
+          laters : (later : List CallAt) → AreHanded numbers (later ++ p.between) → AreHanded numbers later
+          laters [] are = tt
+          laters (x ∷ later) are = (are.0, laters later are.1)
+
+          -- the calls from there on, as lines
+          are_lines : (are : AreHanded numbers p.between) → timed_of numbers p.between are ++ e ∷ older ≡ since numbers (p.between ++ l.call ∷ l.back)
+          are_lines are =
+              let top : timed_line l.call.time l.call.place l.line ∷ since numbers l.back ≡ since numbers (l.call ∷ l.back) = sym (since_one numbers l.call l.back (l.line, l.is)) in
+              let same : e ∷ older ≡ since numbers (l.call ∷ l.back) = (λ i. l.e_is i ∷ l.older_is i) ∙ top in
+              ap (λ (t : List TimedLine). timed_of numbers p.between are ++ t) same ∙ sym (since_handed numbers p.between (l.call ∷ l.back) are)
+
+          last : (between : List CallAt) (are : AreHanded numbers between) → timed.called_at (timed_of numbers between are ++ e ∷ older) ≡ called_at (between ++ l.call ∷ l.back)
+          last [] are = time_is
+          last (x ∷ between) are = refl
+
+          hosts_there : AreHanded numbers p.later → there opens (since numbers (p.between ++ l.call ∷ l.back)) j ≡ kept_at numbers (p.between ++ l.call ∷ l.back) j
+          hosts_there are =
+              subst (λ (c : List CallAt). there (hosts_of numbers c) (since numbers (p.between ++ l.call ∷ l.back)) j ≡ kept_at numbers (p.between ++ l.call ∷ l.back) j) (sym parted)
+              (state_at numbers p.later (p.between ++ l.call ∷ l.back) are j)
+
+          from_parts : (later : List CallAt) (are : AreHanded numbers (later ++ p.between)) → AreHanded numbers p.later → whole.IsSpared opens (timed_of numbers (later ++ p.between) are) (e ∷ older) j by v
+          from_parts [] are laters = record {
+            later = [];
+            between = timed_of numbers p.between are;
+            split = refl;
+            soon = let same = last p.between are in let soon = p.soon in omega (arith, same, soon);
+            spared = ap (λ (t : List TimedLine). needs (there opens t j).host v) (are_lines are) ∙ ap (λ (k : Keeping). needs k.host v) (hosts_there laters) ∙ p.spared;
+          }
+          from_parts (x ∷ later) are laters =
+              let r = from_parts later are.1 laters in
+              record { later = timed_line x.time x.place are.0.0 ∷ r.later; between = r.between; split = ap (λ (t : List TimedLine). timed_line x.time x.place are.0.0 ∷ t) r.split; soon = r.soon; spared = r.spared }
+
+    abbrev Comes : ℕ → List TimedLine → ℕ → Datagram → Type 0
+    Comes j lines by v = whole.IsHandedIn lines j by v ⊎ whole.IsSpared opens lines (e ∷ older) j by v
+
+    delivered : (j : ℕ) (v : Datagram) → Contains terms.live j → e.at.place ≢ j → Contains (whole.sends_then opens older e) v → e.time + terms.delivery < timed.called_at trace → Comes j newer (e.time + terms.delivery) v
     delivered j v live other sent end =
         let by = ordered.by in
         let sends : Contains (sent_by_doing (doing_of l.line) (kept_at numbers l.back l.call.place)) v =
@@ -366,9 +410,12 @@ module _ (numbers : ℕ → ℕ) (terms : Terms) (calls : List CallAt) (s : IsTi
         (subst (λ (k : Keeping). Contains (sent_by_doing (doing_of l.line) k) v) (before e.at.place)
         (subst (λ (line : KeptLine). Contains (sent_by_doing (doing_of line) (there opens older e.at.place)) v) line_is sent)) in
         let is = time_is in
-        let h = s.delivered l.front l.back l.call l.line j v l.split l.is live (λ same. other (place_is ∙ same)) call_late sends (omega (arith, end, by, is)) in
-        subst (λ (t : ℕ). whole.IsHandedIn newer j (t + terms.delivery) v) (sym is)
-        (subst (λ (t : List TimedLine). whole.IsHandedIn t j (l.call.time + terms.delivery) v) (sym l.newer_is) (handed_in l.front l.are j (l.call.time + terms.delivery) v h))
+        let end_by = l.call.time + terms.delivery in
+        let comes : Comes j (timed_of numbers l.front l.are) end_by v = ⊎_elim
+        (λ (h : IsHandedIn l.front j end_by v). inl (handed_in l.front l.are j end_by v h))
+        (λ (p : IsSpared numbers l.front (l.call ∷ l.back) j end_by v). inr (spared_then l.front l.are l.split j end_by v p))
+        (s.delivered l.front l.back l.call l.line j v l.split l.is live (λ same. other (place_is ∙ same)) call_late sends (omega (arith, end, by, is))) in
+        subst (λ (t : ℕ). Comes j newer (t + terms.delivery) v) (sym is) (subst (λ (t : List TimedLine). Comes j t end_by v) (sym l.newer_is) comes)
 
     -- what comes was sent by an older line
     module _ (settled : settled_by terms < e.time) (now : ℕ) (v : Datagram) (is : e.at.line ≡ Came now v) where

@@ -24,7 +24,7 @@ use Rattle.wb_member.specs.Opened.{Opened, accepted, asks_for, heard, opened_wit
 use Rattle.wb_member.specs.Random.{word_of}
 use Rattle.wb_keeping.specs.Kept.{Line, Arrives, Hears, Says, Ticks}
 use Rattle.wb_keeping.specs.Performing.{after_line, sent_by_line}
-use Rattle.wb_kept_progress.specs.Timed.{AllHoldBehind, AreInOrder, ComesTo, IsAnswerable, IsTimely, Performed, Start, WasSent, host_after, time_of, timers_after, until}
+use Rattle.wb_kept_progress.specs.Timed.{AllHoldBehind, AreInOrder, ComesTo, IsAnswerable, IsHeldBy, IsTimely, Performed, Start, WasSent, host_after, time_of, timers_after, until}
 use Rattle.wb_kept_progress.proofs.Begun.{HasNoTimers, tick_no_timers, ticks_keep, ticks_within}
 use Rattle.wb_kept_progress.proofs.Lines.{IsOf, line_grows, line_of, same_member}
 use Rattle.wb_kept_progress.proofs.Lining.{by_line, by_part, desk_is, desk_of, order_is, over_join, places, time_is, turn_of, turns_join, turns_of, turns_over, until_is}
@@ -294,9 +294,17 @@ module _ (hosts : ℕ → Start) (terms : Terms) (trace : List Performed) (timel
                   last : (held : List DrawopValue) → Contains (held ++ d ∷ []) d
                   last held = Contains-append_right held (d ∷ []) d (Contains-here d [])
 
+        held_by : IsHeldBy hosts front (e ∷ back) i (e.time + terms.delivery) d.name → holds (host_after hosts later i).is.held d.name ≡ true
+        held_by c =
+            let base : List Performed = c.between ++ e ∷ back in
+            let there : trace ≡ c.later ++ base = split ∙ ap (λ (t : List Performed). t ++ e ∷ back) c.split ∙ append_assoc c.later c.between (e ∷ back) in
+            let soon = c.soon in
+            let p = in_past newest later c.later base (sym is_part ∙ there) whole (omega (arith, soon, lt)) in
+            subst (λ (t : List Performed). holds (host_after hosts t i).is.held d.name ≡ true) (sym p.1) (held_later hosts p.0 base i d.name c.held)
+
         from : (b : Bool) → nat_eq q i ≡ b → holds (host_after hosts later i).is.held d.name ≡ true
         from true same = own (eqb-true q i same)
-        from false other = came (timely.drawops front back e i d split live (λ same. true≢false (sym (eq-eqb q i same) ∙ other)) late sent (let k = end_is in omega (arith, lt, k)))
+        from false other = ⊎_elim came held_by (timely.drawops front back e i d split live (λ same. true≢false (sym (eq-eqb q i same) ∙ other)) late sent (let k = end_is in omega (arith, lt, k)))
 
       is_heard : (asker : ℕ) (m : NameValue) (j : ℕ) → ComesTo front j (e.time + terms.delivery) (Hears (Request asker m)) → IsHeardAt at (turns_over hosts front (e ∷ back)) x (turns_of hosts back) j terms.delivery asker m
       is_heard asker m j c =
@@ -383,8 +391,8 @@ module _ (hosts : ℕ → Start) (terms : Terms) (trace : List Performed) (timel
           by_part hosts trace (λ newest later. e.time + terms.delivery < turning.time_of later → turning.has at later i d.name ≡ true)
           (λ newest later is lt. has_here hosts later i d.name ∙ comes front back e split late newest later i d is live sent (time_of_lines later (e.time + terms.delivery) lt)) newest later part lt) newer older x same;
       requests = λ newer older x asker m j same. by_line hosts trace
-          (λ newer x older. terms.quiet < x.time → Contains x.sent (Request asker m) → Contains terms.live j → x.place ≢ j → x.time + terms.delivery < turning.time_of all → IsHeardAt at newer x older j terms.delivery asker m)
-          (λ front back e split late sent live other soon. is_heard front back e split late asker m j (timely.requests front back e j asker m split live other late sent (time_of_lines trace (e.time + terms.delivery) soon))) newer older x same;
+          (λ newer x older. terms.quiet < x.time → Contains x.sent (Request asker m) → Contains terms.live j → x.place ≢ j → turning.has at older j m ≡ true → x.time + terms.delivery < turning.time_of all → IsHeardAt at newer x older j terms.delivery asker m)
+          (λ front back e split late sent live other held soon. is_heard front back e split late asker m j (timely.requests front back e j asker m split live other late sent (sym (has_here hosts back j m) ∙ held) (time_of_lines trace (e.time + terms.delivery) soon))) newer older x same;
     };
     fresh = record {
       drawops = λ newer older x now names m same late accepts c.

@@ -9,3 +9,4 @@ pub mod Agreement
 pub mod Since
 pub mod Traffic
 pub mod Judged
+pub mod Examples

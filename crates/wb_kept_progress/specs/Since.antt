@@ -1,6 +1,6 @@
 -- Sessions in which programs start, and start anew. What came since the last start of each member is a session of hosts: by when it becomes
 -- whole is said of that.
-use Rattle.std.specs.Prelude.{◌≡◌, ◌≢◌, ℕ, ◌+◌, ◌*◌, ◌<◌, ◌≤◌, Bool, true, false, List, [], ◌∷◌, ◌++◌, Contains, nat_eq, if◌then◌else◌}
+use Rattle.std.specs.Prelude.{◌≡◌, ◌≢◌, ◌⊎◌, ℕ, ◌+◌, ◌*◌, ◌<◌, ◌≤◌, Bool, true, false, List, [], ◌∷◌, ◌++◌, Contains, nat_eq, if◌then◌else◌}
 use Rattle.wb_names.specs.Values.{NameValue}
 use Rattle.wb_names.specs.declared.name.PageId.{PageId}
 use Rattle.wb_names.specs.declared.parts.Op.{Op}
@@ -12,6 +12,7 @@ use Rattle.wb_member.specs.Judged.{holds, is_full}
 use Rattle.wb_member.specs.Opened.{present}
 use Rattle.wb_keeping.specs.Laws.{KeptLine, Added, Came, Tuned, doing_of}
 use Rattle.wb_keeping.specs.Performing.{due, sent_by_doing}
+use Rattle.wb_judging.specs.Members.{needs}
 use Rattle.wb_laws_sessions.specs.Sessions.{AreApart}
 use Rattle.wb_laws_kept.specs.Openings as starts
 use Rattle.wb_laws_kept.specs.Openings.{opened, opened_host}
@@ -97,6 +98,14 @@ pub record IsHandedIn (newer : List CallAt) (j by : ℕ) (v : Datagram) : Type 0
   pub now : ℕ
   pub is : call.call ≡ Handed (Came now v)
 
+-- by a time, behind some of the newer calls, a member can do without a datagram
+pub record IsSpared (numbers : ℕ → ℕ) (newer base : List CallAt) (j by : ℕ) (v : Datagram) : Type 0 where
+  pub later : List CallAt
+  pub between : List CallAt
+  pub split : newer ≡ later ++ between
+  pub soon : called_at (between ++ base) ≤ by
+  pub spared : needs (kept_at numbers (between ++ base) j).host v ≡ false
+
 -- one of these lines sent a datagram, so shortly before a time
 pub record WasSentBy (numbers : ℕ → ℕ) (older : List CallAt) (time within : ℕ) (v : Datagram) : Type 0 where
   pub newer : List CallAt
@@ -122,7 +131,7 @@ pub record IsTimelyWithStarts (numbers : ℕ → ℕ) (terms : Terms) (calls : L
   pub soon : (newer older : List CallAt) (e : CallAt) (i : ℕ) → calls ≡ newer ++ e ∷ older → Contains terms.live i → terms.quiet < e.time → e.time ≤ due (kept_at numbers older i) + (terms.lag i + terms.late)
   pub room : (newer older : List CallAt) (i : ℕ) → calls ≡ newer ++ older → Contains terms.live i → terms.quiet < called_at older → is_full (kept_at numbers older i).host ≡ false
   pub delivered : (newer older : List CallAt) (e : CallAt) (line : KeptLine) (j : ℕ) (v : Datagram) → calls ≡ newer ++ e ∷ older → e.call ≡ Handed line → Contains terms.live j → e.place ≢ j → terms.quiet < e.time
-      → Contains (sent_by_doing (doing_of line) (kept_at numbers older e.place)) v → e.time + terms.delivery < called_at calls → IsHandedIn newer j (e.time + terms.delivery) v
+      → Contains (sent_by_doing (doing_of line) (kept_at numbers older e.place)) v → e.time + terms.delivery < called_at calls → IsHandedIn newer j (e.time + terms.delivery) v ⊎ IsSpared numbers newer (e ∷ older) j (e.time + terms.delivery) v
   pub fresh : (newer older : List CallAt) (e : CallAt) (now : ℕ) (v : Datagram) → calls ≡ newer ++ e ∷ older → settled_by terms < e.time → e.call ≡ Handed (Came now v) → WasSentBy numbers older e.time terms.delivery v
 
 -- ---- laws

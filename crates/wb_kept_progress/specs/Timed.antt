@@ -76,6 +76,14 @@ pub record ComesTo (newer : List Performed) (j by : ℕ) (line : Line) : Type 0 
   pub soon : arrival.time ≤ by
   pub is : arrival.line ≡ line
 
+-- a name is held at a place behind some of the newer lines, and soon enough
+pub record IsHeldBy (hosts : ℕ → Start) (newer base : List Performed) (j by : ℕ) (n : NameValue) : Type 0 where
+  pub later : List Performed
+  pub between : List Performed
+  pub split : newer ≡ later ++ between
+  pub soon : time_of (between ++ base) ≤ by
+  pub held : holds (host_after hosts (between ++ base) j) n ≡ true
+
 -- a datagram was sent by one of these lines so shortly before a time
 pub record WasSent (hosts : ℕ → Start) (older : List Performed) (time within : ℕ) (v : Datagram) : Type 0 where
   pub newer : List Performed
@@ -127,9 +135,10 @@ pub record IsTimely (hosts : ℕ → Start) (terms : Terms) (trace : List Perfor
   pub alone : (newer older : List Performed) (e : Performed) → trace ≡ newer ++ e ∷ older → terms.quiet < e.time → Contains terms.live e.place
   pub quiet : (newer older : List Performed) (e : Performed) → trace ≡ newer ++ e ∷ older → terms.quiet < e.time → IsQuietLine e.line
   pub room : (newer older : List Performed) (e : Performed) (d : DrawopValue) → trace ≡ newer ++ e ∷ older → terms.quiet < e.time → e.line ≡ Arrives d → (holds (host_after hosts older e.place) d.name ≡ true) ⊎ (is_full (host_after hosts older e.place) ≡ false)
-  -- what a live place sends comes to each other one in time, and what comes was sent shortly before
-  pub drawops : (newer older : List Performed) (e : Performed) (j : ℕ) (d : DrawopValue) → trace ≡ newer ++ e ∷ older → Contains terms.live j → e.place ≢ j → terms.quiet < e.time → Contains (sends hosts older e) (Draw d) → e.time + terms.delivery < time_of trace → ComesTo newer j (e.time + terms.delivery) (Arrives d)
-  pub requests : (newer older : List Performed) (e : Performed) (j asker : ℕ) (m : NameValue) → trace ≡ newer ++ e ∷ older → Contains terms.live j → e.place ≢ j → terms.quiet < e.time → Contains (sends hosts older e) (Request asker m) → e.time + terms.delivery < time_of trace → ComesTo newer j (e.time + terms.delivery) (Hears (Request asker m))
+  -- A drawop that a live place sends comes to each other one in time, unless that one holds it by then, and a request to each that holds what it asks
+  -- for. What comes was sent shortly before.
+  pub drawops : (newer older : List Performed) (e : Performed) (j : ℕ) (d : DrawopValue) → trace ≡ newer ++ e ∷ older → Contains terms.live j → e.place ≢ j → terms.quiet < e.time → Contains (sends hosts older e) (Draw d) → e.time + terms.delivery < time_of trace → ComesTo newer j (e.time + terms.delivery) (Arrives d) ⊎ IsHeldBy hosts newer (e ∷ older) j (e.time + terms.delivery) d.name
+  pub requests : (newer older : List Performed) (e : Performed) (j asker : ℕ) (m : NameValue) → trace ≡ newer ++ e ∷ older → Contains terms.live j → e.place ≢ j → terms.quiet < e.time → Contains (sends hosts older e) (Request asker m) → holds (host_after hosts older j) m ≡ true → e.time + terms.delivery < time_of trace → ComesTo newer j (e.time + terms.delivery) (Hears (Request asker m))
   pub fresh_drawops : (newer older : List Performed) (e : Performed) (d : DrawopValue) → trace ≡ newer ++ e ∷ older → settled_by terms < e.time → e.line ≡ Arrives d → WasSent hosts older e.time terms.delivery (Draw d)
   pub fresh_requests : (newer older : List Performed) (e : Performed) (asker : ℕ) (m : NameValue) → trace ≡ newer ++ e ∷ older → settled_by terms < e.time → e.line ≡ Hears (Request asker m) → WasSent hosts older e.time terms.delivery (Request asker m)
 

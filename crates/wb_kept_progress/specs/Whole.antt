@@ -20,6 +20,7 @@ use Rattle.wb_policy.specs.declared.limits.TheConstants.{HEARD, LONGEST_GAP, LON
 use Rattle.wb_keeping.specs.Kept.{Stops}
 use Rattle.wb_keeping.specs.Laws.{Added, Came, Tuned, doing_of}
 use Rattle.wb_keeping.specs.Performing.{Keeping, due, sent_by_doing}
+use Rattle.wb_judging.specs.Members.{needs}
 use Rattle.wb_kept_progress.specs.Sessions.{AreTaken, DoNotGoBack, Opening, kept_at, opened_host}
 use Rattle.wb_kept_progress.specs.Timed.{AllKeptHoldBehind, GoByShort, IsAnswerable, Performed, TellTimes, TimedLine, called_at, greatest_distance, host_after, lines_of, performed, start_of, timers_after, until}
 
@@ -47,6 +48,15 @@ pub record IsHandedIn (newer : List TimedLine) (j by : ℕ) (v : Datagram) : Typ
   pub now : ℕ
   pub is : call.at.line ≡ Came now v
 
+-- by a time, behind some of the newer calls, a host can do without a datagram: it holds the drawop, or lacks what is requested, or the datagram is a
+-- question or a page state
+pub record IsSpared (hosts : ℕ → Opening) (newer base : List TimedLine) (j by : ℕ) (v : Datagram) : Type 0 where
+  pub later : List TimedLine
+  pub between : List TimedLine
+  pub split : newer ≡ later ++ between
+  pub soon : called_at (between ++ base) ≤ by
+  pub spared : needs (there hosts (between ++ base) j).host v ≡ false
+
 -- one of these calls sent a datagram, so shortly before a time
 pub record WasSentBy (hosts : ℕ → Opening) (older : List TimedLine) (time within : ℕ) (v : Datagram) : Type 0 where
   pub newer : List TimedLine
@@ -57,8 +67,8 @@ pub record WasSentBy (hosts : ℕ → Opening) (older : List TimedLine) (time wi
   pub sent : Contains (sends_then hosts before e) v
 
 -- Drivers and the network keep to the terms. From `quiet` on they alone are called, and in time, each of
--- their boards has a free cell, and nobody draws; what one sends is handed in to each other one in time. What comes once all that was on its way has
--- arrived was sent shortly before. A live host may be handed its first line at any time up to `quiet`.
+-- their boards has a free cell, and nobody draws; what one sends is handed in to each other one in time, unless that one can do without it. What comes
+-- once all that was on its way has arrived was sent shortly before. A live host may be handed its first line at any time up to `quiet`.
 pub record IsTimelySession (hosts : ℕ → Opening) (terms : Terms) (trace : List TimedLine) : Type 0 where
   -- moments do not go back; the last before a live host becomes self-managing is one of `quiet` or before
   pub moments : (i : ℕ) → DoNotGoBack 0 (hosts i).moments
@@ -79,7 +89,7 @@ pub record IsTimelySession (hosts : ℕ → Opening) (terms : Terms) (trace : Li
   pub drawn : (newer older : List TimedLine) (e : TimedLine) (now : ℕ) (page : PageId) (time : ℕ) (op : Op) → trace ≡ newer ++ e ∷ older → terms.quiet < e.time → e.at.line ≢ Added now page time op
   pub room : (newer older : List TimedLine) (i : ℕ) → trace ≡ newer ++ older → Contains terms.live i → terms.quiet < called_at older → is_full (there hosts older i).host ≡ false
   pub delivered : (newer older : List TimedLine) (e : TimedLine) (j : ℕ) (v : Datagram) → trace ≡ newer ++ e ∷ older → Contains terms.live j → e.at.place ≢ j → terms.quiet < e.time → Contains (sends_then hosts older e) v → e.time + terms.delivery < called_at trace
-      → IsHandedIn newer j (e.time + terms.delivery) v
+      → IsHandedIn newer j (e.time + terms.delivery) v ⊎ IsSpared hosts newer (e ∷ older) j (e.time + terms.delivery) v
   pub fresh : (newer older : List TimedLine) (e : TimedLine) (now : ℕ) (v : Datagram) → trace ≡ newer ++ e ∷ older → settled_by terms < e.time → e.at.line ≡ Came now v → WasSentBy hosts older e.time terms.delivery v
 
 -- The most that the board of a live host has from `quiet` on: slices of marks, counted with those of the page that it reported last, holes,

@@ -2,6 +2,7 @@
 //! proofs to cite.
 
 ghost use Rattle.wb_kept_progress.specs.Agreement.{SessionsAgree};
+ghost use Rattle.wb_kept_progress.specs.Examples.{LivelyMeets, PatientMeets};
 ghost use Rattle.wb_kept_progress.specs.Judged.{JudgedMembersSendFewDrawops};
 ghost use Rattle.wb_kept_progress.specs.Promises.{Promises, PromisesSuffice};
 ghost use Rattle.wb_kept_progress.specs.Repairs.{AskedCanCome, MarksComeToBeTold, MissingCanCome, MissingIsAsked, MissingIsAskedSoon};
@@ -83,6 +84,15 @@ pub fn filled_places_bring_rounds()
 pub fn policies_keep_promises()
     ensures kept { Promises }
     ensures suffice { PromisesSuffice }
+{}
+
+/// Two examples of such a session, line by line. Two hosts keep to the terms, and meet all premises
+/// of both laws: a drawing is lost, asked for, and repaired. In one each host is called within 10
+/// milliseconds. In the other within 55 seconds, and it goes on until after the laws say that it is
+/// whole.
+pub fn terms_can_be_kept()
+    ensures lively { LivelyMeets }
+    ensures patient { PatientMeets }
 {}
 
 /// How often live hosts report. The next report of each is due within 96 seconds, whatever comes

@@ -81,9 +81,12 @@ module _ {MayStop : List Turn → Turn → NameValue → Type 0} (places : Place
     who : (asker ≡ places.me e.place) × (has places older e.place n ≡ false)
     who = (is.quiet newer older e split quiet_time).asked asker n sent
 
+    holds_it : has places older j n ≡ true
+    holds_it = held_before places terms turns is newer older e n split late a
+
     -- it is another place that holds it
     differ : e.place ≡ j → ⊥
-    differ same = true≢false (sym (held_before places terms turns is newer older e n split late a) ∙ ap (λ (k : ℕ). has places older k n) (sym same) ∙ who.1)
+    differ same = true≢false (sym holds_it ∙ ap (λ (k : ℕ). has places older k n) (sym same) ∙ who.1)
 
     module _ (h : IsHeardAt places newer e older j terms.delivery asker n) where
       abbrev before : List Turn
@@ -186,7 +189,7 @@ module _ {MayStop : List Turn → Turn → NameValue → Type 0} (places : Place
     answered_to_all newest later i is_part lt live =
         let end = before_end newest later (subst AreInOrder is_part is.order) in
         let same : time_of turns ≡ time_of (newest ++ later) = ap time_of is_part in
-        all_hold (is.delivered.requests newer older e asker n j split quiet_time sent a.1 differ (omega (arith, lt, end, same))) newest later i is_part lt live
+        all_hold (is.delivered.requests newer older e asker n j split quiet_time sent a.1 differ holds_it (omega (arith, lt, end, same))) newest later i is_part lt live
 
 pub request_is_answered_but : (MayStop : List Turn → Turn → NameValue → Type 0) (places : Places) (terms : Terms) (turns newer older : List Turn) (e : Turn) (asker : ℕ) (n : NameValue) → KeepTimeBut MayStop places terms turns → Spares places MayStop n → turns ≡ newer ++ e ∷ older
     → settled_by terms < e.time → settled_by terms + quiet_span terms ≤ e.time → Contains e.sent (Request asker n) → IsAnswerable places terms turns n → AllHoldBehind places terms turns (e.time + answering_by terms) n

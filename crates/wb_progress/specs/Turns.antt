@@ -156,8 +156,8 @@ pub record IsHeardAt (places : Places) (newer : List Turn) (e : Turn) (older : L
 pub record IsDelivered (places : Places) (terms : Terms) (turns : List Turn) : Type 0 where
   -- a drawop that is sent is held at each live place in time
   pub drawops : (newer older : List Turn) (e : Turn) (d : DrawopValue) → turns ≡ newer ++ e ∷ older → terms.quiet < e.time → Contains e.sent (Draw d) → AllHoldBehind places terms turns (e.time + terms.delivery) d.name
-  -- a request is heard at each other live place
-  pub requests : (newer older : List Turn) (e : Turn) (asker : ℕ) (n : NameValue) (j : ℕ) → turns ≡ newer ++ e ∷ older → terms.quiet < e.time → Contains e.sent (Request asker n) → Contains terms.live j → e.place ≢ j → e.time + terms.delivery < time_of turns
+  -- a request is heard at each other live place that holds the name
+  pub requests : (newer older : List Turn) (e : Turn) (asker : ℕ) (n : NameValue) (j : ℕ) → turns ≡ newer ++ e ∷ older → terms.quiet < e.time → Contains e.sent (Request asker n) → Contains terms.live j → e.place ≢ j → has places older j n ≡ true → e.time + terms.delivery < time_of turns
       → IsHeardAt places newer e older j terms.delivery asker n
 
 -- What comes was sent within the time of delivery.
