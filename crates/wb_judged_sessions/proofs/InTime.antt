@@ -1,0 +1,329 @@
+-- What judged members send comes in time.
+use Rattle.std.proofs.Common.{◌≡◌, ◌+◌, ◌<◌, ◌≤◌, ℕ, Bool, true, false, List, [], ◌∷◌, ◌++◌, ◌∙◌, None, ap, append_assoc, arith, inl, inr, refl, subst, sym}
+use Rattle.std.specs.Prelude.{◌≢◌, ◌⊎◌, Contains, Option, Some}
+use Rattle.std.proofs.lemmas.List.{append_cancel_right}
+use Rattle.wb_names.specs.declared.echo.Echo.{Echo}
+use Rattle.wb_names.specs.declared.name.PageId.{PageId}
+use Rattle.wb_names.specs.declared.parts.Op.{Op}
+use Rattle.wb_names.proofs.Listings.{Contains-map}
+use Rattle.wb_codec.specs.declared.datagram.Datagram.{Datagram}
+use Rattle.wb_codec.specs.declared.datagram.Datagram.TheVariants.{AskPages, Draw, PageState, Request, Session}
+use Rattle.wb_judge.specs.Adding.{own_echo}
+use Rattle.wb_judge.specs.declared.origin.Origin.{Origin}
+use Rattle.wb_judge.specs.declared.verdict.Why.{Why}
+use Rattle.wb_progress.specs.Turns.{Terms, settled_by}
+use Rattle.wb_member.specs.Judged.{is_full}
+use Rattle.wb_member.specs.Opened.{Opened}
+use Rattle.wb_keeping.specs.Laws.{Added, Came, KeptLine, doing_of}
+use Rattle.wb_keeping.specs.Performing.{Keeping, due, sent_by_doing}
+use Rattle.wb_judging.specs.Echoing.{echoing}
+use Rattle.wb_judging.specs.Handing.{handed, handed_for, verdict_on}
+use Rattle.wb_judging.specs.Judged.{CameFrom, DayTold, Garbled, GoneFrom, Held, Judged, JudgedLine, Passed, UserDrew, moment_of}
+use Rattle.wb_judging.specs.Laws.{sends_in}
+use Rattle.wb_judging.specs.Members.{IsOfMember, needs}
+use Rattle.wb_judging.specs.Performing.{events_of, judging, sent_by_kept_line}
+use Rattle.wb_judging.specs.declared.record.RecordLine.{RecordLine}
+use Rattle.wb_judging.proofs.AsKept.{sends_as_kept}
+use Rattle.wb_judging.proofs.MembersIn.{needed_is_handed_in}
+use Rattle.wb_laws_kept.specs.Sessions.{CallAt, Handed, kept_at}
+use Rattle.wb_kept_progress.specs.Since.{IsHandedIn, IsSpared, IsTimelyWithStarts, WasSentBy as WasKeptSent, called_at as kept_called_at}
+use Rattle.wb_judged_sessions.specs.Sessions.{JudgedCallAt, Takes, judged_at, kept_calls, plain, plain_line}
+use Rattle.wb_judged_sessions.specs.Terms.{AreTaken, IsLineTaken}
+use Rattle.wb_judged_sessions.specs.Timely.{AreInOrder, Arrives, IsTimely, JudgedIsTimely}
+use Rattle.wb_judged_sessions.proofs.Drawn.{DrawsNone, came_draws}
+use Rattle.wb_judged_sessions.proofs.Echoes.{call_sends, plain_again}
+use Rattle.wb_judged_sessions.proofs.Kept.{at, calls_split, judged_is_kept}
+use Rattle.wb_judged_sessions.proofs.Plain.{plain_sent}
+use Rattle.wb_judged_sessions.proofs.Sent.{echo_mine, line_sends, me_judging}
+use Rattle.wb_judged_sessions.proofs.Terms.{fault_none, own_at, taken_kept}
+use Rattle.wb_judged_sessions.proofs.Timely.{FromLine, called_kept, fit_kept, from_line, order_kept, order_part, takes_is, taken_at}
+
+-- ---- the datagram without the echo
+
+needs_plain : (host : Opened) (v : Datagram) → needs host (plain v) ≡ needs host v
+needs_plain host (Draw d) = refl
+needs_plain host (Session sender sent page marks echoes) = refl
+needs_plain host (Request asker name) = refl
+needs_plain host (AskPages asker) = refl
+needs_plain host (PageState sender page marks) = refl
+
+-- ---- what a line is
+
+handed_one : (a b : KeptLine) → Handed a ≡ Handed b → a ≡ b
+handed_one a b e = cc
+
+came_one : (now then : ℕ) (v w : Datagram) → Came now v ≡ Came then w → (now ≡ then) × (v ≡ w)
+came_one now then v w e = (cc, cc)
+
+-- It draws nothing, unless its user draws.
+none_drawn : (line : JudgedLine) (h : Judged) → ((now : ℕ) (page : PageId) (op : Op) → line ≡ UserDrew now page op → ⊥) → ((recalled : RecordLine) → line ≡ Held recalled → ⊥)
+    → DrawsNone (plain_line (handed line h))
+none_drawn (CameFrom now o v) h drew held = came_draws now v (verdict_on now o v h).why
+none_drawn (Garbled now) h drew held = tt
+none_drawn (Passed now) h drew held = tt
+none_drawn (DayTold now wall) h drew held = tt
+none_drawn (GoneFrom now o) h drew held = tt
+none_drawn (UserDrew now page op) h drew held = absurd (drew now page op refl)
+none_drawn (Held line) h drew held = absurd (held line refl)
+
+-- If it hands a datagram in, that came and was let in.
+record LetIn (line : JudgedLine) (h : Judged) (v : Datagram) : Type 0 where
+  now : ℕ
+  origin : Origin
+  whole : Datagram
+  is : line ≡ CameFrom now origin whole
+  lets : handed (CameFrom now origin whole) h ≡ Came now whole
+  same : plain whole ≡ v
+
+let_in : (line : JudgedLine) (h : Judged) (now : ℕ) (v : Datagram) → ((recalled : RecordLine) → line ≡ Held recalled → ⊥) → plain_line (handed line h) ≡ Came now v → LetIn line h v
+let_in (CameFrom then o w) h now v held e = by (verdict_on then o w h).why refl e where
+  by : (why : Option Why) → (verdict_on then o w h).why ≡ why → plain_line (handed_for then w why) ≡ Came now v → LetIn (CameFrom then o w) h v
+  by None is e = record { now = then; origin = o; whole = w; is = refl; lets = ap (λ (why : Option Why). handed_for then w why) is; same = (came_one then now (plain w) v e).1 }
+  by (Some why) is e = absurd cc
+let_in (Garbled then) h now v held e = absurd cc
+let_in (Passed then) h now v held e = absurd cc
+let_in (DayTold then wall) h now v held e = absurd cc
+let_in (GoneFrom then o) h now v held e = absurd cc
+let_in (UserDrew then page op) h now v held e = absurd cc
+let_in (Held line) h now v held e = absurd (held line refl)
+
+-- ---- what a line sends
+
+-- What the self-managing member sends, the judged one sends with an echo or without.
+record SaysAs (line : JudgedLine) (h : Judged) (v : Datagram) : Type 0 where
+  whole : Datagram
+  sent : Contains (sends_in (events_of line h)) whole
+  same : plain whole ≡ v
+
+says_as : (line : JudgedLine) (h : Judged) → h.judge.me ≡ h.kept.host.is.number → IsLineTaken line h → (v : Datagram) → Contains (sent_by_doing (doing_of (handed line h)) h.kept) v → SaysAs line h v
+unfolding sent_by_kept_line
+says_as line h own taken v c =
+    let j = judging line h in
+    let echo = own_echo (moment_of line h) j in
+    let mine : (e : Echo) → echo ≡ Some e → e.source ≡ h.kept.host.is.number = λ e is. echo_mine j.me (moment_of line h) j.alien e is ∙ me_judging line h ∙ own in
+    record {
+      whole = echoing echo v;
+      sent = subst (λ (vs : List Datagram). Contains vs (echoing echo v)) (sym (sends_as_kept line h))
+          (Contains-map (echoing echo) (sent_by_doing (doing_of (handed line h)) h.kept) (echoing echo v) (c.0, v, c.1, c.2, refl));
+      same = plain_again h.kept.host.is.number echo mine v (call_sends (handed line h) h.kept (fault_none line h own taken) v c);
+    }
+
+-- ---- the terms
+
+module _ (numbers : ℕ → ℕ) (terms : Terms) (calls : List JudgedCallAt) (s : IsTimely numbers terms calls) where
+  abbrev kept : List CallAt
+  kept = kept_calls numbers calls
+
+  from : (newer older : List CallAt) (e : CallAt) → kept ≡ newer ++ e ∷ older → terms.quiet < e.time → FromLine numbers calls e older
+  from newer older e split late = from_line numbers terms.quiet calls s.order (λ newer older e split late. (s.alone newer older e split late).1) newer older e split late
+
+  module _ (newer older : List CallAt) (e : CallAt) (split : kept ≡ newer ++ e ∷ older) (late : terms.quiet < e.time) where
+    abbrev f : FromLine numbers calls e older
+    f = from newer older e split late
+
+    abbrev h : Judged
+    h = judged_at numbers f.before f.call.place
+
+    time_is : e.time ≡ f.call.time
+    time_is = ap (λ (c : CallAt). c.time) f.is
+
+    place_is : e.place ≡ f.call.place
+    place_is = ap (λ (c : CallAt). c.place) f.is
+
+    call_is : e.call ≡ Handed (plain_line (handed f.line h))
+    call_is = ap (λ (c : CallAt). c.call) f.is
+
+    later_than : terms.quiet < f.call.time
+    later_than = let same = time_is in omega (arith, late, same)
+
+    base_is : e ∷ older ≡ kept_calls numbers (f.call ∷ f.before)
+    base_is =
+        ap (λ (c : CallAt). c ∷ older) f.is
+        ∙ ap (λ (cs : List CallAt). at f.call.time f.call.place (plain_line (handed f.line h)) ∷ cs) f.older_is
+        ∙ sym (takes_is numbers f.call f.before f.line f.takes)
+
+    there_is : (i : ℕ) → kept_at numbers older i ≡ (judged_at numbers f.before i).kept
+    there_is i = ap (λ (cs : List CallAt). kept_at numbers cs i) f.older_is ∙ sym (judged_is_kept numbers f.before i)
+
+    not_held : (line : RecordLine) → f.line ≡ Held line → ⊥
+    not_held line is = s.recalled f.later f.before f.call line f.split later_than (f.takes ∙ ap (λ (l : JudgedLine). Takes l) is)
+
+    not_drawn : (now : ℕ) (page : PageId) (op : Op) → f.line ≡ UserDrew now page op → ⊥
+    not_drawn now page op is = s.drawn f.later f.before f.call now page op f.split later_than (f.takes ∙ ap (λ (l : JudgedLine). Takes l) is)
+
+    alone_kept : Contains terms.live e.place × ((line : KeptLine) × (e.call ≡ Handed line))
+    alone_kept = (subst (Contains terms.live) (sym place_is) (s.alone f.later f.before f.call f.split later_than).0, (plain_line (handed f.line h), call_is))
+
+    drawn_kept : (now : ℕ) (page : PageId) (time : ℕ) (op : Op) → e.call ≡ Handed (Added now page time op) → ⊥
+    drawn_kept now page time op is =
+        subst DrawsNone (handed_one (plain_line (handed f.line h)) (Added now page time op) (sym call_is ∙ is)) (none_drawn f.line h not_drawn not_held)
+
+    soon_kept : (i : ℕ) → Contains terms.live i → e.time ≤ due (kept_at numbers older i) + (terms.lag i + terms.late)
+    soon_kept i live =
+        subst (λ (t : ℕ). t ≤ due (kept_at numbers older i) + (terms.lag i + terms.late)) (sym time_is)
+        (subst (λ (k : Keeping). f.call.time ≤ due k + (terms.lag i + terms.late)) (sym (there_is i)) (s.soon f.later f.before f.call i f.split live later_than))
+
+    room_kept : (i : ℕ) → Contains terms.live i → is_full (kept_at numbers (e ∷ older) i).host ≡ false
+    room_kept i live =
+        subst (λ (cs : List CallAt). is_full (kept_at numbers cs i).host ≡ false) (sym base_is)
+        (subst (λ (k : Keeping). is_full k.host ≡ false) (judged_is_kept numbers (f.call ∷ f.before) i) (s.room f.later (f.call ∷ f.before) i f.split live later_than))
+
+    -- ---- what is sent comes
+
+    taken : IsLineTaken f.line h
+    taken = taken_at numbers f.later f.before f.call f.line (subst (AreTaken numbers) f.split s.taken) f.takes
+
+    sends : (line : KeptLine) → e.call ≡ Handed line → (v : Datagram) → Contains (sent_by_doing (doing_of line) (kept_at numbers older e.place)) v → SaysAs f.line h v
+    sends line called v c =
+        let is : line ≡ plain_line (handed f.line h) = handed_one line (plain_line (handed f.line h)) (sym called ∙ call_is) in
+        let here : kept_at numbers older e.place ≡ h.kept = ap (λ (i : ℕ). kept_at numbers older i) place_is ∙ there_is f.call.place in
+        let said = subst (λ (k : Keeping). Contains (sent_by_doing (doing_of (plain_line (handed f.line h))) k) v) here
+        (subst (λ (l : KeptLine). Contains (sent_by_doing (doing_of l) (kept_at numbers older e.place)) v) is c) in
+        says_as f.line h (own_at numbers f.before f.call.place) taken v (subst (λ (vs : List Datagram). Contains vs v) (plain_sent (handed f.line h) h.kept) said)
+
+    module _ (j : ℕ) (v whole : Datagram) (same : plain whole ≡ v) (a : Arrives numbers f.later (f.call ∷ f.before) j (f.call.time + terms.delivery) whole) where
+      abbrev base : List JudgedCallAt
+      base = f.call ∷ f.before
+
+      abbrev mid : List JudgedCallAt
+      mid = a.between ++ base
+
+      abbrev there : Judged
+      there = judged_at numbers mid a.call.place
+
+      abbrev line : KeptLine
+      line = plain_line (handed (CameFrom a.now a.origin whole) there)
+
+      abbrev arrival : CallAt
+      arrival = at a.call.time a.call.place line
+
+      abbrev front : List CallAt
+      front = (calls_split numbers a.later (a.call ∷ mid)).0
+
+      abbrev between : List CallAt
+      between = (calls_split numbers a.between base).0
+
+      calls_are : calls ≡ a.later ++ a.call ∷ mid
+      calls_are = f.split ∙ ap (λ (cs : List JudgedCallAt). cs ++ base) a.split ∙ append_assoc a.later (a.call ∷ a.between) base
+
+      mid_is : kept_calls numbers mid ≡ between ++ e ∷ older
+      mid_is = (calls_split numbers a.between base).1 ∙ ap (λ (cs : List CallAt). between ++ cs) (sym base_is)
+
+      newer_is : newer ≡ front ++ arrival ∷ between
+      newer_is = append_cancel_right newer (front ++ arrival ∷ between) (e ∷ older) (
+          sym split ∙ ap (kept_calls numbers) calls_are
+          ∙ (calls_split numbers a.later (a.call ∷ mid)).1
+          ∙ ap (λ (cs : List CallAt). front ++ cs) (takes_is numbers a.call mid (CameFrom a.now a.origin whole) a.is ∙ ap (λ (cs : List CallAt). arrival ∷ cs) mid_is)
+          ∙ sym (append_assoc front (arrival ∷ between) (e ∷ older)))
+
+      by_time : a.call.time ≤ e.time + terms.delivery
+      by_time = let soon = a.soon in let time = time_is in omega (arith, soon, time)
+
+      mid_time : kept_called_at (between ++ e ∷ older) ≤ a.call.time
+      mid_time =
+          let order = subst AreInOrder calls_are s.order in
+          let le = (order_part a.later (a.call ∷ mid) order).0 in
+          subst (λ (t : ℕ). t ≤ a.call.time) (sym (called_kept numbers mid) ∙ ap kept_called_at mid_is) le
+
+      host_is : (kept_at numbers (between ++ e ∷ older) j).host ≡ there.kept.host
+      host_is =
+          ap (λ (cs : List CallAt). (kept_at numbers cs j).host) (sym mid_is)
+          ∙ ap (λ (k : Keeping). k.host) (sym (judged_is_kept numbers mid j))
+          ∙ ap (λ (i : ℕ). (judged_at numbers mid i).kept.host) (sym a.place)
+
+      abbrev IsOfMemberAt : ℕ → Type 0
+      IsOfMemberAt i = IsOfMember a.now a.origin whole (judged_at numbers mid i)
+
+      comes : needs there.kept.host whole ≡ true → IsHandedIn newer j (e.time + terms.delivery) v
+      comes needed =
+          let let_in : handed (CameFrom a.now a.origin whole) there ≡ Came a.now whole =
+          needed_is_handed_in a.now a.origin whole there (subst IsOfMemberAt (sym a.place) a.member) needed in
+          record {
+            later = front;
+            call = arrival;
+            between = between;
+            split = newer_is;
+            place = a.place;
+            soon = by_time;
+            now = a.now;
+            is = ap (λ (l : KeptLine). Handed (plain_line l)) let_in ∙ ap (λ (w : Datagram). Handed (Came a.now w)) same;
+          }
+
+      spared : needs there.kept.host whole ≡ false → IsSpared numbers newer (e ∷ older) j (e.time + terms.delivery) v
+      spared none = record {
+        later = front ++ arrival ∷ [];
+        between = between;
+        split = newer_is ∙ sym (append_assoc front (arrival ∷ []) between);
+        soon = let early = mid_time in let le = by_time in omega (arith, early, le);
+        spared = ap (λ (host : Opened). needs host v) host_is ∙ ap (λ (w : Datagram). needs there.kept.host w) (sym same) ∙ needs_plain there.kept.host whole ∙ none;
+      }
+
+      arrives : IsHandedIn newer j (e.time + terms.delivery) v ⊎ IsSpared numbers newer (e ∷ older) j (e.time + terms.delivery) v
+      arrives = by (needs there.kept.host whole) refl where
+        by : (b : Bool) → needs there.kept.host whole ≡ b → IsHandedIn newer j (e.time + terms.delivery) v ⊎ IsSpared numbers newer (e ∷ older) j (e.time + terms.delivery) v
+        by true is = inl (comes is)
+        by false is = inr (spared is)
+
+    delivered_kept : (line : KeptLine) (j : ℕ) (v : Datagram) → e.call ≡ Handed line → Contains terms.live j → e.place ≢ j
+        → Contains (sent_by_doing (doing_of line) (kept_at numbers older e.place)) v
+        → e.time + terms.delivery < kept_called_at kept → IsHandedIn newer j (e.time + terms.delivery) v ⊎ IsSpared numbers newer (e ∷ older) j (e.time + terms.delivery) v
+    delivered_kept line j v called live apart c long =
+        let said = sends line called v c in
+        let time = time_is in
+        let end = called_kept numbers calls in
+        arrives j v said.whole said.same
+        (s.delivered f.later f.before f.call f.line j said.whole f.split f.takes live (λ here. apart (place_is ∙ here)) later_than said.sent (omega (arith, long, time, end)))
+
+    -- ---- what comes was sent
+
+    fresh_kept : settled_by terms < e.time → (now : ℕ) (v : Datagram) → e.call ≡ Handed (Came now v) → WasKeptSent numbers older e.time terms.delivery v
+    fresh_kept settled now v called =
+        let l = let_in f.line h now v not_held (handed_one (plain_line (handed f.line h)) (Came now v) (sym call_is ∙ called)) in
+        let time = time_is in
+        let w = s.fresh f.later f.before f.call l.now l.origin l.whole f.split (omega (arith, settled, time)) (f.takes ∙ ap (λ (x : JudgedLine). Takes x) l.is) l.lets in
+        let sender = judged_at numbers w.before w.e.place in
+        let line = plain_line (handed w.line sender) in
+        let part = calls_split numbers w.newer (w.e ∷ w.before) in
+        let among = order_and_taken w.newer w.before w.e w.split in
+        record {
+          newer = part.0;
+          e = at w.e.time w.e.place line;
+          before = kept_calls numbers w.before;
+          split = f.older_is ∙ ap (kept_calls numbers) w.split ∙ part.1 ∙ ap (λ (cs : List CallAt). part.0 ++ cs) (takes_is numbers w.e w.before w.line w.call);
+          soon = let soon = w.soon in omega (arith, soon, time);
+          line = line;
+          call = refl;
+          sent = subst (λ (k : Keeping). Contains (sent_by_doing (doing_of line) k) v) (judged_is_kept numbers w.before w.e.place)
+              (subst (λ (vs : List Datagram). Contains vs v) (sym (plain_sent (handed w.line sender) sender.kept))
+              (subst (λ (x : Datagram). Contains (sent_by_doing (doing_of (handed w.line sender)) sender.kept) x) l.same
+              (line_sends w.line sender (own_at numbers w.before w.e.place) (taken_at numbers w.newer w.before w.e w.line among w.call) l.whole w.sent)));
+        } where
+          taken_before : (newer older : List JudgedCallAt) → AreTaken numbers (newer ++ older) → AreTaken numbers older
+          taken_before [] older all = all
+          taken_before (x ∷ newer) older all = taken_before newer older all.1
+
+          order_and_taken : (newer before : List JudgedCallAt) (e : JudgedCallAt) → f.before ≡ newer ++ e ∷ before → AreTaken numbers (newer ++ e ∷ before)
+          order_and_taken newer before e is = subst (AreTaken numbers) is (taken_before f.later (f.call ∷ f.before) (subst (AreTaken numbers) f.split s.taken)).1
+
+  room_all : (newer older : List CallAt) (i : ℕ) → kept ≡ newer ++ older → Contains terms.live i → terms.quiet < kept_called_at older → is_full (kept_at numbers older i).host ≡ false
+  room_all newer [] i split live late = absurd (omega (arith, late))
+  room_all newer (e ∷ older) i split live late = room_kept newer older e split late i live
+
+  keeps_to_times : IsTimelyWithStarts numbers terms kept
+  keeps_to_times = record {
+    apart = s.apart;
+    taken = taken_kept numbers calls s.taken;
+    order = order_kept numbers calls s.order;
+    covered = s.covered;
+    far = s.far;
+    fitting = λ i live. fit_kept numbers terms i calls (s.fitting i live);
+    alone = λ newer older e split late. alone_kept newer older e split late;
+    drawn = λ newer older e now page time op split late is. drawn_kept newer older e split late now page time op is;
+    soon = λ newer older e i split live late. soon_kept newer older e split late i live;
+    room = room_all;
+    delivered = λ newer older e line j v split called live apart late c long. delivered_kept newer older e split late line j v called live apart c long;
+    fresh = λ newer older e now v split settled called. fresh_kept newer older e split (omega (arith, settled)) settled now v called;
+  }
+
+pub judged_is_timely : JudgedIsTimely
+judged_is_timely numbers terms calls s = keeps_to_times numbers terms calls s

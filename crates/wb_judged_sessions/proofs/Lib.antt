@@ -1,0 +1,13 @@
+pub mod Plain
+pub mod Kept
+pub mod Drawn
+pub mod Terms
+pub mod Records
+pub mod Echoes
+pub mod Sent
+pub mod True
+pub mod Listening
+pub mod Examples
+pub mod Timely
+pub mod InTime
+pub mod Whole

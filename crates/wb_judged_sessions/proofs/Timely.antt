@@ -1,0 +1,252 @@
+-- A session of judged members that keeps to times is one of self-managing members that does.
+use Rattle.std.proofs.Common.{◌≡◌, ◌<◌, ◌≤◌, ℕ, Bool, true, false, List, [], ◌∷◌, ◌++◌, ◌∙◌, None, ap, arith, eqb-true, map, refl, subst, sym, ⊎_elim}
+use Rattle.std.specs.Prelude.{Contains, Option, Some, nat_eq, nat_lt}
+use Rattle.std.proofs.lemmas.Bool.{ltb-true}
+use Rattle.std.proofs.lemmas.Bool.Decides.{nat_tests}
+use Rattle.std.proofs.lemmas.List.Elements.{Contains-append_right}
+use Rattle.wb_names.proofs.Listings.{Contains-cases, Contains-here, Contains-none}
+use Rattle.wb_codec.specs.declared.datagram.Datagram.{Datagram}
+use Rattle.wb_judge.specs.declared.verdict.Why.{Why}
+use Rattle.wb_progress.specs.Turns.{IsNowAt, Terms}
+use Rattle.wb_member.specs.Opened.{present}
+use Rattle.wb_keeping.specs.Laws.{Added, Came, KeptLine, Ticked, Tuned, doing_of}
+use Rattle.wb_keeping.specs.Performing.{after_doing}
+use Rattle.wb_judging.specs.Handing.{handed, handed_for, recalled, verdict_on}
+use Rattle.wb_judging.specs.Judged.{CameFrom, DayTold, Garbled, GoneFrom, Held, Judged, JudgedLine, Passed, UserDrew, moment_of}
+use Rattle.wb_judging.specs.Laws.{expanded}
+use Rattle.wb_judging.specs.Performing.{after_judged, after_kept_line}
+use Rattle.wb_judging.specs.declared.record.RecordLine.{RecordLine}
+use Rattle.wb_judging.specs.declared.record.RecordLine.TheVariants.{Known, Mark, Said, Strange, Tick}
+use Rattle.wb_laws_kept.specs.Openings.{opened_host}
+use Rattle.wb_laws_kept.specs.Sessions.{Begins, CallAt, Handed}
+use Rattle.wb_kept_progress.specs.Since.{AreFittingSince as AreKeptFitting, AreInOrder as AreKeptInOrder, IsFitting, IsFittingSince as IsKeptFitting, called_at as kept_called_at}
+use Rattle.wb_kept_progress.proofs.Moments.{moment_of as kept_moment, told_itself}
+use Rattle.wb_kept_progress.proofs.StillCalls.{IsTuning, call_now}
+use Rattle.wb_judged_sessions.specs.Sessions.{JudgedCall, JudgedCallAt, Start, Starts, Takes, judged_at, kept_calls, kept_then, lines_then, plain_line, started}
+use Rattle.wb_judged_sessions.specs.Terms.{AreTaken, IsLineTaken, IsTaken}
+use Rattle.wb_judged_sessions.specs.Timely.{AreFittingSince, AreInOrder, IsFittingSince, called_at}
+use Rattle.wb_judged_sessions.proofs.Kept.{at}
+use Rattle.wb_judged_sessions.proofs.Records.{number_at}
+use Rattle.wb_judged_sessions.proofs.Terms.{begins}
+
+-- ---- times
+
+module _ (time place : ℕ) where
+  called_lines : (lines : List KeptLine) (older : List CallAt) → kept_called_at older ≡ time → kept_called_at (lines_then time place lines older) ≡ time
+  called_lines [] older is = is
+  called_lines (line ∷ lines) older is = called_lines lines (at time place line ∷ older) refl
+
+  called_call : (numbers : ℕ → ℕ) (call : JudgedCall) (h : Judged) (older : List CallAt) → kept_called_at (kept_then time place call h older) ≡ time
+  called_call numbers (Starts start given) h older = called_lines (expanded (map Held given) (started h.kept.host.is.number start)) (begins numbers time place start ∷ older) refl
+  called_call numbers (Takes line) h older = refl
+
+  order_lines : (lines : List KeptLine) (older : List CallAt) → kept_called_at older ≤ time → AreKeptInOrder older → AreKeptInOrder (lines_then time place lines older)
+  order_lines [] older le order = order
+  order_lines (line ∷ lines) older le order = order_lines lines (at time place line ∷ older) (omega arith) (le, order)
+
+  order_call : (numbers : ℕ → ℕ) (call : JudgedCall) (h : Judged) (older : List CallAt) → kept_called_at older ≤ time → AreKeptInOrder older → AreKeptInOrder (kept_then time place call h older)
+  order_call numbers (Starts start given) h older le order =
+      order_lines (expanded (map Held given) (started h.kept.host.is.number start)) (begins numbers time place start ∷ older) (omega arith) (le, order)
+  order_call numbers (Takes line) h older le order = (le, order)
+
+module _ (numbers : ℕ → ℕ) where
+  pub called_kept : (calls : List JudgedCallAt) → kept_called_at (kept_calls numbers calls) ≡ called_at calls
+  called_kept [] = refl
+  called_kept (e ∷ older) = called_call e.time e.place numbers e.call (judged_at numbers older e.place) (kept_calls numbers older)
+
+  pub order_kept : (calls : List JudgedCallAt) → AreInOrder calls → AreKeptInOrder (kept_calls numbers calls)
+  order_kept [] order = tt
+  order_kept (e ∷ older) order =
+      order_call e.time e.place numbers e.call (judged_at numbers older e.place) (kept_calls numbers older) (subst (λ (t : ℕ). t ≤ e.time) (sym (called_kept older)) order.0) (order_kept older order.1)
+
+-- times of the newer calls are no earlier
+pub later_calls : (newer older : List JudgedCallAt) → AreInOrder (newer ++ older) → (c : JudgedCallAt) → Contains newer c → called_at older ≤ c.time
+later_calls [] older order c among = absurd (Contains-none c among)
+later_calls (e ∷ newer) older order c among = ⊎_elim
+    (λ (now : e ≡ c). subst (λ (x : JudgedCallAt). called_at older ≤ x.time) now (by newer order.0 order.1 (later_calls newer older order.1)))
+    (λ (before : Contains newer c). later_calls newer older order.1 c before)
+    (Contains-cases e c newer among) where
+      by : (newer : List JudgedCallAt) → called_at (newer ++ older) ≤ e.time → AreInOrder (newer ++ older) → ((c : JudgedCallAt) → Contains newer c → called_at older ≤ c.time)
+          → called_at older ≤ e.time
+      by [] le order rest = le
+      by (x ∷ newer) le order rest = let first = rest x (Contains-here x newer) in omega (arith, le, first)
+
+-- ---- moments
+
+recalled_now : (line : RecordLine) (now : ℕ) → kept_moment (recalled now line) ≡ now
+recalled_now (Tick past) now = refl
+recalled_now (Said d) now = refl
+recalled_now (Known d) now = refl
+recalled_now (Strange d) now = refl
+recalled_now (Mark speaker page mark) now = refl
+
+present_recalled : (line : RecordLine) (h : Judged) → present (after_judged (Held line) h).kept.host ≡ present h.kept.host
+unfolding after_kept_line
+present_recalled line h =
+    let call = recalled (present h.kept.host) line in
+    ⊎_elim
+    (λ (t : IsTuning (doing_of call) h.kept). t.now_is)
+    (λ (now : present (after_doing (doing_of call) h.kept).host ≡ kept_moment call). now ∙ recalled_now line (present h.kept.host))
+    (call_now call h.kept (kept_moment call) (told_itself call))
+
+-- a line that says a moment of its time, and sets no constants
+module _ (terms : Terms) (time place : ℕ) where
+  fits_recalled : (now : ℕ) (line : RecordLine) → IsNowAt terms time place now → IsFitting terms time place (recalled now line)
+  fits_recalled now (Tick past) is = record { says = is; tuned = λ constants e. absurd cc }
+  fits_recalled now (Said d) is = record { says = is; tuned = λ constants e. absurd cc }
+  fits_recalled now (Known d) is = record { says = is; tuned = λ constants e. absurd cc }
+  fits_recalled now (Strange d) is = record { says = is; tuned = λ constants e. absurd cc }
+  fits_recalled now (Mark speaker page mark) is = record { says = is; tuned = λ constants e. absurd cc }
+
+  fits_came : (now : ℕ) (v : Datagram) (why : Option Why) → IsNowAt terms time place now → IsFitting terms time place (plain_line (handed_for now v why))
+  fits_came now v None is = record { says = is; tuned = λ constants e. absurd cc }
+  fits_came now v (Some why) is = record { says = is; tuned = λ constants e. absurd cc }
+
+  fits_plain : (line : KeptLine) → IsFitting terms time place line → IsFitting terms time place (plain_line line)
+  fits_plain (Came now v) fits = record { says = fits.says; tuned = λ constants e. absurd cc }
+  fits_plain (Ticked now) fits = fits
+  fits_plain (Added now page t op) fits = fits
+  fits_plain (Tuned constants) fits = fits
+
+  fits_line : (line : JudgedLine) (h : Judged) → IsNowAt terms time place (moment_of line h) → IsFitting terms time place (plain_line (handed line h))
+  fits_line (CameFrom now o v) h is = fits_came now v (verdict_on now o v h).why is
+  fits_line (Garbled now) h is = record { says = is; tuned = λ constants e. absurd cc }
+  fits_line (Passed now) h is = record { says = is; tuned = λ constants e. absurd cc }
+  fits_line (DayTold now wall) h is = record { says = is; tuned = λ constants e. absurd cc }
+  fits_line (GoneFrom now o) h is = record { says = is; tuned = λ constants e. absurd cc }
+  fits_line (UserDrew now page op) h is = record { says = is; tuned = λ constants e. absurd cc }
+  fits_line (Held line) h is = fits_plain (recalled (present h.kept.host) line) (fits_recalled (present h.kept.host) line is)
+
+  abbrev Fit : List KeptLine → Type 0
+  Fit [] = Unit {0}
+  Fit (line ∷ lines) = IsFitting terms time place line × Fit lines
+
+  fits_record : (given : List RecordLine) (h : Judged) (now : ℕ) → present h.kept.host ≡ now → IsNowAt terms time place now → Fit (expanded (map Held given) h)
+  fits_record [] h now same is = tt
+  fits_record (line ∷ given) h now same is =
+      let here = subst (λ (t : ℕ). IsNowAt terms time place t) (sym same) is in
+      (fits_recalled (present h.kept.host) line here, fits_record given (after_judged (Held line) h) now (present_recalled line h ∙ same) is)
+
+-- ---- what is fitting since the last start
+
+module _ (terms : Terms) (number i time place : ℕ) where
+  -- lines at the place, and elsewhere
+  fit_there : nat_eq place i ≡ true → (lines : List KeptLine) (older : List CallAt) → Fit terms time i lines → AreKeptFitting terms number i older
+      → AreKeptFitting terms number i (lines_then time place lines older)
+  fit_there here [] older fit rest = rest
+  fit_there here (line ∷ lines) older fit rest =
+      fit_there here lines (at time place line ∷ older) fit.1
+      (subst (λ (b : Bool). IsKeptFitting terms number i b time (Handed line) (AreKeptFitting terms number i older)) (sym here) (fit.0, rest))
+
+  fit_elsewhere : nat_eq place i ≡ false → (lines : List KeptLine) (older : List CallAt) → AreKeptFitting terms number i older → AreKeptFitting terms number i (lines_then time place lines older)
+  fit_elsewhere other [] older rest = rest
+  fit_elsewhere other (line ∷ lines) older rest =
+      fit_elsewhere other lines (at time place line ∷ older) (subst (λ (b : Bool). IsKeptFitting terms number i b time (Handed line) (AreKeptFitting terms number i older)) (sym other) rest)
+
+  fit_takes : (b : Bool) → nat_eq place i ≡ b → (line : JudgedLine) (h : Judged) (older : List CallAt) (before : Type 0) → IsFittingSince terms number i b time (Takes line) h before
+      → (before → AreKeptFitting terms number i older)
+      → AreKeptFitting terms number i (lines_then time place (plain_line (handed line h) ∷ []) older)
+  fit_takes true here line h older before is rest = fit_there here (plain_line (handed line h) ∷ []) older (fits_line terms time i line h is.0, tt) (rest is.1)
+  fit_takes false other line h older before is rest = fit_elsewhere other (plain_line (handed line h) ∷ []) older (rest is)
+
+  fit_starts : (numbers : ℕ → ℕ) (b : Bool) → nat_eq place i ≡ b → (start : Start) (given : List RecordLine) (h : Judged) → h.kept.host.is.number ≡ number → (older : List CallAt) (before : Type 0)
+      → IsFittingSince terms number i b time (Starts start given) h before → (before → AreKeptFitting terms number i older)
+      → AreKeptFitting terms number i (kept_then time place (Starts start given) h older)
+  fit_starts numbers true here start given h own older before is rest =
+      let first = started h.kept.host.is.number start in
+      let now = subst (λ (n : ℕ). IsNowAt terms time i (present (opened_host n start.opening))) (sym own) is.1 in
+      fit_there here (expanded (map Held given) first) (begins numbers time place start ∷ older) (fits_record terms time i given first (present first.kept.host) refl now)
+      (subst (λ (b : Bool). IsKeptFitting terms number i b time (Begins start.opening []) (AreKeptFitting terms number i older)) (sym here) is)
+  fit_starts numbers false other start given h own older before is rest =
+      fit_elsewhere other (expanded (map Held given) (started h.kept.host.is.number start)) (begins numbers time place start ∷ older)
+      (subst (λ (b : Bool). IsKeptFitting terms number i b time (Begins start.opening []) (AreKeptFitting terms number i older)) (sym other) (rest is))
+
+  fit_call : (numbers : ℕ → ℕ) (call : JudgedCall) (h : Judged) → (nat_eq place i ≡ true → h.kept.host.is.number ≡ number) → (older : List CallAt) (before : Type 0)
+      → IsFittingSince terms number i (nat_eq place i) time call h before → (before → AreKeptFitting terms number i older) → AreKeptFitting terms number i (kept_then time place call h older)
+  fit_call numbers (Takes line) h own older before is rest = fit_takes (nat_eq place i) refl line h older before is rest
+  fit_call numbers (Starts start given) h own older before is rest = by (nat_eq place i) refl is where
+    by : (b : Bool) → nat_eq place i ≡ b → IsFittingSince terms number i b time (Starts start given) h before → AreKeptFitting terms number i (kept_then time place (Starts start given) h older)
+    by true here is = fit_starts numbers true here start given h (own here) older before is rest
+    by false other is =
+        fit_elsewhere other (expanded (map Held given) (started h.kept.host.is.number start)) (begins numbers time place start ∷ older)
+        (subst (λ (b : Bool). IsKeptFitting terms number i b time (Begins start.opening []) (AreKeptFitting terms number i older)) (sym other) (rest is))
+
+pub fit_kept : (numbers : ℕ → ℕ) (terms : Terms) (i : ℕ) (calls : List JudgedCallAt) → AreFittingSince terms numbers i calls → AreKeptFitting terms (numbers i) i (kept_calls numbers calls)
+fit_kept numbers terms i [] is = absurd is
+fit_kept numbers terms i (e ∷ older) is =
+    fit_call terms (numbers i) i e.time e.place numbers e.call (judged_at numbers older e.place) (λ here. number_at numbers older e.place ∙ ap numbers (eqb-true e.place i here))
+    (kept_calls numbers older) (AreFittingSince terms numbers i older) is (fit_kept numbers terms i older)
+
+-- ---- a call after `quiet` is one line
+
+pub taken_at : (numbers : ℕ → ℕ) (newer older : List JudgedCallAt) (e : JudgedCallAt) (line : JudgedLine) → AreTaken numbers (newer ++ e ∷ older) → e.call ≡ Takes line
+    → IsLineTaken line (judged_at numbers older e.place)
+taken_at numbers [] older e line taken takes = subst (λ (call : JudgedCall). IsTaken call (judged_at numbers older e.place)) takes taken.0
+taken_at numbers (x ∷ newer) older e line taken takes = taken_at numbers newer older e line taken.1 takes
+
+pub order_part : (newer older : List JudgedCallAt) → AreInOrder (newer ++ older) → AreInOrder older
+order_part [] older order = order
+order_part (e ∷ newer) older order = order_part newer older order.1
+
+kept_no_later : (cs : List CallAt) (c : CallAt) → AreKeptInOrder cs → Contains cs c → c.time ≤ kept_called_at cs
+kept_no_later [] c order among = absurd (Contains-none c among)
+kept_no_later (x ∷ cs) c order among = ⊎_elim
+    (λ (now : x ≡ c). subst (λ (y : CallAt). y.time ≤ x.time) now (omega arith))
+    (λ (before : Contains cs c). let le = kept_no_later cs c order.1 before in let first = order.0 in omega (arith, le, first))
+    (Contains-cases x c cs among)
+
+pub takes_is : (numbers : ℕ → ℕ) (e : JudgedCallAt) (older : List JudgedCallAt) (line : JudgedLine) → e.call ≡ Takes line
+    → kept_calls numbers (e ∷ older) ≡ at e.time e.place (plain_line (handed line (judged_at numbers older e.place))) ∷ kept_calls numbers older
+takes_is numbers e older line takes = ap (λ (call : JudgedCall). kept_then e.time e.place call (judged_at numbers older e.place) (kept_calls numbers older)) takes
+
+-- a call of a self-managing member is that of a line of a judged one
+pub record FromLine (numbers : ℕ → ℕ) (calls : List JudgedCallAt) (e : CallAt) (older : List CallAt) : Type 0 where
+  pub later : List JudgedCallAt
+  pub call : JudgedCallAt
+  pub before : List JudgedCallAt
+  pub split : calls ≡ later ++ call ∷ before
+  pub line : JudgedLine
+  pub takes : call.call ≡ Takes line
+  pub is : e ≡ at call.time call.place (plain_line (handed line (judged_at numbers before call.place)))
+  pub older_is : older ≡ kept_calls numbers before
+
+not_less : (a b : ℕ) → nat_lt a b ≡ false → b ≤ a
+not_less a b e = grind (arith, nat_tests)
+
+one_more : (numbers : ℕ → ℕ) (calls : List JudgedCallAt) (c : JudgedCallAt) (e : CallAt) (older : List CallAt) → FromLine numbers calls e older → FromLine numbers (c ∷ calls) e older
+one_more numbers calls c e older f =
+    record { later = c ∷ f.later; call = f.call; before = f.before; split = ap (λ (cs : List JudgedCallAt). c ∷ cs) f.split; line = f.line; takes = f.takes; is = f.is; older_is = f.older_is }
+
+abbrev TakeLines : ℕ → List JudgedCallAt → Type 0
+TakeLines quiet calls = (newer older : List JudgedCallAt) (e : JudgedCallAt) → calls ≡ newer ++ e ∷ older → quiet < e.time → (line : JudgedLine) × (e.call ≡ Takes line)
+
+pub from_line : (numbers : ℕ → ℕ) (quiet : ℕ) (calls : List JudgedCallAt) → AreInOrder calls → TakeLines quiet calls → (newer older : List CallAt) (e : CallAt)
+    → kept_calls numbers calls ≡ newer ++ e ∷ older → quiet < e.time → FromLine numbers calls e older
+from_line numbers quiet [] order alone newer older e split late =
+    absurd (Contains-none e (subst (λ (cs : List CallAt). Contains cs e) (sym split) (Contains-append_right newer (e ∷ older) e (Contains-here e older))))
+from_line numbers quiet (c ∷ rest) order alone newer older e split late =
+    by (nat_lt quiet c.time) refl
+    (λ newer split. from_line numbers quiet rest order.1 (λ newer older e split late. alone (c ∷ newer) older e (ap (λ (cs : List JudgedCallAt). c ∷ cs) split) late) newer older e split late) where
+      kept : List CallAt
+      kept = kept_calls numbers (c ∷ rest)
+
+      among : Contains kept e
+      among = subst (λ (cs : List CallAt). Contains cs e) (sym split) (Contains-append_right newer (e ∷ older) e (Contains-here e older))
+
+      early : nat_lt quiet c.time ≡ false → ⊥
+      early above =
+          let le = kept_no_later kept e (order_kept numbers (c ∷ rest) order) among in
+          let at_c = called_kept numbers (c ∷ rest) in
+          let not = not_less quiet c.time above in
+          omega (arith, le, at_c, late, not)
+
+      with_line : (t : (line : JudgedLine) × (c.call ≡ Takes line)) → ((newer : List CallAt) → kept_calls numbers rest ≡ newer ++ e ∷ older → FromLine numbers rest e older)
+          → (newer : List CallAt) → at c.time c.place (plain_line (handed t.0 (judged_at numbers rest c.place))) ∷ kept_calls numbers rest ≡ newer ++ e ∷ older → FromLine numbers (c ∷ rest) e older
+      with_line t again [] split = record { later = []; call = c; before = rest; split = refl; line = t.0; takes = t.1; is = sym cc; older_is = sym cc }
+      with_line t again (x ∷ newer) split =
+          let same : kept_calls numbers rest ≡ newer ++ e ∷ older = cc in
+          one_more numbers rest c e older (again newer same)
+
+      by : (b : Bool) → nat_lt quiet c.time ≡ b → ((newer : List CallAt) → kept_calls numbers rest ≡ newer ++ e ∷ older → FromLine numbers rest e older) → FromLine numbers (c ∷ rest) e older
+      by true is again = let t = alone [] rest c refl (ltb-true _ _ is) in with_line t again newer (sym (takes_is numbers c rest t.0 t.1) ∙ split)
+      by false is again = absurd (early is)

@@ -1,0 +1,5 @@
+pub mod Sessions
+pub mod Terms
+pub mod Laws
+pub mod Examples
+pub mod Timely

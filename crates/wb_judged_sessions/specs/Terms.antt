@@ -1,0 +1,138 @@
+-- What is asked of a session of judged members, and of the records of their programs.
+use Rattle.std.specs.Prelude.{◌≡◌, ◌⊎◌, ℕ, ◌≤◌, List, [], ◌∷◌, ◌++◌, Contains, None, map, nat_eq, option_to_list, if◌then◌else◌}
+use Rattle.wb_names.specs.Arrivals.{history_after}
+use Rattle.wb_names.specs.Values.{DrawopValue}
+use Rattle.wb_names.specs.declared.name.PageId.{PageId}
+use Rattle.wb_names.specs.declared.parts.Op.{Op}
+use Rattle.wb_member.specs.Opened.{last_number, present}
+use Rattle.wb_keeping.specs.Laws.{Added, Came, KeptLine, Ticked, Tuned}
+use Rattle.wb_judging.specs.Handing.{handed}
+use Rattle.wb_judging.specs.Judged.{CameFrom, DayTold, Garbled, GoneFrom, Held, Judged, JudgedLine, Passed, UserDrew}
+use Rattle.wb_judging.specs.Laws.{drawops_of, record_of}
+use Rattle.wb_judging.specs.Performing.{after_judged}
+use Rattle.wb_judging.specs.Refusing.{draw_fault, held_fault}
+use Rattle.wb_judging.specs.declared.record.RecordLine.{RecordLine}
+use Rattle.wb_laws_kept.specs.Openings.{IsOpening}
+use Rattle.wb_laws_kept.specs.Restarts.{drawop_in}
+use Rattle.wb_laws_sessions.specs.Sessions.{AreApart}
+use Rattle.wb_judged_sessions.specs.Sessions.{JudgedCall, JudgedCallAt, Start, Starts, Takes, WasHeld, drawn_at, judged_at, started}
+
+-- ---- no line is refused
+
+-- Time does not go back; the user draws if nobody has the number too and a cell is left; and of the
+-- record no line has a number of ours that we would never reach. Nothing else is ever refused.
+abbrev pub IsLineTaken : JudgedLine → Judged → Type 0
+IsLineTaken (CameFrom now o v) h = present h.kept.host ≤ now
+IsLineTaken (Garbled now) h = present h.kept.host ≤ now
+IsLineTaken (Passed now) h = present h.kept.host ≤ now
+IsLineTaken (DayTold now wall) h = present h.kept.host ≤ now
+IsLineTaken (GoneFrom now o) h = present h.kept.host ≤ now
+IsLineTaken (UserDrew now page op) h = draw_fault now page op h ≡ None
+IsLineTaken (Held line) h = held_fault line h ≡ None
+
+abbrev pub AreLinesTaken : List JudgedLine → Judged → Type 0
+AreLinesTaken [] h = Unit {0}
+AreLinesTaken (line ∷ lines) h = IsLineTaken line h × AreLinesTaken lines (after_judged line h)
+
+abbrev pub IsTaken : JudgedCall → Judged → Type 0
+IsTaken (Starts start given) h =
+    IsOpening start.opening × AreLinesTaken (map Held given) (started h.kept.host.is.number start)
+IsTaken (Takes line) h = IsLineTaken line h
+
+abbrev pub AreTaken : (ℕ → ℕ) → List JudgedCallAt → Type 0
+AreTaken numbers [] = Unit {0}
+AreTaken numbers (e ∷ older) =
+    IsTaken e.call (judged_at numbers older e.place) × AreTaken numbers older
+
+-- ---- what comes was held
+
+-- the drawops that a call hands in: of the record, or one that came and that the judge lets in
+abbrev pub came_in : KeptLine → List DrawopValue
+came_in (Came now v) = option_to_list (drawop_in v)
+came_in (Ticked now) = []
+came_in (Added now page time op) = []
+came_in (Tuned constants) = []
+
+abbrev pub brought_by : JudgedCall → Judged → List DrawopValue
+brought_by (Starts start given) h = drawops_of given
+brought_by (Takes line) h = came_in (handed line h)
+
+-- Some member held each of them before: members send, hand on and record only what they hold. What
+-- the judge drops may be anything, and so may reports, requests and questions, from whatever origin.
+-- Under a key nobody else can speak; without one it is asked of people that they forge no drawops.
+abbrev pub DrawopsWereHeld : (ℕ → ℕ) → List JudgedCallAt → Type 0
+DrawopsWereHeld numbers [] = Unit {0}
+DrawopsWereHeld numbers (e ∷ older) =
+    ((d : DrawopValue) → Contains (brought_by e.call (judged_at numbers older e.place)) d → WasHeld numbers older d)
+    × DrawopsWereHeld numbers older
+
+-- ---- members know their own numbers
+
+-- The last number of its own that the member at a place knows on a page, by what it holds or heard,
+-- is as great as each that it drew there, by all runs of its program.
+abbrev pub KnowsItsOwn : (ℕ → ℕ) → List JudgedCallAt → ℕ → PageId → Type 0
+KnowsItsOwn numbers older i page =
+    (d : DrawopValue) → Contains (drawn_at numbers older i) d → d.name.page ≡ page
+    → d.name.seq ≤ last_number page (judged_at numbers older i).kept.host
+
+-- So it is whenever its user draws.
+abbrev pub KnowTheirOwn : (ℕ → ℕ) → List JudgedCallAt → Type 0
+KnowTheirOwn numbers [] = Unit {0}
+KnowTheirOwn numbers (e ∷ older) =
+    ((now : ℕ) (page : PageId) (op : Op) → e.call ≡ Takes (UserDrew now page op)
+    → KnowsItsOwn numbers older e.place page)
+    × KnowTheirOwn numbers older
+
+-- No two places have one number, no line is refused, each drawop that is let in was held, and
+-- members know their own numbers.
+pub record IsSession (numbers : ℕ → ℕ) (calls : List JudgedCallAt) : Type 0 where
+  pub apart : AreApart numbers
+  pub taken : AreTaken numbers calls
+  pub held : DrawopsWereHeld numbers calls
+  pub know : KnowTheirOwn numbers calls
+
+-- ---- records
+
+-- A board of so many cells that takes the drawops of the record has all that the member at the
+-- place drew. What others drew may be missing.
+abbrev pub IsWholeRecord : (ℕ → ℕ) → List JudgedCallAt → ℕ → Start → List RecordLine → Type 0
+IsWholeRecord numbers older i start given =
+    (d : DrawopValue) → Contains (drawn_at numbers older i) d
+    → Contains (history_after start.opening.cells [] (drawops_of given)) d
+
+-- Each program starts with such a record.
+abbrev pub RecordsAreWhole : (ℕ → ℕ) → List JudgedCallAt → Type 0
+RecordsAreWhole numbers [] = Unit {0}
+RecordsAreWhole numbers (e ∷ older) =
+    ((start : Start) (given : List RecordLine) → e.call ≡ Starts start given
+    → IsWholeRecord numbers older e.place start given)
+    × RecordsAreWhole numbers older
+
+-- The file of the member at a place: what its program was given when it started, and then what the
+-- member told its driver to record, or was handed as a line of the record.
+abbrev pub file_after : JudgedCall → Judged → List RecordLine → List RecordLine
+file_after (Starts start given) h file = given
+file_after (Takes line) h file = file ++ record_of line h
+
+abbrev pub file_at : (ℕ → ℕ) → List JudgedCallAt → ℕ → List RecordLine
+file_at numbers [] i = []
+file_at numbers (e ∷ older) i =
+    if nat_eq e.place i then file_after e.call (judged_at numbers older i) (file_at numbers older i)
+    else file_at numbers older i
+
+-- A program is given the drawops of its file, in their order, and has as many cells as before. If
+-- nothing is in its file, it may be given anything, as the record of another number.
+abbrev pub IsItsFile : (ℕ → ℕ) → List JudgedCallAt → ℕ → Start → List RecordLine → Type 0
+IsItsFile numbers older i start given =
+    (file_at numbers older i ≡ [])
+    ⊎ ((drawops_of given ≡ drawops_of (file_at numbers older i))
+    × (start.opening.cells ≡ (judged_at numbers older i).kept.host.is.cells))
+
+-- Each program starts so. live/board.py writes what is to be recorded before it sends what follows
+-- in the block, and gives a new host what was written (tests/live/test_keeping.py).
+abbrev pub KeepFiles : (ℕ → ℕ) → List JudgedCallAt → Type 0
+KeepFiles numbers [] = Unit {0}
+KeepFiles numbers (e ∷ older) =
+    ((start : Start) (given : List RecordLine) → e.call ≡ Starts start given
+    → IsItsFile numbers older e.place start given)
+    × KeepFiles numbers older

@@ -1,0 +1,135 @@
+-- By when all of a session has come to judged members, if from some time on nobody draws or starts, and nothing is lost.
+use Rattle.std.specs.Prelude.{◌≡◌, ◌≢◌, ℕ, ◌+◌, ◌<◌, ◌≤◌, ◌*◌, Bool, true, false, List, [], ◌∷◌, ◌++◌, Contains, nat_eq}
+use Rattle.wb_names.specs.Values.{NameValue}
+use Rattle.wb_names.specs.declared.name.PageId.{PageId}
+use Rattle.wb_names.specs.declared.parts.Op.{Op}
+use Rattle.wb_codec.specs.declared.datagram.Datagram.{Datagram}
+use Rattle.wb_judge.specs.declared.origin.Origin.{Origin}
+use Rattle.wb_progress.specs.Bounds.{IsUnder}
+use Rattle.wb_progress.specs.Turns.{IsNowAt, Terms, longest, settled_by}
+use Rattle.wb_member.specs.Judged.{holds, is_full}
+use Rattle.wb_member.specs.Opened.{present}
+use Rattle.wb_keeping.specs.Laws.{Came}
+use Rattle.wb_keeping.specs.Performing.{due}
+use Rattle.wb_judging.specs.Handing.{handed}
+use Rattle.wb_judging.specs.Judged.{CameFrom, Held, Judged, JudgedLine, UserDrew, moment_of}
+use Rattle.wb_judging.specs.Laws.{sends_in}
+use Rattle.wb_judging.specs.Members.{IsOfMember}
+use Rattle.wb_judging.specs.Performing.{events_of}
+use Rattle.wb_judging.specs.declared.record.RecordLine.{RecordLine}
+use Rattle.wb_laws_kept.specs.Openings.{opened_host}
+use Rattle.wb_laws_sessions.specs.Sessions.{AreApart}
+use Rattle.wb_kept_progress.specs.Agreement.{LookAlike}
+use Rattle.wb_kept_progress.specs.Rounds.{OneLacksAtMost, PlacesAreFilled, rounds_by}
+use Rattle.wb_kept_progress.specs.Since.{IsTimelyWithStarts, hosts_of, since}
+use Rattle.wb_kept_progress.specs.Timed.{greatest_distance}
+use Rattle.wb_kept_progress.specs.Whole.{AreSoon, AreWithin, IsHeldBySome, LackAtMost, NewAreKept, ReportWithin, Sizes, WaitAtMost, request_span, whole_by}
+use Rattle.wb_judged_sessions.specs.Sessions.{JudgedCall, JudgedCallAt, Starts, Takes, judged_at, kept_calls}
+use Rattle.wb_judged_sessions.specs.Terms.{AreTaken, IsSession}
+
+-- ---- what they keep to
+
+-- the time of the newest call, at first 0; times do not go back
+abbrev pub called_at : List JudgedCallAt → ℕ
+called_at [] = 0
+called_at (e ∷ older) = e.time
+
+abbrev pub AreInOrder : List JudgedCallAt → Type 0
+AreInOrder [] = Unit {0}
+AreInOrder (e ∷ older) = (called_at older ≤ e.time) × AreInOrder older
+
+-- The last start was at `quiet` or before, at a moment that the clock may tell then, and with such constants. Each line since then says a moment of
+-- its time.
+abbrev pub IsFittingSince : Terms → ℕ → ℕ → Bool → ℕ → JudgedCall → Judged → Type 0 → Type 0
+IsFittingSince terms number place false time call h before = before
+IsFittingSince terms number place true time (Starts start given) h before =
+    (time ≤ terms.quiet) × IsNowAt terms time place (present (opened_host number start.opening)) × IsUnder (longest terms) start.opening.constants
+IsFittingSince terms number place true time (Takes line) h before = IsNowAt terms time place (moment_of line h) × before
+
+abbrev pub AreFittingSince : Terms → (ℕ → ℕ) → ℕ → List JudgedCallAt → Type 0
+AreFittingSince terms numbers place [] = ⊥
+AreFittingSince terms numbers place (e ∷ older) =
+    IsFittingSince terms (numbers place) place (nat_eq e.place place) e.time e.call (judged_at numbers older e.place) (AreFittingSince terms numbers place older)
+
+-- A datagram comes to a place by a time, as a member's: its sender is known there at the origin from which it comes, and speaks from there, and it is
+-- fit, as a judge has it. A drawop is so if it is no more than a day ahead of the time of day there, and there is a cell for it besides a thirty-second.
+pub record Arrives (numbers : ℕ → ℕ) (newer base : List JudgedCallAt) (j by : ℕ) (v : Datagram) : Type 0 where
+  pub later : List JudgedCallAt
+  pub call : JudgedCallAt
+  pub between : List JudgedCallAt
+  pub split : newer ≡ later ++ call ∷ between
+  pub place : call.place ≡ j
+  pub soon : call.time ≤ by
+  pub now : ℕ
+  pub origin : Origin
+  pub is : call.call ≡ Takes (CameFrom now origin v)
+  pub member : IsOfMember now origin v (judged_at numbers (between ++ base) j)
+
+-- one of these lines sent a datagram, so shortly before a time
+pub record WasSentBy (numbers : ℕ → ℕ) (older : List JudgedCallAt) (time within : ℕ) (v : Datagram) : Type 0 where
+  pub newer : List JudgedCallAt
+  pub e : JudgedCallAt
+  pub before : List JudgedCallAt
+  pub split : older ≡ newer ++ e ∷ before
+  pub soon : time ≤ e.time + within
+  pub line : JudgedLine
+  pub call : e.call ≡ Takes line
+  pub sent : Contains (sends_in (events_of line (judged_at numbers before e.place))) v
+
+-- Before `quiet` programs start and end as they like, and the network does what it likes. From then on live members alone are called, and in time, each
+-- of their boards has a free cell, nobody draws, and no line of a record is handed in. What one sends comes to each other one in time, as a member's.
+-- What a judge lets in once all that was on its way has arrived was sent shortly before; what it drops may be anything.
+pub record IsTimely (numbers : ℕ → ℕ) (terms : Terms) (calls : List JudgedCallAt) : Type 0 where
+  pub apart : AreApart numbers
+  pub taken : AreTaken numbers calls
+  pub order : AreInOrder calls
+  pub covered : terms.drift ≤ terms.late
+  pub far : greatest_distance ≤ terms.far
+  pub fitting : (i : ℕ) → Contains terms.live i → AreFittingSince terms numbers i calls
+  pub alone : (newer older : List JudgedCallAt) (e : JudgedCallAt) → calls ≡ newer ++ e ∷ older → terms.quiet < e.time → Contains terms.live e.place × ((line : JudgedLine) × (e.call ≡ Takes line))
+  pub drawn : (newer older : List JudgedCallAt) (e : JudgedCallAt) (now : ℕ) (page : PageId) (op : Op) → calls ≡ newer ++ e ∷ older → terms.quiet < e.time → e.call ≢ Takes (UserDrew now page op)
+  pub recalled : (newer older : List JudgedCallAt) (e : JudgedCallAt) (line : RecordLine) → calls ≡ newer ++ e ∷ older → terms.quiet < e.time → e.call ≢ Takes (Held line)
+  pub soon : (newer older : List JudgedCallAt) (e : JudgedCallAt) (i : ℕ) → calls ≡ newer ++ e ∷ older → Contains terms.live i → terms.quiet < e.time
+      → e.time ≤ due (judged_at numbers older i).kept + (terms.lag i + terms.late)
+  pub room : (newer older : List JudgedCallAt) (i : ℕ) → calls ≡ newer ++ older → Contains terms.live i → terms.quiet < called_at older → is_full (judged_at numbers older i).kept.host ≡ false
+  pub delivered : (newer older : List JudgedCallAt) (e : JudgedCallAt) (line : JudgedLine) (j : ℕ) (v : Datagram) → calls ≡ newer ++ e ∷ older → e.call ≡ Takes line → Contains terms.live j
+      → e.place ≢ j → terms.quiet < e.time
+      → Contains (sends_in (events_of line (judged_at numbers older e.place))) v → e.time + terms.delivery < called_at calls → Arrives numbers newer (e ∷ older) j (e.time + terms.delivery) v
+  pub fresh : (newer older : List JudgedCallAt) (e : JudgedCallAt) (now : ℕ) (o : Origin) (v : Datagram) → calls ≡ newer ++ e ∷ older → settled_by terms < e.time → e.call ≡ Takes (CameFrom now o v)
+      → handed (CameFrom now o v) (judged_at numbers older e.place) ≡ Came now v → WasSentBy numbers older e.time terms.delivery v
+
+-- ---- laws
+
+-- As a session of self-managing members it keeps to times.
+abbrev pub JudgedIsTimely : Type 0
+JudgedIsTimely = (numbers : ℕ → ℕ) (terms : Terms) (calls : List JudgedCallAt) → IsTimely numbers terms calls → IsTimelyWithStarts numbers terms (kept_calls numbers calls)
+
+-- It becomes whole, whoever started anew before: after a stated time each live member holds what one of them held. The sizes are those of the boards
+-- and policies of the members, since the last start of each.
+abbrev pub JudgedBecomeWhole : Type 0
+JudgedBecomeWhole = (numbers : ℕ → ℕ) (terms : Terms) (calls newer later : List JudgedCallAt) (sizes : Sizes) (wait most i : ℕ) (n : NameValue) → IsTimely numbers terms calls
+    → let hosts = hosts_of numbers (kept_calls numbers calls) in
+    let trace = since numbers (kept_calls numbers calls) in
+    AreWithin hosts terms trace sizes → AreSoon hosts terms trace sizes most → WaitAtMost hosts terms trace wait → LackAtMost hosts terms trace most
+    → request_span terms + terms.drift ≤ 60000000 → IsHeldBySome hosts terms trace n
+    → calls ≡ newer ++ later → whole_by terms sizes wait most < called_at later → Contains terms.live i → holds (judged_at numbers later i).kept.host n ≡ true
+
+-- So it does by rounds.
+abbrev pub JudgedBecomeWholeByRounds : Type 0
+JudgedBecomeWholeByRounds = (numbers : ℕ → ℕ) (terms : Terms) (calls newer later : List JudgedCallAt) (from pause wait most places rounds i : ℕ) (n : NameValue) → IsTimely numbers terms calls
+    → let hosts = hosts_of numbers (kept_calls numbers calls) in
+    let trace = since numbers (kept_calls numbers calls) in
+    ReportWithin hosts terms trace from pause → WaitAtMost hosts terms trace wait → OneLacksAtMost hosts terms trace most → NewAreKept hosts terms trace from
+    → PlacesAreFilled hosts terms trace from places → most ≤ rounds * places
+    → IsHeldBySome hosts terms trace n → calls ≡ newer ++ later → rounds_by terms from pause wait rounds < called_at later → Contains terms.live i
+    → holds (judged_at numbers later i).kept.host n ≡ true
+
+-- After that time the boards of any two live members look alike, at the end of the session, if it is one of those in which each drawop that is let in
+-- was held before.
+abbrev pub JudgedAgree : Type 0
+JudgedAgree = (numbers : ℕ → ℕ) (terms : Terms) (calls : List JudgedCallAt) (sizes : Sizes) (wait most i j : ℕ) → IsTimely numbers terms calls → IsSession numbers calls
+    → let hosts = hosts_of numbers (kept_calls numbers calls) in
+    let trace = since numbers (kept_calls numbers calls) in
+    AreWithin hosts terms trace sizes → AreSoon hosts terms trace sizes most → WaitAtMost hosts terms trace wait → LackAtMost hosts terms trace most → request_span terms + terms.drift ≤ 60000000
+    → whole_by terms sizes wait most < called_at calls → Contains terms.live i → Contains terms.live j
+    → LookAlike (judged_at numbers calls i).kept.host.is.held (judged_at numbers calls j).kept.host.is.held

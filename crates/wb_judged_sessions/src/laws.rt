@@ -1,0 +1,82 @@
+//! Laws of sessions of judged members. Each function does nothing: its contract is a law, for
+//! proofs to cite.
+
+ghost use Rattle.wb_judged_sessions.specs.Examples.{IsShared};
+ghost use Rattle.wb_judged_sessions.specs.Laws.{BoardsAreFiles, FiledReportsTellAgreement, FilesAreWhole, HeldOnce, HeldWasDrawn, JudgedKeepKeptTerms, ListeningTells, MarksWereDrawn, NamesMeanOne, NoneClashes, NumbersCount, OnceHeldWasDrawn, RecordsTell, ReportsTellAgreement, SendsAsKept, SentWasDrawn, WholeBoardsAgree};
+ghost use Rattle.wb_judged_sessions.specs.Sessions.{DrawsAsKept, JudgedIsKept, PlainIsTheSame};
+ghost use Rattle.wb_judged_sessions.specs.Timely.{JudgedAgree, JudgedBecomeWhole, JudgedBecomeWholeByRounds, JudgedIsTimely};
+
+/// A session of judged members is one of self-managing members, in which the network lost what the
+/// judges dropped. Each judged member is the self-managing one at its place, and draws the same. It
+/// sends the same, but for an echo under its own number, for which no member does anything.
+pub fn judged_sessions_are_kept()
+    ensures same { JudgedIsKept }
+    ensures drawn { DrawsAsKept }
+    ensures sent { SendsAsKept }
+    ensures echo { PlainIsTheSame }
+    ensures terms { JudgedKeepKeptTerms }
+{}
+
+/// Two judged members that have one report of a page, and no gaps there, hold and show the same
+/// there, at any two moments, through every start, if programs start with their files, or if
+/// members know their own numbers all the same.
+pub fn judged_reports_tell_agreement()
+    ensures filed { FiledReportsTellAgreement }
+    ensures known { ReportsTellAgreement }
+{}
+
+/// Two judged members that hold all that was drawn on a page hold and show the same there.
+pub fn whole_judged_boards_agree()
+    ensures { WholeBoardsAgree }
+{}
+
+/// Nothing is invented or changed: each drawop that a judged member holds, sends or has a mark of
+/// was drawn by its source, through every start anew, each name means one drawop, and none stands
+/// twice on a board. So no clash comes up.
+pub fn judged_boards_are_true()
+    ensures held { HeldWasDrawn }
+    ensures before { OnceHeldWasDrawn }
+    ensures names { NamesMeanOne }
+    ensures numbers { NumbersCount }
+    ensures once { HeldOnce }
+    ensures sent { SentWasDrawn }
+    ensures marks { MarksWereDrawn }
+    ensures clashes { NoneClashes }
+{}
+
+/// Judged members whose programs start with all that they drew know their own numbers, so each
+/// number is used once, over all starts. A file has all of that, since a board is what its file
+/// has.
+pub fn judged_records_tell()
+    ensures records { RecordsTell }
+    ensures files { FilesAreWhole }
+    ensures boards { BoardsAreFiles }
+{}
+
+/// What a judged member hears of its own number while it listens, and its judge lets in, it knows
+/// until its program starts anew.
+pub fn judged_listening_tells()
+    ensures { ListeningTells }
+{}
+
+/// An example: a drawing comes to a member that does not know its origin, and is still there when
+/// that member has started anew from its file.
+pub fn two_judged_members_share()
+    ensures { IsShared }
+{}
+
+/// If from some time on nobody draws or starts, nothing is lost, drivers tick in time, and each two
+/// members that go on know each other, a session of judged members keeps to times as one of
+/// self-managing members, whoever started anew before.
+pub fn judged_sessions_keep_to_times()
+    ensures { JudgedIsTimely }
+{}
+
+/// So it becomes whole: each member that goes on comes to hold, by the time of the law
+/// `sessions_become_whole` of self-managing members, what one of them held. After it any two of them
+/// report, list and show the same.
+pub fn judged_sessions_become_whole()
+    ensures whole { JudgedBecomeWhole }
+    ensures rounds { JudgedBecomeWholeByRounds }
+    ensures agree { JudgedAgree }
+{}
