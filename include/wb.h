@@ -13,6 +13,10 @@
  * A host that is self-managing (the line `keep`) takes datagrams, moments, drawings and questions by bytes too, without a line or a digit:
  * wb_came, wb_tick, wb_add and wb_ask. What follows are events, which wb_event fetches one by one. Calls by lines and by bytes may be mixed.
  *
+ * A host that is judged (the line `judge`) decides also which datagrams it takes, and says what to record before what to send. Datagrams with
+ * their origins, moments and drawings go in by lines: wb_came, wb_tick and wb_add answer WB_JUDGED there, and change nothing. wb_ask, wb_event
+ * and wb_due are as at any self-managing host.
+ *
  * What is proved of the calls, and what their caller owes, is in docs/proofs/wb_c.md. What a caller owes, nobody checks:
  *
  * - A `wb_host` is WB_HOST_CLOSED at first, is not copied, and nothing but these calls writes it.
@@ -56,6 +60,7 @@ enum {
     WB_NUMBERS = 12,      /* no number is left on the page */
     WB_NO_DRAWOP = 13,    /* the datagram is no drawop */
     WB_NO_QUESTION = 14,  /* there is no such question, or no canvas of that size */
+    WB_JUDGED = 15,       /* the host is judged: what comes, time and drawings go in by lines */
     WB_NO_DATAGRAM = 100, /* and with the number of the fault, 1 to 9 (docs/FORMAT.md): the bytes are no datagram */
     WB_NO_OPERATION = 200 /* and with the number of the fault, 1 to 7: under its next number the operation is none of a drawop */
 };
@@ -103,17 +108,18 @@ uint32_t wb_block(wb_host *host, void *buffer, size_t room, size_t *size);
 
 /* A datagram of `length` bytes came in at a moment, in microseconds: the line `came`. For each datagram that is to be sent an event WB_SENT
  * is added behind those that wait, in order, and then, if a drawop came in, what became of it.
- * WB_DONE, WB_NO_MOMENT, WB_NO_DATAGRAM + FAULT, WB_NOT_KEPT, WB_BACK_IN_TIME, WB_OURS, WB_CLOSED or WB_MEMORY. */
+ * WB_DONE, WB_NO_MOMENT, WB_NO_DATAGRAM + FAULT, WB_JUDGED, WB_NOT_KEPT, WB_BACK_IN_TIME, WB_OURS, WB_CLOSED or WB_MEMORY. */
 uint32_t wb_came(wb_host *host, uint64_t now, const void *datagram, size_t length);
 
-/* Time goes on to a moment: the line `tick`. Events as above. WB_DONE, WB_NO_MOMENT, WB_NOT_KEPT, WB_BACK_IN_TIME, WB_CLOSED or WB_MEMORY. */
+/* Time goes on to a moment: the line `tick`. Events as above.
+ * WB_DONE, WB_NO_MOMENT, WB_JUDGED, WB_NOT_KEPT, WB_BACK_IN_TIME, WB_CLOSED or WB_MEMORY. */
 uint32_t wb_tick(wb_host *host, uint64_t now);
 
 /* The user draws: the line `add`. The bytes are the datagram of a drawop with the page, the time and the operation of the drawing; its source
  * and its number do not matter, as the drawing gets a name of its own. Events as above: the drawing is among what is to be sent, unless it
  * clashes or the board is full.
- * WB_DONE, WB_NO_MOMENT, WB_NO_DATAGRAM + FAULT, WB_NO_DRAWOP, WB_NOT_KEPT, WB_BACK_IN_TIME, WB_LISTENING, WB_NUMBERS, WB_NO_OPERATION +
- * FAULT, WB_CLOSED or WB_MEMORY. */
+ * WB_DONE, WB_NO_MOMENT, WB_NO_DATAGRAM + FAULT, WB_NO_DRAWOP, WB_JUDGED, WB_NOT_KEPT, WB_BACK_IN_TIME, WB_LISTENING, WB_NUMBERS,
+ * WB_NO_OPERATION + FAULT, WB_CLOSED or WB_MEMORY. */
 uint32_t wb_add(wb_host *host, uint64_t now, const void *drawop, size_t length);
 
 /* Asks a question about a page, which changes nothing; an event for each item of the answer is added behind those that wait.

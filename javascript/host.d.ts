@@ -15,6 +15,9 @@ export class Block {
     fault: string | null;
     /** @type {number | null} */
     due: number | null;
+    /** What its lines say that begin with this word.
+     * @param {string} word */
+    said(word: string): string[];
     /** The datagrams to send. */
     sent(): Uint8Array[];
 }

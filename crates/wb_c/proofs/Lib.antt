@@ -1,4 +1,5 @@
 mod AsBox
 mod Lines
+mod Transcripts
 mod Performed
 mod Served

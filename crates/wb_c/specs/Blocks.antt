@@ -2,20 +2,30 @@
 use Rattle.std.specs.Prelude.{◌≡◌, ◌≤◌, ◌<◌, ℕ, List, [], ◌++◌, length, drop, Bool, true, false, None}
 use Rattle.wb_lines.specs.Input.{InputLine}
 use Rattle.wb_lines.specs.Taking.{met}
-use Rattle.wb_dialog.specs.Doing.{DialogValue, IsAt}
-use Rattle.wb_dialog.specs.Hosting.{Hosting, Reply, block_of, hosting_after, reply_of}
+use Rattle.wb_recovery.specs.declared.tuning.Tuning.{Tuning}
+use Rattle.wb_judged_dialog.specs.Dialog.{JudgedHosting, JudgedReply}
+use Rattle.wb_judged_dialog.specs.Doing.{IsAt, JudgedDialogValue}
+use Rattle.wb_judged_dialog.specs.Hosting.{after as hosting_after, block_of, reply_of}
 
--- a dialog with no board, whose timers will have the constants that a host has without others
-abbrev pub fresh : DialogValue
-fresh = record { tuning = record { c1 = 2; c2 = 2; d1 = 1; d2 = 1 }; host = None }
+-- the constants that the timers of a host have without others
+abbrev pub usual : Tuning
+usual = record { c1 = 2; c2 = 2; d1 = 1; d2 = 1 }
+
+-- a dialog with no board and no judge
+abbrev pub fresh : JudgedDialogValue
+fresh = record { tuning = usual; dialog = record { tuning = usual; host = None }; board = None; judge = None }
+
+-- a line as one of an input in which a line feed ends it
+abbrev pub ended : List ℕ → InputLine
+ended line = record { bytes = line; ended = true }
 
 -- what a host does for a line: what the definition of its transcript says of one that a line feed ends
-abbrev pub reply_to_line : Hosting → List ℕ → Reply
-reply_to_line s line = reply_of s (met (record { bytes = line; ended = true }))
+abbrev pub reply_to_line : JudgedHosting → List ℕ → JudgedReply
+reply_to_line s line = reply_of s (met (ended line))
 
 -- A host took a line once: it is at the host that follows, and the block is that of the definition.
-abbrev pub Took : DialogValue → DialogValue → List ℕ → List ℕ → Type 0
-Took old new line block = (s : Hosting) → IsAt old s → IsAt new (hosting_after s (reply_to_line s line)) × (block ≡ block_of (reply_to_line s line))
+abbrev pub Took : JudgedDialogValue → JudgedDialogValue → List ℕ → List ℕ → Type 0
+Took old new line block = (s : JudgedHosting) → IsAt old s → IsAt new (hosting_after s (reply_to_line s line)) × (block ≡ block_of (reply_to_line s line))
 
 -- Bytes were written at the front of a buffer; or there is no room for them, and it is as it was.
 abbrev pub Writes : List ℕ → List ℕ → List ℕ → Bool → Type 0

@@ -1,6 +1,5 @@
 -- What each call by lines does, by what was held before and what is held after it, and which status it gives.
 use Rattle.std.specs.Prelude.{◌≡◌, ℕ, List, [], ◌∷◌, length, Bool, true, false, Option, Some, None}
-use Rattle.wb_dialog.specs.Doing.{DialogValue}
 use Rattle.wb_c.specs.declared.room.Room.{Room}
 use Rattle.wb_c.specs.Blocks.{HandsOver, Took, fresh}
 use Rattle.wb_c.specs.Statuses.{closed, done, memory, not_done, open_already, waits}

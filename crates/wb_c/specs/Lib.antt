@@ -2,6 +2,7 @@ pub mod Owning
 pub mod Blocks
 pub mod Statuses
 pub mod Calls
+pub mod Laws
 pub mod Events
 pub mod Performing
 pub mod Asking

@@ -1,5 +1,5 @@
 -- What each call by bytes does, by what was held before and what is held after it, and which status it gives.
-use Rattle.std.specs.Prelude.{◌≡◌, ℕ, List, [], ◌∷◌, length, Bool, true, false, nat_lt, Option, Some, None, unwrap_or, Result, Ok, Err}
+use Rattle.std.specs.Prelude.{◌≡◌, ℕ, List, [], ◌∷◌, length, Bool, true, false, nat_lt, Option, Some, None, is_some, unwrap_or, Result, Ok, Err}
 use Rattle.wb_names.specs.Values.{DrawopValue}
 use Rattle.wb_names.specs.declared.moment.TheConstants.{MOMENT_LIMIT}
 use Rattle.wb_names.specs.declared.name.PageId.{PageId}
@@ -9,14 +9,16 @@ use Rattle.wb_codec.specs.declared.fault.ReadFault.{ReadFault}
 use Rattle.wb_member.specs.declared.questions.Query.{Query}
 use Rattle.wb_keeping.specs.Laws.{Added, Came, Ticked}
 use Rattle.wb_keeping.specs.Performing.{KeptValue}
-use Rattle.wb_dialog.specs.Doing.{IsAt, host_of, kept_in}
-use Rattle.wb_dialog.specs.Hosting.{Hosting, due_at}
+use Rattle.wb_dialog.specs.Doing.{kept_in}
+use Rattle.wb_dialog.specs.Hosting.{due_at}
+use Rattle.wb_judged_dialog.specs.Dialog.{JudgedHosting}
+use Rattle.wb_judged_dialog.specs.Doing.{IsAt, with_kept}
 use Rattle.wb_c.specs.Asking.{query_of}
 use Rattle.wb_c.specs.Blocks.{Writes}
 use Rattle.wb_c.specs.Calls.{status_of}
 use Rattle.wb_c.specs.Events.{bytes_of, kind_of}
 use Rattle.wb_c.specs.Performing.{Answers, Performs}
-use Rattle.wb_c.specs.Statuses.{closed, memory, no_drawop, no_moment, no_question, not_kept, nothing, read_status}
+use Rattle.wb_c.specs.Statuses.{closed, judged, memory, no_drawop, no_moment, no_question, not_kept, nothing, read_status}
 use Rattle.wb_c.specs.declared.event.Event.{Event}
 use Rattle.wb_c.specs.declared.room.Room.{Room}
 
@@ -30,10 +32,36 @@ Refuses why old new status = (status ≡ why) × (new ≡ old)
 abbrev pub AtKept : (KeptValue → KeptValue → List Event → List Event → ℕ → Type 0) → Option KeptValue → Room → Room → ℕ → Type 0
 AtKept does None old new status = Refuses not_kept old new status
 AtKept does (Some kept) old new status =
-    (after : KeptValue) × (new.dialog ≡ record { tuning = old.dialog.tuning; host = host_of after }) × (new.block ≡ old.block) × does kept after old.events.items new.events.items status
+    (after : KeptValue) × (new.dialog ≡ with_kept after old.dialog) × (new.block ≡ old.block) × does kept after old.events.items new.events.items status
 
 abbrev pub AtMember : (KeptValue → KeptValue → List Event → List Event → ℕ → Type 0) → Room → Room → ℕ → Type 0
-AtMember does old new status = AtKept does (kept_in old.dialog.host) old new status
+AtMember does old new status = AtKept does (kept_in old.dialog.dialog.host) old new status
+
+-- A judged host takes no call that acts: what came has an origin there, and what is to be recorded comes first.
+abbrev pub Unjudged : Bool → (Room → Room → ℕ → Type 0) → Room → Room → ℕ → Type 0
+Unjudged true does old new status = Refuses judged old new status
+Unjudged false does old new status = does old new status
+
+-- what a member does for a call that acts
+abbrev pub Acts : (KeptValue → KeptValue → List Event → List Event → ℕ → Type 0) → Room → Room → ℕ → Type 0
+Acts does old new status = Unjudged (is_some old.dialog.judge) (AtMember does) old new status
+
+-- The member was taken out of a host for a call that acts.
+pub record IsOut (kept : KeptValue) (old new : Room) : Type 0 where
+  pub judge : is_some old.dialog.judge ≡ false
+  pub kept_is : Some kept ≡ kept_in old.dialog.dialog.host
+  pub dialog : with_kept kept new.dialog ≡ old.dialog
+  pub block : new.block ≡ old.block
+  pub events : new.events.items ≡ old.events.items
+
+-- Why a host takes no call that acts.
+abbrev pub WhyNone : Bool → Option KeptValue → ℕ → Type 0
+WhyNone true kept why = why ≡ judged
+WhyNone false None why = why ≡ not_kept
+WhyNone false (Some kept) why = ⊥
+
+abbrev pub StaysIn : ℕ → Room → Room → Type 0
+StaysIn why old new = (new ≡ old) × WhyNone (is_some old.dialog.judge) (kept_in old.dialog.dialog.host) why
 
 -- a moment is below the limit
 abbrev pub InTime : Bool → (Room → Room → ℕ → Type 0) → Room → Room → ℕ → Type 0
@@ -46,10 +74,10 @@ read_by (Ok v) = Ok v
 read_by (Err fault) = Err (read_status fault)
 
 abbrev pub Draws : ℕ → DrawopValue → Room → Room → ℕ → Type 0
-Draws now d old new status = AtMember (Performs (Added now d.name.page d.time d.op)) old new status
+Draws now d old new status = Acts (Performs (Added now d.name.page d.time d.op)) old new status
 
 abbrev pub Takes : ℕ → Result Datagram ℕ → Room → Room → ℕ → Type 0
-Takes now (Ok v) old new status = AtMember (Performs (Came now v)) old new status
+Takes now (Ok v) old new status = Acts (Performs (Came now v)) old new status
 Takes now (Err why) old new status = Refuses why old new status
 
 -- What a drawop does is drawn; any other datagram is none.
@@ -65,7 +93,7 @@ abbrev pub AddsBy : ℕ → Result Datagram ReadFault → Room → Room → ℕ 
 AddsBy now read old new status = InTime (nat_lt now MOMENT_LIMIT) (Adds now (read_by read)) old new status
 
 abbrev pub TicksBy : ℕ → Room → Room → ℕ → Type 0
-TicksBy now old new status = InTime (nat_lt now MOMENT_LIMIT) (AtMember (Performs (Ticked now))) old new status
+TicksBy now old new status = InTime (nat_lt now MOMENT_LIMIT) (Acts (Performs (Ticked now))) old new status
 
 abbrev pub AsksBy : Option Query → Room → Room → ℕ → Type 0
 AsksBy (Some query) old new status = AtMember (Answers query) old new status
@@ -106,4 +134,4 @@ FetchesEvent (Some old) (Some new) before after kind size status = (new.dialog �
 -- the next moment at which a tick is due, or 2^64 - 1
 abbrev pub IsDue : Option Room → ℕ → Type 0
 IsDue None due = due ≡ 18446744073709551615
-IsDue (Some room) due = (s : Hosting) → IsAt room.dialog s → due ≡ unwrap_or (due_at s.host) 18446744073709551615
+IsDue (Some room) due = (s : JudgedHosting) → IsAt room.dialog s → due ≡ unwrap_or (due_at s.today.host) 18446744073709551615

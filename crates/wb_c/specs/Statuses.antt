@@ -41,6 +41,9 @@ no_drawop = 13
 abbrev pub no_question : ℕ
 no_question = 14
 
+abbrev pub judged : ℕ
+judged = 15
+
 -- why a member refuses a call
 abbrev pub kept_status : KeptFault → ℕ
 kept_status (Host fault) = 9

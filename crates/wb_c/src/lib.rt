@@ -10,6 +10,7 @@ mod by_bytes;
 mod calls;
 mod event;
 mod held;
+pub mod laws;
 mod parts;
 mod performing;
 mod query;

@@ -7,7 +7,7 @@ use crate::taken::bytes_of;
 use std::alloc::{AllocError, Global};
 use std::collections::VecDeque;
 use std::convert::Infallible;
-use wb_dialog::Dialog;
+use wb_judged_dialog::JudgedDialog;
 use wb_lines::{Handler, Output, Stop};
 use wb_recovery::Tuning;
 
@@ -17,7 +17,7 @@ const MAX_LINE_LEN: usize = 65_536;
 /// A host, the block of its last line and the events of its calls by bytes, until these are fetched.
 #[derive(Drop)]
 pub struct Room {
-    pub(crate) dialog: Dialog,
+    pub(crate) dialog: JudgedDialog,
     pub(crate) block: Vec<u8>,
     pub(crate) events: VecDeque<Event>,
 }
@@ -42,7 +42,7 @@ impl Room {
         ensures events { result.events.items ≡ [] }
     {
         Room {
-            dialog: Dialog::new(Tuning::default()),
+            dialog: JudgedDialog::new(Tuning::default()),
             block: Vec::new(alloc),
             events: VecDeque::new(alloc),
         }

@@ -1,20 +1,21 @@
 //! Calls by bytes at a host: they are those of its self-managing member.
-ghost use Rattle.std.specs.Prelude.{◌≡◌, IfOk, Ok};
+ghost use Rattle.std.specs.Prelude.{◌≡◌, IfOk, MatchResult, Ok};
 ghost use Rattle.wb_names.specs.Moments.{IsMoment};
 ghost use Rattle.wb_codec.specs.Reading.{reading};
 ghost use Rattle.wb_keeping.specs.Laws.{Added, Came, Ticked};
 ghost use Rattle.wb_member.specs.Questions.{IsAnswerable};
 ghost use Rattle.wb_c.specs.Performing.{Answers, Performs};
-ghost use Rattle.wb_c.specs.Serving.{Adds, AddsBy, Asks, AtMember, CameBy, Draws, GivesEvent, TicksBy, read_by};
+ghost use Rattle.wb_c.specs.Serving.{Acts, Adds, AddsBy, Asks, AtMember, CameBy, Draws, GivesEvent, IsOut, StaysIn, TicksBy, read_by};
 
 use crate::performing::{ask, came, draw, tick};
 use crate::query::query_of;
 use crate::room::{Room, write_out};
 use crate::status::{
-    DONE, NO_DATAGRAM, NO_DRAWOP, NO_MOMENT, NO_QUESTION, NOT_KEPT, NOTHING, WAITS,
+    DONE, JUDGED, NO_DATAGRAM, NO_DRAWOP, NO_MOMENT, NO_QUESTION, NOT_KEPT, NOTHING, WAITS,
 };
 use std::alloc::{AllocError, Global};
 use wb_codec::{Datagram, ReadFault, read};
+use wb_keeping::KeptMember;
 use wb_member::Query;
 use wb_names::{Drawop, MOMENT_LIMIT, PageId};
 
@@ -30,6 +31,21 @@ fn datagram_of(alloc: Global, bytes: &[u8]) -> Result<Result<Datagram, u32>, All
 }
 
 impl Room {
+    /// Takes the member out for a call that acts, or says why this host takes none.
+    fn take_acting(&mut self) -> Result<KeptMember, u32>
+        ensures { MatchResult result
+            (λ kept. IsOut kept self.old self.new)
+            (λ why. StaysIn why self.old self.new) }
+    {
+        if self.dialog.is_judged() {
+            return Err(JUDGED);
+        }
+        match self.dialog.take_kept() {
+            Some(kept) => Ok(kept),
+            None => Err(NOT_KEPT),
+        }
+    }
+
     /// A datagram came in at a moment.
     fn take_datagram(
         &mut self,
@@ -38,10 +54,11 @@ impl Room {
         datagram: &Datagram,
     ) -> Result<u32, AllocError>
         requires { IsMoment now }
-        ensures { IfOk result (AtMember (Performs (Came now datagram.now)) self.old self.new) }
+        ensures { IfOk result (Acts (Performs (Came now datagram.now)) self.old self.new) }
     {
-        let Some(mut kept) = self.dialog.take_kept() else {
-            return Ok(NOT_KEPT);
+        let mut kept = match self.take_acting() {
+            Ok(kept) => kept,
+            Err(why) => return Ok(why),
         };
         let status = came(alloc, &mut kept, now, datagram, &mut self.events);
         self.dialog.put_kept(kept);
@@ -68,8 +85,9 @@ impl Room {
         if now >= MOMENT_LIMIT {
             return Ok(NO_MOMENT);
         }
-        let Some(mut kept) = self.dialog.take_kept() else {
-            return Ok(NOT_KEPT);
+        let mut kept = match self.take_acting() {
+            Ok(kept) => kept,
+            Err(why) => return Ok(why),
         };
         let status = tick(alloc, &mut kept, now, &mut self.events);
         self.dialog.put_kept(kept);
@@ -81,8 +99,9 @@ impl Room {
         requires { IsMoment now }
         ensures { IfOk result (Draws now drawop.now self.old self.new) }
     {
-        let Some(mut kept) = self.dialog.take_kept() else {
-            return Ok(NOT_KEPT);
+        let mut kept = match self.take_acting() {
+            Ok(kept) => kept,
+            Err(why) => return Ok(why),
         };
         let status = draw(alloc, &mut kept, now, drawop, &mut self.events);
         self.dialog.put_kept(kept);

@@ -36,6 +36,8 @@ pub(crate) const NUMBERS: u32 = 12;
 pub(crate) const NO_DRAWOP: u32 = 13;
 /// There is no such question.
 pub(crate) const NO_QUESTION: u32 = 14;
+/// The host is judged, and takes calls that act by lines alone.
+pub(crate) const JUDGED: u32 = 15;
 /// With the number of the fault: the bytes are not a datagram.
 pub(crate) const NO_DATAGRAM: u32 = 100;
 /// With the number of the fault: no drawop has that operation under its next number.

@@ -107,6 +107,10 @@ member_in d = member_by d.judge (kept_in d.dialog.host)
 abbrev pub with_board : Option Board → JudgedDialogValue → JudgedDialogValue
 with_board board d = record { tuning = d.tuning; dialog = d.dialog; board = board; judge = d.judge }
 
+-- This self-managing member is put into a host.
+abbrev pub with_kept : KeptValue → JudgedDialogValue → JudgedDialogValue
+with_kept kept d = record { tuning = d.tuning; dialog = record { tuning = d.dialog.tuning; host = host_of kept }; board = d.board; judge = d.judge }
+
 -- This judged member is put into a host.
 abbrev pub with_member : JudgedValue → JudgedDialogValue → JudgedDialogValue
 with_member m d = record { tuning = d.tuning; dialog = record { tuning = d.dialog.tuning; host = host_of m.kept }; board = d.board; judge = Some m.judge }

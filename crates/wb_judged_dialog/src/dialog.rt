@@ -2,13 +2,14 @@
 ghost use Rattle.std.specs.Prelude.{◌≡◌, [], false, None, Ok, Option, Some, true, IfOk, OnErr, OnOk, is_some};
 ghost use Rattle.wb_recovery.specs.Timing.{are_constants};
 ghost use Rattle.wb_dialog.specs.Doing.{Adds, BlocksAt as TodayBlocksAt, MayBeAt, kept_in};
-ghost use Rattle.wb_dialog.specs.Hosting.{Host as HostState, reply as reply_today};
+ghost use Rattle.wb_dialog.specs.Hosting.{Host as HostState, due_at, reply as reply_today};
 ghost use Rattle.wb_dialog.specs.Lines.{line_of};
 ghost use Rattle.wb_dialog.specs.declared.fault.Refusal.TheVariants as host_refusals;
+ghost use Rattle.wb_keeping.specs.Performing.{KeptValue};
 ghost use Rattle.wb_judging.specs.Judged.{Judged};
 ghost use Rattle.wb_judging.specs.Performing.{JudgedValue};
 ghost use Rattle.wb_judged_dialog.specs.Dialog.{act, answers, board_after, judge_reply, judged_reply, refuses, reply, taken_reply, today_reply};
-ghost use Rattle.wb_judged_dialog.specs.Doing.{ActsAt, BlocksAt, IsSame, MayKeep, member_in, with_board, with_member};
+ghost use Rattle.wb_judged_dialog.specs.Doing.{ActsAt, BlocksAt, IsSame, MayKeep, member_in, with_board, with_kept, with_member};
 ghost use Rattle.wb_judged_dialog.specs.Lines.{IsJudgeLine, IsWithin};
 ghost use Rattle.wb_judged_dialog.specs.declared.fault.JudgedRefusal.TheVariants as refusals;
 
@@ -24,6 +25,7 @@ use wb_commands::{LineFault, Untaken};
 use wb_dialog::{Dialog, Refusal};
 use wb_judge::Judge;
 use wb_judging::JudgedMember;
+use wb_keeping::KeptMember;
 use wb_lines::{Handler, Output, Stop, without_end};
 use wb_recovery::Tuning;
 
@@ -74,8 +76,46 @@ impl JudgedDialog {
         }
     }
 
-    /// Takes its judged member out, which `put` puts back. None if it is not judged.
-    fn take_member(&mut self) -> Option<JudgedMember>
+    /// The next moment at which the host has something to do, in microseconds. None if there is
+    /// none.
+    pub fn next_due(&self) -> Option<u64>
+        ensures { (host : Option HostState) → MayBeAt self.now.dialog.host host →
+            result ≡ due_at host }
+    {
+        self.dialog.next_due()
+    }
+
+    /// Whether it is judged.
+    pub fn is_judged(&self) -> bool
+        ensures { result ≡ is_some self.now.judge }
+    {
+        self.judge.is_some()
+    }
+
+    /// Takes the member out of a self-managing host, without the judge that it may have, for calls
+    /// of its own. It is put back by `put_kept` before this dialog gets another line, which would
+    /// find no board open. None if the host is not self-managing.
+    pub fn take_kept(&mut self) -> Option<KeptMember>
+        ensures kept { result ≡ kept_in self.old.dialog.host }
+        ensures some { (kept : KeptValue) → result ≡ Some kept →
+            with_kept kept self.new ≡ self.old }
+        ensures none { result ≡ None → self.new ≡ self.old }
+    {
+        self.dialog.take_kept()
+    }
+
+    /// From now on this self-managing member is the host, and its judge, if it has one, stays. The
+    /// caller of a judged host puts back the member that it took, with nothing changed: what changes
+    /// a judged member goes through `take_member`.
+    pub fn put_kept(&mut self, kept: KeptMember)
+        ensures { self.new ≡ with_kept kept self.old }
+    {
+        self.dialog.put_kept(kept);
+    }
+
+    /// Takes its judged member out, for calls of its own. It is put back by `put_member` before this
+    /// dialog gets another line. None if it is not judged.
+    pub fn take_member(&mut self) -> Option<JudgedMember>
         ensures member { result ≡ member_in self.old }
         ensures some { (m : JudgedValue) → result ≡ Some m → with_member m self.new ≡ self.old }
         ensures none { result ≡ None → self.new ≡ self.old }
@@ -91,7 +131,7 @@ impl JudgedDialog {
     }
 
     /// From now on this is its judged member.
-    fn put(&mut self, member: JudgedMember)
+    pub fn put_member(&mut self, member: JudgedMember)
         ensures { self.new ≡ with_member member self.old }
     {
         let (kept, judge) = member.into_parts();
@@ -173,11 +213,11 @@ impl JudgedDialog {
     {
         match answer(alloc, &mut member, line, output) {
             Ok(()) => {
-                self.put(member);
+                self.put_member(member);
                 self.close(alloc, output)
             }
             Err(Unanswered::Refused(refusal)) => {
-                self.put(member);
+                self.put_member(member);
                 self.refuse(alloc, refusal, output)
             }
             Err(Unanswered::Memory) => Err(AllocError),
@@ -285,7 +325,7 @@ impl JudgedDialog {
     {
         if self.may_keep(alloc)? {
             let member = begin(alloc, self.tuning, line, board)?;
-            self.put(member);
+            self.put_member(member);
             return self.close(alloc, output);
         }
         self.hand(alloc, KEEP, output)

@@ -31,3 +31,4 @@ pub use dialog::JudgedDialog;
 pub use fault::JudgedRefusal;
 pub use hosting::host;
 pub use line::{JudgeLine, JudgedLine};
+pub use record_text::write_record;

@@ -69,8 +69,8 @@ fn mark_text(alloc: Global, speaker: u32, page: PageId, mark: Mark) -> Result<St
     format!(in alloc; "page-state {speaker} {page} {mark}")
 }
 
-/// A line of the record.
-pub(crate) fn record_text(alloc: Global, line: &RecordLine) -> Result<Vec<u8>, AllocError>
+/// A line of the record, as `record` prints it and `held` reads it.
+pub fn write_record(alloc: Global, line: &RecordLine) -> Result<Vec<u8>, AllocError>
     ensures { IfOk result (λ text. text.items ≡ record_text line.now) }
 {
     match line {

@@ -4,7 +4,7 @@ ghost use Rattle.std.specs.String.{string_bytes};
 ghost use Rattle.wb_dialog.specs.Doing.{Adds, Prints};
 ghost use Rattle.wb_judged_dialog.specs.Texts.{drew_line, dropped_line, became_line, event_line, events_text, fate_word, fetch_line, list_text, listed_line, member_line, members_text, moment_word, origin_word, record_line, warning_line, why_word};
 
-use crate::record_text::record_text;
+use crate::record_text::write_record;
 use std::alloc::{AllocError, Global};
 use wb_commands::send_line;
 use wb_judge::{Listed, Origin, Other, Warning, Why};
@@ -66,7 +66,7 @@ fn record_line(alloc: Global, line: &RecordLine) -> Result<Vec<u8>, AllocError>
 {
     let mut text = Vec::new(alloc);
     text.extend_from_slice(b"record ")?;
-    text.extend_from_slice(record_text(alloc, line)?.as_slice())?;
+    text.extend_from_slice(write_record(alloc, line)?.as_slice())?;
     text.push(b'\n')?;
     Ok(text)
 }

@@ -1,6 +1,7 @@
 use Rattle.std.proofs.Common.{arith}
 use Rattle.wb_lines.specs.Handling.{whole, too_long}
-use Rattle.wb_c.proofs.Lines.{ended, met_long, met_whole, took_by}
+use Rattle.wb_c.specs.Blocks.{ended}
+use Rattle.wb_c.proofs.Lines.{met_long, met_whole, took_by}
 use Rattle.wb_c.proofs.room.Room.hand_in.Goals as goal
 
 pub returns-then-line-gt-MAX_LINE_LEN-clause-took : goal.returns-then-line-gt-MAX_LINE_LEN-clause-took

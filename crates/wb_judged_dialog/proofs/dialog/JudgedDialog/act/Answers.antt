@@ -6,7 +6,7 @@ use Rattle.wb_judged_dialog.proofs.dialog.JudgedDialog.act.Goals as goal
 pub returns-in-Ok : goal.returns-in-Ok
 returns-in-Ok c =
     let did = c.in-Ok.ensures.text in
-    let closed = rw c.put.ensures at c.close.ensures.text in
+    let closed = rw c.put_member.ensures at c.close.ensures.text in
     record {
       text = (
         did.0 ++ closed.0,
@@ -20,7 +20,7 @@ returns-in-Ok c =
 pub returns-in-Err-Refused : goal.returns-in-Err-Refused
 returns-in-Err-Refused c =
     let did = rw c.in-Err-Refused.field-0-is at c.in-Err-Refused.ensures.text in
-    let closed = rw c.put-in-Err-Refused.ensures at c.refuse.ensures.text in
+    let closed = rw c.put_member-in-Err-Refused.ensures at c.refuse.ensures.text in
     record {
       text = (
         did.0 ++ closed.0,
