@@ -1,7 +1,7 @@
 // Tests that datagrams are read as `wb words` says them. The digits are of `wb hex`; test_agreement.py compares many more.
-import { hex, readDatagram, unhex, withEcho } from '../../web/member/datagram.js';
+import { hex, readDatagram, unhex } from '../../web/member/datagram.js';
 import { judge } from '../judge.mjs';
-import { datagramOf } from './table.mjs';
+import { datagramOf } from './worded.mjs';
 
 const DATAGRAMS = [
   ['574201010000002200000007000000070000000100000001000000000000000a0100000001000400012a', 'draw 7 7/1 1 10 line 0 1 4 1 *'],
@@ -32,18 +32,4 @@ export function testDatagrams() {
   }
   const [[first]] = DATAGRAMS, spoilt = ['', '57', '5842', first.replace('574201', '574203'), first.replace('57420101', '57420106'), first.replace('000a01', '000a06')];
   judge('what is none', spoilt.map((digits) => readDatagram(unhex(digits))), [null, null, null, null, null, null]);
-}
-
-/** A report with the own echo put in: the same as `wb hex` writes. */
-export function testEchoes() {
-  const told = [
-    ['5742010200000048000000090000000000000005000000070000000100010000000700000001000200000003000000000000000100000000000000010000000c00000000000000020000000000000002',
-      '574201020000005c00000009000000000000000500000007000000010001000000070000000100030000000300000000000000010000000000000001000000090000000000000007000000000000000a0000000c00000000000000020000000000000002'],
-    ['5742010200000018000000090000000000000005000000070000000100000000', '574201020000002c000000090000000000000005000000070000000100000001000000090000000000000007000000000000000a'],
-  ];
-  for (const [before, after] of told) {
-    const bytes = unhex(before), report = readDatagram(bytes), made = withEcho(bytes, report, [9, 7n, 10n]);
-    judge('the own echo stands at its place', hex(made), after);
-    judge('to all others the report says the same', plain(readDatagram(made).echoes.filter(([who]) => who !== 9)), plain(report.echoes));
-  }
 }

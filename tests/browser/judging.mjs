@@ -1,19 +1,23 @@
-// Tests what is between a member and its judge: what it hears of the host, and what comes of what it decides. There is no member here. What the
-// judge decides the table of cases says (table.mjs).
+// Tests what a member does by the words of its host, which judges: what it tells people, sends and keeps. In the place of a host is one that gives the
+// answers of a test; what a host decides tests/judging and tests/host say.
 import { Alarms } from '../../web/member/alarms.js';
 import { Board } from '../../web/member/board.js';
 import { FEW, NEAR, SEVERAL } from '../../web/member/constants.js';
 import { hex, readDatagram, unhex } from '../../web/member/datagram.js';
 import { Drawn } from '../../web/member/drawn.js';
+import { Block } from '../../web/member/host.js';
 import { Judging } from '../../web/member/judging.js';
-import { Telling } from '../../web/member/telling.js';
+import { numberOf, wordOf } from '../../web/member/origins.js';
+import { People } from '../../web/member/people.js';
+import { Record } from '../../web/member/record.js';
 import { MOST_REPORTED, Reported } from '../../web/member/reported.js';
+import { Telling } from '../../web/member/telling.js';
 import { drawopOf } from '../../web/member/views.js';
 import { Wire } from '../../web/member/wire.js';
 import { judge } from '../judge.mjs';
-import { datagramOf } from './table.mjs';
+import { datagramOf } from './worded.mjs';
 
-const SECOND = 1_000_000, DAY = 86_400 * SECOND;
+const SECOND = 1_000_000, [X, Y, Z] = ['x', 'y', 'z'].map((place) => ({ place, owner: null }));
 
 // ---- what is missing
 
@@ -31,255 +35,319 @@ export function testReported() {
 
 // ---- judging
 
-/** A member that remembers what came to its host, and whose host takes each drawop. */
-function memberOf(more = {}) {
-  const came = [], kept = [], ticks = [], { strange = [], strangers = null, here = null, cells = 1_000 } = more;
-  const member = { me: 1, page: '7/1', isReady: true, drawn: new Drawn(), alarms: new Alarms(), wire: new Wire(), transport: { here, strangers }, came, kept, ticks, ...more };
-  member.tick = async () => { ticks.push(member.board.moment); };
-  member.begin = async () => { member.isReady = true; };
-  member.board = { moment: 0, readyAt: 0, due: null, tuning: FEW, cells, strange, now: () => member.board.moment, keep: (line) => kept.push(line),
-    options: { rate: 4_000, many: NEAR }, tell: async (line) => { came.push(line); }, tune: Board.prototype.tune, me: 1, ownMarks: new Map(), keepMark: Board.prototype.keepMark, hold: (drawop) => member.drawn.add(drawop), take: Board.prototype.take,
-    came: async (bytes) => {
-      const words = written.decode(bytes);
-      came.push(words);
-      return answer(words.startsWith('draw') ? 'new' : null, null, [unhex('00ff')]);
-    } };
+/** In the place of a host: it answers all lines of one kind alike, and notes them. */
+class Answering {
+  constructor() {
+    this.said = { came: ['drew 7 1 7 1', 'send 00ff', 'became new'] };
+    this.close = 'ok never';
+    this.told = [];
+  }
+
+  ask(line) {
+    const [kind] = line.split(' ', 1);
+    this.told.push(line);
+    return new Block(this.said[kind] ?? [], kind === 'came' ? this.close : 'ok never');
+  }
+
+  members(...members) {
+    this.said.members = [`members ${members.length}`, ...members.map((each) => `member ${each}`)];
+  }
+}
+
+/** A member whose host gives the answers of a test. Its clock stands. */
+function memberOf({ isReady = true, cells = 1_000, strange = [] } = {}) {
+  const host = new Answering(), record = new Record(null, 'here', 1), sent = [], ticks = [];
+  const member = { me: 1, page: '7/1', isReady, drawn: new Drawn(), alarms: new Alarms(), wire: new Wire(), host, record, sent, ticks, at: 0 };
+  const board = new Board(null, record, { rate: 4_000, many: NEAR }, { here: null, strangers: null }, (drawop) => member.hold(drawop));
+  Object.assign(board, { host, me: 1, cells, readyAt: isReady ? 0 : SECOND, strange: new Set(strange), wall: Date.now() * 1_000, now: () => member.at });
+  Object.assign(member, { board, hold: (drawop) => member.drawn.add(drawop), tell: (line) => board.act(line), begin: async () => { member.isReady = true; },
+    tick: async () => { ticks.push(member.at); }, send: (bytes) => { sent.push(hex(bytes)); return readDatagram(bytes); } });
   member.telling = new Telling(member, (name, news) => { member[name] = news; });
+  member.people = new People(member);
   member.judging = new Judging(member);
+  member.says = (...lines) => { host.said.came = lines; };
   return member;
 }
 
-// what a host answers, and a datagram whose bytes are its words
-const answer = (became, refused = null, send = []) => ({ send, due: null, became, refused });
-const written = { encode: (words) => new TextEncoder().encode(words), decode: (bytes) => new TextDecoder().decode(bytes) };
-const heed = ({ judging }, words, place = 'x', sent = []) => judging.heed(datagramOf(words), written.encode(words), { place, owner: null }, sent);
+/** Why a datagram changes nothing; of what the host sends the digits are noted. */
+async function heed(member, words, origin = X) {
+  const { sent, refused } = await member.judging.heed(datagramOf(words), new TextEncoder().encode(words), origin);
+  member.sent.push(...sent.map(hex));
+  return refused;
+}
+
+/** A member answers our report from there. */
+async function meet(member, number = 9, origin = X, more = '') {
+  member.at = Math.max(member.at, 25);
+  member.board.moment = member.at;
+  member.says();
+  member.host.members(`${number} ${wordOf(origin)} ${member.at} ${member.at}`);
+  return heed(member, `session-message ${number} 77 7/1${more} 1@5+10`, origin);
+}
+
 const drawing = (source, seq, time = 5) => `draw ${source} 7/1 ${seq} ${time} line 0 0 1 1 *`;
+const missing = ({ telling, drawn }) => telling.reported.missing('7/1', drawn);
+const NEW = ['drew 7 1 7 1', 'send 00ff', 'became new'];
 const REPORT = '5742010200000018000000010000000000000005000000070000000100000000'; // session-message 1 5 7/1
 
-/** A member answers our report from a place. */
-async function meet(member, number = 9, place = 'x', more = '') {
-  member.judging.leaving(unhex(REPORT));
-  member.board.moment = Math.max(member.board.moment, 25);
-  return heed(member, `session-message ${number} 77 7/1${more} 1@5+10`, place);
+/** Where a datagram comes from is a number to the host: none that somebody could choose, and another for each name. */
+function testOrigins() {
+  const names = ['', 'a', 'aa', 'aaa', 'wb/board/ann', 'wb/board/bob', '0123456789abcdef', 'ann/0123456789abcdef', '\u{10ffff}'];
+  judge('each name has its own', new Set(names.map((name) => numberOf(name))).size, names.length);
+  judge('and no other later', names.map((name) => String(numberOf(name))), names.map((name) => String(numberOf(name))));
+  judge('below 2^61, and hardly ever a small one', names.slice(2).map((name) => numberOf(name) > 2n ** 30n && numberOf(name) < 2n ** 61n), names.slice(2).map(() => true));
+  judge('an origin without an owner, and with one', [X, { place: 'y', owner: 'x' }].map(wordOf), [`${numberOf('x')}`, `${numberOf('y')}@${numberOf('x')}`]);
 }
 
-async function testHost() {
-  const member = memberOf(), sent = [];
-  await meet(member, 9, 'x', ' 7=3');
-  for (const words of ['page-state 9 7/1 7=3', 'ask-pages 9', drawing(7, 2), 'request 9 7 7/1 2']) await heed(member, words, 'x', sent);
-  judge('all that a member sends comes to the host', member.came.map((words) => words.slice(0, 3)), ['ses', 'pag', 'ask', 'dra', 'req']);
-  judge('and what the host sends goes out', sent.map(hex), ['00ff', '00ff', '00ff', '00ff']);
-  judge('but no request for what we lack, of one other', [await heed(member, 'request 9 7 7/1 9'), member.came.length], ['it would hush us', 5]);
-  judge('what is told is missing, and what is below', member.telling.reported.missing('7/1', member.drawn), 2);
-  await heed(member, drawing(7, 3));
-  judge('until it comes, and then it is forgotten', [member.telling.reported.missing('7/1', member.drawn), member.telling.reported.names.size], [1, 0]);
-  judge('what comes under our number does not', [await heed(member, 'request 1 7 7/1 2'), member.came.length], ['under our number', 6]);
-  const present = (now) => member.judging.present(now).map(([number, { distance }]) => [number, distance]);
-  judge('members that are here, for a minute', [present(25), present(60 * SECOND), present(61 * SECOND)], [[[9, 5]], [[9, 5]], []]);
-  member.board.due = 50;
-  const [[moment, act]] = member.judging.plan();
-  await act();
-  judge('it ticks when the host says', [moment, member.judging.plan().length, member.ticks.length], [50, 1, 1]);
-}
-
-/** What no member gave is in the record by its words, until a member turns out to be who gave it. */
-async function testRecord() {
+async function testReports() {
   const member = memberOf();
-  await heed(member, drawing(7, 1), 'b');
-  await heed(member, drawing(6, 1), 'y');
-  judge('what strangers gave', member.kept, [drawing(7, 1), drawing(6, 1)]);
-  await meet(member, 7, 'b');
-  judge('is a member\u2019s once he answers, by its bytes, and of no other', member.kept.slice(2), [`datagram ${hex(written.encode(drawing(7, 1)))}`]);
-  await heed(member, drawing(7, 2), 'b');
-  await heed(member, drawing(8, 1), 'y');
-  judge('what comes later is written as it is then', member.kept.slice(3), [`datagram ${hex(written.encode(drawing(7, 2)))}`, drawing(8, 1)]);
-  const again = memberOf({ strange: ['8 7/1 1'], strangers: 1 });
-  judge('what the record has of strangers takes of their share', await heed(again, drawing(9, 1), 'z'), 'over the share of strangers');
-}
-
-/** The member tells its host other constants in the next turn, when a fourth other is heard, and when all are gone. */
-async function testFollowed() {
-  const member = memberOf(), { judging, board } = member;
-  const turn = async () => { for (const [, act] of judging.plan()) await act(); };
-  for (let number = 2; number < 5; number += 1) await heed(member, `session-message ${number} 77 7/1`, `p${number}`);
-  await turn();
-  judge('three others change nothing', [board.tuning, member.came.filter((line) => line.startsWith('tuning')), judging.plan().length], [FEW, [], 0]);
-  await heed(member, 'session-message 5 77 7/1', 'p5');
-  judge('a fourth does', judging.plan().length, 1);
-  await turn();
-  judge('once', [board.tuning, member.came.filter((line) => line.startsWith('tuning')), judging.plan().length], [SEVERAL, ['tuning 2 4 1 3'], 0]);
-  board.moment = 70 * SECOND;
-  judging.leaving(unhex(REPORT));
-  await turn();
-  judge('when they are silent for a minute, with the next report', [board.tuning, member.came.at(-1)], [FEW, 'tuning 1 1 1 1']);
-}
-
-/** A member is gone after a minute, or, where many speak seldom, after three reports. */
-async function testPatience() {
-  const member = memberOf(), { judging } = member;
-  for (let number = 2; number < 51; number += 1) await heed(member, `session-message ${number} 77 7/1`, `p${number}`);
-  const report = new Uint8Array(Buffer.from(`57420102${(992).toString(16).padStart(8, '0')}${REPORT.slice(16, 56)}0079${'0000000100000001'.repeat(121)}0000`, 'hex'));
-  judging.leaving(report);
-  judge('of fifty each speaks once in 12.5 s', [report.length, readDatagram(report).marks.length, judging.patience], [1_000, 121, 60 * SECOND]);
-  member.board.options.rate = 2_000;
-  judging.leaving(report);
-  judge('where reports have half of that, once in 25', judging.patience, 75 * SECOND);
-  member.board.options.rate = 400;
-  judging.leaving(report);
-  judge('or, where reports have a tenth, once in 64', judging.patience, 192 * SECOND);
-}
-
-async function testNotice() {
-  const member = memberOf();
+  member.at = -SECOND;
+  member.says();
+  member.host.members(`9 ${wordOf(X)} - 0`);
   await heed(member, 'session-message 9 77 7/1 7=3');
-  judge('what a stranger reports is not missing', member.telling.reported.missing('7/1', member.drawn), 0);
-  await meet(member, 9, 'x', ' 7=3');
-  judge('and what a member reports is', member.telling.reported.missing('7/1', member.drawn), 1);
+  judge('what a stranger reports is not missing', missing(member), 0);
+  await meet(member, 9, X, ' 7=3');
+  judge('and what a member reports is', [missing(member), [...member.telling.reported.names.keys()]], [1, ['7 7/1 3']]);
+  member.says(...NEW);
+  for (const seq of [2, 3]) judge('what comes is handed in', await heed(member, drawing(7, seq)), null);
+  judge('then it is forgotten, and what is below is missing', [missing(member), member.telling.reported.names.size], [1, 0]);
+  judge('what the host sends goes out', member.sent, ['00ff', '00ff']);
+  member.says('dropped own');
+  judge('what comes under our number is not handed in', await heed(member, 'request 1 7 7/1 2'), 'under our number');
+  member.says();
+  await heed(member, 'page-state 8 7/1 7=3', Y);
+  judge('who sends from there its own reports alone tell', [...member.wire.places], [['x', 9]]);
+  await heed(member, 'page-state 9 7/1 8=1');
+  judge('a page state reports, too', missing(member), 2);
+  const came = member.host.told.filter((line) => line.startsWith('came ')).map((line) => line.split(' '));
+  judge('the host hears from where each comes, and its bytes', [came.map((line) => line[2]), new TextDecoder().decode(unhex(came[2][3]))], [[...Array(5).fill(wordOf(X)), wordOf(Y), wordOf(X)], drawing(7, 2)]);
+  member.says('dropped datagram');
+  judge('also what is no datagram', await member.judging.heed(null, new Uint8Array([87, 66]), X), { sent: [], refused: 'no datagram' });
 }
 
-async function testOwnMarks() {
-  const member = memberOf({ isReady: false });
-  member.board.readyAt = SECOND;
-  judge('who listens begins later', member.judging.plan()[0][0], SECOND);
-  await heed(member, 'page-state 9 7/1 1=5');
-  await heed(member, 'page-state 8 7/1 1=5', 'y');
-  judge('a mark of our own number is kept, once', [member.came.length, member.kept], [2, ['page-state 9 7/1 1=5']]);
-  judge('none that is too great', [await heed(member, 'page-state 9 7/1 1=65537'), await heed(member, 'page-state 9 7/1 1=65536')], ['a mark of ours', null]);
-  judge('is kept', member.kept.length, 2);
-  await member.judging.plan()[0][1]();
-  member.board.moment = SECOND;
-  await heed(member, 'page-state 9 7/1 1=70000');
-  judge('after it none changes anything, and it is told', [member.isReady, member.kept.length, member.came.length, member.alarms.told()],
-    [true, 2, 4, ['a report tells of a drawing of ours that we did not make']]);
+/** People get in words what the host warns of, and why it drops something. */
+async function testWarnings() {
+  const member = memberOf();
+  member.says('dropped speaks', 'warn speaks 9');
+  judge('why', await heed(member, 'request 9 7 7/1 2'), 'under the number of another');
+  for (const what of ['mark', 'full', 'share']) {
+    member.says(`dropped ${what}`, `warn ${what}`);
+    await heed(member, drawing(7, 1), Z);
+  }
+  judge('each has its words', member.alarms.told(), ['somebody else speaks under the number of member 9: that is not heeded', 'a report tells of a drawing of ours that we did not make',
+    'the board is full: drawings of member 7 are not kept', 'strangers have their share of the board: drawings of member 7 are not kept']);
+  judge('nobody has our number', member.judging.hasTwin, false);
+  member.says('dropped own', 'warn twin');
+  await heed(member, 'session-message 1 77 7/1 1@5+10');
+  judge('a twin lasts, and nothing is drawn', [member.judging.hasTwin, await member.people.drawNow('7/1', 'line 0 0 1 1 *').catch(({ message }) => message)], [true, 'another member has our number: take a new one']);
 }
 
-/** The judge hears what the host holds: so our own marks are not taken for forgeries, and whoever asks for it gets an answer. */
-async function testHeld() {
+/** A member's copy of what is held is dropped, since it would hush us. If it differs from what is held, people are warned all the same. */
+async function testClash() {
   const member = memberOf();
   await meet(member);
-  [1, 2, 3].forEach((seq) => member.drawn.add(drawopOf(drawing(1, seq))));
-  judge('a report of all that we drew warns nobody', [await heed(member, 'session-message 9 78 7/1 1=3'), member.alarms.told()], [null, []]);
-  judge('one of more does', [await heed(member, 'session-message 9 79 7/1 1=4'), member.alarms.told()], [null, ['a report tells of a drawing of ours that we did not make']]);
-  judge('a stranger\u2019s copy of what is held', await heed(member, drawing(1, 2), 'z'), 'it would hush us');
-  judge('a member\u2019s copy of what is held', [await heed(member, drawing(1, 2)), member.alarms.told().slice(1)], ['it would hush us', []]);
-  judge('its drawing of another kind under that name', [await heed(member, drawing(1, 2, 6)), member.alarms.told().slice(1)],
-    ['it would hush us', ['two members draw with number 1: what they drew differs from member to member']]);
-  judge('his requests for what is held, and for what is not', [await heed(member, 'request 8 1 7/1 2', 'z'), await heed(member, 'request 8 1 7/1 4', 'z')],
-    [null, 'a stranger asks for what is not held']);
-  await heed(member, 'page-state 8 7/1 1=3', 'y');
-  judge('who sends from a place its own reports alone tell', [...member.wire.places], [['x', 9]]);
-  const young = memberOf({ isReady: false });
-  young.board.readyAt = SECOND;
-  young.drawn.add(drawopOf(drawing(1, 4)));
-  for (const mark of [4, 5]) await heed(young, `page-state 9 7/1 1=${mark}`);
-  judge('a mark of what is held is not kept', young.kept, ['page-state 9 7/1 1=5']);
+  for (const seq of [1, 2, 3]) member.drawn.add(drawopOf(drawing(1, seq)));
+  member.says('dropped again');
+  judge('a stranger repeats what is held', await heed(member, drawing(1, 2, 6), Z), 'it would hush us');
+  judge('a member\u2019s copy of what is held', [await heed(member, drawing(1, 2)), member.alarms.told()], ['it would hush us', []]);
+  judge('its drawing of another kind under that name', [await heed(member, drawing(1, 2, 6)), member.alarms.told()], ['it would hush us', ['two members draw with number 1: what they drew differs from member to member']]);
 }
 
 /** What the host refuses, or does not take, changes nothing here. */
 async function testRefused() {
-  const member = memberOf(), answers = (became, refused = null) => { member.board.came = async () => answer(became, refused); };
-  await meet(member);
-  answers(null, 'datagram 4');
-  judge('why a report is refused', await heed(member, 'session-message 9 78 7/1 7=3'), 'datagram 4');
-  judge('what it told of is not missing', member.telling.reported.missing('7/1', member.drawn), 0);
-  judge('why a drawop is refused', await heed(member, drawing(7, 1), 'z'), 'datagram 4');
-  answers('clash');
-  judge('one that clashes', [await heed(member, drawing(7, 1), 'z'), member.alarms.told()], [null, ['two members draw with number 7: what they drew differs from member to member']]);
-  answers('full');
-  judge('one without room', [await heed(member, drawing(7, 1), 'z'), member.alarms.told().at(-1)], [null, 'the board is full: new drawops are not kept']);
-  judge('none of them takes of a share, or is kept', [member.judging.judge.strange.size, member.drawn.total, member.kept], [0, 0, []]);
-}
-
-/** Two members of one number, who hear each other and nobody else: each report echoes the other's. */
-async function testTwins() {
-  const one = memberOf(), other = memberOf(), reports = [5, 6, 7].map((sent) => REPORT.replace('0000000000000005', `000000000000000${sent}`));
-  const leaves = (member, digits) => {
-    const { bytes, datagram } = member.judging.leaving(unhex(digits));
-    judge('what is told of a report is what goes out', datagram.words, readDatagram(bytes).words);
-    return bytes;
-  };
-  const hears = (member, bytes) => member.judging.heed(readDatagram(bytes), bytes, { place: 'y', owner: null }, []);
-  const first = leaves(one, reports[0]);
-  judge('a report of ours goes out as it is', hex(first), reports[0]);
-  judge('one that comes back shows no twin', [await hears(one, first), one.judging.hasTwin, hex(leaves(one, reports[0]))], ['under our number', false, reports[0]]);
-  [one.board.moment, other.board.moment] = [100, 100];
-  await hears(other, first);
-  const second = leaves(other, reports[1]);
-  judge('one that is not ours is echoed', readDatagram(second).words, 'session-message 1 6 7/1 1@5+0');
-  await hears(one, second);
-  judge('who finds a moment of his own there has a twin', [one.judging.faultOfDrawing(true), one.judging.faultOfDrawing(false), other.judging.faultOfDrawing(true)],
-    [...Array(2).fill('another member has our number: take a new one'), null]);
-  await hears(other, leaves(one, reports[2]));
-  judge('and so has the other', other.judging.hasTwin, true);
-  const replayed = memberOf();
-  replayed.judging.leaving(unhex(reports[2]));
-  for (const bytes of [first, second, unhex(reports[1])]) await hears(replayed, bytes);
-  judge('reports of an earlier start show none', replayed.judging.hasTwin, false);
-  await hears(replayed, unhex('574201010000002200000001000000070000000100000001000000000000000a0100000001000400012a'));
-  judge('nor does a drawing of ours that we did not make', replayed.judging.faultOfDrawing(true), null);
-}
-
-async function testRoom() {
   const member = memberOf();
-  for (let seq = 1; seq <= 70; seq += 1) await heed(member, drawing(7, seq));
-  judge('strangers have their share of the cells', [member.drawn.total, member.alarms.told()], [16, ['strangers have their share of the board: drawings of member 7 are not kept']]);
   await meet(member);
-  for (let seq = 100; member.drawn.total < 969; seq += 1) await heed(member, drawing(7, seq));
-  judge('a full board takes no drawing, and a delete alone', [await heed(member, drawing(7, 2_000)), await heed(member, 'draw 7 7/1 2001 5 delete 7 1')], ['the board is full', null]);
-  judge('nor do we draw', [member.judging.faultOfDrawing(true), member.judging.faultOfDrawing(false)], ['full', null]);
-  member.judging.leaving(unhex(REPORT));
-  judge('and it is told', member.alarms.told().at(-1), 'the board is full: 970 of 1000 cells; deletes and restores alone have room');
-  const sealed = memberOf({ strangers: 0 });
-  judge('under a key a stranger has no share, and nobody is warned of newcomers', [await heed(sealed, drawing(7, 1)), sealed.alarms.told()], ['over the share of strangers', []]);
+  member.host.close = 'refused endless';
+  judge('why a report is refused', await heed(member, 'session-message 9 78 7/1 7=3'), 'endless');
+  judge('what it told of is not missing', missing(member), 0);
+  judge('why a drawop is refused', await heed(member, drawing(7, 1), Z), 'endless');
+  member.host.close = 'ok never';
+  member.says('became clash');
+  judge('one that clashes', [await heed(member, drawing(7, 1), Z), member.alarms.told()], [null, ['two members draw with number 7: what they drew differs from member to member']]);
+  member.says('became left');
+  judge('one without room', [await heed(member, drawing(7, 1), Z), member.alarms.told().at(-1)], [null, 'the board is full: new drawops are not kept']);
+  judge('none of them is kept', [member.board.strange.size, member.drawn.total, await member.record.lines()], [0, 0, []]);
 }
 
-/** Nobody moves our time, and what is drawn ahead of it is taken of members alone, a day at most. */
-async function testTime() {
-  const member = memberOf(), now = Date.now() * 1_000, isNear = () => Math.abs(member.judging.timeOfDay(25) - Date.now() * 1_000) < SECOND;
+/** The record has what the host says, in its order. What no member gave stands there in words, until a member turns out to be who gave it. */
+async function testRecord() {
+  const member = memberOf(), { board, drawn } = member, given = '574201010000002200000007000000070000000100000001000000000000000501000000000001000127';
+  for (const [source, origin] of [[7, Y], [6, Z]]) {
+    member.says('record tick 25', `record ${drawing(source, 1)}`, `drew 7 1 ${source} 1`, 'became new');
+    await heed(member, drawing(source, 1), origin);
+  }
+  judge('what strangers gave', [await member.record.lines(), [...board.strange]], [['tick 25', drawing(7, 1), 'tick 25', drawing(6, 1)], ['7 7/1 1', '6 7/1 1']]);
+  judge('is a page of strangers, and would not be if one were ours', [1, 6].map((me) => [...drawn.strangePages(me, board.strange)]), [['7/1'], []]);
+  member.says('record tick 30', `record datagram ${given}`);
+  await heed(member, 'session-message 7 77 7/1 1@5+10', Y);
+  judge('is a member\u2019s once he answers, and no other\u2019s', [(await member.record.lines()).slice(4), [...board.strange]], [['tick 30', `datagram ${given}`], ['6 7/1 1']]);
+  judge('and so is the page', [...drawn.strangePages(1, board.strange)], []);
+}
+
+/** Who is heard the host says; how far away each is, its answer says. */
+async function testHeard() {
+  const member = memberOf(), { judging, host, board } = member, present = () => judging.present().map(([number, { distance }]) => [number, distance]), asked = () => host.told.filter((line) => line === 'members').length;
   await meet(member);
-  for (const [number, ahead] of [[8, 86_000], [9, 86_000]]) await heed(member, drawing(number, 1, now + ahead * SECOND));
-  judge('members that draw ahead are believed, and our time is ours', [member.drawn.total, isNear()], [2, true]);
-  judge('none a day ahead, and no stranger two minutes', [await heed(member, drawing(9, 2, now + DAY + 60 * SECOND)), await heed(member, drawing(8, 2, now + 120 * SECOND), 'z')],
-    ['ahead of the clock', 'ahead of the clock']);
+  judge('a member', judging.present(), [[9, { origin: wordOf(X), at: 25, answered: 25, distance: 5 }]]);
+  await judging.heard.look();
+  judge('nothing came in since, so nobody is asked', [present(), asked()], [[[9, 5]], 1]);
+  host.members(`9 ${wordOf(X)} 25 26`, `8 ${wordOf(Z)} - 26`);
+  member.at = 26;
+  await heed(member, 'session-message 8 77 7/1', Z);
+  await heed(member, 'session-message 9 78 7/1 1@20+0'); // an echo by which the host says that nobody answered
+  judge('of one that was heard the host is asked seldom', [present(), asked()], [[[9, 5]], 1]);
+  member.at += 100;
+  await judging.heard.look();
+  judge('and then again: a stranger has no distance, and a member that of its answer', present(), [[9, 5], [8, null]]);
+  judge('from where members speak', [X, Z].map((origin) => judging.heard.isMember(origin)), [true, false]);
+  board.begunAt = member.at = SECOND;
+  host.members(`7 ${wordOf(Z)} - ${SECOND}`);
+  await heed(member, 'session-message 7 77 7/1', Z);
+  judge('a new host has heard one, and two are remembered', present().map(([number]) => number).sort(), [7, 8, 9]);
+  judge('members are shown for a minute', [SECOND, 26 + 60 * SECOND].map((at) => { member.at = at; return present().length; }), [3, 1]);
+  member.at = SECOND + 192 * SECOND;
+  await heed(member, 'session-message 7 77 7/1', Z);
+  judge('they are remembered for so long', judging.heard.within(400 * SECOND, member.at).map(([number]) => number), [7]);
+  for (const [others, wanted] of [[[7, 5], [5, 7]], [[7], [7]]]) {
+    host.members(...others.map((number) => `${number} ${wordOf(Z)} - ${member.at}`));
+    member.at += 1_000;
+    await heed(member, 'session-message 7 77 7/1', Z);
+    judge('whom this host forgets is forgotten', present().map(([number]) => number).sort(), wanted);
+  }
+  await judging.leave(Z);
+  judge('who is gone is gone, also to the host', [judging.heard.within(400 * SECOND, member.at), host.told.at(-1)], [[], `gone ${member.at} ${wordOf(Z)}`]);
+}
+
+/** A member that moves has no distance until we hear its answer from there, and one that leaves is a member no more. */
+async function testMoves() {
+  const member = memberOf(), { judging, host } = member, present = () => judging.present().map(([number, { distance }]) => [number, distance]);
+  await meet(member);
+  member.at = 1_000;
+  host.members(`9 ${wordOf(Y)} 999 999`);
+  await heed(member, 'session-message 8 77 7/1', Z);
+  judge('it has moved', [present(), [X, Y].map((origin) => judging.heard.isMember(origin))], [[[9, null]], [false, true]]);
+  await judging.leave(Y);
+  judge('it has left', [present(), judging.heard.isMember(Y)], [[], false]);
+}
+
+/** The member tells its host other constants in the next turn, when a fourth other is heard, and when all are gone. */
+async function testFollowed() {
+  const member = memberOf(), { judging, board, host } = member, tunings = () => host.told.filter((line) => line.startsWith('tuning'));
+  const turn = async () => { for (const [, act] of judging.plan()) await act(); };
+  const hears = async (...numbers) => {
+    member.says();
+    host.members(...numbers.map((number) => `${number} p${number} - ${member.at}`));
+    member.at += 1_000;
+    await heed(member, `session-message ${numbers.at(-1)} 77 7/1`, X);
+  };
+  await hears(2, 3, 4);
+  await turn();
+  judge('three others change nothing', [board.tuning, tunings(), judging.plan().length], [FEW, [], 0]);
+  await hears(2, 3, 4, 5);
+  judge('a fourth does', judging.plan().length, 1);
+  await turn();
+  judge('once', [board.tuning, tunings(), judging.plan().length], [SEVERAL, ['tuning 2 4 1 3'], 0]);
+  member.at = 70 * SECOND;
+  judging.goes(readDatagram(unhex(REPORT)), 32);
+  await turn();
+  judge('when they are silent for a minute, with the next report', [board.tuning, tunings().at(-1)], [FEW, 'tuning 1 1 1 1']);
+}
+
+/** A member is gone after a minute, or, where many speak seldom, after three reports. */
+async function testPatience() {
+  const member = memberOf(), { judging } = member, report = { kind: 'session-message' };
+  member.says();
+  member.host.members(...Array.from({ length: 49 }, (_, i) => `${i + 2} p${i + 2} - 0`));
+  await heed(member, 'session-message 2 77 7/1');
+  for (const [rate, wanted] of [[4_000, 60], [2_000, 75], [400, 192]]) {
+    member.board.options.rate = rate;
+    judging.goes(report, 1_000);
+    judge(`of fifty who have ${rate} bytes a second one is gone after so many seconds`, judging.patience, wanted * SECOND);
+  }
+}
+
+/** The host gets the time of day if it reckons with another, and with each drawing. */
+async function testTime() {
+  const member = memberOf(), { board, host, people, judging } = member, ours = '57420101000000220000000100000007000000010000000100000000000000050100000000000100012a';
+  member.says();
+  judge('it is right', board.isWrong(), false);
+  await heed(member, 'ask-pages 8');
+  member.at = 2 * SECOND;
+  judge('this clock has gone otherwise', board.isWrong(), true);
+  await heed(member, 'ask-pages 8');
+  judge('then it is told, once', [host.told.map((line) => line.split(' ', 2).join(' ')), board.isWrong()], [['came 0', 'wall 2000000', 'came 2000000'], false]);
+  host.said.add = ['record tick 2000000', `record say ${drawing(1, 1)}`, 'drew 7 1 1 1', `send ${ours}`, `send ${ours.replace('00000001', '00000008')}`, 'became new'];
+  judge('a drawing', [await people.drawNow('7/1', 'line 0 0 1 1 *'), member.sent, member.drawn.total], [{ source: 1, seq: 1 }, [ours, ours.replace('00000001', '00000008')], 1]);
+  judge('what the host was told', host.told.slice(-2).map((line) => line.replace(/\d{9,}/, 'WALL')), ['wall 2000000 WALL', 'add 2000000 7/1 line 0 0 1 1 *']);
+  judge('the drawing is what the record has, and not what is repaired besides', [await member.record.lines(), judging.tails.take(9 * SECOND).map(hex)], [['tick 2000000', `say ${drawing(1, 1)}`], [ours]]);
+  host.said.add = ['became left'];
+  judge('where there is no room', await people.drawNow('7/1', 'line 0 0 1 1 *').catch(({ message }) => message), 'full');
+}
+
+/** How full the board is. */
+async function testRoom() {
+  const member = memberOf(), told = () => member.alarms.told().at(-1);
+  member.drawn.total = 799;
+  member.judging.goes({ kind: 'session-message' }, 32);
+  judge('there is room', told(), undefined);
+  member.drawn.total = 800;
+  member.judging.goes({ kind: 'session-message' }, 32);
+  judge('it becomes full', told(), 'the board becomes full: 800 of 1000 cells are taken');
+  member.drawn.total = 969;
+  member.judging.goes({ kind: 'session-message' }, 32);
+  judge('it is full', told(), 'the board is full: 969 of 1000 cells; deletes and restores alone have room');
 }
 
 /** What we drew last goes out again when it is due, unless we heard of it; that we ask for something tells of losses. */
 async function testLast() {
-  const member = memberOf(), { judging } = member, repeated = [];
-  member.repeat = async () => { repeated.push(...judging.tails.take(member.board.moment).map((digits) => written.decode(unhex(digits)))); };
+  const member = memberOf(), { judging } = member, repeated = [], [one, two] = [1, 2].map((byte) => new Uint8Array([byte]));
+  member.repeat = async () => { repeated.push(...judging.tails.take(member.at).map(hex)); };
   await meet(member);
-  member.board.moment = SECOND;
-  judging.tails.drew(drawopOf(drawing(1, 1), hex(written.encode('one'))), SECOND);
+  judging.tails.drew({ page: '7/1', seq: 1 }, one, SECOND);
   const [[moment, act]] = judging.plan();
-  member.board.moment = moment;
+  member.at = moment;
   await act();
-  judge('a drawing that nothing follows', [moment, repeated, judging.plan().length], [1.25 * SECOND, ['one'], 1]);
-  judging.leaving(unhex('57420103000000140000000100000007000000070000000100000003'));
-  member.board.moment = 2 * SECOND;
+  judge('a drawing that nothing follows', [moment, repeated, judging.plan().length], [1.25 * SECOND, ['01'], 1]);
+  member.board.moment = moment;
+  judging.goes({ kind: 'request' }, 28);
+  member.at = 2 * SECOND;
   await judging.plan()[0][1]();
-  judge('goes a last time where something was lost', [repeated, judging.plan()], [['one', 'one'], []]);
-  judging.tails.drew(drawopOf(drawing(1, 2), hex(written.encode('two'))), 2 * SECOND);
-  await heed(member, 'request 8 1 7/1 3', 'z');
-  judge('a request that is not handed in changes nothing', judging.plan().length, 1);
-  await heed(member, 'session-message 9 78 7/1 1=2');
-  judge('what a report tells of is known', judging.plan(), []);
+  judge('goes a last time where something was lost', [repeated, judging.plan()], [['01', '01'], []]);
+  for (const [origin, why, words, left] of [[Z, [], 'session-message 8 78 7/1 1=2', 1], [X, ['dropped crowd'], 'session-message 9 78 7/1 1=2', 1], [X, ['dropped again'], 'request 9 1 7/1 2', 0], [X, [], 'session-message 9 78 7/1 1=2', 0]]) {
+    judging.tails.drew({ page: '7/1', seq: 2 }, two, 2 * SECOND);
+    member.says(...why);
+    await heed(member, words, origin);
+    judge(`what a member told others of is known: ${words}, ${why}`, judging.plan().length, left);
+  }
 }
 
-/** Pages of members are listed before any of strangers, however many these are: of a record, since no more than sixteen come. */
+/** Pages of members are listed before any of strangers, however many these are. */
 async function testPages() {
-  const names = Array.from({ length: 1_499 }, (_, i) => `900 0/${i + 1} 1`), member = memberOf({ cells: 65_535, strange: names });
-  await meet(member);
-  for (const name of names) member.drawn.add(drawopOf(`draw ${name} 5 line 0 0 1 1 *`));
-  judge('strangers open no more', await heed(member, 'draw 900 0/1500 1 5 line 0 0 1 1 *', 's'), 'strangers are on too many pages, or too many numbers');
-  await heed(member, 'draw 9 9/2 1 5 line 0 0 1 1 *');
-  member.drawn.add(drawopOf('draw 1 5/1 1 5 line 0 0 1 1 *'));
-  member.telling.reported.tell({ source: 9, page: '6/1', seq: 1 });
-  member.telling.tellPages();
-  const { page, pages } = member.pages;
-  judge('the page in view, ours, and those of members and of which they tell', [page, pages.slice(0, 4).map((one) => one.page)], ['7/1', ['5/1', '6/1', '7/1', '9/2']]);
-  judge('then those of strangers that were drawn on last', [pages.length, pages[4].page, pages.at(-1)], [1_000, '0/504', { page: '0/1499', drawn: 1 }]);
+  const names = Array.from({ length: 1_499 }, (_, i) => `900 0/${i + 1} 1`), member = memberOf({ strange: names }), { drawn, telling, host } = member;
+  for (const name of [...names.slice(0, 900), '9 9/2 1', '1 5/1 1']) drawn.add(drawopOf(`draw ${name} 5 line 0 0 1 1 *`));
+  telling.reported.tell({ source: 9, page: '6/1', seq: 1 });
+  await telling.tellPages();
+  judge('the page in view, ours, and those of members and of which they tell', [member.pages.page, member.pages.pages.slice(0, 4).map((one) => one.page)], ['7/1', ['5/1', '6/1', '7/1', '9/2']]);
+  judge('then those of strangers', [member.pages.pages.length, member.pages.pages.at(-1), host.told], [904, { page: '0/900', drawn: 1 }, []]);
+  for (const name of names) drawn.add(drawopOf(`draw ${name} 5 line 0 0 1 1 *`));
+  host.said.list = ['list 1000', '1 5/1 1'.replace('/', ' '), '9 2 1', ...names.slice(501).map((name) => name.split(' ')[1].replace('/', ' ') + ' 1')];
+  await telling.tellPages();
+  judge('of too many the host says which', [host.told, member.pages.pages.length, member.pages.pages[4].page, member.pages.pages.at(-1).page], [['list 1000'], 1_000, '0/502', '0/1497']);
 }
+
+/** Of too many who are heard the board gets those first that have answered us. */
+async function testMembers() {
+  const member = memberOf();
+  member.at = 10;
+  member.says();
+  member.host.members(...Array.from({ length: 600 }, (_, i) => `${i + 2} p${i + 2} - 10`), `900 ${wordOf(X)} 10 10`);
+  await heed(member, 'session-message 900 77 7/1 1@2+4');
+  member.telling.tellMembers();
+  judge('by their numbers', [member.members.members.length, member.members.members.slice(-2)], [500, [{ member: 500, distance: null, heard: 0 }, { member: 900, distance: 0.002, heard: 0 }]]);
+}
+
+const TESTS = [testOrigins, testReports, testWarnings, testClash, testRefused, testRecord, testHeard, testMoves, testFollowed, testPatience, testTime, testRoom, testLast, testPages, testMembers];
 
 export async function testJudging() {
-  for (const test of [testHost, testRecord, testFollowed, testPatience, testNotice, testOwnMarks, testHeld, testRefused, testTwins, testRoom, testTime, testLast, testPages]) await test();
+  for (const test of TESTS) await test();
 }

@@ -1,32 +1,32 @@
 // Tests the last drawing before a pause, which is sent again: `tests/live/test_tails.py` once more.
 import { Tails, WAITS } from '../../web/member/tails.js';
-import { drawopOf } from '../../web/member/views.js';
 import { judge } from '../judge.mjs';
-import { datagramOf } from './table.mjs';
+import { datagramOf } from './worded.mjs';
 
 const SECOND = 1_000_000, LATELY = 60 * SECOND, MOST_PAGES = 16, [FIRST, LAST] = WAITS;
-const drawing = (seq, page = '1/1') => drawopOf(`draw 7 ${page} ${seq} 10 line 0 1 4 1 *`, `${page}-${seq}`);
+// a drawing of ours, and what stands for its bytes
+const drawing = (seq, page = '1/1') => /** @type {const} */ ([{ page, seq }, `${page}-${seq}`]);
 
 /** What we drew last, on these pages, where somebody has asked for a drawing of another. */
 function lossy(...drawn) {
   const tails = new Tails(7);
   tails.hear(datagramOf('request 8 9 1/1 1'), 0);
-  for (const drawop of drawn) tails.drew(drawop, 0);
+  for (const drawop of drawn) tails.drew(...drawop, 0);
   return tails;
 }
 
 function testWaits() {
   const tails = lossy();
   judge('nothing was drawn', [tails.due(), tails.take(9 * SECOND)], [null, []]);
-  tails.drew(drawing(1), 100);
+  tails.drew(...drawing(1), 100);
   judge('a drawing is sent again after a quarter of a second, and after a second', [tails.due(), tails.take(99 + FIRST), tails.take(100 + FIRST), tails.due(),
     tails.take(99 + LAST), tails.take(100 + LAST), tails.due(), tails.take(9 * SECOND)], [100 + FIRST, [], ['1/1-1'], 100 + LAST, [], ['1/1-1'], null, []]);
-  tails.drew(drawing(2), 0);
-  tails.drew(drawing(3), FIRST - 1);
+  tails.drew(...drawing(2), 0);
+  tails.drew(...drawing(3), FIRST - 1);
   judge('one that another follows is not', [tails.take(FIRST), tails.take(2 * FIRST - 1)], [[], ['1/1-3']]);
-  tails.drew(drawing(4), SECOND);
+  tails.drew(...drawing(4), SECOND);
   judge('nor is one that was sent again once', [tails.take(SECOND + FIRST), tails.due()], [['1/1-4'], SECOND + LAST]);
-  tails.drew(drawing(1, '2/1'), SECOND);
+  tails.drew(...drawing(1, '2/1'), SECOND);
   judge('each page has one', tails.take(SECOND + LAST).sort(), ['1/1-4', '2/1-1']);
 }
 
@@ -34,7 +34,7 @@ function testQuiet() {
   const tails = new Tails(7);
   for (const [asked, wanted] of [[null, []], [0, ['1/1-1']], [LAST - LATELY, ['1/1-1']], [LAST - LATELY - 1, []]]) {
     if (asked !== null) tails.asked(asked);
-    tails.drew(drawing(1), 0);
+    tails.drew(...drawing(1), 0);
     judge(`the last time is where something was lost lately, as at ${asked}`, [tails.take(FIRST), tails.take(LAST), tails.due()], [['1/1-1'], wanted, null]);
   }
 }
@@ -54,10 +54,10 @@ function testTold() {
 
 function testBounds() {
   const tails = new Tails(7), pages = Array.from({ length: MOST_PAGES + 2 }, (_, page) => `1/${page}`);
-  pages.forEach((page, at) => tails.drew(drawing(1, page), at));
-  tails.drew(drawing(2, '1/2'), 99);
+  pages.forEach((page, at) => tails.drew(...drawing(1, page), at));
+  tails.drew(...drawing(2, '1/2'), 99);
   judge('of many pages the last wait', [...tails.tails.keys()].sort(), pages.slice(2).sort());
-  tails.drew(drawing(1, '2/1'), 100);
+  tails.drew(...drawing(1, '2/1'), 100);
   judge('the one that was drawn on first goes', tails.tails.has('1/3'), false);
 }
 

@@ -1,5 +1,5 @@
 """Beside the native program: the module, which answers the same lines with the same bytes, also where calls by bytes take their place; and what
-the page reads by itself of a datagram."""
+the page reads by itself of a datagram. Beside the model of a judged host: the lines that the page's member tells the module."""
 from __future__ import annotations
 
 import json
@@ -18,12 +18,16 @@ from ..host import faults
 from ..host.conversations import parted
 from ..host.scripts import Writer
 from ..host.sessions import Session, spoiled
-from ..host.test_kept import DRAWING, KeptSession
+from ..host.test_judged import CONVERSATIONS as JUDGED
+from ..host.test_judged import JudgedSession
+from ..host.test_kept import DRAWING, KeptSession, first_difference
+from ..seeds import seeds
 
 HERE = Path(__file__).resolve().parent
 
 LINES = 10_000
 CONVERSATIONS = 40  # of self-managing hosts
+JUDGED_SESSIONS = 24
 SPOILED = 1_000
 READ = 5_000
 PATIENCE = 300
@@ -86,6 +90,21 @@ def check_bytes(facts: Facts, program: str, node: str, module: Path) -> None:
     facts.holds("there are conversations enough", len(given) > CONVERSATIONS, len(given))
 
 
+def judged_conversations() -> list[tuple[str, str]]:
+    """Conversations of judged hosts, at random and with values that were worked out, and what each is to print by the model."""
+    made = [JudgedSession(random.Random(seed), held=seed % 4).conversation() for seed in seeds(JUDGED_SESSIONS)]
+    return [*made, *(parted(conversation) for conversation in JUDGED.values())]
+
+
+def check_judged(facts: Facts, node: str, module: Path) -> None:
+    """The judgement of the page is that of the model which `wb host` is compared with."""
+    conversations_ = judged_conversations()
+    differ = [first_difference(given, by_module(node, module, given)[0], printed) for given, printed in conversations_]
+    facts("the module judges as the model does", [each for each in differ if each], [])
+    dropped = {why for _, printed in conversations_ for why in re.findall("^dropped (.*)", printed, re.MULTILINE)}
+    facts.holds("nearly each reason to drop a datagram is among them", len(dropped) > 8, dropped)
+
+
 def check_memory(facts: Facts, node: str, module: Path) -> None:
     """A member that has taken in 60,000 drawings by bytes has no more memory than one that took them in by lines."""
     lines = [f"came {place} {digits}" for place, digits in enumerate(arrivals.drawings().digits)]
@@ -129,6 +148,10 @@ def test_what_is_read(facts: Facts) -> None:
 
 def test_lines_by_the_module(facts: Facts, module: Path) -> None:
     check_lines(facts, program(), find_node(), module)
+
+
+def test_judged_lines(facts: Facts, module: Path) -> None:
+    check_judged(facts, find_node(), module)
 
 
 def test_calls_by_bytes(facts: Facts, module: Path) -> None:

@@ -68,7 +68,7 @@ def test_numbers_of_the_library() -> None:
     outcomes = re.findall(r"(\d+): '(\w+)'", next(line for line in script.splitlines() if line.startswith("const OUTCOMES")))
     assert outcomes == [(known[name], word) for name, word in (("NEW", "new"), ("AGAIN", "again"), ("CLASH", "clash"), ("LEFT", "full"))]
     refusals = re.findall(r"(\d+): '([\w ]+)'", script.split("const REFUSALS")[1].split(");")[0])
-    names = ("NOT_KEPT", "NO_MOMENT", "BACK_IN_TIME", "LISTENING", "OURS", "NUMBERS", "NO_DRAWOP", "NO_QUESTION")
+    names = ("NOT_KEPT", "NO_MOMENT", "BACK_IN_TIME", "LISTENING", "OURS", "NUMBERS", "NO_DRAWOP", "NO_QUESTION", "JUDGED")
     assert [number for number, _ in refusals] == [known[name] for name in names]
     assert sorted(re.findall(r"@property \{.*\} (wb_\w+)", script)) == module.CALLS
 

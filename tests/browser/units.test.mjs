@@ -13,11 +13,11 @@ import { drawopOf, fieldsOf, orderOfPages } from '../../web/member/views.js';
 import { Wire } from '../../web/member/wire.js';
 import { testBrokers, testPackets } from './brokers.mjs';
 import { testConstants } from './constants.mjs';
-import { testDatagrams, testEchoes } from './datagrams.mjs';
+import { testDatagrams } from './datagrams.mjs';
 import { fault, judge } from '../judge.mjs';
 import { testJudging, testReported } from './judging.mjs';
-import { datagramOf, testTable } from './table.mjs';
 import { testTails } from './tails.mjs';
+import { datagramOf } from './worded.mjs';
 
 function testBlocks() {
   const taken = new Block(['send 01ff', 'batch 1 0 0 0'], 'ok 34890'), refused = new Block([], 'refused word 3');
@@ -280,6 +280,6 @@ async function testRecords() {
   judge('each line in one part', [parts, broken.waiting], [[[0, ['board 7 100 1 1', 'tick 5']], [1, ['tick 7']]], []]);
 }
 
-const TESTS = [testBlocks, testWords, testDatagrams, testEchoes, testDrawn, testInvitations, testSeal, testEnvelope, testSealed, testCounters, testPackets, testBrokers, testInbox, testWire, testWireBounds,
-  testPresence, testPresences, testAlarms, testRecords, testReported, testTable, testJudging, testTails, testConstants];
+const TESTS = [testBlocks, testWords, testDatagrams, testDrawn, testInvitations, testSeal, testEnvelope, testSealed, testCounters, testPackets, testBrokers, testInbox, testWire, testWireBounds,
+  testPresence, testPresences, testAlarms, testRecords, testReported, testJudging, testTails, testConstants];
 for (const each of TESTS) test(each.name.slice('test'.length), each);

@@ -1,7 +1,6 @@
 """The judgement of a member, as the table of cases has it: which datagrams are handed to its host, and why the others are not.
 
-It is written to be read, and kept apart from those that have to be fast: `web/member/judge.js` and the crate wb_judge pass the table that
-make_cases.py makes by it. It has no host, no clock and no socket: whoever asks tells the moment, and what the host holds. Moments and times
+It is written to be read, and kept apart from the one that has to be fast: the crate wb_judge passes the table that make_cases.py makes by it. It has no host, no clock and no socket: whoever asks tells the moment, and what the host holds. Moments and times
 are microseconds. A datagram is said in the words of `wb words`."""
 
 from __future__ import annotations
@@ -163,8 +162,9 @@ class Judge:
             self.strange[name] = origin
 
     def remember(self, name: Name) -> None:
-        """By the record, no known origin gave a drawop that is held."""
-        self.strange[name] = Origin("record")
+        """By the record, no known origin gave a drawop that is held. Of more than a share not all are remembered."""
+        if len(self.strange) < self.most_strange:
+            self.strange[name] = Origin("record")
 
     def leave(self, origin: Origin) -> None:
         """The network says that who spoke from there is gone."""

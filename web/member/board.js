@@ -1,14 +1,14 @@
-/** A self-managing host, with its record: a drawing of ours is in the record before it is sent, and a host that broke off starts from
- * it. As `live/board.py`, whose host judges besides. */
+/** A judged host, with its record: what it says is to be recorded is in the record before its datagrams leave, and a host that broke off
+ * starts from it. As `live/board.py`. */
 import { FEW } from './constants.js';
-import { heldOf } from './held.js';
+import { hex } from './datagram.js';
+import { drawopIn, heldOf, linesOfOthers, nameIn } from './held.js';
 import { HostEnded } from './host.js';
-import { hex, readDatagram } from './datagram.js';
+import { numberOf } from './origins.js';
 import { FIRST_LINE, actsOf } from './record.js';
 import { drawopOf, pageWords } from './views.js';
 
 /** @typedef {import('./views.js').Drawop} Drawop */
-/** @typedef {import('./host.js').Answer} Answer */
 /** @typedef {import('./host.js').Block} Block */
 /** @typedef {import('./host.js').Host} Host */
 
@@ -27,6 +27,12 @@ const LISTENING = 6_000_000, LEAST_LISTENING = 1;
  * heard it, and has not guessed it. */
 const MOMENTS = 2 ** 48, LEAD_PART = 512;
 
+/** The lines that tell a host a moment. */
+const MOMENT = /^(?:judge|tick|came|add|wall|gone) (\d+)/;
+
+/** By how much the time of day may be another than the host reckons. */
+const SLACK = 1_000_000;
+
 /** A host that is started so often within a minute, in milliseconds, is not started again. */
 const MOST_STARTS = 4, MINUTE = 60_000;
 
@@ -41,27 +47,27 @@ export class NoRoom extends Error {}
 
 export class Board {
   /** @param {import('./host.js').Program} program @param {import('./record.js').Record} record @param {Start} options
+   * @param {import('./transports.js').Transport} transport says who we are there, and how many drawops of strangers are taken
    * @param {(drawop: Drawop) => void} hold is told each drawop that the host took in */
-  constructor(program, record, options, hold) {
+  constructor(program, record, options, transport, hold) {
     this.program = program;
     this.record = record;
     this.options = options;
+    this.transport = transport;
     this.hold = hold;
-    /** Names of what strangers drew, by the record.
-     * @type {string[]} */
-    this.strange = [];
+    /** Names of what no member gave, by the lines of the record.
+     * @type {Set<string>} */
+    this.strange = new Set();
     /** @type {Host | null} */
     this.host = null;
     this.tuning = FEW; // the constants of the timers, also of the next host
     this.me = 0;
     this.cells = 0;
-    this.moment = 0; // of the last call
-    this.keptMoment = 0; // of the record's last line
+    this.moment = 0; // of the last line that has one
     this.readyAt = 0; // from then on it may draw
+    this.begunAt = 0; // the moment of the present host's first
+    this.wall = this.wallAt = 0; // the time of day that the host was told, and the moment of that
     this.base = 0;
-    /** Marks of our number by page, that were heard while the host listened.
-     * @type {Map<string, number>} */
-    this.ownMarks = new Map();
     /** The moment at which the host has something to do.
      * @type {number | null} */
     this.due = null;
@@ -89,20 +95,31 @@ export class Board {
     return Math.floor(performance.now() * 1_000 + this.base);
   }
 
-  /** Starts a self-managing host, and gives it the datagrams of the record. What it sends meanwhile nobody waits for.
+  /** Starts a judged host, and gives it the lines of the record.
    * @param {number} listening for how many microseconds nothing is drawn
    * @param {number} [lead] which part of the moments that are left is passed over */
   async start(listening, lead = 0) {
-    const { board, moment, datagrams, strange } = await heldOf(this.program, actsOf(await this.record.lines()));
-    const host = await this.program.start(), now = Math.max(this.moment, moment + Math.floor(lead * (MOMENTS - moment)));
-    this.readyAt = now + Math.max(LEAST_LISTENING, listening);
-    for (const line of [board, `tick ${now}`, `keep ${this.options.rate} ${this.readyAt - now}`, `tuning ${this.tuning.replaceAll(',', ' ')}`]) host.ask(line);
-    for (const bytes of datagrams) if (host.came(now, bytes).became === 'new') this.hold(drawopIn(bytes));
-    [this.moment, this.due] = [now, host.due()];
+    const { board, moment, lines } = heldOf(actsOf(await this.record.lines())), host = await this.program.start();
+    this.begunAt = 1 + Math.max(this.moment, moment + Math.floor(lead * (MOMENTS - moment)));
+    this.readyAt = this.begunAt + Math.max(LEAST_LISTENING, listening);
+    this.strange = new Set();
+    for (const line of [board, this.lineToJudge(), tuningLine(this.tuning)]) {
+      const { fault } = this.ask(host, line);
+      if (fault !== null) throw new BoardFault(`no host can have this board: ${board} (${fault})`);
+    }
+    for (const line of lines) {
+      if (this.ask(host, `held ${line}`).said('drew').length) this.hold(drawopIn(line));
+      this.noteGiver(line);
+    }
     this.host = host;
-    this.strange = strange;
     [this.me, this.cells] = board.split(' ').slice(1, 3).map(Number);
-    this.keptMoment = moment;
+  }
+
+  /** The line that makes a host judge. */
+  lineToJudge() {
+    const { begunAt, readyAt, options: { rate }, transport: { here, strangers } } = this;
+    [this.wall, this.wallAt] = [timeOfDay(), begunAt];
+    return `judge ${begunAt} ${rate} ${readyAt - begunAt} ${this.wall} ${here === null ? '-' : numberOf(here)} ${strangers ?? '-'}`;
   }
 
   /** Starts a host in the place of one that broke off, which is thrown away with its memory. */
@@ -125,110 +142,100 @@ export class Board {
     }
   }
 
-  // ---- calls
+  // ---- lines
 
-  /** Has the host do something. HostEnded where it broke off and was started again: then it did nothing.
-   * @template {Answer | Block} T @param {number | null} now the moment that the call has @param {(host: Host) => T} call @param {() => string} words say what it is
-   * @returns {Promise<T>} */
-  async call(now, call, words) {
+  /** The block of a line, with the next moment that is due.
+   * @param {Host} host @param {string} line */
+  ask(host, line) {
+    const block = host.ask(line);
+    if (block.fault === null) [this.due, this.moment] = [block.due, Number(MOMENT.exec(line)?.[1] ?? this.moment)];
+    return block;
+  }
+
+  /** The block of a line. HostEnded where the host broke off and was started again: then the line did nothing.
+   * @param {string} line */
+  async tell(line) {
     if (!this.host) throw new BoardFault('there is no host');
     try {
-      const told = call(this.host);
-      if (faultOf(told) === null) [this.due, this.moment] = [told.due, now ?? this.moment];
-      return told;
+      return this.ask(this.host, line);
     } catch (fault) {
       if (!(fault instanceof HostEnded)) throw fault;
-      this.record.note(`the host broke off (${String(fault).slice(0, 80)}) at: ${words().slice(0, 60)} ..`);
+      this.record.note(`the host broke off (${String(fault).slice(0, 80)}) at: ${line.slice(0, 60)} ..`);
       await this.startAgain();
       throw fault;
     }
   }
 
-  /** The block of a line.
-   * @param {string} line @param {number | null} [now] its moment, where it has one */
-  tell(line, now = null) {
-    return this.call(now, (host) => host.ask(line), () => line);
+  /** The block of a line of others or of the clock. What it records is in the record before anything of it is sent; while that can't be written, it
+   * waits, since others have what they drew.
+   * @param {string} line */
+  async act(line) {
+    const block = await this.tell(line);
+    this.keep(block.said('record'));
+    if (block.said('send').length && !this.record.fault) await this.record.flush();
+    return block;
   }
 
   /** Gives the timers other constants. What is set already keeps its moment.
    * @param {string} constants */
   async tune(constants) {
     this.tuning = constants;
-    await this.tell(`tuning ${constants.replaceAll(',', ' ')}`);
+    await this.tell(tuningLine(constants));
   }
 
   /** Gives the host a datagram that came in.
-   * @param {Uint8Array} bytes */
-  came(bytes) {
-    const now = this.now();
-    return this.call(now, (host) => host.came(now, bytes), () => `came ${now} ${hex(bytes)}`);
+   * @param {Uint8Array} bytes @param {string} origin */
+  came(bytes, origin) {
+    return this.act(`came ${this.now()} ${origin} ${hex(bytes)}`);
   }
 
-  /** The host does what is due. */
-  tick() {
-    const now = this.now();
-    return this.call(now, (host) => host.tick(now), () => `tick ${now}`);
+  /** Whether the host reckons with another time of day than this machine's, as people may set it at any moment. */
+  isWrong() {
+    return Math.abs(this.wall + this.now() - this.wallAt - timeOfDay()) > SLACK;
   }
 
-  /** Gives the host a drawop that came in. One that is new is kept and told.
-   * @param {string} words @param {Uint8Array} bytes @param {boolean} isStrange no member gave it */
-  async take(words, bytes, isStrange) {
-    const answer = await this.came(bytes);
-    if (answer.became === 'new') {
-      const drawop = drawopOf(words, hex(bytes));
-      this.keep(lineOf(drawop, isStrange));
-      this.hold(drawop);
-    }
-    return answer;
+  /** The line that gives the host the time of day. */
+  lineOfTime() {
+    [this.wall, this.wallAt] = [timeOfDay(), this.now()];
+    return `wall ${this.wallAt} ${this.wall}`;
   }
 
   /** Has the host draw, which gives a drawing its number and its time. The record has it before anything of it is sent; where it can't have it, nor
    * does the host any more, and NoRoom says why.
-   * @param {string} page @param {number} seq the number that it will have @param {number} time @param {string} operation
+   * @param {string} page @param {string} operation
    * @returns {Promise<{ block: Block, drawop: Drawop | null }>} */
-  async draw(page, seq, time, operation) {
+  async draw(page, operation) {
     if (this.record.fault && !await this.record.keep([TRIED])) throw new NoRoom(this.record.fault);
-    const now = this.now(), block = await this.tell(`add ${now} ${time} ${page} ${operation}`, now), name = `${this.me} ${page} ${seq}`;
-    const bytes = block.sent().find((each) => isDrawop(each, name));
-    if (bytes === undefined) return { block, drawop: null };
-    const drawop = drawopIn(bytes);
-    if (!await this.record.keep(this.withTick(`say ${drawop.words}`))) {
+    const block = await this.tell(`add ${this.now()} ${page} ${operation}`), lines = block.said('record'), line = lines.find((one) => one.startsWith('say '));
+    if (lines.length && !await this.record.keep(lines)) {
+      const { fault } = this.record;
       await this.beginAgain();
-      throw new NoRoom(this.record.fault);
+      throw new NoRoom(fault);
     }
-    this.keptMoment = this.moment;
-    this.hold(drawop);
+    const drawop = line === undefined ? null : drawopIn(line);
+    if (drawop) this.hold(drawop);
     return { block, drawop };
   }
 
-  /** A line after the tick that the record lacks.
-   * @param {string} line */
-  withTick(line) {
-    return this.moment > this.keptMoment ? [`tick ${this.moment}`, line] : [line];
+  /** Puts lines into the record.
+   * @param {string[]} lines */
+  keep(lines) {
+    for (const line of lines) this.noteGiver(line);
+    if (lines.length) this.record.add(...lines);
   }
 
-  /** Puts a line into the record.
+  /** What others gave stands in the record in words if no member gave it.
    * @param {string} line */
-  keep(line) {
-    this.record.add(...this.withTick(line));
-    this.keptMoment = this.moment;
-  }
-
-  /** Puts a mark of our own number into the record, which a host that listens has heard: the next start counts on from there too.
-   * @param {number} sender @param {string} page @param {number} own @param {number} top the greatest number of ours that is held there */
-  keepMark(sender, page, own, top) {
-    if (this.moment >= this.readyAt || own <= Math.max(top, this.ownMarks.get(page) ?? 0)) return;
-    this.ownMarks.set(page, own);
-    this.keep(`page-state ${sender} ${page} ${this.me}=${own}`);
+  noteGiver(line) {
+    if (line.startsWith('draw ')) this.strange.add(nameIn(line));
+    else if (line.startsWith('datagram ')) this.strange.delete(nameIn(line));
   }
 
   /** Goes on under another number, with a record of its own and with all that was held.
-   * @param {number} me @param {import('./record.js').Record} record @param {Drawop[]} held @param {Map<string, string>} strange names of what strangers drew */
-  async renumber(me, record, held, strange) {
-    const old = this.record;
-    if (!await record.keep([FIRST_LINE, boardLine(me, this.cells), `tick ${this.moment}`, ...held.map((drawop) => lineOf(drawop, strange.has(drawop.name)))])) {
-      throw new NoRoom(record.fault);
-    }
+   * @param {number} me @param {import('./record.js').Record} record */
+  async renumber(me, record) {
+    const old = this.record, lines = await linesOfOthers(this.program, heldOf(actsOf(await old.lines())));
+    if (!await record.keep([FIRST_LINE, boardLine(me, this.cells), `tick ${this.moment}`, ...lines])) throw new NoRoom(record.fault);
     this.record = record;
     this.readyAt = this.moment;
     await this.beginAgain();
@@ -240,7 +247,13 @@ export class Board {
   /** The drawops that a page shows, in the order of display.
    * @param {string} page */
   async view(page) {
-    return (await this.tell(`view ${pageWords(page)}`)).lines.slice(1).map((words) => drawopOf(words));
+    return (await this.tell(`view ${pageWords(page)}`)).lines.slice(1).map(drawopOf);
+  }
+
+  /** The first `most` of the pages that are drawn on: first those of ours, then those of members, and of each kind first those drawn on last.
+   * @param {number} most */
+  async pages(most) {
+    return (await this.tell(`list ${most}`)).lines.slice(1).map((line) => line.split(' ', 2).join('/'));
   }
 
   /** The rows of a page, without what is empty at their right and at the end.
@@ -250,33 +263,14 @@ export class Board {
     while (rows.length && !rows[rows.length - 1]) rows.pop();
     return rows;
   }
-
-  /** The number for the next drawop of ours on a page, or why there is none.
-   * @param {string} page @returns {Promise<{ seq: number, lacks: string | null }>} */
-  async nextNumber(page) {
-    const { fault, lines } = await this.tell(`next ${pageWords(page)}`);
-    return { seq: fault === null ? Number(lines[0].split(' ')[1]) : 0, lacks: fault };
-  }
 }
 
-/** Why a call was refused, where it was.
- * @param {Answer | Block} told */
-const faultOf = (told) => ('refused' in told ? told.refused : told.fault);
+/** The time of day of this machine, in microseconds. */
+const timeOfDay = () => Date.now() * 1_000;
 
-/** The drawop of a datagram that the host holds or made.
- * @param {Uint8Array} bytes */
-const drawopIn = (bytes) => drawopOf(readDatagram(bytes)?.words ?? '', hex(bytes));
-
-/** Whether a datagram is the drawop of a name.
- * @param {Uint8Array} bytes @param {string} name */
-function isDrawop(bytes, name) {
-  const datagram = readDatagram(bytes);
-  return datagram?.kind === 'draw' && datagram.name === name;
-}
-
-/** How a record has a drawop that is not ours: a member's by its bytes, a stranger's by its words.
- * @param {Drawop} drawop @param {boolean} isStrange */
-export const lineOf = ({ digits, words }, isStrange) => (isStrange ? words : `datagram ${digits}`);
+/** The line that gives the timers these constants.
+ * @param {string} constants */
+const tuningLine = (constants) => `tuning ${constants.replaceAll(',', ' ')}`;
 
 /** A number from 0 to 1 that nobody guesses. */
 const chance = () => Number(BigInt.asUintN(53, crypto.getRandomValues(new BigUint64Array(1))[0])) / 2 ** 53;

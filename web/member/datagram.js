@@ -1,5 +1,5 @@
-/** Datagrams, read once from their bytes: what a member judges by, and their words as `wb words` says them (docs/FORMAT.md). The host that is
- * handed one reads it again, and refuses what has a number out of its range; here such a number passes. */
+/** Datagrams, read once from their bytes as they go by: what the page shows of them, with their words as `wb words` says them (docs/FORMAT.md).
+ * What is done about them the host says, which drops what has a number out of its range; here such a number passes. */
 export { unhex } from './host.js';
 
 /** A datagram. What its kind does not have is empty.
@@ -9,20 +9,14 @@ export { unhex } from './host.js';
  * @property {string} page   as C/N
  * @property {string} name   of a drawop, or of what a request asks for: SOURCE C/N NUMBER
  * @property {number} seq   the number of a drawop
- * @property {bigint} time   of a drawop
- * @property {boolean} isDrawing   it puts glyphs on the page: it is no delete and no restore
- * @property {bigint} sent   the moment of a session message
  * @property {[number, number][]} marks   the greatest number of each source
  * @property {[number, bigint, bigint][]} echoes   of whom the sender heard: the moment that was told, and how long ago
  * @property {string} words */
 
 const MARK = 0x5742, HEAD = 8, DRAWOP = 1;
 
-/** Bytes of an echo, and of a session message before its marks. */
-const ECHO = 20, BEFORE_MARKS = HEAD + 20;
-
 /** @type {Datagram} */
-const EMPTY = { kind: '', speaker: 0, page: '', name: '', seq: 0, time: 0n, isDrawing: false, sent: 0n, marks: [], echoes: [], words: '' };
+const EMPTY = { kind: '', speaker: 0, page: '', name: '', seq: 0, marks: [], echoes: [], words: '' };
 
 /** Reads numbers one after another. RangeError where the bytes end before. */
 class Reader {
@@ -88,18 +82,16 @@ function quoted(from) {
 /** @param {Reader} from */
 const target = (from) => `${from.number()} ${from.number()}`;
 
-/** What a drawop may do, by its number: the word for it, what reads its fields, and whether that draws.
- * @type {Record<number, [string, (from: Reader) => string, boolean]>} */
-const OPERATIONS = {
-  1: ['line', corners, true], 2: ['frame', corners, true], 3: ['text', quoted, true], 4: ['delete', target, false], 5: ['restore', target, false],
-};
+/** What a drawop may do, by its number: the word for it, and what reads its fields.
+ * @type {Record<number, [string, (from: Reader) => string]>} */
+const OPERATIONS = { 1: ['line', corners], 2: ['frame', corners], 3: ['text', quoted], 4: ['delete', target], 5: ['restore', target] };
 
 /** @param {Reader} from */
 function drawop(from) {
   const speaker = from.number(), page = from.page(), seq = from.number(), time = from.long();
-  const [word, fields, isDrawing] = OPERATIONS[from.byte()] ?? [], name = `${speaker} ${page} ${seq}`;
+  const [word, fields] = OPERATIONS[from.byte()] ?? [], name = `${speaker} ${page} ${seq}`;
   if (!fields) throw new RangeError('an unknown operation');
-  return { kind: 'draw', speaker, page, seq, name, time, isDrawing, words: `draw ${name} ${time} ${word} ${fields(from)}` };
+  return { kind: 'draw', speaker, page, seq, name, words: `draw ${name} ${time} ${word} ${fields(from)}` };
 }
 
 /** @param {Reader} from @returns {[number, number][]} */
@@ -116,7 +108,7 @@ function wordsOf(marks, echoes = []) {
 /** @param {Reader} from */
 function sessionMessage(from) {
   const speaker = from.number(), sent = from.long(), page = from.page(), marks = marksOf(from), echoes = echoesOf(from);
-  return { kind: 'session-message', speaker, sent, page, marks, echoes, words: `session-message ${speaker} ${sent} ${page}${wordsOf(marks, echoes)}` };
+  return { kind: 'session-message', speaker, page, marks, echoes, words: `session-message ${speaker} ${sent} ${page}${wordsOf(marks, echoes)}` };
 }
 
 /** @param {Reader} from */
@@ -154,21 +146,6 @@ export function readDatagram(bytes) {
     if (fault instanceof RangeError) return null;
     throw fault;
   }
-}
-
-/** A session message with one echo more, at its place among the others.
- * @param {Uint8Array} bytes @param {Datagram} datagram what they say @param {[number, bigint, bigint]} echo */
-export function withEcho(bytes, { marks, echoes }, [who, sent, held]) {
-  const count = BEFORE_MARKS + 2 + 8 * marks.length, at = count + 2 + ECHO * echoes.filter(([other]) => other < who).length;
-  const made = new Uint8Array(bytes.length + ECHO), view = new DataView(made.buffer);
-  made.set(bytes.subarray(0, at));
-  made.set(bytes.subarray(at), at + ECHO);
-  view.setUint32(4, made.length - HEAD);
-  view.setUint16(count, echoes.length + 1);
-  view.setUint32(at, who);
-  view.setBigUint64(at + 4, sent);
-  view.setBigUint64(at + 12, held);
-  return made;
 }
 
 /** The digits of each byte. */

@@ -26,7 +26,6 @@ export class Sheet {
     /** Drawings that came, went or came again since the last update.
      * @type {Map<string, Drawop>} */
     this.changed = new Map();
-    this.last = 0; // how many drawops were held on all pages when the last one came
   }
 
   /** Whether it is new.
@@ -74,6 +73,13 @@ export class Sheet {
     return low;
   }
 
+  /** Whether all that is held is among these names.
+   * @param {Set<string>} names */
+  isOf(names) {
+    for (const name of this.drawops.keys()) if (!names.has(name)) return false;
+    return true;
+  }
+
   /** Whether the host's view has these drawops and no others, in this order.
    * @param {Drawop[]} view */
   agrees(view) {
@@ -101,9 +107,7 @@ export class Drawn {
   add(drawop) {
     const sheet = this.sheet(drawop.page);
     this.pages.set(drawop.page, sheet);
-    if (!sheet.add(drawop)) return;
-    this.total += 1;
-    sheet.last = this.total;
+    if (sheet.add(drawop)) this.total += 1;
   }
 
   /** A page. One that has nothing is not remembered, however many are looked at.
@@ -147,20 +151,10 @@ export class Drawn {
     return [...this.pages].filter(([, { drawops }]) => drawops.size);
   }
 
-  /** The pages that have drawops: first those with drawops of ours, then those with drawops of members, and then those of strangers alone. Of each
-   * kind the one comes first on which was drawn last.
-   * @param {number} me @param {Map<string, string>} strange the names of what strangers drew
-   * @returns {{ page: string, isStrange: boolean }[]} */
-  inOrder(me, strange) {
-    /** @type {Map<string, number>} */
-    const strangers = new Map();
-    for (const name of strange.keys()) {
-      const [, page] = name.split(' ');
-      strangers.set(page, 1 + (strangers.get(page) ?? 0));
-    }
-    const ranked = this.drawnPages().map(([page, { tops, drawops, last }]) => (
-      { page, last, rank: tops.has(me) ? 0 : drawops.size > (strangers.get(page) ?? 0) ? 1 : 2 }));
-    return ranked.sort((one, other) => one.rank - other.rank || other.last - one.last).map(({ page, rank }) => ({ page, isStrange: rank === 2 }));
+  /** The pages on which no member has drawn.
+   * @param {number} me @param {Set<string>} strange the names of what no member gave */
+  strangePages(me, strange) {
+    return new Set(this.drawnPages().filter(([, sheet]) => !sheet.tops.has(me) && sheet.isOf(strange)).map(([page]) => page));
   }
 
   /** How many numbers of a page are missing below the greatest that is held of each source.

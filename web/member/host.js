@@ -13,9 +13,15 @@ export class Block {
     this.due = this.fault !== null || close === 'ok never' ? null : Number(close.slice(3));
   }
 
+  /** What its lines say that begin with this word.
+   * @param {string} word */
+  said(word) {
+    return this.lines.filter((line) => line.startsWith(`${word} `)).map((line) => line.slice(word.length + 1));
+  }
+
   /** The datagrams to send. */
   sent() {
-    return this.lines.filter((line) => line.startsWith('send ')).map((line) => unhex(line.slice(5)));
+    return this.said('send').map(unhex);
   }
 }
 
@@ -49,7 +55,7 @@ const OUTCOMES = { 2: 'new', 3: 'again', 4: 'clash', 5: 'full' };
 
 /** Why a call was refused, by its status, as a line of the same meaning says it. */
 const REFUSALS = /** @type {Record<number, string>} */ ({ 7: 'not kept', 8: 'number', 9: 'back in time', 10: 'listening', 11: 'ours',
-  12: 'too many', 13: 'no drawop', 14: 'no question' });
+  12: 'too many', 13: 'no drawop', 14: 'no question', 15: 'judged' });
 
 const FIELDS = ['sequence number 0', 'coordinate over 4095', 'glyph outside ! to ~', 'text of 0 or over 64 bytes', 'text byte outside space to ~',
   'target sequence number 0', 'target is the drawop itself'];

@@ -3,7 +3,7 @@
 /** The pace: how many datagrams a second, and how many bytes; what waits; and seconds that may be saved up. */
 const PACE = 2_000, PACE_BYTES = 1 << 20, MOST_WAITING = 2_048, SAVED = 0.05;
 
-/** @typedef {import('./judge.js').Origin} Origin */
+/** @typedef {import('./origins.js').Origin} Origin */
 
 /** A datagram that came in, from where, and what was done to it. `due` is in milliseconds of this page.
  * @typedef {{ bytes: Uint8Array, origin: Origin, due: number, isLost: boolean, isSecond: boolean }} Arrival */

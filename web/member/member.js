@@ -1,8 +1,8 @@
 /** A member of a session: hands to the host what comes in and what is drawn, ticks when it says, sends what it answers. What it concludes
- * beside its host stands in judging.js, what people do in people.js, and what it tells the board in telling.js. */
+ * from what that says stands in judging.js, what people do in people.js, and what it tells the board in telling.js. */
 import { Alarms } from './alarms.js';
 import { Board } from './board.js';
-import { readDatagram, unhex } from './datagram.js';
+import { readDatagram } from './datagram.js';
 import { Drawn } from './drawn.js';
 import { HostEnded } from './host.js';
 import { Judging } from './judging.js';
@@ -47,7 +47,7 @@ export class Member {
     this.people = new People(this);
     this.presence = new Presence((news) => post('presence', news));
     this.telling = new Telling(this, post);
-    this.board = new Board(program, record, options.start, (drawop) => this.hold(drawop));
+    this.board = new Board(program, record, options.start, transport, (drawop) => this.hold(drawop));
     this.judging = /** @type {Judging} */ (/** @type {unknown} */ (null));
     this.wake = () => { this.isAwake = true; };
     inbox.wake = () => this.wake();
@@ -82,6 +82,7 @@ export class Member {
       if (calls.length) break;
     }
     await this.passTime();
+    await this.judging.heard.look();
     await this.telling.tell();
   }
 
@@ -118,29 +119,35 @@ export class Member {
   // ---- what comes in
 
   /** A datagram has come in: what no host hears of does not wait.
-   * @param {Uint8Array} bytes @param {import('./judge.js').Origin} origin */
+   * @param {Uint8Array} bytes @param {import('./origins.js').Origin} origin */
   take(bytes, origin) {
     const gone = readGone(bytes);
     if (!isAside(bytes)) this.inbox.take(bytes, origin);
     else if (gone === null) this.presence.hear(bytes, this.me);
     else {
       const left = this.transport.goneBy(gone, origin);
-      if (left) this.judging?.judge.leave(left);
+      // a host that breaks off knows nobody afterwards
+      if (left) this.people.call(() => this.judging.leave(left)).catch(() => {});
     }
   }
 
   // ---- the host
 
+  /** The host does what a line says, and what it sends goes out.
+   * @param {string} line */
+  async tell(line) {
+    for (const bytes of (await this.board.act(line)).sent()) this.send(bytes);
+  }
+
   /** The host does what is due. */
-  async tick() {
-    const { send } = await this.board.tick();
-    for (const bytes of send) await this.send(bytes);
+  tick() {
+    return this.tell(`tick ${this.board.now()}`);
   }
 
   /** What we drew last goes out once more, which the record has already. Alone, there is nobody who could lack it. */
   async repeat() {
-    const now = this.board.now(), taken = this.judging.tails.take(now);
-    if (this.judging.present(now).length) for (const digits of taken) await this.send(unhex(digits));
+    const taken = this.judging.tails.take(this.board.now());
+    if (this.judging.present().length) for (const bytes of taken) this.send(bytes);
   }
 
   /** The network was gone and is back: a host that starts from the record asks at once, without the waits that have grown. */
@@ -151,12 +158,15 @@ export class Member {
     });
   }
 
-  /** @param {Uint8Array} made what the host made */
-  async send(made) {
-    const { bytes, datagram } = this.judging.leaving(made);
+  /** Sends a datagram of the host, and gives what it says.
+   * @param {Uint8Array} bytes */
+  send(bytes) {
+    const datagram = readDatagram(bytes);
+    this.judging.goes(datagram, bytes.length);
     this.wire.went(datagram);
     if (bytes.length <= MOST_BYTES) this.transport.send(bytes);
     else this.alarms.warn(`a datagram of over ${MOST_BYTES} bytes can't be sent`);
+    return datagram;
   }
 
   /** The host has taken in a drawop.
@@ -172,13 +182,9 @@ export class Member {
    * @param {import('./inbox.js').Arrival} arrival */
   async arrive(arrival) {
     const { bytes, origin, isLost } = arrival, datagram = readDatagram(bytes);
-    /** @type {Uint8Array[]} */
-    const sent = [];
-    /** @type {string | null} */
-    let refused = null;
-    if (!isLost) refused = datagram ? await this.judging.heed(datagram, bytes, origin, sent) : 'no datagram';
+    const { sent, refused } = isLost ? { sent: [], refused: null } : await this.judging.heed(datagram, bytes, origin);
     this.wire.came(datagram, arrival, refused);
-    for (const answer of sent) await this.send(answer);
+    for (const answer of sent) this.send(answer);
   }
 
   // ---- what is done in a turn
@@ -200,7 +206,7 @@ export class Member {
   /** Goes on under another number, with all that is held.
    * @param {number} me @param {import('./record.js').Record} record that of the number */
   async renumber(me, record) {
-    await this.board.renumber(me, record, this.drawn.all(), this.judging.judge.strange);
+    await this.board.renumber(me, record);
     this.me = me;
     this.judging = new Judging(this);
     this.telling.isChanged = true;

@@ -4,8 +4,8 @@ import { pointOf, writePoint } from './presence.js';
 
 const OPERATIONS = ['line', 'frame', 'text', 'delete', 'restore'];
 
-/** `NOW TIME PAGE` stands before an operation: the place of a wrong word is counted without them. */
-const WORDS_BEFORE = 3;
+/** `NOW PAGE` stands before an operation: the place of a wrong word is counted without them. */
+const WORDS_BEFORE = 2;
 
 /** Drawings that wait until the member may draw. */
 const MOST_WAITING = 1_024;
@@ -15,6 +15,9 @@ const MOST_PAGE = 2 ** 32 - 1;
 
 /** The page of names, titles and the chat; what is drawn elsewhere leaves it, and deletes and restores, one cell in this many. */
 const WORDS = '0/0', KEPT = 16;
+
+/** Why nothing is drawn. */
+const TWIN = 'another member has our number: take a new one';
 
 /** A drawing or a page is refused, and why. */
 export class Refused extends Error {}
@@ -65,23 +68,22 @@ export class People {
     const { member } = this, { judging, board } = member, [kind] = operation.split(' ', 1), isFull = member.drawn.total >= board.cells - Math.floor(board.cells / KEPT);
     if (isFull && page !== WORDS && ['line', 'frame', 'text'].includes(kind)) throw new Refused('full');
     if (!OPERATIONS.includes(kind) || !/^[ -~]*$/.test(operation)) throw new Refused('unknown');
-    const fault = judging.faultOfDrawing(!['delete', 'restore'].includes(kind));
-    if (fault !== null) throw new Refused(fault);
-    const { seq, lacks } = await board.nextNumber(page);
-    if (lacks !== null) throw new Refused(lacks);
-    const { block, drawop } = await this.hostDraws(page, seq, operation);
-    for (const bytes of block.sent()) await member.send(bytes);
+    if (judging.hasTwin) throw new Refused(TWIN);
+    await member.tell(board.lineOfTime());
+    const { block, drawop } = await this.hostDraws(page, operation);
+    for (const bytes of block.sent()) {
+      const datagram = member.send(bytes);
+      if (drawop && datagram?.kind === 'draw' && datagram.name === drawop.name) judging.tails.drew(drawop, bytes, board.moment);
+    }
     if (block.fault !== null) throw new Refused(block.fault.replace(/^(word )(\d+)/, (_all, word, place) => word + (Number(place) - WORDS_BEFORE)));
     if (drawop === null) throw new Refused('full');
-    judging.tails.drew(drawop, board.moment);
-    return { source: member.me, seq };
+    return { source: member.me, seq: drawop.seq };
   }
 
-  /** @param {string} page @param {number} seq @param {string} operation */
-  async hostDraws(page, seq, operation) {
-    const { board, judging } = this.member;
+  /** @param {string} page @param {string} operation */
+  async hostDraws(page, operation) {
     try {
-      return await board.draw(page, seq, judging.timeOfDay(board.now()), operation);
+      return await this.member.board.draw(page, operation);
     } catch (fault) {
       throw fault instanceof NoRoom ? new Refused(`${fault.message}: nothing is drawn until there is room`) : fault;
     }

@@ -1,7 +1,7 @@
 /** The key of a session: each datagram is sealed by AES-256-GCM, with the session's name as what goes with it, as `live/carriers/sealed.py` does. */
 import { writeGone } from './presence.js';
 
-/** @typedef {import('./judge.js').Origin} Origin */
+/** @typedef {import('./origins.js').Origin} Origin */
 
 const NONCE = 12;
 

@@ -13,8 +13,8 @@ const LATELY = 60 * SECOND;
 /** Pages of which the last drawing waits; of more, the one that was drawn on first goes. */
 const MOST_PAGES = 16;
 
-/** The last drawing of ours on a page, when we drew it, and how often it was sent again.
- * @typedef {{ page: string, seq: number, digits: string, drawnAt: number, repeated: number }} Tail */
+/** The last drawing of ours on a page, its datagram, when we drew it, and how often it was sent again.
+ * @typedef {{ page: string, seq: number, bytes: Uint8Array, drawnAt: number, repeated: number }} Tail */
 
 /** @param {Tail} tail */
 const dueOf = ({ drawnAt, repeated }) => drawnAt + WAITS[repeated];
@@ -30,10 +30,10 @@ export class Tails {
   }
 
   /** A drawing of ours was sent. The one before it on that page is no tail any more: the new one shows the gap.
-   * @param {import('./views.js').Drawop} drawop @param {number} now */
-  drew({ page, seq, digits }, now) {
+   * @param {{ page: string, seq: number }} drawing @param {Uint8Array} bytes @param {number} now */
+  drew({ page, seq }, bytes, now) {
     this.tails.delete(page);
-    this.tails.set(page, { page, seq, digits, drawnAt: now, repeated: 0 });
+    this.tails.set(page, { page, seq, bytes, drawnAt: now, repeated: 0 });
     if (this.tails.size > MOST_PAGES) this.tails.delete([...this.tails.keys()][0]);
   }
 
@@ -73,6 +73,6 @@ export class Tails {
       tail.repeated += 1;
       if (!taken.includes(tail) || tail.repeated === WAITS.length) this.tails.delete(tail.page);
     }
-    return taken.map(({ digits }) => digits);
+    return taken.map(({ bytes }) => bytes);
   }
 }

@@ -24,8 +24,9 @@ const SECOND = 1_000_000, CAUGHT_UP = 60 * SECOND;
 /** Marks of a report that are taken note of, as many as a host tells. */
 const MARKS = 64;
 
-/** The percentage of taken cells from which on the board is said to become full. */
-const NEARLY_FULL = 80;
+/** One cell in this many is kept for deletes and restores of members, as the host has it; and the percentage of taken cells from which on the
+ * board is said to become full. */
+const RESERVE = 32, NEARLY_FULL = 80;
 
 export class Telling {
   /** @param {import('./member.js').Member} member @param {(name: string, news: any) => void} post */
@@ -71,7 +72,7 @@ export class Telling {
     }
     if (this.arePagesChanged && began >= this.nextPages) {
       this.arePagesChanged = false;
-      this.tellPages();
+      await this.tellPages();
       this.nextPages = performance.now() + PAGES_PAUSE;
     }
     if (began >= this.nextMembers) {
@@ -154,44 +155,45 @@ export class Telling {
     }
   }
 
-  /** What the host has answered to a drawop.
-   * @param {import('./views.js').Name} name @param {import('./host.js').Became | null} became */
-  noticeOutcome(name, became) {
+  /** What became of a drawop, in the word of the host.
+   * @param {import('./views.js').Name} name @param {string} fate */
+  noticeFate(name, fate) {
     const { alarms } = this.member, { source } = name;
-    if (became === 'new') this.reported.come(name);
-    else if (became === 'clash') alarms.warn(`two members draw with number ${source}: what they drew differs from member to member`);
-    else if (became === 'full') alarms.warn('the board is full: new drawops are not kept');
+    if (fate === 'new') this.reported.come(name);
+    else if (fate === 'clash') alarms.warn(`two members draw with number ${source}: what they drew differs from member to member`);
+    else if (fate === 'left') alarms.warn('the board is full: new drawops are not kept');
   }
 
-  /** How many cells are left, where they are few.
-   * @param {boolean} isFull */
-  noticeRoom(isFull) {
+  /** How many cells are left, where they are few. */
+  noticeRoom() {
     const { drawn: { total }, board: { cells }, alarms } = this.member;
-    if (isFull) alarms.warn(`the board is full: ${total} of ${cells} cells; deletes and restores alone have room`);
+    if (total >= cells - Math.floor(cells / RESERVE)) alarms.warn(`the board is full: ${total} of ${cells} cells; deletes and restores alone have room`);
     else if (total * 100 >= cells * NEARLY_FULL) alarms.warn(`the board becomes full: ${total} of ${cells} cells are taken`);
   }
 
   // ---- what stands beside it
 
-  /** The pages that are listed, in the order of their numbers, since one turns through them; those of strangers alone stand at the end. */
-  listed() {
-    const { me, page, drawn, judging: { judge } } = this.member, inOrder = drawn.inOrder(me, judge.strange), strange = inOrder.filter(({ isStrange }) => isStrange);
-    const ours = [page, ...inOrder.filter(({ isStrange }) => !isStrange).map((one) => one.page), ...this.reported.pages()];
-    const chosen = [...new Set([...ours, ...strange.map((one) => one.page)])].slice(0, MOST_PAGES), last = new Set(strange.map((one) => one.page));
-    last.delete(page);
-    return chosen.sort((one, other) => Number(last.has(one)) - Number(last.has(other)) || orderOfPages(one, other));
+  /** The pages that are listed, in the order of their numbers, since one turns through them; those of strangers alone stand at the end. If there are
+   * more, the host says which. */
+  async listed() {
+    const { me, page, drawn, board } = this.member, drawnOn = drawn.drawnPages().map(([one]) => one), strange = drawn.strangePages(me, board.strange);
+    const order = drawnOn.length > MOST_PAGES ? await board.pages(MOST_PAGES) : drawnOn, ours = order.filter((one) => !strange.has(one));
+    const chosen = [...new Set([page, ...ours, ...this.reported.pages(), ...order])].slice(0, MOST_PAGES);
+    strange.delete(page);
+    return chosen.sort((one, other) => Number(strange.has(one)) - Number(strange.has(other)) || orderOfPages(one, other));
   }
 
-  tellPages() {
-    const { page, drawn } = this.member;
-    this.post('pages', { page, pages: this.listed().map((one) => ({ page: one, drawn: drawn.count(one) })) });
+  async tellPages() {
+    const { page, drawn } = this.member, pages = await this.listed();
+    this.post('pages', { page, pages: pages.map((one) => ({ page: one, drawn: drawn.count(one) })) });
   }
 
   tellMembers() {
-    const { me, judging, board } = this.member, now = board.now();
-    const told = judging.present(now).sort(([one], [other]) => one - other).map(([member, { at, distance }]) => (
+    const { me, judging, board } = this.member, now = board.now(), isUnknown = (/** @type {import('./heard.js').Other} */ { answered }) => Number(answered === null);
+    const first = judging.present().sort(([one, its], [other, others]) => isUnknown(its) - isUnknown(others) || one - other).slice(0, MOST_MEMBERS);
+    const told = first.sort(([one], [other]) => one - other).map(([member, { at, distance }]) => (
       { member, distance: distance === null ? null : distance / 1_000, heard: Math.round((now - at) / 100_000) / 10 }));
-    this.post('members', { me, members: told.slice(0, MOST_MEMBERS) });
+    this.post('members', { me, members: told });
   }
 
   tellHealth() {
@@ -217,6 +219,6 @@ export class Telling {
     if (missing) return `${missing} missing`;
     const now = this.member.board.now(), passed = now - (this.caughtUp.get(this.member.page) ?? -CAUGHT_UP);
     if (passed < CAUGHT_UP) return `caught up ${Math.floor(passed / SECOND)} s ago`;
-    return this.member.judging.present(now).length ? 'whole' : 'whole; nobody else is heard';
+    return this.member.judging.present().length ? 'whole' : 'whole; nobody else is heard';
   }
 }

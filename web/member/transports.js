@@ -1,7 +1,7 @@
 /** What carries datagrams between members: the tabs of one browser, or a topic of an MQTT broker. They may lose, repeat and
  * reorder them, so nothing is sent twice here. */
 
-/** @typedef {import('./judge.js').Origin} Origin */
+/** @typedef {import('./origins.js').Origin} Origin */
 
 /** Is given the bytes that come from others, and from where.
  * @typedef {(bytes: Uint8Array, origin: Origin) => void} Take */

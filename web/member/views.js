@@ -2,18 +2,18 @@
 
 /** @typedef {import('../../live/ui/types.js').Drawing} Drawing */
 
-/** A drawop, as its words say. `page` is spelled C/N, as everywhere; `name` is its source, page and number; `digits` are its datagram.
- * @typedef {{ name: string, source: number, page: string, seq: number, time: number, operation: string[], words: string, digits: string }} Drawop */
+/** A drawop, as its words say. `page` is spelled C/N, as everywhere; `name` is its source, page and number.
+ * @typedef {{ name: string, source: number, page: string, seq: number, time: number, operation: string[], words: string }} Drawop */
 
 /** The name of a drawop.
  * @typedef {{ source: number, page: string, seq: number }} Name */
 
 /** The drawop of the words `draw SOURCE PAGE SEQ TIME ..`, as the program spells them.
- * @param {string} words @param {string} [digits] @returns {Drawop} */
-export function drawopOf(words, digits = '') {
+ * @param {string} words @returns {Drawop} */
+export function drawopOf(words) {
   const [, source, page, seq, time] = words.split(' ', 5), rest = words.split(' ').slice(5);
   const operation = rest[0] === 'text' ? [...rest.slice(0, 3), rest.slice(3).join(' ')] : rest;
-  return { name: `${source} ${page} ${seq}`, source: Number(source), page, seq: Number(seq), time: Number(time), operation, words, digits };
+  return { name: `${source} ${page} ${seq}`, source: Number(source), page, seq: Number(seq), time: Number(time), operation, words };
 }
 
 /** It puts glyphs on the page: it is neither a delete nor a restore.

@@ -7,7 +7,7 @@ const MOST_CHARACTERS = 400, MOST_REMEMBERED = 1_024, MOST_ENTRIES = 600;
 /** @typedef {import('./datagram.js').Datagram} Datagram */
 
 /** What came in: from where, and what was done to it on purpose.
- * @typedef {{ origin: import('./judge.js').Origin, isLost: boolean, isSecond: boolean }} Came */
+ * @typedef {{ origin: import('./origins.js').Origin, isLost: boolean, isSecond: boolean }} Came */
 
 export class Wire {
   constructor() {

@@ -1,0 +1,17 @@
+// Datagrams from their words, for tests that have no bytes of them.
+
+/** What is read of a datagram, from its words. */
+export function datagramOf(words) {
+  const [kind, speaker, ...rest] = words.split(' '), datagram = { kind, speaker: Number(speaker), page: '', name: '', seq: 0, marks: [], echoes: [], words };
+  if (kind === 'draw') return { ...datagram, page: rest[0], seq: Number(rest[1]), name: `${speaker} ${rest[0]} ${rest[1]}` };
+  if (kind === 'request') return { ...datagram, page: rest[1], name: rest.join(' ') };
+  if (kind === 'ask-pages') return datagram;
+  if (kind === 'session-message') rest.shift();
+  datagram.page = rest.shift();
+  for (const word of rest) {
+    const [number, told, held] = word.split(/[=@+]/);
+    if (word.includes('@')) datagram.echoes.push([Number(number), BigInt(told), BigInt(held)]);
+    else datagram.marks.push([Number(number), Number(told)]);
+  }
+  return datagram;
+}
