@@ -18,7 +18,7 @@ NAMES = 64
 STRANGERS = 48  # places of the credit for neighbours of what came, where their source told no distance
 REACH = 64
 STRIDE = 19
-LONG = 65_536
+WINDOW = 64
 OLD = 4
 SHORTEST_GAP, LONGEST_GAP = SECOND, 16 * SECOND  # from one turn to the next
 STEADINESS = 128
@@ -99,6 +99,9 @@ class Kept:
     until: int = 0
     looked: tuple[Page, int, int] = (NOWHERE, 0, 0)
     round: int = 0
+    step: int = 0
+    leapt: tuple[Page, int, int] = (NOWHERE, 0, 0)
+    leaps: int = 0
     owed: int = 0
     usual: int = 20_000
     turn_at: int = 0
@@ -233,7 +236,7 @@ class Kept:
                 self.want(name, True)
 
     def learned(self, name: Name, was_asked: bool) -> None:
-        """A drawop is new: its neighbours are wanted, and if it was asked for, the next hole has its turn."""
+        """A drawop is new: its neighbours are wanted, and if it was asked for, a name far from it and one that has its turn."""
         if self.is_full():
             self.end()
             return
@@ -245,7 +248,8 @@ class Kept:
         near = [Name(name.source, name.page, number) for number in around if 1 <= number < top]
         self.want_near(near)
         if was_asked:
-            self.turn()
+            self.leap()
+            self.turns_past()
 
     def want_near(self, names: list[Name]) -> None:
         for name in names:
@@ -293,21 +297,39 @@ class Kept:
         host = self.host
         return [(page, *hole) for page in host.drawn_on() for hole in host.missing_below(page, host.highest(page))]
 
-    def turn(self) -> None:
-        """One name of the next hole is wanted."""
-        holes = self.holes()
-        behind = [hole for hole in holes if hole[:3] > self.looked]
-        if not behind:
-            self.round, self.looked = (self.round + 1) % 2**32, (NOWHERE, 0, 0)
-            behind = [hole for hole in holes if hole[:3] > self.looked]
-        if not behind:
-            return
-        page, source, first, last = behind[0]
-        self.looked = page, source, last
-        count, step = last - first + 1, self.round // 2
-        far = step if count > LONG or count % STRIDE == 0 else STRIDE * step
-        number = first if self.round % 2 == 0 else first + far % count
-        self.want(Name(source, page, number), True)
+    def hole_behind(self, place: tuple[Page, int, int]) -> Optional[tuple[Page, int, int, int]]:
+        return next((hole for hole in self.holes() if hole[:3] > place), None)
+
+    def leap(self) -> None:
+        """One name of the next hole is wanted, 19 numbers on in each round."""
+        hole = self.hole_behind(self.leapt)
+        if hole is None:
+            self.leaps, self.leapt = (self.leaps + 1) % 2**32, (NOWHERE, 0, 0)
+            hole = self.hole_behind(self.leapt)
+        if hole is not None:
+            page, source, first, last = hole
+            self.leapt = page, source, last
+            self.want(Name(source, page, first + STRIDE * self.leaps % (last - first + 1)), True)
+
+    def turns_past(self) -> None:
+        """Turns, up to the first name that is asked for, if a place of the credit is left."""
+        if max(self.owed, self.host.now) - self.host.now <= (NAMES - 1) * COST:
+            any(self.turn() for _ in range(NAMES + 1))
+
+    def turn(self) -> bool:
+        """The next name of the window of a hole is wanted. Whether it is asked for."""
+        hole = self.hole_behind(self.looked)
+        if hole is None:
+            self.round, self.looked, self.step = (self.round + 1) % 2**32, (NOWHERE, 0, 0), 0
+            hole = self.hole_behind(self.looked)
+        if hole is None:
+            return False
+        page, source, first, last = hole
+        number = first + WINDOW * (self.round % ((last - first) // WINDOW + 1)) + self.step
+        self.step += 1
+        if self.step >= WINDOW or number >= last:
+            self.looked, self.step = (page, source, last), 0
+        return self.want(Name(source, page, min(number, last)), True)
 
     # ---- what is due
 

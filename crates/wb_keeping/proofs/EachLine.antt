@@ -1,5 +1,5 @@
 -- What is so of each kind of line that a policy has its host perform is so of all lines of what it does.
-use Rattle.std.proofs.Common.{◌≡◌, ℕ, Bool, true, false, cond, List, [], ◌∷◌, ◌++◌, Option, Some, None, length, map, refl}
+use Rattle.std.proofs.Common.{◌≡◌, ℕ, zero, suc, Bool, true, false, cond, List, [], ◌∷◌, ◌++◌, Option, Some, None, length, map, refl}
 use Rattle.std.specs.Prelude.{nat_eq, nat_le, take, ◌||◌, nat_lt}
 use Rattle.wb_names.specs.Values.{MarkValue, NameValue, DrawopValue}
 use Rattle.wb_names.specs.declared.echo.Echo.{Echo}
@@ -11,9 +11,11 @@ use Rattle.wb_gaps.specs.declared.holes.Hole.{Hole}
 use Rattle.wb_policy.specs.Distances.{bounded}
 use Rattle.wb_policy.specs.declared.limits.TheConstants.{UNKNOWN_DISTANCE}
 use Rattle.wb_policy.specs.Choices.{distance_in, own_echo, own_marks, told_names}
-use Rattle.wb_keeping.specs.Kept.{Asks, Doing, Line, Says, SetsDistance, Stops, Transition, and_then, answers, asks_pages, end, ends_full, is_begun, is_unasked, learned, measures, paid_for, reports, reports_due, reports_rest, room_lines, state_of, still, stops_one, timed, turn, turn_if, turn_to, turns_due, want, want_near, want_told, Arrives, Hears, hears, hears_session, hears_some, hears_state, of_other, performs, takes, takes_question, lending, hears_request}
-use Rattle.wb_policy.specs.Policy.{Policy, after_answer, after_beat, after_question, after_turn, after_wanting, in_next_round, after_state, after_taking_up}
+use Rattle.wb_keeping.specs.Kept.{Asks, Doing, Line, Says, SetsDistance, Stops, Transition, and_then, answers, asks_pages, end, ends_full, is_begun, is_unasked, leap, leap_to, learned, measures, paid_for, reports, reports_due, reports_rest, room_lines, state_of, still, stops_one, timed, turn, turn_if, turn_to, turns_due, turns_on, turns_past, want, want_near, want_told, Arrives, Hears, hears, hears_session, hears_some, hears_state, of_other, performs, takes, takes_question, lending, hears_request}
+use Rattle.wb_policy.specs.Policy.{Policy, after_answer, after_beat, after_leaping, after_question, after_turn, after_wanting, in_next_leaps, in_next_round, after_state, after_taking_up}
 use Rattle.wb_keeping.specs.Views.{View, is_asked, is_full, holds}
+use Rattle.wb_policy.specs.Credit.{has_credit}
+use Rattle.wb_policy.specs.Leaps.{far_name}
 use Rattle.wb_policy.specs.Questions.{is_due, is_to_answer}
 use Rattle.wb_policy.specs.Reports.{rest_after}
 use Rattle.wb_policy.specs.Turns.{name_in, nowhere}
@@ -108,8 +110,8 @@ module _ (P : Line → Type 0) (is : OfPolicy P) where
       (near_each names see p)
 
   turn_to_each : (next first : Option Hole) → DoesEach P (turn_to next first)
-  turn_to_each (Some hole) first see p = want_each (name_in p.turns.round hole) true see (after_turn hole p)
-  turn_to_each None (Some hole) see p = want_each (name_in (in_next_round p).turns.round hole) true see (after_turn hole (in_next_round p))
+  turn_to_each (Some hole) first see p = want_each (name_in p.turns hole) true see (after_turn hole p)
+  turn_to_each None (Some hole) see p = want_each (name_in (in_next_round p).turns hole) true see (after_turn hole (in_next_round p))
   turn_to_each None None see p = tt
 
   pub turn_each : DoesEach P turn
@@ -125,8 +127,26 @@ module _ (P : Line → Type 0) (is : OfPolicy P) where
   pub ends_each : DoesEach P ends_full
   ends_each see p = choose P (is_full (see [])) (end see p) (still see p) (end_each see p) tt
 
+  leap_to_each : (next first : Option Hole) → DoesEach P (leap_to next first)
+  leap_to_each (Some hole) first see p = want_each (far_name p.leaps hole) true see (after_leaping hole p)
+  leap_to_each None (Some hole) see p = want_each (far_name (in_next_leaps p).leaps hole) true see (after_leaping hole (in_next_leaps p))
+  leap_to_each None None see p = tt
+
+  pub leap_each : DoesEach P leap
+  leap_each see p = leap_to_each (hole_after (see []).held p.leaps.page p.leaps.source p.leaps.number) (hole_after (see []).held nowhere 0 0) see p
+
+  pub turns_on_each : (most : ℕ) → DoesEach P (turns_on most)
+  unfolding turns_on
+  turns_on_each zero see p = tt
+  turns_on_each (suc more) see p =
+      choose P (is_begun (turn see p)) (turn see p) (and_then turn (turns_on more) see p) (turn_each see p)
+      (then_each P turn (turns_on more) turn_each (turns_on_each more) see p)
+
+  past_each : DoesEach P turns_past
+  past_each see p = choose P (has_credit p.owed (see []).now) (turns_on 65 see p) (still see p) (turns_on_each 65 see p) tt
+
   turn_if_each : (was : Bool) → DoesEach P (turn_if was)
-  turn_if_each true see p = turn_each see p
+  turn_if_each true see p = then_each P leap turns_past leap_each past_each see p
   turn_if_each false see p = tt
 
   pub learned_each : (name : NameValue) (was : Bool) → DoesEach P (learned name was)

@@ -1,5 +1,5 @@
 -- What is so of each step of a policy is so of all that a kept host does.
-use Rattle.std.proofs.Common.{◌≡◌, ℕ, ◌≤◌, Bool, true, false, cond, List, [], ◌∷◌, ◌++◌, length, map, refl, sym, subst}
+use Rattle.std.proofs.Common.{◌≡◌, ℕ, zero, suc, ◌≤◌, Bool, true, false, cond, List, [], ◌∷◌, ◌++◌, length, map, refl, sym, subst}
 use Rattle.std.specs.Prelude.{Option, Some, None, ◌||◌, nat_eq, nat_le, nat_lt, take}
 use Rattle.std.proofs.lemmas.Bool.{leb-true}
 use Rattle.wb_names.specs.Faults.{fault_unless, first_of}
@@ -18,16 +18,19 @@ use Rattle.wb_policy.specs.declared.limits.TheConstants.{UNKNOWN_DISTANCE}
 use Rattle.wb_recovery.specs.Timing.{are_constants}
 use Rattle.wb_recovery.specs.declared.tuning.Tuning.{Tuning}
 use Rattle.wb_policy.specs.Choices.{distance_in, own_echo, own_marks, told_names, until_in}
-use Rattle.wb_keeping.specs.Kept.{Arrives, Doing, Hears, Line, Says, SetsDistance, Tunes, Stops, Ticks, Transition, and_then, answers, asks_pages, draws_it, drawing, end, ends_full, hears, hears_session, hears_some, hears_state, is_begun, is_unasked, learned, measures, performs, reports, reports_due, reports_page, reports_rest, state_of, still, takes, takes_question, timed, turn, turn_if, turn_to, turns_due, want, want_near, want_told, hears_request}
+use Rattle.wb_keeping.specs.Kept.{Arrives, Doing, Hears, Line, Says, SetsDistance, Tunes, Stops, Ticks, Transition, and_then, answers, asks_pages, draws_it, drawing, end, ends_full, hears, hears_session, hears_some, hears_state, is_begun, is_unasked, leap, leap_to, learned, measures, performs, reports, reports_due, reports_page, reports_rest, state_of, still, takes, takes_question, timed, turn, turn_if, turn_to, turns_due, turns_on, turns_past, want, want_near, want_told, hears_request}
 use Rattle.wb_keeping.specs.Laws.{Added, AreTaken, Came, KeptLine, Ticked, Tuned, after_kept, doing_of, expand, fault_of}
 use Rattle.wb_keeping.specs.Performing.{Keeping, after_doing, after_line, after_lines, sees, view_of}
-use Rattle.wb_policy.specs.Policy.{Policy, after_answer, after_beat, after_came, after_question, after_state, after_taking_up, after_turn, in_next_round, with_distance}
+use Rattle.wb_policy.specs.Policy.{Policy, after_answer, after_beat, after_came, after_leaping, after_question, after_state, after_taking_up, after_turn, in_next_leaps, in_next_round, with_distance}
 use Rattle.wb_keeping.specs.Views.{View, holds, is_asked, is_full}
+use Rattle.wb_policy.specs.Credit.{has_credit}
+use Rattle.wb_policy.specs.Leaps.{far_name}
 use Rattle.wb_policy.specs.Questions.{is_due, is_to_answer}
 use Rattle.wb_policy.specs.Reports.{is_telling, page_after, rest_after, slice_after}
 use Rattle.wb_policy.specs.Turns.{name_in, nowhere}
 use Rattle.wb_keeping.specs.declared.kept_fault.KeptFault.{KeptFault}
 use Rattle.wb_keeping.specs.declared.kept_fault.KeptFault.TheVariants.{Host}
+use Rattle.wb_policy.specs.declared.leaps.Leaps.{Leaps}
 use Rattle.wb_policy.specs.declared.turns.Turns.{Turns}
 use Rattle.wb_policy.specs.declared.wanting.AskedName.{AskedName}
 use Rattle.wb_keeping.proofs.Performed.{after_both, seen_then}
@@ -53,7 +56,7 @@ pub record HoldsOfDue (R : Keeping → List Line → Keeping → Type 0) : Type 
   pub nothing : (k : Keeping) → R k [] k
   pub both : (k m n : Keeping) (one other : List Line) → R k one m → R m other n → R k (one ++ other) n
   pub wants : (name : NameValue) (anew : Bool) (k : Keeping) → R k (want name anew (sees k.host) k.policy).lines (after_doing (want name anew) k)
-  pub turned : (t : Turns) (k : Keeping) → R k [] (with_policy (record k.policy { turns = t }) k)
+  pub turned : (t : Turns) (l : Leaps) (k : Keeping) → R k [] (with_policy (record k.policy { turns = t; leaps = l }) k)
   pub beats : (k : Keeping) → nat_le k.policy.pace.due (present k.host) ≡ true → R k [] (with_policy (after_beat (present k.host) k.policy) k)
   pub answers : (k : Keeping) → is_due (present k.host) k.policy.questions.answer ≡ true
       → R k (map (λ page. Says (state_of (view_of k.host) page)) (take 64 (pages_of k.host.is.held))) (having_done (doing (after_answer (present k.host) k.policy) (map (λ page. Says (state_of (view_of k.host) page)) (take 64 (pages_of k.host.is.held)))) k)
@@ -192,15 +195,39 @@ module _ (R : Keeping → List Line → Keeping → Type 0) (is : HoldsOfDue R) 
   turn_to_holds : (next first : Option Hole) → Holds R (turn_to next first)
   turn_to_holds (Some h) first k =
       let p = after_turn h k.policy in
-      from_policy p k (want (name_in k.policy.turns.round h) true (sees k.host) p) (is.turned p.turns k) (is.wants (name_in k.policy.turns.round h) true (with_policy p k))
+      from_policy p k (want (name_in k.policy.turns h) true (sees k.host) p) (is.turned p.turns p.leaps k) (is.wants (name_in k.policy.turns h) true (with_policy p k))
   turn_to_holds None (Some h) k =
       let q = in_next_round k.policy in
       let p = after_turn h q in
-      from_policy p k (want (name_in q.turns.round h) true (sees k.host) p) (is.turned p.turns k) (is.wants (name_in q.turns.round h) true (with_policy p k))
-  turn_to_holds None None k = is.turned (in_next_round k.policy).turns k
+      from_policy p k (want (name_in q.turns h) true (sees k.host) p) (is.turned p.turns p.leaps k) (is.wants (name_in q.turns h) true (with_policy p k))
+  turn_to_holds None None k = is.turned (in_next_round k.policy).turns k.policy.leaps k
 
   pub turn_holds : Holds R turn
   turn_holds k = turn_to_holds (hole_after k.host.is.held k.policy.turns.page k.policy.turns.source k.policy.turns.number) (hole_after k.host.is.held nowhere 0 0) k
+
+  leap_to_holds : (next first : Option Hole) → Holds R (leap_to next first)
+  leap_to_holds (Some h) first k =
+      let p = after_leaping h k.policy in
+      from_policy p k (want (far_name k.policy.leaps h) true (sees k.host) p) (is.turned p.turns p.leaps k) (is.wants (far_name k.policy.leaps h) true (with_policy p k))
+  leap_to_holds None (Some h) k =
+      let q = in_next_leaps k.policy in
+      let p = after_leaping h q in
+      from_policy p k (want (far_name q.leaps h) true (sees k.host) p) (is.turned p.turns p.leaps k) (is.wants (far_name q.leaps h) true (with_policy p k))
+  leap_to_holds None None k = is.turned k.policy.turns (in_next_leaps k.policy).leaps k
+
+  pub leap_holds : Holds R leap
+  leap_holds k = leap_to_holds (hole_after k.host.is.held k.policy.leaps.page k.policy.leaps.source k.policy.leaps.number) (hole_after k.host.is.held nowhere 0 0) k
+
+  pub turns_on_hold : (most : ℕ) → Holds R (turns_on most)
+  unfolding turns_on
+  turns_on_hold zero k = is.nothing k
+  turns_on_hold (suc more) k =
+      either (HoldsOf R k) (is_begun (turn (sees k.host) k.policy)) (turn (sees k.host) k.policy) (and_then turn (turns_on more) (sees k.host) k.policy)
+      (λ begun. turn_holds k) (λ not_begun. then_holds turn (turns_on more) turn_holds (turns_on_hold more) k)
+
+  pub turns_past_hold : Holds R turns_past
+  turns_past_hold k =
+      either (HoldsOf R k) (has_credit k.policy.owed (present k.host)) (turns_on 65 (sees k.host) k.policy) (still (sees k.host) k.policy) (λ paid. turns_on_hold 65 k) (λ unpaid. is.nothing k)
 
   -- ---- what is due
 
@@ -255,7 +282,7 @@ module _ (R : Keeping → List Line → Keeping → Type 0) (is : HoldsOfParts R
       let see = sees k.host in
       let paid = with_policy (after_came k.policy) k in
       let near = near_here name true see k.policy in
-      then_holds R is.due (want_near near) (turn_if true) (near_holds R is.due near) (turn_holds R is.due) paid
+      then_holds R is.due (want_near near) (turn_if true) (near_holds R is.due near) (then_holds R is.due leap turns_past (leap_holds R is.due) (turns_past_hold R is.due)) paid
 
   unasked_holds : (name : NameValue) (k : Keeping) → HoldsOf R k (with_room_done name false (sees k.host) k.policy)
   unasked_holds name k =

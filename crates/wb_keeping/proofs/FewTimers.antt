@@ -172,7 +172,7 @@ steps_keep_few = record {
     nothing = λ k. quietly k [] k.policy tt;
     both = both_few;
     wants = λ name anew k. record { at = refl; few = wanted_few name anew k };
-    turned = λ t k. quietly k [] _ tt;
+    turned = λ t l k. quietly k [] _ tt;
     beats = λ k due. quietly k [] _ tt;
     answers = λ k is. quietly k _ _ (states_each IsNoAsk (view_of k.host) (λ page. refl) (take 64 (pages_of k.host.is.held)));
     asks_pages = λ k is. quietly k _ _ (refl, tt);

@@ -225,7 +225,7 @@ module _ (P : ℕ → Type 0) (Q : Line → Opened → Type 0) (terms : Terms P 
       nothing = λ k. safely k [] k.policy (nothing_safe k.host) (λ u. u);
       both = both_keep;
       wants = wants_keep;
-      turned = λ t k. safely k [] _ (nothing_safe k.host) (λ u. u);
+      turned = λ t l k. safely k [] _ (nothing_safe k.host) (λ u. u);
       beats = λ k due. safely k [] _ (nothing_safe k.host) (λ u. u);
       answers = λ k is. safely k _ _ (all_safe _ k.host (states_each IsSafeLine (view_of k.host) (λ page host so. ((terms.states _ _ _ host so, tt), so)) (take 64 (pages_of k.host.is.held)))) (λ u. u);
       asks_pages = λ k is. safely k (Says (AskPages k.host.is.number) ∷ []) _ (λ so. ((terms.asks_pages k.host.is.number k.host so, tt), so)) (λ u. u);

@@ -5,11 +5,12 @@ use Rattle.wb_names.specs.Values.{NameValue}
 use Rattle.wb_codec.specs.declared.datagram.Datagram.{Datagram}
 use Rattle.wb_member.specs.Holding.{IsOpenAt, MemberValue}
 use Rattle.wb_member.specs.Opened.{Opened}
-use Rattle.wb_keeping.specs.Kept.{Doing, Line, Transition, and_then, is_begun, is_unasked, still, want, want_near, want_told}
+use Rattle.wb_keeping.specs.Kept.{Doing, Line, Transition, and_then, is_begun, is_unasked, still, turn, turns_on, want, want_near, want_told}
 use Rattle.wb_keeping.specs.Performing.{Does, DoesQuietly, IsKeptAt, Keeping, KeptValue, LeavesSome, after_doing, after_lines, sees, view_of}
 use Rattle.wb_policy.specs.Policy.{Policy}
 use Rattle.wb_keeping.specs.Views.{View}
 use Rattle.wb_keeping.proofs.Performed.{after_both, seen_then}
+use Rattle.wb_keeping.proofs.Wanted.{turns_end, turns_go_on}
 use Rattle.wb_keeping.proofs.OneByOne.{at_next, begun_first, ended_by, passed_by}
 
 -- ---- the first of lines after lines
@@ -151,3 +152,21 @@ near_begun_later names i d {a} {b} {c} lt unknown begun one left = at_next (λ (
     left_as (want_near (n ∷ ns)) (and_then (want n false) (want_near ns))
     (λ k at. begun_first n ns (sees k.host) k.policy (unknown k at) (begun k at))
     (left_later (want n false) (want_near ns) one left))
+
+-- ---- turns up to the first that asks
+
+-- It ended in the first turn.
+left_turn_at : (more : ℕ) (k : Keeping) (b : KeptValue) → LeftAt turn k b → LeftAt (turns_on (suc more)) k b
+left_turn_at more k b left = by (is_begun (turn (sees k.host) k.policy)) refl where
+  by : (begun : Bool) → is_begun (turn (sees k.host) k.policy) ≡ begun → LeftAt (turns_on (suc more)) k b
+  by true begun = left_as_at (turns_on (suc more)) turn k b (turns_end more (sees k.host) k.policy begun) left
+  by false begun = left_as_at (turns_on (suc more)) (and_then turn (turns_on more)) k b (turns_go_on more (sees k.host) k.policy begun) (left_first_at turn (turns_on more) k b left)
+
+pub left_turn : (more most : ℕ) {a b : KeptValue} → most ≡ suc more → LeavesSome turn a b → LeavesSome (turns_on most) a b
+left_turn more most {a} {b} is left = subst (λ (n : ℕ). LeavesSome (turns_on n) a b) (sym is) (record { at = λ k at. left_turn_at more k b (left.at k at) })
+
+-- It ended in a later one.
+pub left_turns : (more most : ℕ) {a b c : KeptValue} → most ≡ suc more → ((k : Keeping) → IsKeptAt a k → is_begun (turn (sees k.host) k.policy) ≡ false)
+    → DoesQuietly turn a b → LeavesSome (turns_on more) b c → LeavesSome (turns_on most) a c
+left_turns more most {a} {b} {c} is none did left = subst (λ (n : ℕ). LeavesSome (turns_on n) a c) (sym is) (
+    left_as (turns_on (suc more)) (and_then turn (turns_on more)) (λ k at. turns_go_on more (sees k.host) k.policy (none k at)) (left_later turn (turns_on more) did left))

@@ -1,9 +1,9 @@
 -- Transitions that are performed one after the other.
-use Rattle.std.proofs.Common.{◌≡◌, List, [], ◌∷◌, ◌++◌, ◌∙◌, ap, append-nil, append_assoc, refl, sym, subst}
+use Rattle.std.proofs.Common.{◌≡◌, Bool, List, [], ◌∷◌, ◌++◌, ◌∙◌, ap, append-nil, append_assoc, refl, sym, subst}
 use Rattle.wb_codec.specs.declared.datagram.Datagram.{Datagram}
 use Rattle.wb_member.specs.Holding.{IsOpenAt, MemberValue}
 use Rattle.wb_member.specs.Opened.{Opened}
-use Rattle.wb_keeping.specs.Kept.{Doing, Line, Transition, and_then, performs, still}
+use Rattle.wb_keeping.specs.Kept.{Doing, Line, Transition, and_then, is_begun, performs, still}
 use Rattle.wb_keeping.specs.Performing.{Does, DoesQuietly, IsKeptAt, Keeping, KeptValue, after_doing, after_line, after_lines, sees, sent_by_doing, sent_by_line, sent_by_lines, view_of}
 use Rattle.wb_policy.specs.Policy.{Policy}
 use Rattle.wb_keeping.specs.Views.{View}
@@ -95,6 +95,15 @@ does_as does other {a} same it = does_by does other (λ k at. (k.policy, at.poli
 pub quiet_as : (does other : Transition) {a b : KeptValue}
     → ((k : Keeping) → IsKeptAt a k → does (sees k.host) k.policy ≡ other (sees k.host) k.policy) → DoesQuietly other a b → DoesQuietly does a b
 quiet_as does other same it = record { sends = λ sent. does_as does other same (it.sends sent) }
+
+-- and so whether a name is begun to be asked for
+pub begun_by : (does other : Transition) {a b : KeptValue} {begun : Bool}
+    → ((k : Keeping) → IsKeptAt a k → (p : Policy) × (b.policy ≡ p) × (does (sees k.host) k.policy ≡ other (sees k.host) p)) → b.member ≡ a.member
+    → ((k : Keeping) → IsKeptAt b k → begun ≡ is_begun (other (sees k.host) k.policy)) → (k : Keeping) → IsKeptAt a k → begun ≡ is_begun (does (sees k.host) k.policy)
+begun_by does other same stays is k at =
+    let s = same k at in
+    let there : Keeping = record { host = k.host; policy = s.0 } in
+    is there (record { member = subst (λ (m : MemberValue). IsOpenAt m k.host) (sym stays) at.member; policy = s.1 }) ∙ ap is_begun (sym s.2)
 
 -- a line
 pub does_line : (line : Line) {a b : KeptValue} {before after : List Datagram} → b.policy ≡ a.policy

@@ -19,8 +19,8 @@ want_turns name see p = by (is_wanted_here name true see p) where
   by false = refl
 
 turn_to_turns : (next first : Option Hole) (see : List Line → View) (p : Policy) → (turn_to next first see p).policy.turns ≡ led_to next first p.turns
-turn_to_turns (Some h) first see p = want_turns (name_in p.turns.round h) see (policy_after h p)
-turn_to_turns None (Some h) see p = want_turns (name_in (in_next_round p).turns.round h) see (policy_after h (in_next_round p))
+turn_to_turns (Some h) first see p = want_turns (name_in p.turns h) see (policy_after h p)
+turn_to_turns None (Some h) see p = want_turns (name_in (in_next_round p).turns h) see (policy_after h (in_next_round p))
 turn_to_turns None None see p = refl
 
 pub turns_are_taken : TurnsAreTaken

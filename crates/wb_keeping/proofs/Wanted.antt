@@ -1,5 +1,5 @@
 -- A name that is wanted.
-use Rattle.std.proofs.Common.{◌≡◌, ℕ, Bool, true, false, cond, List, [], ◌∷◌, ◌++◌, ◌∙◌, ap, arith, length, length-append, refl, sym, true≢false}
+use Rattle.std.proofs.Common.{◌≡◌, ℕ, zero, suc, Bool, true, false, cond, List, [], ◌∷◌, ◌++◌, ◌∙◌, ap, arith, length, length-append, refl, sym, true≢false}
 use Rattle.std.specs.Prelude.{Option, Some, nat_lt, nat_eq}
 use Rattle.std.proofs.lemmas.Bool.{lt-ltb}
 use Rattle.std.proofs.lemmas.Bool.Decides.{nat_tests}
@@ -8,13 +8,13 @@ use Rattle.wb_names.specs.History.{highest}
 use Rattle.wb_gaps.specs.Holes.{hole_after}
 use Rattle.wb_gaps.specs.declared.holes.Hole.{Hole}
 use Rattle.wb_policy.specs.Choices.{near_names}
-use Rattle.wb_keeping.specs.Kept.{Asks, Doing, Line, SetsDistance, Stops, and_then, turn_if, end, is_begun, learned, measures, paid_for, performs, room_lines, still, stops_one, turn, turn_if, turn_to, want, want_near, lending, and_then}
+use Rattle.wb_keeping.specs.Kept.{Asks, Doing, Line, SetsDistance, Stops, and_then, end, is_begun, leap, leap_to, learned, measures, paid_for, performs, room_lines, still, stops_one, turn, turn_if, turn_to, turns_on, want, want_near, lending}
 use Rattle.wb_policy.specs.Distances.{bounded}
 use Rattle.wb_policy.specs.declared.limits.TheConstants.{UNKNOWN_DISTANCE}
 use Rattle.wb_policy.specs.Policy.{Policy, after_wanting, with_distance}
 use Rattle.wb_keeping.proofs.NearNames.{near_wanted}
 use Rattle.wb_keeping.specs.Views.{View, holds, is_asked, is_full, level, is_known}
-use Rattle.wb_keeping.specs.Steps.{AreNear, makes_room, performs_all, want_in}
+use Rattle.wb_keeping.specs.Steps.{AreNear, leap_in, makes_room, performs_all, want_in}
 use Rattle.wb_policy.specs.Turns.{nowhere}
 use Rattle.wb_policy.specs.Wanting.{giving_way, is_wanted}
 
@@ -108,6 +108,33 @@ module _ (see : List Line → View) (p : Policy) where
 
   pub turn_next : (h : Hole) → Some h ≡ next_hole → turn see p ≡ want_in h see p
   turn_next h e = ap (λ (o : Option Hole). turn_to o first_hole see p) (sym e)
+
+-- ---- the next hole of which a name far from others is wanted
+
+module _ (see : List Line → View) (p : Policy) where
+  abbrev hole_beside : Option Hole
+  hole_beside = hole_after (see []).held p.leaps.page p.leaps.source p.leaps.number
+
+  pub leap_next : (h : Hole) → Some h ≡ hole_beside → leap see p ≡ leap_in h see p
+  leap_next h e = ap (λ (o : Option Hole). leap_to o (hole_after (see []).held nowhere 0 0) see p) (sym e)
+
+-- ---- turns up to the first that asks
+
+pub no_turns : (see : List Line → View) (p : Policy) → turns_on zero see p ≡ still see p
+unfolding turns_on
+no_turns see p = refl
+
+module _ (more : ℕ) (see : List Line → View) (p : Policy) where
+  abbrev turns_by : Bool → Doing
+  turns_by begun = cond begun (turn see p) (and_then turn (turns_on more) see p)
+
+  pub turns_end : is_begun (turn see p) ≡ true → turns_on (suc more) see p ≡ turn see p
+  unfolding turns_on
+  turns_end e = ap turns_by e
+
+  pub turns_go_on : is_begun (turn see p) ≡ false → turns_on (suc more) see p ≡ and_then turn (turns_on more) see p
+  unfolding turns_on
+  turns_go_on e = ap turns_by e
 
 -- ---- what an echo tells
 

@@ -1,6 +1,6 @@
 -- A self-managing host as a whole: what it does for a datagram that comes, as time goes on, and for a drawing. Each is a list of lines
 -- that a host performs, one after the other. So a kept host is a host whose driver hands in these lines.
-use Rattle.std.specs.Prelude.{ℕ, ◌+◌, Bool, true, false, not, ◌||◌, List, [], ◌∷◌, ◌++◌, Option, Some, None, length, map, nat_eq, nat_le, nat_lt, take, if◌then◌else◌}
+use Rattle.std.specs.Prelude.{ℕ, zero, suc, ◌+◌, Bool, true, false, not, ◌||◌, List, [], ◌∷◌, ◌++◌, Option, Some, None, length, map, nat_eq, nat_le, nat_lt, take, if◌then◌else◌}
 use Rattle.wb_names.specs.History.{highest, name_of}
 use Rattle.wb_names.specs.Values.{NameValue, DrawopValue, MarkValue}
 use Rattle.wb_names.specs.declared.echo.Echo.{Echo}
@@ -14,10 +14,12 @@ use Rattle.wb_gaps.specs.declared.holes.Hole.{Hole}
 pub use Rattle.wb_member.specs.Lines.{Line, Ticks, Arrives, Hears, Asks, Stops, SetsDistance, Tunes, Says}
 use Rattle.wb_policy.specs.Choices.{distance_in, last_heard, last_source, near_names, own_echo, own_marks, told_names, until_in}
 use Rattle.wb_policy.specs.Distances.{bounded}
-use Rattle.wb_policy.specs.declared.limits.TheConstants.{MOST_PAGES, UNKNOWN_DISTANCE}
+use Rattle.wb_policy.specs.declared.limits.TheConstants.{MOST_PAGES, MOST_TIMERS, UNKNOWN_DISTANCE}
 use Rattle.wb_keeping.specs.Drawings.{drawing_time}
-use Rattle.wb_policy.specs.Policy.{Policy, after_answer, after_beat, after_came, after_question, after_report, after_state, after_taking_up, after_turn, after_wanting, in_next_round, with_distance}
+use Rattle.wb_policy.specs.Policy.{Policy, after_answer, after_beat, after_came, after_leaping, after_question, after_report, after_state, after_taking_up, after_turn, after_wanting, in_next_leaps, in_next_round, with_distance}
 use Rattle.wb_keeping.specs.Views.{View, holds, is_asked, is_full, level, is_known}
+use Rattle.wb_policy.specs.Credit.{has_credit}
+use Rattle.wb_policy.specs.Leaps.{far_name}
 use Rattle.wb_policy.specs.Questions.{is_due, is_to_answer}
 use Rattle.wb_policy.specs.Reports.{members_in, page_after, rest_after, slice_after, report_bytes}
 use Rattle.wb_policy.specs.Turns.{name_in, nowhere}
@@ -90,8 +92,8 @@ want_near (name ∷ names) see p =
 
 -- the hole whose turn it is, or the first of all in another round
 abbrev pub turn_to : Option Hole → Option Hole → Transition
-turn_to (Some hole) first see p = want (name_in p.turns.round hole) true see (after_turn hole p)
-turn_to None (Some hole) see p = want (name_in (in_next_round p).turns.round hole) true see (after_turn hole (in_next_round p))
+turn_to (Some hole) first see p = want (name_in p.turns hole) true see (after_turn hole p)
+turn_to None (Some hole) see p = want (name_in (in_next_round p).turns hole) true see (after_turn hole (in_next_round p))
 turn_to None None see p = still see (in_next_round p)
 
 abbrev pub turn : Transition
@@ -107,11 +109,31 @@ end see p = record { policy = p; lines = map (λ a. Stops a.name) (see []).asked
 abbrev pub paid_for : Bool → Policy → Policy
 paid_for was_asked p = if was_asked then after_came p else p
 
--- a turn, if a name that was asked for came
-abbrev pub turn_if : Bool → Transition
-turn_if was_asked see p = if was_asked then turn see p else still see p
+-- a name of another hole, far from those before
+abbrev pub leap_to : Option Hole → Option Hole → Transition
+leap_to (Some hole) first see p = want (far_name p.leaps hole) true see (after_leaping hole p)
+leap_to None (Some hole) see p = want (far_name (in_next_leaps p).leaps hole) true see (after_leaping hole (in_next_leaps p))
+leap_to None None see p = still see (in_next_leaps p)
 
--- A drawop is new: its neighbours are wanted, and then, if it was asked for, the next hole has its turn.
+abbrev pub leap : Transition
+leap see p =
+    let held = (see []).held in
+    leap_to (hole_after held p.leaps.page p.leaps.source p.leaps.number) (hole_after held nowhere 0 0) see p
+
+-- turns up to the first that asks, at most this many
+unfoldable pub turns_on : ℕ → Transition
+turns_on zero see p = still see p
+turns_on (suc more) see p = if is_begun (turn see p) then turn see p else and_then turn (turns_on more) see p
+
+-- these pass over what is asked for, if a place of the credit is left
+abbrev pub turns_past : Transition
+turns_past see p = if has_credit p.owed (see []).now then turns_on (MOST_TIMERS + 1) see p else still see p
+
+-- a name far from others and turns, if a name that was asked for came
+abbrev pub turn_if : Bool → Transition
+turn_if was_asked see p = if was_asked then and_then leap turns_past see p else still see p
+
+-- A drawop is new: its neighbours are wanted, and then, if it was asked for, a name far from it and one that has its turn.
 abbrev pub learned : NameValue → Bool → Transition
 learned name was_asked see p =
     let v = see [] in

@@ -6,9 +6,10 @@ use Rattle.wb_gaps.specs.Holes.{hole_after}
 use Rattle.wb_gaps.specs.declared.holes.Hole.{Hole}
 use Rattle.wb_policy.specs.Choices.{near_names}
 use Rattle.wb_policy.specs.declared.limits.TheConstants.{REACH, UNKNOWN_DISTANCE}
-use Rattle.wb_keeping.specs.Kept.{Line, SetsDistance, Transition, room_lines, turn_to, want, and_then, performs}
+use Rattle.wb_keeping.specs.Kept.{Line, SetsDistance, Transition, leap_to, room_lines, turn_to, want, and_then, performs}
 use Rattle.wb_keeping.specs.Views.{View, holds}
-use Rattle.wb_policy.specs.Policy.{after_turn}
+use Rattle.wb_policy.specs.Leaps.{far_name}
+use Rattle.wb_policy.specs.Policy.{after_leaping, after_turn}
 use Rattle.wb_policy.specs.Turns.{name_in, nowhere}
 
 -- the least number near one: 64 below it, and at least 1
@@ -51,4 +52,11 @@ turn_again see p = turn_to None (hole_after (see []).held nowhere 0 0) see p
 
 -- a hole has its turn
 abbrev pub want_in : Hole → Transition
-want_in hole see p = want (name_in p.turns.round hole) true see (after_turn hole p)
+want_in hole see p = want (name_in p.turns hole) true see (after_turn hole p)
+
+-- the same of leaps
+abbrev pub leap_again : Transition
+leap_again see p = leap_to None (hole_after (see []).held nowhere 0 0) see p
+
+abbrev pub leap_in : Hole → Transition
+leap_in hole see p = want (far_name p.leaps hole) true see (after_leaping hole p)

@@ -13,7 +13,7 @@ use Rattle.wb_gaps.specs.Holes.{hole_after}
 use Rattle.wb_gaps.specs.declared.holes.Hole.{Hole}
 use Rattle.wb_member.specs.Opened.{present}
 use Rattle.wb_policy.specs.Credit.{spent}
-use Rattle.wb_policy.specs.Fairness.{led_to, name_in_turn}
+use Rattle.wb_policy.specs.Fairness.{in_round, name_in_turn}
 use Rattle.wb_keeping.specs.Kept.{Asks, Doing, Line, Says, Ticks, Transition, and_then, answers, asks_pages, came, hears, performs, reports, reports_due, reports_rest, state_of, still, ticks, timed, turn, turn_by_clock, turn_to, turns_due, want}
 use Rattle.wb_keeping.specs.Performing.{Keeping, after_doing, sees, view_of}
 use Rattle.wb_policy.specs.Policy.{Policy, after_answer, after_beat, after_question, after_turn, after_wanting, in_next_round}
@@ -74,14 +74,14 @@ turn_takes k = by (hole_after held t.page t.source t.number) refl (hole_after he
   t = k.policy.turns
 
   named : (next first : Option Hole) → hole_after held t.page t.source t.number ≡ next → hole_after held nowhere 0 0 ≡ first
-      → name_in_turn held t ≡ option_map (name_in (led_to next first t).round) (option_or next first)
-  named next first e f = ap (λ (o : Option Hole). option_map (name_in (led_to o (hole_after held nowhere 0 0) t).round) (option_or o (hole_after held nowhere 0 0))) e
-      ∙ ap (λ (o : Option Hole). option_map (name_in (led_to next o t).round) (option_or next o)) f
+      → name_in_turn held t ≡ option_map (name_in (in_round next t)) (option_or next first)
+  named next first e f = ap (λ (o : Option Hole). option_map (name_in (in_round o t)) (option_or o (hole_after held nowhere 0 0))) e
+      ∙ ap (λ (o : Option Hole). option_map (name_in (in_round next t)) (option_or next o)) f
 
   by : (next : Option Hole) → hole_after held t.page t.source t.number ≡ next → (first : Option Hole) → hole_after held nowhere 0 0 ≡ first
       → TakesTurn k (turn_to next first (sees k.host) k.policy).lines (having_done (turn_to next first (sees k.host) k.policy) k)
-  by (Some h) e first f = turn_wants (name_in k.policy.turns.round h) (after_turn h k.policy) k refl (named (Some h) first e f)
-  by None e (Some h) f = turn_wants (name_in (in_next_round k.policy).turns.round h) (after_turn h (in_next_round k.policy)) k refl (named None (Some h) e f)
+  by (Some h) e first f = turn_wants (name_in k.policy.turns h) (after_turn h k.policy) k refl (named (Some h) first e f)
+  by None e (Some h) f = turn_wants (name_in (in_next_round k.policy).turns h) (after_turn h (in_next_round k.policy)) k refl (named None (Some h) e f)
   by None e None f = record { asks = tt; owed = inl refl }
 
 -- answers, questions and a report ask for nothing

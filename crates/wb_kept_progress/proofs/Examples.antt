@@ -3,16 +3,17 @@ use Rattle.std.proofs.Common.{◌≡◌, ◌+◌, ◌*◌, true, arith, ltb-true
 use Rattle.wb_gaps.specs.Answers.{gaps_of, pages_of, report_of}
 use Rattle.wb_member.specs.Random.{after_word, started, word_of}
 use Rattle.wb_policy.specs.Choices.{near_names}
+use Rattle.wb_keeping.specs.Kept.{turns_on}
 use Rattle.wb_policy.specs.Words as words
 use Rattle.wb_kept_progress.specs.Examples.{LivelyMeets, PatientMeets, lively, lively_lines, patient, patient_lines}
 use Rattle.wb_kept_progress.proofs.Lacking.{calls_pass, lines_pass, meets}
 
 lively_calls : calls_pass lively lively_lines 2600000 ≡ true
-unfolding started word_of after_word words.started words.word_of words.after_word report_of gaps_of pages_of near_names
+unfolding started word_of after_word words.started words.word_of words.after_word report_of gaps_of pages_of near_names turns_on
 lively_calls = refl
 
 lively_performs : lines_pass lively lively_lines 2600000 ≡ true
-unfolding started word_of after_word words.started words.word_of words.after_word report_of gaps_of pages_of near_names
+unfolding started word_of after_word words.started words.word_of words.after_word report_of gaps_of pages_of near_names turns_on
 lively_performs = refl
 
 pub lively_meets : LivelyMeets
@@ -22,11 +23,11 @@ lively_meets =
     lively_calls lively_performs
 
 patient_calls : calls_pass patient patient_lines 115530000 ≡ true
-unfolding started word_of after_word words.started words.word_of words.after_word report_of gaps_of pages_of near_names
+unfolding started word_of after_word words.started words.word_of words.after_word report_of gaps_of pages_of near_names turns_on
 patient_calls = refl
 
 patient_performs : lines_pass patient patient_lines 115530000 ≡ true
-unfolding started word_of after_word words.started words.word_of words.after_word report_of gaps_of pages_of near_names
+unfolding started word_of after_word words.started words.word_of words.after_word report_of gaps_of pages_of near_names turns_on
 patient_performs = refl
 
 pub patient_meets : PatientMeets

@@ -122,7 +122,7 @@ steps_go_on = record {
     nothing = λ k. changes k k refl (λ near. near);
     both = λ k m n one other a b. record { at = b.at ∙ ap (after_lines other) a.at ∙ sym (after_both one other k.host); goes = λ g. b.goes (a.goes g) };
     wants = wants_on;
-    turned = λ t k. changes k _ refl (λ near. near);
+    turned = λ t l k. changes k _ refl (λ near. near);
     beats = λ k due. changes k _ refl (λ near. near);
     answers = λ k is. record { at = refl; goes = λ g. record { orderly = fit_orderly _ k.host (states_each IsFit (view_of k.host) (λ page. tt) (take 64 (pages_of k.host.is.held))) g.orderly; near = g.near } };
     asks_pages = λ k is. record { at = refl; goes = λ g. record { orderly = g.orderly; near = g.near } };

@@ -1,5 +1,5 @@
 -- What a live host lacks is wanted in time: a report tells it the greatest number of its source, or its hole has its turn.
-use Rattle.std.proofs.Common.{◌≡◌, ℕ, suc, ◌+◌, ◌-◌, ◌*◌, ◌^◌, ◌<◌, ◌≤◌, Bool, true, false, List, [], ◌∷◌, ◌++◌, ◌∙◌, Some, ap, append_assoc, arith, eqb-true, length, mul-le-mul, refl, subst, sym, true≢false, ⊎_elim}
+use Rattle.std.proofs.Common.{◌≡◌, ℕ, suc, ◌+◌, ◌*◌, ◌<◌, ◌≤◌, Bool, true, false, List, [], ◌∷◌, ◌++◌, ◌∙◌, Some, ap, append_assoc, arith, eqb-true, length, mul-le-mul, refl, subst, sym, true≢false, ⊎_elim}
 use Rattle.std.specs.Prelude.{◌⊎◌, ◌&&◌, Contains, filter, nat_eq, nat_le, not}
 use Rattle.std.proofs.lemmas.Bool.{leb-true, false_from_ne_true}
 use Rattle.wb_names.specs.History.{IsHeld, highest, name_of}
@@ -16,13 +16,13 @@ use Rattle.wb_keeper.specs.Keeper.{holds}
 use Rattle.wb_progress.specs.InTime.{known_from, repairing}
 use Rattle.wb_progress.specs.Turns.{IsNowAt, Terms, settled_by}
 use Rattle.wb_member.specs.Opened.{present}
-use Rattle.wb_policy.specs.Fairness.{Told, after_tellings, after_turns, marks_in_turn, name_in_turn, page_in_turn, slices_of, slices_on}
+use Rattle.wb_policy.specs.Fairness.{HaveAtMost, Told, after_tellings, after_turns, marks_in_turn, name_in_turn, page_in_turn, slices_of, slices_on}
 use Rattle.wb_policy.specs.Choices.{told_names}
 use Rattle.wb_keeping.specs.Kept.{came}
 use Rattle.wb_keeping.specs.Laws.{KeptLine, doing_of}
 use Rattle.wb_keeping.specs.Performing.{Keeping, after_doing, sent_by_doing}
 use Rattle.wb_policy.specs.Policy.{Policy}
-use Rattle.wb_policy.proofs.FairTurns.{each_number_has_its_turn}
+use Rattle.wb_policy.proofs.FairTurns.{each_number_has_its_turn_soon}
 use Rattle.wb_policy.proofs.ToldMarks.{each_mark_is_told}
 use Rattle.wb_kept_progress.specs.Sessions.{Opening}
 use Rattle.wb_kept_progress.specs.Timed.{SaysNow, TimedLine, called_at, host_after, lines_of, performed, start_of, until}
@@ -51,10 +51,10 @@ more_spans a b span le = mul-le-mul le (same span) where
   same : (n : ℕ) → n ≤ n
   same n = omega arith
 
-more_turns : (numbers most holes all : ℕ) → numbers ≤ most → holes ≤ all → 2 * numbers * holes ≤ 2 * most * all
-more_turns numbers most holes all a b =
-    let twice : 2 * numbers ≤ 2 * most = omega (arith, a) in
-    mul-le-mul twice b
+more_turns : (numbers holes all : ℕ) → holes ≤ all → 2 * numbers * holes ≤ 2 * numbers * all
+more_turns numbers holes all le = mul-le-mul (same (2 * numbers)) le where
+  same : (n : ℕ) → n ≤ n
+  same n = omega arith
 
 -- ---- a call within a window
 
@@ -210,22 +210,18 @@ module _ (was_held : HeldWasHeld) (hosts : ℕ → Opening) (terms : Terms) (tra
         let hole = hole_on n.page h.gap in
         let first_number = h.first in
         let last_number = h.last in
-        let numbers = small.numbers (newest ++ window) base i hole split_base live quiet h.there in
+        let numbers : HaveAtMost sizes.numbers (held_by i) = λ hole there. small.numbers (newest ++ window) base i hole split_base live quiet there in
         let holes = small.holes (newest ++ window) base i split_base live quiet in
-        let rounds = small.rounds (newest ++ st.front) (st.grown ++ base) i (cut_split st) live (cut_quiet st) in
-        let few = few_rounds p.turns.round (h.gap.last + 1 - h.gap.first) sizes.numbers numbers rounds in
-        let turn = each_number_has_its_turn (held_by i) p.turns hole n.seq h.there first_number last_number few in
+        let few = small.rounds (newest ++ st.front) (st.grown ++ base) i (cut_split st) live (cut_quiet st) in
+        let turn = each_number_has_its_turn_soon (held_by i) p.turns hole n.seq sizes.numbers h.there first_number last_number numbers few in
         let count = turn.0 in
         let less = turn.1 in
-        let most = more_turns (h.gap.last + 1 - h.gap.first) sizes.numbers (length (holes_of (held_by i))) sizes.holes numbers holes in
+        let most = more_turns sizes.numbers (length (holes_of (held_by i))) sizes.holes holes in
         let fits : suc count * span ByTurn ≤ enough =
-        under (sizes.slices * span ByReport) (more_spans (suc count) (2 * sizes.numbers * sizes.holes) (span ByTurn) (one_less count (2 * (h.gap.last + 1 - h.gap.first) * length (holes_of (held_by i))) (2 * sizes.numbers * sizes.holes) less most)) long in
+        under (sizes.slices * span ByReport) (more_spans (suc count) (2 * sizes.numbers * sizes.holes) (span ByTurn) (one_less count (2 * sizes.numbers * length (holes_of (held_by i))) (2 * sizes.numbers * sizes.holes) less most)) long in
         let b = behind_at ByTurn i live count (in_time_at_least ByTurn count fits) in
         let n_is = turn.2 ∙ ap (λ (source : ℕ). Some (name_of n.page source n.seq)) h.source in
         at_turn n held lacks count fits b n_is where
-          few_rounds : (round numbers most : ℕ) → numbers ≤ most → round + 2 * most < 2 ^ 32 → round + 2 * numbers < 2 ^ 32
-          few_rounds round numbers most le lt = omega (arith, le, lt)
-
           one_less : (count a b : ℕ) → count < a → a ≤ b → suc count ≤ b
           one_less count a b lt le = omega (arith, lt, le)
 

@@ -1,5 +1,5 @@
 -- What the parts of a call leave as it was: turns, what is owed, the last report, and when the next report and the next turn are due.
-use Rattle.std.proofs.Common.{◌≡◌, ℕ, ◌+◌, ◌/◌, ◌≤◌, Bool, true, false, cond, List, [], ◌∷◌, ◌++◌, ◌∙◌, Option, Some, None, arith, map, refl}
+use Rattle.std.proofs.Common.{◌≡◌, ℕ, zero, suc, ◌+◌, ◌/◌, ◌≤◌, Bool, true, false, cond, List, [], ◌∷◌, ◌++◌, ◌∙◌, Option, Some, None, arith, map, refl}
 use Rattle.std.specs.Prelude.{◌||◌, ◌%◌, length, max, min, nat_eq, nat_le, nat_lt, take}
 use Rattle.wb_names.specs.Values.{DrawopValue, MarkValue, NameValue}
 use Rattle.wb_names.specs.declared.echo.Echo.{Echo}
@@ -12,10 +12,13 @@ use Rattle.wb_gaps.specs.declared.holes.Hole.{Hole}
 use Rattle.wb_policy.specs.Fairness.{Told}
 use Rattle.wb_keeping.specs.Fairness.{AnswersWhatIsHeld}
 use Rattle.wb_policy.specs.Choices.{distance_in, own_echo, own_marks, told_names}
-use Rattle.wb_keeping.specs.Kept.{Arrives, Doing, Hears, Line, Says, Transition, and_then, answers, asks_pages, end, hears, hears_session, hears_some, hears_state, is_begun, is_unasked, learned, measures, of_other, paid_for, performs, reports, reports_due, reports_rest, state_of, still, takes, takes_question, turn, turn_if, turn_to, turns_due, want, want_near, want_told, hears_request}
+use Rattle.wb_keeping.specs.Kept.{Arrives, Doing, Hears, Line, Says, Transition, and_then, answers, asks_pages, end, hears, hears_session, hears_some, hears_state, is_begun, is_unasked, leap, leap_to, learned, measures, of_other, paid_for, performs, reports, reports_due, reports_rest, state_of, still, takes, takes_question, turn, turn_if, turn_to, turns_due, turns_on, turns_past, want, want_near, want_told, hears_request}
 use Rattle.wb_keeping.specs.Performing.{Keeping, after_doing, sees}
-use Rattle.wb_policy.specs.Policy.{Policy, after_answer, after_beat, after_question, after_state, after_taking_up, after_turn, after_wanting, in_next_round}
+use Rattle.wb_policy.specs.Policy.{Policy, after_answer, after_beat, after_leaping, after_question, after_state, after_taking_up, after_turn, after_wanting, in_next_leaps, in_next_round}
 use Rattle.wb_keeping.specs.Views.{View, holds, is_asked, is_full}
+use Rattle.wb_policy.specs.Credit.{has_credit}
+use Rattle.wb_policy.specs.Leaps.{far_name}
+use Rattle.wb_policy.specs.declared.limits.TheConstants.{MOST_TIMERS}
 use Rattle.wb_policy.specs.Pace.{gap_within}
 use Rattle.wb_policy.specs.Questions.{is_due, is_to_answer}
 use Rattle.wb_policy.specs.Reports.{next_report, rest_after}
@@ -151,14 +154,35 @@ from : (p q r : Policy) → q.reports.due ≡ p.reports.due → q.pace.due ≡ p
 from p q r due beat told s = behind p q r (record { due = due; beat = beat; told = told }) s
 
 turn_to_tells : (next first : Option Hole) → TellsNothing (turn_to next first)
-turn_to_tells (Some h) first see p = from p (after_turn h p) _ refl refl refl (want_tells (name_in p.turns.round h) true see (after_turn h p))
+turn_to_tells (Some h) first see p = from p (after_turn h p) _ refl refl refl (want_tells (name_in p.turns h) true see (after_turn h p))
 turn_to_tells None (Some h) see p =
     let q = in_next_round p in
-    from p (after_turn h q) _ refl refl refl (want_tells (name_in q.turns.round h) true see (after_turn h q))
+    from p (after_turn h q) _ refl refl refl (want_tells (name_in q.turns h) true see (after_turn h q))
 turn_to_tells None None see p = record { due = refl; beat = refl; told = refl }
 
 pub turn_tells : TellsNothing turn
 turn_tells see p = turn_to_tells (hole_after (see []).held p.turns.page p.turns.source p.turns.number) (hole_after (see []).held nowhere 0 0) see p
+
+leap_to_tells : (next first : Option Hole) → TellsNothing (leap_to next first)
+leap_to_tells (Some h) first see p = from p (after_leaping h p) _ refl refl refl (want_tells (far_name p.leaps h) true see (after_leaping h p))
+leap_to_tells None (Some h) see p =
+    let q = in_next_leaps p in
+    from p (after_leaping h q) _ refl refl refl (want_tells (far_name q.leaps h) true see (after_leaping h q))
+leap_to_tells None None see p = record { due = refl; beat = refl; told = refl }
+
+leap_tells : TellsNothing leap
+leap_tells see p = leap_to_tells (hole_after (see []).held p.leaps.page p.leaps.source p.leaps.number) (hole_after (see []).held nowhere 0 0) see p
+
+turns_on_tell : (most : ℕ) → TellsNothing (turns_on most)
+unfolding turns_on
+turns_on_tell zero see p = same p
+turns_on_tell (suc more) see p =
+    choose p (is_begun (turn see p)) (turn see p) (and_then turn (turns_on more) see p) (turn_tells see p)
+    (both turn (turns_on more) turn_tells (turns_on_tell more) see p)
+
+turns_past_tell : TellsNothing turns_past
+turns_past_tell see p =
+    choose p (has_credit p.owed (see []).now) (turns_on (MOST_TIMERS + 1) see p) (still see p) (turns_on_tell (MOST_TIMERS + 1) see p) (same p)
 
 -- a turn by the clock puts the next one off, and tells nothing
 pub turns_tell : (see : List Line → View) (p : Policy) → ((turns_due see p).policy.reports.due ≡ p.reports.due) × (told_of (turns_due see p).policy ≡ told_of p)
@@ -175,7 +199,7 @@ paid_tells true p = record { due = refl; beat = refl; told = refl }
 paid_tells false p = same p
 
 turn_if_tells : (was : Bool) → TellsNothing (turn_if was)
-turn_if_tells true see p = turn_tells see p
+turn_if_tells true see p = both leap turns_past leap_tells turns_past_tell see p
 turn_if_tells false see p = same p
 
 learned_tells : (name : NameValue) (was : Bool) → TellsNothing (learned name was)

@@ -181,7 +181,7 @@ steps_give_up = record {
     nothing = λ k. quietly k [] k.policy tt;
     both = both_give_up;
     wants = λ name anew k. record { at = refl; caused = λ room. wanted_caused name anew k };
-    turned = λ t k. quietly k [] _ tt;
+    turned = λ t l k. quietly k [] _ tt;
     beats = λ k due. quietly k [] _ tt;
     answers = λ k is. quietly k _ _ (states_each StopsNothing (view_of k.host) (λ page. tt) (take 64 (pages_of k.host.is.held)));
     asks_pages = λ k is. quietly k _ _ (tt, tt);

@@ -1,6 +1,6 @@
 -- While a number is missing below one that is held, each turn names such a number.
-use Rattle.std.proofs.Common.{◌≡◌, ℕ, ◌+◌, ◌-◌, ◌/◌, ◌≤◌, Bool, true, false, cond, List, [], ◌∷◌, ◌∙◌, Option, Some, None, ap, arith, refl, subst, sym}
-use Rattle.std.specs.Prelude.{◌%◌, Contains, nat_eq}
+use Rattle.std.proofs.Common.{◌≡◌, ℕ, ◌+◌, ◌*◌, ◌≤◌, List, [], ◌∷◌, ◌∙◌, Option, Some, None, ap, arith, refl, subst, sym}
+use Rattle.std.specs.Prelude.{◌%◌, Contains, min}
 use Rattle.std.specs.List.{find}
 use Rattle.std.specs.Option.{option_map, option_or}
 use Rattle.wb_names.specs.Values.{DrawopValue, NameValue}
@@ -13,42 +13,27 @@ use Rattle.wb_gaps.specs.Holes.{begins_after, hole_after, hole_on, holes_of, hol
 use Rattle.wb_gaps.specs.Starts.{start}
 use Rattle.wb_gaps.specs.declared.holes.Hole.{Hole}
 use Rattle.wb_gaps.proofs.MissingRanges.{gaps_of_page}
-use Rattle.wb_policy.specs.Fairness.{led_to, name_in_turn}
-use Rattle.wb_policy.specs.Turns.{name_in, nowhere, number_in, spread}
+use Rattle.wb_policy.specs.Fairness.{in_round, name_in_turn}
+use Rattle.wb_policy.specs.Turns.{name_in, next_round, nowhere, number_in, window_in, windows_in}
 use Rattle.wb_policy.specs.declared.turns.Turns.{Turns}
 use Rattle.wb_policy.proofs.Cycle.{found_at}
 use Rattle.wb_policy.proofs.FilledHoles.{hole_filled}
 use Rattle.wb_policy.proofs.HolesRise.{Rise, found_first, holes_rise}
 use Rattle.wb_kept_progress.proofs.Turning.{from_flat, from_map}
 
--- the number of a hole that has its turn in a round is one of its numbers
-module _ (round : ℕ) (gap : Gap) (filled : gap.first ≤ gap.last) where
-  under : (n first last : ℕ) → first ≤ last → first + n % (last + 1 - first) ≤ last
-  under n first last le = by (last + 1 - first) (omega (arith, le)) (omega (arith, le)) where
-    less : (n most : ℕ) → n % (most + 1) + 1 ≤ most + 1
-    less n most = omega arith
+-- the number of a hole that has its turn is one of its numbers
+module _ (t : Turns) (gap : Gap) (filled : gap.first ≤ gap.last) where
+  above : (first far step last : ℕ) → first ≤ last → first ≤ min (first + far + step) last
+  above first far step last le = omega (arith, le)
 
-    by : (numbers : ℕ) → 1 ≤ numbers → first + numbers ≡ last + 1 → first + n % numbers ≤ last
-    by numbers some is =
-        let one_more : numbers ≡ numbers - 1 + 1 = omega (arith, some) in
-        let lt = subst (λ (k : ℕ). n % k + 1 ≤ k) (sym one_more) (less n (numbers - 1)) in
-        omega (arith, lt, is)
+  below : (number last : ℕ) → min number last ≤ last
+  below number last = omega arith
 
-  -- how far its turns have come in it
-  abbrev step : ℕ
-  step = spread (gap.last + 1 - gap.first) (round / 2)
+  number_above : gap.first ≤ number_in t gap
+  number_above = above gap.first (64 * (t.round % windows_in gap)) t.step gap.last filled
 
-  number_above : gap.first ≤ number_in round gap
-  number_above = by (nat_eq (round % 2) 0) where
-    by : (b : Bool) → gap.first ≤ cond b gap.first (gap.first + step % (gap.last + 1 - gap.first))
-    by true = omega arith
-    by false = omega arith
-
-  number_below : number_in round gap ≤ gap.last
-  number_below = by (nat_eq (round % 2) 0) where
-    by : (b : Bool) → cond b gap.first (gap.first + step % (gap.last + 1 - gap.first)) ≤ gap.last
-    by true = filled
-    by false = under step gap.first gap.last filled
+  number_below : number_in t gap ≤ gap.last
+  number_below = below (window_in t.round gap + t.step) gap.last
 
 -- a number of a hole is missing
 missing_in : (held : List DrawopValue) (hole : Hole) (number : ℕ) → Contains (holes_of held) hole → hole.gap.first ≤ number → number ≤ hole.gap.last → IsMissing held hole.page [] hole.gap.source number
@@ -63,13 +48,13 @@ module _ (held : List DrawopValue) (t : Turns) where
   Names = (n : NameValue) × (name_in_turn held t ≡ Some n) × IsMissing held n.page [] n.source n.seq
 
   abbrev named_by : Option Hole → Option Hole → Option NameValue
-  named_by next first = option_map (name_in (led_to next first t).round) (option_or next first)
+  named_by next first = option_map (name_in (in_round next t)) (option_or next first)
 
-  named : (page : PageId) (source number round : ℕ) (h : Hole) → hole_after held page source number ≡ Some h → name_in_turn held t ≡ Some (name_in round h) → Names
-  named page source number round h found is =
+  named : (page : PageId) (source number : ℕ) (entered : Turns) (h : Hole) → hole_after held page source number ≡ Some h → name_in_turn held t ≡ Some (name_in entered h) → Names
+  named page source number entered h found is =
       let c = found_at (begins_after (start page source number)) (holes_of held) h h found in
       let filled = (hole_filled held page source number h found).filled in
-      (name_in round h, is, missing_in held h (number_in round h.gap) c (number_above round h.gap filled) (number_below round h.gap filled))
+      (name_in entered h, is, missing_in held h (number_in entered h.gap) c (number_above entered h.gap filled) (number_below entered h.gap filled))
 
   pub turn_names : (hole : Hole) → Contains (holes_of held) hole → Names
   turn_names hole there = by (hole_after held t.page t.source t.number) refl (hole_after held nowhere 0 0) refl where
@@ -81,9 +66,9 @@ module _ (held : List DrawopValue) (t : Turns) where
 
     by : (next : Option Hole) → hole_after held t.page t.source t.number ≡ next → (first : Option Hole) → hole_after held nowhere 0 0 ≡ first → Names
     by (Some h) e first f =
-        named t.page t.source t.number t.round h e
+        named t.page t.source t.number t h e
         (ap (λ (o : Option Hole). named_by o (hole_after held nowhere 0 0)) e)
     by None e (Some h) f =
-        named nowhere 0 0 (led_to None (Some h) t).round h f
+        named nowhere 0 0 (next_round t) h f
         (ap (λ (o : Option Hole). named_by o (hole_after held nowhere 0 0)) e ∙ ap (named_by None) f)
     by None e None f = absurd (some_first (holes_of held) there (holes_rise held) f)

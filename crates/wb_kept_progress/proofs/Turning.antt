@@ -28,14 +28,15 @@ use Rattle.wb_keeping.specs.Kept.{Ticks, performs, ticks, timed}
 use Rattle.wb_keeping.specs.Laws.{Added, Came, KeptLine, Ticked, Tuned, doing_of}
 use Rattle.wb_keeping.specs.Performing.{Keeping, after_doing, sees, sent_by_doing}
 use Rattle.wb_policy.specs.Reports.{is_telling, page_after, slice_after}
+use Rattle.wb_policy.specs.Turns.{windows_in}
 use Rattle.wb_policy.specs.declared.turns.Turns.{Turns}
 use Rattle.wb_keeping.specs.Refusing.{is_unknown}
 use Rattle.wb_keeping.proofs.EachStep.{having}
-use Rattle.wb_policy.proofs.FairTurns.{a_number_has_its_turn, each_number_has_its_turn}
+use Rattle.wb_policy.proofs.FairTurns.{a_number_has_its_turn, each_number_has_its_turn, each_number_has_its_turn_soon}
 use Rattle.wb_policy.proofs.Latest.{slices_are_short}
 use Rattle.wb_keeping.proofs.Performed.{then_after}
 use Rattle.wb_keeping.proofs.WantedNames.{lines_answer_held}
-use Rattle.wb_kept_progress.specs.Repairs.{AreTicks, ComesToAsk, ComesToTell, IsBrought, IsLost, MissingCanCome, MissingIsAsked, MissingIsAskedSoon, host_at, ready_at, repair}
+use Rattle.wb_kept_progress.specs.Repairs.{AreTicks, ComesToAsk, ComesToTell, IsBrought, IsLost, MissingCanCome, MissingIsAsked, MissingIsAskedInTurn, MissingIsAskedSoon, host_at, ready_at, repair}
 use Rattle.wb_kept_progress.specs.Sessions.{AreHosts, AreSent, AreTaken, LineAt, Opening, WasSent, at, kept_at, sent_since}
 use Rattle.wb_kept_progress.proofs.Lines.{IsOf, lines_of}
 use Rattle.wb_kept_progress.proofs.Repairs.{asked_can_come, did_send, is_itself, places_differ, tick_in_time, tick_rests}
@@ -354,18 +355,32 @@ hole_is_lacked held hole number there low high =
     subst (λ (h : Hole). h.gap.first ≤ number → number ≤ h.gap.last → holds held (name_of h.page h.gap.source number) ≡ false) g.2
     (λ low high. missing_is_lacked held (name_of p.0 g.0.source number) (((gaps_of_page held p.0 []).missing g.0.source number).0 (g.0, g.1, refl, low, high))) low high
 
-pub missing_is_asked_soon : MissingIsAskedSoon
-missing_is_asked_soon hosts older i hole number are taken there low high room few =
+-- after `count` turns a number of a hole has its own, and is asked for by the next tick
+asked_after : (hosts : ℕ → Opening) (older : List LineAt) (i : ℕ) (hole : Hole) (number count bound : ℕ) → AreTaken hosts older → Contains (holes_of (host_at hosts older i).is.held) hole → hole.gap.first ≤ number → number ≤ hole.gap.last → is_full (host_at hosts older i) ≡ false
+    → count + 1 ≤ bound → (let k = kept_at hosts older i in name_in_turn k.host.is.held (after_turns k.host.is.held count k.policy.turns) ≡ Some (name_of hole.page hole.gap.source number))
+    → (newer : List LineAt) × ComesToAsk hosts newer older i (name_of hole.page hole.gap.source number) × (length newer ≤ bound)
+asked_after hosts older i hole number count bound taken there low high room few in_turn =
+    let many = count_of hosts older i (suc count) in (
+      some_ticks hosts older i (suc count),
+      comes_to_ask hosts older i (name_of hole.page hole.gap.source number) count taken (hole_is_lacked (host_at hosts older i).is.held hole number there low high) room in_turn,
+      omega (arith, many, few),
+    )
+
+pub missing_is_asked_in_turn : MissingIsAskedInTurn
+missing_is_asked_in_turn hosts older i hole number are taken there low high room few =
     let k = kept_at hosts older i in
     let turn = each_number_has_its_turn k.host.is.held k.policy.turns hole number there low high few in
-    let less = turn.1 in
-    let many = count_of hosts older i (suc turn.0) in (
-      some_ticks hosts older i (suc turn.0),
-      comes_to_ask hosts older i (name_of hole.page hole.gap.source number) turn.0 taken (hole_is_lacked k.host.is.held hole number there low high) room turn.2,
-      under (length (some_ticks hosts older i (suc turn.0))) turn.0 _ many less,
-    ) where
-      under : (a b c : ℕ) → a ≡ suc b → b < c → a ≤ c
-      under a b c e lt = omega (arith, e, lt)
+    asked_after hosts older i hole number turn.0 (windows_in hole.gap * length (holes_of k.host.is.held) * 64 + 1) taken there low high room (one_more turn.0 (windows_in hole.gap * length (holes_of k.host.is.held) * 64) turn.1) turn.2 where
+      one_more : (count most : ℕ) → count ≤ most → count + 1 ≤ most + 1
+      one_more count most le = omega (arith, le)
+
+pub missing_is_asked_soon : MissingIsAskedSoon
+missing_is_asked_soon hosts older i hole number most are taken there low high room all few =
+    let k = kept_at hosts older i in
+    let turn = each_number_has_its_turn_soon k.host.is.held k.policy.turns hole number most there low high all few in
+    asked_after hosts older i hole number turn.0 (2 * most * length (holes_of k.host.is.held)) taken there low high room (within turn.0 (2 * most * length (holes_of k.host.is.held)) turn.1) turn.2 where
+      within : (count most : ℕ) → count < most → count + 1 ≤ most
+      within count most lt = omega (arith, lt)
 
 pub missing_is_asked : MissingIsAsked
 missing_is_asked hosts older i n are taken missing small room =

@@ -13,7 +13,7 @@ use Rattle.wb_member.specs.Judged.{is_full}
 use Rattle.wb_member.specs.Opened.{asks_for, present}
 use Rattle.wb_policy.specs.Credit.{has_credit}
 use Rattle.wb_policy.specs.declared.limits.TheConstants.{COST}
-use Rattle.wb_policy.specs.Fairness.{led_to, name_in_turn}
+use Rattle.wb_policy.specs.Fairness.{in_round, name_in_turn}
 use Rattle.wb_keeping.specs.Fairness.{AnswersWhatIsHeld}
 use Rattle.wb_keeping.specs.Kept.{Doing, Line, Ticks, Transition, and_then, performs, still, timed, turn, turn_to, want, want_told}
 use Rattle.wb_keeping.specs.Performing.{Keeping, after_doing, after_lines, sees, view_of}
@@ -153,8 +153,8 @@ module _ (see : List Line → View) where
     by false = not_more p.owed (see []).now le
 
   turn_to_owed : (next first : Option Hole) (p : Policy) → p.owed ≤ (see []).now → (turn_to next first see p).policy.owed ≤ (see []).now + 250000
-  turn_to_owed (Some h) first p le = want_owed (name_in p.turns.round h) (after_turn h p) le
-  turn_to_owed None (Some h) p le = want_owed (name_in (in_next_round p).turns.round h) (after_turn h (in_next_round p)) le
+  turn_to_owed (Some h) first p le = want_owed (name_in p.turns h) (after_turn h p) le
+  turn_to_owed None (Some h) p le = want_owed (name_in (in_next_round p).turns h) (after_turn h (in_next_round p)) le
   turn_to_owed None None p le = not_more p.owed (see []).now le
 
   pub turn_owed : (p : Policy) → p.owed ≤ (see []).now → (turn see p).policy.owed ≤ (see []).now + 250000
@@ -165,7 +165,7 @@ costs = record {
   nothing = costs_nothing;
   both = λ k m n one other a b. costs_both k m n a b;
   wants = want_costs;
-  turned = λ t k. record { owed = omega arith; now = refl };
+  turned = λ t l k. record { owed = omega arith; now = refl };
   beats = λ k due. record { owed = omega arith; now = refl };
   answers = λ k is. record { owed = omega arith; now = ap present (says_after (view_of k.host) (take 64 (pages_of k.host.is.held)) k.host) };
   asks_pages = λ k is. record { owed = omega arith; now = refl };
@@ -242,14 +242,14 @@ module _ (n : NameValue) (r : Keeping) (may : MayBeWanted r n) where
         room = ap is_full same ∙ may.room;
       }))
 
-  to_it : (next first : Option Hole) → option_map (name_in (led_to next first r.policy.turns).round) (option_or next first) ≡ Some n
+  to_it : (next first : Option Hole) → option_map (name_in (in_round next r.policy.turns)) (option_or next first) ≡ Some n
       → IsAskedThen n (after_doing (turn_to next first) r)
   to_it (Some h) first e =
-      let name = name_in r.policy.turns.round h in
+      let name = name_in r.policy.turns h in
       from_turns (with_policy (after_turn h r.policy) r) name refl (same_Some name n e)
   to_it None (Some h) e =
       let q = in_next_round r.policy in
-      let name = name_in q.turns.round h in
+      let name = name_in q.turns h in
       from_turns (with_policy (after_turn h q) r) name refl (same_Some name n e)
   to_it None None e = absurd (none-some n e)
 

@@ -1,5 +1,5 @@
 -- Lines that bring a drawop from a host that holds it to one that lacks it, if each is self-managing.
-use Rattle.std.specs.Prelude.{◌≡◌, ◌<◌, ◌≤◌, ℕ, ◌+◌, ◌-◌, ◌*◌, ◌^◌, true, false, List, [], ◌∷◌, ◌++◌, Contains, length, max}
+use Rattle.std.specs.Prelude.{◌≡◌, ◌<◌, ◌≤◌, ℕ, ◌+◌, ◌*◌, true, false, List, [], ◌∷◌, ◌++◌, Contains, length, max}
 use Rattle.wb_names.specs.History.{highest, name_of}
 use Rattle.wb_names.specs.Values.{DrawopValue, MarkValue, NameValue}
 use Rattle.wb_names.specs.declared.echo.Echo.{Echo}
@@ -12,7 +12,9 @@ use Rattle.wb_gaps.specs.declared.holes.Hole.{Hole}
 use Rattle.wb_progress.specs.Repairs.{asking_wait, answering_wait, quiet_wait}
 use Rattle.wb_member.specs.Judged.{holds, is_full}
 use Rattle.wb_member.specs.Opened.{Opened, asks_for, present}
-use Rattle.wb_policy.specs.Fairness.{slices_of, slices_on}
+use Rattle.wb_policy.specs.Fairness.{HaveAtMost, slices_of, slices_on}
+use Rattle.wb_policy.specs.Turns.{windows_in}
+use Rattle.wb_policy.specs.declared.limits.TheConstants.{ROUND_LIMIT, WINDOW}
 use Rattle.wb_keeping.specs.Laws.{Came, Ticked}
 use Rattle.wb_keeping.specs.Performing.{Keeping}
 use Rattle.wb_keeping.specs.Refusing.{is_unknown}
@@ -83,12 +85,18 @@ abbrev pub MissingIsAsked : Type 0
 MissingIsAsked = (hosts : ℕ → Opening) (older : List LineAt) (i : ℕ) (n : NameValue) → AreHosts hosts → AreTaken hosts older → IsMissing (host_at hosts older i).is.held n.page [] n.source n.seq → n.seq < 2147483648 → is_full (host_at hosts older i) ≡ false
     → (newer : List LineAt) × ComesToAsk hosts newer older i n
 
--- While rounds are below 2^32, of R holes each of the n numbers of one is asked for by 2 R n ticks at most.
+-- While the rounds are counted with 32 bits, a number of one of R holes is asked for by 64 R ticks for each 64 of the numbers of its hole or part of these, and one
+-- more, however many another hole has.
+abbrev pub MissingIsAskedInTurn : Type 0
+MissingIsAskedInTurn = (hosts : ℕ → Opening) (older : List LineAt) (i : ℕ) (hole : Hole) (number : ℕ) → AreHosts hosts → AreTaken hosts older → Contains (holes_of (host_at hosts older i).is.held) hole → hole.gap.first ≤ number → number ≤ hole.gap.last → is_full (host_at hosts older i) ≡ false
+    → (kept_at hosts older i).policy.turns.round + windows_in hole.gap + 1 < ROUND_LIMIT
+    → (newer : List LineAt) × ComesToAsk hosts newer older i (name_of hole.page hole.gap.source number) × (length newer ≤ windows_in hole.gap * length (holes_of (host_at hosts older i).is.held) * WINDOW + 1)
+
+-- If none of these holes has more than n numbers, it is asked for by 2 R n ticks.
 abbrev pub MissingIsAskedSoon : Type 0
-MissingIsAskedSoon = (hosts : ℕ → Opening) (older : List LineAt) (i : ℕ) (hole : Hole) (number : ℕ) → AreHosts hosts → AreTaken hosts older → Contains (holes_of (host_at hosts older i).is.held) hole → hole.gap.first ≤ number → number ≤ hole.gap.last → is_full (host_at hosts older i) ≡ false
-    → let numbers : ℕ = hole.gap.last + 1 - hole.gap.first in
-    (kept_at hosts older i).policy.turns.round + 2 * numbers < 2 ^ 32
-    → (newer : List LineAt) × ComesToAsk hosts newer older i (name_of hole.page hole.gap.source number) × (length newer ≤ 2 * numbers * length (holes_of (host_at hosts older i).is.held))
+MissingIsAskedSoon = (hosts : ℕ → Opening) (older : List LineAt) (i : ℕ) (hole : Hole) (number most : ℕ) → AreHosts hosts → AreTaken hosts older → Contains (holes_of (host_at hosts older i).is.held) hole → hole.gap.first ≤ number → number ≤ hole.gap.last → is_full (host_at hosts older i) ≡ false
+    → HaveAtMost most (host_at hosts older i).is.held → (kept_at hosts older i).policy.turns.round + 2 * most < ROUND_LIMIT
+    → (newer : List LineAt) × ComesToAsk hosts newer older i (name_of hole.page hole.gap.source number) × (length newer ≤ 2 * most * length (holes_of (host_at hosts older i).is.held))
 
 -- So it can come from one that holds it.
 abbrev pub MissingCanCome : Type 0

@@ -5,7 +5,7 @@ ghost use Rattle.wb_kept_progress.specs.Agreement.{SessionsAgree};
 ghost use Rattle.wb_kept_progress.specs.Examples.{LivelyMeets, PatientMeets};
 ghost use Rattle.wb_kept_progress.specs.Judged.{JudgedMembersSendFewDrawops};
 ghost use Rattle.wb_kept_progress.specs.Promises.{Promises, PromisesSuffice};
-ghost use Rattle.wb_kept_progress.specs.Repairs.{AskedCanCome, MarksComeToBeTold, MissingCanCome, MissingIsAsked, MissingIsAskedSoon};
+ghost use Rattle.wb_kept_progress.specs.Repairs.{AskedCanCome, MarksComeToBeTold, MissingCanCome, MissingIsAsked, MissingIsAskedInTurn, MissingIsAskedSoon};
 ghost use Rattle.wb_kept_progress.specs.Rounds.{SessionsBecomeWholeByRounds};
 ghost use Rattle.wb_kept_progress.specs.Since.{RestartedBecomeWhole, RestartedBecomeWholeByRounds, SinceIsSame, SinceIsTimely};
 ghost use Rattle.wb_kept_progress.specs.Starts.{NoStateIsADeadEnd};
@@ -20,10 +20,12 @@ pub fn what_is_asked_for_can_come()
 {}
 
 /// A number that is missing below the greatest that a host holds of its source comes to be asked
-/// for, by ticks alone, if the board has a free cell. So a drawop of such a number can come from
+/// for, by ticks alone, if the board has a free cell: how soon depends on its own hole and on how
+/// many there are, or on the most numbers of one. So a drawop of such a number can come from
 /// one that holds it.
 pub fn what_is_missing_can_come()
     ensures asked { MissingIsAsked }
+    ensures turn { MissingIsAskedInTurn }
     ensures soon { MissingIsAskedSoon }
     ensures comes { MissingCanCome }
 {}

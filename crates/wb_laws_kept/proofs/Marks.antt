@@ -264,7 +264,7 @@ due_tell = record {
   nothing = λ k. silent k [] k refl tt;
   both = both_tell;
   wants = wants_tells;
-  turned = λ t k. silent k [] (with_policy (record k.policy { turns = t }) k) refl tt;
+  turned = λ t l k. silent k [] (with_policy (record k.policy { turns = t; leaps = l }) k) refl tt;
   beats = λ k due. silent k [] (with_policy (after_beat (present k.host) k.policy) k) refl tt;
   answers = λ k due. record {
     same = refl;

@@ -7,7 +7,6 @@ pub mod Lasts
 pub mod Cycle
 pub mod HolesRise
 pub mod NearNumbers
-pub mod Spreads
 pub mod FairTurns
 pub mod ToldMarks
 pub mod Rising

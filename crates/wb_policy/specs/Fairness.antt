@@ -10,8 +10,8 @@ use Rattle.wb_gaps.specs.Holes.{hole_after, holes_of}
 use Rattle.wb_gaps.specs.declared.holes.Hole.{Hole}
 use Rattle.wb_policy.specs.Choices.{last_source, until_in}
 use Rattle.wb_policy.specs.Reports.{is_untold, page_after, rest_after, slice_after}
-use Rattle.wb_policy.specs.Turns.{after_hole, name_in, next_round, nowhere}
-use Rattle.wb_policy.specs.declared.limits.TheConstants.{MOST_MARKS, ROUND_LIMIT}
+use Rattle.wb_policy.specs.Turns.{after_hole, name_in, next_round, nowhere, windows_in}
+use Rattle.wb_policy.specs.declared.limits.TheConstants.{MOST_MARKS, ROUND_LIMIT, WINDOW}
 use Rattle.wb_policy.specs.declared.turns.Turns.{Turns}
 
 -- ---- holes
@@ -29,26 +29,43 @@ led_to None None t = next_round t
 abbrev pub after_turn : List DrawopValue → Turns → Turns
 after_turn held t = led_to (hole_after held t.page t.source t.number) (hole_after held nowhere 0 0) t
 
--- the name of it that is wanted
+-- the turns in the round of that hole, and the name of it that is wanted
+abbrev pub in_round : Option Hole → Turns → Turns
+in_round (Some hole) t = t
+in_round None t = next_round t
+
 abbrev pub name_in_turn : List DrawopValue → Turns → Option NameValue
-name_in_turn held t = option_map (name_in (after_turn held t).round) (hole_in_turn held t)
+name_in_turn held t = option_map (name_in (in_round (hole_after held t.page t.source t.number) t)) (hole_in_turn held t)
 
 -- where they stand after `count` turns
 abbrev pub after_turns : List DrawopValue → ℕ → Turns → Turns
 after_turns held zero t = t
 after_turns held (suc count) t = after_turn held (after_turns held count t)
 
--- Of R holes each has its turn among each R turns.
+-- how many numbers a hole has, and whether none has more than these
+abbrev pub numbers_in : Hole → ℕ
+numbers_in hole = hole.gap.last + 1 - hole.gap.first
+
+abbrev pub HaveAtMost : ℕ → List DrawopValue → Type 0
+HaveAtMost most held = (hole : Hole) → Contains (holes_of held) hole → numbers_in hole ≤ most
+
+-- Of R holes each has its turn among each 64 R turns.
 abbrev pub EachHoleHasItsTurn : Type 0
 EachHoleHasItsTurn = (held : List DrawopValue) (t : Turns) (hole : Hole) → Contains (holes_of held) hole
-    → (count : ℕ) × (count < length (holes_of held)) × (hole_in_turn held (after_turns held count t) ≡ Some hole)
+    → (count : ℕ) × (count < WINDOW * length (holes_of held)) × (hole_in_turn held (after_turns held count t) ≡ Some hole)
 
--- Each of the n numbers of a hole is wanted among each 2 R n turns, as long as the rounds are counted with 32 bits.
+-- A number of a hole that has n is wanted after at most 64 R turns for each 64 of its n numbers or part of these, however many another hole has, as long as the
+-- rounds are counted with 32 bits.
 abbrev pub EachNumberHasItsTurn : Type 0
 EachNumberHasItsTurn = (held : List DrawopValue) (t : Turns) (hole : Hole) (number : ℕ) → Contains (holes_of held) hole → hole.gap.first ≤ number → number ≤ hole.gap.last
-    → let numbers : ℕ = hole.gap.last + 1 - hole.gap.first in
-    t.round + 2 * numbers < ROUND_LIMIT
-    → (count : ℕ) × (count < 2 * numbers * length (holes_of held)) × (name_in_turn held (after_turns held count t) ≡ Some (name_of hole.page hole.gap.source number))
+    → t.round + windows_in hole.gap + 1 < ROUND_LIMIT
+    → (count : ℕ) × (count ≤ windows_in hole.gap * length (holes_of held) * WINDOW) × (name_in_turn held (after_turns held count t) ≡ Some (name_of hole.page hole.gap.source number))
+
+-- If none of R holes has more than n numbers, each number of one is wanted among each 2 n R turns.
+abbrev pub EachNumberHasItsTurnSoon : Type 0
+EachNumberHasItsTurnSoon = (held : List DrawopValue) (t : Turns) (hole : Hole) (number most : ℕ) → Contains (holes_of held) hole → hole.gap.first ≤ number → number ≤ hole.gap.last
+    → HaveAtMost most held → t.round + 2 * most < ROUND_LIMIT
+    → (count : ℕ) × (count < 2 * most * length (holes_of held)) × (name_in_turn held (after_turns held count t) ≡ Some (name_of hole.page hole.gap.source number))
 
 -- ---- marks
 

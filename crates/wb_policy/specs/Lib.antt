@@ -5,6 +5,7 @@ pub mod Questions
 pub mod Reports
 pub mod Pace
 pub mod Turns
+pub mod Leaps
 pub mod Wanting
 pub mod Choices
 pub mod Policy

@@ -5,11 +5,13 @@ use Rattle.wb_names.specs.declared.name.PageId.{PageId}
 use Rattle.wb_gaps.specs.declared.holes.Hole.{Hole}
 use Rattle.wb_policy.specs.Credit.{repaid, spent}
 use Rattle.wb_policy.specs.Distances.{bounded, usual_with}
+use Rattle.wb_policy.specs.Leaps.{after_leap, next_leaps}
 use Rattle.wb_policy.specs.Pace.{begun_pace, hurried, next_pace}
 use Rattle.wb_policy.specs.Questions.{answered_at, asked_at, heard_at, opened_at, to_answer}
 use Rattle.wb_policy.specs.Reports.{mean_time, next_report}
 use Rattle.wb_policy.specs.Turns.{after_hole, next_round, nowhere}
 use Rattle.wb_policy.specs.Words.{after_word, drawn, started}
+use Rattle.wb_policy.specs.declared.leaps.Leaps.{Leaps}
 use Rattle.wb_policy.specs.declared.limits.TheConstants.{ANSWER, FIRST_DISTANCE, FIRST_QUESTION, FIRST_REPORT}
 use Rattle.wb_policy.specs.declared.pace.Pace.{Pace}
 use Rattle.wb_policy.specs.declared.questions.Questions.{Questions}
@@ -23,6 +25,7 @@ pub record Policy : Type 0 where
   pub reports : Reports
   pub questions : Questions
   pub turns : Turns
+  pub leaps : Leaps
   pub pace : Pace
   pub told_page : PageId
   pub told : Option ℕ
@@ -46,7 +49,8 @@ begun now rate listen seed =
       ready = now + listen;
       reports = record { rate = rate; due = now + drawn FIRST_REPORT words };
       questions = opened_at now (drawn FIRST_QUESTION (after_word words));
-      turns = record { page = nowhere; source = 0; number = 0; round = 0 };
+      turns = record { page = nowhere; source = 0; number = 0; round = 0; step = 0 };
+      leaps = record { page = nowhere; source = 0; number = 0; round = 0 };
       pace = begun_pace now;
       told_page = nowhere;
       told = None;
@@ -71,6 +75,13 @@ after_turn hole p = record p { turns = after_hole p.turns hole }
 
 abbrev pub in_next_round : Policy → Policy
 in_next_round p = record p { turns = next_round p.turns }
+
+-- a name far from others is asked for beside them; another round of these begins
+abbrev pub after_leaping : Hole → Policy → Policy
+after_leaping hole p = record p { leaps = after_leap p.leaps hole }
+
+abbrev pub in_next_leaps : Policy → Policy
+in_next_leaps p = record p { leaps = next_leaps p.leaps }
 
 -- a turn comes by the clock
 abbrev pub after_beat : ℕ → Policy → Policy

@@ -2,9 +2,9 @@
 //! do nothing: each stands here for its clause.
 
 ghost use Rattle.std.specs.Prelude.{◌≡◌, ◌^◌};
-ghost use Rattle.wb_policy.specs.Fairness.{EachHoleHasItsTurn, EachMarkIsTold, EachNumberHasItsTurn, TellingsRise};
+ghost use Rattle.wb_policy.specs.Fairness.{EachHoleHasItsTurn, EachMarkIsTold, EachNumberHasItsTurn, EachNumberHasItsTurnSoon, TellingsRise};
 ghost use Rattle.wb_policy.specs.Laws.{FewAreAsked, IdleTurnsAreRare, NearIsAmong, NumbersAreNear, ReportsAreSmall, SlicesAreShort, SuccessHurries, TurnsArePaced};
-ghost use Rattle.wb_policy.specs.declared.limits.TheConstants.{ANSWER, COST, ECHO_BYTES, FIRST_DISTANCE, FIRST_FORGED, FIRST_QUESTION, FIRST_REPORT, FIRST_WAIT, HEAD_BYTES, HEARD, LEAST_DISTANCE, LISTEN_LIMIT, LONG, LONGEST_GAP, LONGEST_MEAN, LONGEST_PAUSE, MARK_BYTES, MEMBERS, MOST_BYTES, MOST_DISTANCE, MOST_ECHOES, MOST_MARKS, MOST_PAGES, MOST_REPORT_BYTES, MOST_TIMERS, MOST_WAIT, OLD_LEVEL, PAYS, PLACES, PLACES_OF_LAST, QUIET, REACH, ROUND_LIMIT, SECOND, SHORTEST_GAP, SHORTEST_MEAN, SHORTEST_PAUSE, STEADINESS, STREAM, STRIDE, UNKNOWN_DISTANCE};
+ghost use Rattle.wb_policy.specs.declared.limits.TheConstants.{ANSWER, COST, ECHO_BYTES, FIRST_DISTANCE, FIRST_FORGED, FIRST_QUESTION, FIRST_REPORT, FIRST_WAIT, HEAD_BYTES, HEARD, LEAST_DISTANCE, LISTEN_LIMIT, LONGEST_GAP, LONGEST_MEAN, LONGEST_PAUSE, MARK_BYTES, MEMBERS, MOST_BYTES, MOST_DISTANCE, MOST_ECHOES, MOST_MARKS, MOST_PAGES, MOST_REPORT_BYTES, MOST_TIMERS, MOST_WAIT, OLD_LEVEL, PAYS, PLACES, PLACES_OF_LAST, QUIET, REACH, ROUND_LIMIT, SECOND, SHORTEST_GAP, SHORTEST_MEAN, SHORTEST_PAUSE, STEADINESS, STREAM, STRIDE, UNKNOWN_DISTANCE, WINDOW};
 
 /// From one moment to another at most 64 names are asked for, one more for each quarter of a
 /// second, and two more for each that was asked for and came.
@@ -26,11 +26,14 @@ pub fn slices_are_short()
     ensures bytes { ReportsAreSmall }
 {}
 
-/// While what is held stays as it is, each of R holes has its turn among each R turns, and each of
-/// the n numbers of a hole among each 2 R n turns.
+/// While what is held stays as it is, each of R holes has its turn among each 64 R turns. A number
+/// of a hole that has n of them is wanted after at most 64 R turns for each 64 of these n or part
+/// of them, however many another hole has. If none has more than n, it is wanted among each 2 n R
+/// turns.
 pub fn turns_are_fair()
     ensures holes { EachHoleHasItsTurn }
     ensures numbers { EachNumberHasItsTurn }
+    ensures soon { EachNumberHasItsTurnSoon }
 {}
 
 /// Turns come by the clock, 1 to 16 seconds after one another: after 513 that brought nothing, 16
@@ -64,11 +67,12 @@ pub fn limits()
 {}
 
 /// The other numbers: what a name costs and pays, and how many are asked for at once; when a timer
-/// is old, and how far neighbours reach; the times between turns; distances; the times between reports, and for how long a
-/// member counts; the bytes of a report; the times of answers; and the stream of the words.
+/// is old, and how far neighbours reach; the times between turns; distances; the times between
+/// reports, and for how long a member counts; the bytes of a report; the times of answers; and the
+/// stream of the words.
 pub fn numbers()
     ensures credit { (COST ≡ 250000) × (PAYS ≡ 2) × (PLACES ≡ 64) × (PLACES_OF_LAST ≡ 48) }
-    ensures wanting { (OLD_LEVEL ≡ 4) × (REACH ≡ 64) × (STRIDE ≡ 19) × (LONG ≡ 65536) }
+    ensures wanting { (OLD_LEVEL ≡ 4) × (REACH ≡ 64) × (STRIDE ≡ 19) × (WINDOW ≡ 64) }
     ensures turns { (SHORTEST_GAP ≡ 1000000) × (LONGEST_GAP ≡ 16000000) × (STEADINESS ≡ 128) }
     ensures distances { (UNKNOWN_DISTANCE ≡ 100000) × (LEAST_DISTANCE ≡ 10000) }
     ensures means { (SHORTEST_MEAN ≡ 2000000) × (LONGEST_MEAN ≡ 64000000) }

@@ -8,7 +8,8 @@
 //! handed in. Who performs what is decided is the crate wb_keeping.
 //!
 //! In reading order: `limits` has the numbers; `words` are its random words; `credit` says how much
-//! may be asked for, `wanting` which names, `turns` which hole comes next, and `pace` when; `questions`
+//! may be asked for, `wanting` which names, `turns` which hole
+//! comes next, `pace` when, and `leaps` which beside what came; `questions`
 //! asks for pages and answers others; `reports` says when a report is due, and which marks it has;
 //! `distances` bounds what echoes give; `choices` takes parts of what was heard and is held;
 //! `policy` joins what is remembered. `laws` says what follows.
@@ -18,6 +19,7 @@ mod choices;
 mod credit;
 mod distances;
 pub mod laws;
+mod leaps;
 pub mod limits;
 mod pace;
 mod policy;
@@ -33,6 +35,7 @@ pub use choices::{
 };
 pub use credit::Credit;
 pub use distances::Distances;
+pub use leaps::Leaps;
 pub use pace::Pace;
 pub use policy::{Policy, sooner};
 pub use questions::Questions;

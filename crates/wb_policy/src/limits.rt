@@ -30,11 +30,11 @@ pub const OLD_LEVEL: u32 = 4;
 /// How far the neighbours of a drawop reach, which are wanted when it comes.
 pub const REACH: u32 = 64;
 
-/// Turns go through a hole in steps of as many numbers. It is prime, so that each has its turn.
-pub const STRIDE: u64 = 19;
+/// How many numbers of a hole have their turn in one round.
+pub const WINDOW: u64 = 64;
 
-/// A hole of more numbers ends below a forged one: no board has more than 65,535 cells.
-pub const LONG: u64 = 65_536;
+/// When a name came, one is asked for this far from the one before it in its hole.
+pub const STRIDE: u64 = 19;
 
 /// Rounds of turns are counted below this number, and begin again at 0.
 pub const ROUND_LIMIT: u64 = 1 << 32;

@@ -4,8 +4,10 @@
 ghost use Rattle.std.specs.Prelude.{◌≡◌, ◌≤◌, ◌<◌, ◌+◌, if◌then◌else◌, nat_le, nat_lt};
 ghost use Rattle.wb_names.specs.Moments.{IsMoment};
 ghost use Rattle.wb_policy.specs.declared.limits.TheConstants.{LISTEN_LIMIT, LONGEST_GAP, LONGEST_PAUSE, MEMBERS, MOST_BYTES, MOST_DISTANCE, SHORTEST_GAP, SHORTEST_PAUSE};
+ghost use Rattle.wb_policy.specs.Credit.{has_credit};
 ghost use Rattle.wb_policy.specs.Distances.{bounded};
-ghost use Rattle.wb_policy.specs.Policy.{after_answer, after_beat, after_came, after_question, after_report, after_state, after_taking_up, after_turn, after_wanting, begun, in_next_round, next_moment, sooner, with_distance};
+ghost use Rattle.wb_policy.specs.Policy.{after_answer, after_beat, after_came, after_leaping, after_question, after_report, after_state, after_taking_up, after_turn, after_wanting, begun, in_next_leaps, in_next_round, next_moment, sooner, with_distance};
+ghost use Rattle.wb_policy.specs.Leaps.{far_name};
 ghost use Rattle.wb_policy.specs.Questions.{is_due, is_to_answer};
 ghost use Rattle.wb_policy.specs.Reports.{is_telling};
 ghost use Rattle.wb_policy.specs.Turns.{name_in};
@@ -13,6 +15,7 @@ ghost use Rattle.wb_policy.specs.Wanting.{is_wanted};
 
 use crate::credit::Credit;
 use crate::distances::Distances;
+use crate::leaps::Leaps;
 use crate::limits::{ANSWER, FIRST_QUESTION, FIRST_REPORT};
 use crate::pace::Pace;
 use crate::questions::Questions;
@@ -33,6 +36,7 @@ pub struct Policy {
     reports: Reports,
     questions: Questions,
     turns: Turns,
+    leaps: Leaps,
     pace: Pace,
     /// The page of the last report.
     told_page: PageId,
@@ -57,6 +61,7 @@ impl Model for Policy {
       reports = p.reports;
       questions = p.questions;
       turns = p.turns;
+      leaps = p.leaps;
       pace = p.pace;
       told_page = p.told_page;
       told = p.told;
@@ -90,6 +95,7 @@ impl Policy {
             },
             questions: Questions::new(now, question),
             turns: Turns::START,
+            leaps: Leaps::START,
             pace: Pace::new(now),
             told_page: Turns::START.page,
             told: None,
@@ -138,6 +144,13 @@ impl Policy {
         self.pace.hurry();
     }
 
+    /// Whether a place of the credit is left.
+    pub fn has_credit(&self, now: u64) -> bool
+        ensures { result ≡ has_credit self.now.owed now }
+    {
+        self.credit.is_left(true, now)
+    }
+
     /// The next hole in turn begins after this number of this source on this page.
     pub fn turns(&self) -> Turns
         ensures { result ≡ self.now.turns }
@@ -166,7 +179,7 @@ impl Policy {
     pub fn take_turn(&mut self, hole: Hole) -> Name
         requires counted { 1 ≤ hole.gap.first }
         requires filled { hole.gap.first ≤ hole.gap.last }
-        ensures name { result ≡ name_in self.old.turns.round hole }
+        ensures name { result ≡ name_in self.old.turns hole }
         ensures turn { self.new ≡ after_turn hole self.old }
     {
         self.turns.take(hole)
@@ -177,6 +190,30 @@ impl Policy {
         ensures { self.new ≡ in_next_round self.old }
     {
         self.turns.begin_again();
+    }
+
+    /// The next hole of which a name is asked for beside others begins after this number.
+    pub fn leaps(&self) -> Leaps
+        ensures { result ≡ self.now.leaps }
+    {
+        self.leaps
+    }
+
+    /// Another name came: which name of a hole is wanted beside its neighbours.
+    pub fn leap(&mut self, hole: Hole) -> Name
+        requires counted { 1 ≤ hole.gap.first }
+        requires filled { hole.gap.first ≤ hole.gap.last }
+        ensures name { result ≡ far_name self.old.leaps hole }
+        ensures turn { self.new ≡ after_leaping hole self.old }
+    {
+        self.leaps.take(hole)
+    }
+
+    /// No hole is left in this round of them.
+    pub fn leap_again(&mut self)
+        ensures { self.new ≡ in_next_leaps self.old }
+    {
+        self.leaps.begin_again();
     }
 
     /// An echo gave a distance: which one is to be set.

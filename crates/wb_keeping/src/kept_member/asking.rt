@@ -1,19 +1,19 @@
 //! What a self-managing member asks for.
 ghost use Rattle.std.specs.Prelude.{◌≡◌, ◌≤◌, ◌<◌, ◌^◌, ◌∷◌, [], IfOk, OnErr, OnOk, IfSome};
 ghost use Rattle.wb_recovery.specs.Delays.{IsDelay};
-ghost use Rattle.wb_keeping.specs.Kept.{Asks, and_then, end, ends_full, is_begun, is_unasked, learned, paid_for, performs, stops_one, turn, turn_if, turns_due, want, want_near, want_told};
+ghost use Rattle.wb_keeping.specs.Kept.{Asks, and_then, end, ends_full, is_begun, is_unasked, leap, learned, paid_for, performs, stops_one, turn, turn_if, turns_due, turns_on, turns_past, want, want_near, want_told};
 ghost use Rattle.wb_recovery.specs.Events.{timers_of};
 ghost use Rattle.wb_member.specs.Opened.{events};
 ghost use Rattle.wb_keeping.specs.Performing.{DoesQuietly, IsKeptAt, Keeping, LeavesSome, asked_with, sees, view_of};
 ghost use Rattle.wb_keeping.specs.Views.{holds, is_asked, is_full, is_known, level};
 ghost use Rattle.wb_policy.specs.Wanting.{giving_way};
-ghost use Rattle.wb_keeping.specs.Steps.{AreNear, lends_for, lent_at, lowest_near, makes_room, performs_all, turn_again, want_in};
+ghost use Rattle.wb_keeping.specs.Steps.{AreNear, leap_again, leap_in, lends_for, lent_at, lowest_near, makes_room, performs_all, turn_again, want_in};
 
 use crate::kept_member::KeptMember;
 use std::alloc::{AllocError, Global};
 use wb_gaps::Hole;
 use wb_names::Name;
-use wb_policy::limits::{REACH, UNKNOWN_DISTANCE};
+use wb_policy::limits::{MOST_TIMERS, REACH, UNKNOWN_DISTANCE};
 use wb_policy::{AskedName, Candidate, Turns, giving_way, near_names};
 
 impl KeptMember {
@@ -168,8 +168,8 @@ impl KeptMember {
         Ok(())
     }
 
-    /// A drawop is new: its missing neighbours are wanted. If it had been asked for, the next hole has
-    /// its turn too.
+    /// A drawop is new: its missing neighbours are wanted. If it had been asked for, a name far from
+    /// others is wanted too, and names have their turn.
     pub(super) fn learned(
         &mut self,
         alloc: Global,
@@ -190,7 +190,7 @@ impl KeptMember {
         Ok(())
     }
 
-    /// The next hole has its turn, if a name that was asked for came.
+    /// A name of another hole is wanted and one has its turn, if a name that was asked for came.
     fn turn_if(&mut self, alloc: Global, was_asked: bool) -> Result<(), AllocError>
         ensures does { OnOk result (DoesQuietly (turn_if was_asked) self.old self.new) }
         ensures left { OnErr result (LeavesSome (turn_if was_asked) self.old self.new) }
@@ -198,7 +198,91 @@ impl KeptMember {
         if !was_asked {
             return Ok(());
         }
-        self.turn(alloc)?;
+        self.leap(alloc)?;
+        self.turns_past(alloc)?;
+        Ok(())
+    }
+
+    /// Turns pass over what is asked for, if a place of the credit is left.
+    fn turns_past(&mut self, alloc: Global) -> Result<(), AllocError>
+        ensures does { OnOk result (DoesQuietly turns_past self.old self.new) }
+        ensures left { OnErr result (LeavesSome turns_past self.old self.new) }
+    {
+        let now = self.member.moment();
+        if !self.policy.has_credit(now) {
+            return Ok(());
+        }
+        self.turns_on(alloc, MOST_TIMERS + 1)?;
+        Ok(())
+    }
+
+    /// Names have their turn up to the first that it begins to ask for, at most `most`.
+    fn turns_on(&mut self, alloc: Global, most: usize) -> Result<(), AllocError>
+        ensures does { OnOk result (DoesQuietly (turns_on most) self.old self.new) }
+        ensures left { OnErr result (LeavesSome (turns_on most) self.old self.new) }
+    {
+        if most == 0 {
+            return Ok(());
+        }
+        let begun = self.turn(alloc)?;
+        if begun {
+            return Ok(());
+        }
+        self.turns_on(alloc, most - 1)?;
+        Ok(())
+    }
+
+    /// A name of the next hole is wanted, far from those before, or one of the first hole in another
+    /// round.
+    fn leap(&mut self, alloc: Global) -> Result<(), AllocError>
+        ensures does { OnOk result (DoesQuietly leap self.old self.new) }
+        ensures left { OnErr result (LeavesSome leap self.old self.new) }
+    {
+        let leaps = self.policy.leaps();
+        let next = self
+            .member
+            .hole_after(alloc, leaps.page, leaps.source, leaps.number)?;
+        match next {
+            Some(hole) => {
+                self.leap_in(alloc, hole)?;
+                Ok(())
+            }
+            None => {
+                self.leap_again(alloc)?;
+                Ok(())
+            }
+        }
+    }
+
+    /// Another round of these begins with the first hole, if there is one.
+    fn leap_again(&mut self, alloc: Global) -> Result<(), AllocError>
+        ensures does { OnOk result (DoesQuietly leap_again self.old self.new) }
+        ensures left { OnErr result (LeavesSome leap_again self.old self.new) }
+    {
+        self.policy.leap_again();
+        let first = self.member.hole_after(alloc, Turns::START.page, 0, 0)?;
+        match first {
+            Some(hole) => {
+                self.leap_in(alloc, hole)?;
+                Ok(())
+            }
+            None => Ok(()),
+        }
+    }
+
+    /// One of the names of a hole is wanted. A hole is never empty.
+    fn leap_in(&mut self, alloc: Global, hole: Hole) -> Result<(), AllocError>
+        ensures does { OnOk result (1 ≤ hole.gap.first → hole.gap.first ≤ hole.gap.last →
+            DoesQuietly (leap_in hole) self.old self.new) }
+        ensures left { OnErr result
+            (1 ≤ hole.gap.first → hole.gap.first ≤ hole.gap.last → LeavesSome (leap_in hole)
+            self.old self.new) }
+    {
+        if hole.gap.first == 0 || hole.gap.last < hole.gap.first {
+            return Ok(());
+        }
+        let name = self.policy.leap(hole);
+        self.want(alloc, &name, true)?;
         Ok(())
     }
 
@@ -267,8 +351,11 @@ impl KeptMember {
         Ok(())
     }
 
-    /// The next hole has its turn, or the first one in another round.
-    fn turn(&mut self, alloc: Global) -> Result<(), AllocError>
+    /// The next hole has its turn, or the first one in another round. Answers whether the member
+    /// begins to ask for a name of it.
+    fn turn(&mut self, alloc: Global) -> Result<bool, AllocError>
+        ensures begun { IfOk result (λ begun. (k : Keeping) → IsKeptAt self.old k →
+            begun ≡ is_begun (turn (sees k.host) k.policy)) }
         ensures does { OnOk result (DoesQuietly turn self.old self.new) }
         ensures left { OnErr result (LeavesSome turn self.old self.new) }
     {
@@ -278,18 +365,20 @@ impl KeptMember {
             .hole_after(alloc, turns.page, turns.source, turns.number)?;
         match next {
             Some(hole) => {
-                self.want_in(alloc, hole)?;
-                Ok(())
+                let begun = self.want_in(alloc, hole)?;
+                Ok(begun)
             }
             None => {
-                self.turn_again(alloc)?;
-                Ok(())
+                let begun = self.turn_again(alloc)?;
+                Ok(begun)
             }
         }
     }
 
     /// Another round begins, and the first hole has its turn, if there is one.
-    fn turn_again(&mut self, alloc: Global) -> Result<(), AllocError>
+    fn turn_again(&mut self, alloc: Global) -> Result<bool, AllocError>
+        ensures begun { IfOk result (λ begun. (k : Keeping) → IsKeptAt self.old k →
+            begun ≡ is_begun (turn_again (sees k.host) k.policy)) }
         ensures does { OnOk result (DoesQuietly turn_again self.old self.new) }
         ensures left { OnErr result (LeavesSome turn_again self.old self.new) }
     {
@@ -297,15 +386,18 @@ impl KeptMember {
         let first = self.member.hole_after(alloc, Turns::START.page, 0, 0)?;
         match first {
             Some(hole) => {
-                self.want_in(alloc, hole)?;
-                Ok(())
+                let begun = self.want_in(alloc, hole)?;
+                Ok(begun)
             }
-            None => Ok(()),
+            None => Ok(false),
         }
     }
 
     /// A hole has its turn: one of its names is wanted. A hole is never empty.
-    fn want_in(&mut self, alloc: Global, hole: Hole) -> Result<(), AllocError>
+    fn want_in(&mut self, alloc: Global, hole: Hole) -> Result<bool, AllocError>
+        ensures begun { IfOk result (λ begun. 1 ≤ hole.gap.first → hole.gap.first ≤ hole.gap.last →
+            (k : Keeping) → IsKeptAt self.old k →
+            begun ≡ is_begun (want_in hole (sees k.host) k.policy)) }
         ensures does { OnOk result (1 ≤ hole.gap.first → hole.gap.first ≤ hole.gap.last →
             DoesQuietly (want_in hole) self.old self.new) }
         ensures left { OnErr result
@@ -313,11 +405,11 @@ impl KeptMember {
             self.old self.new) }
     {
         if hole.gap.first == 0 || hole.gap.last < hole.gap.first {
-            return Ok(());
+            return Ok(false);
         }
         let name = self.policy.take_turn(hole);
-        self.want(alloc, &name, true)?;
-        Ok(())
+        let begun = self.want(alloc, &name, true)?;
+        Ok(begun)
     }
 
     /// If the board is full, the member stops all of its request timers.
