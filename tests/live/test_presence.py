@@ -3,11 +3,15 @@ from __future__ import annotations
 
 import tempfile
 from pathlib import Path
+from types import SimpleNamespace
 from typing import Any, Dict, List
+
+import pytest
 
 from wbhost import find_program
 
-from live.presence import MOST_A_SECOND, MOST_BEGUN, Point, Presence, point_in, read, write
+from live import presence as presences
+from live.presence import MOST_A_SECOND, MOST_BEGUN, MOST_MEMBERS, STAYS, Point, Presence, point_in, read, write
 from live.words import Words
 
 from ..facts import Facts
@@ -63,6 +67,30 @@ def test_heeding(facts: Facts) -> None:
     again.hear(write(POINT._replace(member=9)))
     again.hear(write(POINT._replace(member=1)))
     facts("under another number we are another", [other["member"] for other in told.others], [1])
+
+
+def test_times(facts: Facts, monkeypatch: pytest.MonkeyPatch) -> None:
+    """By a clock of the test: how many datagrams of a second are heeded, how long a point stays, and of how many members."""
+    clock, told = SimpleNamespace(at=100.0), LastTold()
+    monkeypatch.setattr(presences, "time", SimpleNamespace(monotonic=lambda: clock.at))
+    presence = Presence(1, told)  # type: ignore[arg-type]
+    for x in range(MOST_A_SECOND + 5):
+        presence.hear(write(POINT._replace(cell=(x, 0))))
+    facts("so many of a second are heeded", told.others[0]["cell"], (MOST_A_SECOND - 1, 0))
+    clock.at += 1
+    presence.hear(write(POINT._replace(cell=(9, 9))))
+    facts("and in the next second as many again", told.others[0]["cell"], (9, 9))
+    clock.at += STAYS
+    presence.hear(write(POINT._replace(member=8)))
+    facts("who was heard so long ago points there still", [other["member"] for other in told.others], [7, 8])
+    clock.at += 0.1
+    presence.hear(write(POINT._replace(member=8)))
+    facts("and then no more", [other["member"] for other in told.others], [8])
+    for second in range(2):
+        clock.at += 1
+        for number in range(MOST_MEMBERS):
+            presence.hear(write(POINT._replace(member=1_000 * second + 100 + number)))
+    facts("of too many those go that were heard first", [other["member"] for other in told.others], [1_100 + number for number in range(MOST_MEMBERS)])
 
 
 def point(member: Process, column: int) -> None:

@@ -8,6 +8,8 @@ import random
 import re
 import tempfile
 from functools import partial
+from pathlib import Path
+from types import SimpleNamespace
 from typing import Any, Callable, Dict, List, Optional, Tuple
 
 import pytest
@@ -15,10 +17,12 @@ import pytest
 from live.alarms import Alarms
 from live.carriers.carrier import Origin
 from live.drawn import Drawn, Sheet
-from live.inbox import MOST_WAITING, Arrival, Inbox
+from live import inbox as inboxes
+from live.inbox import MOST_WAITING, PACE, PACE_BYTES, Arrival, Inbox
 from live.letters import fitting, letter_rows, printable
 from live.options import read_options
-from live.record import NoRoom, Record, RecordFault
+from live.record import NoRoom, Record, RecordFault, read_played
+from live.state import folder_of, open_record
 from live.telling import MOST_REPORTED, Reported
 from live.views import Drawop, Question, Report, datagram_of, name_in, page_of
 from live.waiting import Waiting
@@ -262,6 +266,33 @@ def test_refused_records(facts: Facts) -> None:
         record.close()
 
 
+def test_shown_record(facts: Facts, tmp_path: Path) -> None:
+    """A record that is shown stays as it is, and a last line that a crash cut off is none."""
+    path, text = tmp_path / "a.wb", "board 1 16 1 42\ntick 5\ntick 9"
+    path.write_text(text)
+    facts("its whole lines", list(read_played(str(path))), ["board 1 16 1 42", "tick 5"])
+    facts("the file is as it was", path.read_text(), text)
+
+
+def test_used_last(facts: Facts, tmp_path: Path, monkeypatch: pytest.MonkeyPatch) -> None:
+    """A start takes the record of its session that was used last and that nobody has; a folder that others could read is closed."""
+    monkeypatch.setenv("XDG_STATE_HOME", str(tmp_path))
+    options = read_options([])
+    folder = folder_of(options)
+    for number, used in ((7, 1_000), (8, 3_000), (9, 2_000)):
+        path = folder / ("%d.wb" % number)
+        path.write_text("board %d 16 1 42\n" % number)
+        os.utime(path, (used, used))
+    taken = [open_record(options) for _ in range(4)]
+    facts("one after another", [number for _, number in taken[:3]], [8, 9, 7])
+    facts("and then a new one", taken[3][1] in (7, 8, 9), False)
+    for record, _ in taken:
+        record.close()
+    for mode in (0o750, 0o705, 0o700):
+        folder.chmod(mode)
+        facts("a folder that stood at %o" % mode, folder_of(options).stat().st_mode & 0o777, 0o700)
+
+
 def test_taken_back(facts: Facts, monkeypatch: pytest.MonkeyPatch) -> None:
     """What was added last is taken back, and a line that has no room leaves nothing."""
     record = Record(None)
@@ -311,6 +342,25 @@ def test_inbox(facts: Facts) -> None:
     for trouble in ("", "gone", "gone", "", ""):
         inbox.tell(trouble)
     facts("a network that is back is told once", inbox.take(0)[0], [inbox.back])
+
+
+def test_pace(facts: Facts, monkeypatch: pytest.MonkeyPatch) -> None:
+    """By a clock of the test: after a pause no more is taken in at once than in a twentieth of a second, and long datagrams cost more."""
+    clock = SimpleNamespace(at=100.0)
+    monkeypatch.setattr(inboxes, "time", SimpleNamespace(monotonic=lambda: clock.at))
+    inbox = Inbox()
+    for _ in range(500):
+        inbox.arrive(b"short", HOME)
+    taken = []
+    for pause in (1_000.0, 0.01, 0.0):
+        clock.at += pause
+        taken.append(len(inbox.take(0)[1]))
+    facts("after a long pause, after a hundredth of a second, and at once", [abs(found - wanted) <= 1 for found, wanted in zip(taken, (PACE // 20, PACE // 100, 0))], [True] * 3)
+    inbox = Inbox()
+    for _ in range(50):
+        inbox.arrive(b"x" * (PACE_BYTES // 100), HOME)
+    clock.at += 1
+    facts("long ones by their bytes", len(inbox.take(0)[1]) in (5, 6), True)
 
 
 def test_options(facts: Facts) -> None:

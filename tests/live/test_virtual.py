@@ -80,15 +80,16 @@ class Virtual:
         self.member.board.clock = self  # type: ignore[assignment]
         self.judging = Counting(self.member)
         self.member.judge(self.judging)
+        self.next_at = 0  # when it has something to do, as it was when it last did something
 
     # ---- the clock
 
     def now(self) -> int:
         return self.base + self.world.now
 
-    def due(self) -> int:
-        """When the member has something to do, in the time of the session."""
-        return max(self.world.now, min((moment for moment, _ in self.judging.plan()), default=2**63) - self.base)
+    def look(self) -> None:
+        """Looks when the member has something to do, in the time of the session. That changes only when it does something."""
+        self.next_at = min((moment for moment, _ in self.judging.plan()), default=2**63) - self.base
 
     # ---- the carrier
 
@@ -162,17 +163,21 @@ class World:
 
     def run(self, seconds: float) -> None:
         end = self.now + int(seconds * SECOND)
+        for member in self.members:
+            member.look()
         while True:
-            first = min(self.members, key=Virtual.due)
-            due, comes = first.due(), self.queue[0].at if self.queue else end + 1
+            acting = min(self.members, key=lambda member: max(self.now, member.next_at))
+            due, comes = max(self.now, acting.next_at), self.queue[0].at if self.queue else end + 1
             self.now = min(due, max(comes, self.now), end)
             if min(due, comes) > end:
                 return
             if due <= comes:
-                first.member.pass_time()
+                acting.member.pass_time()
             else:
                 arrival = heapq.heappop(self.queue)
-                arrival.member.judging.arrive([Arrival(arrival.data, arrival.origin)])
+                acting = arrival.member
+                acting.judging.arrive([Arrival(arrival.data, arrival.origin)])
+            acting.look()
 
     def pairs(self) -> float:
         """Which part of all pairs know each other, one of the other."""
