@@ -2,6 +2,7 @@
 
 from __future__ import annotations
 
+import functools
 import re
 
 from .sources import CRATES, SOURCES, SPAN, TOP, crates_below, is_tests, nothing_is_wrong, rows_of
@@ -38,11 +39,13 @@ def unsaid_crates() -> list[str]:
     return wrong
 
 
+@functools.cache
 def files_of(crate: str) -> set[str]:
     """The modules of a crate: the names of its files of sources, definitions and proofs, and of the folders of its proofs."""
     return {it.stem for part in ("src", "specs", "proofs") for it in (CRATES / crate / part).rglob("*")}
 
 
+@functools.cache
 def words_of(crate: str) -> set[str]:
     """The words of a crate that may be names: of lower-case letters alone, which a comment may have too, those that it declares."""
     declared = re.findall(r"^(?:abbrev |unfoldable |pub |record |data )*([a-z]+) :|\b(?:fn|mod|type|ghost) ([a-z]+)\b", SOURCES[crate], re.MULTILINE)

@@ -22,7 +22,7 @@ class Told(One):
         self.telling.events = Events()
 
     def state(self, name: str) -> Dict[str, Any]:
-        """What views were told last of a thing."""
+        """The last state of a thing that went to the views."""
         told: Dict[str, Any] = json.loads(self.telling.events.states[name][1])
         return told
 
@@ -38,7 +38,7 @@ def test_room(facts: Facts) -> None:
 
 
 def test_members(facts: Facts) -> None:
-    """If more are here than are told, those are told that have answered us; and they stand by their numbers."""
+    """If more are here than views get, those that have answered us come before strangers; they stand by their numbers."""
     one = Told()
     here = {number: Other(X.word, 0) for number in range(1, MOST_MEMBERS + 1)}
     here[9_000] = Other(X.word, 0, answered=0, distance=5_000)
@@ -59,7 +59,7 @@ def test_missing(facts: Facts) -> None:
 
 
 def test_check(facts: Facts) -> None:
-    """What views show is what the host shows. If it differs, the host is right, and all of the page is told again."""
+    """What views show is what the host shows. If it differs, the host is right, and views get the whole page again."""
     one = Told()
     one.drawn.add(Drawop(drawing(7, 1)))
     one.telling.page, one.telling.is_changed = PAGE, False
@@ -93,7 +93,7 @@ class Page:
         self.events.tell_page(Whole(self.turn, self.version, {}, [], []), {"text": text, "added": [], "hidden": []})
 
     def news(self) -> Tuple[int, bool]:
-        """How many changes are new to who watches, and whether the whole page is told instead."""
+        """How many changes are new to the watcher, and whether it gets the whole page instead."""
         news, page = self.watcher.news()
         return sum(name == "change" for name, _ in news), page is not None
 
