@@ -29,12 +29,12 @@ class Told(One):
 
 def test_room(facts: Facts) -> None:
     """Of 1,000 cells a fifth is few, and one in 32 is for deletes and restores."""
-    for total, wanted in ((799, []), (800, ["becomes full: 800 of"]), (968, ["becomes full: 968 of"]), (969, ["is full: 969 of"]), (1_000, ["is full: 1000 of"])):
+    warnings = {799: "", 800: "the board becomes full: 800 of", 968: "the board becomes full: 968 of", 969: "the board is full: 969 of", 1_000: "the board is full: 1000 of"}
+    for total, wanted in warnings.items():
         one = Told()
         one.drawn.total = total
         one.telling.notice_room()
-        warned = [text for text in one.alarms.told() for part in wanted if part in text]
-        facts("with %d cells taken" % total, (len(one.alarms.told()), len(warned)), (len(wanted), len(wanted)))
+        facts("with %d cells taken" % total, [text[:len(wanted)] for text in one.alarms.told()], [wanted] if wanted else [])
 
 
 def test_members(facts: Facts) -> None:
@@ -42,7 +42,7 @@ def test_members(facts: Facts) -> None:
     one = Told()
     here = {number: Other(X.word, 0) for number in range(1, MOST_MEMBERS + 1)}
     here[9_000] = Other(X.word, 0, answered=0, distance=5_000)
-    one.judging.present = lambda: here  # type: ignore[method-assign]
+    one.judging.present = lambda: here  # type: ignore[assignment]
     one.telling.tell_members()
     told: List[Tuple[int, Any]] = [(each["member"], each["distance"]) for each in one.state("members")["members"]]
     facts("who has answered is told before strangers", (len(told), told[-1]), (MOST_MEMBERS, (9_000, 5.0)))
