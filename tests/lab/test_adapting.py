@@ -10,7 +10,7 @@ from dataclasses import replace
 from pathlib import Path
 from unittest.mock import patch
 
-from laboratory.adapting import Adapting, Adjusted, Policy, by_members
+from laboratory.adapting import FEW, HIGH, LOW, SLOW, Adapting, Adjusted, Policy, by_members
 from laboratory.driving import Tuner
 from laboratory.hosts import HostMember
 from laboratory.level import AT_SOURCE, run_level
@@ -56,6 +56,25 @@ def test_who_asks_comes_to_ask_sooner() -> None:
         policy.sees_request((1, 1), 0, True)
     assert policy.now(0) == (1, 2, 1, 1) and policy.asking.lead == 20, policy.asking
     assert [by_members(members) for members in (1, 10, 50, 500)] == [(2, 2, 1, 1), (2, 3, 1, 2), (2, 8, 1, 7), (2, 16, 1, 16)], "by members"
+
+
+def test_bounds_of_the_adjustment() -> None:
+    """Of twentieths: a duplicate in the mean lengthens both, nine tenths the lead; below a quarter the lead shrinks, and the spread if the wait is over a trip."""
+    changes = {}
+    for duplicates, wait in ((HIGH, 0), (HIGH - 1, 0), (LOW, 0), (LOW - 1, 0), (FEW, 0), (FEW - 1, 0), (FEW, SLOW), (FEW, SLOW + 1), (0, SLOW + 1)):
+        asking = Adjusted(30, 60, duplicates, wait)
+        asking.adjust()
+        changes[duplicates, wait] = asking.lead - 30, asking.spread - 60
+    assert changes == {(HIGH, 0): (2, 10), (HIGH - 1, 0): (1, 0), (LOW, 0): (1, 0), (LOW - 1, 0): (0, 0), (FEW, 0): (0, 0), (FEW - 1, 0): (-1, 0),
+                       (FEW, SLOW): (0, 0), (FEW, SLOW + 1): (0, -2), (0, SLOW + 1): (-1, -2)}
+
+
+def test_who_answers_comes_to_answer_sooner() -> None:
+    """Each repair of its own takes a twentieth off the lead of answers, and nothing off that of requests."""
+    policy = Adapting((2, 2, 2, 2))
+    for is_own in (True, False, True):
+        policy.sees_repair((1, 1), 0, is_own)
+    assert (policy.answering.lead, policy.asking.lead) == (38, 40)
 
 
 def test_what_adapts_at_one_distance_keeps_its_constants() -> None:

@@ -37,6 +37,27 @@ def test_a_book_counts() -> None:
     assert book.reports == {2: [(80, 100)]}
 
 
+def test_a_member_notices_what_it_is_told_of() -> None:
+    """Drawops 1 and 3 of source 1 are lost to member 2. It hears of number 1 at 20, and of 3 at 30; a fourth is lost after it has heard of that."""
+    book = Book()
+    for number in (1, 3):
+        book.sends(Datagram("drawop", 1, (1, number), ((1, number),), 42), 10, True, [2])
+    assert (book.learns(2, 1, 1, 20), book.learns(2, 1, 2, 25), book.learns(2, 1, 3, 30)) == ([(1, 1)], [], [(1, 3)])
+    book.learns(2, 1, 4, 40)
+    book.sends(Datagram("drawop", 1, (1, 4), ((1, 4),), 42), 50, True, [2])
+    assert [book.losses[1, number].noticed for number in (1, 3, 4)] == [{2: 20}, {2: 30}, {2: 50}]
+
+
+def test_who_comes_again_has_a_wait() -> None:
+    """Member 2 comes at 5 and lacks a drawop that comes to it at 30; member 3 lacks nothing when it comes."""
+    book = Book()
+    book.sends(Datagram("drawop", 1, (1, 1), ((1, 1),), 42), 1, True, [2])
+    book.joins(2, 5)
+    book.joins(3, 6)
+    book.comes(2, (1, 1), 30)
+    assert (book.returns, book.back) == ([(3, 6, 0), (2, 5, 25)], {})
+
+
 def test_intervals_are_those_of_the_books() -> None:
     """The bounds of Student's law as tables have them, and the interval of 1, 2, 3, 4: 2.5, 3.1824 times the root of 5/3 over 4."""
     for freedom, t in ((1, 12.7062), (2, 4.30265), (3, 3.18245), (10, 2.22814), (19, 2.09302), (39, 2.02269)):
@@ -54,10 +75,12 @@ def test_differences_are_of_pairs() -> None:
     found = difference(one, other)
     assert found is not None and found.mean == 1.5 and abs(found.half - 3.18245 * math.sqrt(1 / 12)) < 0.0001, found
     assert are_apart(one, other) and not are_apart([1, 2, 1, 2], [2, 1, 2, 1]), "apart"
+    assert not are_apart(one, one), "the same"
 
 
 def test_quartiles_are_values() -> None:
     assert quartiles([4, 1, 3, 2]) == (1, 2, 3) and quartiles([5]) == (5, 5, 5) and quartiles([]) is None, quartiles([4, 1, 3, 2])
+    assert [quantile(range(1, 101), share) for share in (0.07, 0.29, 0.57)] == [7, 29, 57], "as in decimals"
     assert [quantile([4, 1, 3, 2], share) for share in (0.5, 0.95)] == [2, 4] and quantile([], 0.5) is None, "quantiles"
 
 

@@ -7,19 +7,22 @@ import io
 import os
 import pty
 import shutil
+import socket
 import stat
 import subprocess
 import sys
 import tempfile
+import threading
 import time
 from pathlib import Path
+from types import SimpleNamespace
 from typing import Any, Dict, List, Optional, Tuple
 
 import pytest
 
-from live.carriers.carrier import SEALED, NetworkFault, Origin
+from live.carriers.carrier import MOST_BYTES, SEALED, NetworkFault, Origin
 from live.carriers.hub import Hub
-from live.carriers.mqtt import GONE, Broker, Login
+from live.carriers.mqtt import GONE, MOST_WAITING, Broker, Login, MqttCarrier
 from live.carriers.udp import Group, Peers, Ports
 from live.carriers.worse import Worse
 from live.inbox import Inbox
@@ -318,6 +321,45 @@ def test_options(facts: Facts) -> None:
 
 
 # ---- by UDP
+
+
+def test_group(facts: Facts) -> None:
+    """What a group brings back is ours if our own port sent it: a member that repairs a drawing of ours sends the same bytes."""
+    group = Group.__new__(Group)
+    group.recent, group.own_port, group.hosts = {b"x": None}, 5, {}
+    facts("what we sent, from our port, and from another; and what we did not", [group.takes(data, ("127.0.0.1", port)) for data, port in ((b"x", 5), (b"x", 6), (b"y", 5))], [False, True, True])
+
+
+def test_source(facts: Facts) -> None:
+    """A stream is asked for from the address where others hear us."""
+    with socket.create_server(("127.0.0.1", 0)) as listening:
+        carrier = Peers(("127.0.0.2", 0), [listening.getsockname()])
+        with carrier.stream_to(listening.getsockname(), PATIENCE) as stream:
+            facts("the address", stream.getsockname()[0], "127.0.0.2")
+        carrier.end()
+
+
+def test_waiting(facts: Facts) -> None:
+    """At a broker that takes nothing a bounded number waits, and the rest is lost. What is too long, or under a name that nobody can be shown, does not come in."""
+    carrier, inbox, published = MqttCarrier.__new__(MqttCarrier), Kept(), []  # type: MqttCarrier, Kept, List[bytes]
+    carrier.counting, carrier.waiting, carrier.trouble, carrier.topic, carrier.inbox = threading.Lock(), 0, "", "wb/a/7", inbox
+    carrier.at = SimpleNamespace(login=None)  # type: ignore[assignment]
+
+    def publish(topic: str, data: bytes) -> Any:
+        published.append(data)
+        return SimpleNamespace(rc=0)
+
+    carrier.client = SimpleNamespace(publish=publish)
+    sent = [carrier.send(b"x") for _ in range(MOST_WAITING + 2)]
+    facts("so many wait", (sum(sent), sent[-2:], len(published)), (MOST_WAITING, [False, False], MOST_WAITING))
+    carrier.published(None, None, 0)
+    facts("if one has gone, another may", [carrier.send(b"x"), carrier.send(b"x")], [True, False])
+    carrier.trouble = "does not answer"
+    carrier.published(None, None, 0)
+    facts("without a broker none", carrier.send(b"x"), False)
+    for name, size in (("bob", MOST_BYTES + SEALED), ("bob", MOST_BYTES + SEALED + 1), ("b\x1bob", 1), ("", 1)):
+        carrier.heard(None, None, SimpleNamespace(topic="wb/a/" + name, payload=b"x" * size))
+    facts("one came in, and three were none", ([origin.text for _, origin in inbox.came], inbox.missed), (["bob"], 3))
 
 
 def test_udp(facts: Facts) -> None:

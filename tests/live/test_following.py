@@ -4,10 +4,11 @@ from __future__ import annotations
 import http.client
 import json
 import time
+from types import SimpleNamespace
 from typing import Any, Dict, List, Sequence, Tuple
 from urllib.parse import urlsplit
 
-from live.following import MOST, CannotFollow, network_words, place_of, seen_words
+from live.following import MOST, CannotFollow, Following, network_words, place_of, seen_words
 from live.keys import write_key
 from live.options import read_options
 
@@ -43,6 +44,29 @@ def test_words(facts: Facts) -> None:
           " 10.0.0.1:0 --guests 30 --no-terminal --rate 4000 --lose 0.5 --mix --teach")
     facts("no peers", words_of("--listen 127.0.0.1:1 --peer 127.0.0.1:2"), "peers are named one by one: the next board is begun by hand")
     facts("no proxy", words_of("--origin https://board.example.org"), "this page stands behind a proxy: the next board is begun by hand")
+
+
+def test_ended(facts: Facts) -> None:
+    """The page of a board that runs is shown again, and one that ended is begun anew, on the machine that a browser names."""
+    following, begun = Following(read_options([])), []  # type: Following, List[str]
+    statuses: List[Any] = []
+
+    def begin(name: str) -> Any:
+        begun.append(name)
+        statuses.append(None)
+        place = len(statuses) - 1
+        return SimpleNamespace(poll=lambda: statuses[place]), "http://127.0.0.1:%d/key/" % (9_000 + place)
+
+    following.begin = begin  # type: ignore[assignment]
+    facts("it is begun", following.go_on("b", "127.0.0.1"), "http://127.0.0.1:9000/key/")
+    facts("while it runs it is the same", (following.go_on("b", "::1"), begun), ("http://[::1]:9000/key/", ["b"]))
+    statuses[0] = 0
+    facts("after its end it is begun anew", (following.go_on("b", "127.0.0.1"), begun), ("http://127.0.0.1:9001/key/", ["b", "b"]))
+    for name in ("", "a/b", "x" * 41):
+        try:
+            facts("no name: " + name[:9], following.go_on(name, "127.0.0.1"), "a fault")
+        except CannotFollow:
+            facts("no name: " + name[:9], begun, ["b", "b"])
 
 
 def ask(address: str, name: str, body: Dict[str, Any]) -> Tuple[int, Dict[str, Any]]:

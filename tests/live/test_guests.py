@@ -275,6 +275,10 @@ def test_room(facts: Facts) -> None:
                                   ("one of no crowd", "a", "idle")):
         facts("for %s room is made" % name, (guests.make_room(address), gone[-1:]), (True, [wanted]))
     facts("and nobody is there for", (guests.make_room("a"), guests.make_room("c"), sorted(guests.guests)), (False, False, ["crowd 3", "there"]))
+    three = [Away("one", 1, "f"), Away("two", 2, "f"), Away("alone", 3, "g")]
+    guests.guests = {each.cookie: each for each in three}  # type: ignore[misc]
+    facts("an address with two gives a place to one that has none, and to none that has one", [[each.cookie for each in guests.crowd(address)] for address in ("h", "g")],
+          [["one", "two"], []])
 
 
 def test_windows(facts: Facts) -> None:

@@ -244,10 +244,12 @@ def test_streams(facts: Facts) -> None:
     one.drawn.add(Drawop(drawing(2, 502)))
     one.meet(9, X, " 2=502")
     facts("holes count", begun, [X])
-    for after, number, origin in ((FETCH_PAUSE - 1, 8, Y), (FETCH_PAUSE, 9, X), (FETCH_PAUSE + 1, 8, Y), (FETCH_AGAIN - 1, 9, X), (FETCH_AGAIN + 25, 9, X)):
-        one.at = 25 + after
+    first = one.board.moment
+    for after, number, origin, wanted in ((FETCH_PAUSE - SECOND, 8, Y, [X]), (FETCH_PAUSE + SECOND, 8, Y, [X, Y]), (2 * FETCH_PAUSE + 2 * SECOND, 9, X, [X, Y]), (FETCH_AGAIN - SECOND, 9, X, [X, Y]),
+                                          (FETCH_AGAIN + SECOND, 9, X, [X, Y, X])):
+        one.at = first + after
         one.meet(number, origin, " 2=502")
-    facts("not within ten seconds, and of one member not within a minute", begun, [X, Y, X])
+        facts("not within ten seconds, and of one member not within a minute: after %d s" % (after // SECOND), list(begun), wanted)
     one.says("fetch %s 700" % Z.word)
     one.host.members("7 %s %d %d" % (Z.word, one.at, one.at))
     one.heed("session-message 7 77 7/1 2=502 1@5+10", Z)

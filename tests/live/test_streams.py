@@ -44,6 +44,26 @@ PIECE, PAUSE = 1_100, 0.0005
 HELD = bytes.fromhex("57420101000000220000000800000001000000010000000100000000000003e70100000000000200006f")
 
 
+def test_other_questions(facts: Facts) -> None:
+    """Under a key a stream is given for the question alone, and not for whatever was sealed by that key."""
+    for name, seal in seals():
+        for said, wanted in ((QUESTION, True), (b"", False), (QUESTION[:-1] + b"x", False)):
+            here, there = socket.socketpair()
+            with here, there:
+                asked: List[bool] = []
+                giver = threading.Thread(target=lambda: asked.append(Talk(here, seal).is_asked(soon())))
+                giver.start()
+                talk = Talk(there, seal)
+                if seal:
+                    talk.fresh = there.recv(FRESH, socket.MSG_WAITALL)
+                    talk.write(os.urandom(FRESH) + said)
+                else:
+                    there.sendall(said)
+                there.shutdown(socket.SHUT_WR)
+                giver.join()
+                facts("%s: asked by %r" % (name, said[-2:]), asked, [wanted])
+
+
 def soon() -> float:
     """The moment at which something that has not come has failed."""
     return time.monotonic() + PATIENCE

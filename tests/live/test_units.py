@@ -6,6 +6,7 @@ import io
 import os
 import random
 import re
+import socket
 import tempfile
 from functools import partial
 from pathlib import Path
@@ -17,10 +18,11 @@ import pytest
 from live.alarms import Alarms
 from live.carriers.carrier import Origin
 from live.drawn import Drawn, Sheet
-from live import inbox as inboxes
+from live import board as boards, connections, inbox as inboxes
 from live.inbox import MOST_WAITING, PACE, PACE_BYTES, Arrival, Inbox
 from live.letters import fitting, letter_rows, printable
 from live.options import read_options
+from live.people import People
 from live.record import NoRoom, Record, RecordFault, read_played
 from live.state import folder_of, open_record
 from live.telling import MOST_REPORTED, Reported
@@ -361,6 +363,56 @@ def test_pace(facts: Facts, monkeypatch: pytest.MonkeyPatch) -> None:
         inbox.arrive(b"x" * (PACE_BYTES // 100), HOME)
     clock.at += 1
     facts("long ones by their bytes", len(inbox.take(0)[1]) in (5, 6), True)
+
+
+def test_connections(facts: Facts, monkeypatch: pytest.MonkeyPatch) -> None:
+    """If there is no room, the oldest that has not asked yet goes; whoever has asked stays."""
+    monkeypatch.setattr(connections, "MOST_CONNECTIONS", 2)
+    all_, pairs = connections.Connections(), [socket.socketpair() for _ in range(4)]
+    one, two, three, four = (pair[0] for pair in pairs)
+    facts("two have room, and for a third the first goes", ([all_.admit(each) for each in (one, two, three)], all_.count, list(all_.idle)), ([True] * 3, 2, [two, three]))
+    facts("its connection is at its end", pairs[0][1].recv(1), b"")
+    facts("the first can't ask any more, and the others can", [all_.asked(each) for each in (one, two, three)], [False, True, True])
+    facts("beside two that have asked there is no room", (all_.admit(four), all_.count), (False, 2))
+    all_.end(two, True)
+    facts("and then there is", (all_.admit(four), all_.count), (True, 2))
+    for each in (end for pair in pairs for end in pair):
+        each.close()
+
+
+def test_starts(facts: Facts, monkeypatch: pytest.MonkeyPatch) -> None:
+    """By a clock of the test: a host that ends four times within a minute is not started again."""
+    clock = SimpleNamespace(at=100.0)
+    monkeypatch.setattr(boards, "time", SimpleNamespace(monotonic=lambda: clock.at))
+    board, started = boards.Board("", read_options([]), Record(None), None, lambda drawop: None), []  # type: ignore[arg-type]
+    board.host = SimpleNamespace(end=lambda: None)  # type: ignore[assignment]
+    board.start = lambda listening: started.append(clock.at)  # type: ignore
+    for pause in (0, 20, 40, 19, 1):
+        clock.at += pause
+        board.start_again()
+    facts("four times, of which one is a minute ago", len(started), 5)
+    try:
+        board.start_again()
+        facts("four times within a minute", len(started), "a fault")
+    except boards.BoardFault:
+        facts("four times within a minute", len(started), 5)
+    board.record.close()
+
+
+def test_new_page(facts: Facts) -> None:
+    """A new page of ours is the first that nobody drew on or told of; one that is empty yet is new enough."""
+    drawn, reported, turned = Drawn(), Reported(), []  # type: Drawn, Reported, List[Any]
+    member: Any = SimpleNamespace(me=7, page=(1, 1), drawn=drawn, telling=SimpleNamespace(reported=reported), turn_to=turned.append)
+    for page in ((7, 1), (7, 3), (8, 2)):
+        drawn.add(Drawop("draw 7 %d/%d 1 10 line 0 1 4 1 *" % page))
+    people = People(member)
+    facts("the first that is free", people.new_page(), {"page": "7/2"})
+    reported.tell((8, (7, 2), 1))
+    facts("not one that somebody told of", people.new_page(), {"page": "7/4"})
+    member.page = (7, 1)
+    facts("another than one that is drawn on", people.new_page(), {"page": "7/4"})
+    member.page = (7, 9)
+    facts("one that is empty yet", (people.new_page(), turned), ({"page": "7/9"}, [(7, 2), (7, 4), (7, 4), (7, 9)]))
 
 
 def test_options(facts: Facts) -> None:
