@@ -146,10 +146,19 @@ def test_a_queue_delays_and_drops() -> None:
     found = [queues.pass_on(0, hop) for _ in range(3)]
     assert [[moment for moment, _ in onward] for onward, _ in found] == [[105_000], [205_000], []]
     assert [lost for _, lost in found] == [[], [], [2]]
+    assert queues.fullest == 100, "bytes that waited"
     [(moment, at_hub)], _ = found[0]
     assert at_hub == Hop(datagram, True, 0, 0, frozenset())
     [(moment, there)], _ = queues.pass_on(moment, at_hub)
     assert (moment, there.node, queues.pass_on(moment, there)) == (210_000, 2, ([], []))
+
+
+def test_nothing_is_given_to_a_deaf_member() -> None:
+    """Of four members around a hub the third hears nothing."""
+    tree = Tree(5, [Link(0, member, 1_000 * member) for member in range(1, 5)], [1, 2, 3, 4])
+    sending = Sending(1, 0, 1)
+    assert Network(tree, NoLoss(), deaf=3).receivers(sending) == ([(3_000, (2,)), (5_000, (4,))], [3])
+    assert Network(tree, NoLoss()).receivers(sending) == ([(3_000, (2,)), (4_000, (3,)), (5_000, (4,))], [])
 
 
 def test_an_implosion_costs_where_links_are_narrow() -> None:

@@ -4,10 +4,11 @@ from __future__ import annotations
 
 from dataclasses import replace
 
+from laboratory.adapting import Policy
 from laboratory.level import AT_MEMBERS, AT_SOURCE, IN_TURN, lacking, run_level
 from laboratory.program import program
 from laboratory.runs import Settings, run
-from laboratory.timers import Words
+from laboratory.timers import Ask, TimerMember, Words
 
 
 def test_words_are_those_of_the_generator() -> None:
@@ -45,3 +46,27 @@ def test_losses_at_one_distance_fall_where_they_are_told() -> None:
     assert found == [[[2, 3, 4], [4], [2, 3, 4], [4]], 4 * [[2, 3, 4]], [[3], [4], [2], [3]]]
     rows = run_level(Settings(members=4, loss=AT_MEMBERS, who="timers", draws=5), "").rows
     assert [row.lost for row in rows] == 5 * [1]
+
+
+def timer_member() -> TimerMember:
+    """One that is 10 from all others."""
+    return TimerMember(1, Words(7), Policy((2, 2, 1, 1)), lambda one, other: 10)
+
+
+def test_a_name_is_quiet_until_its_moment() -> None:
+    """A request is answered from the moment on at which the quiet ends, and not before."""
+    for moment, is_answered in ((99, False), (100, True)):
+        member = timer_member()
+        member.held.add((2, 1))
+        member.quiet[2, 1] = 100
+        member.hear(moment, 3, (2, 1))
+        assert ((2, 1) in member.answers) == is_answered, moment
+
+
+def test_a_request_is_heard_from_its_moment_on() -> None:
+    """Half of a back-off long others' requests back it off no further."""
+    for moment, level in ((99, 1), (100, 2)):
+        member = timer_member()
+        member.asks[2, 1] = Ask(1, 200, 100, 10)
+        member.hear(moment, 3, (2, 1))
+        assert member.asks[2, 1].level == level, moment

@@ -6,6 +6,7 @@ import importlib.util
 import io
 import os
 import pty
+import random
 import shutil
 import socket
 import stat
@@ -321,6 +322,13 @@ def test_options(facts: Facts) -> None:
 
 
 # ---- by UDP
+
+
+def test_delay(facts: Facts, monkeypatch: pytest.MonkeyPatch) -> None:
+    """The greatest delay in seconds: what the words say, and as much again where datagrams are mixed, 20 ms at least; all of it faster by the speed."""
+    monkeypatch.setattr(random, "uniform", lambda low, high: high)
+    for words, wanted in (("", 0), ("--delay 500", 0.5), ("--delay 500 --mix", 1.0), ("--mix", 0.02), ("--delay 5 --mix", 0.025), ("--delay 500 --mix --speed 10", 0.1)):
+        facts("of " + words, round(Worse(Wire(), read_options(words.split())).delay(), 9), wanted)
 
 
 def test_group(facts: Facts) -> None:

@@ -45,6 +45,12 @@ def test_record(facts: Facts) -> None:
     facts("the host gets what the record has", made.lines, acts[1:])
 
 
+def test_moment(facts: Facts) -> None:
+    """A start goes on after the greatest moment of the record, wherever that stands."""
+    facts("the moment", held_of("", map(Act, ["board 7 100 1 42", "tick 5", "tick 9", "tick 7"])).moment, 9)
+    facts("of a board on which nothing came", held_of("", [Act("board 7 100 1 42")]).moment, 0)
+
+
 def test_marks(facts: Facts) -> None:
     """Of reports in a record the host gets the mark of our number alone."""
     words = ["session-message 9 5 1/1 7=4 8=3", "page-state 9 1/1 8=3", "say page-state 7 1/1 7=5", "page-state 9 1/1 7=5"]

@@ -30,7 +30,7 @@ from live.views import Drawop, Question, Report, datagram_of, name_in, page_of
 from live.waiting import Waiting
 from live.wire import MOST_CHARACTERS, MOST_REMEMBERED, Wire
 from ..facts import Facts
-from .members import TOP
+from .members import PATIENCE, TOP
 
 PAGE = (7, 1)
 
@@ -370,6 +370,7 @@ def test_connections(facts: Facts, monkeypatch: pytest.MonkeyPatch) -> None:
     monkeypatch.setattr(connections, "MOST_CONNECTIONS", 2)
     all_, pairs = connections.Connections(), [socket.socketpair() for _ in range(4)]
     one, two, three, four = (pair[0] for pair in pairs)
+    pairs[0][1].settimeout(PATIENCE)
     facts("two have room, and for a third the first goes", ([all_.admit(each) for each in (one, two, three)], all_.count, list(all_.idle)), ([True] * 3, 2, [two, three]))
     facts("its connection is at its end", pairs[0][1].recv(1), b"")
     facts("the first can't ask any more, and the others can", [all_.asked(each) for each in (one, two, three)], [False, True, True])
