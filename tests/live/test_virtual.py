@@ -18,8 +18,9 @@ from unittest import mock
 from live.carriers.carrier import Origin
 from live.clock import SECOND
 from live.events import Events
+from live.heard import PATIENCE
 from live.inbox import Arrival
-from live.judging import Judging
+from live.judging import WHYS, Judging
 from live.member import Member
 from live.options import read_options
 from live.record import Record
@@ -268,6 +269,28 @@ def beside_forged_pages(forged: int, longest: int = 240) -> AfterForgeries:
         return AfterForgeries(None, drawn_on)
 
 
+class Crowded(NamedTuple):
+    """Which part of pairs know each other, and how many forged numbers each member took for one and dropped."""
+
+    pairs: float
+    taken: List[int]
+    dropped: List[int]
+
+
+def beside_a_crowd(forged: int, seconds: int = 190) -> Crowded:
+    """Somebody speaks under many numbers while a member joins two others."""
+    with World(forged) as world:
+        members = [world.join(1), world.join(2)]
+        world.run(20)
+        members.append(world.join(3))
+        for number in range(forged):
+            for member in members:
+                world.put(world.now + 1_000 * number, member, Origin("eve%d" % number), session(10_000 + number, 5, PAGE, {}))
+        world.run(seconds)
+        taken = [sum(number >= 10_000 for number in member.judging.heard.within(PATIENCE)) for member in members]
+        return Crowded(world.pairs(), taken, [member.judging.dropped[WHYS["crowd"]] for member in members])
+
+
 class Departed(NamedTuple):
     """After how many seconds newcomers had a board whose sources have all left, what each dropped, and how often each would have taken a stream."""
 
@@ -324,6 +347,15 @@ def test_pages(facts: Facts) -> None:
     print("beside 250 pages that strangers begin, of which %d are kept, a lost drawing is there after %s s" % told[::-1])
     facts("strangers have few pages", told.pages <= STRANGE_PAGES, True)
     facts("and a drawing that was lost beside them is told", told.there is not None, True)
+
+
+def test_crowd(facts: Facts) -> None:
+    """Numbers that speak first are few, and who answers finds room beside them."""
+    told = beside_a_crowd(400)
+    print("beside 400 numbers that are forged, of which each takes %s for members that speak first, all know a newcomer: %.0f %%" % (told.taken, 100 * told.pairs))
+    facts("a newcomer and the others come to know each other", told.pairs, 1.0)
+    facts("256 numbers that speak first are heard at once", [250 <= each <= 257 for each in told.taken], [True] * 3)
+    facts("and the others are dropped", [taken + dropped >= 400 for taken, dropped in zip(told.taken, told.dropped)], [True] * 3)
 
 
 def test_departed(facts: Facts) -> None:
