@@ -9,6 +9,7 @@ import pytest
 
 from .program import host
 from .sessions import Session
+from .test_judged import JudgedSession
 from .test_kept import KeptSession, first_difference
 
 pytest.importorskip("hypothesis", reason="there is no hypothesis here (apt-get install python3-hypothesis)")
@@ -31,4 +32,11 @@ def test_lines(numbers: random.Random, count: int) -> None:
 @given(numbers, counts)
 def test_lines_of_a_host_that_keeps_itself(numbers: random.Random, count: int) -> None:
     lines, printed = KeptSession(numbers).conversation(count)
+    assert first_difference(lines, host(lines), printed) == ""
+
+
+@fixed
+@given(numbers, counts, strategies.integers(0, 3))
+def test_lines_of_a_judged_host(numbers: random.Random, count: int, held: int) -> None:
+    lines, printed = JudgedSession(numbers, held).conversation(count)
     assert first_difference(lines, host(lines), printed) == ""
