@@ -125,6 +125,25 @@ def put_off(count: int, seed: int, longest: int = 120) -> Optional[int]:
         return None
 
 
+def put_off_by_a_stranger(count: int, seed: int, longest: int = 60) -> Optional[int]:
+    """The same beside requests of somebody who has answered nobody, and is heard by the one alone that lacks the drawing."""
+    with Watched(seed) as world:
+        first, *others = [world.join(world.chance.randrange(1, 2**32)) for _ in range(count)]
+        world.run(60)
+        lacks = others[-1]
+        with mock.patch.object(lacks.judging, "arrive"):
+            first.draw(1)
+            world.run(3)
+        asking = framed(3, struct.pack(">5I", 900, first.number, *PAGE, 1))
+        for second in range(1, longest + 1):
+            for turn in range(PUTTING_OFF):
+                world.put(world.now + turn * SECOND // PUTTING_OFF, lacks, Origin("stranger"), asking)
+            world.run(1)
+            if lacks.held():
+                return second
+        return None
+
+
 def told(second: Optional[int]) -> str:
     return "never" if second is None else "%d" % second
 
@@ -151,6 +170,13 @@ def test_putting_off(facts: Facts, count: int) -> None:
     second = put_off(count, 1)
     print("beside a member that sends requests, a drawing came to the last of %d after %s s" % (count, told(second)))
     facts("requests of a member keep no drawing from coming", second is not None and second <= SOON[count], True)
+
+
+@pytest.mark.parametrize("count", (2, 3))
+def test_putting_off_by_a_stranger(facts: Facts, count: int) -> None:
+    second = put_off_by_a_stranger(count, 1)
+    print("beside a stranger that sends requests, a drawing came to the last of %d after %s s" % (count, told(second)))
+    facts("requests of a stranger keep no drawing from coming", second is not None and second <= 10, True)
 
 
 def main(words: List[str]) -> None:

@@ -108,10 +108,11 @@ def test_forged_drawops(facts: Facts) -> None:
     attackers = [Attacker(each.udp_port) for each in two]
     try:
         for attacker in attackers:
-            attacker.send(*[drawn(two[1].me, number, now(), 9, b"t") for number in (1, 2, 70_000, 2**31)])
+            attacker.send(*[drawn(two[1].me, number, now(), 9, b"t") for number in (1, 2, 70_000, 2**31, 2**32 - 1)])
         time.sleep(1)
-        facts("beside drawops under its number a member draws", (two[1].draw(PAGE, "line 0 0 4 0 d")[0], is_twin(two[1])), (200, False))
-        facts("and the other shows it", two[0].wait_for(lambda states: states["board"]["rows"][:1] == ["ddddd"]), True)
+        status, answer = two[1].draw(PAGE, "line 0 0 4 0 d")
+        facts("beside drawops under its number a member draws, by its own next number", (status, answer.get("seq"), is_twin(two[1])), (200, 1, False))
+        facts("and the other shows it, and nothing else", two[0].wait_for(lambda states: states["board"]["rows"] == ["ddddd"]), True)
     finally:
         facts("they end with 0", [each.end() for each in two], [0] * 2)
 
@@ -227,7 +228,8 @@ def test_replay(facts: Facts) -> None:
         first, other = members(words, "--speed 10")
         ear = Ear(first.udp_port)
         first.draw(PAGE, "line 0 0 4 0 d")
-        facts("a member's datagrams were heard", comes(lambda: len(ear.heard) > 3), True)
+        report, me = b"WB\x01\x02", first.me.to_bytes(4, "big")
+        facts("a member's reports were heard", comes(lambda: any(data[:4] == report and data[8:12] == me for data, _ in list(ear.heard))), True)
         first.end()
         again = Process(["--ports", str(FIRST_PORT), *words.split()])
         time.sleep(1)
