@@ -316,6 +316,21 @@ def among_departed(drawops: int, newcomers: int, pages: int = 4, longest: int = 
         return Departed(whole, [dict(member.judging.dropped) for member in members], [len(member.judging.fetched) for member in members])
 
 
+def asked_ahead(hours: int = 30) -> Tuple[int, "Counter[str]"]:
+    """A member holds two drawops of a time so far ahead, which it reports: how often another asks for them in a minute, and why it dropped what came."""
+    with tempfile.TemporaryDirectory() as folder, World(hours) as world:
+        path = Path(folder) / "ahead.wb"
+        digits = [drawn(100, number, WALL + hours * 3_600 * SECOND, number, b"*", PAGE).hex() for number in (1, 2)]
+        path.write_text("board 1 %d 1 42\ntick 5\n" % CELLS + "".join("datagram %s\n" % each for each in digits))
+        world.join(1, str(path))
+        late = world.join(2)
+        world.run(60)
+        before = late.sent["request"]
+        late.judging.dropped.clear()
+        world.run(60)
+        return late.sent["request"] - before, Counter(late.judging.dropped)
+
+
 def tell(count: int, joined: Joined) -> None:
     known = ", ".join("%d s: %.0f %%" % (second, 100 * part) for second, part in joined.pairs.items())
     print("%d members join at once: pairs that know each other after %s; in 30 s %d requests and %d drawings and repairs for %d drawings; all came after %s s" % (
@@ -364,6 +379,14 @@ def test_departed(facts: Facts) -> None:
     facts("newcomers have what was drawn by who has left", told.whole is not None, True)
     told = among_departed(900, 2, pages=1)
     facts("of a page of which they lack 500 they would have taken a stream", [each > 0 for each in told.fetched], [True, True])
+
+
+def test_ahead(facts: Facts) -> None:
+    """What is dropped for its time is asked for again, within the credit of four names a second."""
+    requests, dropped = asked_ahead()
+    print("two drawops that are 30 hours ahead are asked for %d times in a minute; dropped: %s" % (requests, dict(dropped)))
+    facts("they are dropped for that alone", (list(dropped), dropped[WHYS["ahead"]] > 0), ([WHYS["ahead"]], True))
+    facts("and asked for, not too often", 0 < requests <= 4 * 60, True)
 
 
 def main(words: List[str]) -> None:
