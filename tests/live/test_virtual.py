@@ -395,6 +395,7 @@ def main(words: List[str]) -> None:
         tell(count, join_at_once(count))
     for drawops in (300, 900):
         print("%d drawops of 12 sources that have left: two newcomers have them after %s s; they dropped %s; streams %s" % (drawops, *among_departed(drawops, 2)))
+    print("two drawops that are 30 hours ahead are asked for %d times in a minute" % asked_ahead()[0])
 
 
 if __name__ == "__main__":
