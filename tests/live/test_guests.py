@@ -32,6 +32,9 @@ FIRST_PORT = 26_840
 CROWD = 50
 LINES = 15
 
+# seconds for which it is measured what they cost at rest
+REST = 5 if os.environ.get("WB_MEASURE") else 1
+
 # milliseconds in the median, on an idle machine
 SOON = 300
 
@@ -434,12 +437,12 @@ def test_fifty(facts: Facts) -> None:
         if os.environ.get("WB_MEASURE"):
             facts("within %d ms in the median: %.0f" % (SOON, statistics.median(found)), statistics.median(found) < SOON, True)
         more, used = costs(served.process.pid)
-        time.sleep(5)
+        time.sleep(REST)
         idle = costs(served.process.pid)[1] - used
         print("%d browsers with members: all there after %.1f s; a line on the others after %.0f ms in the median, %.0f in 95 of 100, %.0f at most, for %.0f ms of processors; "
               "each costs %.1f MB, and at rest %.2f percent of a processor; load %.0f" % (
                   CROWD, begun, statistics.median(found), sorted(found)[len(found) * 95 // 100], max(found), (used - before) * 1000 / LINES, (more - memory) / CROWD,
-                  idle / 5 * 100 / CROWD, os.getloadavg()[0]))
+                  idle / REST * 100 / CROWD, os.getloadavg()[0]))
         for window in windows:
             window.close()
     finally:
