@@ -19,7 +19,9 @@ use Rattle.wb_policy.specs.declared.turns.Turns.{Turns}
 use Rattle.wb_policy.proofs.Cycle.{found_at}
 use Rattle.wb_policy.proofs.FilledHoles.{hole_filled}
 use Rattle.wb_policy.proofs.HolesRise.{Rise, found_first, holes_rise}
-use Rattle.wb_kept_progress.proofs.Turning.{from_flat, from_map}
+use Rattle.wb_kept_progress.specs.Repairs.{TurnsAsk}
+use Rattle.wb_kept_progress.proofs.Turning.{from_flat, from_map, missing_is_lacked}
+use Rattle.wb_kept_progress.proofs.WantedIn.{MayBeWanted, turn_asks_it}
 
 -- the number of a hole that has its turn is one of its numbers
 module _ (t : Turns) (gap : Gap) (filled : gap.first ≤ gap.last) where
@@ -72,3 +74,11 @@ module _ (held : List DrawopValue) (t : Turns) where
         named nowhere 0 0 (next_round t) h f
         (ap (λ (o : Option Hole). named_by o (hole_after held nowhere 0 0)) e ∙ ap (named_by None) f)
     by None e None f = absurd (some_first (holes_of held) there (holes_rise held) f)
+
+-- each turn asks for such a number, where a place of the credit is left
+pub turns_ask : TurnsAsk
+turns_ask k hole answers there room credit =
+    let named = turn_names k.host.is.held k.policy.turns hole there in
+    let n = named.0 in
+    let may : MayBeWanted k n = record { answers_held = answers; lacks = missing_is_lacked k.host.is.held n named.2; room = room } in
+    (n, named.1, named.2, turn_asks_it n k may credit named.1)

@@ -253,6 +253,29 @@ module _ (n : NameValue) (r : Keeping) (may : MayBeWanted r n) where
       from_turns (with_policy (after_turn h q) r) name refl (same_Some name n e)
   to_it None None e = absurd (none-some n e)
 
+  -- where a place of the credit is left, it is asked for
+  module _ (credit : has_credit r.policy.owed (present r.host) ≡ true) where
+    asked_by : (q : Policy) (name : NameValue) → q.owed ≡ r.policy.owed → name ≡ n → asks_for n (after_doing (want name true) (with_policy q r)).host ≡ true
+    asked_by q name owed e =
+        let m = with_policy q r in
+        subst (λ (x : NameValue). asks_for n (after_doing (want x true) m).host ≡ true) (sym e)
+        (stands_asked (after_doing (want n true) m).host n
+        (wanted_is_asked n true m may.answers_held may.lacks may.room (ap (λ (o : ℕ). has_credit o (present r.host)) owed ∙ credit)))
+
+    asked_to : (next first : Option Hole) → option_map (name_in (in_round next r.policy.turns)) (option_or next first) ≡ Some n
+        → asks_for n (after_doing (turn_to next first) r).host ≡ true
+    asked_to (Some h) first e = let name = name_in r.policy.turns h in asked_by (after_turn h r.policy) name refl (same_Some name n e)
+    asked_to None (Some h) e =
+        let q = in_next_round r.policy in
+        let name = name_in q.turns h in
+        asked_by (after_turn h q) name refl (same_Some name n e)
+    asked_to None None e = absurd (none-some n e)
+
+    pub turn_asks_it : name_in_turn r.host.is.held r.policy.turns ≡ Some n → asks_for n (after_doing turn r).host ≡ true
+    turn_asks_it e =
+        let t = r.policy.turns in
+        asked_to (hole_after r.host.is.held t.page t.source t.number) (hole_after r.host.is.held nowhere 0 0) e
+
   pub turn_wants : name_in_turn r.host.is.held r.policy.turns ≡ Some n → IsAskedThen n (after_doing turn r)
   turn_wants e =
       let t = r.policy.turns in

@@ -1,5 +1,5 @@
 -- Lines that bring a drawop from a host that holds it to one that lacks it, if each is self-managing.
-use Rattle.std.specs.Prelude.{◌≡◌, ◌<◌, ◌≤◌, ℕ, ◌+◌, ◌*◌, true, false, List, [], ◌∷◌, ◌++◌, Contains, length, max}
+use Rattle.std.specs.Prelude.{◌≡◌, ◌<◌, ◌≤◌, ℕ, ◌+◌, ◌*◌, true, false, List, [], ◌∷◌, ◌++◌, Some, Contains, length, max}
 use Rattle.wb_names.specs.History.{highest, name_of}
 use Rattle.wb_names.specs.Values.{DrawopValue, MarkValue, NameValue}
 use Rattle.wb_names.specs.declared.echo.Echo.{Echo}
@@ -12,11 +12,14 @@ use Rattle.wb_gaps.specs.declared.holes.Hole.{Hole}
 use Rattle.wb_progress.specs.Repairs.{asking_wait, answering_wait, quiet_wait}
 use Rattle.wb_member.specs.Judged.{holds, is_full}
 use Rattle.wb_member.specs.Opened.{Opened, asks_for, present}
-use Rattle.wb_policy.specs.Fairness.{HaveAtMost, slices_of, slices_on}
+use Rattle.wb_policy.specs.Credit.{has_credit}
+use Rattle.wb_policy.specs.Fairness.{HaveAtMost, name_in_turn, slices_of, slices_on}
 use Rattle.wb_policy.specs.Turns.{windows_in}
 use Rattle.wb_policy.specs.declared.limits.TheConstants.{ROUND_LIMIT, WINDOW}
+use Rattle.wb_keeping.specs.Fairness.{AnswersWhatIsHeld}
+use Rattle.wb_keeping.specs.Kept.{turn}
 use Rattle.wb_keeping.specs.Laws.{Came, Ticked}
-use Rattle.wb_keeping.specs.Performing.{Keeping}
+use Rattle.wb_keeping.specs.Performing.{Keeping, after_doing}
 use Rattle.wb_keeping.specs.Refusing.{is_unknown}
 use Rattle.wb_kept_progress.specs.Sessions.{AreHosts, AreSent, AreTaken, LineAt, Opening, at, kept_at, sent_since}
 
@@ -79,6 +82,11 @@ pub record ComesToAsk (hosts : ℕ → Opening) (newer older : List LineAt) (i :
   pub soon : present (host_at hosts (newer ++ older) i) + 96000000 ≤ ready_at (kept_at hosts older i) + length newer * 96000000
   pub same : (host_at hosts (newer ++ older) i).is.held ≡ (host_at hosts older i).is.held
   pub asked : asks_for n (host_at hosts (newer ++ older) i) ≡ true
+
+-- While there is a hole, each turn is of a missing number. It has a request timer then, if the board has a free cell and a place of the credit is left.
+abbrev pub TurnsAsk : Type 0
+TurnsAsk = (k : Keeping) (hole : Hole) → AnswersWhatIsHeld k.host → Contains (holes_of k.host.is.held) hole → is_full k.host ≡ false → has_credit k.policy.owed (present k.host) ≡ true
+    → (n : NameValue) × (name_in_turn k.host.is.held k.policy.turns ≡ Some n) × IsMissing k.host.is.held n.page [] n.source n.seq × (asks_for n (after_doing turn k).host ≡ true)
 
 -- A number of a source that is missing below the greatest that a host holds of it comes to be asked for, if the board has a free cell.
 abbrev pub MissingIsAsked : Type 0

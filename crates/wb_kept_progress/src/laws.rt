@@ -5,7 +5,7 @@ ghost use Rattle.wb_kept_progress.specs.Agreement.{SessionsAgree};
 ghost use Rattle.wb_kept_progress.specs.Examples.{LivelyMeets, PatientMeets};
 ghost use Rattle.wb_kept_progress.specs.Judged.{JudgedMembersSendFewDrawops};
 ghost use Rattle.wb_kept_progress.specs.Promises.{Promises, PromisesSuffice};
-ghost use Rattle.wb_kept_progress.specs.Repairs.{AskedCanCome, MarksComeToBeTold, MissingCanCome, MissingIsAsked, MissingIsAskedInTurn, MissingIsAskedSoon};
+ghost use Rattle.wb_kept_progress.specs.Repairs.{AskedCanCome, MarksComeToBeTold, MissingCanCome, MissingIsAsked, MissingIsAskedInTurn, MissingIsAskedSoon, TurnsAsk};
 ghost use Rattle.wb_kept_progress.specs.Rounds.{SessionsBecomeWholeByRounds};
 ghost use Rattle.wb_kept_progress.specs.Since.{RestartedBecomeWhole, RestartedBecomeWholeByRounds, SinceIsSame, SinceIsTimely};
 ghost use Rattle.wb_kept_progress.specs.Starts.{NoStateIsADeadEnd};
@@ -28,6 +28,13 @@ pub fn what_is_missing_can_come()
     ensures turn { MissingIsAskedInTurn }
     ensures soon { MissingIsAskedSoon }
     ensures comes { MissingCanCome }
+{}
+
+/// While there is a hole, each turn is of a missing number, and a request timer for that stands
+/// after the turn, if the board has a free cell and a place of the credit is left. It is so of each
+/// host that answers for what it holds alone, as every host does.
+pub fn turns_ask()
+    ensures { TurnsAsk }
 {}
 
 /// No state is a dead end. A host comes to report each mark of its board, by its ticks alone. So,
