@@ -86,3 +86,11 @@ class Kept(Host):
     def ticks(self, now: int) -> list[str]:
         """The datagrams that it sends as time goes on."""
         return [told.removeprefix("send ") for told in self.tick(now) if told.startswith("send ")]
+
+
+class Judged(Host):
+    """A judged host, told the moment in each line."""
+
+    def __init__(self, member: int) -> None:
+        super().__init__(member, 4_096)
+        self.tell("judge 1 4096 0 1764000000000000 - -")

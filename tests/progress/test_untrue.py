@@ -2,7 +2,7 @@
 
 from __future__ import annotations
 
-from .hosts import MOST_DIGITS, PAGE, PLACE, Host, answers, lost_to_the_first, request
+from .hosts import MOST_DIGITS, PAGE, PLACE, Host, Judged, answers, lost_to_the_first, request
 
 
 def test_untold_time() -> None:
@@ -111,3 +111,31 @@ def test_on_its_way() -> None:
     late = first.sends(f"session {PLACE}")[0]
     other.tell(f"datagram {late}")
     assert other.tell(f"look {PLACE}") == ["look 1"], "the message behind it does"
+
+
+def test_many_requests() -> None:
+    """Two members 2 ms apart ask for more than 255 names within 1.024 s, and the judge drops some of the requests. The names come all the same."""
+    holder, asker = hosts = Judged(1), Judged(2)
+    on_its_way: list[tuple[int, Judged, str]] = []
+    requests: list[int] = []
+    floods, drawn, now = 0, False, 0
+    while now < 40_000_000:
+        now = min([int(host.due) for host in hosts] + [at for at, _, _ in on_its_way[:1]])
+        if now >= 20_000_000 and not drawn:
+            drawn = True
+            for _ in range(600):
+                holder.tell(f"add {now} {PAGE} line 0 0 4 0 *")
+        if on_its_way and on_its_way[0][0] <= now:
+            _, to, datagram = on_its_way.pop(0)
+            other = asker if to is holder else holder
+            told = to.tell(f"came {now} {other.member} {datagram}")
+            if to is holder and datagram.startswith("57420103"):
+                requests.append(now)
+                floods += told.count("dropped flood")
+        else:
+            to, other = sorted(hosts, key=lambda host: int(host.due))
+            told = to.tell(f"tick {now}")
+        on_its_way += [(now + 2_000, other, line.removeprefix("send ")) for line in told if line.startswith("send ")]
+    assert max(sum(at <= later < at + 1_024_000 for later in requests) for at in requests) > 255, "more than 255 in 1.024 s"
+    assert floods > 0, "some are dropped"
+    assert asker.tell(f"report {PLACE}") == holder.tell(f"report {PLACE}") == ["report 1", "1 600"], "all 600 have come"

@@ -164,13 +164,13 @@ echoes_others host =
 
 -- ---- what a member says
 
--- of a report: it is of this member, and echoes others
+-- of what says who sends it: it is of this member; and a report echoes others
 abbrev pub IsOfMember : ℕ → Datagram → Type 0
 IsOfMember me (Draw d) = Unit {0}
 IsOfMember me (Session sender sent page marks es) = (sender ≡ me) × AreOthers me es
-IsOfMember me (Request asker name) = Unit {0}
-IsOfMember me (AskPages asker) = Unit {0}
-IsOfMember me (PageState sender page marks) = Unit {0}
+IsOfMember me (Request asker name) = asker ≡ me
+IsOfMember me (AskPages asker) = asker ≡ me
+IsOfMember me (PageState sender page marks) = sender ≡ me
 
 -- with an echo of its own, or none, it is plainly what it was
 pub plain_again : (me : ℕ) (echo : Option Echo) → ((e : Echo) → echo ≡ Some e → e.source ≡ me) → (v : Datagram) → IsOfMember me v → plain (echoing echo v) ≡ v
@@ -199,31 +199,31 @@ IsSaid host (SetsDistance source micros) = Unit {0}
 IsSaid host (Tunes constants) = Unit {0}
 IsSaid host (Says v) = IsOfMember host.is.number v
 
--- each line that is no report
-abbrev NoReport : Line → Type 0
-NoReport (Says (Session sender sent page marks es)) = ⊥
-NoReport (Says (Draw d)) = Unit {0}
-NoReport (Says (Request asker name)) = Unit {0}
-NoReport (Says (AskPages asker)) = Unit {0}
-NoReport (Says (PageState sender page marks)) = Unit {0}
-NoReport (Ticks now) = Unit {0}
-NoReport (Arrives d) = Unit {0}
-NoReport (Hears v) = Unit {0}
-NoReport (Asks name) = Unit {0}
-NoReport (Stops name) = Unit {0}
-NoReport (SetsDistance source micros) = Unit {0}
-NoReport (Tunes constants) = Unit {0}
+-- each line that is no report, and says who sends it
+abbrev NoReport : ℕ → Line → Type 0
+NoReport me (Says (Session sender sent page marks es)) = ⊥
+NoReport me (Says (Draw d)) = Unit {0}
+NoReport me (Says (Request asker name)) = asker ≡ me
+NoReport me (Says (AskPages asker)) = asker ≡ me
+NoReport me (Says (PageState sender page marks)) = sender ≡ me
+NoReport me (Ticks now) = Unit {0}
+NoReport me (Arrives d) = Unit {0}
+NoReport me (Hears v) = Unit {0}
+NoReport me (Asks name) = Unit {0}
+NoReport me (Stops name) = Unit {0}
+NoReport me (SetsDistance source micros) = Unit {0}
+NoReport me (Tunes constants) = Unit {0}
 
 abbrev AreSaid : Opened → List Line → Type 0
 AreSaid host [] = Unit {0}
 AreSaid host (line ∷ lines) = IsSaid host line × AreSaid (after_line line host) lines
 
-none_said : (line : Line) (host : Opened) → NoReport line → IsSaid host line
+none_said : (line : Line) (host : Opened) → NoReport host.is.number line → IsSaid host line
 none_said (Says (Session sender sent page marks es)) host none = absurd none
 none_said (Says (Draw d)) host none = tt
-none_said (Says (Request asker name)) host none = tt
-none_said (Says (AskPages asker)) host none = tt
-none_said (Says (PageState sender page marks)) host none = tt
+none_said (Says (Request asker name)) host none = none
+none_said (Says (AskPages asker)) host none = none
+none_said (Says (PageState sender page marks)) host none = none
 none_said (Ticks now) host none = tt
 none_said (Arrives d) host none = tt
 none_said (Hears v) host none = tt
@@ -232,28 +232,29 @@ none_said (Stops name) host none = tt
 none_said (SetsDistance source micros) host none = tt
 none_said (Tunes constants) host none = tt
 
-all_said : (lines : List Line) (host : Opened) → Each NoReport lines → AreSaid host lines
+all_said : (lines : List Line) (host : Opened) → Each (NoReport host.is.number) lines → AreSaid host lines
 all_said [] host none = tt
-all_said (line ∷ lines) host none = (none_said line host none.0, all_said lines (after_line line host) none.1)
+all_said (line ∷ lines) host none =
+    (none_said line host none.0, all_said lines (after_line line host) (subst (λ (me : ℕ). Each (NoReport me) lines) (sym (number_after (Performs line) host)) none.1))
 
 said_both : (one other : List Line) (host : Opened) → AreSaid host one → AreSaid (after_lines one host) other → AreSaid host (one ++ other)
 said_both [] other host a b = b
 said_both (line ∷ one) other host a b = (a.0, said_both one other (after_line line host) a.1 b)
 
-want_none : (name : NameValue) (anew : Bool) (see : List Line → View) (p : Policy) → Each NoReport (want name anew see p).lines
-want_none name anew see p = by (is_wanted (holds v name) (is_full v) anew (is_known v name.source) (level v name) p.owed v.now) where
+want_none : (me : ℕ) (name : NameValue) (anew : Bool) (see : List Line → View) (p : Policy) → Each (NoReport me) (want name anew see p).lines
+want_none me name anew see p = by (is_wanted (holds v name) (is_full v) anew (is_known v name.source) (level v name) p.owed v.now) where
   v : View
   v = see []
 
-  by : (b : Bool) → Each NoReport (cond b (doing (after_wanting v.now p) (lines_wanted name anew see p)) (still see p)).lines
-  by true = wanted_each NoReport (λ name. tt) name tt anew see p tt tt
+  by : (b : Bool) → Each (NoReport me) (cond b (doing (after_wanting v.now p) (lines_wanted name anew see p)) (still see p)).lines
+  by true = wanted_each (NoReport me) (λ name. tt) name tt anew see p tt tt
   by false = tt
 
 record SaysPlainly (k : Keeping) (lines : List Line) (m : Keeping) : Type 0 where
   at : m.host ≡ after_lines lines k.host
   said : AreSaid k.host lines
 
-quietly : (k : Keeping) (lines : List Line) (p : Policy) → Each NoReport lines → SaysPlainly k lines (record { host = after_lines lines k.host; policy = p })
+quietly : (k : Keeping) (lines : List Line) (p : Policy) → Each (NoReport k.host.is.number) lines → SaysPlainly k lines (record { host = after_lines lines k.host; policy = p })
 quietly k lines p none = record { at = refl; said = all_said lines k.host none }
 
 both_say : (k m n : Keeping) (one other : List Line) → SaysPlainly k one m → SaysPlainly m other n → SaysPlainly k (one ++ other) n
@@ -267,11 +268,11 @@ steps_say = record {
   due = record {
     nothing = λ k. quietly k [] k.policy tt;
     both = both_say;
-    wants = λ name anew k. quietly k _ _ (want_none name anew (sees k.host) k.policy);
+    wants = λ name anew k. quietly k _ _ (want_none k.host.is.number name anew (sees k.host) k.policy);
     turned = λ t l k. quietly k [] _ tt;
     beats = λ k due. quietly k [] _ tt;
-    answers = λ k is. quietly k _ _ (states_each NoReport (view_of k.host) (λ page. tt) (take 64 (pages_of k.host.is.held)));
-    asks_pages = λ k is. quietly k _ _ (tt, tt);
+    answers = λ k is. quietly k _ _ (states_each (NoReport k.host.is.number) (view_of k.host) (λ page. refl) (take 64 (pages_of k.host.is.held)));
+    asks_pages = λ k is. quietly k _ _ (refl, tt);
     reports = λ page until told k is. record { at = refl; said = ((refl, echoes_others k.host), tt) };
   };
   ticks = λ now k later. quietly k _ k.policy (tt, tt);
@@ -292,7 +293,7 @@ steps_say = record {
 -- ---- what a line sends
 
 action_of : (me : ℕ) (held : List DrawopValue) (action : Action) (v : Datagram) → sent_for me held action ≡ Some v → IsOfMember me v
-action_of me held (Ask name) v e = subst (IsOfMember me) (same_Some (Request me name) v e) tt
+action_of me held (Ask name) v e = subst (IsOfMember me) (same_Some (Request me name) v e) refl
 action_of me held (Answer name) v e = by (drawop_of held name) e where
   by : (o : Option DrawopValue) → option_map {T = DrawopValue} {U = Datagram} Draw o ≡ Some v → IsOfMember me v
   by None e = absurd (none-some v e)
@@ -302,7 +303,7 @@ answer_of : (me : ℕ) (held : List DrawopValue) (heard v : Datagram) → Contai
 answer_of me held heard v c = by (asks_for_pages me heard) c where
   by : (b : Bool) → Contains (cond b (page_states me held) []) v → IsOfMember me v
   by false c = absurd (Contains-none v c)
-  by true c = let r = Any-from_map (λ (r : PageReport). PageState me r.page r.marks) (reports_of held) v c in subst (IsOfMember me) r.4 tt
+  by true c = let r = Any-from_map (λ (r : PageReport). PageState me r.page r.marks) (reports_of held) v c in subst (IsOfMember me) r.4 refl
 
 drawing_of : (me : ℕ) (d : DrawopValue) (o : Outcome) (v : Datagram) → Contains (said_where d o) v → IsOfMember me v
 drawing_of me d (Fresh i) v c = subst (IsOfMember me) (one_of (Draw d) v c) tt
@@ -323,9 +324,9 @@ line_sends (SetsDistance source micros) host said v c = absurd (Contains-none v 
 line_sends (Tunes constants) host said v c = absurd (Contains-none v c)
 line_sends (Says (Draw d)) host said v c = drawing_of host.is.number d (becomes d host) v c
 line_sends (Says (Session sender sent page marks es)) host said v c = subst (IsOfMember host.is.number) (one_of (Session sender sent page marks es) v c) said
-line_sends (Says (Request asker name)) host said v c = subst (IsOfMember host.is.number) (one_of (Request asker name) v c) tt
-line_sends (Says (AskPages asker)) host said v c = subst (IsOfMember host.is.number) (one_of (AskPages asker) v c) tt
-line_sends (Says (PageState sender page marks)) host said v c = subst (IsOfMember host.is.number) (one_of (PageState sender page marks) v c) tt
+line_sends (Says (Request asker name)) host said v c = subst (IsOfMember host.is.number) (one_of (Request asker name) v c) said
+line_sends (Says (AskPages asker)) host said v c = subst (IsOfMember host.is.number) (one_of (AskPages asker) v c) said
+line_sends (Says (PageState sender page marks)) host said v c = subst (IsOfMember host.is.number) (one_of (PageState sender page marks) v c) said
 
 lines_send : (lines : List Line) (host : Opened) → AreSaid host lines → (v : Datagram) → Contains (sent_by_lines lines host) v → IsOfMember host.is.number v
 lines_send [] host said v c = absurd (Contains-none v c)

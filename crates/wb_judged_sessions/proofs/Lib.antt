@@ -11,3 +11,10 @@ pub mod Examples
 pub mod Timely
 pub mod InTime
 pub mod Whole
+pub mod Origins
+pub mod Numbers
+pub mod Staying
+pub mod Reporting
+pub mod Clocks
+pub mod KnownLater
+pub mod Meeting

@@ -80,7 +80,7 @@ recalled_now (Known d) now = refl
 recalled_now (Strange d) now = refl
 recalled_now (Mark speaker page mark) now = refl
 
-present_recalled : (line : RecordLine) (h : Judged) → present (after_judged (Held line) h).kept.host ≡ present h.kept.host
+pub present_recalled : (line : RecordLine) (h : Judged) → present (after_judged (Held line) h).kept.host ≡ present h.kept.host
 unfolding after_kept_line
 present_recalled line h =
     let call = recalled (present h.kept.host) line in

@@ -77,9 +77,10 @@ pub record WasSentBy (numbers : ℕ → ℕ) (older : List JudgedCallAt) (time w
   pub sent : Contains (sends_in (events_of line (judged_at numbers before e.place))) v
 
 -- Before `quiet` programs start and end as they like, and the network does what it likes. From then on live members alone are called, and in time, each
--- of their boards has a free cell, nobody draws, and no line of a record is handed in. What one sends comes to each other one in time, as a member's.
--- What a judge lets in once all that was on its way has arrived was sent shortly before; what it drops may be anything.
-pub record IsTimely (numbers : ℕ → ℕ) (terms : Terms) (calls : List JudgedCallAt) : Type 0 where
+-- of their boards has a free cell, nobody draws, and no line of a record is handed in. What the one at a place sends comes to each other one in time, in a
+-- way that is stated, among newer calls over the older ones. What a judge lets in once all that was on its way has arrived was sent shortly before; what it
+-- drops may be anything.
+pub record IsTimelyBy (Arrived : (newer base : List JudgedCallAt) (i j by : ℕ) → Datagram → Type 0) (numbers : ℕ → ℕ) (terms : Terms) (calls : List JudgedCallAt) : Type 0 where
   pub apart : AreApart numbers
   pub taken : AreTaken numbers calls
   pub order : AreInOrder calls
@@ -94,9 +95,13 @@ pub record IsTimely (numbers : ℕ → ℕ) (terms : Terms) (calls : List Judged
   pub room : (newer older : List JudgedCallAt) (i : ℕ) → calls ≡ newer ++ older → Contains terms.live i → terms.quiet < called_at older → is_full (judged_at numbers older i).kept.host ≡ false
   pub delivered : (newer older : List JudgedCallAt) (e : JudgedCallAt) (line : JudgedLine) (j : ℕ) (v : Datagram) → calls ≡ newer ++ e ∷ older → e.call ≡ Takes line → Contains terms.live j
       → e.place ≢ j → terms.quiet < e.time
-      → Contains (sends_in (events_of line (judged_at numbers older e.place))) v → e.time + terms.delivery < called_at calls → Arrives numbers newer (e ∷ older) j (e.time + terms.delivery) v
+      → Contains (sends_in (events_of line (judged_at numbers older e.place))) v → e.time + terms.delivery < called_at calls → Arrived newer (e ∷ older) e.place j (e.time + terms.delivery) v
   pub fresh : (newer older : List JudgedCallAt) (e : JudgedCallAt) (now : ℕ) (o : Origin) (v : Datagram) → calls ≡ newer ++ e ∷ older → settled_by terms < e.time → e.call ≡ Takes (CameFrom now o v)
       → handed (CameFrom now o v) (judged_at numbers older e.place) ≡ Came now v → WasSentBy numbers older e.time terms.delivery v
+
+-- It comes as a member's.
+abbrev pub IsTimely : (ℕ → ℕ) → Terms → List JudgedCallAt → Type 0
+IsTimely numbers terms calls = IsTimelyBy (λ newer base i j by v. Arrives numbers newer base j by v) numbers terms calls
 
 -- ---- laws
 

@@ -2,7 +2,10 @@
 //! proofs to cite.
 
 ghost use Rattle.wb_judged_sessions.specs.Examples.{IsShared};
+ghost use Rattle.wb_judged_sessions.specs.Known.{JudgedStayKnown, KnownBecomeWhole};
+ghost use Rattle.wb_judged_sessions.specs.Knowing.{StaysKnown};
 ghost use Rattle.wb_judged_sessions.specs.Laws.{BoardsAreFiles, FiledReportsTellAgreement, FilesAreWhole, HeldOnce, HeldWasDrawn, JudgedKeepKeptTerms, ListeningTells, MarksWereDrawn, NamesMeanOne, NoneClashes, NumbersCount, OnceHeldWasDrawn, RecordsTell, ReportsTellAgreement, SendsAsKept, SentWasDrawn, WholeBoardsAgree};
+ghost use Rattle.wb_judged_sessions.specs.Meeting.{HaveMet};
 ghost use Rattle.wb_judged_sessions.specs.Sessions.{DrawsAsKept, JudgedIsKept, PlainIsTheSame};
 ghost use Rattle.wb_judged_sessions.specs.Timely.{JudgedAgree, JudgedBecomeWhole, JudgedBecomeWholeByRounds, JudgedIsTimely};
 
@@ -79,4 +82,19 @@ pub fn judged_sessions_become_whole()
     ensures whole { JudgedBecomeWhole }
     ensures rounds { JudgedBecomeWholeByRounds }
     ensures agree { JudgedAgree }
+{}
+
+/// Members that know each other once nothing is lost any more go on to do so, whoever else is there:
+/// each reports within 96 seconds, and what came from it stands for 192. So of what one sends, all
+/// comes to each other one as a member's, and the session becomes whole.
+pub fn judged_members_stay_known()
+    ensures stays { StaysKnown }
+    ensures known { JudgedStayKnown }
+    ensures whole { KnownBecomeWhole }
+{}
+
+/// An example: two members meet. Each reports, and hears a report of the other that answers it. Then
+/// each knows the other, and the session keeps to all that `judged_members_stay_known` asks.
+pub fn two_judged_members_meet()
+    ensures { HaveMet }
 {}
