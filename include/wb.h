@@ -13,9 +13,9 @@
  * A host that is self-managing (the line `keep`) takes datagrams, moments, drawings and questions by bytes too, without a line or a digit:
  * wb_came, wb_tick, wb_add and wb_ask. What follows are events, which wb_event fetches one by one. Calls by lines and by bytes may be mixed.
  *
- * A host that is judged (the line `judge`) decides also which datagrams it takes, and says what to record before what to send. Datagrams with
- * their origins, moments and drawings go in by lines: wb_came, wb_tick and wb_add answer WB_JUDGED there, and change nothing. wb_ask, wb_event
- * and wb_due are as at any self-managing host.
+ * A host that is judged (the line `judge`) decides also which datagrams it takes, and says what to record before what to send. There a
+ * datagram comes with its origin, by wb_came_from: wb_came answers WB_JUDGED, and changes nothing. wb_wall tells it the time of day, and wb_gone
+ * that somebody is gone. wb_tick, wb_add, wb_ask, wb_event and wb_due are as at any self-managing host. Its record is handed in by lines (`held`).
  *
  * What is proved of the calls, and what their caller owes, is in docs/proofs/wb_c.md. What a caller owes, nobody checks:
  *
@@ -60,7 +60,11 @@ enum {
     WB_NUMBERS = 12,      /* no number is left on the page */
     WB_NO_DRAWOP = 13,    /* the datagram is no drawop */
     WB_NO_QUESTION = 14,  /* there is no such question, or no canvas of that size */
-    WB_JUDGED = 15,       /* the host is judged: what comes, time and drawings go in by lines */
+    WB_JUDGED = 15,       /* the host is judged: what comes in has an origin, and goes in by wb_came_from */
+    WB_NOT_JUDGED = 16,   /* the host is not judged, and knows no origins and no time of day */
+    WB_TWIN = 17,         /* nothing is drawn at a judged host, since somebody else has our number */
+    WB_FULL = 18,         /* nothing is drawn at a judged host, since the last cells are kept for deletes and restores */
+    WB_NO_TIME = 19,      /* the time of day is not below 2^62 */
     WB_NO_DATAGRAM = 100, /* and with the number of the fault, 1 to 9 (docs/FORMAT.md): the bytes are no datagram */
     WB_NO_OPERATION = 200 /* and with the number of the fault, 1 to 7: under its next number the operation is none of a drawop */
 };
@@ -77,7 +81,13 @@ enum {
     WB_GREATEST = 8, /* a source and its greatest number */
     WB_PAGE = 9,     /* a page: its creator and its number */
     WB_NEXT = 10,    /* the number of our next drawop on the page; no event if no number is left */
-    WB_PAINTED = 11  /* the rows of a canvas, each with its line feed */
+    WB_PAINTED = 11, /* the rows of a canvas, each with its line feed */
+    /* of a judged host alone */
+    WB_DROPPED = 12, /* what came is dropped: why, as a number (below) */
+    WB_RECORD = 13,  /* a line of the record, a text without an end: it is to be in the record before any datagram behind it is sent */
+    WB_DREW = 14,    /* the name of a drawop that is held now and was not before: its source, its page's creator and number, and its number */
+    WB_FETCH = 15,   /* a stream is to be taken: the place, how many numbers are missing, and the owner if the place has one; each has 8 bytes */
+    WB_WARN = 16     /* people are to be warned: a number (below), and behind WB_WARN_SPEAKS the member for whom another speaks */
 };
 
 /* The questions, each that of the line of its name (docs/HOST-LINES.md). */
@@ -89,6 +99,31 @@ enum {
     WB_ASK_PAGES = 5,  /* WB_PAGE for each page that has a drawop; the page that is given does not matter */
     WB_ASK_KNOWN = 6,  /* the same, also of pages that were only heard of */
     WB_ASK_CANVAS = 7  /* one event WB_PAINTED; `show` is its line, and only this question looks at width and height */
+};
+
+/* Why a judged host drops what came: the words of the line `dropped` (docs/HOST-LINES.md). */
+enum {
+    WB_DROP_DATAGRAM = 1, /* it is no datagram */
+    WB_DROP_OWN = 2,
+    WB_DROP_SPEAKS = 3,
+    WB_DROP_CROWD = 4,
+    WB_DROP_MARK = 5,
+    WB_DROP_STRANGER = 6,
+    WB_DROP_FLOOD = 7,
+    WB_DROP_AGAIN = 8,
+    WB_DROP_AHEAD = 9,
+    WB_DROP_FULL = 10,
+    WB_DROP_SHARE = 11,
+    WB_DROP_PAGES = 12
+};
+
+/* What a judged host warns people of: the words of the line `warn`. */
+enum {
+    WB_WARN_SPEAKS = 1,
+    WB_WARN_MARK = 2,
+    WB_WARN_TWIN = 3,
+    WB_WARN_FULL = 4,
+    WB_WARN_SHARE = 5
 };
 
 /* What wb_due gives if nothing is due. */
@@ -111,14 +146,30 @@ uint32_t wb_block(wb_host *host, void *buffer, size_t room, size_t *size);
  * WB_DONE, WB_NO_MOMENT, WB_NO_DATAGRAM + FAULT, WB_JUDGED, WB_NOT_KEPT, WB_BACK_IN_TIME, WB_OURS, WB_CLOSED or WB_MEMORY. */
 uint32_t wb_came(wb_host *host, uint64_t now, const void *datagram, size_t length);
 
-/* Time goes on to a moment: the line `tick`. Events as above.
- * WB_DONE, WB_NO_MOMENT, WB_JUDGED, WB_NOT_KEPT, WB_BACK_IN_TIME, WB_CLOSED or WB_MEMORY. */
+/* Bytes came in from an origin, at a judged host: the line `came`. An origin is a place, as the network names it, and an owner if the network
+ * lets nobody else send from there; without one, `owner` does not matter. What is no datagram is handed in too, and dropped. The events are those
+ * of the line, in its order: why it is dropped, what to record, what is held now, what to send, what became of a drawop, from where to take a
+ * stream, and what to warn people of.
+ * WB_DONE, WB_NO_MOMENT, WB_NOT_JUDGED, WB_BACK_IN_TIME, WB_CLOSED or WB_MEMORY. */
+uint32_t wb_came_from(wb_host *host, uint64_t now, uint64_t place, uint64_t owner, bool has_owner, const void *datagram, size_t length);
+
+/* The time of day at a moment, in microseconds since 1970, at a judged host: the line `wall`. Events as there.
+ * WB_DONE, WB_NO_MOMENT, WB_NO_TIME, WB_NOT_JUDGED, WB_BACK_IN_TIME, WB_CLOSED or WB_MEMORY. */
+uint32_t wb_wall(wb_host *host, uint64_t now, uint64_t wall);
+
+/* The network says that whoever spoke from an origin is gone, at a judged host: the line `gone`. Events as there.
+ * WB_DONE, WB_NO_MOMENT, WB_NOT_JUDGED, WB_BACK_IN_TIME, WB_CLOSED or WB_MEMORY. */
+uint32_t wb_gone(wb_host *host, uint64_t now, uint64_t place, uint64_t owner, bool has_owner);
+
+/* Time goes on to a moment: the line `tick`. Events as above, at a judged host as at wb_came_from.
+ * WB_DONE, WB_NO_MOMENT, WB_NOT_KEPT, WB_BACK_IN_TIME, WB_CLOSED or WB_MEMORY. */
 uint32_t wb_tick(wb_host *host, uint64_t now);
 
 /* The user draws: the line `add`. The bytes are the datagram of a drawop with the page, the time and the operation of the drawing; its source
- * and its number do not matter, as the drawing gets a name of its own. Events as above: the drawing is among what is to be sent, unless it
- * clashes or the board is full.
- * WB_DONE, WB_NO_MOMENT, WB_NO_DATAGRAM + FAULT, WB_NO_DRAWOP, WB_JUDGED, WB_NOT_KEPT, WB_BACK_IN_TIME, WB_LISTENING, WB_NUMBERS,
+ * and its number do not matter, as the drawing gets a name of its own. A judged host has the time of day, so there the drawop's time does not
+ * matter either. Events as above, at a judged host as at wb_came_from: the drawing is among what is to be sent, unless it clashes or the board
+ * is full.
+ * WB_DONE, WB_NO_MOMENT, WB_NO_DATAGRAM + FAULT, WB_NO_DRAWOP, WB_NOT_KEPT, WB_TWIN, WB_FULL, WB_BACK_IN_TIME, WB_LISTENING, WB_NUMBERS,
  * WB_NO_OPERATION + FAULT, WB_CLOSED or WB_MEMORY. */
 uint32_t wb_add(wb_host *host, uint64_t now, const void *drawop, size_t length);
 

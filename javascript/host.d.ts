@@ -21,6 +21,41 @@ export class Block {
     /** The datagrams to send. */
     sent(): Uint8Array[];
 }
+/** What became of a drawop that was handed in.
+ * @typedef {'new' | 'again' | 'clash' | 'full'} Became */
+/** An origin as a host knows it, by the numbers of its place and of its owner, if it has one.
+ * @typedef {{ place: bigint, owner: bigint | null }} OriginNumbers */
+/** From where a stream is to be taken, and how many numbers are missing.
+ * @typedef {{ place: bigint, owner: bigint | null, lacking: bigint }} Fetch */
+/** What a call came to. If it was refused, nothing has changed. Most of it a judged host alone gives: it says what to record before what is sent. */
+export class Answer {
+    /** Why it was refused, as a line of the same meaning says it.
+     * @type {string | null} */
+    refused: string | null;
+    /** The moment at which to call `tick` next.
+     * @type {number | null} */
+    due: number | null;
+    /** Why a judged host dropped what came.
+     * @type {string | null} */
+    dropped: string | null;
+    /** Lines of the record, to be kept before anything is sent.
+     * @type {string[]} */
+    records: string[];
+    /** Names of what a judged host holds now and did not before, each as SOURCE C/N NUMBER.
+     * @type {string[]} */
+    drew: string[];
+    /** Datagrams to be sent to all others.
+     * @type {Uint8Array[]} */
+    send: Uint8Array[];
+    /** What became of the drawop that was handed in or drawn.
+     * @type {Became | null} */
+    became: Became | null;
+    /** @type {Fetch | null} */
+    fetch: Fetch | null;
+    /** What people are to be warned of, in the words of a line.
+     * @type {string | null} */
+    warning: string | null;
+}
 /** A host of one member, with a memory of its own. Nothing here waits: each call answers before it returns. HostEnded where it broke off. */
 export class Host {
     /** @param {WebAssembly.Instance} instance */
@@ -34,9 +69,18 @@ export class Host {
     told: Room;
     sizePlace: bigint;
     place: bigint;
-    /** A datagram came in. The answer refuses bytes that are none, or that no host takes.
+    /** A datagram came in, at a host that is not judged. The answer refuses bytes that are none, or that no host takes.
      * @param {number} now @param {Uint8Array} datagram */
     came(now: number, datagram: Uint8Array): Answer;
+    /** Bytes came in from an origin, at a judged host.
+     * @param {number} now @param {OriginNumbers} origin @param {Uint8Array} datagram */
+    cameFrom(now: number, { place, owner }: OriginNumbers, datagram: Uint8Array): Answer;
+    /** The time of day at a moment, in microseconds since 1970, at a judged host.
+     * @param {number} now @param {number} time */
+    wall(now: number, time: number): Answer;
+    /** The network says that whoever spoke from an origin is gone, at a judged host.
+     * @param {number} now @param {OriginNumbers} origin */
+    gone(now: number, { place, owner }: OriginNumbers): Answer;
     /** Time goes on to a moment.
      * @param {number} now */
     tick(now: number): Answer;
@@ -53,8 +97,8 @@ export class Host {
     /** The moment at which to call `tick` next. */
     due(): number | null;
     nextDue(): number | null;
-    /** Makes a call, and takes its events: what is to be sent, and then what became of a drawop.
-     * @param {() => number} call @returns {Answer} */
+    /** Makes a call, and takes its events.
+     * @param {() => number} call */
     answer(call: () => number): Answer;
     /** The block of a line.
      * @param {string} line */
@@ -79,6 +123,14 @@ export class Host {
     next(): number;
     /** The bytes of the event that was fetched. */
     copied(): Uint8Array;
+    /** The text of the event that was fetched: a line of the record. For so few letters a decoder takes longer. */
+    textIn(): string;
+    /** A number of the event that was fetched, by its place among those.
+     * @param {number} index */
+    numberIn(index: number): number;
+    /** The same of numbers of 64 bits.
+     * @param {number} index */
+    longIn(index: number): bigint;
     /** Begins anew, without a board. */
     renew(): void;
     /** The status of a call, where that did not end the host.
@@ -105,14 +157,19 @@ export class Program {
  */
 export type Became = 'new' | 'again' | 'clash' | 'full';
 /**
- * What a call came to: datagrams to be sent to all others, the moment at which to call `tick` next, and what became of a drawop. Where the call
- * was refused, why: then nothing has changed.
+ * An origin as a host knows it, by the numbers of its place and of its owner, if it has one.
  */
-export type Answer = {
-    send: Uint8Array[];
-    due: number | null;
-    became: Became | null;
-    refused: string | null;
+export type OriginNumbers = {
+    place: bigint;
+    owner: bigint | null;
+};
+/**
+ * From where a stream is to be taken, and how many numbers are missing.
+ */
+export type Fetch = {
+    place: bigint;
+    owner: bigint | null;
+    lacking: bigint;
 };
 /**
  * An event, by its kind and its bytes, as `include/wb.h` has them.
@@ -133,6 +190,9 @@ export type Calls = {
     wb_line: (host: bigint, line: bigint, length: bigint, buffer: bigint, room: bigint, size: bigint) => number;
     wb_block: (host: bigint, buffer: bigint, room: bigint, size: bigint) => number;
     wb_came: (host: bigint, now: bigint, datagram: bigint, length: bigint) => number;
+    wb_came_from: (host: bigint, now: bigint, place: bigint, owner: bigint, hasOwner: number, datagram: bigint, length: bigint) => number;
+    wb_wall: (host: bigint, now: bigint, wall: bigint) => number;
+    wb_gone: (host: bigint, now: bigint, place: bigint, owner: bigint, hasOwner: number) => number;
     wb_tick: (host: bigint, now: bigint) => number;
     wb_add: (host: bigint, now: bigint, drawop: bigint, length: bigint) => number;
     wb_ask: (host: bigint, question: number, creator: number, number: number, width: number, height: number) => number;

@@ -24,13 +24,13 @@ export class Host {
     /** @param {string} line */
     must(line: string): Block;
     /** @param {Answer} answer */
-    heed(answer: Answer): import("./host.js").Answer;
+    heed(answer: Answer): Answer;
     /** A datagram came in. The answer refuses bytes that are not one, or that no host takes; this program is not to blame.
      * @param {number} now @param {Uint8Array} datagram */
-    came(now: number, datagram: Uint8Array): import("./host.js").Answer;
+    came(now: number, datagram: Uint8Array): Answer;
     /** Time is `now`: to be called when the clock comes to `due`, and before more is handed in then.
      * @param {number} now */
-    tick(now: number): import("./host.js").Answer;
+    tick(now: number): Answer;
     /** The user draws, as `line 0 0 4 0 *`, `text 0 1 "hello"` or `delete 7 1`. If two drawops cover one cell, the one with the greater time is
      * seen: use the microseconds of the time of day.
      * @param {number} now @param {number | bigint} time @param {string} page as `1/1` @param {string} operation @returns {Answer} */
@@ -62,7 +62,6 @@ export class Host {
     /** Lets the host go, with its memory. */
     end(): void;
 }
-export type Answer = import('./host.js').Answer;
 export type Became = import('./host.js').Became;
 /**
  * A drawop as a page shows it. Its operation is in words, as `line 0 0 4 0 *`.
@@ -99,8 +98,9 @@ export type Opening = {
     rate?: number | undefined;
     listen?: number | undefined;
 };
+import { Answer } from "./host.js";
 import { Host as BareHost } from "./host.js";
 import { HostEnded } from "./host.js";
 import { Program } from "./host.js";
 import { Block } from "./host.js";
-export { BareHost, HostEnded, Program };
+export { Answer, BareHost, HostEnded, Program };

@@ -1,12 +1,11 @@
 /** A member without a network and a clock, for browsers and Node: a program hands it datagrams and moments, and sends what it answers. */
-import { Block, HostEnded, Host as BareHost, Program } from './host.js';
+import { Answer, Block, HostEnded, Host as BareHost, Program } from './host.js';
 
-export { BareHost, HostEnded, Program };
+export { Answer, BareHost, HostEnded, Program };
 
 /** A call that is the program's own was refused. It changed nothing. */
 export class Refused extends Error {}
 
-/** @typedef {import('./host.js').Answer} Answer */
 /** @typedef {import('./host.js').Became} Became */
 
 /** A drawop as a page shows it. Its operation is in words, as `line 0 0 4 0 *`.
@@ -112,7 +111,7 @@ export class Host {
    * @param {number} now @param {number | bigint} time @param {string} page as `1/1` @param {string} operation @returns {Answer} */
   add(now, time, page, operation) {
     const block = this.must(`add ${now} ${time} ${page} ${operation}`), became = OUTCOMES[block.lines[block.lines.length - 1] ?? ''] ?? null;
-    return { send: block.sent(), due: this.due, became, refused: null };
+    return Object.assign(new Answer(), { send: block.sent(), due: this.due, became });
   }
 
   /** Gives the timers other constants, 1 to 16 each.

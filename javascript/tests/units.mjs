@@ -25,6 +25,9 @@ async function raised(call) {
 
 const program = await load(process.argv[2]);
 
+/** What a host that is not judged answers. */
+const brief = ({ send, due, became, refused }) => ({ send, due, became, refused });
+
 // hosts
 const one = await Host.open(1, { program, seed: 42n }), two = await Host.open(2, { program, seed: 43n, listen: 1000 });
 judge('a host has something to do', one.due, 34_890);
@@ -35,7 +38,7 @@ judge('and then known', (await two.came(600, drawn.send[0])).became, 'again');
 judge('it is shown', await two.show('1/1', 6, 1), ['***** ']);
 judge('and told', await two.view('1/1'), [{ source: 1, page: '1/1', number: 1, time: 5n, operation: 'line 0 0 4 0 *' }]);
 const { due } = two;
-judge('what is no datagram is refused, and what is due is as it was', await two.came(700, new Uint8Array([87, 66])), { send: [], due, became: null, refused: 'datagram 1' });
+judge('what is no datagram is refused, and what is due is as it was', brief(await two.came(700, new Uint8Array([87, 66]))), { send: [], due, became: null, refused: 'datagram 1' });
 judge('so is a drawing while it listens', await raised(() => two.add(800, 5, '1/1', 'line 0 0 4 0 +')), 'Refused');
 judge('after which it is known too', two.due, due);
 judge('time goes on', await raised(() => two.tick(10)), 'Refused');
@@ -58,7 +61,7 @@ two.end();
 const hex = (bytes) => Buffer.from(bytes).toString('hex'), unhex = (digits) => new Uint8Array(Buffer.from(digits, 'hex'));
 const STROKE = '57420101000000220000000700000007000000010000000200000000000000140100000000000400002b';
 const OURS = '574201010000002100000001000000070000000100000001000000000000001e030001000103796573';
-const bare = await program.start(), digits = ({ send, ...more }) => ({ send: send.map(hex), ...more });
+const bare = await program.start(), digits = (answer) => ({ ...brief(answer), send: answer.send.map(hex) });
 judge('a host has no board at first', bare.came(1, unhex(STROKE)).refused, 'not kept');
 judge('lines open it', ['board 1 3 1 42', 'keep 4000 1000'].map((line) => bare.ask(line).due), [null, 34_890]);
 judge('nothing is added while it listens', digits(bare.add(500, unhex(OURS))), { send: [], due: 34_890, became: null, refused: 'listening' });
@@ -73,6 +76,16 @@ judge('refusals', [bare.tick(5), bare.tick(2 ** 48), bare.add(34_890, unhex('574
 judge('a question has an event for each item', bare.events(3, 7, 1).events.map(({ kind, bytes }) => [kind, hex(bytes)]), [[7, '000000070000000100000001']]);
 judge('what is none has none', bare.events(9, 7, 1), { events: [], refused: 'no question' });
 judge('blocks and events that are long', [bare.ask('show 7 1 200 100').lines.length, bare.events(7, 7, 1, 200, 100).events[0].bytes.length], [100, 20_100]);
+judge('a host that is not judged knows no origins', bare.cameFrom(34_890, { place: 5n, owner: null }, unhex(STROKE)).refused, 'not judged');
+bare.renew();
+judge('a judged host', ['board 1 1024 1 42', 'judge 0 4000 0 1764000000000000 - -'].map((line) => bare.ask(line).fault), [null, null]);
+const judged = bare.cameFrom(10, { place: 5n, owner: 6n }, unhex(STROKE));
+judge('says what to record, and what it holds', [judged.records, judged.drew, judged.became, judged.dropped], [['tick 10', 'draw 7 7/1 2 20 line 0 0 4 0 +'], ['7 7/1 2'], 'new', null]);
+judge('and why it drops', [STROKE, '5742'].map((given) => bare.cameFrom(11, { place: 5n, owner: null }, unhex(given)).dropped), ['again', 'datagram']);
+judge('who is gone, and the time of day', [bare.gone(12, { place: 5n, owner: null }), bare.wall(13, 5_000_000), bare.wall(14, 2 ** 62)].map(({ refused }) => refused), [null, null, 'number']);
+judge('what comes without its origin is refused', bare.came(14, unhex(STROKE)).refused, 'judged');
+const ours = bare.add(14, unhex(OURS));
+judge('a drawing is recorded, at its own time', [ours.records, ours.send.length], [['tick 14', 'say draw 1 7/1 1 5000001 text 1 1 "yes"'], 1]);
 bare.renew();
 judge('it begins anew', [bare.due(), bare.ask('pages').fault], [null, 'no board']);
 bare.memory.grow(1);

@@ -42,9 +42,46 @@ export async function blocksOf(program, lines) {
   return lines.map((line) => blockOf(host, line, spelling)).join('');
 }
 
+/** What a judged host gives, line by line, as it is dealt with. */
+function judgedRows({ dropped, records, drew, send, became, fetch, warning }) {
+  const place = fetch && (fetch.owner === null ? fetch.place : `${fetch.place}@${fetch.owner}`), rows = (word, said) => said.map((one) => `${word} ${one}`);
+  const names = drew.map((name) => name.split(/[ /]/)).map(([source, creator, number, seq]) => `${creator} ${number} ${source} ${seq}`);
+  return [...rows('dropped', dropped === null ? [] : [dropped]), ...rows('record', records), ...rows('drew', names), ...rows('send', send.map(hex)),
+    ...rows('became', became === null ? [] : [became === 'full' ? 'left' : became]), ...(fetch ? [`fetch ${place} ${fetch.lacking}`] : []), ...rows('warn', warning === null ? [] : [warning])];
+}
+
+/** An origin as a call has it. */
+function originOf(word) {
+  const [place, owner] = word.split('@');
+  return { place: BigInt(place), owner: owner === undefined ? null : BigInt(owner) };
+}
+
+/** What a line that acts at a judged host comes to by a call by bytes. */
+const JUDGED = {
+  came: (host, [now, origin, digits]) => host.cameFrom(Number(now), originOf(origin), unhex(digits)),
+  tick: (host, [now]) => host.tick(Number(now)),
+  wall: (host, [now, time]) => host.wall(Number(now), Number(time)),
+  gone: (host, [now, origin]) => host.gone(Number(now), originOf(origin)),
+  add: (host, [now, page, ...operation], spelling) => host.add(Number(now), draftOf(spelling, `add ${now} 77 ${page} ${operation.join(' ')}`)),
+};
+
+/** The same at a judged host. By bytes the place of a wrong word is that in a line that has the time too. */
+function judgedBlockOf(host, line, spelling) {
+  const [word, ...given] = line.split(' ');
+  if (word in QUESTIONS) return answered(host, word, given.map(Number));
+  if (!(word in JUDGED)) return host.text(line);
+  const answer = JUDGED[word](host, given, spelling);
+  return blockBy(host, judgedRows(answer), answer.refused && answer.refused.replace('word 6', 'word 5'));
+}
+
+/** Hosts that judge. */
+const judging = new WeakSet();
+
 /** The block of a line, by a call by bytes where there is one for it. `spelling` is a host that says what a drawing is as bytes. */
 export function blockOf(host, line, spelling) {
   const [word, ...given] = line.split(' ');
+  if (judging.has(host)) return judgedBlockOf(host, line, spelling);
+  if (word === 'judge') judging.add(host);
   if (word === 'came') return told(host, host.came(Number(given[0]), unhex(given[1])), false);
   if (word === 'tick') return told(host, host.tick(Number(given[0])), false);
   if (word === 'add') return told(host, host.add(Number(given[0]), draftOf(spelling, line)), true);

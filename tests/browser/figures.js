@@ -1,9 +1,10 @@
 // Measures the modules in the browser that opens this: the milliseconds to a first answer, the microseconds of a datagram that came, by bytes and by
-// lines to a self-managing host and by lines to a judged one, the milliseconds of a canvas and of a start from a record of 60,000 drawops, and the bytes of the memory. The datagrams are made
-// by the modules themselves, as hosts of their sources say them.
+// lines to a self-managing host and to a judged one, the milliseconds of a canvas and of a start from a record of 60,000 drawops, and the bytes of the
+// memory. The datagrams are made by the modules themselves, as hosts of their sources say them.
 const folder = new URL(document.body.dataset.folder, location.href);
 const [{ Program, isWide }, { hex }] = await Promise.all(['host', 'datagram'].map((name) => import(new URL(`web/member/${name}.js`, folder).href)));
 
+const MEMBER = { place: 777n, owner: null }; // which has answered the judged host
 const DRAWOPS = 60_000, ROUNDS = 5, AT_ONCE = 1_000;
 
 const median = (numbers) => [...numbers].sort((one, other) => one - other)[numbers.length >> 1];
@@ -43,14 +44,16 @@ async function measure(wide) {
     load.push(await timed(async () => { program = await Program.load(folder, wide); }));
     start.push(await timed(async () => { host = await begun(program); }));
   }
-  const made = await datagrams(program), other = await begun(program), fresh = await judging(program), [judged, since] = await judging(program);
+  const made = await datagrams(program), other = await begun(program), fresh = await judging(program);
+  const [judged, since] = await judging(program), [lined, sinceThen] = await judging(program);
   const byBytes = await arrivals(made, (now, bytes) => host.came(now, bytes), async (count) => {
     if (count === 4_000) parts.canvasOf4000 = median(await rounds(() => host.ask('show 7 1 80 25')));
   });
   const byLines = await arrivals(made, (now, bytes) => other.ask(`came ${now} ${hex(bytes)}`));
-  const byJudged = await arrivals(made, (now, bytes) => judged.ask(`came ${since + now} 777 ${hex(bytes)}`));
+  const judgedByBytes = await arrivals(made, (now, bytes) => judged.cameFrom(since + now, MEMBER, bytes));
+  const judgedByLines = await arrivals(made, (now, bytes) => lined.ask(`came ${sinceThen + now} 777 ${hex(bytes)}`));
   const again = await timed(() => { for (const bytes of made) fresh[0].ask(`held datagram ${hex(bytes)}`); });
-  return { wide, load: median(load), start: median(start), byBytes, byLines, byJudged, ...parts, canvas: median(await rounds(() => host.ask('show 7 1 80 25'))),
+  return { wide, load: median(load), start: median(start), byBytes, byLines, judgedByBytes, judgedByLines, ...parts, canvas: median(await rounds(() => host.ask('show 7 1 80 25'))),
     tick: await ticks(host), again, memory: [host, other, judged].map(({ memory }) => memory.buffer.byteLength), held: host.ask('pages').lines };
 }
 

@@ -5,7 +5,7 @@ import { Board } from '../../web/member/board.js';
 import { FEW, NEAR, SEVERAL } from '../../web/member/constants.js';
 import { hex, readDatagram, unhex } from '../../web/member/datagram.js';
 import { Drawn } from '../../web/member/drawn.js';
-import { Block } from '../../web/member/host.js';
+import { Answer, Block } from '../../web/member/host.js';
 import { Judging } from '../../web/member/judging.js';
 import { numberOf, wordOf } from '../../web/member/origins.js';
 import { People } from '../../web/member/people.js';
@@ -35,7 +35,14 @@ export function testReported() {
 
 // ---- judging
 
-/** In the place of a host: it answers all lines of one kind alike, and notes them. */
+/** What the lines of a block say, as a call by bytes gives it. */
+function answerOf(lines, close) {
+  const block = new Block(lines, close), [dropped, became, warning] = ['dropped', 'became', 'warn'].map((word) => block.said(word)[0] ?? null);
+  return Object.assign(new Answer(), { dropped, records: block.said('record'), drew: block.said('drew'), send: block.sent(),
+    became: became === 'left' ? 'full' : became, warning, due: block.due, refused: block.fault });
+}
+
+/** In the place of a host: it answers all lines of one kind alike, and notes them. Calls by bytes are noted as the lines of the same meaning. */
 class Answering {
   constructor() {
     this.said = { came: ['drew 7 1 7 1', 'send 00ff', 'became new'] };
@@ -44,9 +51,25 @@ class Answering {
   }
 
   ask(line) {
-    const [kind] = line.split(' ', 1);
     this.told.push(line);
-    return new Block(this.said[kind] ?? [], kind === 'came' ? this.close : 'ok never');
+    return new Block(this.said[line.split(' ', 1)[0]] ?? [], 'ok never');
+  }
+
+  answer(kind, ...words) {
+    this.told.push([kind, ...words].join(' '));
+    return answerOf(this.said[kind] ?? [], kind === 'came' ? this.close : 'ok never');
+  }
+
+  cameFrom(now, { place, owner }, bytes) {
+    return this.answer('came', now, owner === null ? place : `${place}@${owner}`, hex(bytes));
+  }
+
+  wall(now, time) {
+    return this.answer('wall', now, time);
+  }
+
+  gone(now, { place }) {
+    return this.answer('gone', now, place);
   }
 
   members(...members) {
@@ -60,7 +83,7 @@ function memberOf({ isReady = true, cells = 1_000, strange = [] } = {}) {
   const member = { me: 1, page: '7/1', isReady, drawn: new Drawn(), alarms: new Alarms(), wire: new Wire(), host, record, sent, ticks, at: 0 };
   const board = new Board(null, record, { rate: 4_000, many: NEAR }, { here: null, strangers: null }, (drawop) => member.hold(drawop));
   Object.assign(board, { host, me: 1, cells, readyAt: isReady ? 0 : SECOND, strange: new Set(strange), wall: Date.now() * 1_000, now: () => member.at });
-  Object.assign(member, { board, hold: (drawop) => member.drawn.add(drawop), tell: (line) => board.act(line), begin: async () => { member.isReady = true; },
+  Object.assign(member, { board, hold: (drawop) => member.drawn.add(drawop), obey: (answer) => answer, begin: async () => { member.isReady = true; },
     tick: async () => { ticks.push(member.at); }, send: (bytes) => { sent.push(hex(bytes)); return readDatagram(bytes); } });
   member.telling = new Telling(member, (name, news) => { member[name] = news; });
   member.people = new People(member);

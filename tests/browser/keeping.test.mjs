@@ -14,6 +14,7 @@ import { judge } from '../judge.mjs';
 
 const file = process.env.WB_MODULE, PAGE = '1/1', SECOND = 1_000_000;
 const BEYOND = 0x7fff0000; // a place beyond the end of the memory, where a call traps
+const ANYWHERE = { place: '5', owner: null };
 const START = { cells: 100, rate: 4_000, many: '2,8,1,6', mayHaveDrawn: false };
 
 // every kind of line that a record of an earlier page had, with a mark of our own number, and two drawings of ours
@@ -49,7 +50,7 @@ async function testOld(program) {
   const { board, held } = await boardOf(program, record);
   judge('each drawop is held', held.map(({ name }) => name).sort(), ['7 1/1 1', '7 1/1 6', '8 1/1 1']);
   judge('the number is one above what was drawn', [board.me, board.cells, await nextOf(board)], [7, 100, 7]);
-  judge('the host judges, so nothing that acts is taken by bytes', [(await board.tell('look 1 1')).fault, board.host.tick(board.now()).refused], ['kept', 'judged']);
+  judge('the host judges, so nothing comes without its origin', [(await board.tell('look 1 1')).fault, board.host.came(board.now(), unhex(OLD[5].slice(9))).refused], ['kept', 'judged']);
   const { drawop } = await board.draw(PAGE, 'line 0 3 4 3 o'), lines = await record.lines();
   judge('the record keeps its lines, and has the drawing', [lines.slice(0, OLD.length), lines.at(-1), drawop.seq], [OLD, `say ${drawop.words}`, 7]);
   const again = await boardOf(program, record);
@@ -76,7 +77,7 @@ async function testMarks(program) {
   const { board } = await boardOf(program, record);
   judge('a mark of ours whose drawop never came is a number that is not used', await nextOf(board), 6);
   const young = await boardOf(program, new Record(null, 'here', 1), { mayHaveDrawn: true }), listening = young.board.readyAt - young.board.moment;
-  await young.board.came(...await bytesOf(program, 'page-state 9 1/1 1=5'), '5');
+  await young.board.came(...await bytesOf(program, 'page-state 9 1/1 1=5'), ANYWHERE);
   judge('who may have drawn listens', [(await young.board.draw(PAGE, 'line 0 0 4 0 o')).block.fault, listening], ['listening', 6 * SECOND]);
   judge('and counts on from what is told, also at the next start', [await nextOf(young.board), (await young.board.record.lines()).at(-1)], [6, 'page-state 9 1/1 1=5']);
 }
@@ -96,7 +97,7 @@ async function testBegun(program) {
   judge('the time of day', Math.abs(Number(wall) - Date.now() * 1_000) < SECOND, true);
   judge('the rest', [tuned, held], ['tuning 1 1 1 1', heldOf(actsOf(OLD)).lines.map((line) => `held ${line}`)]);
   await board.tune('2,4,1,3');
-  await board.act(`tick ${board.moment + SECOND}`);
+  await board.tick(board.moment + SECOND);
   lines.splice(0);
   await board.beginAgain();
   judge('other constants last, and so does what is left of listening', [lines[2], lines[1].split(' ')[3]], ['tuning 2 4 1 3', '5000000']);
@@ -121,7 +122,7 @@ async function testDraw(program) {
   const before = Date.now() * 1_000, { drawop, block } = await board.draw(PAGE, 'line 0 0 4 0 +');
   judge('a drawing of ours', [drawop.words.replace(drawop.time, 'now'), block.sent().map((bytes) => readDatagram(bytes).words), held.length], ['draw 1 1/1 1 now line 0 0 4 0 +', [drawop.words], 1]);
   judge('at the time of day', Math.abs(drawop.time - before) < SECOND, true);
-  await board.tell(`wall ${board.now()} ${drawop.time - SECOND}`);
+  await board.tellTime(drawop.time - SECOND);
   judge('one of an earlier time lies above it', (await board.draw(PAGE, 'text 0 0 "a b"')).drawop.time, drawop.time + 1);
   const wrong = await board.draw(PAGE, 'delete 1 3');
   judge('one that aims at itself is none', [wrong.block.fault, wrong.drawop], ['word 5: target is the drawop itself', null]);
@@ -155,7 +156,7 @@ async function testEnds(program) {
   await board.beginAgain();
   judge('and so does one that begins again', [await nextOf(board), board.ends.length], [2, 1]);
   const other = new Record(null, 'here', 5), drawn = 'draw 6 1/1 1 60 line 0 2 4 2 +';
-  await board.came(...await bytesOf(program, drawn), '5');
+  await board.came(...await bytesOf(program, drawn), ANYWHERE);
   record.add('page-state 9 1/1 1=9');
   await board.renumber(5, other);
   const lines = await other.lines(), [own] = lines.filter((line) => line.startsWith('datagram '));
@@ -172,13 +173,13 @@ async function testBefore(program) {
   board.clock = () => board.moment;
   record.write = () => { written.push([...record.waiting]); return put.call(record); };
   const words = [1, 2].map((seq) => `draw 6 1/1 ${seq} 60 line 0 2 4 2 +`), [first, second] = await bytesOf(program, ...words);
-  const isDue = async () => (await board.act(`tick ${board.due}`)).sent().length > 0;
-  await board.came(first, '5');
+  const isDue = async () => (await board.tick(board.due)).send.length > 0;
+  await board.came(first, ANYWHERE);
   judge('what nothing is sent with is written soon', [written.length, record.waiting.slice(-1)], [0, [words[0]]]);
   judge('and before the next that is sent', [await isDue(), written.flat().at(-1), record.waiting], [true, words[0], []]);
   record.fault = 'no room';
   const before = written.length;
-  await board.came(second, '5');
+  await board.came(second, ANYWHERE);
   judge('without room nothing that is sent waits for it', [await isDue(), record.waiting.slice(-1), written.length], [true, [words[1]], before]);
   judge('the host took them', (await board.view(PAGE)).map((drawop) => drawop.words), words);
 }
@@ -207,7 +208,7 @@ async function told(program, member, place, ...many) {
 /** The member's next report, in words. */
 async function reportOf(member) {
   const isReport = ({ kind }) => kind === 'session-message';
-  for (member.sent.length = 0; !member.sent.some(isReport);) await member.tell(`tick ${member.board.due}`);
+  for (member.sent.length = 0; !member.sent.some(isReport);) await member.obey(member.board.tick(member.board.due));
   return member.sent.find(isReport).words;
 }
 
@@ -227,7 +228,7 @@ async function testOwnMarks(program) {
   judge('none that is too great', await told(program, member, 'x', 'page-state 9 1/1 1=65537', 'page-state 9 1/1 1=65536'), ['a mark of ours', null]);
   judge('is kept', [(await marks()).length, member.alarms.told()], [2, ['a report tells of a drawing of ours that we did not make']]);
   member.alarms.given.clear();
-  await member.tell(`tick ${member.board.readyAt}`);
+  await member.obey(member.board.tick(member.board.readyAt));
   await member.begin();
   judge('after it none changes anything, and it is told', [await told(program, member, 'x', 'page-state 9 1/1 1=70000'), (await marks()).length, member.alarms.told()],
     [[null], 2, ['a report tells of a drawing of ours that we did not make']]);

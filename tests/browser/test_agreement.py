@@ -101,6 +101,8 @@ def check_judged(facts: Facts, node: str, module: Path) -> None:
     conversations_ = judged_conversations()
     differ = [first_difference(given, by_module(node, module, given)[0], printed) for given, printed in conversations_]
     facts("the module judges as the model does", [each for each in differ if each], [])
+    differ = [first_difference(given, by_module(node, module, given, "bytes")[0], printed) for given, printed in conversations_]
+    facts("and so it does by bytes", [each for each in differ if each], [])
     dropped = {why for _, printed in conversations_ for why in re.findall("^dropped (.*)", printed, re.MULTILINE)}
     facts.holds("nearly each reason to drop a datagram is among them", len(dropped) > 8, dropped)
 

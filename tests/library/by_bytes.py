@@ -3,21 +3,28 @@
 from __future__ import annotations
 
 import ctypes
+import re
 import subprocess
 from pathlib import Path
 
 from ..host.program import program
 from .calls import Host
 
-SENT, NEW, AGAIN, CLASH, LEFT, SHOWN, MISSING, GREATEST, PAGE, NEXT, PAINTED = range(1, 12)
+SENT, NEW, AGAIN, CLASH, LEFT, SHOWN, MISSING, GREATEST, PAGE, NEXT, PAINTED, DROPPED, RECORD, DREW, FETCH, WARN = range(1, 17)
 NEVER = 2**64 - 1
 BATCHES = {NEW: "batch 1 0 0 0", AGAIN: "batch 0 1 0 0", CLASH: "batch 0 0 1 0", LEFT: "batch 0 0 0 1"}
 QUESTIONS = {"next": 1, "view": 2, "gaps": 3, "report": 4, "pages": 5, "known": 6, "show": 7}
-REFUSED = {7: "not kept", 8: "number", 9: "back in time", 10: "listening", 11: "ours", 12: "too many"}
+REFUSED = {7: "not kept", 8: "number", 9: "back in time", 10: "listening", 11: "ours", 12: "too many", 17: "twin", 18: "full", 19: "number"}
 FIELDS = ["sequence number 0", "coordinate over 4095", "glyph outside ! to ~", "text of 0 or over 64 bytes", "text byte outside space to ~",
           "target sequence number 0", "target is the drawop itself"]
 # the name of a drawing that is handed in: the drawing gets another, and is aimed at no such name
 DRAFT = "draw 4294967295 {page} 4294967295 {time} {operation}"
+
+# at a judged host: what became of a drawop, why what came is dropped, and what people are warned of
+FATES = {NEW: "new", AGAIN: "again", CLASH: "clash", LEFT: "left"}
+DROPS = ["datagram", "own", "speaks", "crowd", "mark", "stranger", "flood", "again", "ahead", "full", "share", "pages"]
+WARNINGS = ["speaks", "mark", "twin", "full", "share"]
+JUDGED = re.compile(r"came \d+ \d+(?:@\d+)? (?:[0-9a-fA-F]{2})+|tick \d+|wall \d+ \d+|gone \d+ \d+(?:@\d+)?|add \d+ \d+/\d+ .*")
 
 
 def refusal(status: int) -> str:
@@ -42,6 +49,14 @@ def drafts(lines: list[str]) -> dict[str, bytes]:
     adds = [line for line in dict.fromkeys(lines) if line.startswith("add ")]
     parts = [line.split(" ", 4) for line in adds]
     made = in_hex([DRAFT.format(time=time, page=page, operation=operation) for _, _, time, page, operation in parts]) if adds else []
+    return {line: bytes.fromhex(digits) for line, digits in zip(adds, made)}
+
+
+def judged_drafts(lines: list[str]) -> dict[str, bytes]:
+    """The same of lines of a judged host, which have no time."""
+    adds = [line for line in dict.fromkeys(lines) if line.startswith("add ")]
+    parts = [line.split(" ", 3) for line in adds]
+    made = in_hex([DRAFT.format(time=77, page=page, operation=operation) for _, _, page, operation in parts]) if adds else []
     return {line: bytes.fromhex(digits) for line, digits in zip(adds, made)}
 
 
@@ -127,6 +142,66 @@ class ByBytes(Host):
             return self.told(self.tick(int(arguments[0])), True)
         if word in QUESTIONS:
             return self.ask(word, [int(it) for it in arguments])
+        return self.text(line)
+
+    def text(self, line: str) -> str:
+        """The block of a line, by a line."""
         status, size, block = self.line(line.encode(), 1 << 16)
         assert status == 0
         return block[:size].decode()
+
+
+class JudgedByBytes(ByBytes):
+    """A judged host whose lines `came`, `tick`, `add`, `wall`, `gone` and questions become calls by bytes."""
+
+    def row(self, kind: int, its: bytes) -> str:
+        """The line of an event."""
+        if kind == SENT:
+            return f"send {its.hex()}"
+        if kind in FATES:
+            assert its == b""
+            return f"became {FATES[kind]}"
+        if kind == RECORD:
+            return f"record {its.decode('latin-1')}"
+        if kind == FETCH:
+            place, lacking, *owner = (int.from_bytes(its[at:at + 8], "big") for at in range(0, len(its), 8))
+            return f"fetch {place}{''.join(f'@{it}' for it in owner)} {lacking}"
+        first, *more = numbers(its)
+        if kind == DREW:
+            creator, number, seq = more
+            return f"drew {creator} {number} {first} {seq}"
+        if kind == DROPPED:
+            return f"dropped {DROPS[first - 1]}"
+        assert kind == WARN
+        return " ".join(["warn", WARNINGS[first - 1], *map(str, more)])
+
+    def judged(self, status: int) -> str:
+        return self.said(status, [self.row(*event) for event in self.events()])
+
+    def origin(self, word: str) -> tuple[ctypes.c_uint64, ctypes.c_uint64, ctypes.c_bool]:
+        place, _, owner = word.partition("@")
+        return ctypes.c_uint64(int(place)), ctypes.c_uint64(int(owner or 77)), ctypes.c_bool(bool(owner))
+
+    def came_from(self, now: int, origin: str, told: bytes) -> int:
+        return int(self.calls.wb_came_from(ctypes.byref(self.held), ctypes.c_uint64(now), *self.origin(origin), told, ctypes.c_size_t(len(told))))
+
+    def wall(self, now: int, wall: int) -> int:
+        return int(self.calls.wb_wall(ctypes.byref(self.held), ctypes.c_uint64(now), ctypes.c_uint64(wall)))
+
+    def gone(self, now: int, origin: str) -> int:
+        return int(self.calls.wb_gone(ctypes.byref(self.held), ctypes.c_uint64(now), *self.origin(origin)))
+
+    def block_of(self, line: str) -> str:
+        if not JUDGED.fullmatch(line) or (line.startswith("add ") and line not in self.drafts):
+            return super().block_of(line) if line.split(" ")[0] in QUESTIONS else self.text(line)
+        word, now, *rest = line.split(" ")
+        if word == "came":
+            return self.judged(self.came_from(int(now), rest[0], bytes.fromhex(rest[1])))
+        if word == "tick":
+            return self.judged(self.tick(int(now)))
+        if word == "wall":
+            return self.judged(self.wall(int(now), int(rest[0])))
+        if word == "gone":
+            return self.judged(self.gone(int(now), rest[0]))
+        # by bytes the place of a wrong word is that in a line of a host that is not judged, which has the time too
+        return self.judged(self.add(int(now), self.drafts[line])).replace("refused word 6", "refused word 5")

@@ -17,21 +17,22 @@ from ..host.conversations import JUDGED_HOST, documented, parted
 from ..host.program import TOP, program
 from ..host.test_drivers import Relay
 from ..host.test_judged import CONVERSATIONS, JudgedSession
-from .by_bytes import GREATEST, MISSING, NEXT, PAGE, PAINTED, SENT, SHOWN, ByBytes
+from .by_bytes import DREW, DROPPED, GREATEST, MISSING, NEW, NEXT, PAGE, PAINTED, RECORD, SENT, SHOWN, JudgedByBytes, judged_drafts
 from .calls import Host
 from .test_bytes import drawn
 from .test_library import by_library, by_program
 
-DONE, NOT_KEPT, NO_MOMENT, NO_DRAWOP, NO_QUESTION, JUDGED = 0, 7, 8, 13, 14, 15
+DONE, CLOSED, NOT_KEPT, NO_MOMENT, BACK_IN_TIME = 0, 3, 7, 8, 9
+NO_DRAWOP, NO_QUESTION, JUDGED, NOT_JUDGED, NO_TIME = 13, 14, 15, 16, 19
 RANDOM = 20
 DRAWINGS = 12
 PATIENCE = 60.0  # seconds
 
 
 @pytest.fixture
-def judged(library: Path) -> ByBytes:
+def judged(library: Path) -> JudgedByBytes:
     """A judged host that holds a drawop of a stranger."""
-    host = ByBytes(library)
+    host = JudgedByBytes(library)
     host.open()
     for line in ("board 1 1024 1 42", "judge 0 4000 0 1764000000000000 - -", f"came 10 5 {drawn(9, 2).hex()}"):
         assert b"refused" not in host.line(line.encode(), 400)[2]
@@ -80,22 +81,71 @@ def test_the_same_blocks_as_the_program(host_in_c: Path) -> None:
 # ---- calls by bytes
 
 
-def test_calls_that_act_are_refused(judged: ByBytes) -> None:
-    """They change nothing: what the host says of itself afterwards is what it said before, and lines go on as if they had not been."""
+def compare(library: Path, given: list[str]) -> int:
+    """How many lines of a conversation were made calls by bytes; each block is that of the line."""
+    lines, calls = Host(library), JudgedByBytes(library)
+    calls.drafts = judged_drafts(given)
+    assert (lines.open(), calls.open()) == (DONE, DONE)
+    for line in given:
+        _, size, block = lines.line(line.encode(), 1 << 16)
+        assert calls.block_of(line) == block[:size].decode(), line
+    lines.close()
+    calls.close()
+    return calls.made
+
+
+@pytest.mark.parametrize("seed", range(RANDOM))
+def test_the_same_by_bytes(library: Path, seed: int) -> None:
+    """Event for event, and each in its place."""
+    given = JudgedSession(random.Random(1000 + seed)).conversation(200)[0].splitlines()
+    assert compare(library, given) > 150
+
+
+def test_the_same_over_what_was_worked_out(library: Path) -> None:
+    made = sum(compare(library, [line for line in parted(conversation)[0].splitlines() if line]) for conversation in CONVERSATIONS.values())
+    assert made > 40
+
+
+def test_what_comes_without_its_origin_is_refused(judged: JudgedByBytes) -> None:
+    """It changes nothing: what the host says of itself afterwards is what it said before."""
     asked = [b"members", b"list 9", b"report 7 1", b"gaps 7 1", b"next 7 1"]
     before = [judged.line(line, 400)[2] for line in asked]
     good, ask_pages = drawn(9, 1), bytes.fromhex("574201040000000400000009")
     assert [judged.came(11, told) for told in (good, ask_pages, drawn(1, 2**31))] == [JUDGED] * 3
-    assert (judged.tick(2**47), judged.tick(0), judged.add(11, good)) == (JUDGED,) * 3
     assert (judged.tick(2**48), judged.came(11, good[:-1]), judged.add(11, ask_pages)) == (NO_MOMENT, 101, NO_DRAWOP)
+    assert (judged.came_from(2**48, "5", good), judged.wall(2**48, 5), judged.gone(2**48, "5"), judged.wall(11, 2**62)) == (NO_MOMENT, NO_MOMENT, NO_MOMENT, NO_TIME)
+    assert (judged.came_from(9, "5", good), judged.tick(9), judged.wall(9, 5), judged.gone(9, "5@6"), judged.add(9, good)) == (BACK_IN_TIME,) * 5
     assert judged.events() == []
     assert [judged.line(line, 400)[2] for line in asked] == before
     assert judged.line(b"datagram " + good.hex().encode(), 40)[2].startswith(b"refused kept\n"), "a line that acts without an origin"
-    assert judged.line(b"tick 9", 40)[2].startswith(b"refused back in time\n"), "the moment is that of the last line"
     judged.close()
 
 
-def test_questions_by_bytes_are_answered(judged: ByBytes) -> None:
+def test_lines_and_bytes_are_mixed(judged: JudgedByBytes) -> None:
+    """The record stands before what is sent, and the events of two calls one behind the other. The drawop's own name and time do not matter."""
+    assert (judged.wall(11, 5_000_000), judged.add(12, drawn(0, 2**32 - 1, 77)), judged.came_from(13, "5@6", b"WB")) == (DONE,) * 3
+    assert judged.line(b"next 7 1", 40)[2].startswith(b"next 2\nok "), "events wait, and lines are taken"
+    sent = drawn(1, 1, 5_000_001)
+    said = b"say draw 1 7/1 1 5000001 line 0 0 4 0 *"
+    assert judged.events() == [(RECORD, b"tick 12"), (RECORD, said), (DREW, bytes([0, 0, 0, 1, 0, 0, 0, 7, 0, 0, 0, 1, 0, 0, 0, 1])), (SENT, sent), (NEW, b""),
+                               (DROPPED, bytes([0, 0, 0, 1]))]
+    assert judged.line(b"tick 9", 40)[2].startswith(b"refused back in time\n"), "the moment is that of the last call"
+    judged.close()
+
+
+def test_only_a_judged_host_takes_origins(library: Path) -> None:
+    host = JudgedByBytes(library)
+    assert (host.came_from(5, "1", drawn(9, 1)), host.wall(5, 6), host.gone(5, "1")) == (CLOSED,) * 3
+    host.open()
+    for line in ("board 1 100 1 42", "keep 4000 0"):
+        assert (host.came_from(5, "1", drawn(9, 1)), host.came_from(5, "1", b""), host.wall(5, 6), host.gone(5, "1")) == (NOT_JUDGED,) * 4
+        host.text(line)
+    assert (host.came_from(5, "1", drawn(9, 1)), host.wall(5, 6), host.gone(5, "1")) == (NOT_JUDGED,) * 3
+    assert host.events() == []
+    host.close()
+
+
+def test_questions_by_bytes_are_answered(judged: JudgedByBytes) -> None:
     judged.line(b"add 11 7/1 line 0 0 4 0 +", 900)
     judged.line(b"came 12 5 " + drawn(9, 4).hex().encode(), 900)
     found = []
@@ -114,19 +164,19 @@ def test_questions_by_bytes_are_answered(judged: ByBytes) -> None:
     judged.close()
 
 
-def test_when_it_is_due(judged: ByBytes) -> None:
+def test_when_it_is_due(judged: JudgedByBytes) -> None:
     assert judged.line(b"wall 20 1764000000000020", 40)[2].split(b"\n")[0].decode() == judged.due() != "ok never"
     judged.close()
 
 
 def test_a_line_that_judges_begins_it(library: Path) -> None:
     """Until then bytes that act are refused as at any host that is not self-managing; a self-managing host is not judged any more."""
-    host = ByBytes(library)
+    host = JudgedByBytes(library)
     host.open()
     host.line(b"board 1 1024 1 42", 40)
     assert host.tick(1) == NOT_KEPT
     host.line(b"judge 0 4000 0 1764000000000000 - -", 40)
-    assert host.tick(1) == JUDGED
+    assert (host.tick(1), host.came(1, drawn(9, 1))) == (DONE, JUDGED)
     host.close()
     host.open()
     host.line(b"board 1 1024 1 42", 40)

@@ -26,6 +26,9 @@ def host(library: Path) -> Host:
     return Host(library)
 
 
+# how the header names what the crate warns of, as the words of the line do
+WARNED = {"Impostor": "SPEAKS", "ForgedMark": "MARK", "Twin": "TWIN", "NoCell": "FULL", "NoShare": "SHARE"}
+
 # ---- the calls
 
 
@@ -175,8 +178,18 @@ def test_header_is_that_of_the_calls() -> None:
 def test_header_has_each_event_and_question() -> None:
     header, folder = (TOP / "include/wb.h").read_text(), TOP / "crates/wb_c/src"
     kinds = dict(re.findall(r"^    WB_(\w+) = (\d+)", header.split("enum {")[2], re.MULTILINE))
+    judged = (folder / "judged_event.rt").read_text()
     events = re.findall(r"Event::(\w+)(?:\(_\))? => (\d+),", (folder / "event.rt").read_text())
-    assert kinds == {name.upper(): number for name, number in events} and len(kinds) == 11
+    events += [(name, number) for name, number in re.findall(r"Event::(\w+)(?:\(_\)| \{ \.\. \}) => (\d+),", judged) if name != "Send"]
+    assert kinds == {name.upper(): number for name, number in events} and len(kinds) == 16
     asked = re.findall(r"^    WB_ASK_(\w+) = (\d+)", header.split("enum {")[3], re.MULTILINE)
     questions = re.findall(r"question == (\d) \{\s*return (?:Some\(Query::)?(\w+)", (folder / "query.rt").read_text())
     assert asked == [(name.upper(), number) for number, name in questions] and len(asked) == 7
+
+
+def test_header_has_each_reason_and_warning() -> None:
+    header, judged = (TOP / "include/wb.h").read_text(), (TOP / "crates/wb_c/src/judged_event.rt").read_text()
+    drops = dict(re.findall(r"^    WB_DROP_(\w+) = (\d+)", header, re.MULTILINE))
+    assert drops == {"DATAGRAM": "1", **{name.upper(): number for name, number in re.findall(r"Why::(\w+) => (\d+),", judged)}} and len(drops) == 12
+    warned = [WARNED[name] + number for name, number in re.findall(r"Warning::(\w+)(?:\(_\))? => (\d+),", judged)]
+    assert warned == [name + number for name, number in re.findall(r"^    WB_WARN_(\w+) = (\d+)", header, re.MULTILINE)] and len(warned) == 5

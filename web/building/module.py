@@ -14,12 +14,13 @@ from .wasm import exported, imported
 HERE = Path(__file__).resolve().parent
 
 # what the page calls, as `include/wb.h` declares it, and what it has of the module beside that. A module asks the page for nothing
-CALLS = ["wb_add", "wb_ask", "wb_block", "wb_came", "wb_close", "wb_due", "wb_event", "wb_line", "wb_open", "wb_tick"]
+CALLS = ["wb_add", "wb_ask", "wb_block", "wb_came", "wb_came_from", "wb_close", "wb_due", "wb_event", "wb_gone", "wb_line", "wb_open", "wb_tick",
+         "wb_wall"]
 EXPORTS = ["memory", "page_room", *CALLS]
 
 # how a call is named in a module of tests, which shows it to nothing outside
-HIDDEN = re.compile(r'@"wb_c::(?:calls|by_bytes)::(wb_[a-z]+)"')
-HIDDEN_CALL = re.compile(r"^define internal ([^@\n]*@wb_[a-z]+\()", re.MULTILINE)
+HIDDEN = re.compile(r'@"wb_c::(?:calls|by_bytes)::(wb_[a-z_]+)"')
+HIDDEN_CALL = re.compile(r"^define internal ([^@\n]*@wb_[a-z_]+\()", re.MULTILINE)
 
 STACK_BYTES = 1 << 20
 

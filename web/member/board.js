@@ -1,14 +1,14 @@
 /** A judged host, with its record: what it says is to be recorded is in the record before its datagrams leave, and a host that broke off
  * starts from it. As `live/board.py`. */
 import { FEW } from './constants.js';
-import { hex } from './datagram.js';
 import { drawopIn, heldOf, linesOfOthers, nameIn } from './held.js';
 import { HostEnded } from './host.js';
-import { numberOf } from './origins.js';
+import { numberOf, numbersOf } from './origins.js';
 import { FIRST_LINE, actsOf } from './record.js';
 import { drawopOf, pageWords } from './views.js';
 
 /** @typedef {import('./views.js').Drawop} Drawop */
+/** @typedef {import('./host.js').Answer} Answer */
 /** @typedef {import('./host.js').Block} Block */
 /** @typedef {import('./host.js').Host} Host */
 
@@ -27,8 +27,8 @@ const LISTENING = 6_000_000, LEAST_LISTENING = 1;
  * heard it, and has not guessed it. */
 const MOMENTS = 2 ** 48, LEAD_PART = 512;
 
-/** The lines that tell a host a moment. */
-const MOMENT = /^(?:judge|tick|came|add|wall|gone) (\d+)/;
+/** The lines that have a moment. */
+const MOMENT = /^(?:judge|add) (\d+)/;
 
 /** By how much the time of day may be another than the host reckons. */
 const SLACK = 1_000_000;
@@ -142,7 +142,7 @@ export class Board {
     }
   }
 
-  // ---- lines
+  // ---- calls
 
   /** The block of a line, with the next moment that is due.
    * @param {Host} host @param {string} line */
@@ -152,28 +152,42 @@ export class Board {
     return block;
   }
 
-  /** The block of a line. HostEnded where the host broke off and was started again: then the line did nothing.
-   * @param {string} line */
-  async tell(line) {
+  /** The answer of a call at a moment, with the next one that is due.
+   * @param {number} now @param {Answer} answer */
+  heed(now, answer) {
+    if (answer.refused === null) [this.due, this.moment] = [answer.due, now];
+    return answer;
+  }
+
+  /** What the host gives for a call. HostEnded where it broke off and was started again: then the call did nothing.
+   * @template T @param {(host: Host) => T} call @param {string} what it is, for the record
+   * @returns {Promise<T>} */
+  async call(call, what) {
     if (!this.host) throw new BoardFault('there is no host');
     try {
-      return this.ask(this.host, line);
+      return call(this.host);
     } catch (fault) {
       if (!(fault instanceof HostEnded)) throw fault;
-      this.record.note(`the host broke off (${String(fault).slice(0, 80)}) at: ${line.slice(0, 60)} ..`);
+      this.record.note(`the host broke off (${String(fault).slice(0, 80)}) at: ${what.slice(0, 60)} ..`);
       await this.startAgain();
       throw fault;
     }
   }
 
-  /** The block of a line of others or of the clock. What it records is in the record before anything of it is sent; while that can't be written, it
-   * waits, since others have what they drew.
+  /** The block of a line.
    * @param {string} line */
-  async act(line) {
-    const block = await this.tell(line);
-    this.keep(block.said('record'));
-    if (block.said('send').length && !this.record.fault) await this.record.flush();
-    return block;
+  tell(line) {
+    return this.call((host) => this.ask(host, line), line);
+  }
+
+  /** What the host gives for what others or the clock do at a moment. What it records is in the record before anything of it is sent; while that can't
+   * be written, it waits, since others have what they drew.
+   * @param {number} now @param {string} what @param {(host: Host) => Answer} act */
+  async act(now, what, act) {
+    const answer = await this.call((host) => this.heed(now, act(host)), `${what} ${now}`);
+    this.keep(answer.records);
+    if (answer.send.length && !this.record.fault) await this.record.flush();
+    return answer;
   }
 
   /** Gives the timers other constants. What is set already keeps its moment.
@@ -184,9 +198,23 @@ export class Board {
   }
 
   /** Gives the host a datagram that came in.
-   * @param {Uint8Array} bytes @param {string} origin */
+   * @param {Uint8Array} bytes @param {import('./origins.js').Origin} origin */
   came(bytes, origin) {
-    return this.act(`came ${this.now()} ${origin} ${hex(bytes)}`);
+    const now = this.now();
+    return this.act(now, 'came', (host) => host.cameFrom(now, numbersOf(origin), bytes));
+  }
+
+  /** The host does what is due.
+   * @param {number} [now] */
+  tick(now = this.now()) {
+    return this.act(now, 'tick', (host) => host.tick(now));
+  }
+
+  /** The network says that who spoke from there is gone.
+   * @param {import('./origins.js').Origin} origin */
+  leave(origin) {
+    const now = this.now();
+    return this.act(now, 'gone', (host) => host.gone(now, numbersOf(origin)));
   }
 
   /** Whether the host reckons with another time of day than this machine's, as people may set it at any moment. */
@@ -194,10 +222,12 @@ export class Board {
     return Math.abs(this.wall + this.now() - this.wallAt - timeOfDay()) > SLACK;
   }
 
-  /** The line that gives the host the time of day. */
-  lineOfTime() {
-    [this.wall, this.wallAt] = [timeOfDay(), this.now()];
-    return `wall ${this.wallAt} ${this.wall}`;
+  /** Gives the host the time of day.
+   * @param {number} [time] */
+  tellTime(time = timeOfDay()) {
+    const now = this.now();
+    [this.wall, this.wallAt] = [time, now];
+    return this.act(now, 'wall', (host) => host.wall(now, time));
   }
 
   /** Has the host draw, which gives a drawing its number and its time. The record has it before anything of it is sent; where it can't have it, nor

@@ -36,26 +36,72 @@ export function unhex(digits) {
 /** What became of a drawop that was handed in.
  * @typedef {'new' | 'again' | 'clash' | 'full'} Became */
 
-/** What a call came to: datagrams to be sent to all others, the moment at which to call `tick` next, and what became of a drawop. Where the call
- * was refused, why: then nothing has changed.
- * @typedef {object} Answer
- * @property {Uint8Array[]} send
- * @property {number | null} due
- * @property {Became | null} became
- * @property {string | null} refused */
+/** An origin as a host knows it, by the numbers of its place and of its owner, if it has one.
+ * @typedef {{ place: bigint, owner: bigint | null }} OriginNumbers */
+
+/** From where a stream is to be taken, and how many numbers are missing.
+ * @typedef {{ place: bigint, owner: bigint | null, lacking: bigint }} Fetch */
+
+/** What a call came to. If it was refused, nothing has changed. Most of it a judged host alone gives: it says what to record before what is sent. */
+export class Answer {
+  constructor() {
+    /** Why it was refused, as a line of the same meaning says it.
+     * @type {string | null} */
+    this.refused = null;
+    /** The moment at which to call `tick` next.
+     * @type {number | null} */
+    this.due = null;
+    /** Why a judged host dropped what came.
+     * @type {string | null} */
+    this.dropped = null;
+    /** Lines of the record, to be kept before anything is sent.
+     * @type {string[]} */
+    this.records = [];
+    /** Names of what a judged host holds now and did not before, each as SOURCE C/N NUMBER.
+     * @type {string[]} */
+    this.drew = [];
+    /** Datagrams to be sent to all others.
+     * @type {Uint8Array[]} */
+    this.send = [];
+    /** What became of the drawop that was handed in or drawn.
+     * @type {Became | null} */
+    this.became = null;
+    /** @type {Fetch | null} */
+    this.fetch = null;
+    /** What people are to be warned of, in the words of a line.
+     * @type {string | null} */
+    this.warning = null;
+  }
+}
 
 /** An event, by its kind and its bytes, as `include/wb.h` has them.
  * @typedef {{ kind: number, bytes: Uint8Array }} Event */
 
-// the statuses and the kinds of events of include/wb.h that are told apart here
-const DONE = 0, WAITS = 1, CLOSED = 3, MEMORY = 4, NOTHING = 6, NO_DATAGRAM = 100, NO_OPERATION = 200, SENT = 1;
+// the statuses of include/wb.h that are told apart here
+const DONE = 0, WAITS = 1, CLOSED = 3, MEMORY = 4, NOTHING = 6, NO_DATAGRAM = 100, NO_OPERATION = 200;
 
-/** @type {Record<number, Became>} */
-const OUTCOMES = { 2: 'new', 3: 'again', 4: 'clash', 5: 'full' };
+/** Why a judged host drops what came, and what it warns of, by their numbers from 1 and in the words of its lines. */
+const DROPS = ['datagram', 'own', 'speaks', 'crowd', 'mark', 'stranger', 'flood', 'again', 'ahead', 'full', 'share', 'pages'];
+const WARNINGS = ['speaks', 'mark', 'twin', 'full', 'share'];
+
+/** What each kind of event tells. Those of questions are handed on as they are.
+ * @type {Record<number, (answer: Answer, host: Host) => void>} */
+const TELLS = {
+  1: (answer, host) => { answer.send.push(host.copied()); },
+  2: (answer) => { answer.became = 'new'; },
+  3: (answer) => { answer.became = 'again'; },
+  4: (answer) => { answer.became = 'clash'; },
+  5: (answer) => { answer.became = 'full'; },
+  12: (answer, host) => { answer.dropped = DROPS[host.numberIn(0) - 1]; },
+  13: (answer, host) => { answer.records.push(host.textIn()); },
+  14: (answer, host) => { answer.drew.push(`${host.numberIn(0)} ${host.numberIn(1)}/${host.numberIn(2)} ${host.numberIn(3)}`); },
+  15: (answer, host) => { answer.fetch = { place: host.longIn(0), owner: host.size() > 16 ? host.longIn(2) : null, lacking: host.longIn(1) }; },
+  16: (answer, host) => { answer.warning = WARNINGS[host.numberIn(0) - 1] + (host.size() > 4 ? ` ${host.numberIn(1)}` : ''); },
+};
 
 /** Why a call was refused, by its status, as a line of the same meaning says it. */
 const REFUSALS = /** @type {Record<number, string>} */ ({ 7: 'not kept', 8: 'number', 9: 'back in time', 10: 'listening', 11: 'ours',
-  12: 'too many', 13: 'no drawop', 14: 'no question', 15: 'judged' });
+  12: 'too many', 13: 'no drawop', 14: 'no question', 15: 'judged', 16: 'not judged', 17: 'twin', 18: 'full', 19: 'number' });
 
 const FIELDS = ['sequence number 0', 'coordinate over 4095', 'glyph outside ! to ~', 'text of 0 or over 64 bytes', 'text byte outside space to ~',
   'target sequence number 0', 'target is the drawop itself'];
@@ -73,6 +119,9 @@ function refusalOf(status) {
  * @property {(host: bigint, line: bigint, length: bigint, buffer: bigint, room: bigint, size: bigint) => number} wb_line
  * @property {(host: bigint, buffer: bigint, room: bigint, size: bigint) => number} wb_block
  * @property {(host: bigint, now: bigint, datagram: bigint, length: bigint) => number} wb_came
+ * @property {(host: bigint, now: bigint, place: bigint, owner: bigint, hasOwner: number, datagram: bigint, length: bigint) => number} wb_came_from
+ * @property {(host: bigint, now: bigint, wall: bigint) => number} wb_wall
+ * @property {(host: bigint, now: bigint, place: bigint, owner: bigint, hasOwner: number) => number} wb_gone
  * @property {(host: bigint, now: bigint) => number} wb_tick
  * @property {(host: bigint, now: bigint, drawop: bigint, length: bigint) => number} wb_add
  * @property {(host: bigint, question: number, creator: number, number: number, width: number, height: number) => number} wb_ask
@@ -131,11 +180,32 @@ export class Host {
 
   // ---- calls by bytes
 
-  /** A datagram came in. The answer refuses bytes that are none, or that no host takes.
+  /** A datagram came in, at a host that is not judged. The answer refuses bytes that are none, or that no host takes.
    * @param {number} now @param {Uint8Array} datagram */
   came(now, datagram) {
     const moment = BigInt(now), length = BigInt(datagram.length);
     return this.answer(() => this.calls.wb_came(this.place, moment, this.given(datagram), length));
+  }
+
+  /** Bytes came in from an origin, at a judged host.
+   * @param {number} now @param {OriginNumbers} origin @param {Uint8Array} datagram */
+  cameFrom(now, { place, owner }, datagram) {
+    const moment = BigInt(now), length = BigInt(datagram.length);
+    return this.answer(() => this.calls.wb_came_from(this.place, moment, place, owner ?? 0n, Number(owner !== null), this.given(datagram), length));
+  }
+
+  /** The time of day at a moment, in microseconds since 1970, at a judged host.
+   * @param {number} now @param {number} time */
+  wall(now, time) {
+    const moment = BigInt(now), day = BigInt(time);
+    return this.answer(() => this.calls.wb_wall(this.place, moment, day));
+  }
+
+  /** The network says that whoever spoke from an origin is gone, at a judged host.
+   * @param {number} now @param {OriginNumbers} origin */
+  gone(now, { place, owner }) {
+    const moment = BigInt(now);
+    return this.answer(() => this.calls.wb_gone(this.place, moment, place, owner ?? 0n, Number(owner !== null)));
   }
 
   /** Time goes on to a moment.
@@ -173,16 +243,15 @@ export class Host {
     return due < 0n ? null : Number(due); // WB_NEVER has all bits
   }
 
-  /** Makes a call, and takes its events: what is to be sent, and then what became of a drawop.
-   * @param {() => number} call @returns {Answer} */
+  /** Makes a call, and takes its events.
+   * @param {() => number} call */
   answer(call) {
     return this.guarded(() => {
-      const status = this.must(call());
-      /** @type {Uint8Array[]} */
-      const send = [];
-      let kind = status === DONE ? this.next() : 0;
-      for (; kind === SENT; kind = this.next()) send.push(this.copied());
-      return { send, due: this.nextDue(), became: OUTCOMES[kind] ?? null, refused: status === DONE ? null : refusalOf(status) };
+      const status = this.must(call()), answer = new Answer();
+      if (status !== DONE) answer.refused = refusalOf(status);
+      else for (let kind = this.next(); kind; kind = this.next()) TELLS[kind]?.(answer, this);
+      answer.due = this.nextDue();
+      return answer;
     });
   }
 
@@ -255,6 +324,27 @@ export class Host {
   /** The bytes of the event that was fetched. */
   copied() {
     return this.seen().slice(this.output.at, this.output.at + this.size());
+  }
+
+  /** The text of the event that was fetched: a line of the record. For so few letters a decoder takes longer. */
+  textIn() {
+    const { at } = this.output, bytes = this.seen(), end = at + this.size();
+    let text = '';
+    for (let i = at; i < end; i += 1) text += String.fromCharCode(bytes[i]);
+    return text;
+  }
+
+  /** A number of the event that was fetched, by its place among those.
+   * @param {number} index */
+  numberIn(index) {
+    const at = this.output.at + 4 * index, bytes = this.seen();
+    return bytes[at] * 2 ** 24 + (bytes[at + 1] << 16) + (bytes[at + 2] << 8) + bytes[at + 3];
+  }
+
+  /** The same of numbers of 64 bits.
+   * @param {number} index */
+  longIn(index) {
+    return (BigInt(this.numberIn(2 * index)) << 32n) + BigInt(this.numberIn(2 * index + 1));
   }
 
   // ---- its end

@@ -2,12 +2,11 @@
  * decides itself docs/DECISIONS.md has. */
 import { constantsFor } from './constants.js';
 import { Heard } from './heard.js';
-import { wordOf } from './origins.js';
 import { Tails } from './tails.js';
 import { drawopOf } from './views.js';
 
 /** @typedef {import('./datagram.js').Datagram} Datagram */
-/** @typedef {import('./host.js').Block} Block */
+/** @typedef {import('./host.js').Answer} Answer */
 /** @typedef {import('./origins.js').Origin} Origin */
 
 /** Why a host drops a datagram, for people. */
@@ -41,7 +40,7 @@ const GONE_AFTER = 60 * SECOND, GONE_AFTER_REPORTS = 3, LEAST_INTERVAL = 2 * SEC
  * @property {import('./wire.js').Wire} wire
  * @property {import('./board.js').Board} board
  * @property {import('./telling.js').Telling} telling
- * @property {(line: string) => Promise<void>} tell   the host does what a line says
+ * @property {(answer: Promise<Answer>) => Promise<void>} obey   what the host sends for a call goes out
  * @property {(drawop: import('./views.js').Drawop) => void} hold   the host has taken in a drawop
  * @property {() => Promise<void>} tick   the host does what is due
  * @property {() => Promise<void>} repeat   what we drew last goes out once more
@@ -76,24 +75,24 @@ export class Judging {
    * @returns {Promise<{ sent: Uint8Array[], refused: string | null }>} */
   async heed(datagram, bytes, origin) {
     const { board } = this.member;
-    if (board.isWrong()) await this.member.tell(board.lineOfTime());
-    const block = await board.came(bytes, wordOf(origin)), [why = null] = block.said('dropped');
-    if (datagram) await this.notice(datagram, origin, block, why);
-    return { sent: block.sent(), refused: why === null ? block.fault : WHY[why] ?? why };
+    if (board.isWrong()) await this.member.obey(board.tellTime());
+    const answer = await board.came(bytes, origin), { send, dropped, refused } = answer;
+    if (datagram) await this.notice(datagram, origin, answer);
+    return { sent: send, refused: dropped === null ? refused : WHY[dropped] ?? dropped };
   }
 
   /** Draws the conclusions from what a host says of a datagram.
-   * @param {Datagram} datagram @param {Origin} origin @param {Block} block @param {string | null} why it was dropped */
-  async notice(datagram, origin, block, why) {
-    const { heard, member: { board } } = this, isTaken = why === null && block.fault === null, isReport = isTaken && ['session-message', 'page-state'].includes(datagram.kind);
+   * @param {Datagram} datagram @param {Origin} origin @param {Answer} answer */
+  async notice(datagram, origin, answer) {
+    const { heard, member: { board } } = this, { dropped, refused, warning } = answer, isTaken = dropped === null && refused === null, isReport = isTaken && ['session-message', 'page-state'].includes(datagram.kind);
     if (isReport) heard.note(datagram);
     await heard.look();
     if (isReport) this.noticeReport(datagram, origin);
     const isMember = heard.isMember(origin);
     // what would hush us alone, the others hear too
-    if (isMember && (why === null || why === 'again')) this.tails.hear(datagram, board.moment);
-    if (datagram.kind === 'draw') this.noticeDrawop(datagram, block, isMember && why !== null);
-    for (const warning of block.said('warn')) this.warn(warning, datagram.speaker);
+    if (isMember && (dropped === null || dropped === 'again')) this.tails.hear(datagram, board.moment);
+    if (datagram.kind === 'draw') this.noticeDrawop(datagram, answer, isMember && dropped !== null);
+    if (warning !== null) this.warn(warning, datagram.speaker);
   }
 
   /** The host has heard a report of another.
@@ -108,11 +107,12 @@ export class Judging {
   }
 
   /** What became of a drawop. One that the host dropped, since it would hush us, may clash too: where it is a member's, that is looked at here.
-   * @param {Datagram} datagram @param {Block} block @param {boolean} mayClash */
-  noticeDrawop({ words, name, speaker: source, page, seq }, block, mayClash) {
+   * @param {Datagram} datagram @param {Answer} answer @param {boolean} mayClash */
+  noticeDrawop({ words, name, speaker: source, page, seq }, { drew, became }, mayClash) {
     const { drawn, telling } = this.member, held = mayClash ? drawn.find(name) : null;
-    if (block.said('drew').length) this.member.hold(drawopOf(words));
-    for (const fate of held && held.words !== words ? ['clash'] : block.said('became')) telling.noticeFate({ source, page, seq }, fate);
+    if (drew.length) this.member.hold(drawopOf(words));
+    const fate = held && held.words !== words ? 'clash' : became;
+    if (fate !== null) telling.noticeFate({ source, page, seq }, fate);
   }
 
   /** @param {string} warning @param {number} speaker */
@@ -125,7 +125,7 @@ export class Judging {
   /** The network says that who spoke from there is gone.
    * @param {Origin} origin */
   async leave(origin) {
-    await this.member.tell(`gone ${this.member.board.now()} ${wordOf(origin)}`);
+    await this.member.obey(this.member.board.leave(origin));
     this.heard.leave(origin);
   }
 

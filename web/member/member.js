@@ -133,15 +133,15 @@ export class Member {
 
   // ---- the host
 
-  /** The host does what a line says, and what it sends goes out.
-   * @param {string} line */
-  async tell(line) {
-    for (const bytes of (await this.board.act(line)).sent()) this.send(bytes);
+  /** What the host sends for a call goes out.
+   * @param {Promise<import('./host.js').Answer>} answer */
+  async obey(answer) {
+    for (const bytes of (await answer).send) this.send(bytes);
   }
 
   /** The host does what is due. */
   tick() {
-    return this.tell(`tick ${this.board.now()}`);
+    return this.obey(this.board.tick());
   }
 
   /** What we drew last goes out once more, which the record has already. Alone, there is nobody who could lack it. */

@@ -21,6 +21,11 @@ export function numberOf(name) {
   return number;
 }
 
+/** The numbers that a host knows an origin by.
+ * @param {Origin} origin
+ * @returns {import('./host.js').OriginNumbers} */
+export const numbersOf = ({ place, owner }) => ({ place: numberOf(place), owner: owner === null ? null : numberOf(owner) });
+
 /** The word for an origin in the lines of a host: PLACE, or PLACE@OWNER.
  * @param {Origin} origin */
 export const wordOf = ({ place, owner }) => (owner === null ? `${numberOf(place)}` : `${numberOf(place)}@${numberOf(owner)}`);

@@ -69,7 +69,7 @@ export class People {
     if (isFull && page !== WORDS && ['line', 'frame', 'text'].includes(kind)) throw new Refused('full');
     if (!OPERATIONS.includes(kind) || !/^[ -~]*$/.test(operation)) throw new Refused('unknown');
     if (judging.hasTwin) throw new Refused(TWIN);
-    await member.tell(board.lineOfTime());
+    await member.obey(board.tellTime());
     const { block, drawop } = await this.hostDraws(page, operation);
     for (const bytes of block.sent()) {
       const datagram = member.send(bytes);

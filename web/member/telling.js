@@ -161,7 +161,7 @@ export class Telling {
     const { alarms } = this.member, { source } = name;
     if (fate === 'new') this.reported.come(name);
     else if (fate === 'clash') alarms.warn(`two members draw with number ${source}: what they drew differs from member to member`);
-    else if (fate === 'left') alarms.warn('the board is full: new drawops are not kept');
+    else if (fate === 'full') alarms.warn('the board is full: new drawops are not kept');
   }
 
   /** How many cells are left, where they are few. */

@@ -2,4 +2,5 @@ mod AsBox
 mod Lines
 mod Transcripts
 mod Performed
+mod Judges
 mod Served

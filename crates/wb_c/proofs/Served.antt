@@ -1,12 +1,18 @@
 -- What a host does by bytes, by what its member did.
-use Rattle.std.proofs.Common.{◌≡◌, ℕ, ◌<◌, ◌≤◌, List, [], ◌∷◌, Bool, true, false, Option, Some, None, Result, Ok, Err, IfOk, refl, sym, ap, subst, ◌∙◌, arith}
+use Rattle.std.proofs.Common.{◌≡◌, ℕ, ◌<◌, ◌≤◌, List, Bool, true, false, Option, Some, None, Result, Ok, Err, IfOk, refl, sym, ap, subst, ◌∙◌, arith}
 use Rattle.std.proofs.lemmas.Bool.Decides.{nat_tests}
 use Rattle.std.specs.Prelude.{is_some, nat_lt}
 use Rattle.wb_names.specs.declared.moment.TheConstants.{MOMENT_LIMIT}
 use Rattle.wb_keeping.specs.Performing.{KeptValue}
 use Rattle.wb_dialog.specs.Doing.{kept_in}
-use Rattle.wb_judged_dialog.specs.Doing.{JudgedDialogValue, with_kept}
-use Rattle.wb_c.specs.Serving.{Acts, AtKept, AtMember, InTime, IsOut, Refuses, StaysIn, Unjudged, WhyNone}
+use Rattle.wb_codec.specs.declared.datagram.Datagram.{Datagram}
+use Rattle.wb_codec.specs.declared.fault.ReadFault.{ReadFault}
+use Rattle.wb_judge.specs.declared.origin.Origin.{Origin}
+use Rattle.wb_judging.specs.Judged.{CameFrom, Garbled, JudgedLine}
+use Rattle.wb_judging.specs.Performing.{JudgedValue}
+use Rattle.wb_judged_dialog.specs.Doing.{JudgedDialogValue, member_in, with_kept, with_member}
+use Rattle.wb_c.specs.Judging.{Judges}
+use Rattle.wb_c.specs.Serving.{AtEither, AtJudged, AtJudgedBy, AtKept, AtMember, InTime, OfDay, Refuses, Unjudged, arrival, read_by}
 use Rattle.wb_c.specs.declared.event.Event.{Event}
 use Rattle.wb_c.specs.declared.room.Room.{Room}
 
@@ -31,34 +37,52 @@ pub member_did : {E : Type 0} (does : KeptValue → KeptValue → List Event →
 member_did does old new (Ok status) taken kept after is was dialog block did = at_kept does old new status (kept_in old.dialog.dialog.host) kept after is (put_back old.dialog taken new.dialog kept after was dialog) block did
 member_did does old new (Err e) taken kept after is was dialog block did = tt
 
--- ---- a call that acts
+-- ---- a judged member
 
--- it is taken by a host that is not judged
-as_unjudged : (b : Bool) (does : Room → Room → ℕ → Type 0) (old new : Room) (status : ℕ) → b ≡ false → does old new status → Unjudged b does old new status
-as_unjudged b does old new status none did = subst (λ (c : Bool). Unjudged c does old new status) (sym none) did
+module _ (line : JudgedLine) (old new : Room) (status : ℕ) where
+  at_judged : (found : Option JudgedValue) (m after : JudgedValue) → Some m ≡ found → new.dialog ≡ with_member after old.dialog → new.block ≡ old.block
+      → Judges line m after old.events.items new.events.items status → AtJudgedBy line found old new status
+  at_judged found m after is dialog block did = subst (λ (f : Option JudgedValue). AtJudgedBy line f old new status) is (after, dialog, block, did)
 
-unjudged_did : {E : Type 0} (does : Room → Room → ℕ → Type 0) (old new : Room) (r : Result ℕ E) → is_some old.dialog.judge ≡ false → IfOk r (does old new) → IfOk r (Unjudged (is_some old.dialog.judge) does old new)
-unjudged_did does old new (Ok status) none did = as_unjudged (is_some old.dialog.judge) does old new status none did
-unjudged_did does old new (Err e) none did = tt
+  pub at_not_judged : (found : Option JudgedValue) → None ≡ found → Refuses 16 old new status → AtJudgedBy line found old new status
+  at_not_judged found is refuses = subst (λ (f : Option JudgedValue). AtJudgedBy line f old new status) is refuses
 
--- its member did it
-pub acting_did : {E : Type 0} (does : KeptValue → KeptValue → List Event → List Event → ℕ → Type 0) (old mid new : Room) (r : Result ℕ E) (kept after : KeptValue)
-    → IsOut kept old mid → new.dialog ≡ with_kept after mid.dialog → new.block ≡ mid.block → IfOk r (does kept after mid.events.items new.events.items) → IfOk r (Acts does old new)
-acting_did does old mid new r kept after out dialog block did =
-    unjudged_did (AtMember does) old new r out.judge
-    (member_did does old new r mid.dialog kept after out.kept_is out.dialog dialog (block ∙ out.block)
-    (subst (λ (es : List Event). IfOk r (does kept after es new.events.items)) out.events did))
+put_member_back : (old taken new : JudgedDialogValue) (m after : JudgedValue) → with_member m taken ≡ old → new ≡ with_member after taken → new ≡ with_member after old
+put_member_back old taken new m after was is = is ∙ ap (with_member after) was
 
--- It is refused.
-pub acting_none : (does : KeptValue → KeptValue → List Event → List Event → ℕ → Type 0) (old new : Room) (why : ℕ) → StaysIn why old new → Acts does old new why
-acting_none does old new why stays = of (is_some old.dialog.judge) stays.1 where
-  idle : (found : Option KeptValue) → WhyNone false found why → AtKept does found old new why
-  idle None is = (is, stays.0)
-  idle (Some kept) is = absurd is
+-- It did a line, or an allocation failed, and in any case it was put back.
+pub judged_did : {E : Type 0} (line : JudgedLine) (old new : Room) (r : Result ℕ E) (taken : JudgedDialogValue) (m after : JudgedValue)
+    → Some m ≡ member_in old.dialog → with_member m taken ≡ old.dialog → new.dialog ≡ with_member after taken → new.block ≡ old.block
+    → IfOk r (Judges line m after old.events.items new.events.items) → IfOk r (AtJudged line old new)
+judged_did line old new (Ok status) taken m after is was dialog block did =
+    at_judged line old new status (member_in old.dialog) m after is (put_member_back old.dialog taken new.dialog m after was dialog) block did
+judged_did line old new (Err e) taken m after is was dialog block did = tt
 
-  of : (b : Bool) → WhyNone b (kept_in old.dialog.dialog.host) why → Unjudged b (AtMember does) old new why
-  of true is = (is, stays.0)
-  of false is = idle (kept_in old.dialog.dialog.host) is
+-- a host that is judged, and one that is not
+module _ {E : Type 0} (line : JudgedLine) (does : KeptValue → KeptValue → List Event → List Event → ℕ → Type 0) (old new : Room) (r : Result ℕ E) (judged : Bool) where
+  pub either_judged : judged ≡ is_some old.dialog.judge → judged ≡ true → IfOk r (AtJudged line old new) → IfOk r (AtEither (is_some old.dialog.judge) line does old new)
+  either_judged is so did = subst (λ (b : Bool). IfOk r (AtEither b line does old new)) (sym so ∙ is) did
+
+  pub either_kept : judged ≡ is_some old.dialog.judge → judged ≡ false → IfOk r (AtMember does old new) → IfOk r (AtEither (is_some old.dialog.judge) line does old new)
+  either_kept is so did = subst (λ (b : Bool). IfOk r (AtEither b line does old new)) (sym so ∙ is) did
+
+-- a call without an origin
+module _ (does : Room → Room → ℕ → Type 0) (old : Room) where
+  pub refused_at_judged : (judged : Bool) → judged ≡ is_some old.dialog.judge → judged ≡ true → Unjudged (is_some old.dialog.judge) does old old 15
+  refused_at_judged judged is so = subst (λ (b : Bool). Unjudged b does old old 15) (sym so ∙ is) (refl, refl)
+
+  pub unjudged_did : {E : Type 0} (new : Room) (r : Result ℕ E) (judged : Bool) → judged ≡ is_some old.dialog.judge → judged ≡ false → IfOk r (does old new) → IfOk r (Unjudged (is_some old.dialog.judge) does old new)
+  unjudged_did new r judged is so did = subst (λ (b : Bool). IfOk r (Unjudged b does old new)) (sym so ∙ is) did
+
+-- ---- what came from an origin
+
+pub came_as_read : (now : ℕ) (o : Origin) (read : Result Datagram ReadFault) (v : Datagram) → Ok v ≡ read_by read → CameFrom now o v ≡ arrival now o read
+came_as_read now o (Ok w) v is = let same : v ≡ w = cc in ap (λ (u : Datagram). CameFrom now o u) same
+came_as_read now o (Err fault) v is = absurd cc
+
+pub garbled_as_read : (now : ℕ) (o : Origin) (read : Result Datagram ReadFault) (status : ℕ) → Err status ≡ read_by read → Garbled now ≡ arrival now o read
+garbled_as_read now o (Ok w) status is = absurd cc
+garbled_as_read now o (Err fault) status is = refl
 
 -- ---- a moment
 
@@ -79,3 +103,18 @@ module _ (does : Room → Room → ℕ → Type 0) (old new : Room) (status now 
 pub all_in_time : {E : Type 0} (does : Room → Room → ℕ → Type 0) (old new : Room) (now : ℕ) (r : Result ℕ E) → now < MOMENT_LIMIT → IfOk r (does old new) → IfOk r (InTime (nat_lt now MOMENT_LIMIT) does old new)
 all_in_time does old new now (Ok status) low did = in_time does old new status now low did
 all_in_time does old new now (Err e) low did = tt
+
+-- ---- a time of day
+
+module _ (does : Room → Room → ℕ → Type 0) (old new : Room) where
+  is_early : (wall limit : ℕ) → wall < limit → nat_lt wall limit ≡ true
+  is_early wall limit low = grind (arith, nat_tests)
+
+  is_late : (wall limit : ℕ) → limit ≤ wall → nat_lt wall limit ≡ false
+  is_late wall limit high = grind (arith, nat_tests)
+
+  pub not_of_day : (wall limit status : ℕ) → limit ≤ wall → Refuses 19 old new status → OfDay (nat_lt wall limit) does old new status
+  not_of_day wall limit status high refuses = subst (λ (b : Bool). OfDay b does old new status) (sym (is_late wall limit high)) refuses
+
+  pub all_of_day : {E : Type 0} (r : Result ℕ E) (wall limit : ℕ) → wall < limit → IfOk r (does old new) → IfOk r (OfDay (nat_lt wall limit) does old new)
+  all_of_day r wall limit low did = subst (λ (b : Bool). IfOk r (OfDay b does old new)) (sym (is_early wall limit low)) did

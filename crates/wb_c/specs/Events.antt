@@ -8,8 +8,9 @@ use Rattle.wb_codec.specs.declared.datagram.Datagram.{Datagram}
 use Rattle.wb_codec.specs.declared.datagram.Datagram.TheVariants as datagrams
 use Rattle.wb_member.specs.Questions.{Told}
 use Rattle.wb_member.specs.Questions as told
+use Rattle.wb_c.specs.JudgedEvents as judged
 use Rattle.wb_c.specs.declared.event.Event.{Event}
-use Rattle.wb_c.specs.declared.event.Event.TheVariants.{Sent, New, Again, Clash, Left, Shown, Missing, Greatest, Page, Next, Painted}
+use Rattle.wb_c.specs.declared.event.Event.TheVariants.{Judged, Sent, New, Again, Clash, Left, Shown, Missing, Greatest, Page, Next, Painted}
 
 -- ---- what became of a drawop
 
@@ -53,6 +54,7 @@ kind_of (Greatest mark) = 8
 kind_of (Page page) = 9
 kind_of (Next number) = 10
 kind_of (Painted text) = 11
+kind_of (Judged event) = judged.kind_of event
 
 -- a range: its source, its first number and its last
 abbrev pub gap_bytes : Gap → List ℕ
@@ -71,3 +73,4 @@ bytes_of (Greatest mark) = mark_bytes mark
 bytes_of (Page page) = page_bytes page
 bytes_of (Next number) = to_be_bytes w32 number
 bytes_of (Painted text) = text
+bytes_of (Judged event) = judged.bytes_of event

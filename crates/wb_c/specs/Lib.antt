@@ -3,7 +3,9 @@ pub mod Blocks
 pub mod Statuses
 pub mod Calls
 pub mod Laws
+pub mod JudgedEvents
 pub mod Events
 pub mod Performing
+pub mod Judging
 pub mod Asking
 pub mod Serving

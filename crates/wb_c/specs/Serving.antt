@@ -1,5 +1,5 @@
 -- What each call by bytes does, by what was held before and what is held after it, and which status it gives.
-use Rattle.std.specs.Prelude.{◌≡◌, ℕ, List, [], ◌∷◌, length, Bool, true, false, nat_lt, Option, Some, None, is_some, unwrap_or, Result, Ok, Err}
+use Rattle.std.specs.Prelude.{◌≡◌, ◌^◌, ℕ, List, [], ◌∷◌, length, Bool, true, false, nat_lt, Option, Some, None, is_some, unwrap_or, Result, Ok, Err}
 use Rattle.wb_names.specs.Values.{DrawopValue}
 use Rattle.wb_names.specs.declared.moment.TheConstants.{MOMENT_LIMIT}
 use Rattle.wb_names.specs.declared.name.PageId.{PageId}
@@ -12,13 +12,17 @@ use Rattle.wb_keeping.specs.Performing.{KeptValue}
 use Rattle.wb_dialog.specs.Doing.{kept_in}
 use Rattle.wb_dialog.specs.Hosting.{due_at}
 use Rattle.wb_judged_dialog.specs.Dialog.{JudgedHosting}
-use Rattle.wb_judged_dialog.specs.Doing.{IsAt, with_kept}
+use Rattle.wb_judged_dialog.specs.Doing.{IsAt, member_in, with_kept, with_member}
+use Rattle.wb_judge.specs.declared.origin.Origin.{Origin}
+use Rattle.wb_judging.specs.Judged.{CameFrom, DayTold, Garbled, GoneFrom, JudgedLine, Passed, UserDrew}
+use Rattle.wb_judging.specs.Performing.{JudgedValue}
 use Rattle.wb_c.specs.Asking.{query_of}
 use Rattle.wb_c.specs.Blocks.{Writes}
 use Rattle.wb_c.specs.Calls.{status_of}
 use Rattle.wb_c.specs.Events.{bytes_of, kind_of}
+use Rattle.wb_c.specs.Judging.{Judges}
 use Rattle.wb_c.specs.Performing.{Answers, Performs}
-use Rattle.wb_c.specs.Statuses.{closed, judged, memory, no_drawop, no_moment, no_question, not_kept, nothing, read_status}
+use Rattle.wb_c.specs.Statuses.{closed, judged, memory, no_drawop, no_moment, no_question, no_time, not_judged, not_kept, nothing, read_status}
 use Rattle.wb_c.specs.declared.event.Event.{Event}
 use Rattle.wb_c.specs.declared.room.Room.{Room}
 
@@ -37,31 +41,24 @@ AtKept does (Some kept) old new status =
 abbrev pub AtMember : (KeptValue → KeptValue → List Event → List Event → ℕ → Type 0) → Room → Room → ℕ → Type 0
 AtMember does old new status = AtKept does (kept_in old.dialog.dialog.host) old new status
 
--- A judged host takes no call that acts: what came has an origin there, and what is to be recorded comes first.
+-- A judged host takes no datagram without its origin.
 abbrev pub Unjudged : Bool → (Room → Room → ℕ → Type 0) → Room → Room → ℕ → Type 0
 Unjudged true does old new status = Refuses judged old new status
 Unjudged false does old new status = does old new status
 
--- what a member does for a call that acts
-abbrev pub Acts : (KeptValue → KeptValue → List Event → List Event → ℕ → Type 0) → Room → Room → ℕ → Type 0
-Acts does old new status = Unjudged (is_some old.dialog.judge) (AtMember does) old new status
+-- what a judged member does for a line, at a host that is judged
+abbrev pub AtJudgedBy : JudgedLine → Option JudgedValue → Room → Room → ℕ → Type 0
+AtJudgedBy line None old new status = Refuses not_judged old new status
+AtJudgedBy line (Some m) old new status =
+    (after : JudgedValue) × (new.dialog ≡ with_member after old.dialog) × (new.block ≡ old.block) × Judges line m after old.events.items new.events.items status
 
--- The member was taken out of a host for a call that acts.
-pub record IsOut (kept : KeptValue) (old new : Room) : Type 0 where
-  pub judge : is_some old.dialog.judge ≡ false
-  pub kept_is : Some kept ≡ kept_in old.dialog.dialog.host
-  pub dialog : with_kept kept new.dialog ≡ old.dialog
-  pub block : new.block ≡ old.block
-  pub events : new.events.items ≡ old.events.items
+abbrev pub AtJudged : JudgedLine → Room → Room → ℕ → Type 0
+AtJudged line old new status = AtJudgedBy line (member_in old.dialog) old new status
 
--- Why a host takes no call that acts.
-abbrev pub WhyNone : Bool → Option KeptValue → ℕ → Type 0
-WhyNone true kept why = why ≡ judged
-WhyNone false None why = why ≡ not_kept
-WhyNone false (Some kept) why = ⊥
-
-abbrev pub StaysIn : ℕ → Room → Room → Type 0
-StaysIn why old new = (new ≡ old) × WhyNone (is_some old.dialog.judge) (kept_in old.dialog.dialog.host) why
+-- A judged host has its judged member do it, and another its self-managing one.
+abbrev pub AtEither : Bool → JudgedLine → (KeptValue → KeptValue → List Event → List Event → ℕ → Type 0) → Room → Room → ℕ → Type 0
+AtEither true line does old new status = AtJudged line old new status
+AtEither false line does old new status = AtMember does old new status
 
 -- a moment is below the limit
 abbrev pub InTime : Bool → (Room → Room → ℕ → Type 0) → Room → Room → ℕ → Type 0
@@ -73,11 +70,12 @@ abbrev pub read_by : Result Datagram ReadFault → Result Datagram ℕ
 read_by (Ok v) = Ok v
 read_by (Err fault) = Err (read_status fault)
 
+-- A judged host has the time of day, and the drawop's does not matter there.
 abbrev pub Draws : ℕ → DrawopValue → Room → Room → ℕ → Type 0
-Draws now d old new status = Acts (Performs (Added now d.name.page d.time d.op)) old new status
+Draws now d old new status = AtEither (is_some old.dialog.judge) (UserDrew now d.name.page d.op) (Performs (Added now d.name.page d.time d.op)) old new status
 
 abbrev pub Takes : ℕ → Result Datagram ℕ → Room → Room → ℕ → Type 0
-Takes now (Ok v) old new status = Acts (Performs (Came now v)) old new status
+Takes now (Ok v) old new status = Unjudged (is_some old.dialog.judge) (AtMember (Performs (Came now v))) old new status
 Takes now (Err why) old new status = Refuses why old new status
 
 -- What a drawop does is drawn; any other datagram is none.
@@ -86,6 +84,9 @@ Adds now (Ok (datagrams.Draw d)) old new status = Draws now d old new status
 Adds now (Ok v) old new status = Refuses no_drawop old new status
 Adds now (Err why) old new status = Refuses why old new status
 
+abbrev pub Ticks : ℕ → Room → Room → ℕ → Type 0
+Ticks now old new status = AtEither (is_some old.dialog.judge) (Passed now) (Performs (Ticked now)) old new status
+
 abbrev pub CameBy : ℕ → Result Datagram ReadFault → Room → Room → ℕ → Type 0
 CameBy now read old new status = InTime (nat_lt now MOMENT_LIMIT) (Takes now (read_by read)) old new status
 
@@ -93,7 +94,31 @@ abbrev pub AddsBy : ℕ → Result Datagram ReadFault → Room → Room → ℕ 
 AddsBy now read old new status = InTime (nat_lt now MOMENT_LIMIT) (Adds now (read_by read)) old new status
 
 abbrev pub TicksBy : ℕ → Room → Room → ℕ → Type 0
-TicksBy now old new status = InTime (nat_lt now MOMENT_LIMIT) (Acts (Performs (Ticked now))) old new status
+TicksBy now old new status = InTime (nat_lt now MOMENT_LIMIT) (Ticks now) old new status
+
+-- the origin of a place, and of its owner if it has one
+abbrev pub origin_of : ℕ → ℕ → Bool → Origin
+origin_of place owner true = record { place = place; owner = Some owner }
+origin_of place owner false = record { place = place; owner = None }
+
+-- What came from an origin, if it is not a datagram, is handed in as that.
+abbrev pub arrival : ℕ → Origin → Result Datagram ReadFault → JudgedLine
+arrival now o (Ok v) = CameFrom now o v
+arrival now o (Err fault) = Garbled now
+
+abbrev pub CameFromBy : ℕ → Origin → Result Datagram ReadFault → Room → Room → ℕ → Type 0
+CameFromBy now o read old new status = InTime (nat_lt now MOMENT_LIMIT) (AtJudged (arrival now o read)) old new status
+
+-- a time of day is below its limit
+abbrev pub OfDay : Bool → (Room → Room → ℕ → Type 0) → Room → Room → ℕ → Type 0
+OfDay true does old new status = does old new status
+OfDay false does old new status = Refuses no_time old new status
+
+abbrev pub WallBy : ℕ → ℕ → Room → Room → ℕ → Type 0
+WallBy now wall old new status = InTime (nat_lt now MOMENT_LIMIT) (OfDay (nat_lt wall (2 ^ 62)) (AtJudged (DayTold now wall))) old new status
+
+abbrev pub GoneBy : ℕ → Origin → Room → Room → ℕ → Type 0
+GoneBy now o old new status = InTime (nat_lt now MOMENT_LIMIT) (AtJudged (GoneFrom now o)) old new status
 
 abbrev pub AsksBy : Option Query → Room → Room → ℕ → Type 0
 AsksBy (Some query) old new status = AtMember (Answers query) old new status

@@ -7,6 +7,9 @@ use Rattle.wb_keeper.specs.declared.keep_fault.KeepFault.{KeepFault}
 use Rattle.wb_keeper.specs.declared.keep_fault.KeepFault.TheVariants.{Memory}
 use Rattle.wb_keeping.specs.declared.kept_fault.KeptFault.{KeptFault}
 use Rattle.wb_keeping.specs.declared.kept_fault.KeptFault.TheVariants.{Host, Listening, Ours, Numbers, Operation}
+use Rattle.wb_judge.specs.declared.judge.AddFault.TheVariants.{Full, Twin}
+use Rattle.wb_judging.specs.declared.judged_fault.JudgedFault.{JudgedFault}
+use Rattle.wb_judging.specs.declared.judged_fault.JudgedFault.TheVariants.{Judge, Kept}
 
 abbrev pub done : ℕ
 done = 0
@@ -44,6 +47,12 @@ no_question = 14
 abbrev pub judged : ℕ
 judged = 15
 
+abbrev pub not_judged : ℕ
+not_judged = 16
+
+abbrev pub no_time : ℕ
+no_time = 19
+
 -- why a member refuses a call
 abbrev pub kept_status : KeptFault → ℕ
 kept_status (Host fault) = 9
@@ -51,6 +60,12 @@ kept_status Listening = 10
 kept_status Ours = 11
 kept_status Numbers = 12
 kept_status (Operation fault) = 200 + field_code fault
+
+-- why a judged member refuses one
+abbrev pub judged_status : JudgedFault → ℕ
+judged_status (Judge Twin) = 17
+judged_status (Judge Full) = 18
+judged_status (Kept fault) = kept_status fault
 
 -- why bytes are not a datagram
 abbrev pub read_status : ReadFault → ℕ
@@ -64,3 +79,7 @@ is_memory_of fault = false
 abbrev pub is_memory : KeptFault → Bool
 is_memory (Host fault) = is_memory_of fault
 is_memory fault = false
+
+abbrev pub is_memory_at_judged : JudgedFault → Bool
+is_memory_at_judged (Judge fault) = false
+is_memory_at_judged (Kept fault) = is_memory fault

@@ -1,11 +1,12 @@
 //! The calls by bytes, as `include/wb.h` declares them.
-ghost use Rattle.std.specs.Prelude.{◌≡◌};
+ghost use Rattle.std.specs.Prelude.{◌≡◌, Option};
 ghost use Rattle.wb_codec.specs.Reading.{reading};
-ghost use Rattle.wb_c.specs.Serving.{AddsBy, Asks, CameBy, FetchesEvent, IsDue, Serves, TicksBy};
+ghost use Rattle.wb_c.specs.Serving.{AddsBy, Asks, CameBy, CameFromBy, FetchesEvent, GoneBy, IsDue, Serves, TicksBy, WallBy, origin_of};
 
 use crate::held::Host;
 use crate::status::{CLOSED, MEMORY};
 use std::alloc::Global;
+use wb_judge::Origin;
 use wb_names::PageId;
 
 /// What `wb_due` answers if there is no moment at which a tick is due.
@@ -21,6 +22,82 @@ pub extern "C" fn wb_came(alloc: Global, host: &mut Host, now: u64, datagram: &[
         return CLOSED;
     };
     match room.came(alloc, now, datagram) {
+        Ok(status) => {
+            host.put(room);
+            status
+        }
+        Err(_) => MEMORY,
+    }
+}
+
+/// The origin of a place, and of its owner if it has one.
+fn origin_of(place: u64, owner: u64, has_owner: bool) -> Origin
+    ensures { result ≡ origin_of place owner has_owner }
+{
+    let owner = if has_owner { Some(owner) } else { None };
+    Origin { place, owner }
+}
+
+/// Bytes came in from an origin at a moment, at a judged host.
+#[unsafe(no_mangle)]
+pub extern "C" fn wb_came_from(
+    alloc: Global,
+    host: &mut Host,
+    now: u64,
+    place: u64,
+    owner: u64,
+    has_owner: bool,
+    datagram: &[u8],
+) -> u32
+    ensures { Serves (CameFromBy now (origin_of place owner has_owner) (reading datagram.now))
+        host.old.held.room host.new.held.room result }
+{
+    let Some(mut room) = host.take(alloc) else {
+        return CLOSED;
+    };
+    match room.came_from(alloc, now, origin_of(place, owner, has_owner), datagram) {
+        Ok(status) => {
+            host.put(room);
+            status
+        }
+        Err(_) => MEMORY,
+    }
+}
+
+/// The time of day at a moment, in microseconds since 1970, at a judged host.
+#[unsafe(no_mangle)]
+pub extern "C" fn wb_wall(alloc: Global, host: &mut Host, now: u64, wall: u64) -> u32
+    ensures { Serves (WallBy now wall) host.old.held.room host.new.held.room result }
+{
+    let Some(mut room) = host.take(alloc) else {
+        return CLOSED;
+    };
+    match room.wall(alloc, now, wall) {
+        Ok(status) => {
+            host.put(room);
+            status
+        }
+        Err(_) => MEMORY,
+    }
+}
+
+/// The network says that whoever spoke from an origin is gone, at a judged host.
+#[unsafe(no_mangle)]
+pub extern "C" fn wb_gone(
+    alloc: Global,
+    host: &mut Host,
+    now: u64,
+    place: u64,
+    owner: u64,
+    has_owner: bool,
+) -> u32
+    ensures { Serves (GoneBy now (origin_of place owner has_owner))
+        host.old.held.room host.new.held.room result }
+{
+    let Some(mut room) = host.take(alloc) else {
+        return CLOSED;
+    };
+    match room.gone(alloc, now, origin_of(place, owner, has_owner)) {
         Ok(status) => {
             host.put(room);
             status

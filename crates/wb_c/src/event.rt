@@ -4,10 +4,12 @@ ghost use Rattle.std.specs.Int.{w32, to_be_bytes};
 ghost use Rattle.wb_member.specs.Holding.{outcome_in};
 ghost use Rattle.wb_c.specs.Events.{bytes_of, gap_bytes, kind_of, outcome_event};
 
+use crate::judged_event;
 use std::alloc::{AllocError, Global};
 use wb_board::Reply;
 use wb_codec::{Datagram, write};
 use wb_display::Canvas;
+use wb_judging::Event as JudgedEvent;
 use wb_names::{Drawop, Gap, Mark, PageId};
 
 /// What follows from a call by bytes.
@@ -35,6 +37,8 @@ pub(crate) enum Event {
     Next(u32),
     /// A canvas.
     Painted(Canvas),
+    /// What a judged member gives.
+    Judged(JudgedEvent),
 }
 
 /// The event that says what became of a drawop.
@@ -85,6 +89,7 @@ impl Event {
             Event::Page(_) => 9,
             Event::Next(_) => 10,
             Event::Painted(_) => 11,
+            Event::Judged(event) => judged_event::kind_of(event),
         }
     }
 
@@ -100,6 +105,7 @@ impl Event {
             Event::Page(page) => Vec::from_slice(alloc, &pair(page.creator, page.number)),
             Event::Next(number) => Vec::from_slice(alloc, &number.to_be_bytes()),
             Event::Painted(canvas) => Vec::from_slice(alloc, canvas.bytes()),
+            Event::Judged(event) => judged_event::bytes_of(alloc, event),
             Event::New => Ok(Vec::new(alloc)),
             Event::Again => Ok(Vec::new(alloc)),
             Event::Clash => Ok(Vec::new(alloc)),

@@ -8,8 +8,12 @@
 
 mod by_bytes;
 mod calls;
+mod deed;
 mod event;
 mod held;
+mod judged_event;
+mod judged_serving;
+mod judging;
 pub mod laws;
 mod parts;
 mod performing;

@@ -1,12 +1,13 @@
-//! Calls by bytes at a host: they are those of its self-managing member.
-ghost use Rattle.std.specs.Prelude.{◌≡◌, IfOk, MatchResult, Ok};
+//! Calls by bytes at a host: they are those of its self-managing member, or of its judged one.
+ghost use Rattle.std.specs.Prelude.{◌≡◌, IfOk, Ok};
 ghost use Rattle.wb_names.specs.Moments.{IsMoment};
 ghost use Rattle.wb_codec.specs.Reading.{reading};
 ghost use Rattle.wb_keeping.specs.Laws.{Added, Came, Ticked};
 ghost use Rattle.wb_member.specs.Questions.{IsAnswerable};
 ghost use Rattle.wb_c.specs.Performing.{Answers, Performs};
-ghost use Rattle.wb_c.specs.Serving.{Acts, Adds, AddsBy, Asks, AtMember, CameBy, Draws, GivesEvent, IsOut, StaysIn, TicksBy, read_by};
+ghost use Rattle.wb_c.specs.Serving.{Adds, AddsBy, Asks, AtMember, CameBy, Draws, GivesEvent, Takes, TicksBy, read_by};
 
+use crate::deed::Deed;
 use crate::performing::{ask, came, draw, tick};
 use crate::query::query_of;
 use crate::room::{Room, write_out};
@@ -15,12 +16,11 @@ use crate::status::{
 };
 use std::alloc::{AllocError, Global};
 use wb_codec::{Datagram, ReadFault, read};
-use wb_keeping::KeptMember;
 use wb_member::Query;
 use wb_names::{Drawop, MOMENT_LIMIT, PageId};
 
 /// The datagram of some bytes, or the status that says why they are none.
-fn datagram_of(alloc: Global, bytes: &[u8]) -> Result<Result<Datagram, u32>, AllocError>
+pub(crate) fn datagram_of(alloc: Global, bytes: &[u8]) -> Result<Result<Datagram, u32>, AllocError>
     ensures { IfOk result (λ read. read ≡ read_by (reading bytes.now)) }
 {
     match read(alloc, bytes) {
@@ -31,22 +31,7 @@ fn datagram_of(alloc: Global, bytes: &[u8]) -> Result<Result<Datagram, u32>, All
 }
 
 impl Room {
-    /// Takes the member out for a call that acts, or says why this host takes none.
-    fn take_acting(&mut self) -> Result<KeptMember, u32>
-        ensures { MatchResult result
-            (λ kept. IsOut kept self.old self.new)
-            (λ why. StaysIn why self.old self.new) }
-    {
-        if self.dialog.is_judged() {
-            return Err(JUDGED);
-        }
-        match self.dialog.take_kept() {
-            Some(kept) => Ok(kept),
-            None => Err(NOT_KEPT),
-        }
-    }
-
-    /// A datagram came in at a moment.
+    /// A datagram came in at a moment, at a self-managing host.
     fn take_datagram(
         &mut self,
         alloc: Global,
@@ -54,15 +39,30 @@ impl Room {
         datagram: &Datagram,
     ) -> Result<u32, AllocError>
         requires { IsMoment now }
-        ensures { IfOk result (Acts (Performs (Came now datagram.now)) self.old self.new) }
+        ensures { IfOk result (AtMember (Performs (Came now datagram.now)) self.old self.new) }
     {
-        let mut kept = match self.take_acting() {
-            Ok(kept) => kept,
-            Err(why) => return Ok(why),
+        let Some(mut kept) = self.dialog.take_kept() else {
+            return Ok(NOT_KEPT);
         };
         let status = came(alloc, &mut kept, now, datagram, &mut self.events);
         self.dialog.put_kept(kept);
         status
+    }
+
+    /// A datagram came in at a moment, without its origin.
+    fn take_unjudged(
+        &mut self,
+        alloc: Global,
+        now: u64,
+        datagram: &Datagram,
+    ) -> Result<u32, AllocError>
+        requires { IsMoment now }
+        ensures { IfOk result (Takes now (Ok datagram.now) self.old self.new) }
+    {
+        if self.dialog.is_judged() {
+            return Ok(JUDGED);
+        }
+        self.take_datagram(alloc, now, datagram)
     }
 
     /// The bytes of a datagram came in at a moment.
@@ -73,9 +73,22 @@ impl Room {
             return Ok(NO_MOMENT);
         }
         match datagram_of(alloc, bytes)? {
-            Ok(datagram) => self.take_datagram(alloc, now, &datagram),
+            Ok(datagram) => self.take_unjudged(alloc, now, &datagram),
             Err(status) => Ok(status),
         }
+    }
+
+    /// Time goes on to a moment, at a self-managing host.
+    fn tick_kept(&mut self, alloc: Global, now: u64) -> Result<u32, AllocError>
+        requires { IsMoment now }
+        ensures { IfOk result (AtMember (Performs (Ticked now)) self.old self.new) }
+    {
+        let Some(mut kept) = self.dialog.take_kept() else {
+            return Ok(NOT_KEPT);
+        };
+        let status = tick(alloc, &mut kept, now, &mut self.events);
+        self.dialog.put_kept(kept);
+        status
     }
 
     /// Time goes on to a moment.
@@ -85,27 +98,36 @@ impl Room {
         if now >= MOMENT_LIMIT {
             return Ok(NO_MOMENT);
         }
-        let mut kept = match self.take_acting() {
-            Ok(kept) => kept,
-            Err(why) => return Ok(why),
+        if self.dialog.is_judged() {
+            return self.judge(alloc, &Deed::Tick { now });
+        }
+        self.tick_kept(alloc, now)
+    }
+
+    /// The user draws what a drawop does, at a self-managing host.
+    fn draw_kept(&mut self, alloc: Global, now: u64, drawop: &Drawop) -> Result<u32, AllocError>
+        requires { IsMoment now }
+        ensures { IfOk result (AtMember
+            (Performs (Added now drawop.now.name.page drawop.now.time drawop.now.op))
+            self.old self.new) }
+    {
+        let Some(mut kept) = self.dialog.take_kept() else {
+            return Ok(NOT_KEPT);
         };
-        let status = tick(alloc, &mut kept, now, &mut self.events);
+        let status = draw(alloc, &mut kept, now, drawop, &mut self.events);
         self.dialog.put_kept(kept);
         status
     }
 
     /// The user draws what a drawop does.
-    fn draw(&mut self, alloc: Global, now: u64, drawop: &Drawop) -> Result<u32, AllocError>
+    fn draw(&mut self, alloc: Global, now: u64, drawop: Drawop) -> Result<u32, AllocError>
         requires { IsMoment now }
-        ensures { IfOk result (Draws now drawop.now self.old self.new) }
+        ensures { IfOk result (Draws now drawop self.old self.new) }
     {
-        let mut kept = match self.take_acting() {
-            Ok(kept) => kept,
-            Err(why) => return Ok(why),
-        };
-        let status = draw(alloc, &mut kept, now, drawop, &mut self.events);
-        self.dialog.put_kept(kept);
-        status
+        if self.dialog.is_judged() {
+            return self.judge(alloc, &Deed::Draw { now, drawop });
+        }
+        self.draw_kept(alloc, now, &drawop)
     }
 
     /// The user draws what a datagram does, if it is a drawop.
@@ -119,7 +141,7 @@ impl Room {
         ensures { IfOk result (Adds now (Ok datagram.now) self.old self.new) }
     {
         match datagram {
-            Datagram::Draw(drawop) => self.draw(alloc, now, drawop),
+            Datagram::Draw(drawop) => self.draw(alloc, now, *drawop),
             _ => Ok(NO_DRAWOP),
         }
     }

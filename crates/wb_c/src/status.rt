@@ -1,8 +1,11 @@
 //! What a call answers, as `include/wb.h` has it.
 ghost use Rattle.std.specs.Prelude.{◌≡◌, MatchResult, false, true};
+ghost use Rattle.wb_c.specs.Judging.{Says};
 ghost use Rattle.wb_c.specs.Statuses.{is_memory, kept_status};
 
 use std::alloc::AllocError;
+use wb_judge::AddFault;
+use wb_judging::JudgedFault;
 use wb_keeper::KeepFault;
 use wb_keeping::KeptFault;
 
@@ -36,8 +39,16 @@ pub(crate) const NUMBERS: u32 = 12;
 pub(crate) const NO_DRAWOP: u32 = 13;
 /// There is no such question.
 pub(crate) const NO_QUESTION: u32 = 14;
-/// The host is judged, and takes calls that act by lines alone.
+/// The host is judged, and takes datagrams with their origins alone.
 pub(crate) const JUDGED: u32 = 15;
+/// The host is not judged, and takes datagrams without origins.
+pub(crate) const NOT_JUDGED: u32 = 16;
+/// Nothing is drawn, since somebody has our number too.
+pub(crate) const TWIN: u32 = 17;
+/// Nothing is drawn, since the board has no cell for a drawing.
+pub(crate) const FULL: u32 = 18;
+/// The time of day is not below 2^62.
+pub(crate) const NO_TIME: u32 = 19;
 /// With the number of the fault: the bytes are not a datagram.
 pub(crate) const NO_DATAGRAM: u32 = 100;
 /// With the number of the fault: no drawop has that operation under its next number.
@@ -55,5 +66,16 @@ pub(crate) fn kept_status(fault: KeptFault) -> Result<u32, AllocError>
         KeptFault::Ours => Ok(OURS),
         KeptFault::Numbers => Ok(NUMBERS),
         KeptFault::Operation(fault) => Ok(NO_OPERATION + fault.code()),
+    }
+}
+
+/// The status of a call that a judged member refuses. Without memory there is none.
+pub(crate) fn judged_status(fault: JudgedFault) -> Result<u32, AllocError>
+    ensures { Says fault result }
+{
+    match fault {
+        JudgedFault::Judge(AddFault::Twin) => Ok(TWIN),
+        JudgedFault::Judge(AddFault::Full) => Ok(FULL),
+        JudgedFault::Kept(fault) => kept_status(fault),
     }
 }

@@ -8,6 +8,7 @@ use crate::event::Event;
 use std::alloc::AllocError;
 use std::collections::VecDeque;
 use wb_codec::Datagram;
+use wb_judging::Event as JudgedEvent;
 use wb_member::Answer;
 use wb_names::{Drawop, Gap, Mark, PageId};
 
@@ -87,6 +88,19 @@ pub(crate) fn add_sent(events: &mut VecDeque<Event>, sent: Vec<Datagram>) -> Res
 {
     for datagram in sent {
         add(events, Event::Sent(datagram))?;
+    }
+    Ok(())
+}
+
+/// Adds an event for each that a judged member gives, in their order.
+pub(crate) fn add_judged(
+    events: &mut VecDeque<Event>,
+    given: Vec<JudgedEvent>,
+) -> Result<(), AllocError>
+    ensures { OnOk result (events.new.items ≡ events.old.items ++ map Event.Judged given.items) }
+{
+    for event in given {
+        add(events, Event::Judged(event))?;
     }
     Ok(())
 }

@@ -152,6 +152,7 @@ WAYS = [
     Way("`wb host`, kept", by_program("host", kept_lines)),
     Way("the page's module, kept, by lines", by_module("lines")),
     Way("the page's module, kept, by bytes", by_module("bytes")),
+    Way("the page's module, judged, by bytes", by_module("judged by bytes")),
 ]
 
 # the same in a browser: what is handed in, as words or as datagrams, and how
@@ -161,7 +162,9 @@ IN_BROWSER: dict[str, tuple[str, dict[str, Any]]] = {
     "Yjs, arrays": ("words", {"kind": "array", "atOnce": 1}),
     "the page's module, `wb-any.wasm`, kept, by lines": ("digits", {"pace": PACE, "way": "lines", "wide": False}),
     "the page's module, `wb-any.wasm`, kept, by bytes": ("digits", {"pace": PACE, "way": "bytes", "wide": False}),
+    "the page's module, `wb-any.wasm`, judged, by bytes": ("digits", {"pace": PACE, "way": "judged by bytes", "wide": False}),
     "the page's module, `wb.wasm`, kept, by bytes": ("digits", {"pace": PACE, "way": "bytes", "wide": True}),
+    "the page's module, `wb.wasm`, judged, by bytes": ("digits", {"pace": PACE, "way": "judged by bytes", "wide": True}),
 }
 
 

@@ -38,21 +38,48 @@ function hexOf(bytes) {
   return digits;
 }
 
-/** How a host is handed a datagram, and whether it was new: by bytes, or by a line and its block. */
+/** Where the drawings come from at a judged host: a member, since it has answered. */
+const MEMBER = { place: 777n, owner: null };
+
+/** How a host is handed a datagram, and whether it was new: by bytes, or by a line and its block; a judged host also with its origin. */
 const WAYS = {
   bytes: (host, now, datagram) => host.came(now, datagram).became === 'new',
   lines: (host, now, datagram) => host.ask(`came ${now} ${hexOf(datagram)}`).lines.at(-1) === 'batch 1 0 0 0',
+  'judged by bytes': (host, now, datagram) => host.cameFrom(now, MEMBER, datagram).became === 'new',
 };
 
-/** A self-managing host, over the page's module.
- * @param {any} program @param {{ given: string[], pace: number, way: 'bytes' | 'lines' }} job the datagrams in hexadecimal */
+/** A self-managing host, and its present moment.
+ * @returns {number} */
+function keeps(host) {
+  host.ask('keep 4000 0');
+  return 0;
+}
+
+/** A judged host, whose first report a member has answered, and the moment of that. */
+function judges(host) {
+  host.ask('judge 0 4000 0 1764000000000000 - -');
+  let now = 0, answer = host.tick(now);
+  while (!answer.send.some(isReport)) answer = host.tick(now = answer.due);
+  const head = [0x57, 0x42, 1, 2, 0, 0, 0, 44, 0, 0, 0, 9, ...longOf(5), 0, 0, 0, 1, 0, 0, 0, 1, 0, 0, 0, 1, 0, 0, 0, 1];
+  host.cameFrom(now, MEMBER, Uint8Array.from([...head, ...longOf(now), ...longOf(0)]));
+  return now;
+}
+
+const isReport = (datagram) => datagram[3] === 2;
+
+/** The eight bytes of a number. */
+const longOf = (number) => new Uint8Array(new BigUint64Array([BigInt(number)]).buffer).reverse();
+
+/** A host over the page's module, which manages itself, or is judged.
+ * @param {any} program @param {{ given: string[], pace: number, way: 'bytes' | 'lines' | 'judged by bytes' }} job the datagrams in hexadecimal */
 export function byModule(program, { given, pace, way }) {
   const items = given.map((digits) => Uint8Array.from(digits.match(/../g), (pair) => parseInt(pair, 16))), hands = WAYS[way];
   const open = async () => {
     const host = await program.start();
-    for (const line of ['board 1 65535 1 42', 'keep 4000 0']) host.ask(line);
+    host.ask('board 1 65535 1 42');
+    const since = way === 'judged by bytes' ? judges(host) : keeps(host);
     let held = 0;
-    return { take: (list, at) => { if (hands(host, pace * at, list[at])) held += 1; }, held: () => held };
+    return { take: (list, at) => { if (hands(host, since + pace * at, list[at])) held += 1; }, held: () => held };
   };
   return { items, open, atOnce: 1 };
 }

@@ -1,4 +1,4 @@
-use Rattle.std.proofs.Common.{◌≡◌, ◌<◌, ℕ, Result, Ok, Err, IfOk, refl, sym, subst, ◌∙◌, arith}
+use Rattle.std.proofs.Common.{◌≡◌, ℕ, Result, Ok, Err, IfOk, refl, sym, subst, ◌∙◌, arith}
 use Rattle.std.specs.Prelude.{nat_lt}
 use Rattle.wb_names.specs.declared.moment.TheConstants.{MOMENT_LIMIT}
 use Rattle.wb_codec.specs.Reading.{reading}
@@ -13,10 +13,10 @@ returns-then-now-ge-MOMENT_LIMIT c = not_in_time (Takes c.args.now (read_by (rea
 pub returns-in-Ok : goal.returns-in-Ok
 returns-in-Ok c =
     let now = c.args.now in
-    let r = c.take_datagram.result in
+    let r = c.take_unjudged.result in
     let is : Ok c.in-Ok.datagram ≡ read_by (reading c.args.bytes.now) = sym c.in-Ok.is ∙ c.in_ok-datagram.ensures in
-    subst (λ (v : Result Datagram ℕ). IfOk r (InTime (nat_lt now MOMENT_LIMIT) (Takes now v) c.args.self.now c.take_datagram.new.self)) is
-    (all_in_time (Takes now (Ok c.in-Ok.datagram)) c.args.self.now c.take_datagram.new.self now r (omega (arith, c.if-now-ge-MOMENT_LIMIT.false)) c.take_datagram.ensures)
+    subst (λ (v : Result Datagram ℕ). IfOk r (InTime (nat_lt now MOMENT_LIMIT) (Takes now v) c.args.self.now c.take_unjudged.new.self)) is
+    (all_in_time (Takes now (Ok c.in-Ok.datagram)) c.args.self.now c.take_unjudged.new.self now r (omega (arith, c.if-now-ge-MOMENT_LIMIT.false)) c.take_unjudged.ensures)
 
 pub returns-in-Err : goal.returns-in-Err
 returns-in-Err c =

@@ -1,17 +1,15 @@
-use Rattle.std.proofs.Common.{refl}
 use Rattle.wb_keeping.specs.Laws.{Added}
+use Rattle.wb_judging.specs.Judged.{UserDrew}
 use Rattle.wb_c.specs.Performing.{Performs}
-use Rattle.wb_c.proofs.Served.{acting_did, acting_none}
-use Rattle.wb_c.specs.declared.room.Room.{Room as RoomValue}
+use Rattle.wb_c.proofs.Served.{either_judged, either_kept}
 use Rattle.wb_c.proofs.room.Room.draw.Goals as goal
 
-pub returns-in-Err : goal.returns-in-Err
-returns-in-Err c =
-    acting_none (Performs (Added c.args.now c.args.drawop.now.name.page c.args.drawop.now.time c.args.drawop.now.op)) c.args.self.now c.take_acting.new.self c.in-Err.why c.in-Err.ensures
+pub returns-then-is_judged : goal.returns-then-is_judged
+returns-then-is_judged c =
+    let d = c.args.drawop in
+    either_judged (UserDrew c.args.now d.name.page d.op) (Performs (Added c.args.now d.name.page d.time d.op)) c.args.self.now c.judge.new.self c.judge.result c.is_judged.result c.is_judged.ensures c.if-is_judged.true c.judge.ensures
 
 pub returns : goal.returns
 returns c =
-    let mid : RoomValue = c.take_acting.new.self in
-    let after : RoomValue = record { dialog = c.put_kept.new.self; block = mid.block; events = c.draw-status.new.events } in
-    acting_did (Performs (Added c.args.now c.args.drawop.now.name.page c.args.drawop.now.time c.args.drawop.now.op)) c.args.self.now mid after c.draw-status.result c.in-Ok.kept c.draw-status.new.kept c.in-Ok.ensures
-    c.put_kept.ensures refl c.draw-status.ensures
+    let d = c.args.drawop in
+    either_kept (UserDrew c.args.now d.name.page d.op) (Performs (Added c.args.now d.name.page d.time d.op)) c.args.self.now c.draw_kept.new.self c.draw_kept.result c.is_judged.result c.is_judged.ensures c.if-is_judged.false c.draw_kept.ensures
