@@ -2,5 +2,6 @@
 pub mod Parts
 pub mod Steps
 pub mod Reading
+pub mod Arriving
 pub mod Taking
 pub mod Ending

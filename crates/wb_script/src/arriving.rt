@@ -1,5 +1,5 @@
 //! The arrivals of a batch, as workers take them: the script is read on as they do.
-ghost use Rattle.wb_lines.specs.Moments.{moment};
+ghost use Rattle.wb_lines.specs.Progress.{reached};
 ghost use Rattle.wb_script.specs.Inside.Reading.{ReadsTo, ArrivesTo};
 
 use crate::part::Part;
@@ -17,10 +17,8 @@ fn read_on<R: Source, W: Sink>(
     source: &mut R,
     sink: &mut W,
 ) -> Option<Drawop>
-    ensures { ReadsTo (moment progress.old.lines progress.old.output
-        (R.left source.old) (R.has_failed source.old) (W.taken sink.old) (W.has_failed sink.old))
-        (moment progress.new.lines progress.new.output (R.left source.new) (R.has_failed source.new)
-        (W.taken sink.new) (W.has_failed sink.new)) result }
+    ensures { ReadsTo (reached R.Source W.Sink progress.old source.old sink.old)
+        (reached R.Source W.Sink progress.new source.new sink.new) result }
 {
     while let Some(said) = progress.next_joined(alloc, source, sink) {
         if let Part::Arrival(drawop) = said.part() {
@@ -38,10 +36,8 @@ fn next_arrival<R: Source, W: Sink>(
     sink: &mut W,
     first: &mut Option<Drawop>,
 ) -> Option<Drawop>
-    ensures { ArrivesTo (moment progress.old.lines progress.old.output (R.left source.old)
-        (R.has_failed source.old) (W.taken sink.old) (W.has_failed sink.old)) first.old
-        (moment progress.new.lines progress.new.output (R.left source.new) (R.has_failed source.new)
-        (W.taken sink.new) (W.has_failed sink.new)) first.new result }
+    ensures { ArrivesTo (reached R.Source W.Sink progress.old source.old sink.old) first.old
+        (reached R.Source W.Sink progress.new source.new sink.new) first.new result }
 {
     match first.take() {
         Some(drawop) => Some(drawop),
@@ -65,25 +61,14 @@ pub struct BatchSource<'a, R: Source, W: Sink> {
 
 impl<R: Source, W: Sink> Arrivals for BatchSource<'_, R, W> {
     ghost use Rattle.std.specs.Prelude.{◌≡◌, refl};
-    ghost use Rattle.wb_lines.specs.Moments.{moment};
+    ghost use Rattle.wb_script.specs.Inside.Arriving.{reading_of};
     ghost use Rattle.wb_script.specs.Inside.Reading.{Gives, ReadsOn, most_of};
     ghost use Rattle.std.proofs.Common.{◌++◌, ◌∙◌, sym, subst, append_assoc};
     ghost use Rattle.std.proofs.lemmas.List.{append-nil};
 
     ghost gives = { λ a ds b. (a.progress.ghost_name ≡ b.progress.ghost_name) ×
         (a.source.ghost_name ≡ b.source.ghost_name) × (a.sink.ghost_name ≡ b.sink.ghost_name) ×
-        Gives (record {
-          at = moment a.progress.now.lines a.progress.now.output (R.left a.source.now)
-              (R.has_failed a.source.now) (W.taken a.sink.now) (W.has_failed a.sink.now);
-          first = a.first;
-          over = a.over;
-        }) ds (record {
-          at = moment b.progress.now.lines b.progress.now.output
-              (R.left b.source.now) (R.has_failed b.source.now) (W.taken b.sink.now)
-              (W.has_failed b.sink.now);
-          first = b.first;
-          over = b.over;
-        }) };
+        Gives (reading_of R.Source W.Sink a) ds (reading_of R.Source W.Sink b) };
 
     ghost has_ended = { λ s. s.over };
 
@@ -116,13 +101,8 @@ impl<R: Source, W: Sink> Arrivals for BatchSource<'_, R, W> {
       refl,
       refl,
       refl,
-      λ start arrived p. subst (λ l. ReadsOn start l
-          (record {
-            at = moment s.progress.now.lines s.progress.now.output (R.left s.source.now)
-                (R.has_failed s.source.now) (W.taken s.sink.now) (W.has_failed s.sink.now);
-            first = s.first;
-            over = s.over;
-          })) (sym (append-nil arrived)) p,
+      λ start arrived p. subst (λ l. ReadsOn start l (reading_of R.Source W.Sink s))
+          (sym (append-nil arrived)) p,
     ) };
 
     ghost gives_on = { λ a b c ds es p q. (
@@ -130,13 +110,7 @@ impl<R: Source, W: Sink> Arrivals for BatchSource<'_, R, W> {
       p.1 ∙ q.1,
       p.2 ∙ q.2,
       λ start arrived r.
-          subst (λ l. ReadsOn start l (record {
-            at = moment c.progress.now.lines c.progress.now.output
-                (R.left c.source.now) (R.has_failed c.source.now) (W.taken c.sink.now)
-                (W.has_failed c.sink.now);
-            first = c.first;
-            over = c.over;
-          })) (append_assoc arrived ds es)
+          subst (λ l. ReadsOn start l (reading_of R.Source W.Sink c)) (append_assoc arrived ds es)
           (q.3 start (arrived ++ ds) (p.3 start arrived r)),
     ) };
 }

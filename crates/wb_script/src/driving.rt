@@ -4,7 +4,7 @@ ghost use Rattle.std.specs.Io.KnownBytes.{Appends};
 ghost use Rattle.wb_lines.specs.declared.lines.Seen.TheVariants as seens;
 ghost use Rattle.wb_lines.specs.Groups.{IsOutcome, group_rules};
 ghost use Rattle.wb_lines.specs.Driving.{Gave};
-ghost use Rattle.wb_lines.specs.Moments.{moment};
+ghost use Rattle.wb_lines.specs.Progress.{reached};
 ghost use Rattle.wb_lines.specs.Steps.{DrivesAll, MeetsOne};
 ghost use Rattle.wb_script.specs.Script.{State, most_lines};
 ghost use Rattle.wb_script.specs.Inside.Parts.{by_batches};
@@ -31,10 +31,8 @@ fn take_groups<T: Threads + Wait + Sync, R: Source, W: Sink, G: Gate + Sync>(
 ) -> Result<u64, DriveFault<LineFault>>
     requires start { progress.old.lines.seen ≡ seens.Nothing }
     ensures all { DrivesAll by_batches may_take (IsAt host.old) (IsAt host.new)
-        (moment progress.old.lines progress.old.output (R.left source.old) (R.has_failed source.old)
-        (W.taken sink.old) (W.has_failed sink.old))
-        (moment progress.new.lines progress.new.output (R.left source.new) (R.has_failed source.new)
-        (W.taken sink.new) (W.has_failed sink.new)) result }
+        (reached R.Source W.Sink progress.old source.old sink.old)
+        (reached R.Source W.Sink progress.new source.new sink.new) result }
     ensures few { IfOk result (λ lines. lines ≤ progress.old.lines.most) }
     ensures faults { (result ≡ Err DriveFault.Read → progress.new.lines.seen ≡ seens.Failed) ×
         (result ≡ Err DriveFault.Write → progress.new.lines.seen ≡ seens.Unwritten) }

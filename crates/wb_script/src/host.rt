@@ -4,7 +4,8 @@ ghost use Rattle.wb_lines.specs.declared.handler.Stop.TheVariants as stops;
 ghost use Rattle.wb_lines.specs.declared.lines.Seen.TheVariants as seens;
 ghost use Rattle.wb_lines.specs.Input.{InputLine};
 ghost use Rattle.wb_lines.specs.Handling.{whole};
-ghost use Rattle.wb_lines.specs.Moments.{moment, Reads};
+ghost use Rattle.wb_lines.specs.Moments.{Reads};
+ghost use Rattle.wb_lines.specs.Progress.{reached};
 ghost use Rattle.wb_lines.specs.Steps.{DoesGroup};
 ghost use Rattle.wb_board.specs.Counts.{IsCellCount, IsWorkerCount};
 ghost use Rattle.wb_commands.specs.Parsing.{IsWithin};
@@ -170,10 +171,8 @@ impl<T: Threads + Wait + Sync, G: Gate + Sync> Host<'_, T, G> {
         requires taken { progress.old.lines.seen ≡ seens.Nothing }
         ensures refused { result ≢ Err stops.Memory → self.new.refused ≡ self.old.refused }
         ensures text { (printed : List ℕ) × (joined : List InputLine) ×
-            Reads by_batches (moment progress.old.lines progress.old.output (R.left source.old)
-            (R.has_failed source.old) (W.taken sink.old) (W.has_failed sink.old))
-            (moment progress.new.lines progress.new.output (R.left source.new)
-            (R.has_failed source.new) (W.taken sink.new) (W.has_failed sink.new)) printed joined ×
+            Reads by_batches (reached R.Source W.Sink progress.old source.old sink.old)
+            (reached R.Source W.Sink progress.new source.new sink.new) printed joined ×
             ((s : State) → IsAt self.old s → DoesGroup by_batches (IsAt self.new) printed
             (may_take s progress.old.lines.done (whole progress.old.lines.line))
             progress.old.lines.line joined progress.new.lines result) }
@@ -200,10 +199,8 @@ impl<T: Threads + Wait + Sync, G: Gate + Sync> Host<'_, T, G> {
         requires part { part_in progress.old.lines.line ≡ Arrival drawop }
         ensures refused { result ≢ Err stops.Memory → self.new.refused ≡ self.old.refused }
         ensures text { (printed : List ℕ) × (joined : List InputLine) ×
-            Reads by_batches (moment progress.old.lines progress.old.output (R.left source.old)
-            (R.has_failed source.old) (W.taken sink.old) (W.has_failed sink.old))
-            (moment progress.new.lines progress.new.output (R.left source.new)
-            (R.has_failed source.new) (W.taken sink.new) (W.has_failed sink.new)) printed joined ×
+            Reads by_batches (reached R.Source W.Sink progress.old source.old sink.old)
+            (reached R.Source W.Sink progress.new source.new sink.new) printed joined ×
             ((s : State) → IsAt self.old s → DoesGroup by_batches (IsAt self.new) printed
             (may_take s progress.old.lines.done (whole progress.old.lines.line))
             progress.old.lines.line joined progress.new.lines result) }

@@ -3,10 +3,12 @@ ghost use Rattle.std.specs.Prelude.{◌≡◌, ◌≤◌, ◌<◌, ◌++◌, ℕ
 ghost use Rattle.wb_names.specs.Values.{DrawopValue};
 ghost use Rattle.wb_board.specs.Counts.{IsWorkerCount};
 ghost use Rattle.wb_lines.specs.Input.{InputLine};
-ghost use Rattle.wb_lines.specs.Moments.{moment, is_broken, Reads};
+ghost use Rattle.wb_lines.specs.Moments.{is_broken, Reads};
+ghost use Rattle.wb_lines.specs.Progress.{reached};
 ghost use Rattle.wb_feed.specs.Batches.{counts_in};
 ghost use Rattle.wb_script.specs.declared.taking.Untaken.TheVariants as untaken;
 ghost use Rattle.wb_script.specs.Inside.Parts.{by_batches};
+ghost use Rattle.wb_script.specs.Inside.Arriving.{reading_of};
 ghost use Rattle.wb_script.specs.Inside.Reading.{ReadsOn};
 ghost use Rattle.wb_script.specs.Inside.Taking.{PrintsTaken, TakesAll, TakesFrom, TakesArrivals, TakesBatch};
 
@@ -96,20 +98,8 @@ fn take_from<T: Threads + Wait + Sync, R: Source, W: Sink, G: Gate + Sync>(
         (arriving.new.source.ghost_name ≡ arriving.old.source.ghost_name) ×
         (arriving.new.sink.ghost_name ≡ arriving.old.sink.ghost_name) }
     ensures reads { (arrived : List DrawopValue) × ReadsOn
-        (record {
-          at = moment arriving.old.progress.now.lines arriving.old.progress.now.output
-              (R.left arriving.old.source.now) (R.has_failed arriving.old.source.now)
-              (W.taken arriving.old.sink.now) (W.has_failed arriving.old.sink.now);
-          first = arriving.old.first;
-          over = arriving.old.over;
-        }) arrived
-        (record {
-          at = moment arriving.new.progress.now.lines arriving.new.progress.now.output
-              (R.left arriving.new.source.now) (R.has_failed arriving.new.source.now)
-              (W.taken arriving.new.sink.now) (W.has_failed arriving.new.sink.now);
-          first = arriving.new.first;
-          over = arriving.new.over;
-        }) ×
+        (reading_of R.Source W.Sink arriving.old) arrived
+        (reading_of R.Source W.Sink arriving.new) ×
         TakesFrom member workers arrived arriving.new.over result }
 {
     let (member, batch, _drawops) = take_all(place, member, workers, arriving)?;
@@ -129,10 +119,8 @@ fn take_arrivals<T: Threads + Wait + Sync, R: Source, W: Sink, G: Gate + Sync>(
 ) -> Result<(Member, Batch), Untaken>
     requires workers { IsWorkerCount workers }
     ensures { (joined : List InputLine) ×
-        Reads by_batches (moment progress.old.lines progress.old.output
-        (R.left source.old) (R.has_failed source.old) (W.taken sink.old) (W.has_failed sink.old))
-        (moment progress.new.lines progress.new.output (R.left source.new) (R.has_failed source.new)
-        (W.taken sink.new) (W.has_failed sink.new)) [] joined ×
+        Reads by_batches (reached R.Source W.Sink progress.old source.old sink.old)
+        (reached R.Source W.Sink progress.new source.new sink.new) [] joined ×
         TakesArrivals member workers first joined progress.new.lines result }
 {
     let mut arriving = BatchSource {
@@ -158,11 +146,9 @@ pub fn take_batch<T: Threads + Wait + Sync, R: Source, W: Sink, G: Gate + Sync>(
     sink: &mut W,
 ) -> Result<Member, Untaken>
     requires workers { IsWorkerCount workers }
-    ensures { (printed : List ℕ) ×
-        (joined : List InputLine) × Reads by_batches (moment progress.old.lines progress.old.output
-        (R.left source.old) (R.has_failed source.old) (W.taken sink.old) (W.has_failed sink.old))
-        (moment progress.new.lines progress.new.output (R.left source.new) (R.has_failed source.new)
-        (W.taken sink.new) (W.has_failed sink.new)) printed joined ×
+    ensures { (printed : List ℕ) × (joined : List InputLine) ×
+        Reads by_batches (reached R.Source W.Sink progress.old source.old sink.old)
+        (reached R.Source W.Sink progress.new source.new sink.new) printed joined ×
         TakesBatch member workers first joined printed progress.new.lines result }
 {
     let taken = take_arrivals(place, member, workers, first, progress, source, sink);

@@ -1,5 +1,6 @@
 use Rattle.std.proofs.Common.{rules, ◌≡◌, refl, Some, false}
-use Rattle.wb_lines.specs.Moments.{moment}
+use Rattle.wb_lines.specs.Progress.{reached}
+use Rattle.wb_script.specs.Inside.Arriving.{reading_of}
 use Rattle.wb_script.proofs.Reading.{takes_arrivals}
 use Rattle.wb_script.proofs.taking.take_arrivals.Goals as goal
 
@@ -15,7 +16,7 @@ returns g c =
       r.gathers.0,
       r.gathers.1,
       takes_arrivals c.args.member c.args.workers
-          (record { at = moment c.args.progress.now.lines c.args.progress.now.output (g.R.Source.left c.args.source.now) (g.R.Source.has_failed c.args.source.now) (g.W.Sink.taken c.args.sink.now) (g.W.Sink.has_failed c.args.sink.now); first = Some c.args.first; over = false })
-          (record { at = moment new.progress.now.lines new.progress.now.output (g.R.Source.left new.source.now) (g.R.Source.has_failed new.source.now) (g.W.Sink.taken new.sink.now) (g.W.Sink.has_failed new.sink.now); first = new.first; over = new.over })
+          (record { at = reached g.R.Source g.W.Sink c.args.progress.now c.args.source.now c.args.sink.now; first = Some c.args.first; over = false })
+          (reading_of g.R.Source g.W.Sink new)
           c.args.first reads.0 r c.take_from.result refl reads.2,
     )
