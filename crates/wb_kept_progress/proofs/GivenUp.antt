@@ -6,8 +6,8 @@ use Rattle.wb_recovery.specs.declared.timers.AskTimer.{AskTimer}
 use Rattle.wb_recovery.specs.declared.timers.Timers.{Timers}
 use Rattle.wb_keeper.specs.Keeper.{GiveUp}
 use Rattle.wb_progress.specs.InTime as keepers
-use Rattle.wb_progress.specs.InTime.{answering_by, known_from, repairing}
-use Rattle.wb_progress.specs.Turns.{Accepts, Terms, Turn, settled_by}
+use Rattle.wb_progress.specs.InTime.{known_from, repairing}
+use Rattle.wb_progress.specs.Turns.{Accepts, Turn}
 use Rattle.wb_progress.specs.Turns as turning
 use Rattle.wb_progress.proofs.Answering.{request_is_answered_other}
 use Rattle.wb_progress.proofs.Leading.{timer_leads_or_is_given_up as keeper_leads}

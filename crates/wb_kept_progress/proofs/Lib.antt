@@ -34,6 +34,7 @@ pub mod WantingCalls
 pub mod AsksStand
 pub mod NoCredit
 pub mod TurnNames
+pub mod LeadsOn
 pub mod LackWanted
 pub mod Young
 pub mod StopCauses

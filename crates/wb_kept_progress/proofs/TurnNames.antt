@@ -31,19 +31,26 @@ module _ (t : Turns) (gap : Gap) (filled : gap.first ≤ gap.last) where
   below : (number last : ℕ) → min number last ≤ last
   below number last = omega arith
 
-  number_above : gap.first ≤ number_in t gap
+  pub number_above : gap.first ≤ number_in t gap
   number_above = above gap.first (64 * (t.round % windows_in gap)) t.step gap.last filled
 
-  number_below : number_in t gap ≤ gap.last
+  pub number_below : number_in t gap ≤ gap.last
   number_below = below (window_in t.round gap + t.step) gap.last
 
 -- a number of a hole is missing
-missing_in : (held : List DrawopValue) (hole : Hole) (number : ℕ) → Contains (holes_of held) hole → hole.gap.first ≤ number → number ≤ hole.gap.last → IsMissing held hole.page [] hole.gap.source number
+pub missing_in : (held : List DrawopValue) (hole : Hole) (number : ℕ) → Contains (holes_of held) hole → hole.gap.first ≤ number → number ≤ hole.gap.last → IsMissing held hole.page [] hole.gap.source number
 missing_in held hole number there low high =
     let p = from_flat (holes_on held) (pages_of held) hole there in
     let g = from_map (hole_on p.0) (gaps_of held p.0 []) hole p.1 in
     subst (λ (h : Hole). h.gap.first ≤ number → number ≤ h.gap.last → IsMissing held h.page [] h.gap.source number) g.2
     (λ low high. ((gaps_of_page held p.0 []).missing g.0.source number).0 (g.0, g.1, refl, low, high)) low high
+
+-- of some holes one comes first
+pub some_first : (hole : Hole) (holes : List Hole) → Contains holes hole → Rise holes → find (begins_after (start nowhere 0 0)) holes ≡ None → ⊥
+some_first hole [] among rise none = Contains-none hole among
+some_first hole (h ∷ holes) among rise none = differ h (sym (found_first h holes rise) ∙ none) where
+  differ : (h : Hole) → Some h ≡ None → ⊥
+  differ h e = cc
 
 module _ (held : List DrawopValue) (t : Turns) where
   abbrev Names : Type 0
@@ -60,12 +67,6 @@ module _ (held : List DrawopValue) (t : Turns) where
 
   pub turn_names : (hole : Hole) → Contains (holes_of held) hole → Names
   turn_names hole there = by (hole_after held t.page t.source t.number) refl (hole_after held nowhere 0 0) refl where
-    some_first : (holes : List Hole) → Contains holes hole → Rise holes → find (begins_after (start nowhere 0 0)) holes ≡ None → ⊥
-    some_first [] among rise none = Contains-none hole among
-    some_first (h ∷ holes) among rise none = differ h (sym (found_first h holes rise) ∙ none) where
-      differ : (h : Hole) → Some h ≡ None → ⊥
-      differ h e = cc
-
     by : (next : Option Hole) → hole_after held t.page t.source t.number ≡ next → (first : Option Hole) → hole_after held nowhere 0 0 ≡ first → Names
     by (Some h) e first f =
         named t.page t.source t.number t h e
@@ -73,7 +74,7 @@ module _ (held : List DrawopValue) (t : Turns) where
     by None e (Some h) f =
         named nowhere 0 0 (next_round t) h f
         (ap (λ (o : Option Hole). named_by o (hole_after held nowhere 0 0)) e ∙ ap (named_by None) f)
-    by None e None f = absurd (some_first (holes_of held) there (holes_rise held) f)
+    by None e None f = absurd (some_first hole (holes_of held) there (holes_rise held) f)
 
 -- each turn asks for such a number, where a place of the credit is left
 pub turns_ask : TurnsAsk

@@ -160,7 +160,7 @@ module _ (see : List Line → View) where
   pub turn_owed : (p : Policy) → p.owed ≤ (see []).now → (turn see p).policy.owed ≤ (see []).now + 250000
   turn_owed p le = turn_to_owed (hole_after (see []).held p.turns.page p.turns.source p.turns.number) (hole_after (see []).held nowhere 0 0) p le
 
-costs : HoldsOfDue (λ k lines m. CostsMore k m)
+pub costs : HoldsOfDue (λ k lines m. CostsMore k m)
 costs = record {
   nothing = costs_nothing;
   both = λ k m n one other a b. costs_both k m n a b;

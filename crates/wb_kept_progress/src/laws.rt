@@ -4,6 +4,7 @@
 ghost use Rattle.wb_kept_progress.specs.Agreement.{SessionsAgree};
 ghost use Rattle.wb_kept_progress.specs.Examples.{LivelyMeets, PatientMeets};
 ghost use Rattle.wb_kept_progress.specs.Judged.{JudgedMembersSendFewDrawops};
+ghost use Rattle.wb_kept_progress.specs.LeadsOn.{AskedLeadsOn, NeighboursAreAskedFor};
 ghost use Rattle.wb_kept_progress.specs.Promises.{Promises, PromisesSuffice};
 ghost use Rattle.wb_kept_progress.specs.Repairs.{AskedCanCome, MarksComeToBeTold, MissingCanCome, MissingIsAsked, MissingIsAskedInTurn, MissingIsAskedSoon, TurnsAsk};
 ghost use Rattle.wb_kept_progress.specs.Rounds.{SessionsBecomeWholeByRounds};
@@ -44,6 +45,16 @@ pub fn turns_ask()
 pub fn what_is_lost_can_come()
     ensures told { MarksComeToBeTold }
     ensures comes { NoStateIsADeadEnd }
+{}
+
+/// Whatever came in before: when a drawop comes that a host lacked, and its board has a free cell
+/// afterwards, each missing number of that source up to 64 away is asked for by then, unless more
+/// than 47 names are owed. If the drawop was asked for, and a number is missing afterwards, some
+/// missing number is asked for. So what was asked for ends no requests by coming while numbers are
+/// missing.
+pub fn what_comes_leads_on()
+    ensures near { NeighboursAreAskedFor }
+    ensures asked { AskedLeadsOn }
 {}
 
 /// If hosts, drivers and the network keep to stated times, whatever hosts ask for, give up and
