@@ -64,11 +64,14 @@ def test_numbers_of_the_library() -> None:
     script, header = (TOP / "web/member/host.js").read_text(), (TOP / "include/wb.h").read_text()
     known = dict(re.findall(r"WB_(\w+) = (\d+)", header))
     named = dict(re.findall(r"\b([A-Z_]+) = (\d+)[,;]", next(line for line in script.splitlines() if line.startswith("const DONE = "))))
-    assert named == {name: known[name] for name in named} and len(named) == 8
-    outcomes = re.findall(r"(\d+): '(\w+)'", next(line for line in script.splitlines() if line.startswith("const OUTCOMES")))
-    assert outcomes == [(known[name], word) for name, word in (("NEW", "new"), ("AGAIN", "again"), ("CLASH", "clash"), ("LEFT", "full"))]
+    assert named == {name: known[name] for name in named} and len(named) == 7
+    told = re.findall(r"^ +(\d+): \(answer", script.split("const TELLS")[1].split("\n};")[0], re.MULTILINE)
+    assert told == [known[name] for name in ("SENT", "NEW", "AGAIN", "CLASH", "LEFT", "DROPPED", "RECORD", "DREW", "FETCH", "WARN")]
+    for words, kind in (("DROPS", "DROP_"), ("WARNINGS", "WARN_")):
+        listed = re.findall(r"'(\w+)'", script.split(f"const {words} = [")[1].split("]")[0])
+        assert {kind + word.upper(): str(number) for number, word in enumerate(listed, 1)} == {name: number for name, number in known.items() if name.startswith(kind)}
     refusals = re.findall(r"(\d+): '([\w ]+)'", script.split("const REFUSALS")[1].split(");")[0])
-    names = ("NOT_KEPT", "NO_MOMENT", "BACK_IN_TIME", "LISTENING", "OURS", "NUMBERS", "NO_DRAWOP", "NO_QUESTION", "JUDGED")
+    names = ("NOT_KEPT", "NO_MOMENT", "BACK_IN_TIME", "LISTENING", "OURS", "NUMBERS", "NO_DRAWOP", "NO_QUESTION", "JUDGED", "NOT_JUDGED", "TWIN", "FULL", "NO_TIME")
     assert [number for number, _ in refusals] == [known[name] for name in names]
     assert sorted(re.findall(r"@property \{.*\} (wb_\w+)", script)) == module.CALLS
 
