@@ -1,6 +1,6 @@
 // Tests the packets of MQTT, and what a member makes of a broker that is slow, gone or refuses, without one.
 import { Broker, Packets, nameAt, packet } from '../../web/member/transports.js';
-import { fault, judge } from '../judge.mjs';
+import { check, fault } from '../check.mjs';
 
 /** The packets that come out of bytes that come in parts of one size. */
 function parted(bytes, size) {
@@ -13,13 +13,13 @@ function parted(bytes, size) {
 }
 
 export function testPackets() {
-  judge('a packet without a body', [...packet(0xc0)], [0xc0, 0]);
-  judge('lengths of one and two bytes', [[...packet(0x30, new Uint8Array(127)).subarray(0, 2)], [...packet(0x30, new Uint8Array(200)).subarray(0, 3)]], [[0x30, 127], [0x30, 200, 1]]);
+  check('a packet without a body', [...packet(0xc0)], [0xc0, 0]);
+  check('lengths of one and two bytes', [[...packet(0x30, new Uint8Array(127)).subarray(0, 2)], [...packet(0x30, new Uint8Array(200)).subarray(0, 3)]], [[0x30, 127], [0x30, 200, 1]]);
   const parts = [packet(0x20, [0, 0]), packet(0x30, new Uint8Array(70_000)), packet(0xd0), packet(0x30, [1], [2, 3])];
   const bytes = new Uint8Array(Buffer.concat(parts)), wanted = [[0x20, 2], [0x30, 70_000], [0xd0, 0], [0x30, 3]];
-  for (const size of [1, 7, 4_096, bytes.length]) judge(`packets in parts of ${size}`, parted(bytes, size), wanted);
-  judge('a packet that is too long', fault(() => parted(new Uint8Array([0x30, 255, 255, 255, 127]), 5)), 'a packet that is too long');
-  judge('a length that does not end', fault(() => parted(new Uint8Array([0x30, 128, 128, 128, 128, 128]), 6)), 'a packet that is too long');
+  for (const size of [1, 7, 4_096, bytes.length]) check(`packets in parts of ${size}`, parted(bytes, size), wanted);
+  check('a packet that is too long', fault(() => parted(new Uint8Array([0x30, 255, 255, 255, 127]), 5)), 'a packet that is too long');
+  check('a length that does not end', fault(() => parted(new Uint8Array([0x30, 128, 128, 128, 128, 128]), 6)), 'a packet that is too long');
 }
 
 /** A socket that remembers what is sent, and says what a test has it say. */
@@ -72,12 +72,12 @@ function begun(taken, back = () => {}) {
 function testCarrying() {
   const taken = [], { broker, socket } = begun(taken);
   const text = (words) => [0, words.length, ...Buffer.from(words)];
-  judge('it comes with a will, a name and a password', socket.sent[0],
+  check('it comes with a will, a name and a password', socket.sent[0],
     [...packet(0x10, text('MQTT'), [4, 0xc6, 0, 60], text(broker.client), text('wb/maths/ann'), [0, 2, 87, 71], text('ann'), text('word'))]);
-  judge('names at a broker', [nameAt('ws://a%20b:c@host/', 7), /^7-[0-9a-z]+$/.test(nameAt('ws://host/', 7))], ['a b', true]);
-  judge('it carries', [broker.state, broker.own, socket.sent.length], ['', 'wb/maths/ann', 2]);
+  check('names at a broker', [nameAt('ws://a%20b:c@host/', 7), /^7-[0-9a-z]+$/.test(nameAt('ws://host/', 7))], ['a b', true]);
+  check('it carries', [broker.state, broker.own, socket.sent.length], ['', 'wb/maths/ann', 2]);
   broker.send(new Uint8Array([1, 2, 3]));
-  judge('a datagram is published', socket.sent[2], [...packet(0x30, topic('wb/maths/ann'), [1, 2, 3])]);
+  check('a datagram is published', socket.sent[2], [...packet(0x30, topic('wb/maths/ann'), [1, 2, 3])]);
   socket.say(0x30, topic('wb/maths/ann'), [1, 2, 3]);
   socket.say(0x30, topic('wb/maths/ann'), [4]);
   socket.say(0x30, topic('wb/maths/bob'), [1, 2, 3]);
@@ -86,8 +86,8 @@ function testCarrying() {
     const bytes = Buffer.from(`wb/maths/${name}`);
     socket.say(0x30, [bytes.length >> 8, bytes.length & 255], bytes, [6]);
   }
-  judge('what is ours is not taken, another device of our name is, and nothing that was kept, or under a name that nobody can be shown', taken, [[[4], 'wb/maths/ann', 'ann'], [[1, 2, 3], 'wb/maths/bob', 'bob']]);
-  judge('a will is of who tells its own name', [broker.goneBy('bob', { place: 'wb/maths/bob', owner: 'bob' })?.owner, broker.goneBy('bob', { place: 'wb/maths/eve', owner: 'eve' })], ['bob', null]);
+  check('what is ours is not taken, another device of our name is, and nothing that was kept, or under a name that nobody can be shown', taken, [[[4], 'wb/maths/ann', 'ann'], [[1, 2, 3], 'wb/maths/bob', 'bob']]);
+  check('a will is of who tells its own name', [broker.goneBy('bob', { place: 'wb/maths/bob', owner: 'bob' })?.owner, broker.goneBy('bob', { place: 'wb/maths/eve', owner: 'eve' })], ['bob', null]);
   broker.end();
 }
 
@@ -95,36 +95,36 @@ function testSilence() {
   let times = 0;
   const { broker, socket } = begun([], () => { times += 1; });
   broker.sign();
-  judge('a sign of life', socket.sent.at(-1), [0xc0, 0]);
+  check('a sign of life', socket.sent.at(-1), [0xc0, 0]);
   broker.heardAt -= 26_000;
   broker.sign();
-  judge('a broker that says nothing for long is gone, though its connection stands', [broker.state, socket.isClosed], ['the broker does not answer', true]);
+  check('a broker that says nothing for long is gone, though its connection stands', [broker.state, socket.isClosed], ['the broker does not answer', true]);
   broker.send(new Uint8Array([9]));
-  judge('nothing is sent to it', socket.sent.at(-1), [0xc0, 0]);
+  check('nothing is sent to it', socket.sent.at(-1), [0xc0, 0]);
   broker.open();
-  judge('it is told until a new connection carries', broker.state, 'the broker does not answer');
+  check('it is told until a new connection carries', broker.state, 'the broker does not answer');
   Socket.all.at(-1).carry();
-  judge('and then no more, and that it is back is told once', [broker.state, times], ['', 1]);
+  check('and then no more, and that it is back is told once', [broker.state, times], ['', 1]);
   Socket.all.at(-1).say(...CONNACK);
   Socket.all.at(-1).say(...SUBACK);
-  judge('nor where it answers twice', times, 1);
+  check('nor where it answers twice', times, 1);
   broker.end();
 }
 
 function testRefusals() {
   Socket.all = [];
   const broker = new Broker('ws://host/mqtt', 'maths', nameAt('ws://host/mqtt', 7), new Uint8Array(0), () => {}, () => {}), [socket] = Socket.all;
-  judge('nothing is carried yet', broker.state, 'connecting to the broker');
+  check('nothing is carried yet', broker.state, 'connecting to the broker');
   broker.openedAt -= 26_000;
   broker.sign();
-  judge('a connection that does not come', [broker.state, socket.isClosed], ['the broker does not answer', true]);
+  check('a connection that does not come', [broker.state, socket.isClosed], ['the broker does not answer', true]);
   for (const [name, said, state] of [['a refusal', [[0x20, [0, 5]]], 'refused by the broker: it does not allow it'], ['a session that we may not hear', [CONNACK, [0x90, [0, 1, 0x80]]],
     'refused by the broker: it does not let us hear this session']]) {
     broker.open();
     const another = Socket.all.at(-1);
     another.open();
     for (const parts of said) another.say(...parts);
-    judge(`${name} is told, and tried again`, [broker.state, another.isClosed, broker.socket], [state, true, null]);
+    check(`${name} is told, and tried again`, [broker.state, another.isClosed, broker.socket], [state, true, null]);
   }
   broker.end();
 }
@@ -153,10 +153,10 @@ function testSpoilt() {
       let times = 0;
       const { broker, socket } = begun([], () => { times += 1; });
       socket.onmessage({ data: data instanceof Buffer ? new Uint8Array(data).buffer : data });
-      judge(`${name} ends a connection, and one try follows`, [broker.socket, socket.isClosed, pauses.length], [null, true, 1]);
+      check(`${name} ends a connection, and one try follows`, [broker.socket, socket.isClosed, pauses.length], [null, true, 1]);
       pass();
       Socket.all.at(-1).carry();
-      judge('which carries', [Socket.all.length, broker.state, times], [2, '', 1]);
+      check('which carries', [Socket.all.length, broker.state, times], [2, '', 1]);
       broker.end();
     });
   }
@@ -172,16 +172,16 @@ function testPauses() {
       pass();
       Socket.all.at(-1).carry();
     }
-    judge('where connections carry and break off, the pauses grow', pauses.map((pause, i) => pause >= 250 * 2 ** Math.min(i, 6) - 2_000 && pause <= Math.min(30_000, 500 * 2 ** i)), Array(9).fill(true));
+    check('where connections carry and break off, the pauses grow', pauses.map((pause, i) => pause >= 250 * 2 ** Math.min(i, 6) - 2_000 && pause <= Math.min(30_000, 500 * 2 ** i)), Array(9).fill(true));
     Socket.all.at(-1).say(0xd0);
     Socket.all.at(-1).onclose();
-    judge('and where one has carried for a while, the next try comes soon', pauses.at(-1) <= 500, true);
+    check('and where one has carried for a while, the next try comes soon', pauses.at(-1) <= 500, true);
     globalThis.WebSocket = class { constructor() { throw new Error('not now'); } };
     pass();
     globalThis.WebSocket = Socket;
     pass();
     Socket.all.at(-1).carry();
-    judge('a connection that can\u2019t be begun is tried again', broker.state, '');
+    check('a connection that can\u2019t be begun is tried again', broker.state, '');
     broker.end();
   });
 }
@@ -196,7 +196,7 @@ function testUseless() {
     broker.heardAt -= 26_000;
     socket.onmessage({ data: said.buffer });
     broker.sign();
-    judge(`a broker ${name} is given up`, [broker.state, socket.isClosed], ['the broker does not answer', true]);
+    check(`a broker ${name} is given up`, [broker.state, socket.isClosed], ['the broker does not answer', true]);
     broker.end();
   }
 }

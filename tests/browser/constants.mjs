@@ -1,7 +1,7 @@
 // The table of cases of the constants that go by how many others are heard, which `tests/live/test_constants.py` runs too.
 import fs from 'node:fs';
 import { FEW, constantsFor } from '../../web/member/constants.js';
-import { judge } from '../judge.mjs';
+import { check } from '../check.mjs';
 
 const { cases } = JSON.parse(fs.readFileSync(new URL('../live/constants.json', import.meta.url), 'utf8'));
 
@@ -9,6 +9,6 @@ export function testConstants() {
   for (const { name, many, heard, wanted } of cases) {
     let now = FEW;
     const found = heard.map((others) => { now = constantsFor(others, now, many); return now; });
-    judge(name, found, wanted);
+    check(name, found, wanted);
   }
 }

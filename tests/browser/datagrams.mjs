@@ -1,6 +1,6 @@
 // Tests that datagrams are read as `wb words` says them. The digits are of `wb hex`; test_agreement.py compares many more.
 import { hex, readDatagram, unhex } from '../../web/member/datagram.js';
-import { judge } from '../judge.mjs';
+import { check } from '../check.mjs';
 import { datagramOf } from './worded.mjs';
 
 const DATAGRAMS = [
@@ -26,10 +26,10 @@ const plain = (it) => JSON.parse(JSON.stringify(it, (_, value) => (typeof value 
 export function testDatagrams() {
   for (const [digits, words] of DATAGRAMS) {
     const bytes = unhex(digits), read = readDatagram(bytes);
-    judge(words, plain(read), plain(datagramOf(words)));
-    judge(`${words}: its digits`, hex(bytes), digits);
-    judge(`${words}: cut off, or with more behind it`, [readDatagram(bytes.subarray(0, -1)), readDatagram(new Uint8Array([...bytes, 0]))], [null, null]);
+    check(words, plain(read), plain(datagramOf(words)));
+    check(`${words}: its digits`, hex(bytes), digits);
+    check(`${words}: cut off, or with more behind it`, [readDatagram(bytes.subarray(0, -1)), readDatagram(new Uint8Array([...bytes, 0]))], [null, null]);
   }
   const [[first]] = DATAGRAMS, spoilt = ['', '57', '5842', first.replace('574201', '574203'), first.replace('57420101', '57420106'), first.replace('000a01', '000a06')];
-  judge('what is none', spoilt.map((digits) => readDatagram(unhex(digits))), [null, null, null, null, null, null]);
+  check('what is none', spoilt.map((digits) => readDatagram(unhex(digits))), [null, null, null, null, null, null]);
 }

@@ -14,7 +14,7 @@ import { MOST_REPORTED, Reported } from '../../web/member/reported.js';
 import { Telling } from '../../web/member/telling.js';
 import { drawopOf } from '../../web/member/views.js';
 import { Wire } from '../../web/member/wire.js';
-import { judge } from '../judge.mjs';
+import { check } from '../check.mjs';
 import { datagramOf } from './worded.mjs';
 
 const SECOND = 1_000_000, [X, Y, Z] = ['x', 'y', 'z'].map((place) => ({ place, owner: null }));
@@ -25,12 +25,12 @@ export function testReported() {
   const reported = new Reported(), drawn = new Drawn();
   for (const seq of [1, 4]) drawn.add(drawopOf(drawing(7, seq)));
   for (const [source, page, seq] of [[7, '7/1', 3], [7, '7/1', 9], [8, '7/1', 2], [8, '7/2', 2]]) reported.tell({ source, page, seq });
-  judge('a number of a gap counts once', reported.missing('7/1', drawn), 4);
+  check('a number of a gap counts once', reported.missing('7/1', drawn), 4);
   reported.come({ source: 7, page: '7/1', seq: 9 });
-  judge('what came is missing no more', [reported.missing('7/1', drawn), reported.missing('7/2', drawn)], [3, 1]);
-  judge('pages of which nothing is held are told', reported.pages().includes('7/2'), true);
+  check('what came is missing no more', [reported.missing('7/1', drawn), reported.missing('7/2', drawn)], [3, 1]);
+  check('pages of which nothing is held are told', reported.pages().includes('7/2'), true);
   for (let number = 0; number < 5_000; number += 1) reported.tell({ source: 1, page: `9/${number}`, seq: 5 });
-  judge('what is told is bounded', reported.names.size, MOST_REPORTED);
+  check('what is told is bounded', reported.names.size, MOST_REPORTED);
 }
 
 // ---- judging
@@ -116,10 +116,10 @@ const REPORT = '5742010200000018000000010000000000000005000000070000000100000000
 /** Where a datagram comes from is a number to the host: none that somebody could choose, and another for each name. */
 function testOrigins() {
   const names = ['', 'a', 'aa', 'aaa', 'wb/board/ann', 'wb/board/bob', '0123456789abcdef', 'ann/0123456789abcdef', '\u{10ffff}'];
-  judge('each name has its own', new Set(names.map((name) => numberOf(name))).size, names.length);
-  judge('and no other later', names.map((name) => String(numberOf(name))), names.map((name) => String(numberOf(name))));
-  judge('below 2^61, and hardly ever a small one', names.slice(2).map((name) => numberOf(name) > 2n ** 30n && numberOf(name) < 2n ** 61n), names.slice(2).map(() => true));
-  judge('an origin without an owner, and with one', [X, { place: 'y', owner: 'x' }].map(wordOf), [`${numberOf('x')}`, `${numberOf('y')}@${numberOf('x')}`]);
+  check('each name has its own', new Set(names.map((name) => numberOf(name))).size, names.length);
+  check('and no other later', names.map((name) => String(numberOf(name))), names.map((name) => String(numberOf(name))));
+  check('below 2^61, and hardly ever a small one', names.slice(2).map((name) => numberOf(name) > 2n ** 30n && numberOf(name) < 2n ** 61n), names.slice(2).map(() => true));
+  check('an origin without an owner, and with one', [X, { place: 'y', owner: 'x' }].map(wordOf), [`${numberOf('x')}`, `${numberOf('y')}@${numberOf('x')}`]);
 }
 
 async function testReports() {
@@ -128,41 +128,41 @@ async function testReports() {
   member.says();
   member.host.members(`9 ${wordOf(X)} - 0`);
   await heed(member, 'session-message 9 77 7/1 7=3');
-  judge('what a stranger reports is not missing', missing(member), 0);
+  check('what a stranger reports is not missing', missing(member), 0);
   await meet(member, 9, X, ' 7=3');
-  judge('and what a member reports is', [missing(member), [...member.telling.reported.names.keys()]], [1, ['7 7/1 3']]);
+  check('and what a member reports is', [missing(member), [...member.telling.reported.names.keys()]], [1, ['7 7/1 3']]);
   member.says(...NEW);
-  for (const seq of [2, 3]) judge('what comes is handed in', await heed(member, drawing(7, seq)), null);
-  judge('then it is forgotten, and what is below is missing', [missing(member), member.telling.reported.names.size], [1, 0]);
-  judge('what the host sends goes out', member.sent, ['00ff', '00ff']);
+  for (const seq of [2, 3]) check('what comes is handed in', await heed(member, drawing(7, seq)), null);
+  check('then it is forgotten, and what is below is missing', [missing(member), member.telling.reported.names.size], [1, 0]);
+  check('what the host sends goes out', member.sent, ['00ff', '00ff']);
   member.says('dropped own');
-  judge('what comes under our number is not handed in', await heed(member, 'request 1 7 7/1 2'), 'under our number');
+  check('what comes under our number is not handed in', await heed(member, 'request 1 7 7/1 2'), 'under our number');
   member.says();
   await heed(member, 'page-state 8 7/1 7=3', Y);
-  judge('who sends from there its own reports alone tell', [...member.wire.places], [['x', 9]]);
+  check('who sends from there its own reports alone tell', [...member.wire.places], [['x', 9]]);
   await heed(member, 'page-state 9 7/1 8=1');
-  judge('a page state reports, too', missing(member), 2);
+  check('a page state reports, too', missing(member), 2);
   const came = member.host.told.filter((line) => line.startsWith('came ')).map((line) => line.split(' '));
-  judge('the host hears from where each comes, and its bytes', [came.map((line) => line[2]), new TextDecoder().decode(unhex(came[2][3]))], [[...Array(5).fill(wordOf(X)), wordOf(Y), wordOf(X)], drawing(7, 2)]);
+  check('the host hears from where each comes, and its bytes', [came.map((line) => line[2]), new TextDecoder().decode(unhex(came[2][3]))], [[...Array(5).fill(wordOf(X)), wordOf(Y), wordOf(X)], drawing(7, 2)]);
   member.says('dropped datagram');
-  judge('also what is no datagram', await member.judging.heed(null, new Uint8Array([87, 66]), X), { sent: [], refused: 'no datagram' });
+  check('also what is no datagram', await member.judging.heed(null, new Uint8Array([87, 66]), X), { sent: [], refused: 'no datagram' });
 }
 
 /** People get in words what the host warns of, and why it drops something. */
 async function testWarnings() {
   const member = memberOf();
   member.says('dropped speaks', 'warn speaks 9');
-  judge('why', await heed(member, 'request 9 7 7/1 2'), 'under the number of another');
+  check('why', await heed(member, 'request 9 7 7/1 2'), 'under the number of another');
   for (const what of ['mark', 'full', 'share']) {
     member.says(`dropped ${what}`, `warn ${what}`);
     await heed(member, drawing(7, 1), Z);
   }
-  judge('each has its words', member.alarms.told(), ['somebody else speaks under the number of member 9: that is not heeded', 'a report tells of a drawing of ours that we did not make',
+  check('each has its words', member.alarms.told(), ['somebody else speaks under the number of member 9: that is not heeded', 'a report tells of a drawing of ours that we did not make',
     'the board is full: drawings of member 7 are not kept', 'strangers have their share of the board: drawings of member 7 are not kept']);
-  judge('nobody has our number', member.judging.hasTwin, false);
+  check('nobody has our number', member.judging.hasTwin, false);
   member.says('dropped own', 'warn twin');
   await heed(member, 'session-message 1 77 7/1 1@5+10');
-  judge('a twin lasts, and nothing is drawn', [member.judging.hasTwin, await member.people.drawNow('7/1', 'line 0 0 1 1 *').catch(({ message }) => message)], [true, 'another member has our number: take a new one']);
+  check('a twin lasts, and nothing is drawn', [member.judging.hasTwin, await member.people.drawNow('7/1', 'line 0 0 1 1 *').catch(({ message }) => message)], [true, 'another member has our number: take a new one']);
 }
 
 /** A member's copy of what is held is dropped, since it would hush us. If it differs from what is held, people are warned all the same. */
@@ -171,9 +171,9 @@ async function testClash() {
   await meet(member);
   for (const seq of [1, 2, 3]) member.drawn.add(drawopOf(drawing(1, seq)));
   member.says('dropped again');
-  judge('a stranger repeats what is held', await heed(member, drawing(1, 2, 6), Z), 'it would hush us');
-  judge('a member\u2019s copy of what is held', [await heed(member, drawing(1, 2)), member.alarms.told()], ['it would hush us', []]);
-  judge('its drawing of another kind under that name', [await heed(member, drawing(1, 2, 6)), member.alarms.told()], ['it would hush us', ['two members draw with number 1: what they drew differs from member to member']]);
+  check('a stranger repeats what is held', await heed(member, drawing(1, 2, 6), Z), 'it would hush us');
+  check('a member\u2019s copy of what is held', [await heed(member, drawing(1, 2)), member.alarms.told()], ['it would hush us', []]);
+  check('its drawing of another kind under that name', [await heed(member, drawing(1, 2, 6)), member.alarms.told()], ['it would hush us', ['two members draw with number 1: what they drew differs from member to member']]);
 }
 
 /** What the host refuses, or does not take, changes nothing here. */
@@ -181,15 +181,15 @@ async function testRefused() {
   const member = memberOf();
   await meet(member);
   member.host.close = 'refused endless';
-  judge('why a report is refused', await heed(member, 'session-message 9 78 7/1 7=3'), 'endless');
-  judge('what it told of is not missing', missing(member), 0);
-  judge('why a drawop is refused', await heed(member, drawing(7, 1), Z), 'endless');
+  check('why a report is refused', await heed(member, 'session-message 9 78 7/1 7=3'), 'endless');
+  check('what it told of is not missing', missing(member), 0);
+  check('why a drawop is refused', await heed(member, drawing(7, 1), Z), 'endless');
   member.host.close = 'ok never';
   member.says('became clash');
-  judge('one that clashes', [await heed(member, drawing(7, 1), Z), member.alarms.told()], [null, ['two members draw with number 7: what they drew differs from member to member']]);
+  check('one that clashes', [await heed(member, drawing(7, 1), Z), member.alarms.told()], [null, ['two members draw with number 7: what they drew differs from member to member']]);
   member.says('became left');
-  judge('one without room', [await heed(member, drawing(7, 1), Z), member.alarms.told().at(-1)], [null, 'the board is full: new drawops are not kept']);
-  judge('none of them is kept', [member.board.strange.size, member.drawn.total, await member.record.lines()], [0, 0, []]);
+  check('one without room', [await heed(member, drawing(7, 1), Z), member.alarms.told().at(-1)], [null, 'the board is full: new drawops are not kept']);
+  check('none of them is kept', [member.board.strange.size, member.drawn.total, await member.record.lines()], [0, 0, []]);
 }
 
 /** The record has what the host says, in its order. What no member gave stands there in words, until a member turns out to be who gave it. */
@@ -199,46 +199,46 @@ async function testRecord() {
     member.says('record tick 25', `record ${drawing(source, 1)}`, `drew 7 1 ${source} 1`, 'became new');
     await heed(member, drawing(source, 1), origin);
   }
-  judge('what strangers gave', [await member.record.lines(), [...board.strange]], [['tick 25', drawing(7, 1), 'tick 25', drawing(6, 1)], ['7 7/1 1', '6 7/1 1']]);
-  judge('is a page of strangers, and would not be if one were ours', [1, 6].map((me) => [...drawn.strangePages(me, board.strange)]), [['7/1'], []]);
+  check('what strangers gave', [await member.record.lines(), [...board.strange]], [['tick 25', drawing(7, 1), 'tick 25', drawing(6, 1)], ['7 7/1 1', '6 7/1 1']]);
+  check('is a page of strangers, and would not be if one were ours', [1, 6].map((me) => [...drawn.strangePages(me, board.strange)]), [['7/1'], []]);
   member.says('record tick 30', `record datagram ${given}`);
   await heed(member, 'session-message 7 77 7/1 1@5+10', Y);
-  judge('is a member\u2019s once he answers, and no other\u2019s', [(await member.record.lines()).slice(4), [...board.strange]], [['tick 30', `datagram ${given}`], ['6 7/1 1']]);
-  judge('and so is the page', [...drawn.strangePages(1, board.strange)], []);
+  check('is a member\u2019s once he answers, and no other\u2019s', [(await member.record.lines()).slice(4), [...board.strange]], [['tick 30', `datagram ${given}`], ['6 7/1 1']]);
+  check('and so is the page', [...drawn.strangePages(1, board.strange)], []);
 }
 
 /** Who is heard the host says; how far away each is, its answer says. */
 async function testHeard() {
   const member = memberOf(), { judging, host, board } = member, present = () => judging.present().map(([number, { distance }]) => [number, distance]), asked = () => host.told.filter((line) => line === 'members').length;
   await meet(member);
-  judge('a member', judging.present(), [[9, { origin: wordOf(X), at: 25, answered: 25, distance: 5 }]]);
+  check('a member', judging.present(), [[9, { origin: wordOf(X), at: 25, answered: 25, distance: 5 }]]);
   await judging.heard.look();
-  judge('nothing came in since, so nobody is asked', [present(), asked()], [[[9, 5]], 1]);
+  check('nothing came in since, so nobody is asked', [present(), asked()], [[[9, 5]], 1]);
   host.members(`9 ${wordOf(X)} 25 26`, `8 ${wordOf(Z)} - 26`);
   member.at = 26;
   await heed(member, 'session-message 8 77 7/1', Z);
   await heed(member, 'session-message 9 78 7/1 1@20+0'); // an echo by which the host says that nobody answered
-  judge('of one that was heard the host is asked seldom', [present(), asked()], [[[9, 5]], 1]);
+  check('of one that was heard the host is asked seldom', [present(), asked()], [[[9, 5]], 1]);
   member.at += 100;
   await judging.heard.look();
-  judge('and then again: a stranger has no distance, and a member that of its answer', present(), [[9, 5], [8, null]]);
-  judge('from where members speak', [X, Z].map((origin) => judging.heard.isMember(origin)), [true, false]);
+  check('and then again: a stranger has no distance, and a member that of its answer', present(), [[9, 5], [8, null]]);
+  check('from where members speak', [X, Z].map((origin) => judging.heard.isMember(origin)), [true, false]);
   board.begunAt = member.at = SECOND;
   host.members(`7 ${wordOf(Z)} - ${SECOND}`);
   await heed(member, 'session-message 7 77 7/1', Z);
-  judge('a new host has heard one, and two are remembered', present().map(([number]) => number).sort(), [7, 8, 9]);
-  judge('members are shown for a minute', [SECOND, 26 + 60 * SECOND].map((at) => { member.at = at; return present().length; }), [3, 1]);
+  check('a new host has heard one, and two are remembered', present().map(([number]) => number).sort(), [7, 8, 9]);
+  check('members are shown for a minute', [SECOND, 26 + 60 * SECOND].map((at) => { member.at = at; return present().length; }), [3, 1]);
   member.at = SECOND + 192 * SECOND;
   await heed(member, 'session-message 7 77 7/1', Z);
-  judge('they are remembered for so long', judging.heard.within(400 * SECOND, member.at).map(([number]) => number), [7]);
+  check('they are remembered for so long', judging.heard.within(400 * SECOND, member.at).map(([number]) => number), [7]);
   for (const [others, wanted] of [[[7, 5], [5, 7]], [[7], [7]]]) {
     host.members(...others.map((number) => `${number} ${wordOf(Z)} - ${member.at}`));
     member.at += 1_000;
     await heed(member, 'session-message 7 77 7/1', Z);
-    judge('whom this host forgets is forgotten', present().map(([number]) => number).sort(), wanted);
+    check('whom this host forgets is forgotten', present().map(([number]) => number).sort(), wanted);
   }
   await judging.leave(Z);
-  judge('who is gone is gone, also to the host', [judging.heard.within(400 * SECOND, member.at), host.told.at(-1)], [[], `gone ${member.at} ${wordOf(Z)}`]);
+  check('who is gone is gone, also to the host', [judging.heard.within(400 * SECOND, member.at), host.told.at(-1)], [[], `gone ${member.at} ${wordOf(Z)}`]);
 }
 
 /** A member that moves has no distance until we hear its answer from there, and one that leaves is a member no more. */
@@ -248,9 +248,9 @@ async function testMoves() {
   member.at = 1_000;
   host.members(`9 ${wordOf(Y)} 999 999`);
   await heed(member, 'session-message 8 77 7/1', Z);
-  judge('it has moved', [present(), [X, Y].map((origin) => judging.heard.isMember(origin))], [[[9, null]], [false, true]]);
+  check('it has moved', [present(), [X, Y].map((origin) => judging.heard.isMember(origin))], [[[9, null]], [false, true]]);
   await judging.leave(Y);
-  judge('it has left', [present(), judging.heard.isMember(Y)], [[], false]);
+  check('it has left', [present(), judging.heard.isMember(Y)], [[], false]);
 }
 
 /** The member tells its host other constants in the next turn, when a fourth other is heard, and when all are gone. */
@@ -265,15 +265,15 @@ async function testFollowed() {
   };
   await hears(2, 3, 4);
   await turn();
-  judge('three others change nothing', [board.tuning, tunings(), judging.plan().length], [FEW, [], 0]);
+  check('three others change nothing', [board.tuning, tunings(), judging.plan().length], [FEW, [], 0]);
   await hears(2, 3, 4, 5);
-  judge('a fourth does', judging.plan().length, 1);
+  check('a fourth does', judging.plan().length, 1);
   await turn();
-  judge('once', [board.tuning, tunings(), judging.plan().length], [SEVERAL, ['tuning 2 4 1 3'], 0]);
+  check('once', [board.tuning, tunings(), judging.plan().length], [SEVERAL, ['tuning 2 4 1 3'], 0]);
   member.at = 70 * SECOND;
   judging.goes(readDatagram(unhex(REPORT)), 32);
   await turn();
-  judge('when they are silent for a minute, with the next report', [board.tuning, tunings().at(-1)], [FEW, 'tuning 1 1 1 1']);
+  check('when they are silent for a minute, with the next report', [board.tuning, tunings().at(-1)], [FEW, 'tuning 1 1 1 1']);
 }
 
 /** A member is gone after a minute, or, where many speak seldom, after three reports. */
@@ -285,7 +285,7 @@ async function testPatience() {
   for (const [rate, wanted] of [[4_000, 60], [2_000, 75], [400, 192]]) {
     member.board.options.rate = rate;
     judging.goes(report, 1_000);
-    judge(`of fifty who have ${rate} bytes a second one is gone after so many seconds`, judging.patience, wanted * SECOND);
+    check(`of fifty who have ${rate} bytes a second one is gone after so many seconds`, judging.patience, wanted * SECOND);
   }
 }
 
@@ -293,18 +293,18 @@ async function testPatience() {
 async function testTime() {
   const member = memberOf(), { board, host, people, judging } = member, ours = '57420101000000220000000100000007000000010000000100000000000000050100000000000100012a';
   member.says();
-  judge('it is right', board.isWrong(), false);
+  check('it is right', board.isWrong(), false);
   await heed(member, 'ask-pages 8');
   member.at = 2 * SECOND;
-  judge('this clock has gone otherwise', board.isWrong(), true);
+  check('this clock has gone otherwise', board.isWrong(), true);
   await heed(member, 'ask-pages 8');
-  judge('then it is told, once', [host.told.map((line) => line.split(' ', 2).join(' ')), board.isWrong()], [['came 0', 'wall 2000000', 'came 2000000'], false]);
+  check('then it is told, once', [host.told.map((line) => line.split(' ', 2).join(' ')), board.isWrong()], [['came 0', 'wall 2000000', 'came 2000000'], false]);
   host.said.add = ['record tick 2000000', `record say ${drawing(1, 1)}`, 'drew 7 1 1 1', `send ${ours}`, `send ${ours.replace('00000001', '00000008')}`, 'became new'];
-  judge('a drawing', [await people.drawNow('7/1', 'line 0 0 1 1 *'), member.sent, member.drawn.total], [{ source: 1, seq: 1 }, [ours, ours.replace('00000001', '00000008')], 1]);
-  judge('what the host was told', host.told.slice(-2).map((line) => line.replace(/\d{9,}/, 'WALL')), ['wall 2000000 WALL', 'add 2000000 7/1 line 0 0 1 1 *']);
-  judge('the drawing is what the record has, and not what is repaired besides', [await member.record.lines(), judging.tails.take(9 * SECOND).map(hex)], [['tick 2000000', `say ${drawing(1, 1)}`], [ours]]);
+  check('a drawing', [await people.drawNow('7/1', 'line 0 0 1 1 *'), member.sent, member.drawn.total], [{ source: 1, seq: 1 }, [ours, ours.replace('00000001', '00000008')], 1]);
+  check('what the host was told', host.told.slice(-2).map((line) => line.replace(/\d{9,}/, 'WALL')), ['wall 2000000 WALL', 'add 2000000 7/1 line 0 0 1 1 *']);
+  check('the drawing is what the record has, and not what is repaired besides', [await member.record.lines(), judging.tails.take(9 * SECOND).map(hex)], [['tick 2000000', `say ${drawing(1, 1)}`], [ours]]);
   host.said.add = ['became left'];
-  judge('where there is no room', await people.drawNow('7/1', 'line 0 0 1 1 *').catch(({ message }) => message), 'full');
+  check('where there is no room', await people.drawNow('7/1', 'line 0 0 1 1 *').catch(({ message }) => message), 'full');
 }
 
 /** How full the board is. */
@@ -312,13 +312,13 @@ async function testRoom() {
   const member = memberOf(), told = () => member.alarms.told().at(-1);
   member.drawn.total = 799;
   member.judging.goes({ kind: 'session-message' }, 32);
-  judge('there is room', told(), undefined);
+  check('there is room', told(), undefined);
   member.drawn.total = 800;
   member.judging.goes({ kind: 'session-message' }, 32);
-  judge('it becomes full', told(), 'the board becomes full: 800 of 1000 cells are taken');
+  check('it becomes full', told(), 'the board becomes full: 800 of 1000 cells are taken');
   member.drawn.total = 969;
   member.judging.goes({ kind: 'session-message' }, 32);
-  judge('it is full', told(), 'the board is full: 969 of 1000 cells; deletes and restores alone have room');
+  check('it is full', told(), 'the board is full: 969 of 1000 cells; deletes and restores alone have room');
 }
 
 /** What we drew last goes out again when it is due, unless we heard of it; that we ask for something tells of losses. */
@@ -330,17 +330,17 @@ async function testLast() {
   const [[moment, act]] = judging.plan();
   member.at = moment;
   await act();
-  judge('a drawing that nothing follows', [moment, repeated, judging.plan().length], [1.25 * SECOND, ['01'], 1]);
+  check('a drawing that nothing follows', [moment, repeated, judging.plan().length], [1.25 * SECOND, ['01'], 1]);
   member.board.moment = moment;
   judging.goes({ kind: 'request' }, 28);
   member.at = 2 * SECOND;
   await judging.plan()[0][1]();
-  judge('goes a last time where something was lost', [repeated, judging.plan()], [['01', '01'], []]);
+  check('goes a last time where something was lost', [repeated, judging.plan()], [['01', '01'], []]);
   for (const [origin, why, words, left] of [[Z, [], 'session-message 8 78 7/1 1=2', 1], [X, ['dropped crowd'], 'session-message 9 78 7/1 1=2', 1], [X, ['dropped again'], 'request 9 1 7/1 2', 0], [X, [], 'session-message 9 78 7/1 1=2', 0]]) {
     judging.tails.drew({ page: '7/1', seq: 2 }, two, 2 * SECOND);
     member.says(...why);
     await heed(member, words, origin);
-    judge(`what a member told others of is known: ${words}, ${why}`, judging.plan().length, left);
+    check(`what a member told others of is known: ${words}, ${why}`, judging.plan().length, left);
   }
 }
 
@@ -350,12 +350,12 @@ async function testPages() {
   for (const name of [...names.slice(0, 900), '9 9/2 1', '1 5/1 1']) drawn.add(drawopOf(`draw ${name} 5 line 0 0 1 1 *`));
   telling.reported.tell({ source: 9, page: '6/1', seq: 1 });
   await telling.tellPages();
-  judge('the page in view, ours, and those of members and of which they tell', [member.pages.page, member.pages.pages.slice(0, 4).map((one) => one.page)], ['7/1', ['5/1', '6/1', '7/1', '9/2']]);
-  judge('then those of strangers', [member.pages.pages.length, member.pages.pages.at(-1), host.told], [904, { page: '0/900', drawn: 1 }, []]);
+  check('the page in view, ours, and those of members and of which they tell', [member.pages.page, member.pages.pages.slice(0, 4).map((one) => one.page)], ['7/1', ['5/1', '6/1', '7/1', '9/2']]);
+  check('then those of strangers', [member.pages.pages.length, member.pages.pages.at(-1), host.told], [904, { page: '0/900', drawn: 1 }, []]);
   for (const name of names) drawn.add(drawopOf(`draw ${name} 5 line 0 0 1 1 *`));
   host.said.list = ['list 1000', '1 5/1 1'.replace('/', ' '), '9 2 1', ...names.slice(501).map((name) => name.split(' ')[1].replace('/', ' ') + ' 1')];
   await telling.tellPages();
-  judge('of too many the host says which', [host.told, member.pages.pages.length, member.pages.pages[4].page, member.pages.pages.at(-1).page], [['list 1000'], 1_000, '0/502', '0/1497']);
+  check('of too many the host says which', [host.told, member.pages.pages.length, member.pages.pages[4].page, member.pages.pages.at(-1).page], [['list 1000'], 1_000, '0/502', '0/1497']);
 }
 
 /** Of too many who are heard the board gets those first that have answered us. */
@@ -366,7 +366,7 @@ async function testMembers() {
   member.host.members(...Array.from({ length: 600 }, (_, i) => `${i + 2} p${i + 2} - 10`), `900 ${wordOf(X)} 10 10`);
   await heed(member, 'session-message 900 77 7/1 1@2+4');
   member.telling.tellMembers();
-  judge('by their numbers', [member.members.members.length, member.members.members.slice(-2)], [500, [{ member: 500, distance: null, heard: 0 }, { member: 900, distance: 0.002, heard: 0 }]]);
+  check('by their numbers', [member.members.members.length, member.members.members.slice(-2)], [500, [{ member: 500, distance: null, heard: 0 }, { member: 900, distance: 0.002, heard: 0 }]]);
 }
 
 const TESTS = [testOrigins, testReports, testWarnings, testClash, testRefused, testRecord, testHeard, testMoves, testFollowed, testPatience, testTime, testRoom, testLast, testPages, testMembers];

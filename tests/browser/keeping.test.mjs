@@ -10,7 +10,7 @@ import { Inbox } from '../../web/member/inbox.js';
 import { Member } from '../../web/member/member.js';
 import { numberOf } from '../../web/member/origins.js';
 import { FIRST_LINE, Record, actsOf } from '../../web/member/record.js';
-import { judge } from '../judge.mjs';
+import { check } from '../check.mjs';
 
 const file = process.env.WB_MODULE, PAGE = '1/1', SECOND = 1_000_000;
 const BEYOND = 0x7fff0000; // a place beyond the end of the memory, where a call traps
@@ -46,28 +46,28 @@ async function testOld(program) {
   const record = new Record(null, 'here', 7);
   record.add(...OLD);
   const made = heldOf(actsOf(OLD)), [, , , , own, , , mark, last] = OLD;
-  judge('what the lines of an old record made', [made.board, made.moment, made.lines], ['board 7 100 1 42', 9, [own, OLD[5], mark, last]]);
+  check('what the lines of an old record made', [made.board, made.moment, made.lines], ['board 7 100 1 42', 9, [own, OLD[5], mark, last]]);
   const { board, held } = await boardOf(program, record);
-  judge('each drawop is held', held.map(({ name }) => name).sort(), ['7 1/1 1', '7 1/1 6', '8 1/1 1']);
-  judge('the number is one above what was drawn', [board.me, board.cells, await nextOf(board)], [7, 100, 7]);
-  judge('the host judges, so nothing comes without its origin', [(await board.tell('look 1 1')).fault, board.host.came(board.now(), unhex(OLD[5].slice(9))).refused], ['kept', 'judged']);
+  check('each drawop is held', held.map(({ name }) => name).sort(), ['7 1/1 1', '7 1/1 6', '8 1/1 1']);
+  check('the number is one above what was drawn', [board.me, board.cells, await nextOf(board)], [7, 100, 7]);
+  check('the host judges, so nothing comes without its origin', [(await board.tell('look 1 1')).fault, board.host.came(board.now(), unhex(OLD[5].slice(9))).refused], ['kept', 'judged']);
   const { drawop } = await board.draw(PAGE, 'line 0 3 4 3 o'), lines = await record.lines();
-  judge('the record keeps its lines, and has the drawing', [lines.slice(0, OLD.length), lines.at(-1), drawop.seq], [OLD, `say ${drawop.words}`, 7]);
+  check('the record keeps its lines, and has the drawing', [lines.slice(0, OLD.length), lines.at(-1), drawop.seq], [OLD, `say ${drawop.words}`, 7]);
   const again = await boardOf(program, record);
-  judge('a start goes on', [again.held.length, await nextOf(again.board)], [4, 8]);
+  check('a start goes on', [again.held.length, await nextOf(again.board)], [4, 8]);
   const spoilt = new Record(null, 'here', 7);
   spoilt.add('board 7 100 1 42', 'say draw 7 1/1 0 5 line 0 0 4 0 o', 'datagram 5742', 'datagram 574', 'draw 8 1/1 1 5 line 0 0 4 0 o', 'keep 4000 0');
-  judge('a line that is none is left out', (await boardOf(program, spoilt)).held.map(({ name }) => name), ['8 1/1 1']);
+  check('a line that is none is left out', (await boardOf(program, spoilt)).held.map(({ name }) => name), ['8 1/1 1']);
   await boardOf(program, Object.assign(new Record(null, 'here', 7), { held: ['board 7 0 1 42'] })).then(() => 'none', (fault) => fault.message)
-    .then((told) => judge('a board that no host has', told, 'no host can have this board: board 7 0 1 42 (number)'));
+    .then((told) => check('a board that no host has', told, 'no host can have this board: board 7 0 1 42 (number)'));
 }
 
 /** What earlier builds wrote: datagrams of any kind in hexadecimal, and whole reports in words. */
 function testLines() {
   const mark = '574201050000001600000009000000070000000200010000000800000004', [, , , , , stranger] = OLD, digits = stranger.slice(9);
   const acts = [`arrive ${digits}`, `hear ${mark}`, 'hear 574201040000000400000009', `hear ${mark.replace('00000008', '00000007')}`, 'session-message 9 5 7/2 6=1 8=3 8@5+10', 'say page-state 8 7/2 9=2', 'draw 7 7/1 1 5 delete 9 1', 'look 1 1'];
-  judge('drawops, and marks of ours alone', heldOf(['board 8 100 1 42', ...acts]).lines, [`datagram ${digits}`, 'page-state 9 7/2 8=4', 'page-state 9 7/2 8=3', 'draw 7 7/1 1 5 delete 9 1']);
-  judge('the names of what others drew', [OLD[5], 'draw 7 7/1 1 5 delete 9 1', 'datagram 5742010100000022ffffffff00000007ffffffff0000ffffffffffffffffffff02000000010fff00027e'].map(nameIn),
+  check('drawops, and marks of ours alone', heldOf(['board 8 100 1 42', ...acts]).lines, [`datagram ${digits}`, 'page-state 9 7/2 8=4', 'page-state 9 7/2 8=3', 'draw 7 7/1 1 5 delete 9 1']);
+  check('the names of what others drew', [OLD[5], 'draw 7 7/1 1 5 delete 9 1', 'datagram 5742010100000022ffffffff00000007ffffffff0000ffffffffffffffffffff02000000010fff00027e'].map(nameIn),
     ['8 1/1 1', '7 7/1 1', '4294967295 7/4294967295 65535']);
 }
 
@@ -75,11 +75,11 @@ async function testMarks(program) {
   const record = new Record(null, 'here', 7);
   record.add('board 7 100 1 42', 'tick 5', 'page-state 9 1/1 7=5');
   const { board } = await boardOf(program, record);
-  judge('a mark of ours whose drawop never came is a number that is not used', await nextOf(board), 6);
+  check('a mark of ours whose drawop never came is a number that is not used', await nextOf(board), 6);
   const young = await boardOf(program, new Record(null, 'here', 1), { mayHaveDrawn: true }), listening = young.board.readyAt - young.board.moment;
   await young.board.came(...await bytesOf(program, 'page-state 9 1/1 1=5'), ANYWHERE);
-  judge('who may have drawn listens', [(await young.board.draw(PAGE, 'line 0 0 4 0 o')).block.fault, listening], ['listening', 6 * SECOND]);
-  judge('and counts on from what is told, also at the next start', [await nextOf(young.board), (await young.board.record.lines()).at(-1)], [6, 'page-state 9 1/1 1=5']);
+  check('who may have drawn listens', [(await young.board.draw(PAGE, 'line 0 0 4 0 o')).block.fault, listening], ['listening', 6 * SECOND]);
+  check('and counts on from what is told, also at the next start', [await nextOf(young.board), (await young.board.record.lines()).at(-1)], [6, 'page-state 9 1/1 1=5']);
 }
 
 /** What a new host gets: its board, how it judges, the constants of the timers, and the lines of the record. */
@@ -92,15 +92,15 @@ async function testBegun(program) {
   const board = new Board(noting, record, { ...START, mayHaveDrawn: true }, { here: 'ann', strangers: 3 }, () => {});
   await board.open(7);
   const [opened, judged, tuned, ...held] = lines, [, moment, rate, listen, wall, here, strangers] = judged.split(' ');
-  judge('its board', opened, 'board 7 100 1 42');
-  judge('how it judges', [Number(moment) === board.begunAt, rate, listen, here, strangers], [true, '4000', '6000000', `${numberOf('ann')}`, '3']);
-  judge('the time of day', Math.abs(Number(wall) - Date.now() * 1_000) < SECOND, true);
-  judge('the rest', [tuned, held], ['tuning 1 1 1 1', heldOf(actsOf(OLD)).lines.map((line) => `held ${line}`)]);
+  check('its board', opened, 'board 7 100 1 42');
+  check('how it judges', [Number(moment) === board.begunAt, rate, listen, here, strangers], [true, '4000', '6000000', `${numberOf('ann')}`, '3']);
+  check('the time of day', Math.abs(Number(wall) - Date.now() * 1_000) < SECOND, true);
+  check('the rest', [tuned, held], ['tuning 1 1 1 1', heldOf(actsOf(OLD)).lines.map((line) => `held ${line}`)]);
   await board.tune('2,4,1,3');
   await board.tick(board.moment + SECOND);
   lines.splice(0);
   await board.beginAgain();
-  judge('other constants last, and so does what is left of listening', [lines[2], lines[1].split(' ')[3]], ['tuning 2 4 1 3', '5000000']);
+  check('other constants last, and so does what is left of listening', [lines[2], lines[1].split(' ')[3]], ['tuning 2 4 1 3', '5000000']);
 }
 
 /** The clock of a start begins at a moment that nobody guesses, above the record, and there are moments for thousands of starts. */
@@ -111,25 +111,25 @@ async function testClock(program) {
     record.add('board 7 100 1 42', `tick ${2 ** 47}`);
     const { board } = await boardOf(program, record);
     starts.push(board.moment - 2 ** 47);
-    judge('it goes on from there', [board.now() > board.moment, board.now() - board.moment < 60 * SECOND], [true, true]);
+    check('it goes on from there', [board.now() > board.moment, board.now() - board.moment < 60 * SECOND], [true, true]);
   }
-  judge('four starts are minutes apart, within a part of the moments that are left', [Math.min(...starts) >= 0, Math.max(...starts) - Math.min(...starts) > 60 * SECOND, Math.max(...starts) < 2 ** 38],
+  check('four starts are minutes apart, within a part of the moments that are left', [Math.min(...starts) >= 0, Math.max(...starts) - Math.min(...starts) > 60 * SECOND, Math.max(...starts) < 2 ** 38],
     [true, true, true]);
 }
 
 async function testDraw(program) {
   const record = new Record(null, 'here', 1), { board, held } = await boardOf(program, record);
   const before = Date.now() * 1_000, { drawop, block } = await board.draw(PAGE, 'line 0 0 4 0 +');
-  judge('a drawing of ours', [drawop.words.replace(drawop.time, 'now'), block.sent().map((bytes) => readDatagram(bytes).words), held.length], ['draw 1 1/1 1 now line 0 0 4 0 +', [drawop.words], 1]);
-  judge('at the time of day', Math.abs(drawop.time - before) < SECOND, true);
+  check('a drawing of ours', [drawop.words.replace(drawop.time, 'now'), block.sent().map((bytes) => readDatagram(bytes).words), held.length], ['draw 1 1/1 1 now line 0 0 4 0 +', [drawop.words], 1]);
+  check('at the time of day', Math.abs(drawop.time - before) < SECOND, true);
   await board.tellTime(drawop.time - SECOND);
-  judge('one of an earlier time lies above it', (await board.draw(PAGE, 'text 0 0 "a b"')).drawop.time, drawop.time + 1);
+  check('one of an earlier time lies above it', (await board.draw(PAGE, 'text 0 0 "a b"')).drawop.time, drawop.time + 1);
   const wrong = await board.draw(PAGE, 'delete 1 3');
-  judge('one that aims at itself is none', [wrong.block.fault, wrong.drawop], ['word 5: target is the drawop itself', null]);
+  check('one that aims at itself is none', [wrong.block.fault, wrong.drawop], ['word 5: target is the drawop itself', null]);
   for (const operation of ['delete 1 1', 'restore 1 1', 'frame 0 0 2 2 #']) await board.draw(PAGE, operation);
   const lines = await record.lines();
-  judge('the record', [lines[0], actsOf(lines).filter((line) => !line.startsWith('tick ')).map((line) => line.split(' ')[0])], [FIRST_LINE, ['board', 'say', 'say', 'say', 'say', 'say']]);
-  judge('what is shown', (await board.view(PAGE)).map(({ seq }) => seq), [1, 2, 5]);
+  check('the record', [lines[0], actsOf(lines).filter((line) => !line.startsWith('tick ')).map((line) => line.split(' ')[0])], [FIRST_LINE, ['board', 'say', 'say', 'say', 'say', 'say']]);
+  check('what is shown', (await board.view(PAGE)).map(({ seq }) => seq), [1, 2, 5]);
 }
 
 /** What the record can't have, the host does not have either. */
@@ -139,11 +139,11 @@ async function testNoRoom(program) {
   record.write = async () => { record.fault = 'no room'; };
   const faults = [];
   for (let i = 0; i < 3; i += 1) await board.draw(PAGE, 'line 0 1 4 1 +').catch((fault) => faults.push(fault instanceof NoRoom && fault.message));
-  judge('a drawing for which the record has no room is refused, as often as it is tried', faults, ['no room', 'no room', 'no room']);
-  judge('the host does not have it either', [await nextOf(board), (await board.view(PAGE)).length, board.ends.length], [2, 1, 0]);
+  check('a drawing for which the record has no room is refused, as often as it is tried', faults, ['no room', 'no room', 'no room']);
+  check('the host does not have it either', [await nextOf(board), (await board.view(PAGE)).length, board.ends.length], [2, 1, 0]);
   record.write = write;
-  judge('with room one draws on, by the next number', (await board.draw(PAGE, 'line 0 1 4 1 +')).drawop.seq, 2);
-  judge('and the record has it once', [(await record.lines()).filter((line) => line.startsWith('say ')).length, new Set(held.map(({ name }) => name)).size], [2, 2]);
+  check('with room one draws on, by the next number', (await board.draw(PAGE, 'line 0 1 4 1 +')).drawop.seq, 2);
+  check('and the record has it once', [(await record.lines()).filter((line) => line.startsWith('say ')).length, new Set(held.map(({ name }) => name)).size], [2, 2]);
 }
 
 async function testEnds(program) {
@@ -151,20 +151,20 @@ async function testEnds(program) {
   const { drawop } = await board.draw(PAGE, 'line 0 0 4 0 +');
   new DataView(board.host.memory.buffer).setUint32(Number(board.host.place), BEYOND, true);
   const fault = await nextOf(board).catch((it) => it);
-  judge('a host that broke off is told', [fault instanceof HostEnded, board.ends.length, (await record.lines()).at(-1).startsWith('# the host broke off')], [true, 1, true]);
-  judge('another goes on from the record', [await nextOf(board), (await board.view(PAGE)).length], [2, 1]);
+  check('a host that broke off is told', [fault instanceof HostEnded, board.ends.length, (await record.lines()).at(-1).startsWith('# the host broke off')], [true, 1, true]);
+  check('another goes on from the record', [await nextOf(board), (await board.view(PAGE)).length], [2, 1]);
   await board.beginAgain();
-  judge('and so does one that begins again', [await nextOf(board), board.ends.length], [2, 1]);
+  check('and so does one that begins again', [await nextOf(board), board.ends.length], [2, 1]);
   const other = new Record(null, 'here', 5), drawn = 'draw 6 1/1 1 60 line 0 2 4 2 +';
   await board.came(...await bytesOf(program, drawn), ANYWHERE);
   record.add('page-state 9 1/1 1=9');
   await board.renumber(5, other);
   const lines = await other.lines(), [own] = lines.filter((line) => line.startsWith('datagram '));
-  judge('under another number it has all that was held', [board.me, await nextOf(board), (await board.view(PAGE)).length, lines[0]], [5, 1, 2, FIRST_LINE]);
-  judge('and what strangers drew is strangers\u2019', [[...board.strange], lines.at(-1)], [['6 1/1 1'], drawn]);
-  judge('and no mark of the one before', lines.some((line) => line.startsWith('page-state')), false);
-  judge('and what it drew under the one before is a member\u2019s', readDatagram(unhex(own.slice(9))).words, drawop.words);
-  judge('and draws', (await board.draw(PAGE, 'line 0 1 4 1 +')).drawop.name, '5 1/1 1');
+  check('under another number it has all that was held', [board.me, await nextOf(board), (await board.view(PAGE)).length, lines[0]], [5, 1, 2, FIRST_LINE]);
+  check('and what strangers drew is strangers\u2019', [[...board.strange], lines.at(-1)], [['6 1/1 1'], drawn]);
+  check('and no mark of the one before', lines.some((line) => line.startsWith('page-state')), false);
+  check('and what it drew under the one before is a member\u2019s', readDatagram(unhex(own.slice(9))).words, drawop.words);
+  check('and draws', (await board.draw(PAGE, 'line 0 1 4 1 +')).drawop.name, '5 1/1 1');
 }
 
 /** What is to be recorded is in the record before anything is sent; and while it can't be written, what others draw is shown all the same. */
@@ -175,13 +175,13 @@ async function testBefore(program) {
   const words = [1, 2].map((seq) => `draw 6 1/1 ${seq} 60 line 0 2 4 2 +`), [first, second] = await bytesOf(program, ...words);
   const isDue = async () => (await board.tick(board.due)).send.length > 0;
   await board.came(first, ANYWHERE);
-  judge('what nothing is sent with is written soon', [written.length, record.waiting.slice(-1)], [0, [words[0]]]);
-  judge('and before the next that is sent', [await isDue(), written.flat().at(-1), record.waiting], [true, words[0], []]);
+  check('what nothing is sent with is written soon', [written.length, record.waiting.slice(-1)], [0, [words[0]]]);
+  check('and before the next that is sent', [await isDue(), written.flat().at(-1), record.waiting], [true, words[0], []]);
   record.fault = 'no room';
   const before = written.length;
   await board.came(second, ANYWHERE);
-  judge('without room nothing that is sent waits for it', [await isDue(), record.waiting.slice(-1), written.length], [true, [words[1]], before]);
-  judge('the host took them', (await board.view(PAGE)).map((drawop) => drawop.words), words);
+  check('without room nothing that is sent waits for it', [await isDue(), record.waiting.slice(-1), written.length], [true, [words[1]], before]);
+  check('the host took them', (await board.view(PAGE)).map((drawop) => drawop.words), words);
 }
 
 // ---- what comes in
@@ -222,47 +222,47 @@ const drawings = (source, first, last, time = 5) => Array.from({ length: last + 
 
 async function testOwnMarks(program) {
   const member = await quietOf(program, { mayHaveDrawn: true }), marks = async () => (await member.board.record.lines()).filter((line) => line.startsWith('page-state'));
-  judge('who listens begins later', member.judging.plan().at(-1)[0], member.board.readyAt);
+  check('who listens begins later', member.judging.plan().at(-1)[0], member.board.readyAt);
   await told(program, member, 'x', 'page-state 9 1/1 1=5', 'page-state 8 1/1 1=5');
-  judge('a mark of our own number is kept, once', await marks(), ['page-state 9 1/1 1=5']);
-  judge('none that is too great', await told(program, member, 'x', 'page-state 9 1/1 1=65537', 'page-state 9 1/1 1=65536'), ['a mark of ours', null]);
-  judge('is kept', [(await marks()).length, member.alarms.told()], [2, ['a report tells of a drawing of ours that we did not make']]);
+  check('a mark of our own number is kept, once', await marks(), ['page-state 9 1/1 1=5']);
+  check('none that is too great', await told(program, member, 'x', 'page-state 9 1/1 1=65537', 'page-state 9 1/1 1=65536'), ['a mark of ours', null]);
+  check('is kept', [(await marks()).length, member.alarms.told()], [2, ['a report tells of a drawing of ours that we did not make']]);
   member.alarms.given.clear();
   await member.obey(member.board.tick(member.board.readyAt));
   await member.begin();
-  judge('after it none changes anything, and it is told', [await told(program, member, 'x', 'page-state 9 1/1 1=70000'), (await marks()).length, member.alarms.told()],
+  check('after it none changes anything, and it is told', [await told(program, member, 'x', 'page-state 9 1/1 1=70000'), (await marks()).length, member.alarms.told()],
     [[null], 2, ['a report tells of a drawing of ours that we did not make']]);
-  judge('we count on from what was kept', (await member.people.drawNow(PAGE, 'line 0 0 1 1 *')).seq, 65_537);
+  check('we count on from what was kept', (await member.people.drawNow(PAGE, 'line 0 0 1 1 *')).seq, 65_537);
 }
 
 async function testRoom(program) {
   const member = await quietOf(program);
-  judge('strangers have their share of the cells', (await told(program, member, 'x', ...drawings(7, 1, 17))).slice(-2), [null, 'over the share of strangers']);
-  judge('which people hear of', [member.drawn.total, member.board.strange.size, member.alarms.told()], [16, 16, ['strangers have their share of the board: drawings of member 7 are not kept']]);
+  check('strangers have their share of the cells', (await told(program, member, 'x', ...drawings(7, 1, 17))).slice(-2), [null, 'over the share of strangers']);
+  check('which people hear of', [member.drawn.total, member.board.strange.size, member.alarms.told()], [16, 16, ['strangers have their share of the board: drawings of member 7 are not kept']]);
   await meet(program, member, 7, 'x');
-  judge('who answers is none, nor what he gave', [member.board.strange.size, (await member.board.record.lines()).filter((line) => line.startsWith('datagram ')).length], [0, 16]);
+  check('who answers is none, nor what he gave', [member.board.strange.size, (await member.board.record.lines()).filter((line) => line.startsWith('datagram ')).length], [0, 16]);
   await told(program, member, 'x', ...drawings(7, 17, 969));
-  judge('a full board takes no drawing, and a delete alone', [member.drawn.total, await told(program, member, 'x', ...drawings(7, 970, 970), 'draw 7 1/1 971 5 delete 7 1')], [969, ['the board is full', null]]);
+  check('a full board takes no drawing, and a delete alone', [member.drawn.total, await told(program, member, 'x', ...drawings(7, 970, 970), 'draw 7 1/1 971 5 delete 7 1')], [969, ['the board is full', null]]);
   const fault = (operation) => member.people.drawNow('0/0', operation).then(() => 'none', ({ message }) => message);
-  judge('nor do we draw', [await fault('line 0 0 1 1 *'), await fault('delete 7 2')], ['full', 'none']);
-  judge('and people hear of it', member.alarms.told().slice(-1), ['the board is full: drawings of member 7 are not kept']);
+  check('nor do we draw', [await fault('line 0 0 1 1 *'), await fault('delete 7 2')], ['full', 'none']);
+  check('and people hear of it', member.alarms.told().slice(-1), ['the board is full: drawings of member 7 are not kept']);
   await reportOf(member);
-  judge('and with the next report of how full it is', member.alarms.told().slice(-1), ['the board is full: 971 of 1000 cells; deletes and restores alone have room']);
+  check('and with the next report of how full it is', member.alarms.told().slice(-1), ['the board is full: 971 of 1000 cells; deletes and restores alone have room']);
   const sealed = await quietOf(program, { strangers: 0 });
-  judge('under a key a stranger has no share, and nobody is warned of newcomers', [await told(program, sealed, 'x', ...drawings(7, 1, 1)), sealed.alarms.told()], [['over the share of strangers'], []]);
+  check('under a key a stranger has no share, and nobody is warned of newcomers', [await told(program, sealed, 'x', ...drawings(7, 1, 1)), sealed.alarms.told()], [['over the share of strangers'], []]);
 }
 
 /** Nobody moves our time, and what is drawn ahead of it is taken of members alone, a day at most. */
 async function testTime(program) {
   const member = await quietOf(program), ahead = (source, seq, seconds) => drawings(source, seq, seq, (Date.now() + seconds * 1_000) * 1_000)[0];
   await meet(program, member, 9, 'x');
-  judge('members that draw ahead are believed', await told(program, member, 'x', ahead(8, 1, 86_000), ahead(9, 1, 86_000)), [null, null]);
-  judge('not by over a day', await told(program, member, 'x', ahead(9, 2, 86_460)), ['ahead of the clock']);
-  judge('no stranger by two minutes', await told(program, member, 'z', ahead(7, 1, 120), ahead(7, 1, 30)), ['ahead of the clock', null]);
+  check('members that draw ahead are believed', await told(program, member, 'x', ahead(8, 1, 86_000), ahead(9, 1, 86_000)), [null, null]);
+  check('not by over a day', await told(program, member, 'x', ahead(9, 2, 86_460)), ['ahead of the clock']);
+  check('no stranger by two minutes', await told(program, member, 'z', ahead(7, 1, 120), ahead(7, 1, 30)), ['ahead of the clock', null]);
   const { seq } = await member.people.drawNow('5/1', 'line 0 0 1 1 *');
-  judge('our time is ours', Math.abs(member.drawn.find(`1 5/1 ${seq}`).time - Date.now() * 1_000) < SECOND, true);
+  check('our time is ours', Math.abs(member.drawn.find(`1 5/1 ${seq}`).time - Date.now() * 1_000) < SECOND, true);
   await member.people.drawNow(PAGE, 'line 0 0 1 1 *');
-  judge('and what we draw lies above theirs', member.drawn.sheet(PAGE).shown.at(-1).source, 1);
+  check('and what we draw lies above theirs', member.drawn.sheet(PAGE).shown.at(-1).source, 1);
 }
 
 // ---- a session
@@ -291,22 +291,22 @@ async function testSession(program) {
   const network = new Map(), members = [];
   for (const me of [11, 12, 13]) members.push(await memberOf(program, network, me, new Record(null, 'here', me)));
   const answers = await Promise.all(members.flatMap((member) => Array.from({ length: 8 }, (_, i) => member.people.draw(PAGE, `line ${i} ${member.me - 11} 9 9 ${'abc'[member.me - 11]}`))));
-  judge('each has its name', new Set(answers.map(({ source, seq }) => `${source} ${seq}`)).size, 24);
+  check('each has its name', new Set(answers.map(({ source, seq }) => `${source} ${seq}`)).size, 24);
   const all = () => members.map((member) => member.drawn.count(PAGE)), isWhole = () => members.every((member) => member.drawn.count(PAGE) === 24 && member.told.board);
-  judge('all have all, though a third is lost', await comes(isWhole) || all(), true);
-  judge('nothing is told to be missing', [members.map(({ telling, drawn }) => telling.reported.missing(PAGE, drawn)), members.map(({ telling }) => telling.differences)], [[0, 0, 0], [0, 0, 0]]);
-  judge('each knows how far the others are', await comes(() => members.every((member) => [...member.judging.heard.others.values()].filter(({ distance }) => distance !== null).length === 2)), true);
-  judge('something was asked for, and repaired', members.reduce((sum, { wire }) => sum + wire.counts.requests, 0) > 0, true);
+  check('all have all, though a third is lost', await comes(isWhole) || all(), true);
+  check('nothing is told to be missing', [members.map(({ telling, drawn }) => telling.reported.missing(PAGE, drawn)), members.map(({ telling }) => telling.differences)], [[0, 0, 0], [0, 0, 0]]);
+  check('each knows how far the others are', await comes(() => members.every((member) => [...member.judging.heard.others.values()].filter(({ distance }) => distance !== null).length === 2)), true);
+  check('something was asked for, and repaired', members.reduce((sum, { wire }) => sum + wire.counts.requests, 0) > 0, true);
   const [one] = members, fault = await one.people.draw(PAGE, 'line 0 0 4 5000 x').catch((it) => it.message);
-  judge('what is no drawing the host refuses, by the word as people wrote it', [fault, await one.people.draw(PAGE, 'look 1').catch((it) => it.message)], ['word 5: number', 'unknown']);
+  check('what is no drawing the host refuses, by the word as people wrote it', [fault, await one.people.draw(PAGE, 'look 1').catch((it) => it.message)], ['word 5: number', 'unknown']);
   await one.end();
   await one.running;
   const again = await memberOf(program, network, 11, one.board.record, true);
-  judge('a start goes on from the record', [again.drawn.total, again.isReady], [24, false]);
+  check('a start goes on from the record', [again.drawn.total, again.isReady], [24, false]);
   const late = await again.people.draw(PAGE, 'text 0 0 "again"');
-  judge('what is drawn while it listens waits, and has the next number', late, { source: 11, seq: 9 });
+  check('what is drawn while it listens waits, and has the next number', late, { source: 11, seq: 9 });
   members[0] = again;
-  judge('it is with all others', await comes(() => members.every((member) => member.drawn.count(PAGE) === 25)), true);
+  check('it is with all others', await comes(() => members.every((member) => member.drawn.count(PAGE) === 25)), true);
   for (const member of members) await member.end();
 }
 
@@ -318,13 +318,13 @@ async function testStrangers(program) {
   await Promise.all(Array.from({ length: 90 }, (_, i) => other.people.draw(PAGE, `line ${i} 0 9 9 o`)));
   for (const bytes of forged) for (const take of network.values()) take(bytes, stranger);
   const of = (member, source) => member.drawn.all().filter((drawop) => drawop.source === source).length;
-  judge('a member holds all that another drew, above every share', await comes(() => of(one, 12) === 90) || of(one, 12), true);
-  judge('and of a stranger no more than his share, beside what the other repaired', [of(one, 900) <= 32 || of(one, 900), one.board.strange.size <= 62, one.board.strange.size > 0], [true, true, true]);
+  check('a member holds all that another drew, above every share', await comes(() => of(one, 12) === 90) || of(one, 12), true);
+  check('and of a stranger no more than his share, beside what the other repaired', [of(one, 900) <= 32 || of(one, 900), one.board.strange.size <= 62, one.board.strange.size > 0], [true, true, true]);
   const before = [...one.board.strange].sort();
   await one.end();
   await one.running;
   const again = await memberOf(program, network, 11, one.board.record);
-  judge('a start knows what strangers gave', [...again.board.strange].sort(), before);
+  check('a start knows what strangers gave', [...again.board.strange].sort(), before);
   for (const member of [again, other]) await member.end();
 }
 
@@ -339,15 +339,15 @@ async function testTail(program) {
   };
   await one.people.draw(PAGE, 'line 0 0 4 0 a');
   await comes(() => one.judging.tails.due() === null, 5);
-  judge('alone', sent.map(([seq]) => seq), [1]);
+  check('alone', sent.map(([seq]) => seq), [1]);
   const other = await memberOf(program, network, 12, new Record(null, 'here', 12)), { worse } = other.inbox;
   await comes(() => other.drawn.total === 1 && one.judging.present().length === 1);
   other.inbox.worse = { ...worse, lose: 1 };
   await one.people.draw(PAGE, 'line 0 1 4 1 a');
   other.inbox.worse = { ...worse, lose: 0 };
-  judge('the other has it soon', await comes(() => other.drawn.total === 2, 10), true);
+  check('the other has it soon', await comes(() => other.drawn.total === 2, 10), true);
   await comes(() => one.judging.tails.due() === null, 5);
-  judge('it goes twice more at most, and the record has it before', [sent.filter(([seq]) => seq === 2).length <= 3, await Promise.all(sent.map(([, kept]) => kept))], [true, sent.map(() => true)]);
+  check('it goes twice more at most, and the record has it before', [sent.filter(([seq]) => seq === 2).length <= 3, await Promise.all(sent.map(([, kept]) => kept))], [true, sent.map(() => true)]);
   for (const member of [one, other]) await member.end();
 }
 
@@ -356,14 +356,14 @@ async function testTwins(program) {
   const network = new Map(), heard = [], twins = [];
   network.set('ear', (bytes) => heard.push(bytes));
   for (const place of ['a', 'b']) twins.push(await memberOf(program, network, 11, new Record(null, 'here', 11), false, place));
-  judge('two of one number see it', await comes(() => twins.every(({ judging }) => judging.hasTwin)), true);
-  judge('and do not draw', await twins[0].people.draw(PAGE, 'line 0 0 4 0 x').catch((fault) => fault.message), 'another member has our number: take a new one');
+  check('two of one number see it', await comes(() => twins.every(({ judging }) => judging.hasTwin)), true);
+  check('and do not draw', await twins[0].people.draw(PAGE, 'line 0 0 4 0 x').catch((fault) => fault.message), 'another member has our number: take a new one');
   for (const member of twins) await member.end();
   await Promise.all(twins.map(({ running }) => running));
   const alone = await memberOf(program, network, 11, new Record(null, 'here', 11));
   for (const bytes of heard) alone.take(bytes, { place: 'wb/eve', owner: null });
   await comes(() => alone.inbox.waiting.length === 0);
-  judge('what they said does not stop who comes later', [alone.judging.hasTwin, (await alone.people.draw(PAGE, 'line 0 0 4 0 x')).seq], [false, 1]);
+  check('what they said does not stop who comes later', [alone.judging.hasTwin, (await alone.people.draw(PAGE, 'line 0 0 4 0 x')).seq], [false, 1]);
   await alone.end();
 }
 

@@ -35,25 +35,25 @@ CONTRAST = """(([front, ground]) => {
 
 def test_meeting(tally: Tally, one: Sheet, other: Sheet) -> None:
     for sheet in (one, other):
-        tally.judge("two members are shown", sheet.page.wait("document.querySelectorAll('#members li').length === 2"), sheet.text_of("members"))
-        tally.judge("it may draw", sheet.page.wait("wb.session.hello.ready"))
-    tally.judge("the first line is told", "not proved" in one.text_of("notice"), one.text_of("notice"))
+        tally.check("two members are shown", sheet.page.wait("document.querySelectorAll('#members li').length === 2"), sheet.text_of("members"))
+        tally.check("it may draw", sheet.page.wait("wb.session.hello.ready"))
+    tally.check("the first line is told", "not proved" in one.text_of("notice"), one.text_of("notice"))
 
 
 def test_side(tally: Tally, one: Sheet, other: Sheet) -> None:
     one.page.value("document.getElementById('pause').click()")
     seen = one.page.value("document.getElementById('wire').textContent")
     other.page.value("wb.session.send('text 60 3 \"while it is paused\"')")
-    tally.judge("the wire stands while it is paused", one.shows(60, 3, "while") and one.page.value("document.getElementById('wire').textContent") == seen)
+    tally.check("the wire stands while it is paused", one.shows(60, 3, "while") and one.page.value("document.getElementById('wire').textContent") == seen)
     one.page.value("document.getElementById('pause').click()")
-    tally.judge("it goes on", one.page.wait("document.getElementById('wire').textContent.includes('paused')"))
+    tally.check("it goes on", one.page.wait("document.getElementById('wire').textContent.includes('paused')"))
     one.page.value("document.getElementById('filter').value = 'repairs'; document.getElementById('filter').dispatchEvent(new Event('change'))")
-    tally.judge("it is filtered", one.page.wait("!document.getElementById('wire').textContent.includes('session-message')"))
+    tally.check("it is filtered", one.page.wait("!document.getElementById('wire').textContent.includes('session-message')"))
     one.page.value("""document.querySelector('#worsen input').value = 100; document.querySelector('#worsen input').dispatchEvent(new Event('change', { bubbles: true }))""")
-    tally.judge("a part is lost on purpose", one.page.wait("wb.session.hello.worsen.lose === 0.9"), str(one.page.value("JSON.stringify(wb.session.hello.worsen)")))
+    tally.check("a part is lost on purpose", one.page.wait("wb.session.hello.worsen.lose === 0.9"), str(one.page.value("JSON.stringify(wb.session.hello.worsen)")))
     one.page.value("""document.querySelector('#worsen input').value = 0; document.querySelector('#worsen input').dispatchEvent(new Event('change', { bubbles: true }))""")
-    tally.judge("nothing is lost on purpose any more", one.page.wait("wb.session.hello.worsen.lose === 0"))
-    tally.judge("the distance of the other is told", one.page.wait("[...document.querySelectorAll('#members li')].some(({ title }) => / ms away/.test(title))"), one.text_of("members"))
+    tally.check("nothing is lost on purpose any more", one.page.wait("wb.session.hello.worsen.lose === 0"))
+    tally.check("the distance of the other is told", one.page.wait("[...document.querySelectorAll('#members li')].some(({ title }) => / ms away/.test(title))"), one.text_of("members"))
 
 
 def test_policy(tally: Tally, one: Sheet) -> None:
@@ -63,20 +63,20 @@ def test_policy(tally: Tally, one: Sheet) -> None:
         script.textContent = 'window.ran = true';
         document.body.append(script, Object.assign(document.createElement('div'), { innerHTML: '<img src="data:," onerror="window.ran = true">' }));
     })()""")
-    tally.judge("no other script runs", not one.page.wait("window.ran", 0.3))
-    tally.judge("no text is run", one.page.value("(() => { try { return eval('1'); } catch (fault) { return fault.name; } })()") == "EvalError")
-    tally.judge("no other address is asked", one.page.value("fetch('http://127.0.0.1:1/').then(() => 'asked', () => 'not')") == "not")
+    tally.check("no other script runs", not one.page.wait("window.ran", 0.3))
+    tally.check("no text is run", one.page.value("(() => { try { return eval('1'); } catch (fault) { return fault.name; } })()") == "EvalError")
+    tally.check("no other address is asked", one.page.value("fetch('http://127.0.0.1:1/').then(() => 'asked', () => 'not')") == "not")
     end = time.monotonic() + PATIENCE
     while len(one.page.browser.faults) < 3 and time.monotonic() < end:
         one.page.value("0")  # what the browser tells is read with each answer
-    tally.judge("the policy has told so", len(one.page.browser.faults) >= 3, str(one.page.browser.faults))
+    tally.check("the policy has told so", len(one.page.browser.faults) >= 3, str(one.page.browser.faults))
 
 
 def test_night(tally: Tally, one: Sheet, other: Sheet) -> None:
     """A browser tells of no change that a script has read before it tells: so the page looks as often as it can meanwhile."""
     one.page.value(f"window.looks = true; {LOOKS}; 0")
     for scheme in ("dark", "light") * 3:
-        tally.judge(f"the page comes to be {scheme}, however often it looks", one.wish(scheme))
+        tally.check(f"the page comes to be {scheme}, however often it looks", one.wish(scheme))
     one.page.value("window.looks = false; 0")
 
 
@@ -84,14 +84,14 @@ def test_wishes(tally: Tally, one: Sheet, other: Sheet) -> None:
     for scheme in ("light", "dark"):
         one.wish(scheme)
         low = [(pair, found) for pair in PAIRS if (found := one.page.value(f"{CONTRAST}({json.dumps(pair)})")) < 4.5]
-        tally.judge(f"the contrast of all colours, {scheme}", not low, str(low))
+        tally.check(f"the contrast of all colours, {scheme}", not low, str(low))
     one.page.prefer(reduced_motion="reduce")
-    tally.judge("no motion where none is asked for", bool(one.page.value("getComputedStyle(document.getElementById('undo')).transitionDuration === '0s'")))
+    tally.check("no motion where none is asked for", bool(one.page.value("getComputedStyle(document.getElementById('undo')).transitionDuration === '0s'")))
     one.page.call("Emulation.setEmulatedMedia", media="print")
-    tally.judge("the page's characters are printed as text", bool(one.page.value(
+    tally.check("the page's characters are printed as text", bool(one.page.value(
         "getComputedStyle(document.getElementById('text')).position === 'static' && getComputedStyle(wb.view.sheet.parentElement).display === 'none'")))
     one.look("ink")
-    tally.judge("its ink as it is seen, without what floats over it", bool(one.page.value(
+    tally.check("its ink as it is seen, without what floats over it", bool(one.page.value(
         "getComputedStyle(wb.view.sheet.parentElement).display !== 'none' && [...document.querySelectorAll('.island')].every((island) => !island.getClientRects().length)")))
     one.look("cells")
     one.page.call("Emulation.setEmulatedMedia", media="")

@@ -53,8 +53,8 @@ class Windows:
         self.is_quiet(tally)
 
     def is_quiet(self, tally: Tally) -> None:
-        tally.judge("no fault in a page, and none of its policy", not self.browser.faults, "; ".join(self.browser.faults))
-        tally.judge("nothing that is pressed is covered", not COVERED, ", ".join(COVERED))
+        tally.check("no fault in a page, and none of its policy", not self.browser.faults, "; ".join(self.browser.faults))
+        tally.check("nothing that is pressed is covered", not COVERED, ", ".join(COVERED))
         self.browser.faults.clear()
         COVERED.clear()
 

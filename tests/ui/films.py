@@ -31,12 +31,12 @@ def test_presence(tally: Tally, one: Sheet, other: Sheet) -> None:
         one.be(width, height, scheme, hand)
         one.page.value(f"wb.view.setSize({9 if width > 1000 else 6}); wb.view.home()")
         with tally.told(f"{width} points, {scheme}, {hand}"):
-            judge_presence(tally, one, other)
+            check_presence(tally, one, other)
     one.be(*USUAL)
     one.keys("0")
 
 
-def judge_presence(tally: Tally, one: Sheet, other: Sheet) -> None:
+def check_presence(tally: Tally, one: Sheet, other: Sheet) -> None:
     on_a_new_page(one, other)
     one.page.value("wb.hand.setGlyph('#'); wb.view.sheet.focus(); 0")
     number = one.page.value("wb.session.hello.me")
@@ -49,20 +49,20 @@ def judge_presence(tally: Tally, one: Sheet, other: Sheet) -> None:
         one.page.press(*one.point(10, 5))
         one.page.mouse("mouseMoved", *one.point(20, 9))
     seen = f"wb.presence.others.some(({{ pointed }}) => pointed.member === {number} && pointed.cell[0] === 20 && pointed.begun[0] === 'frame 10 5 20 9 #')"
-    tally.judge("others see what is begun", other.page.wait(seen), str(other.page.value("JSON.stringify(wb.presence.others)")))
-    tally.judge("it is painted", other.is_inked(15, 5))
-    tally.judge("it is nobody's drawing", not other.page.value("wb.session.board.drawops.length"))
+    tally.check("others see what is begun", other.page.wait(seen), str(other.page.value("JSON.stringify(wb.presence.others)")))
+    tally.check("it is painted", other.is_inked(15, 5))
+    tally.check("it is nobody's drawing", not other.page.value("wb.session.board.drawops.length"))
     one.page.key("Escape")
     if one.hand == "finger":
         one.page.touch("touchEnd")
     else:
         one.page.mouse("mouseReleased", *one.point(20, 9))
-    tally.judge("what is dropped is seen no more", other.page.wait("wb.presence.others.every(({ pointed }) => !pointed.begun.length)"))
+    tally.check("what is dropped is seen no more", other.page.wait("wb.presence.others.every(({ pointed }) => !pointed.begun.length)"))
     one.page.value("document.getElementById('pointing').click()")
-    tally.judge("who does not want to is not seen", other.page.wait("!wb.presence.others.length"))
+    tally.check("who does not want to is not seen", other.page.wait("!wb.presence.others.length"))
     one.page.value("document.getElementById('pointing').click()")
     told = "Number(/([0-9]+) refused/.exec(document.getElementById('counts').textContent)?.[1] ?? 0)"
-    tally.judge("no host hears of it", other.page.value(told) == refused)
+    tally.check("no host hears of it", other.page.value(told) == refused)
 
 
 def test_film(tally: Tally, browser: Browser, room: Path, one: Sheet) -> None:
@@ -81,24 +81,24 @@ def test_film(tally: Tally, browser: Browser, room: Path, one: Sheet) -> None:
     member = Member(room, 0, words=["--replay", str(path)])
     try:
         film = Sheet(browser.open(member.address, first=BY_CELLS))
-        tally.judge("a film has scenes", film.page.wait(f"wb.film?.scenes.length >= {DRAWN} && wb.film.film"))
+        tally.check("a film has scenes", film.page.wait(f"wb.film?.scenes.length >= {DRAWN} && wb.film.film"))
         film.press("#film-stop")
-        tally.judge("it stops", film.page.wait("wb.film.film.stopped"))
+        tally.check("it stops", film.page.wait("wb.film.film.stopped"))
         film.page.value(f"wb.session.goToPage({json.dumps(page)}); 0")
         film.page.wait(f"wb.session.board.page === {json.dumps(page)}")
         for width, height, scheme, hand in ((*WINDOWS[0][:3], "keys"), WINDOWS[1], WINDOWS[3]):
             film.be(width, height, scheme, hand)
-            tally.judge(f"nothing lies over the film ({width} points)", not film.page.value(OVER), str(film.page.value(OVER)))
+            tally.check(f"nothing lies over the film ({width} points)", not film.page.value(OVER), str(film.page.value(OVER)))
             film.slide("#film-at", True)
             is_whole = film.page.wait(f"wb.session.board.page === {json.dumps(page)} && wb.session.board.drawops.length === {DRAWN}", JUMPS)
-            tally.judge(f"a jump to the end shows the page as it was ({width} points, {hand})", is_whole, f"{film.page.value('wb.session.board.drawops.length')} of {DRAWN}")
-            tally.judge("each drawing, and ink, as it was", film.page.value("JSON.stringify(wb.session.board.drawops)") == drawn)
+            tally.check(f"a jump to the end shows the page as it was ({width} points, {hand})", is_whole, f"{film.page.value('wb.session.board.drawops.length')} of {DRAWN}")
+            tally.check("each drawing, and ink, as it was", film.page.value("JSON.stringify(wb.session.board.drawops)") == drawn)
             film.slide("#film-at", False)
-            tally.judge(f"a jump to the beginning shows nothing ({width} points, {hand})", film.page.wait("wb.session.board.drawops.length === 0", JUMPS), film.text_of("film-told"))
+            tally.check(f"a jump to the beginning shows nothing ({width} points, {hand})", film.page.wait("wb.session.board.drawops.length === 0", JUMPS), film.text_of("film-told"))
         film.page.value("document.getElementById('film-speed').value = '20'; document.getElementById('film-speed').dispatchEvent(new Event('change'))")
         film.press("#film-stop")
-        tally.judge("it goes on, faster", film.page.wait("!wb.film.film.stopped && wb.film.film.speed === 20 && wb.film.film.at > 1000"))
-        tally.judge("who drew what is told", film.page.wait("/: (line|frame|text|delete|restore)/.test(document.getElementById('film-told').textContent)"), film.text_of("film-told"))
-        tally.judge("nothing is drawn in a film", film.page.value("wb.session.send('line 0 0 1 1 *').then(({ ok }) => ok)") is False)
+        tally.check("it goes on, faster", film.page.wait("!wb.film.film.stopped && wb.film.film.speed === 20 && wb.film.film.at > 1000"))
+        tally.check("who drew what is told", film.page.wait("/: (line|frame|text|delete|restore)/.test(document.getElementById('film-told').textContent)"), film.text_of("film-told"))
+        tally.check("nothing is drawn in a film", film.page.value("wb.session.send('line 0 0 1 1 *').then(({ ok }) => ok)") is False)
     finally:
         member.end()

@@ -77,9 +77,9 @@ def test_floods(tally: Tally, one: Sheet, other: Sheet) -> None:
             told = ", ".join(f"{spent:.0f}" for spent in found["longest"])
             print(f"{name}, {look}: taken in, painted, moved under an older drawing and zoomed in {told} ms at most without a pause; "
                   f"all is painted after {found['took'] / 1000:.1f} s, {(busy(one) - began) / 1000:.1f} s of the page's thread, with a load of {os.getloadavg()[0]:.1f}")
-            tally.judge(f"{name}, {look}: painting ends", all(found["ends"]), str(found))
+            tally.check(f"{name}, {look}: painting ends", all(found["ends"]), str(found))
             if is_measured():
-                tally.judge(f"{name}, {look}: no frame over {MOST_FRAME} ms", max(found["longest"]) < MOST_FRAME, told)
+                tally.check(f"{name}, {look}: no frame over {MOST_FRAME} ms", max(found["longest"]) < MOST_FRAME, told)
     if not is_measured():
         print("skipped: whether frames are within their time, which is judged where WB_MEASURE is set")
     one.look("cells")

@@ -102,23 +102,23 @@ def test_pen(tally: Tally, one: Sheet, other: Sheet) -> None:
     one.keys("p")
     way = at(one, *wave(60, 230, 260))
     draw(one, way[:60], lifts=False)
-    tally.judge("a stroke is seen while it is drawn", other.page.wait("wb.presence.others.some(({ pointed }) => pointed.begun.length) || " + f"{ITEMS} === 1"))
+    tally.check("a stroke is seen while it is drawn", other.page.wait("wb.presence.others.some(({ pointed }) => pointed.begun.length) || " + f"{ITEMS} === 1"))
     for point in way[60:]:
         one.page.touch("touchMove", point) if one.hand == "finger" else one.page.mouse("mouseMoved", *point)
     lift(one, way[-1])
-    tally.judge("it is one item in both windows", are_settled(one, other, 1))
-    tally.judge("of a few drawops", int(one.page.value(DRAWN)) <= 4, str(one.page.value(DRAWN)))
+    tally.check("it is one item in both windows", are_settled(one, other, 1))
+    tally.check("of a few drawops", int(one.page.value(DRAWN)) <= 4, str(one.page.value(DRAWN)))
     far = one.page.value("""((way) => {
         const { points } = wb.ink.items[0], [left, top] = wb.view.corner(), scale = wb.view.wide / 64;
         const box = wb.view.sheet.getBoundingClientRect();
         return Math.max(...[points[0], points.at(-1)].map(({ x, y }, i) => Math.hypot(x * scale - left + box.left - way[i][0], y * scale - top + box.top - way[i][1])));
     })(%s)""" % json.dumps([way[0], way[-1]]))
-    tally.judge("it begins and ends where the hand did", far < 1.0, str(far))
-    tally.judge("both show one picture", are_equal(one, other))
+    tally.check("it begins and ends where the hand did", far < 1.0, str(far))
+    tally.check("both show one picture", are_equal(one, other))
     one.page.key("z", CONTROL)
-    tally.judge("one undo takes it back", are_settled(one, other, 0))
+    tally.check("one undo takes it back", are_settled(one, other, 0))
     one.page.key("z", CONTROL | SHIFT)
-    tally.judge("one redo draws it again", are_settled(one, other, 1))
+    tally.check("one redo draws it again", are_settled(one, other, 1))
 
 
 def test_unsent(tally: Tally, one: Sheet, other: Sheet) -> None:
@@ -128,16 +128,16 @@ def test_unsent(tally: Tally, one: Sheet, other: Sheet) -> None:
     one.page.value("window.sent = 0; wb.session.on('ghosts', () => { window.sent += wb.session.waiting.size; }); 0")
     gather(one, at(one, (80, 230), (100, 250), (120, 230)))
     one.page.key("z", CONTROL)
-    tally.judge("undo of a stroke that is not sent draws nothing", not one.page.wait("window.sent || wb.pen.strokes", RESTS / 1000 + 0.4))
-    tally.judge("and nobody has it", int(one.page.value(ITEMS)) == 0 and int(other.page.value(ITEMS)) == 0)
+    tally.check("undo of a stroke that is not sent draws nothing", not one.page.wait("window.sent || wb.pen.strokes", RESTS / 1000 + 0.4))
+    tally.check("and nobody has it", int(one.page.value(ITEMS)) == 0 and int(other.page.value(ITEMS)) == 0)
     gather(one, at(one, (80, 230), (100, 250)), at(one, (110, 230), (130, 250)), at(one, (140, 230), (150, 250)))
     one.page.key("z", CONTROL)
     send(one)
-    tally.judge("of three strokes at once the last is taken back", is_settled(other, 1) and other.page.wait("wb.ink.items[0].points.filter(({ up }) => up).length === 1"))
-    tally.judge("the two are one drawop", int(other.page.value(DRAWN)) == 1)
+    tally.check("of three strokes at once the last is taken back", is_settled(other, 1) and other.page.wait("wb.ink.items[0].points.filter(({ up }) => up).length === 1"))
+    tally.check("the two are one drawop", int(other.page.value(DRAWN)) == 1)
     draw(one, at(one, (200, 230), (240, 260)))
     one.page.value("document.dispatchEvent(new Event('x')); dispatchEvent(new Event('pagehide')); 0")
-    tally.judge("closing the page sends what is open", other.page.wait(f"{ITEMS} === 2"))
+    tally.check("closing the page sends what is open", other.page.wait(f"{ITEMS} === 2"))
 
 
 def test_eraser(tally: Tally, one: Sheet, other: Sheet) -> None:
@@ -148,14 +148,14 @@ def test_eraser(tally: Tally, one: Sheet, other: Sheet) -> None:
     are_settled(one, other, 1)
     one.keys("e")
     draw(one, at(one, (105, 245), (140, 245)))
-    tally.judge("the eraser takes strokes from lift to lift", are_settled(one, other, 1) and other.page.wait("wb.ink.items[0].points.filter(({ up }) => up).length === 1"))
+    tally.check("the eraser takes strokes from lift to lift", are_settled(one, other, 1) and other.page.wait("wb.ink.items[0].points.filter(({ up }) => up).length === 1"))
     one.page.key("z", CONTROL)
     whole = f"{ITEMS} === 1 && wb.ink.items[0].points.filter(({{ up }}) => up).length === 2"
-    tally.judge("undo of a part brings all back", other.page.wait(whole) and one.page.wait(whole))
+    tally.check("undo of a part brings all back", other.page.wait(whole) and one.page.wait(whole))
     draw(one, at(one, (60, 245), (180, 245)))
-    tally.judge("all parts are deleted, and nothing is drawn anew", are_settled(one, other, 0))
+    tally.check("all parts are deleted, and nothing is drawn anew", are_settled(one, other, 0))
     one.page.key("z", CONTROL)
-    tally.judge("and come back", are_settled(one, other, 1))
+    tally.check("and come back", are_settled(one, other, 1))
 
 
 def test_shapes(tally: Tally, one: Sheet, other: Sheet) -> None:
@@ -163,18 +163,18 @@ def test_shapes(tally: Tally, one: Sheet, other: Sheet) -> None:
     for n, key in enumerate("laro"):
         one.keys(key)
         draw(one, at(one, (60 + 70 * n, 220), (90 + 70 * n, 240), (110 + 70 * n, 270)))
-    tally.judge("a line, an arrow, a rectangle and an ellipse", are_settled(one, other, 4) and other.page.value("wb.ink.items.map(({ kind }) => kind).join('')") == "llro")
-    tally.judge("each is one drawop", int(other.page.value(DRAWN)) == 4)
-    tally.judge("the arrow has its head", other.page.value("wb.ink.items[1].flag & 1") == 1)
+    tally.check("a line, an arrow, a rectangle and an ellipse", are_settled(one, other, 4) and other.page.value("wb.ink.items.map(({ kind }) => kind).join('')") == "llro")
+    tally.check("each is one drawop", int(other.page.value(DRAWN)) == 4)
+    tally.check("the arrow has its head", other.page.value("wb.ink.items[1].flag & 1") == 1)
     one.keys("v")
     (x, y), = at(one, (200, 245))
     draw(one, [(x, y), (x + 20, y + 15), (x + 40, y + 30)])
-    tally.judge("a shape is moved by units", other.page.wait(f"{ITEMS} === 4 && wb.ink.items[3].kind === 'r'"), other.page.value("wb.ink.items.map(({ kind }) => kind).join('')"))
+    tally.check("a shape is moved by units", other.page.wait(f"{ITEMS} === 4 && wb.ink.items[3].kind === 'r'"), other.page.value("wb.ink.items.map(({ kind }) => kind).join('')"))
     moved = other.page.value("[wb.ink.items[3].points[0].x, wb.ink.items[3].points[0].y]")
     one.page.key("z", CONTROL)
     other.page.wait(f"{ITEMS} === 4 && wb.ink.items[2].kind === 'r'")
     was = other.page.value("[wb.ink.items[2].points[0].x, wb.ink.items[2].points[0].y]")
-    tally.judge("by as much as the hand", abs(moved[0] - was[0] - 256) <= 7 and abs(moved[1] - was[1] - 192) <= 7, f"{was} {moved}")
+    tally.check("by as much as the hand", abs(moved[0] - was[0] - 256) <= 7 and abs(moved[1] - was[1] - 192) <= 7, f"{was} {moved}")
 
 
 def test_moves(tally: Tally, one: Sheet, other: Sheet) -> None:
@@ -183,7 +183,7 @@ def test_moves(tally: Tally, one: Sheet, other: Sheet) -> None:
     one.keys("p")
     draw(one, at(one, *[(60 + 2 * i, 230 + 30 * math.sin(i / 4)) for i in range(130)]))
     one.page.wait(f"!wb.pen.strokes && !wb.session.waiting.size && {DRAWN} > 1")
-    tally.judge("a long stroke is a chain", is_settled(other, 1) and other.page.wait(f"wb.ink.items[0].drawings.length === {one.page.value(DRAWN)}"), str(other.page.value(DRAWN)))
+    tally.check("a long stroke is a chain", is_settled(other, 1) and other.page.wait(f"wb.ink.items[0].drawings.length === {one.page.value(DRAWN)}"), str(other.page.value(DRAWN)))
     before = other.page.value("wb.ink.items[0].points.map(({ x, y }) => [x, y])")
     start = other.page.value("""(() => {
         const { x, y } = wb.ink.items[0].points[0], [left, top] = wb.view.corner(), box = wb.view.sheet.getBoundingClientRect();
@@ -193,12 +193,12 @@ def test_moves(tally: Tally, one: Sheet, other: Sheet) -> None:
     hand, other.hand = other.hand, "mouse"
     draw(other, [(start[0], start[1]), (start[0] + 10, start[1] + 20), (start[0] + 25, start[1] + 40)])
     other.hand = hand
-    tally.judge("it is moved", one.page.wait(f"{ITEMS} === 1 && wb.ink.items[0].source === {other.page.value('wb.session.hello.me')}") and is_settled(other, 1))
+    tally.check("it is moved", one.page.wait(f"{ITEMS} === 1 && wb.ink.items[0].source === {other.page.value('wb.session.hello.me')}") and is_settled(other, 1))
     after = one.page.value("wb.ink.items[0].points.map(({ x, y }) => [x, y])")
     ways = {(a[0] - b[0], a[1] - b[1]) for a, b in zip(after, before)}
-    tally.judge("each point by one way", len(after) == len(before) and len(ways) == 1, str(ways)[:200])
+    tally.check("each point by one way", len(after) == len(before) and len(ways) == 1, str(ways)[:200])
     other.page.key("z", CONTROL)
-    tally.judge("one undo brings it back", one.page.wait(f"{ITEMS} === 1 && wb.ink.items[0].source !== {other.page.value('wb.session.hello.me')}"))
+    tally.check("one undo brings it back", one.page.wait(f"{ITEMS} === 1 && wb.ink.items[0].source !== {other.page.value('wb.session.hello.me')}"))
 
 
 # how wide and high a frame is that another window shows, and a stroke beside it, in units
@@ -223,11 +223,11 @@ def test_resizing(tally: Tally, one: Sheet, other: Sheet) -> None:
     # the box about both is 2.3 points wider at each side than the frame, which is 100 by 70 of them
     times = [(104.7 + 100) / 104.7, (74.7 + 40) / 74.7] * 2
     wanted = [extent * by for extent, by in zip(before, times)]
-    tally.judge("a corner makes what is selected larger", are_settled(one, other, 2) and other.page.wait(
+    tally.check("a corner makes what is selected larger", are_settled(one, other, 2) and other.page.wait(
         f"{EXTENTS}.every((extent, i) => Math.abs(extent - {json.dumps(wanted)}[i]) < 20)"), f"{before} {other.page.value(EXTENTS)} {wanted}")
-    tally.judge("it stays selected", one.page.wait("wb.hand.chosenItems().length === 2"))
+    tally.check("it stays selected", one.page.wait("wb.hand.chosenItems().length === 2"))
     one.page.key("z", CONTROL)
-    tally.judge("one undo makes it as it was", other.page.wait(f"{ITEMS} === 2 && JSON.stringify({EXTENTS}) === JSON.stringify({json.dumps(before)})"))
+    tally.check("one undo makes it as it was", other.page.wait(f"{ITEMS} === 2 && JSON.stringify({EXTENTS}) === JSON.stringify({json.dumps(before)})"))
     one.page.key("Escape")
 
 
@@ -240,22 +240,22 @@ def test_letters(tally: Tally, one: Sheet, other: Sheet) -> None:
     one.page.wait("document.activeElement === wb.typing.box")
     one.page.call("Input.insertText", text="Gr\u00f6\u00dfe \u2248 \u6f22 \U0001F600")
     one.page.key("Enter")
-    tally.judge("letters of all languages", other.page.wait("wb.ink.items[0]?.letters === 'Gr\u00f6\u00dfe \u2248 \u6f22 \U0001F600'"))
-    tally.judge("who listens has them in the page's text", other.page.wait("document.getElementById('text').textContent.includes('Gr\u00f6\u00dfe \u2248 \u6f22')"), other.text_of("text"))
+    tally.check("letters of all languages", other.page.wait("wb.ink.items[0]?.letters === 'Gr\u00f6\u00dfe \u2248 \u6f22 \U0001F600'"))
+    tally.check("who listens has them in the page's text", other.page.wait("document.getElementById('text').textContent.includes('Gr\u00f6\u00dfe \u2248 \u6f22')"), other.text_of("text"))
     is_settled(one, 1)
     one.page.value("wb.typing.edit(wb.ink.items[0]); 0")
     one.page.value("wb.typing.box.select()")
     one.page.call("Input.insertText", text="anew")
     one.page.key("Enter")
-    tally.judge("they are edited", other.page.wait("wb.ink.items[0]?.letters === 'anew'") and is_settled(other, 1))
+    tally.check("they are edited", other.page.wait("wb.ink.items[0]?.letters === 'anew'") and is_settled(other, 1))
     one.keys("n")
     draw(one, at(one, (80, 290), (200, 330), (300, 390)))
     one.page.wait("document.activeElement === wb.typing.box")
     one.page.call("Input.insertText", text="For Monday: what happens at night? " * 3)
     one.page.key("Enter", CONTROL)
-    tally.judge("a note of several drawops is one item", other.page.wait(f"{ITEMS} === 2 && wb.ink.items[1].kind === 'n' && wb.ink.items[1].letters.length > 100"))
+    tally.check("a note of several drawops is one item", other.page.wait(f"{ITEMS} === 2 && wb.ink.items[1].kind === 'n' && wb.ink.items[1].letters.length > 100"))
     is_settled(one, 2)
-    tally.judge("both show one picture", are_equal(one, other))
+    tally.check("both show one picture", are_equal(one, other))
 
 
 def test_hands(tally: Tally, one: Sheet, other: Sheet) -> None:
@@ -278,19 +278,19 @@ def test_by_keys(tally: Tally, one: Sheet, other: Sheet) -> None:
         one.keys(key, "Enter")
         one.walk(6, 3)
         one.keys("Enter")
-        tally.judge(f"{key} by keys", are_settled(one, other, 1) and other.page.value("wb.ink.items[0].kind") == kind, str(other.page.value("wb.ink.items.map(({ kind }) => kind).join()")))
+        tally.check(f"{key} by keys", are_settled(one, other, 1) and other.page.value("wb.ink.items[0].kind") == kind, str(other.page.value("wb.ink.items.map(({ kind }) => kind).join()")))
         one.page.key("z", CONTROL)
-        tally.judge(f"undo of {key} by keys", are_settled(one, other, 0))
+        tally.check(f"undo of {key} by keys", are_settled(one, other, 0))
     one.keys("t", "Enter")
     one.page.wait("document.activeElement === wb.typing.box")
     one.page.write("by keys")
     one.keys("Enter")
-    tally.judge("letters by keys", are_settled(one, other, 1) and other.page.value("wb.ink.items[0].letters") == "by keys")
+    tally.check("letters by keys", are_settled(one, other, 1) and other.page.value("wb.ink.items[0].letters") == "by keys")
     one.page.key("a", CONTROL)
     one.keys("Delete")
-    tally.judge("all are deleted by keys", is_settled(other, 0))
+    tally.check("all are deleted by keys", is_settled(other, 0))
     one.keys("4")
-    tally.judge("a colour by a key", one.page.value("wb.style.look.colour") == 4)
+    tally.check("a colour by a key", one.page.value("wb.style.look.colour") == 4)
     one.keys("1")
 
 
@@ -301,9 +301,9 @@ def test_stylus(tally: Tally, one: Sheet, other: Sheet) -> None:
     for n, (kind, force) in enumerate((("mousePressed", 0.2), ("mouseMoved", 0.6), ("mouseMoved", 0.9), ("mouseReleased", 0.9))):
         (x, y), = at(one, (80 + 30 * min(n, 2), 240))
         one.page.call("Input.dispatchMouseEvent", type=kind, x=x, y=y, button="left", buttons=1, clickCount=1, pointerType="pen", force=force)
-    tally.judge("a stroke with pressure", is_settled(other, 1) and other.page.value("wb.ink.items[0].kind") == "v")
+    tally.check("a stroke with pressure", is_settled(other, 1) and other.page.value("wb.ink.items[0].kind") == "v")
     pressed = other.page.value("wb.ink.items[0].points.map(({ pressure }) => Math.round(pressure * 10))")
-    tally.judge("as hard as it was pressed", pressed[0] == 2 and pressed[-1] == 9, str(pressed))
+    tally.check("as hard as it was pressed", pressed[0] == 2 and pressed[-1] == 9, str(pressed))
     one.page.value("wb.pointing.hasStylus = false; 0")
 
 
@@ -314,27 +314,27 @@ def test_sight(tally: Tally, one: Sheet, other: Sheet) -> None:
     draw(one, at(one, (80, 240), (160, 300)))
     is_settled(one, 1)
     one.page.value("wb.view.goTo(900, 900); 0")
-    tally.judge("the way back is offered", one.page.wait("!document.getElementById('away').hidden"))
+    tally.check("the way back is offered", one.page.wait("!document.getElementById('away').hidden"))
     one.press("#away")
-    tally.judge("and shows the drawings", one.page.wait("document.getElementById('away').hidden && wb.view.left < 100"))
+    tally.check("and shows the drawings", one.page.wait("document.getElementById('away').hidden && wb.view.left < 100"))
     one.page.value("wb.view.goTo(500, 500); wb.view.setSize(90); wb.view.sheet.focus(); 0")
     one.keys("0")
-    tally.judge("a key shows everything", one.page.wait("wb.view.wide === 10 && wb.view.left < 100"))
+    tally.check("a key shows everything", one.page.wait("wb.view.wide === 10 && wb.view.left < 100"))
     for key in ("+", "+", "-", "-"):
         one.keys(key)
-    tally.judge("larger and smaller by keys", one.page.wait("Math.abs(wb.view.wide - 10) < 0.01"))
+    tally.check("larger and smaller by keys", one.page.wait("Math.abs(wb.view.wide - 10) < 0.01"))
     one.keys("c")
-    tally.judge("a key shows the characters", one.page.wait("document.body.dataset.look === 'cells'"))
-    tally.judge("where ink stands packed, which is told", one.page.wait("!document.getElementById('away').hidden && document.getElementById('away').textContent.includes('4000')"))
+    tally.check("a key shows the characters", one.page.wait("document.body.dataset.look === 'cells'"))
+    tally.check("where ink stands packed, which is told", one.page.wait("!document.getElementById('away').hidden && document.getElementById('away').textContent.includes('4000')"))
     one.keys("c")
-    tally.judge("and ink again", one.page.wait("document.body.dataset.look === 'ink'"))
+    tally.check("and ink again", one.page.wait("document.body.dataset.look === 'ink'"))
 
 
 def test_follow(tally: Tally, one: Sheet, other: Sheet) -> None:
     clean(one, other)
     number = one.page.value("wb.session.hello.me")
     one.page.mouse("mouseMoved", *at(one, (300, 300))[0], pressed=False)
-    tally.judge("where others point has their name", other.page.wait(f"wb.presence.of({number})"))
+    tally.check("where others point has their name", other.page.wait(f"wb.presence.of({number})"))
     other.unfold("#members button")
     other.press("#members button")
     first = one.page.value("wb.session.board.page")
@@ -344,9 +344,9 @@ def test_follow(tally: Tally, one: Sheet, other: Sheet) -> None:
     one.page.wait(f"wb.session.board.page !== {json.dumps(first)}")
     one.page.mouse("mouseMoved", *at(one, (320, 320))[0], pressed=False)
     one.page.mouse("mouseMoved", *at(one, (330, 330))[0], pressed=False)
-    tally.judge("who follows turns pages with them", other.page.wait(f"wb.session.board.page === {json.dumps(one.page.value('wb.session.board.page'))}"))
+    tally.check("who follows turns pages with them", other.page.wait(f"wb.session.board.page === {json.dumps(one.page.value('wb.session.board.page'))}"))
     other.press("#members button")
-    tally.judge("and no more", other.page.wait("wb.faces.followed === null"))
+    tally.check("and no more", other.page.wait("wb.faces.followed === null"))
     other.fold()
 
 
@@ -359,11 +359,11 @@ def test_clear(tally: Tally, one: Sheet, other: Sheet) -> None:
     one.page.value("window.confirm = (text) => { window.asked = text; return true; }; 0")
     one.press("#file")
     one.press("#clear")
-    tally.judge("a page is cleared", is_settled(other, 0))
-    tally.judge("after it was asked, with what it costs", "3 drawings" in str(one.page.value("window.asked")), str(one.page.value("window.asked")))
+    tally.check("a page is cleared", is_settled(other, 0))
+    tally.check("after it was asked, with what it costs", "3 drawings" in str(one.page.value("window.asked")), str(one.page.value("window.asked")))
     one.page.value("wb.view.sheet.focus(); 0")
     one.page.key("z", CONTROL)
-    tally.judge("one undo brings all back", is_settled(other, 3))
+    tally.check("one undo brings all back", is_settled(other, 3))
 
 
 def test_writing(tally: Tally, one: Sheet, other: Sheet) -> None:
@@ -372,8 +372,8 @@ def test_writing(tally: Tally, one: Sheet, other: Sheet) -> None:
     one.keys("p")
     for stroke in written("hello", 70, 220, 60):
         draw(one, at(one, *smooth(stroke, 4)))
-    tally.judge("a word of six strokes", other.page.wait("wb.ink.items.length > 0 && wb.ink.items.reduce((sum, { points }) => sum + 1 + points.filter(({ up }) => up).length, 0) === 6"))
-    tally.judge("takes four drawops at most", int(other.page.value(DRAWN)) <= 4 and has(one, int(other.page.value(DRAWN))), str(other.page.value(DRAWN)))
+    tally.check("a word of six strokes", other.page.wait("wb.ink.items.length > 0 && wb.ink.items.reduce((sum, { points }) => sum + 1 + points.filter(({ up }) => up).length, 0) === 6"))
+    tally.check("takes four drawops at most", int(other.page.value(DRAWN)) <= 4 and has(one, int(other.page.value(DRAWN))), str(other.page.value(DRAWN)))
 
 
 def test_inks(tally: Tally, one: Sheet, other: Sheet) -> None:

@@ -43,32 +43,32 @@ NAMELESS = """[...document.querySelectorAll('button, select, textarea, input:not
 def test_layouts(tally: Tally, one: Sheet, other: Sheet) -> None:
     """At nine sizes, by day and by night, in both looks and with each row of style."""
     nameless = one.page.value(NAMELESS)
-    tally.judge("what is pressed or filled in has a name, wherever it stands", not nameless, str(nameless))
+    tally.check("what is pressed or filled in has a name, wherever it stands", not nameless, str(nameless))
     for width, height, hand in SIZES:
         for scheme in ("light", "dark"):
             one.be(width, height, scheme, hand)
             with tally.told(f"{width} points, {scheme}"):
-                judge_layout(tally, one)
+                check_layout(tally, one)
     one.be(*USUAL)
     one.look("cells")
     one.page.value("wb.view.fit(); wb.view.home(); 0")
 
 
-def judge_layout(tally: Tally, one: Sheet) -> None:
+def check_layout(tally: Tally, one: Sheet) -> None:
     one.look("ink")
     for tool in TOOLS:
         one.page.value(f"wb.hand.choose({tool!r}); 0")
         faults = one.page.value(f"{FAULTS}([{TARGET}, {FACE}])")
-        tally.judge(f"the layout with the {tool}", not faults, str(faults))
+        tally.check(f"the layout with the {tool}", not faults, str(faults))
     one.page.value("wb.hand.choose('pen'); wb.state.full = 0.81; wb.state.showNext(); document.getElementById('away').hidden = false; 0")
     faults = one.page.value(f"{FAULTS}([{TARGET}, {FACE}])")
-    tally.judge("the layout with what is told of a full board, and the way back", not faults, str(faults))
+    tally.check("the layout with what is told of a full board, and the way back", not faults, str(faults))
     one.page.value("wb.state.full = 0; wb.state.showNext(); wb.sight.showAway(); 0")
     one.look("cells")
     faults = one.page.value(f"{FAULTS}([{TARGET}, {FACE}])")
-    tally.judge("the layout of the characters", not faults, str(faults))
+    tally.check("the layout of the characters", not faults, str(faults))
     one.press("#fold")
-    tally.judge("the panel is in the window", bool(one.page.value("""(() => {
+    tally.check("the panel is in the window", bool(one.page.value("""(() => {
         const { left, top, right, bottom } = document.getElementById('side').getBoundingClientRect();
         return left >= 0 && top >= 0 && right <= innerWidth + 0.5 && bottom <= innerHeight + 0.5 && document.getElementById('close-side').getClientRects().length > 0;
     })()""")))

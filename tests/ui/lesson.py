@@ -212,11 +212,11 @@ def test_lesson(tally: Tally, browser: Browser, room: Path, ports: int) -> None:
     with two_windows(browser, room, ports) as (one, other):
         lesson = give_lesson(one, other)
         print(lesson)
-        tally.judge("both show one picture, point by point", lesson.equal is not None)
+        tally.check("both show one picture, point by point", lesson.equal is not None)
         if os.environ.get("WB_MEASURE"):
-            tally.judge(f"within {SOON} s of the last stroke", lesson.equal is not None and lesson.equal < SOON, str(lesson.equal))
-        tally.judge("something was lost", lesson.lost > 0)
-        tally.judge("all letters are there", other.page.value("['sugar', 'E = h\u00b7\u03bd = h\u00b7c/\u03bb'].every((letters) => wb.ink.items.some((item) => item.letters === letters))"))
+            tally.check(f"within {SOON} s of the last stroke", lesson.equal is not None and lesson.equal < SOON, str(lesson.equal))
+        tally.check("something was lost", lesson.lost > 0)
+        tally.check("all letters are there", other.page.value("['sugar', 'E = h\u00b7\u03bd = h\u00b7c/\u03bb'].every((letters) => wb.ink.items.some((item) => item.letters === letters))"))
         if os.environ.get("WB_PICTURES"):
             for sheet, text in ((other, "Is the leaf warm?"), (one, "Good question! Put your hand on one at noon.")):
                 sheet.page.value(f"wb.notes.say({json.dumps(text)}); 0")

@@ -70,11 +70,11 @@ def measure_frames(tally: Tally, one: Sheet, other: Sheet) -> None:
         began = busy(one)
         between, spent = one.page.value(f"{TURNS}({json.dumps(is_zoom)})")
         cost = (busy(one) - began) / len(spent)
-        tally.judge(f"frames are painted while a large page is {name}", len(spent) > 1, str(len(spent)))
+        tally.check(f"frames are painted while a large page is {name}", len(spent) > 1, str(len(spent)))
         print(f"a page of {MANY:,} drawings {name}: {1000 / part(between, 0.5):.0f} frames a second in the median, {part(between, 0.95):.0f} ms at most in 95 of 100; "
               f"a frame takes {cost:.1f} ms of the page's thread, with a load of {os.getloadavg()[0]:.1f} on {os.cpu_count()} processors")
         if is_measured():
-            tally.judge(f"a large page is {name} at 60 frames a second", cost < FRAME and part(between, 0.5) < MOST_MEDIAN, f"{cost:.1f} ms")
+            tally.check(f"a large page is {name} at 60 frames a second", cost < FRAME and part(between, 0.5) < MOST_MEDIAN, f"{cost:.1f} ms")
         else:
             print("skipped: whether that is 60 frames a second, which is judged where WB_MEASURE is set")
     page = one.page.value("wb.session.board.page")
@@ -104,6 +104,6 @@ def measure(tally: Tally, one: Sheet, other: Sheet) -> None:
         taken.append(int(other.page.value("window.seen")) - int(one.page.value("window.released")))
     print(f"from the mouse's release to the paint in the other window: {statistics.median(taken):.0f} ms, the median of {ROUNDS}; "
           f"the greatest {max(taken)} ms, with a load of {os.getloadavg()[0]:.1f} on {os.cpu_count()} processors")
-    tally.judge("each line is shown", all(other.shows(50, row, "#" * 11) for row in range(20, 20 + ROUNDS)))
+    tally.check("each line is shown", all(other.shows(50, row, "#" * 11) for row in range(20, 20 + ROUNDS)))
     if is_measured():
-        tally.judge(f"within {MOST_LATENCY} ms", statistics.median(taken) < MOST_LATENCY, str(taken))
+        tally.check(f"within {MOST_LATENCY} ms", statistics.median(taken) < MOST_LATENCY, str(taken))

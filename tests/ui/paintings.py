@@ -147,12 +147,12 @@ def measure_strokes(tally: Tally, one: Sheet, other: Sheet) -> None:
     one.page.value(KIT)
     one.page.call("Performance.enable", timeDomain="threadTicks")
     one.page.value(f"figures.show(figures.strokes({MANY}))")
-    tally.judge("each stroke is an item", one.page.value("wb.ink.items.length") == MANY, str(one.page.value("wb.ink.items.length")))
+    tally.check("each stroke is an item", one.page.value("wb.ink.items.length") == MANY, str(one.page.value("wb.ink.items.length")))
     for kind in ("moved", "zoomed", "drawn"):
         frames = frames_of(one, kind, 1)
         print(f"{MANY:,} strokes of ink in view, {kind}: {frames}; with a load of {os.getloadavg()[0]:.1f} on {os.cpu_count()} processors")
         if is_measured():
-            tally.judge(f"strokes are {kind} at 60 frames a second", frames.cost < FRAME and frames.median < MOST_MEDIAN, str(frames))
+            tally.check(f"strokes are {kind} at 60 frames a second", frames.cost < FRAME and frames.median < MOST_MEDIAN, str(frames))
         one.page.value("wb.view.fit(); wb.view.home(); figures.rest().then(() => 0)")
     if not is_measured():
         print("skipped: whether that is 60 frames a second, which is judged where WB_MEASURE is set")

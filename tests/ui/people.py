@@ -38,22 +38,22 @@ def introduce(sheet: Sheet, name: str, colour: str) -> None:
 def test_names(tally: Tally, one: Sheet, other: Sheet, name: str) -> None:
     introduce(one, name, "violet")
     initials = "".join(word[0] for word in name.split())
-    tally.judge("a name is known to others", other.page.wait(f"document.getElementById('members').textContent.includes('{name}')"), other.text_of("members"))
-    tally.judge("with its initials", other.page.wait(f"[...document.querySelectorAll('#members i')].some((mark) => mark.textContent === '{initials}')"))
-    tally.judge("and the colour that was chosen", other.page.wait(f"wb.painter.tintOf({one.page.value('wb.session.hello.me')}) === wb.style.tintOf(7)"))
+    tally.check("a name is known to others", other.page.wait(f"document.getElementById('members').textContent.includes('{name}')"), other.text_of("members"))
+    tally.check("with its initials", other.page.wait(f"[...document.querySelectorAll('#members i')].some((mark) => mark.textContent === '{initials}')"))
+    tally.check("and the colour that was chosen", other.page.wait(f"wb.painter.tintOf({one.page.value('wb.session.hello.me')}) === wb.style.tintOf(7)"))
     tints = one.page.value("new Set([...document.querySelectorAll('#members i')].map((mark) => mark.style.getPropertyValue('--c'))).size")
-    tally.judge("no two members have one colour", tints == 2, str(tints))
+    tally.check("no two members have one colour", tints == 2, str(tints))
     one.fold()
     on_a_new_page(one, other)
     one.page.value("wb.session.send('line 3 3 9 3 #').then(({ ok }) => ok)")
     said = f"/^{name} .*drew a line at 3, 3/.test(document.getElementById('said').textContent)"
-    tally.judge("who listens hears who drew what", other.page.wait(said), other.text_of("said"))
+    tally.check("who listens hears who drew what", other.page.wait(said), other.text_of("said"))
     one.press("#file")
     title = f"The roof of {name.split()[0]}"
     ask(one, "#entitle", title)
-    tally.judge("a title is known to others", other.page.wait(f"document.getElementById('pages').selectedOptions[0].textContent === '{title}'"),
+    tally.check("a title is known to others", other.page.wait(f"document.getElementById('pages').selectedOptions[0].textContent === '{title}'"),
                 other.text_of("pages"))
-    tally.judge("the reserved page is no leaf", not other.page.value("wb.session.leaves().some(({ page }) => page === '0/0')"))
+    tally.check("the reserved page is no leaf", not other.page.value("wb.session.leaves().some(({ page }) => page === '0/0')"))
 
 
 def test_chat(tally: Tally, one: Sheet, other: Sheet, name: str) -> None:
@@ -61,13 +61,13 @@ def test_chat(tally: Tally, one: Sheet, other: Sheet, name: str) -> None:
     one.press("#saying")
     one.page.call("Input.insertText", text=f'hello <b>all</b> "you" by {name}')
     one.press("#chat button")
-    tally.judge("what is said is heard", other.page.wait(f"document.getElementById('log').textContent.includes('hello <b>all</b> \"you\" by {name}')"), other.text_of("log"))
-    tally.judge("as text", not other.page.value("document.querySelectorAll('#log li b b').length"))
+    tally.check("what is said is heard", other.page.wait(f"document.getElementById('log').textContent.includes('hello <b>all</b> \"you\" by {name}')"), other.text_of("log"))
+    tally.check("as text", not other.page.value("document.querySelectorAll('#log li b b').length"))
     lines = other.page.value("document.querySelectorAll('#log li').length")
     one.press("#saying")
     one.page.call("Input.insertText", text="word " * 40)
     one.page.key("Enter")
-    tally.judge("a long one in pieces", other.page.wait(f"document.querySelectorAll('#log li').length >= {lines} + 3"), other.text_of("log"))
+    tally.check("a long one in pieces", other.page.wait(f"document.querySelectorAll('#log li').length >= {lines} + 3"), other.text_of("log"))
     one.fold()
 
 
@@ -85,11 +85,11 @@ def test_opening(tally: Tally, one: Sheet, other: Sheet, name: str) -> None:
         root = one.page.call("DOM.getDocument")["root"]["nodeId"]
         node = one.page.call("DOM.querySelector", nodeId=root, selector="#opened")["nodeId"]
         one.page.call("DOM.setFileInputFiles", files=[file.name], nodeId=node)
-        tally.judge("a text is opened as drawings", other.shows(2, 2, "roof") and other.shows(2, 3, f"  of {name}"), other.text_of("text"))
+        tally.check("a text is opened as drawings", other.shows(2, 2, "roof") and other.shows(2, 3, f"  of {name}"), other.text_of("text"))
     one.page.call("Page.setInterceptFileChooserDialog", enabled=False)
     one.page.value("wb.view.sheet.focus(); 0")
     one.page.key("z", CONTROL)
-    tally.judge("which is one step", has(other, 0))
+    tally.check("which is one step", has(other, 0))
 
 
 def test_files(tally: Tally, one: Sheet, other: Sheet, name: str) -> None:
@@ -104,27 +104,27 @@ def test_files(tally: Tally, one: Sheet, other: Sheet, name: str) -> None:
         one.press("#file")
         one.page.wait("document.getElementById('files').open")
         one.press(f"#{button}")
-    tally.judge("all are saved", one.page.wait("Object.keys(saved).length === 5"), str(one.page.value("Object.keys(saved).join()")))
-    tally.judge("a page as text", one.page.value("saved.txt") == "\n  #######\n  #a<b&c#\n  #######\n", repr(one.page.value("saved.txt")))
-    tally.judge("as SVG, with its letters", one.page.value(
+    tally.check("all are saved", one.page.wait("Object.keys(saved).length === 5"), str(one.page.value("Object.keys(saved).join()")))
+    tally.check("a page as text", one.page.value("saved.txt") == "\n  #######\n  #a<b&c#\n  #######\n", repr(one.page.value("saved.txt")))
+    tally.check("as SVG, with its letters", one.page.value(
         "(() => { const svg = new DOMParser().parseFromString(saved.svg, 'image/svg+xml'); "
         "return !svg.querySelector('parsererror') && [...svg.querySelectorAll('text')].some((text) => text.textContent.includes('a<b&c')); })()"))
-    tally.judge("as PNG", one.page.value("saved.png") == "137 80 78 71 13 10 26 10", str(one.page.value("saved.png")))
-    tally.judge("all pages as one HTML file that needs nothing", one.page.value(
+    tally.check("as PNG", one.page.value("saved.png") == "137 80 78 71 13 10 26 10", str(one.page.value("saved.png")))
+    tally.check("all pages as one HTML file that needs nothing", one.page.value(
         "(() => { const page = new DOMParser().parseFromString(saved.html.replace(/<style>.*?<.style>/, ''), 'text/html'); "
         "return page.querySelectorAll('section svg').length === wb.session.leaves().length && !page.querySelector('script, link, img, [src], [href]'); })()"))
-    tally.judge("the record", one.page.value("saved.record.startsWith('#') && saved.record.includes('say draw')"), str(one.page.value("saved.record"))[:200])
+    tally.check("the record", one.page.value("saved.record.startsWith('#') && saved.record.includes('say draw')"), str(one.page.value("saved.record"))[:200])
 
 
 def test_glances(tally: Tally, one: Sheet, other: Sheet, name: str) -> None:
     before = one.page.value("wb.session.board.page")
     one.press("#all")
-    tally.judge("all pages are seen at a glance", one.page.wait("document.querySelectorAll('#glances button').length === wb.session.leaves().length"))
+    tally.check("all pages are seen at a glance", one.page.wait("document.querySelectorAll('#glances button').length === wb.session.leaves().length"))
     inked = one.page.value("""[...document.querySelectorAll('#glances canvas')].filter((canvas) =>
         canvas.getContext('2d').getImageData(0, 0, canvas.width, canvas.height).data.some((part, i, all) => part !== all[i % 4])).length""")
-    tally.judge("with what they show", inked > 1, str(inked))
+    tally.check("with what they show", inked > 1, str(inked))
     one.press("#glances [aria-current=false]")
-    tally.judge("one of them is turned to", one.page.wait(f"wb.session.board.page !== {json.dumps(before)} && !document.getElementById('overview').open"))
+    tally.check("one of them is turned to", one.page.wait(f"wb.session.board.page !== {json.dumps(before)} && !document.getElementById('overview').open"))
     one.page.value(f"wb.session.goToPage({json.dumps(before)}); 0")
     one.page.wait(f"wb.session.board.page === {json.dumps(before)}")
 

@@ -14,12 +14,12 @@ from .sheets import BY_CELLS, TOP, Member, Sheet, Tally
 def test_tabs(tally: Tally, browser: Browser, member: Member) -> None:
     """Eight tabs of one member: each hears of drawings, and each draws."""
     tabs = [Sheet(browser.open(member.address, first=BY_CELLS)) for _ in range(8)]
-    tally.judge("eight tabs are told", all(tab.page.wait("typeof wb !== 'undefined' && wb.session.isLinked && wb.session.board.page") for tab in tabs))
+    tally.check("eight tabs are told", all(tab.page.wait("typeof wb !== 'undefined' && wb.session.isLinked && wb.session.board.page") for tab in tabs))
     tabs[0].page.value("wb.session.goToPage(null)")
-    tally.judge("they show one page", all(tab.page.wait("wb.session.board.drawops.length === 0") for tab in tabs))
+    tally.check("they show one page", all(tab.page.wait("wb.session.board.drawops.length === 0") for tab in tabs))
     for row, tab in enumerate(tabs):
         tab.page.value(f"wb.session.send('line 0 {row} 7 {row} =')")
-    tally.judge("each draws, and all show it", all(tab.shows(0, row, "=" * 8) for tab in tabs for row in range(8)))
+    tally.check("each draws, and all show it", all(tab.shows(0, row, "=" * 8) for tab in tabs for row in range(8)))
     for tab in tabs:
         tab.page.close()
 
@@ -29,11 +29,11 @@ def test_twin(tally: Tally, room: Path, browser: Browser, one: Sheet, member: Me
     words = [str(TOP / "wb-live"), "--ports", str(ports), "--no-web", "--no-terminal", "--me", str(member.number), "--record", str(room / "twin.wb")]
     twin = subprocess.Popen(words, cwd=room, stdin=subprocess.DEVNULL, stdout=subprocess.DEVNULL)
     try:
-        tally.judge("a twin is told", one.page.wait("!document.getElementById('twin').hidden"))
-        tally.judge("nothing is drawn", one.page.value("wb.session.send('line 0 30 7 30 =').then((answer) => answer.ok)") is False)
+        tally.check("a twin is told", one.page.wait("!document.getElementById('twin').hidden"))
+        tally.check("nothing is drawn", one.page.value("wb.session.send('line 0 30 7 30 =').then((answer) => answer.ok)") is False)
         one.page.value("document.getElementById('renumber').click()")
-        tally.judge("a new number is taken", one.page.wait(f"wb.session.hello.me !== {member.number} && wb.session.hello.ready && document.getElementById('twin').hidden"))
-        tally.judge("by it one draws", one.page.value("wb.session.send('line 0 30 7 30 =').then((answer) => answer.ok)") is True)
+        tally.check("a new number is taken", one.page.wait(f"wb.session.hello.me !== {member.number} && wb.session.hello.ready && document.getElementById('twin').hidden"))
+        tally.check("by it one draws", one.page.value("wb.session.send('line 0 30 7 30 =').then((answer) => answer.ok)") is True)
     finally:
         twin.terminate()
         twin.wait(PATIENCE)
@@ -42,13 +42,13 @@ def test_twin(tally: Tally, room: Path, browser: Browser, one: Sheet, member: Me
 def test_end(tally: Tally, one: Sheet, started: Member, again: Callable[[int], Member]) -> Member:
     """The program of a page ends, and is started anew."""
     pages = one.page.value("wb.session.pages.length")
-    tally.judge("the program ends by SIGTERM with 0", started.end() == 0)
-    tally.judge("the page says so", one.page.wait("document.getElementById('phrase').textContent.includes('does not answer')"))
+    tally.check("the program ends by SIGTERM with 0", started.end() == 0)
+    tally.check("the page says so", one.page.wait("document.getElementById('phrase').textContent.includes('does not answer')"))
     port = int(re.findall(r":(\d+)/", started.address)[0])
     anew = again(port)
-    tally.judge("it says that the address is another one", one.page.wait("document.getElementById('phrase').textContent.includes('started anew')"), one.text_of("phrase"))
+    tally.check("it says that the address is another one", one.page.wait("document.getElementById('phrase').textContent.includes('started anew')"), one.text_of("phrase"))
     one.page.call("Page.navigate", url=anew.address)
-    tally.judge("by that it is there again", one.page.wait("typeof wb !== 'undefined' && wb.session.isLinked && wb.session.hello.me"))
-    tally.judge("the record has kept its number", anew.number == started.number)
-    tally.judge("and all that was drawn", pages > 0 and one.page.wait(f"wb.session.pages.length === {pages}"), one.text_of("pages"))
+    tally.check("by that it is there again", one.page.wait("typeof wb !== 'undefined' && wb.session.isLinked && wb.session.hello.me"))
+    tally.check("the record has kept its number", anew.number == started.number)
+    tally.check("and all that was drawn", pages > 0 and one.page.wait(f"wb.session.pages.length === {pages}"), one.text_of("pages"))
     return anew

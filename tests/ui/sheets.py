@@ -204,5 +204,5 @@ class Tally:
         yield
         self.where = ""
 
-    def judge(self, name: str, is_so: object, told: str = "") -> None:
+    def check(self, name: str, is_so: object, told: str = "") -> None:
         self.facts(f"{name}{self.where}", True if is_so else told or False)

@@ -12,4 +12,4 @@ from .sheets import Tally
 
 def test_whole(tally: Tally, browser: Browser, tmp_path: Path) -> None:
     hold(tally, browser, tmp_path, 26_096 + os.getpid() % 250 * 128)
-    tally.judge("no fault in a page, and none of its policy", not browser.faults, "; ".join(browser.faults))
+    tally.check("no fault in a page, and none of its policy", not browser.faults, "; ".join(browser.faults))

@@ -13,7 +13,7 @@ import { Session } from '../../live/ui/session.js';
 import { arrow, filled, plainOf, simplify, stroke, writing } from '../../live/ui/shapes.js';
 import { fullness, nameOfNext, plainly } from '../../live/ui/state.js';
 import { inside } from '../../live/ui/tools.js';
-import { judge } from '../judge.mjs';
+import { check } from '../check.mjs';
 
 const line = (x0, y0, x1, y1, glyph = '*') => ({ op: 'line', x0, y0, x1, y1, glyph });
 const text = (x, y, letters) => ({ op: 'text', x, y, text: letters });
@@ -22,48 +22,48 @@ const named = (shape, seq, source = 1) => ({ ...shape, source, seq, time: String
 function testCells() {
   const cells = [];
   coverLine(0, 0, 4, 2, (x, y) => cells.push(`${x},${y}`));
-  judge('the cells of a line', cells, ['0,0', '1,1', '2,1', '3,2', '4,2']);
+  check('the cells of a line', cells, ['0,0', '1,1', '2,1', '3,2', '4,2']);
   let sides = 0;
   cover({ ...line(0, 0, 3, 2), op: 'frame' }, () => { sides += 1; });
-  judge('the cells of a frame, its corners twice', sides, 14);
-  judge('a text covers its cells', [covers(text(3, 1, 'ab'), { x: 4, y: 1 }), covers(text(3, 1, 'ab'), { x: 5, y: 1 })], [true, false]);
-  judge('words of a text', spell(text(1, 2, 'a "b" \\')), 'text 1 2 "a \\"b\\" \\\\"');
-  judge('words of a line', spell(line(1, 2, 3, 4, '#')), 'line 1 2 3 4 #');
-  judge('a box about two', boxAbout([line(5, 9, 2, 3), text(7, 1, 'abc')]), { x0: 2, y0: 1, x1: 9, y1: 9 });
-  judge('a shape elsewhere', shifted(line(1, 2, 3, 4), 10, -2), line(11, 0, 13, 2));
-  judge('as far as the page goes', [kept([line(2, 3, 9, 9)], -5, 1), kept([line(2, 3, 4090, 9)], 50, 0)], [[-2, 1], [5, 0]]);
+  check('the cells of a frame, its corners twice', sides, 14);
+  check('a text covers its cells', [covers(text(3, 1, 'ab'), { x: 4, y: 1 }), covers(text(3, 1, 'ab'), { x: 5, y: 1 })], [true, false]);
+  check('words of a text', spell(text(1, 2, 'a "b" \\')), 'text 1 2 "a \\"b\\" \\\\"');
+  check('words of a line', spell(line(1, 2, 3, 4, '#')), 'line 1 2 3 4 #');
+  check('a box about two', boxAbout([line(5, 9, 2, 3), text(7, 1, 'abc')]), { x0: 2, y0: 1, x1: 9, y1: 9 });
+  check('a shape elsewhere', shifted(line(1, 2, 3, 4), 10, -2), line(11, 0, 13, 2));
+  check('as far as the page goes', [kept([line(2, 3, 9, 9)], -5, 1), kept([line(2, 3, 4090, 9)], 50, 0)], [[-2, 1], [5, 0]]);
 }
 
 function testShapes() {
-  judge('an arrow to the right', arrow({ x: 1, y: 1 }, { x: 9, y: 2 }, '-'), [line(1, 1, 9, 2, '-'), line(9, 2, 9, 2, '>')]);
-  judge('arrows have heads', [[9, 1], [0, 1], [5, 9], [5, 0]].map(([x, y]) => arrow({ x: 5, y: 1 }, { x, y }, '-')[1].glyph).join(''), '><v^');
-  judge('a flat rectangle by its rows', filled({ x: 5, y: 2 }, { x: 1, y: 1 }, '#'), [line(1, 1, 5, 1, '#'), line(1, 2, 5, 2, '#')]);
-  judge('a tall one by its columns', filled({ x: 1, y: 1 }, { x: 2, y: 9 }, '#').length, 2);
+  check('an arrow to the right', arrow({ x: 1, y: 1 }, { x: 9, y: 2 }, '-'), [line(1, 1, 9, 2, '-'), line(9, 2, 9, 2, '>')]);
+  check('arrows have heads', [[9, 1], [0, 1], [5, 9], [5, 0]].map(([x, y]) => arrow({ x: 5, y: 1 }, { x, y }, '-')[1].glyph).join(''), '><v^');
+  check('a flat rectangle by its rows', filled({ x: 5, y: 2 }, { x: 1, y: 1 }, '#'), [line(1, 1, 5, 1, '#'), line(1, 2, 5, 2, '#')]);
+  check('a tall one by its columns', filled({ x: 1, y: 1 }, { x: 2, y: 9 }, '#').length, 2);
   const wave = Array.from({ length: 400 }, (_, i) => ({ x: i, y: Math.round(20 + 15 * Math.sin(i / 9)) }));
-  judge('a stroke of a second has ten drawops at most', stroke(wave, 1000, '*').length, 10);
-  judge('one of three seconds thirty', stroke(wave, 3000, '*').length, 30);
-  judge('a straight one has one', stroke(Array.from({ length: 50 }, (_, i) => ({ x: 2 * i, y: i })), 900, '*'), [line(0, 0, 98, 49)]);
-  judge('a dot is a line of one cell', stroke([{ x: 4, y: 4 }], 10, '*'), [line(4, 4, 4, 4)]);
+  check('a stroke of a second has ten drawops at most', stroke(wave, 1000, '*').length, 10);
+  check('one of three seconds thirty', stroke(wave, 3000, '*').length, 30);
+  check('a straight one has one', stroke(Array.from({ length: 50 }, (_, i) => ({ x: 2 * i, y: i })), 900, '*'), [line(0, 0, 98, 49)]);
+  check('a dot is a line of one cell', stroke([{ x: 4, y: 4 }], 10, '*'), [line(4, 4, 4, 4)]);
   const corners = simplify(wave, 12);
-  judge('a stroke keeps its ends', [corners[0], corners.at(-1), corners.length], [wave[0], wave.at(-1), 12]);
+  check('a stroke keeps its ends', [corners[0], corners.at(-1), corners.length], [wave[0], wave.at(-1), 12]);
 }
 
 function testTexts() {
-  judge('many lines', writing('one\n\n  two ', { x: 5, y: 5 }), [text(5, 5, 'one'), text(7, 7, 'two')]);
-  judge('a long line in pieces', writing('x'.repeat(130), { x: 0, y: 0 }).map(({ x, text: piece }) => [x, piece.length]), [[0, 64], [64, 64], [128, 2]]);
-  judge('no further than the page', writing('ab\ncd', { x: 4094, y: 4095 }), [text(4094, 4095, 'ab')]);
-  judge('letters that there are not', plainOf('na\u00efve \u201cCaf\u00e9\u201d \u2192 \u6f22'), { plain: 'naive "Cafe" ? ?', lost: ['\u00ef', '\u201c', '\u00e9', '\u201d', '\u2192', '\u6f22'] });
-  judge('plain text is as it was', plainOf('a\tb\r\nc'), { plain: 'a    b\nc', lost: [] });
+  check('many lines', writing('one\n\n  two ', { x: 5, y: 5 }), [text(5, 5, 'one'), text(7, 7, 'two')]);
+  check('a long line in pieces', writing('x'.repeat(130), { x: 0, y: 0 }).map(({ x, text: piece }) => [x, piece.length]), [[0, 64], [64, 64], [128, 2]]);
+  check('no further than the page', writing('ab\ncd', { x: 4094, y: 4095 }), [text(4094, 4095, 'ab')]);
+  check('letters that there are not', plainOf('na\u00efve \u201cCaf\u00e9\u201d \u2192 \u6f22'), { plain: 'naive "Cafe" ? ?', lost: ['\u00ef', '\u201c', '\u00e9', '\u201d', '\u2192', '\u6f22'] });
+  check('plain text is as it was', plainOf('a\tb\r\nc'), { plain: 'a    b\nc', lost: [] });
 }
 
 function testWords() {
   const shapes = [line(0, 0, 4, 4, '"'), { ...line(1, 2, 3, 4), op: 'frame' }, text(9, 9, 'say "hi" \\'), text(0, 0, ' ')];
-  judge('words are read as they were written', shapes.map(spell).map(shapeOf), shapes);
+  check('words are read as they were written', shapes.map(spell).map(shapeOf), shapes);
   const wrong = ['line 0 0 4 4', 'line 0 0 4 4096 *', 'line 0 0 4 4 **', 'line 0 0 -1 4 *', 'line 0 0 04 4 *', 'text 1 1 ""', 'text 1 1 "a', 'delete 1 1',
     `text 1 1 "${'x'.repeat(65)}"`, 'text 1 1 "\u00e9"', 'frame 0 0 4 4 \u00e9', 'line 0 0 4 4  '];
-  judge('no words of a drawing', wrong.map(shapeOf), wrong.map(() => null));
-  judge('a text that is no words is written', shapesOf('line of text\nline 0 0 1 1 *', { x: 1, y: 1 }).shapes.map(({ op }) => op), ['text', 'text']);
-  judge('what lies in a rectangle', inside([line(1, 1, 4, 4), line(0, 0, 9, 9)], { x: 5, y: 5 }, { x: 1, y: 0 }).length, 1);
+  check('no words of a drawing', wrong.map(shapeOf), wrong.map(() => null));
+  check('a text that is no words is written', shapesOf('line of text\nline 0 0 1 1 *', { x: 1, y: 1 }).shapes.map(({ op }) => op), ['text', 'text']);
+  check('what lies in a rectangle', inside([line(1, 1, 4, 4), line(0, 0, 9, 9)], { x: 5, y: 5 }, { x: 1, y: 0 }).length, 1);
 }
 
 function contrast(front, ground) {
@@ -75,8 +75,8 @@ function contrast(front, ground) {
 
 function testColours() {
   const numbers = [...Array(400).keys(), 2 ** 31, 2 ** 32 - 1], grounds = [[false, '#ffffff'], [false, '#e3ebfc'], [true, '#14171d'], [true, '#24324f']];
-  judge('each can be read', grounds.flatMap(([isNight, ground]) => numbers.filter((n) => contrast(colourOf(n, isNight), ground) < 4.5)), []);
-  judge('neighbours differ', new Set([...Array(32).keys()].map((n) => colourOf(n + 1, false))).size, 32);
+  check('each can be read', grounds.flatMap(([isNight, ground]) => numbers.filter((n) => contrast(colourOf(n, isNight), ground) < 4.5)), []);
+  check('neighbours differ', new Set([...Array(32).keys()].map((n) => colourOf(n + 1, false))).size, 32);
 }
 
 /** What became of a page whose drawings are others now. */
@@ -106,26 +106,26 @@ function testLayout() {
       if (layout.markAt(cell.x, cell.y) !== anew.markAt(cell.x, cell.y) || layout.drawingAt(cell) !== anew.drawingAt(cell)) differs += 1;
     }
   }
-  judge('what is kept by tiles is what is laid out anew', differs, 0);
+  check('what is kept by tiles is what is laid out anew', differs, 0);
   const before = layout.tileAt(0, 0).version, more = [...drawn, named(line(3000, 3000, 3001, 3001), 999)];
   layout.take(boardOf(more), taken(drawn, more));
-  judge('a drawing far away leaves a tile as it was', layout.tileAt(0, 0).version, before);
+  check('a drawing far away leaves a tile as it was', layout.tileAt(0, 0).version, before);
   layout.take(boardOf(more, ['@@']), taken(more, more));
-  judge('the host paints where it can', [layout.glyphAt(1, 0), layout.glyphAt(2, 0), layout.glyphAt(3000, 3000)], ['@', ' ', '*']);
-  judge('where the host painted anew the picture is another', layout.tileAt(0, 0).version === before, false);
+  check('the host paints where it can', [layout.glyphAt(1, 0), layout.glyphAt(2, 0), layout.glyphAt(3000, 3000)], ['@', ' ', '*']);
+  check('where the host painted anew the picture is another', layout.tileAt(0, 0).version === before, false);
   layout.take(boardOf([], [], '1/2'), { isTurned: true, gone: [], added: [] });
-  judge('another page has other cells', [layout.tiles.size, layout.drawingAt({ x: 3000, y: 3000 }) ?? null], [0, null]);
+  check('another page has other cells', [layout.tiles.size, layout.drawingAt({ x: 3000, y: 3000 }) ?? null], [0, null]);
 }
 
 /** Of frames as wide as a page what is looked at is laid out, a slice at a time. */
 function testFlood() {
   const frames = Array.from({ length: 1500 }, (_, i) => named({ ...line(0, 0, 4095, 4095), op: 'frame' }, i + 1)), layout = laidAnew(frames);
-  judge('a frame as wide as the page', [layout.markAt(0, 2000), layout.markAt(2000, 4095), layout.markAt(2000, 2000)], ['*', '*', ' ']);
+  check('a frame as wide as the page', [layout.markAt(0, 2000), layout.markAt(2000, 4095), layout.markAt(2000, 2000)], ['*', '*', ' ']);
   const older = named({ ...line(0, 0, 4095, 4095, '#'), op: 'frame' }, 0), all = [older, ...frames];
   layout.take(boardOf(all), taken(frames, all));
   const tile = layout.tileAt(0, 0, 0);
-  judge('a tile is laid out in slices', [tile.isLaid, tile.left > 1400, layout.tileAt(0, 0).isLaid, layout.markAt(0, 0)], [false, true, true, '*']);
-  judge('part of a line in a box', (() => { const seen = []; coverLine(0, 0, 4095, 4095, (x, y) => seen.push(x - y), { x0: 64, y0: 64, x1: 95, y1: 95 }); return seen.length; })(), 32);
+  check('a tile is laid out in slices', [tile.isLaid, tile.left > 1400, layout.tileAt(0, 0).isLaid, layout.markAt(0, 0)], [false, true, true, '*']);
+  check('part of a line in a box', (() => { const seen = []; coverLine(0, 0, 4095, 4095, (x, y) => seen.push(x - y), { x0: 64, y0: 64, x1: 95, y1: 95 }); return seen.length; })(), 32);
 }
 
 function testNotes() {
@@ -133,90 +133,90 @@ function testNotes() {
   const told = readNotes([at(1, 'name Ada'), at(2, 'name Grace Hopper', 2), at(3, 'title 1/1 The roof'), at(4, 'say hello'), at(5, 'name Ada L', 1),
     at(6, 'title x none'), at(7, 'said nothing'), named(line(0, 0, 1, 1), 8), at(9, 'colour 3'), at(10, 'colour 7', 2), at(11, 'colour 9', 2), at(12, 'colour 4'),
     at(13, 'colour', 2), at(14, 'next class-2', 1), at(15, 'next a b'), at(16, 'next class-3', 2)]);
-  judge('names', [...told.names], [[1, 'Ada L'], [2, 'Grace Hopper']]);
-  judge('titles', [...told.titles], [['1/1', 'The roof']]);
-  judge('what was said', told.said.map(({ source, text: words }) => [source, words]), [[1, 'hello']]);
-  judge('the first free row', told.row, 17);
-  judge('colours: the last counts, and an empty one takes it back', [...told.colours], [[1, 4]]);
-  judge('where the board goes on, and who said so', told.next, { session: 'class-3', source: 2 });
-  judge('initials', [initialsOf('Ada Lovelace', 1), initialsOf('grace', 2), initialsOf(undefined, 1234567), initialsOf('!', 9)], ['AL', 'GR', '67', '9']);
-  judge('initials of all languages', [initialsOf('\u00e9mile \u00d8', 1), initialsOf('\u5c71\u7530 \u82b1\u5b50', 2), initialsOf('\ud83d\ude00\ud801\udc00\ud801\udc01', 3)], ['\u00c9\u00d8', '\u5c71\u82b1', '\ud801\udc00\ud801\udc01']);
+  check('names', [...told.names], [[1, 'Ada L'], [2, 'Grace Hopper']]);
+  check('titles', [...told.titles], [['1/1', 'The roof']]);
+  check('what was said', told.said.map(({ source, text: words }) => [source, words]), [[1, 'hello']]);
+  check('the first free row', told.row, 17);
+  check('colours: the last counts, and an empty one takes it back', [...told.colours], [[1, 4]]);
+  check('where the board goes on, and who said so', told.next, { session: 'class-3', source: 2 });
+  check('initials', [initialsOf('Ada Lovelace', 1), initialsOf('grace', 2), initialsOf(undefined, 1234567), initialsOf('!', 9)], ['AL', 'GR', '67', '9']);
+  check('initials of all languages', [initialsOf('\u00e9mile \u00d8', 1), initialsOf('\u5c71\u7530 \u82b1\u5b50', 2), initialsOf('\ud83d\ude00\ud801\udc00\ud801\udc01', 3)], ['\u00c9\u00d8', '\u5c71\u82b1', '\ud801\udc00\ud801\udc01']);
 }
 
 /** Letters of all languages, in texts of which each reads by itself. */
 function testLetters() {
   const at = (letters, seq) => named(text(0, seq, letters), seq), said = (texts) => readNotes(texts.map(at)).said.map(({ text: words }) => words);
   const long = 'Gr\u00f6\u00dfe \u2248 \u6f22 \ud83d\ude00 ~ "x" \\ '.repeat(6).trim(), pieces = spoken('say', '', long);
-  judge('what is ASCII stands as it is', spoken('say', '', 'a ~ "b"'), ['say a ~ "b"']);
-  judge('what is not is in signs', spoken('title', '1/1 ', 'J\u00fcrgen'), ['title~ 1/1 J~#Brgen']);
-  judge('a long one in pieces', [pieces.length > 2, pieces.every((each) => each.length <= 64 && each.startsWith('say~ ')), said(pieces).join('').replaceAll(' ', '')], [true, true, long.replaceAll(' ', '')]);
-  judge('what does not read says nothing', said(['say~ ~', 'say~ x~}', 'say ~', 'say~', 'say']), ['~']);
-  judge('names and titles', (({ names, titles }) => [...names.values(), ...titles.values()])(readNotes(['name~ J~#Brgen', 'title~ 1/1 ~#B', 'title~ x', 'name~ ~~'].map(at))), ['J\u00fcrgen', '\u00fc']);
-  judge('what is seen by nobody is left out', readNotes(spoken('name', '', 'a\u202eb\u200dc\u0085d').map(at)).names.get(1), 'ab\u200dcd');
-  judge('a colour has no letters', readNotes(['colour~ 3', 'next~ x'].map(at)), readNotes([at('x', 1)]));
+  check('what is ASCII stands as it is', spoken('say', '', 'a ~ "b"'), ['say a ~ "b"']);
+  check('what is not is in signs', spoken('title', '1/1 ', 'J\u00fcrgen'), ['title~ 1/1 J~#Brgen']);
+  check('a long one in pieces', [pieces.length > 2, pieces.every((each) => each.length <= 64 && each.startsWith('say~ ')), said(pieces).join('').replaceAll(' ', '')], [true, true, long.replaceAll(' ', '')]);
+  check('what does not read says nothing', said(['say~ ~', 'say~ x~}', 'say ~', 'say~', 'say']), ['~']);
+  check('names and titles', (({ names, titles }) => [...names.values(), ...titles.values()])(readNotes(['name~ J~#Brgen', 'title~ 1/1 ~#B', 'title~ x', 'name~ ~~'].map(at))), ['J\u00fcrgen', '\u00fc']);
+  check('what is seen by nobody is left out', readNotes(spoken('name', '', 'a\u202eb\u200dc\u0085d').map(at)).names.get(1), 'ab\u200dcd');
+  check('a colour has no letters', readNotes(['colour~ 3', 'next~ x'].map(at)), readNotes([at('x', 1)]));
 }
 
 /** What the member says of itself, in words for everyone. */
 function testState() {
   const health = (phrase, missing = 0, warnings = []) => plainly({ phrase, missing, warnings, counts: {} }, true);
-  judge('in plain words', [health('whole'), health('caught up 3 s ago'), health('2 missing', 2), health('1 missing', 1)].map(({ text }) => text),
+  check('in plain words', [health('whole'), health('caught up 3 s ago'), health('2 missing', 2), health('1 missing', 1)].map(({ text }) => text),
     ['Everything is here', 'Everything is here', 'Catching up: 2 drawings', 'Catching up: 1 drawing']);
-  judge('a full board', [health('whole', 0, ['the board becomes full: 8 of 10 cells are taken']), health('1 missing', 1, ['the board is full: 9 of 10 cells; deletes alone'])].map(({ text }) => text),
+  check('a full board', [health('whole', 0, ['the board becomes full: 8 of 10 cells are taken']), health('1 missing', 1, ['the board is full: 9 of 10 cells; deletes alone'])].map(({ text }) => text),
     ['The board is almost full', 'The board is full']);
-  judge('before it may draw', plainly({ phrase: 'whole', missing: 0, warnings: [], counts: {} }, false).text, 'Looking who is here');
-  judge('what else is told is told', health('the broker is away'), { kind: 'missing', text: 'the broker is away' });
-  judge('how full', [fullness(['the board becomes full: 8 of 10 cells are taken'], []), fullness([], [{ drawn: 30 }, { drawn: 10 }], 80), fullness([], [{ drawn: 65_535 }])], [0.8, 0.5, 1]);
-  judge('the next board', nameOfNext(new Date(Date.UTC(2026, 4, 3)), () => 0.5), 'board-2026-05-03-5500');
+  check('before it may draw', plainly({ phrase: 'whole', missing: 0, warnings: [], counts: {} }, false).text, 'Looking who is here');
+  check('what else is told is told', health('the broker is away'), { kind: 'missing', text: 'the broker is away' });
+  check('how full', [fullness(['the board becomes full: 8 of 10 cells are taken'], []), fullness([], [{ drawn: 30 }, { drawn: 10 }], 80), fullness([], [{ drawn: 65_535 }])], [0.8, 0.5, 1]);
+  check('the next board', nameOfNext(new Date(Date.UTC(2026, 4, 3)), () => 0.5), 'board-2026-05-03-5500');
 }
 
 /** A corner draws all that is selected as if it were on rubber; the opposite one stays. */
 function testStretch() {
   const item = { kind: 'r', source: 1, drawings: [], colour: 3, width: 0, flag: 1, points: [{ x: 1006, y: 2006 }, { x: 1994, y: 2494 }], letters: 'ab' }, [, , grip] = gripsOf([item]);
-  judge('corners of the box about it', grip, { at: { x: 2000, y: 2500 }, still: { x: 1000, y: 2000 } });
-  judge('under the hand', [gripAt([item], { x: 2020, y: 2490 }, 6), gripAt([item], { x: 1500, y: 2250 }, 6), gripAt([], { x: 0, y: 0 }, 6)], [grip, undefined, undefined]);
+  check('corners of the box about it', grip, { at: { x: 2000, y: 2500 }, still: { x: 1000, y: 2000 } });
+  check('under the hand', [gripAt([item], { x: 2020, y: 2490 }, 6), gripAt([item], { x: 1500, y: 2250 }, 6), gripAt([], { x: 0, y: 0 }, 6)], [grip, undefined, undefined]);
   const wide = stretchOf(grip, [item], { x: 1000, y: 0 }, false), even = stretchOf(grip, [item], { x: 1000, y: 0 }, true);
-  judge('each point goes on', [wide.to({ x: 1000, y: 2000 }), wide.to({ x: 1994, y: 2494, pressure: 0.5 })], [{ x: 1000, y: 2000 }, { x: 2988, y: 2494, pressure: 0.5 }]);
-  judge('alike across and down', [even.to(grip.at), even.times], [{ x: 3000, y: 3000 }, 2]);
-  judge('never through the other corner', stretchOf(grip, [item], { x: -5000, y: 0 }, false).to(grip.at), { x: 1100, y: 2500 });
+  check('each point goes on', [wide.to({ x: 1000, y: 2000 }), wide.to({ x: 1994, y: 2494, pressure: 0.5 })], [{ x: 1000, y: 2000 }, { x: 2988, y: 2494, pressure: 0.5 }]);
+  check('alike across and down', [even.to(grip.at), even.times], [{ x: 3000, y: 3000 }, 2]);
+  check('never through the other corner', stretchOf(grip, [item], { x: -5000, y: 0 }, false).to(grip.at), { x: 1100, y: 2500 });
   const [drawn] = stretched([item], wide);
-  judge('as a text', (({ kind, colour, flag, points, letters }) => [kind, colour, flag, points, letters])(readInk(drawn.text)), ['r', 3, 1, [{ x: 1012, y: 2006 }, { x: 2988, y: 2494 }], 'ab']);
+  check('as a text', (({ kind, colour, flag, points, letters }) => [kind, colour, flag, points, letters])(readInk(drawn.text)), ['r', 3, 1, [{ x: 1012, y: 2006 }, { x: 2988, y: 2494 }], 'ab']);
   const cells = { ...item, kind: 'line', drawings: [line(10, 10, 20, 12)] };
-  judge('a line of cells by cells', stretched([cells], { to: ({ x, y }) => ({ x: 2 * x, y }), times: 1 }), [line(21, 10, 41, 12)]);
+  check('a line of cells by cells', stretched([cells], { to: ({ x, y }) => ({ x: 2 * x, y }), times: 1 }), [line(21, 10, 41, 12)]);
 }
 
 /** The order of painting is the host's: by time, source and number. */
 function testOrder() {
   const at = (time, source, seq) => ({ ...line(0, 0, 1, 1), time, source, seq });
   const order = [at('9', 5, 5), at('10', 1, 9), at('10', 2, 1), at('10', 2, 2), at('18446744073709551614', 1, 1), at('18446744073709551615', 1, 1)];
-  judge('the order of painting', [...order].reverse().sort(orderOf), order);
+  check('the order of painting', [...order].reverse().sort(orderOf), order);
 }
 
 function testExports() {
   const board = { page: '1/1', drawops: [named({ ...line(1, 1, 4, 3, '#'), op: 'frame' }, 1), named(text(2, 2, '<&'), 2, 2)], hidden: [], rows: ['', ' ####', ' #<&#', ' ####'] };
-  judge('a page as text', textOf(board), '\n ####\n #<&#\n ####\n');
+  check('a page as text', textOf(board), '\n ####\n #<&#\n ####\n');
   const svg = svgOf(board, (source) => `#00000${source}`, '#fff', 'a "b"');
-  judge('as SVG', [svg.includes('>&#60;&#38;</text>'), svg.includes('<title>a &#34;b&#34;</title>'), svg.includes('fill="#000002"')], [true, true, true]);
-  judge('far from the corner', textOf({ ...board, rows: [], drawops: [named(text(3000, 3000, 'x'), 1)] }), 'x\n');
-  judge('an empty page', textOf({ ...board, rows: [], drawops: [] }), '\n');
-  judge('all pages', htmlOf([{ title: '<1>', svg: '<svg></svg>' }]).includes('<h2>&#60;1&#62;</h2>\n<svg></svg>'), true);
+  check('as SVG', [svg.includes('>&#60;&#38;</text>'), svg.includes('<title>a &#34;b&#34;</title>'), svg.includes('fill="#000002"')], [true, true, true]);
+  check('far from the corner', textOf({ ...board, rows: [], drawops: [named(text(3000, 3000, 'x'), 1)] }), 'x\n');
+  check('an empty page', textOf({ ...board, rows: [], drawops: [] }), '\n');
+  check('all pages', htmlOf([{ title: '<1>', svg: '<svg></svg>' }]).includes('<h2>&#60;1&#62;</h2>\n<svg></svg>'), true);
 }
 
 function testFilm() {
   const scenes = [[0, 1, 'line', false], [500, 2, 'text', false], [500, 1, 'line', true]];
-  judge('what is seen when', [sceneAt(scenes, 499).count, sceneAt(scenes, 500).scene, sceneAt([], 9).count], [1, scenes[2], 0]);
-  judge('times', [clockOf(0), clockOf(61_999), clockOf(3_600_000)], ['0:00', '1:01', '60:00']);
+  check('what is seen when', [sceneAt(scenes, 499).count, sceneAt(scenes, 500).scene, sceneAt([], 9).count], [1, scenes[2], 0]);
+  check('times', [clockOf(0), clockOf(61_999), clockOf(3_600_000)], ['0:00', '1:01', '60:00']);
 }
 
 async function testSession() {
   const drawn = [], session = new Session({ draw: async (page, operation) => ({ ok: drawn.push([page, operation]) > 0, source: 1, seq: drawn.length }) });
   const show = (page) => session.take('board', { page, drawops: [], hidden: [], rows: [] }), early = ['line 0 0 1 1 *', 'line 0 0 2 2 *'].map((it) => session.send(it));
   await null;
-  judge('nothing is drawn before a page is shown', drawn, []);
+  check('nothing is drawn before a page is shown', drawn, []);
   show('1/1');
   show('1/2');
   await Promise.all([...early, session.send('line 0 0 3 3 *')]);
-  judge('what is shown is known by name', [session.has('1 1'), session.nameOf(1234567), session.titleOf('1/2')], [false, 'Guest 67', 'Page 1']);
-  judge('then it is, where it was drawn', drawn.map(([page, operation]) => `${page} ${operation}`).sort(), ['1/1 line 0 0 1 1 *', '1/1 line 0 0 2 2 *', '1/2 line 0 0 3 3 *']);
+  check('what is shown is known by name', [session.has('1 1'), session.nameOf(1234567), session.titleOf('1/2')], [false, 'Guest 67', 'Page 1']);
+  check('then it is, where it was drawn', drawn.map(([page, operation]) => `${page} ${operation}`).sort(), ['1/1 line 0 0 1 1 *', '1/1 line 0 0 2 2 *', '1/2 line 0 0 3 3 *']);
 }
 
 /** A change is put into the page: some drawings go, others come to their places, and rows are others. */
@@ -225,14 +225,14 @@ function testChanges() {
   session.on('board', ({ drawops, hidden }, { isTurned, gone, added }) => told.push([isTurned, gone.length, added.length, drawops.length, hidden.length]));
   session.take('board', { page: '1/1', drawops: many.filter(({ seq }) => seq % 2), hidden: [], rows: ['a', 'b'] });
   session.take('change', { page: '1/1', names: [[1, 3]], added: [], hidden: [many[2]], rows: { 1: 'c' }, height: 3 });
-  judge('one that is hidden', [session.shown.has('1 3'), session.has('1 3'), session.board.drawops.length, session.board.rows], [false, true, 49, ['a', 'c', '']]);
+  check('one that is hidden', [session.shown.has('1 3'), session.has('1 3'), session.board.drawops.length, session.board.rows], [false, true, 49, ['a', 'c', '']]);
   session.take('change', { page: '1/1', names: [[1, 3]], added: many.filter(({ seq }) => seq % 2 === 0 || seq === 3).map((drawing) => [drawing.seq - 1, drawing]), hidden: [], rows: {}, height: 1 });
-  judge('many that come between', session.board.drawops.map(({ seq }) => seq), many.map(({ seq }) => seq));
+  check('many that come between', session.board.drawops.map(({ seq }) => seq), many.map(({ seq }) => seq));
   session.take('change', { page: '1/1', names: [[1, 50]], added: [[49, many[49]]], hidden: [], rows: {}, height: 0 });
-  judge('one that is told again', session.board.drawops.map(({ seq }) => seq), many.map(({ seq }) => seq));
+  check('one that is told again', session.board.drawops.map(({ seq }) => seq), many.map(({ seq }) => seq));
   session.take('board', { page: '1/1', drawops: many.slice(0, 99).map((drawing) => ({ ...drawing })), hidden: [], rows: [] });
-  judge('the same page anew keeps its drawings', session.board.drawops[0] === many[0], true);
-  judge('what became of it', told, [[true, 0, 50, 50, 0], [false, 1, 0, 49, 1], [false, 0, 51, 100, 0], [false, 1, 1, 100, 0], [false, 1, 0, 99, 0]]);
+  check('the same page anew keeps its drawings', session.board.drawops[0] === many[0], true);
+  check('what became of it', told, [[true, 0, 50, 50, 0], [false, 1, 0, 49, 1], [false, 0, 51, 100, 0], [false, 1, 1, 100, 0], [false, 1, 0, 99, 0]]);
 }
 
 for (const each of [testSession, testChanges, testNotes, testLetters, testStretch, testState, testExports,

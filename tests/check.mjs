@@ -4,7 +4,7 @@ import assert from 'node:assert/strict';
 const plain = (value) => (value === undefined ? undefined : JSON.parse(JSON.stringify(value)));
 
 /** A fact: what was found has to be what was wanted, as far as JSON tells them apart. */
-export function judge(name, found, wanted) {
+export function check(name, found, wanted) {
   try {
     assert.deepEqual(plain(found), plain(wanted));
   } catch (fault) {
