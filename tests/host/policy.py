@@ -15,6 +15,7 @@ from .model import UNKNOWN_DELAY, Drawop, Model, Name
 SECOND = 1_000_000
 COST = 250_000
 NAMES = 64
+BEFORE_TURNS = 56  # turns pass over what is asked for while fewer timers run
 STRANGERS = 48  # places of the credit for neighbours of what came, where their source told no distance
 REACH = 64
 STRIDE = 19
@@ -248,7 +249,7 @@ class Kept:
         near = [Name(name.source, name.page, number) for number in around if 1 <= number < top]
         self.want_near(near)
         if was_asked:
-            self.leap()
+            self.leaps_past()
             self.turns_past()
 
     def want_near(self, names: list[Name]) -> None:
@@ -300,20 +301,25 @@ class Kept:
     def hole_behind(self, place: tuple[Page, int, int]) -> Optional[tuple[Page, int, int, int]]:
         return next((hole for hole in self.holes() if hole[:3] > place), None)
 
-    def leap(self) -> None:
-        """One name of the next hole is wanted, 19 numbers on in each round."""
+    def leaps_past(self) -> None:
+        """Leaps, up to the first name that is asked for."""
+        any(self.leap() for _ in range(NAMES + 1))
+
+    def leap(self) -> bool:
+        """One name of the next hole is wanted, 19 numbers on in each round. Whether it is asked for."""
         hole = self.hole_behind(self.leapt)
         if hole is None:
             self.leaps, self.leapt = (self.leaps + 1) % 2**32, (NOWHERE, 0, 0)
             hole = self.hole_behind(self.leapt)
-        if hole is not None:
-            page, source, first, last = hole
-            self.leapt = page, source, last
-            self.want(Name(source, page, first + STRIDE * self.leaps % (last - first + 1)), True)
+        if hole is None:
+            return False
+        page, source, first, last = hole
+        self.leapt = page, source, last
+        return self.want(Name(source, page, first + STRIDE * self.leaps % (last - first + 1)), True)
 
     def turns_past(self) -> None:
-        """Turns, up to the first name that is asked for, if a place of the credit is left."""
-        if max(self.owed, self.host.now) - self.host.now <= (NAMES - 1) * COST:
+        """Turns, up to the first name that is asked for, if a place of the credit is left and few timers run."""
+        if max(self.owed, self.host.now) - self.host.now <= (NAMES - 1) * COST and len(self.asked()) < BEFORE_TURNS:
             any(self.turn() for _ in range(NAMES + 1))
 
     def turn(self) -> bool:

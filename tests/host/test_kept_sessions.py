@@ -55,11 +55,10 @@ def between_outages(stretch: int, lost: int, seed: int) -> float:
 
 @pytest.mark.parametrize("stretch", [60, 20])
 def test_outages(stretch: int) -> None:
-    """A newcomer soon finds what others hold between two stretches of 70 numbers that nobody holds. If a leap is given up before it is answered,
-    a turn finds it later."""
+    """A newcomer soon finds what others hold between two stretches of 70 numbers that nobody holds."""
     whole = sorted(between_outages(stretch, 70, seed) for seed in range(1, 8))
     print(f"two outages, stretches of {stretch}: whole after {whole} s")
-    assert (whole[3] <= 30, whole[-1] <= 60) == (True, True)
+    assert whole[-1] <= 30
 
 
 def test_unheld() -> None:

@@ -18,19 +18,18 @@ use Rattle.wb_member.specs.Members.{Misses}
 use Rattle.wb_member.specs.Opened.{Opened, answered, becomes, doing, has_room_for, heard, may_ask, present, sent_by}
 use Rattle.wb_member.specs.Random.{word_of}
 use Rattle.wb_policy.specs.Choices.{distance_in, near_names, own_echo, own_marks, told_names}
-use Rattle.wb_keeping.specs.Kept.{Doing, Line, Ticks, Arrives, Hears, Asks, Stops, SetsDistance, Tunes, Says, Transition, and_then, answers, asks_pages, draws_it, end, ends_full, hears, hears_session, hears_some, hears_state, is_begun, is_unasked, leap, leap_to, learned, measures, of_other, paid_for, performs, reports, reports_due, reports_rest, room_lines, state_of, still, stops_one, takes, takes_question, timed, turn, turn_if, turn_to, turns_due, turns_on, turns_past, want, want_near, want_told, hears_request, lending}
+use Rattle.wb_keeping.specs.Kept.{Doing, Line, Ticks, Arrives, Hears, Asks, Stops, SetsDistance, Tunes, Says, Transition, and_then, answers, asks_pages, draws_it, end, ends_full, hears, hears_session, hears_some, hears_state, is_begun, is_unasked, leap, leap_to, leaps_on, learned, measures, of_other, paid_for, performs, reports, reports_due, reports_rest, room_lines, state_of, still, stops_one, takes, takes_question, timed, turn, turn_if, turn_to, turns_due, turns_on, turns_past, want, want_near, want_told, hears_request, lending}
 use Rattle.wb_policy.specs.Distances.{bounded}
 use Rattle.wb_policy.specs.declared.limits.TheConstants.{UNKNOWN_DISTANCE}
 use Rattle.wb_keeping.specs.Performing.{Keeping, after_line, after_lines, after_saying, said, said_where, sees, sent_by_line}
 use Rattle.wb_policy.specs.Policy.{Policy, after_answer, after_beat, after_leaping, after_question, after_state, after_taking_up, after_turn, after_wanting, in_next_leaps, in_next_round}
 use Rattle.wb_keeping.specs.Views.{View, holds, is_asked, is_full, level, is_known}
-use Rattle.wb_policy.specs.Credit.{has_credit}
 use Rattle.wb_policy.specs.Leaps.{far_name}
 use Rattle.wb_policy.specs.Questions.{is_due, is_to_answer}
 use Rattle.wb_keeping.specs.Refusing.{back_in_time, drawing_fault, is_unknown_of_ours, waits_fault}
 use Rattle.wb_policy.specs.Reports.{rest_after}
 use Rattle.wb_policy.specs.Turns.{name_in, nowhere}
-use Rattle.wb_policy.specs.Wanting.{giving_way, is_wanted}
+use Rattle.wb_policy.specs.Wanting.{giving_way, is_wanted, passes_on}
 use Rattle.wb_keeper.specs.declared.keep_fault.KeepFault.TheVariants.{BackInTime}
 use Rattle.wb_keeping.specs.declared.kept_fault.KeptFault.{KeptFault}
 use Rattle.wb_keeping.specs.declared.kept_fault.KeptFault.TheVariants as kept_faults
@@ -143,6 +142,13 @@ module _ (n : ℕ) where
       let held = (see []).held in
       own_leap_to (hole_after held p.leaps.page p.leaps.source p.leaps.number) (hole_after held nowhere 0 0) see p same
 
+  own_leaps_on : (most : ℕ) → Owns n (leaps_on most)
+  unfolding leaps_on
+  own_leaps_on zero see p same = tt
+  own_leaps_on (suc more) see p same =
+      own_if n (is_begun (leap see p)) (leap see p) (and_then leap (leaps_on more) see p) (own_leap see p same)
+      (own_then leap (leaps_on more) own_leap (own_leaps_on more) see p same)
+
   own_turns_on : (most : ℕ) → Owns n (turns_on most)
   unfolding turns_on
   own_turns_on zero see p same = tt
@@ -151,10 +157,10 @@ module _ (n : ℕ) where
       (own_then turn (turns_on more) own_turn (own_turns_on more) see p same)
 
   own_past : Owns n turns_past
-  own_past see p same = own_if n (has_credit p.owed (see []).now) (turns_on 65 see p) (still see p) (own_turns_on 65 see p same) tt
+  own_past see p same = own_if n (passes_on (length (see []).asked) p.owed (see []).now) (turns_on 65 see p) (still see p) (own_turns_on 65 see p same) tt
 
   own_turn_if : (was_asked : Bool) → Owns n (turn_if was_asked)
-  own_turn_if true see p same = own_then leap turns_past own_leap own_past see p same
+  own_turn_if true see p same = own_then (leaps_on 65) turns_past (own_leaps_on 65) own_past see p same
   own_turn_if false see p same = tt
 
   own_learned : (name : NameValue) (was_asked : Bool) → Owns n (learned name was_asked)

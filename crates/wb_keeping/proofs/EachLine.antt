@@ -11,15 +11,14 @@ use Rattle.wb_gaps.specs.declared.holes.Hole.{Hole}
 use Rattle.wb_policy.specs.Distances.{bounded}
 use Rattle.wb_policy.specs.declared.limits.TheConstants.{UNKNOWN_DISTANCE}
 use Rattle.wb_policy.specs.Choices.{distance_in, own_echo, own_marks, told_names}
-use Rattle.wb_keeping.specs.Kept.{Asks, Doing, Line, Says, SetsDistance, Stops, Transition, and_then, answers, asks_pages, end, ends_full, is_begun, is_unasked, leap, leap_to, learned, measures, paid_for, reports, reports_due, reports_rest, room_lines, state_of, still, stops_one, timed, turn, turn_if, turn_to, turns_due, turns_on, turns_past, want, want_near, want_told, Arrives, Hears, hears, hears_session, hears_some, hears_state, of_other, performs, takes, takes_question, lending, hears_request}
+use Rattle.wb_keeping.specs.Kept.{Asks, Doing, Line, Says, SetsDistance, Stops, Transition, and_then, answers, asks_pages, end, ends_full, is_begun, is_unasked, leap, leap_to, leaps_on, learned, measures, paid_for, reports, reports_due, reports_rest, room_lines, state_of, still, stops_one, timed, turn, turn_if, turn_to, turns_due, turns_on, turns_past, want, want_near, want_told, Arrives, Hears, hears, hears_session, hears_some, hears_state, of_other, performs, takes, takes_question, lending, hears_request}
 use Rattle.wb_policy.specs.Policy.{Policy, after_answer, after_beat, after_leaping, after_question, after_turn, after_wanting, in_next_leaps, in_next_round, after_state, after_taking_up}
 use Rattle.wb_keeping.specs.Views.{View, is_asked, is_full, holds}
-use Rattle.wb_policy.specs.Credit.{has_credit}
 use Rattle.wb_policy.specs.Leaps.{far_name}
 use Rattle.wb_policy.specs.Questions.{is_due, is_to_answer}
 use Rattle.wb_policy.specs.Reports.{rest_after}
 use Rattle.wb_policy.specs.Turns.{name_in, nowhere}
-use Rattle.wb_policy.specs.Wanting.{giving_way}
+use Rattle.wb_policy.specs.Wanting.{giving_way, passes_on}
 use Rattle.wb_policy.specs.declared.wanting.AskedName.{AskedName}
 use Rattle.wb_keeping.proofs.Wanted.{is_wanted_here, lines_wanted, near_here, with_room_done}
 use Rattle.wb_codec.specs.declared.datagram.Datagram.{Datagram}
@@ -135,6 +134,13 @@ module _ (P : Line → Type 0) (is : OfPolicy P) where
   pub leap_each : DoesEach P leap
   leap_each see p = leap_to_each (hole_after (see []).held p.leaps.page p.leaps.source p.leaps.number) (hole_after (see []).held nowhere 0 0) see p
 
+  pub leaps_on_each : (most : ℕ) → DoesEach P (leaps_on most)
+  unfolding leaps_on
+  leaps_on_each zero see p = tt
+  leaps_on_each (suc more) see p =
+      choose P (is_begun (leap see p)) (leap see p) (and_then leap (leaps_on more) see p) (leap_each see p)
+      (then_each P leap (leaps_on more) leap_each (leaps_on_each more) see p)
+
   pub turns_on_each : (most : ℕ) → DoesEach P (turns_on most)
   unfolding turns_on
   turns_on_each zero see p = tt
@@ -143,10 +149,10 @@ module _ (P : Line → Type 0) (is : OfPolicy P) where
       (then_each P turn (turns_on more) turn_each (turns_on_each more) see p)
 
   past_each : DoesEach P turns_past
-  past_each see p = choose P (has_credit p.owed (see []).now) (turns_on 65 see p) (still see p) (turns_on_each 65 see p) tt
+  past_each see p = choose P (passes_on (length (see []).asked) p.owed (see []).now) (turns_on 65 see p) (still see p) (turns_on_each 65 see p) tt
 
   turn_if_each : (was : Bool) → DoesEach P (turn_if was)
-  turn_if_each true see p = then_each P leap turns_past leap_each past_each see p
+  turn_if_each true see p = then_each P (leaps_on 65) turns_past (leaps_on_each 65) past_each see p
   turn_if_each false see p = tt
 
   pub learned_each : (name : NameValue) (was : Bool) → DoesEach P (learned name was)

@@ -18,16 +18,16 @@ use Rattle.wb_policy.specs.declared.limits.TheConstants.{UNKNOWN_DISTANCE}
 use Rattle.wb_recovery.specs.Timing.{are_constants}
 use Rattle.wb_recovery.specs.declared.tuning.Tuning.{Tuning}
 use Rattle.wb_policy.specs.Choices.{distance_in, own_echo, own_marks, told_names, until_in}
-use Rattle.wb_keeping.specs.Kept.{Arrives, Doing, Hears, Line, Says, SetsDistance, Tunes, Stops, Ticks, Transition, and_then, answers, asks_pages, draws_it, drawing, end, ends_full, hears, hears_session, hears_some, hears_state, is_begun, is_unasked, leap, leap_to, learned, measures, performs, reports, reports_due, reports_page, reports_rest, state_of, still, takes, takes_question, timed, turn, turn_if, turn_to, turns_due, turns_on, turns_past, want, want_near, want_told, hears_request}
+use Rattle.wb_keeping.specs.Kept.{Arrives, Doing, Hears, Line, Says, SetsDistance, Tunes, Stops, Ticks, Transition, and_then, answers, asks_pages, draws_it, drawing, end, ends_full, hears, hears_session, hears_some, hears_state, is_begun, is_unasked, leap, leap_to, leaps_on, learned, measures, performs, reports, reports_due, reports_page, reports_rest, state_of, still, takes, takes_question, timed, turn, turn_if, turn_to, turns_due, turns_on, turns_past, want, want_near, want_told, hears_request}
 use Rattle.wb_keeping.specs.Laws.{Added, AreTaken, Came, KeptLine, Ticked, Tuned, after_kept, doing_of, expand, fault_of}
 use Rattle.wb_keeping.specs.Performing.{Keeping, after_doing, after_line, after_lines, sees, view_of}
 use Rattle.wb_policy.specs.Policy.{Policy, after_answer, after_beat, after_came, after_leaping, after_question, after_state, after_taking_up, after_turn, in_next_leaps, in_next_round, with_distance}
 use Rattle.wb_keeping.specs.Views.{View, holds, is_asked, is_full}
-use Rattle.wb_policy.specs.Credit.{has_credit}
 use Rattle.wb_policy.specs.Leaps.{far_name}
 use Rattle.wb_policy.specs.Questions.{is_due, is_to_answer}
 use Rattle.wb_policy.specs.Reports.{is_telling, page_after, rest_after, slice_after}
 use Rattle.wb_policy.specs.Turns.{name_in, nowhere}
+use Rattle.wb_policy.specs.Wanting.{passes_on}
 use Rattle.wb_keeping.specs.declared.kept_fault.KeptFault.{KeptFault}
 use Rattle.wb_keeping.specs.declared.kept_fault.KeptFault.TheVariants.{Host}
 use Rattle.wb_policy.specs.declared.leaps.Leaps.{Leaps}
@@ -218,6 +218,13 @@ module _ (R : Keeping → List Line → Keeping → Type 0) (is : HoldsOfDue R) 
   pub leap_holds : Holds R leap
   leap_holds k = leap_to_holds (hole_after k.host.is.held k.policy.leaps.page k.policy.leaps.source k.policy.leaps.number) (hole_after k.host.is.held nowhere 0 0) k
 
+  pub leaps_on_hold : (most : ℕ) → Holds R (leaps_on most)
+  unfolding leaps_on
+  leaps_on_hold zero k = is.nothing k
+  leaps_on_hold (suc more) k =
+      either (HoldsOf R k) (is_begun (leap (sees k.host) k.policy)) (leap (sees k.host) k.policy) (and_then leap (leaps_on more) (sees k.host) k.policy)
+      (λ begun. leap_holds k) (λ not_begun. then_holds leap (leaps_on more) leap_holds (leaps_on_hold more) k)
+
   pub turns_on_hold : (most : ℕ) → Holds R (turns_on most)
   unfolding turns_on
   turns_on_hold zero k = is.nothing k
@@ -227,7 +234,7 @@ module _ (R : Keeping → List Line → Keeping → Type 0) (is : HoldsOfDue R) 
 
   pub turns_past_hold : Holds R turns_past
   turns_past_hold k =
-      either (HoldsOf R k) (has_credit k.policy.owed (present k.host)) (turns_on 65 (sees k.host) k.policy) (still (sees k.host) k.policy) (λ paid. turns_on_hold 65 k) (λ unpaid. is.nothing k)
+      either (HoldsOf R k) (passes_on (length (view_of k.host).asked) k.policy.owed (present k.host)) (turns_on 65 (sees k.host) k.policy) (still (sees k.host) k.policy) (λ paid. turns_on_hold 65 k) (λ unpaid. is.nothing k)
 
   -- ---- what is due
 
@@ -282,7 +289,7 @@ module _ (R : Keeping → List Line → Keeping → Type 0) (is : HoldsOfParts R
       let see = sees k.host in
       let paid = with_policy (after_came k.policy) k in
       let near = near_here name true see k.policy in
-      then_holds R is.due (want_near near) (turn_if true) (near_holds R is.due near) (then_holds R is.due leap turns_past (leap_holds R is.due) (turns_past_hold R is.due)) paid
+      then_holds R is.due (want_near near) (turn_if true) (near_holds R is.due near) (then_holds R is.due (leaps_on 65) turns_past (leaps_on_hold R is.due 65) (turns_past_hold R is.due)) paid
 
   unasked_holds : (name : NameValue) (k : Keeping) → HoldsOf R k (with_room_done name false (sees k.host) k.policy)
   unasked_holds name k =

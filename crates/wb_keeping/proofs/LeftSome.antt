@@ -5,12 +5,12 @@ use Rattle.wb_names.specs.Values.{NameValue}
 use Rattle.wb_codec.specs.declared.datagram.Datagram.{Datagram}
 use Rattle.wb_member.specs.Holding.{IsOpenAt, MemberValue}
 use Rattle.wb_member.specs.Opened.{Opened}
-use Rattle.wb_keeping.specs.Kept.{Doing, Line, Transition, and_then, is_begun, is_unasked, still, turn, turns_on, want, want_near, want_told}
+use Rattle.wb_keeping.specs.Kept.{Doing, Line, Transition, and_then, is_begun, is_unasked, leap, leaps_on, still, turn, turns_on, want, want_near, want_told}
 use Rattle.wb_keeping.specs.Performing.{Does, DoesQuietly, IsKeptAt, Keeping, KeptValue, LeavesSome, after_doing, after_lines, sees, view_of}
 use Rattle.wb_policy.specs.Policy.{Policy}
 use Rattle.wb_keeping.specs.Views.{View}
 use Rattle.wb_keeping.proofs.Performed.{after_both, seen_then}
-use Rattle.wb_keeping.proofs.Wanted.{turns_end, turns_go_on}
+use Rattle.wb_keeping.proofs.Wanted.{leaps_end, leaps_go_on, turns_end, turns_go_on}
 use Rattle.wb_keeping.proofs.OneByOne.{at_next, begun_first, ended_by, passed_by}
 
 -- ---- the first of lines after lines
@@ -170,3 +170,21 @@ pub left_turns : (more most : ℕ) {a b c : KeptValue} → most ≡ suc more →
     → DoesQuietly turn a b → LeavesSome (turns_on more) b c → LeavesSome (turns_on most) a c
 left_turns more most {a} {b} {c} is none did left = subst (λ (n : ℕ). LeavesSome (turns_on n) a c) (sym is) (
     left_as (turns_on (suc more)) (and_then turn (turns_on more)) (λ k at. turns_go_on more (sees k.host) k.policy (none k at)) (left_later turn (turns_on more) did left))
+
+-- ---- leaps up to the first that asks
+
+-- It ended in the first leap.
+left_leap_at : (more : ℕ) (k : Keeping) (b : KeptValue) → LeftAt leap k b → LeftAt (leaps_on (suc more)) k b
+left_leap_at more k b left = by (is_begun (leap (sees k.host) k.policy)) refl where
+  by : (begun : Bool) → is_begun (leap (sees k.host) k.policy) ≡ begun → LeftAt (leaps_on (suc more)) k b
+  by true begun = left_as_at (leaps_on (suc more)) leap k b (leaps_end more (sees k.host) k.policy begun) left
+  by false begun = left_as_at (leaps_on (suc more)) (and_then leap (leaps_on more)) k b (leaps_go_on more (sees k.host) k.policy begun) (left_first_at leap (leaps_on more) k b left)
+
+pub left_leap : (more most : ℕ) {a b : KeptValue} → most ≡ suc more → LeavesSome leap a b → LeavesSome (leaps_on most) a b
+left_leap more most {a} {b} is left = subst (λ (n : ℕ). LeavesSome (leaps_on n) a b) (sym is) (record { at = λ k at. left_leap_at more k b (left.at k at) })
+
+-- It ended in a later one.
+pub left_leaps : (more most : ℕ) {a b c : KeptValue} → most ≡ suc more → ((k : Keeping) → IsKeptAt a k → is_begun (leap (sees k.host) k.policy) ≡ false)
+    → DoesQuietly leap a b → LeavesSome (leaps_on more) b c → LeavesSome (leaps_on most) a c
+left_leaps more most {a} {b} {c} is none did left = subst (λ (n : ℕ). LeavesSome (leaps_on n) a c) (sym is) (
+    left_as (leaps_on (suc more)) (and_then leap (leaps_on more)) (λ k at. leaps_go_on more (sees k.host) k.policy (none k at)) (left_later leap (leaps_on more) did left))

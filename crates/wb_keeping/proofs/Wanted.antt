@@ -8,7 +8,7 @@ use Rattle.wb_names.specs.History.{highest}
 use Rattle.wb_gaps.specs.Holes.{hole_after}
 use Rattle.wb_gaps.specs.declared.holes.Hole.{Hole}
 use Rattle.wb_policy.specs.Choices.{near_names}
-use Rattle.wb_keeping.specs.Kept.{Asks, Doing, Line, SetsDistance, Stops, and_then, end, is_begun, leap, leap_to, learned, measures, paid_for, performs, room_lines, still, stops_one, turn, turn_if, turn_to, turns_on, want, want_near, lending}
+use Rattle.wb_keeping.specs.Kept.{Asks, Doing, Line, SetsDistance, Stops, and_then, end, is_begun, leap, leap_to, leaps_on, learned, measures, paid_for, performs, room_lines, still, stops_one, turn, turn_if, turn_to, turns_on, want, want_near, lending}
 use Rattle.wb_policy.specs.Distances.{bounded}
 use Rattle.wb_policy.specs.declared.limits.TheConstants.{UNKNOWN_DISTANCE}
 use Rattle.wb_policy.specs.Policy.{Policy, after_wanting, with_distance}
@@ -135,6 +135,24 @@ module _ (more : ℕ) (see : List Line → View) (p : Policy) where
   pub turns_go_on : is_begun (turn see p) ≡ false → turns_on (suc more) see p ≡ and_then turn (turns_on more) see p
   unfolding turns_on
   turns_go_on e = ap turns_by e
+
+-- ---- leaps up to the first that asks
+
+pub no_leaps : (see : List Line → View) (p : Policy) → leaps_on zero see p ≡ still see p
+unfolding leaps_on
+no_leaps see p = refl
+
+module _ (more : ℕ) (see : List Line → View) (p : Policy) where
+  abbrev leaps_by : Bool → Doing
+  leaps_by begun = cond begun (leap see p) (and_then leap (leaps_on more) see p)
+
+  pub leaps_end : is_begun (leap see p) ≡ true → leaps_on (suc more) see p ≡ leap see p
+  unfolding leaps_on
+  leaps_end e = ap leaps_by e
+
+  pub leaps_go_on : is_begun (leap see p) ≡ false → leaps_on (suc more) see p ≡ and_then leap (leaps_on more) see p
+  unfolding leaps_on
+  leaps_go_on e = ap leaps_by e
 
 -- ---- what an echo tells
 

@@ -18,12 +18,11 @@ use Rattle.wb_policy.specs.declared.limits.TheConstants.{MOST_PAGES, MOST_TIMERS
 use Rattle.wb_keeping.specs.Drawings.{drawing_time}
 use Rattle.wb_policy.specs.Policy.{Policy, after_answer, after_beat, after_came, after_leaping, after_question, after_report, after_state, after_taking_up, after_turn, after_wanting, in_next_leaps, in_next_round, with_distance}
 use Rattle.wb_keeping.specs.Views.{View, holds, is_asked, is_full, level, is_known}
-use Rattle.wb_policy.specs.Credit.{has_credit}
 use Rattle.wb_policy.specs.Leaps.{far_name}
 use Rattle.wb_policy.specs.Questions.{is_due, is_to_answer}
 use Rattle.wb_policy.specs.Reports.{members_in, page_after, rest_after, slice_after, report_bytes}
 use Rattle.wb_policy.specs.Turns.{name_in, nowhere}
-use Rattle.wb_policy.specs.Wanting.{giving_way, is_wanted}
+use Rattle.wb_policy.specs.Wanting.{giving_way, is_wanted, passes_on}
 use Rattle.wb_policy.specs.declared.wanting.AskedName.{AskedName}
 
 -- what a policy does: the lines that its host performs, and the policy afterwards
@@ -120,18 +119,23 @@ leap see p =
     let held = (see []).held in
     leap_to (hole_after held p.leaps.page p.leaps.source p.leaps.number) (hole_after held nowhere 0 0) see p
 
+-- leaps up to the first that asks, at most this many
+unfoldable pub leaps_on : ℕ → Transition
+leaps_on zero see p = still see p
+leaps_on (suc more) see p = if is_begun (leap see p) then leap see p else and_then leap (leaps_on more) see p
+
 -- turns up to the first that asks, at most this many
 unfoldable pub turns_on : ℕ → Transition
 turns_on zero see p = still see p
 turns_on (suc more) see p = if is_begun (turn see p) then turn see p else and_then turn (turns_on more) see p
 
--- these pass over what is asked for, if a place of the credit is left
+-- these pass over what is asked for, if a place of the credit is left and few timers stand
 abbrev pub turns_past : Transition
-turns_past see p = if has_credit p.owed (see []).now then turns_on (MOST_TIMERS + 1) see p else still see p
+turns_past see p = if passes_on (length (see []).asked) p.owed (see []).now then turns_on (MOST_TIMERS + 1) see p else still see p
 
--- a name far from others and turns, if a name that was asked for came
+-- leaps and turns, if a name that was asked for came
 abbrev pub turn_if : Bool → Transition
-turn_if was_asked see p = if was_asked then and_then leap turns_past see p else still see p
+turn_if was_asked see p = if was_asked then and_then (leaps_on (MOST_TIMERS + 1)) turns_past see p else still see p
 
 -- A drawop is new: its neighbours are wanted, and then, if it was asked for, a name far from it and one that has its turn.
 abbrev pub learned : NameValue → Bool → Transition

@@ -2,7 +2,7 @@
 use Rattle.std.specs.Prelude.{ℕ, Bool, true, false, not, ◌&&◌, ◌||◌, List, [], ◌∷◌, Option, Some, None, length, nat_le, nat_lt, if◌then◌else◌}
 use Rattle.std.specs.List.{fold}
 use Rattle.wb_policy.specs.Credit.{has_credit, leaves_some}
-use Rattle.wb_policy.specs.declared.limits.TheConstants.{MOST_TIMERS, OLD_LEVEL}
+use Rattle.wb_policy.specs.declared.limits.TheConstants.{MOST_TIMERS, OLD_LEVEL, TIMERS_BEFORE_TURNS}
 use Rattle.wb_policy.specs.declared.wanting.AskedName.{AskedName}
 
 -- A timer is old once it was backed off four times.
@@ -23,6 +23,10 @@ is_paid false owed now = leaves_some owed now
 -- came come last if their source told no distance, so that drawops that are forged with holes leave room for what members draw and report.
 abbrev pub is_wanted : Bool → Bool → Bool → Bool → Option ℕ → ℕ → ℕ → Bool
 is_wanted held full anew known level owed now = not held && (not full && (not (goes_on anew level) && is_paid (anew || known) owed now))
+
+-- Turns pass over what is asked for while a place of the credit is left and fewer than 56 timers stand. So they give up old timers alone.
+abbrev pub passes_on : ℕ → ℕ → ℕ → Bool
+passes_on count owed now = nat_lt count TIMERS_BEFORE_TURNS && has_credit owed now
 
 -- of two names that are asked for, the one whose timer was backed off more, and the first if both were equally often
 abbrev pub older : AskedName → AskedName → AskedName

@@ -4,7 +4,7 @@
 ghost use Rattle.std.specs.Prelude.{◌≡◌, ◌^◌};
 ghost use Rattle.wb_policy.specs.Fairness.{EachHoleHasItsTurn, EachMarkIsTold, EachNumberHasItsTurn, EachNumberHasItsTurnSoon, TellingsRise};
 ghost use Rattle.wb_policy.specs.Laws.{FewAreAsked, IdleTurnsAreRare, NearIsAmong, NumbersAreNear, ReportsAreSmall, SlicesAreShort, SuccessHurries, TurnsArePaced};
-ghost use Rattle.wb_policy.specs.declared.limits.TheConstants.{ANSWER, COST, ECHO_BYTES, FIRST_DISTANCE, FIRST_FORGED, FIRST_QUESTION, FIRST_REPORT, FIRST_WAIT, HEAD_BYTES, HEARD, LEAST_DISTANCE, LISTEN_LIMIT, LONGEST_GAP, LONGEST_MEAN, LONGEST_PAUSE, MARK_BYTES, MEMBERS, MOST_BYTES, MOST_DISTANCE, MOST_ECHOES, MOST_MARKS, MOST_PAGES, MOST_REPORT_BYTES, MOST_TIMERS, MOST_WAIT, OLD_LEVEL, PAYS, PLACES, PLACES_OF_LAST, QUIET, REACH, ROUND_LIMIT, SECOND, SHORTEST_GAP, SHORTEST_MEAN, SHORTEST_PAUSE, STEADINESS, STREAM, STRIDE, UNKNOWN_DISTANCE, WINDOW};
+ghost use Rattle.wb_policy.specs.declared.limits.TheConstants.{ANSWER, COST, ECHO_BYTES, FIRST_DISTANCE, FIRST_FORGED, FIRST_QUESTION, FIRST_REPORT, FIRST_WAIT, HEAD_BYTES, HEARD, LEAST_DISTANCE, LISTEN_LIMIT, LONGEST_GAP, LONGEST_MEAN, LONGEST_PAUSE, MARK_BYTES, MEMBERS, MOST_BYTES, MOST_DISTANCE, MOST_ECHOES, MOST_MARKS, MOST_PAGES, MOST_REPORT_BYTES, MOST_TIMERS, MOST_WAIT, OLD_LEVEL, PAYS, PLACES, PLACES_OF_LAST, QUIET, REACH, ROUND_LIMIT, SECOND, SHORTEST_GAP, SHORTEST_MEAN, SHORTEST_PAUSE, STEADINESS, STREAM, STRIDE, TIMERS_BEFORE_TURNS, UNKNOWN_DISTANCE, WINDOW};
 
 /// From one moment to another at most 64 names are asked for, one more for each quarter of a
 /// second, and two more for each that was asked for and came.
@@ -67,12 +67,13 @@ pub fn limits()
 {}
 
 /// The other numbers: what a name costs and pays, and how many are asked for at once; when a timer
-/// is old, and how far neighbours reach; the times between turns; distances; the times between
+/// is old, how far neighbours reach, and beside how many timers turns pass over what is asked for; the times between turns; distances; the times between
 /// reports, and for how long a member counts; the bytes of a report; the times of answers; and the
 /// stream of the words.
 pub fn numbers()
     ensures credit { (COST ≡ 250000) × (PAYS ≡ 2) × (PLACES ≡ 64) × (PLACES_OF_LAST ≡ 48) }
     ensures wanting { (OLD_LEVEL ≡ 4) × (REACH ≡ 64) × (STRIDE ≡ 19) × (WINDOW ≡ 64) }
+    ensures passing { TIMERS_BEFORE_TURNS ≡ 56 }
     ensures turns { (SHORTEST_GAP ≡ 1000000) × (LONGEST_GAP ≡ 16000000) × (STEADINESS ≡ 128) }
     ensures distances { (UNKNOWN_DISTANCE ≡ 100000) × (LEAST_DISTANCE ≡ 10000) }
     ensures means { (SHORTEST_MEAN ≡ 2000000) × (LONGEST_MEAN ≡ 64000000) }

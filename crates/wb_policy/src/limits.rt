@@ -23,6 +23,10 @@ pub const PLACES_OF_LAST: u64 = 48;
 /// The most request timers that stand.
 pub const MOST_TIMERS: usize = 64;
 
+/// Turns pass over what is asked for while fewer request timers than this stand. So they give up
+/// old timers alone.
+pub const TIMERS_BEFORE_TURNS: usize = 56;
+
 /// The level from which a timer is old: it has then waited 15 to 30 times its distance, times the
 /// first constant of requests.
 pub const OLD_LEVEL: u32 = 4;

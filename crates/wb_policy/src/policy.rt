@@ -4,19 +4,18 @@
 ghost use Rattle.std.specs.Prelude.{◌≡◌, ◌≤◌, ◌<◌, ◌+◌, if◌then◌else◌, nat_le, nat_lt};
 ghost use Rattle.wb_names.specs.Moments.{IsMoment};
 ghost use Rattle.wb_policy.specs.declared.limits.TheConstants.{LISTEN_LIMIT, LONGEST_GAP, LONGEST_PAUSE, MEMBERS, MOST_BYTES, MOST_DISTANCE, SHORTEST_GAP, SHORTEST_PAUSE};
-ghost use Rattle.wb_policy.specs.Credit.{has_credit};
 ghost use Rattle.wb_policy.specs.Distances.{bounded};
 ghost use Rattle.wb_policy.specs.Policy.{after_answer, after_beat, after_came, after_leaping, after_question, after_report, after_state, after_taking_up, after_turn, after_wanting, begun, in_next_leaps, in_next_round, next_moment, sooner, with_distance};
 ghost use Rattle.wb_policy.specs.Leaps.{far_name};
 ghost use Rattle.wb_policy.specs.Questions.{is_due, is_to_answer};
 ghost use Rattle.wb_policy.specs.Reports.{is_telling};
 ghost use Rattle.wb_policy.specs.Turns.{name_in};
-ghost use Rattle.wb_policy.specs.Wanting.{is_wanted};
+ghost use Rattle.wb_policy.specs.Wanting.{is_wanted, passes_on};
 
 use crate::credit::Credit;
 use crate::distances::Distances;
 use crate::leaps::Leaps;
-use crate::limits::{ANSWER, FIRST_QUESTION, FIRST_REPORT};
+use crate::limits::{ANSWER, FIRST_QUESTION, FIRST_REPORT, TIMERS_BEFORE_TURNS};
 use crate::pace::Pace;
 use crate::questions::Questions;
 use crate::reports::{Reports, is_telling};
@@ -144,11 +143,11 @@ impl Policy {
         self.pace.hurry();
     }
 
-    /// Whether a place of the credit is left.
-    pub fn has_credit(&self, now: u64) -> bool
-        ensures { result ≡ has_credit self.now.owed now }
+    /// Whether turns pass over what is asked for, while `timers` request timers stand.
+    pub fn passes_on(&self, timers: usize, now: u64) -> bool
+        ensures { result ≡ passes_on timers self.now.owed now }
     {
-        self.credit.is_left(true, now)
+        timers < TIMERS_BEFORE_TURNS && self.credit.is_left(true, now)
     }
 
     /// The next hole in turn begins after this number of this source on this page.

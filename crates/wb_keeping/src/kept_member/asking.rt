@@ -1,7 +1,7 @@
 //! What a self-managing member asks for.
 ghost use Rattle.std.specs.Prelude.{◌≡◌, ◌≤◌, ◌<◌, ◌^◌, ◌∷◌, [], IfOk, OnErr, OnOk, IfSome};
 ghost use Rattle.wb_recovery.specs.Delays.{IsDelay};
-ghost use Rattle.wb_keeping.specs.Kept.{Asks, and_then, end, ends_full, is_begun, is_unasked, leap, learned, paid_for, performs, stops_one, turn, turn_if, turns_due, turns_on, turns_past, want, want_near, want_told};
+ghost use Rattle.wb_keeping.specs.Kept.{Asks, and_then, end, ends_full, is_begun, is_unasked, leap, leaps_on, learned, paid_for, performs, stops_one, turn, turn_if, turns_due, turns_on, turns_past, want, want_near, want_told};
 ghost use Rattle.wb_recovery.specs.Events.{timers_of};
 ghost use Rattle.wb_member.specs.Opened.{events};
 ghost use Rattle.wb_keeping.specs.Performing.{DoesQuietly, IsKeptAt, Keeping, LeavesSome, asked_with, sees, view_of};
@@ -198,18 +198,35 @@ impl KeptMember {
         if !was_asked {
             return Ok(());
         }
-        self.leap(alloc)?;
+        self.leaps_on(alloc, MOST_TIMERS + 1)?;
         self.turns_past(alloc)?;
         Ok(())
     }
 
-    /// Turns pass over what is asked for, if a place of the credit is left.
+    /// It leaps up to the first name that it begins to ask for, at most `most` times.
+    fn leaps_on(&mut self, alloc: Global, most: usize) -> Result<(), AllocError>
+        ensures does { OnOk result (DoesQuietly (leaps_on most) self.old self.new) }
+        ensures left { OnErr result (LeavesSome (leaps_on most) self.old self.new) }
+    {
+        if most == 0 {
+            return Ok(());
+        }
+        let begun = self.leap(alloc)?;
+        if begun {
+            return Ok(());
+        }
+        self.leaps_on(alloc, most - 1)?;
+        Ok(())
+    }
+
+    /// Turns pass over what is asked for, if a place of the credit is left and few timers stand.
     fn turns_past(&mut self, alloc: Global) -> Result<(), AllocError>
         ensures does { OnOk result (DoesQuietly turns_past self.old self.new) }
         ensures left { OnErr result (LeavesSome turns_past self.old self.new) }
     {
         let now = self.member.moment();
-        if !self.policy.has_credit(now) {
+        let asked = self.asked(alloc)?;
+        if !self.policy.passes_on(asked.len(), now) {
             return Ok(());
         }
         self.turns_on(alloc, MOST_TIMERS + 1)?;
@@ -233,8 +250,10 @@ impl KeptMember {
     }
 
     /// A name of the next hole is wanted, far from those before, or one of the first hole in another
-    /// round.
-    fn leap(&mut self, alloc: Global) -> Result<(), AllocError>
+    /// round. Answers whether the member begins to ask for it.
+    fn leap(&mut self, alloc: Global) -> Result<bool, AllocError>
+        ensures begun { IfOk result (λ begun. (k : Keeping) → IsKeptAt self.old k →
+            begun ≡ is_begun (leap (sees k.host) k.policy)) }
         ensures does { OnOk result (DoesQuietly leap self.old self.new) }
         ensures left { OnErr result (LeavesSome leap self.old self.new) }
     {
@@ -244,18 +263,20 @@ impl KeptMember {
             .hole_after(alloc, leaps.page, leaps.source, leaps.number)?;
         match next {
             Some(hole) => {
-                self.leap_in(alloc, hole)?;
-                Ok(())
+                let begun = self.leap_in(alloc, hole)?;
+                Ok(begun)
             }
             None => {
-                self.leap_again(alloc)?;
-                Ok(())
+                let begun = self.leap_again(alloc)?;
+                Ok(begun)
             }
         }
     }
 
     /// Another round of these begins with the first hole, if there is one.
-    fn leap_again(&mut self, alloc: Global) -> Result<(), AllocError>
+    fn leap_again(&mut self, alloc: Global) -> Result<bool, AllocError>
+        ensures begun { IfOk result (λ begun. (k : Keeping) → IsKeptAt self.old k →
+            begun ≡ is_begun (leap_again (sees k.host) k.policy)) }
         ensures does { OnOk result (DoesQuietly leap_again self.old self.new) }
         ensures left { OnErr result (LeavesSome leap_again self.old self.new) }
     {
@@ -263,15 +284,18 @@ impl KeptMember {
         let first = self.member.hole_after(alloc, Turns::START.page, 0, 0)?;
         match first {
             Some(hole) => {
-                self.leap_in(alloc, hole)?;
-                Ok(())
+                let begun = self.leap_in(alloc, hole)?;
+                Ok(begun)
             }
-            None => Ok(()),
+            None => Ok(false),
         }
     }
 
     /// One of the names of a hole is wanted. A hole is never empty.
-    fn leap_in(&mut self, alloc: Global, hole: Hole) -> Result<(), AllocError>
+    fn leap_in(&mut self, alloc: Global, hole: Hole) -> Result<bool, AllocError>
+        ensures begun { IfOk result (λ begun. 1 ≤ hole.gap.first → hole.gap.first ≤ hole.gap.last →
+            (k : Keeping) → IsKeptAt self.old k →
+            begun ≡ is_begun (leap_in hole (sees k.host) k.policy)) }
         ensures does { OnOk result (1 ≤ hole.gap.first → hole.gap.first ≤ hole.gap.last →
             DoesQuietly (leap_in hole) self.old self.new) }
         ensures left { OnErr result
@@ -279,11 +303,11 @@ impl KeptMember {
             self.old self.new) }
     {
         if hole.gap.first == 0 || hole.gap.last < hole.gap.first {
-            return Ok(());
+            return Ok(false);
         }
         let name = self.policy.leap(hole);
-        self.want(alloc, &name, true)?;
-        Ok(())
+        let begun = self.want(alloc, &name, true)?;
+        Ok(begun)
     }
 
     /// The names near one, which may be left out if all of them are held. Mostly one look-up shows
