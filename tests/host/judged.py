@@ -4,7 +4,7 @@ front, to which it says what the host holds."""
 from __future__ import annotations
 
 from collections.abc import Callable
-from dataclasses import dataclass, field
+from dataclasses import dataclass, field, replace
 
 from ..judging import reference
 from . import datagrams
@@ -192,6 +192,28 @@ class Judged:
         here = [(number, other) for number, other in others if now - other.at <= reference.PATIENCE]
         rows = [("member", number, other.origin.text, "-" if other.answered is None else other.answered, other.at) for number, other in here]
         return listed("members", rows)
+
+    def view_at(self, page: Page, count: int) -> list[str]:
+        """What a page showed when this many drawops were held, in words."""
+        then = replace(self.kept.host, held=dict(list(self.kept.host.held.items())[:count]))
+        return then.view(page).splitlines()[1:]
+
+    def since(self, page: Page, count: int) -> str:
+        """What a page shows otherwise: what came since then may have changed its own drawings and its targets, and nothing else."""
+        held = list(self.kept.host.held.values())
+        news = [drawop for drawop in held[count:] if drawop.name.page == page]
+        touched = [drawop for drawop in held if drawop.operation[0] < 4 and any(new is drawop or new.is_aimed_at(drawop) for new in news)]
+        hidden = [f"hidden {drawop.name.source} {drawop.name.seq}" for drawop in touched if drawop in held[:count]]
+        words = {drawop.words() for drawop in touched}
+        shown = [f"shown {place} {line}" for place, line in enumerate(self.view_at(page, len(held))) if line in words]
+        return "".join(f"{line}\n" for line in [f"since {len(held)} {len(hidden) + len(shown)}", *hidden, *shown])
+
+    def lacks(self, page: Page) -> str:
+        """How many numbers are missing, and how many drawops above these are requested."""
+        ranges = self.kept.host.missing(page)
+        asked = [name for name, timers in self.kept.host.timers.items() if timers.ask and name.page == page]
+        beyond = [name for name in asked if not any(name.source == source and first <= name.seq <= last for source, first, last in ranges)]
+        return f"lacks {sum(last - first + 1 for _, first, last in ranges) + len(beyond)}\n"
 
     def listing(self, most: int) -> str:
         names = [judged_name(name) for name in self.kept.host.held]

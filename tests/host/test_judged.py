@@ -244,6 +244,111 @@ view 3
 {drawn(WALL + 5, source=1)}
 ok {asked_at(0, 0)}
 """,
+    "a page is painted behind marks, so that no row looks like the end of a block": f"""
+{judge()}> add 1 7/1 text 0 0 "ok 5"
+record tick 1
+record say draw 1 7/1 1 {WALL + 1} text 0 0 "ok 5"
+drew 7 1 1 1
+send {drawop(1, PAGE, 1, WALL + 1, datagrams.text(0, 0, "ok 5"))}
+became new
+ok {QUESTION}
+> paint 7 1 5 2
+paint 2
+|ok 5 
+|     
+ok {QUESTION}
+> paint 7 2 1 1
+paint 1
+| 
+ok {QUESTION}
+""",
+    "what a page shows otherwise than it did: taken off by name, and put in by place": f"""
+{judge()}> held datagram {drawop(7, PAGE, 1, 20, STROKE)}
+drew 7 1 7 1
+became new
+ok {QUESTION}
+> held datagram {drawop(7, PAGE, 2, 30, STROKE)}
+drew 7 1 7 2
+became new
+ok {QUESTION}
+> held datagram {drawop(8, (7, 2), 1, 25, STROKE)}
+drew 7 2 8 1
+became new
+ok {QUESTION}
+> since 7 1 0
+since 3 2
+shown 0 draw 7 7/1 1 20 line 0 0 4 0 *
+shown 1 draw 7 7/1 2 30 line 0 0 4 0 *
+ok {QUESTION}
+> held datagram {drawop(8, PAGE, 1, 25, STROKE)}
+drew 7 1 8 1
+became new
+ok {QUESTION}
+> since 7 1 3
+since 4 1
+shown 1 draw 8 7/1 1 25 line 0 0 4 0 *
+ok {QUESTION}
+> held datagram {drawop(8, PAGE, 2, 40, datagrams.delete(7, 1))}
+drew 7 1 8 2
+became new
+ok {QUESTION}
+> since 7 1 4
+since 5 1
+hidden 7 1
+ok {QUESTION}
+> held datagram {drawop(8, PAGE, 3, 50, datagrams.restore(7, 1))}
+drew 7 1 8 3
+became new
+ok {QUESTION}
+> since 7 1 4
+since 6 2
+hidden 7 1
+shown 0 draw 7 7/1 1 20 line 0 0 4 0 *
+ok {QUESTION}
+> since 7 2 6
+since 6 0
+ok {QUESTION}
+> since 7 1 4294967295
+since 6 0
+ok {QUESTION}
+""",
+    "what is missing is counted: numbers below the greatest that is held or was heard of, and what is requested above": f"""
+{judge()}> lacks 7 1
+lacks 0
+ok {QUESTION}
+> held datagram {drawop(7, PAGE, 4, WALL, STROKE)}
+drew 7 1 7 4
+became new
+ok {asked_at(0, 0)}
+> lacks 7 1
+lacks 3
+ok {asked_at(0, 0)}
+> lacks 7 2
+lacks 0
+ok {asked_at(0, 0)}
+""",
+    "a datagram is said in words, whosever it is, and nothing is done about it": f"""
+{judge()}> words {drawop(7, PAGE, 1, WALL, datagrams.text(1, 2, 'say "hi"'))}
+words draw 7 7/1 1 {WALL} text 1 2 "say \\"hi\\""
+ok {QUESTION}
+> words {session(9, 50, PAGE, [(7, 1), (9, 3)], [(8, 100, 50)])}
+words session-message 9 50 7/1 7=1 9=3 8@100+50
+ok {QUESTION}
+> words {datagrams.request(2, 7, PAGE, 4)}
+words request 2 7 7/1 4
+ok {QUESTION}
+> words 574201040000000400000002
+words ask-pages 2
+ok {QUESTION}
+> words {datagrams.page_state(9, PAGE, [(8, 4)])}
+words page-state 9 7/1 8=4
+ok {QUESTION}
+> words 5742
+refused datagram 1
+> since 7 1 0
+since 0 0
+ok {QUESTION}
+""",
     "its timers are given other constants, and questions are answered as at any host": f"""
 {judge()}> tuning 3 16 1 11
 ok {QUESTION}
@@ -327,6 +432,22 @@ MISTYPED = {
     "held": "words",
     "list": "words",
     "list 4294967296": "number",
+    "paint 7 1 2": "words",
+    "paint 7 1 2 1 1": "words",
+    "paint 7 1 0 1": "number",
+    "paint 7 1 201 1": "number",
+    "paint 7 1 1 101": "number",
+    "paint 7 4294967296 1 1": "number",
+    "since 7 1": "words",
+    "since 7 1 2 3": "words",
+    "since x 1 2": "number",
+    "lacks 7": "words",
+    "lacks 7 1 2": "words",
+    "lacks 7 x": "number",
+    "since 7 1 4294967296": "number",
+    "words": "words",
+    "words 5742 5742": "words",
+    "words 574": "hex",
     " held tick 5": "words",
     "held datagram": "words",
     "held datagram 5742": "datagram 1",
@@ -388,7 +509,7 @@ def test_judged_or_not() -> None:
     assert host(f"{opened}{begin}{begin}") == f"ok never\nok {QUESTION}\nrefused kept\n"
     for line_, fault in MISTYPED_JUDGE.items():
         assert host(f"{line_}\n") == f"refused {fault}\n", f"as it is read: {line_!r}"
-    for line_ in ["held tick 5", "wall 5 5", "gone 5 5", "members", "list 5"]:
+    for line_ in ["held tick 5", "wall 5 5", "gone 5 5", "members", "list 5", "paint 7 1 2 1", "since 7 1 0", "lacks 7 1", "words 574201040000000400000002"]:
         assert host(f"{opened}{line_}\n") == "ok never\nrefused unknown\n", f"no line of a host that is not judged: {line_}"
 
 
@@ -510,11 +631,13 @@ class JudgedSession(Session):
         return f"held {line_}", self.answered(lambda: self.judged.held(line_, datagram))
 
     def asking(self) -> tuple[str, str]:
-        page = self.page()
+        page, count = self.page(), self.below(len(self.model.held) + 2)
         ways: list[tuple[str, Callable[[], str]]] = [
             ("members", self.judged.members),
             ("list 1", lambda: self.judged.listing(1)),
             ("list 9", lambda: self.judged.listing(9)),
+            (f"since {page[0]} {page[1]} {count}", lambda: self.judged.since(page, count)),
+            (f"lacks {page[0]} {page[1]}", lambda: self.judged.lacks(page)),
             *((f"{word} {page[0]} {page[1]}", lambda word=word: getattr(self.model, word)(page)) for word in ("gaps", "report", "next", "view")),
         ]
         line_, does = self.random.choice(ways)
@@ -542,6 +665,32 @@ class JudgedSession(Session):
 def test_random(seed: int) -> None:
     given, printed = JudgedSession(random.Random(seed), held=seed % 4).conversation()
     assert first_difference(given, host(given), printed) == ""
+
+
+@pytest.mark.parametrize("seed", seeds(4))
+def test_patched(seed: int) -> None:
+    """The view of then, where what `since` hides is taken off and what it shows is put in, is the view of now."""
+    begun = JudgedSession(random.Random(seed), held=8)
+    given, _ = begun.conversation()
+    counts = range(0, len(begun.model.held) + 1, 5)
+    asked = "".join(f"since {page[0]} {page[1]} {count}\n" for page in PAGES for count in counts)
+    printed = iter(blocks(host(given + asked))[-len(PAGES) * len(counts) :])
+    for page in PAGES:
+        for count in counts:
+            first, *changes, _ = next(printed).splitlines()
+            assert first == f"since {len(begun.model.held)} {len(changes)}"
+            assert patched(begun.judged.view_at(page, count), changes) == begun.judged.view_at(page, len(begun.model.held))
+
+
+def patched(shown: list[str], changes: list[str]) -> list[str]:
+    """What a page shows, in words, with what is said to have changed."""
+    for change in changes:
+        word, at, rest = change.split(" ", 2)
+        if word == "hidden":
+            shown = [words for words in shown if (words.split()[1], words.split()[3]) != (at, rest)]
+        else:
+            shown = [*shown[: int(at)], rest, *shown[int(at) :]]
+    return shown
 
 
 QUESTIONS = [f"{word} {page[0]} {page[1]}" for page in PAGES for word in ("view", "report")] + ["pages", "list 99"]

@@ -8,7 +8,8 @@ use Rattle.wb_dialog.specs.Doing.{kept_in}
 use Rattle.wb_codec.specs.declared.datagram.Datagram.{Datagram}
 use Rattle.wb_codec.specs.declared.fault.ReadFault.{ReadFault}
 use Rattle.wb_judge.specs.declared.origin.Origin.{Origin}
-use Rattle.wb_judging.specs.Judged.{CameFrom, Garbled, JudgedLine}
+use Rattle.wb_judging.specs.declared.call.Call.{Call}
+use Rattle.wb_judging.specs.declared.call.Call.TheVariants.{CameFrom, Garbled}
 use Rattle.wb_judging.specs.Performing.{JudgedValue}
 use Rattle.wb_judged_dialog.specs.Doing.{JudgedDialogValue, member_in, with_kept, with_member}
 use Rattle.wb_c.specs.Judging.{Judges}
@@ -39,7 +40,7 @@ member_did does old new (Err e) taken kept after is was dialog block did = tt
 
 -- ---- a judged member
 
-module _ (line : JudgedLine) (old new : Room) (status : ℕ) where
+module _ (line : Call) (old new : Room) (status : ℕ) where
   at_judged : (found : Option JudgedValue) (m after : JudgedValue) → Some m ≡ found → new.dialog ≡ with_member after old.dialog → new.block ≡ old.block
       → Judges line m after old.events.items new.events.items status → AtJudgedBy line found old new status
   at_judged found m after is dialog block did = subst (λ (f : Option JudgedValue). AtJudgedBy line f old new status) is (after, dialog, block, did)
@@ -50,8 +51,8 @@ module _ (line : JudgedLine) (old new : Room) (status : ℕ) where
 put_member_back : (old taken new : JudgedDialogValue) (m after : JudgedValue) → with_member m taken ≡ old → new ≡ with_member after taken → new ≡ with_member after old
 put_member_back old taken new m after was is = is ∙ ap (with_member after) was
 
--- It did a line, or an allocation failed, and in any case it was put back.
-pub judged_did : {E : Type 0} (line : JudgedLine) (old new : Room) (r : Result ℕ E) (taken : JudgedDialogValue) (m after : JudgedValue)
+-- It was called, or an allocation failed, and in any case it was put back.
+pub judged_did : {E : Type 0} (line : Call) (old new : Room) (r : Result ℕ E) (taken : JudgedDialogValue) (m after : JudgedValue)
     → Some m ≡ member_in old.dialog → with_member m taken ≡ old.dialog → new.dialog ≡ with_member after taken → new.block ≡ old.block
     → IfOk r (Judges line m after old.events.items new.events.items) → IfOk r (AtJudged line old new)
 judged_did line old new (Ok status) taken m after is was dialog block did =
@@ -59,7 +60,7 @@ judged_did line old new (Ok status) taken m after is was dialog block did =
 judged_did line old new (Err e) taken m after is was dialog block did = tt
 
 -- a host that is judged, and one that is not
-module _ {E : Type 0} (line : JudgedLine) (does : KeptValue → KeptValue → List Event → List Event → ℕ → Type 0) (old new : Room) (r : Result ℕ E) (judged : Bool) where
+module _ {E : Type 0} (line : Call) (does : KeptValue → KeptValue → List Event → List Event → ℕ → Type 0) (old new : Room) (r : Result ℕ E) (judged : Bool) where
   pub either_judged : judged ≡ is_some old.dialog.judge → judged ≡ true → IfOk r (AtJudged line old new) → IfOk r (AtEither (is_some old.dialog.judge) line does old new)
   either_judged is so did = subst (λ (b : Bool). IfOk r (AtEither b line does old new)) (sym so ∙ is) did
 

@@ -14,7 +14,8 @@ use Rattle.wb_dialog.specs.Hosting.{due_at}
 use Rattle.wb_judged_dialog.specs.Dialog.{JudgedHosting}
 use Rattle.wb_judged_dialog.specs.Doing.{IsAt, member_in, with_kept, with_member}
 use Rattle.wb_judge.specs.declared.origin.Origin.{Origin}
-use Rattle.wb_judging.specs.Judged.{CameFrom, DayTold, Garbled, GoneFrom, JudgedLine, Passed, UserDrew}
+use Rattle.wb_judging.specs.declared.call.Call.{Call}
+use Rattle.wb_judging.specs.declared.call.Call.TheVariants.{CameFrom, DayTold, Garbled, GoneFrom, Passed, UserDrew}
 use Rattle.wb_judging.specs.Performing.{JudgedValue}
 use Rattle.wb_c.specs.Asking.{query_of}
 use Rattle.wb_c.specs.Blocks.{Writes}
@@ -46,19 +47,19 @@ abbrev pub Unjudged : Bool → (Room → Room → ℕ → Type 0) → Room → R
 Unjudged true does old new status = Refuses judged old new status
 Unjudged false does old new status = does old new status
 
--- what a judged member does for a line, at a host that is judged
-abbrev pub AtJudgedBy : JudgedLine → Option JudgedValue → Room → Room → ℕ → Type 0
-AtJudgedBy line None old new status = Refuses not_judged old new status
-AtJudgedBy line (Some m) old new status =
-    (after : JudgedValue) × (new.dialog ≡ with_member after old.dialog) × (new.block ≡ old.block) × Judges line m after old.events.items new.events.items status
+-- what happens to a judged member, at a host that is judged
+abbrev pub AtJudgedBy : Call → Option JudgedValue → Room → Room → ℕ → Type 0
+AtJudgedBy call None old new status = Refuses not_judged old new status
+AtJudgedBy call (Some m) old new status =
+    (after : JudgedValue) × (new.dialog ≡ with_member after old.dialog) × (new.block ≡ old.block) × Judges call m after old.events.items new.events.items status
 
-abbrev pub AtJudged : JudgedLine → Room → Room → ℕ → Type 0
-AtJudged line old new status = AtJudgedBy line (member_in old.dialog) old new status
+abbrev pub AtJudged : Call → Room → Room → ℕ → Type 0
+AtJudged call old new status = AtJudgedBy call (member_in old.dialog) old new status
 
 -- A judged host has its judged member do it, and another its self-managing one.
-abbrev pub AtEither : Bool → JudgedLine → (KeptValue → KeptValue → List Event → List Event → ℕ → Type 0) → Room → Room → ℕ → Type 0
-AtEither true line does old new status = AtJudged line old new status
-AtEither false line does old new status = AtMember does old new status
+abbrev pub AtEither : Bool → Call → (KeptValue → KeptValue → List Event → List Event → ℕ → Type 0) → Room → Room → ℕ → Type 0
+AtEither true call does old new status = AtJudged call old new status
+AtEither false call does old new status = AtMember does old new status
 
 -- a moment is below the limit
 abbrev pub InTime : Bool → (Room → Room → ℕ → Type 0) → Room → Room → ℕ → Type 0
@@ -102,7 +103,7 @@ origin_of place owner true = record { place = place; owner = Some owner }
 origin_of place owner false = record { place = place; owner = None }
 
 -- What came from an origin, if it is not a datagram, is handed in as that.
-abbrev pub arrival : ℕ → Origin → Result Datagram ReadFault → JudgedLine
+abbrev pub arrival : ℕ → Origin → Result Datagram ReadFault → Call
 arrival now o (Ok v) = CameFrom now o v
 arrival now o (Err fault) = Garbled now
 

@@ -2,47 +2,47 @@
 ghost use Rattle.std.specs.Prelude.{◌≡◌, IfOk};
 ghost use Rattle.wb_names.specs.Moments.{IsMoment};
 ghost use Rattle.wb_codec.specs.Reading.{reading};
-ghost use Rattle.wb_c.specs.Judging.{IsWithin, line_of};
+ghost use Rattle.wb_judging.specs.Calling.{IsWithin};
 ghost use Rattle.wb_c.specs.Serving.{AtJudged, CameFromBy, GoneBy, WallBy, arrival};
 
-use crate::deed::Deed;
 use crate::judging::perform;
 use crate::room::Room;
 use crate::serving::datagram_of;
 use crate::status::{NO_MOMENT, NO_TIME, NOT_JUDGED};
 use std::alloc::{AllocError, Global};
 use wb_judge::Origin;
+use wb_judging::Call;
 use wb_names::MOMENT_LIMIT;
 
 /// A time of day is below this.
 const WALL_LIMIT: u64 = 1 << 62;
 
 /// What came in from an origin.
-fn arrival(alloc: Global, now: u64, origin: Origin, bytes: &[u8]) -> Result<Deed, AllocError>
+fn arrival(alloc: Global, now: u64, origin: Origin, bytes: &[u8]) -> Result<Call, AllocError>
     requires { IsMoment now }
-    ensures line { IfOk result (λ deed. line_of deed ≡ arrival now origin (reading bytes.now)) }
+    ensures call { IfOk result (λ call. call ≡ arrival now origin (reading bytes.now)) }
     ensures within { IfOk result IsWithin }
 {
     match datagram_of(alloc, bytes)? {
-        Ok(datagram) => Ok(Deed::Came {
+        Ok(datagram) => Ok(Call::CameFrom {
             now,
             origin,
             datagram,
         }),
-        Err(_) => Ok(Deed::Garbled { now }),
+        Err(_) => Ok(Call::Garbled { now }),
     }
 }
 
 impl Room {
-    /// Its judged member does this, if it has one.
-    pub(crate) fn judge(&mut self, alloc: Global, deed: &Deed) -> Result<u32, AllocError>
-        requires { IsWithin deed.now }
-        ensures { IfOk result (AtJudged (line_of deed.now) self.old self.new) }
+    /// This happens to its judged member, if it has one.
+    pub(crate) fn judge(&mut self, alloc: Global, call: &Call) -> Result<u32, AllocError>
+        requires { IsWithin call.now }
+        ensures { IfOk result (AtJudged call.now self.old self.new) }
     {
         let Some(mut member) = self.dialog.take_member() else {
             return Ok(NOT_JUDGED);
         };
-        let status = perform(alloc, &mut member, deed, &mut self.events);
+        let status = perform(alloc, &mut member, call, &mut self.events);
         self.dialog.put_member(member);
         status
     }
@@ -60,8 +60,8 @@ impl Room {
         if now >= MOMENT_LIMIT {
             return Ok(NO_MOMENT);
         }
-        let deed = arrival(alloc, now, origin, bytes)?;
-        self.judge(alloc, &deed)
+        let call = arrival(alloc, now, origin, bytes)?;
+        self.judge(alloc, &call)
     }
 
     /// The time of day at a moment, in microseconds since 1970.
@@ -74,7 +74,7 @@ impl Room {
         if wall >= WALL_LIMIT {
             return Ok(NO_TIME);
         }
-        self.judge(alloc, &Deed::Wall { now, wall })
+        self.judge(alloc, &Call::DayTold { now, wall })
     }
 
     /// The network says that whoever spoke from an origin is gone.
@@ -89,6 +89,6 @@ impl Room {
         if now >= MOMENT_LIMIT {
             return Ok(NO_MOMENT);
         }
-        self.judge(alloc, &Deed::Gone { now, origin })
+        self.judge(alloc, &Call::GoneFrom { now, origin })
     }
 }

@@ -8,7 +8,6 @@
 
 mod by_bytes;
 mod calls;
-mod deed;
 mod event;
 mod held;
 mod judged_event;

@@ -7,7 +7,6 @@ ghost use Rattle.wb_member.specs.Questions.{IsAnswerable};
 ghost use Rattle.wb_c.specs.Performing.{Answers, Performs};
 ghost use Rattle.wb_c.specs.Serving.{Adds, AddsBy, Asks, AtMember, CameBy, Draws, GivesEvent, Takes, TicksBy, read_by};
 
-use crate::deed::Deed;
 use crate::performing::{ask, came, draw, tick};
 use crate::query::query_of;
 use crate::room::{Room, write_out};
@@ -16,6 +15,7 @@ use crate::status::{
 };
 use std::alloc::{AllocError, Global};
 use wb_codec::{Datagram, ReadFault, read};
+use wb_judging::Call;
 use wb_member::Query;
 use wb_names::{Drawop, MOMENT_LIMIT, PageId};
 
@@ -99,7 +99,7 @@ impl Room {
             return Ok(NO_MOMENT);
         }
         if self.dialog.is_judged() {
-            return self.judge(alloc, &Deed::Tick { now });
+            return self.judge(alloc, &Call::Passed { now });
         }
         self.tick_kept(alloc, now)
     }
@@ -125,7 +125,9 @@ impl Room {
         ensures { IfOk result (Draws now drawop self.old self.new) }
     {
         if self.dialog.is_judged() {
-            return self.judge(alloc, &Deed::Draw { now, drawop });
+            let page = drawop.name().page();
+            let op = *drawop.op();
+            return self.judge(alloc, &Call::UserDrew { now, page, op });
         }
         self.draw_kept(alloc, now, &drawop)
     }

@@ -3,6 +3,7 @@ pub mod TodayLines
 pub mod ListedPages
 pub mod Acts
 pub mod BoardLines
+pub mod Rows
 pub mod Numbers
 pub mod Passing
 pub mod Begun

@@ -2,7 +2,10 @@
 use Rattle.std.proofs.Common.{◌≡◌, ℕ, List, [], ◌∷◌, Option, Some, None, Result, Ok, Err, refl, subst}
 use Rattle.wb_recovery.specs.declared.tuning.Tuning.{Tuning}
 use Rattle.wb_judge.specs.Judge.{Judge}
-use Rattle.wb_judging.specs.Judged.{Judged, JudgedLine as Deed}
+use Rattle.wb_judging.specs.Calling.{call_fault}
+use Rattle.wb_judging.specs.Judged.{Judged}
+use Rattle.wb_judging.specs.declared.call.Call.{Call}
+use Rattle.wb_judging.specs.declared.judged_fault.JudgedFault.{JudgedFault}
 use Rattle.wb_judging.proofs.Numbers.{own_stays}
 use Rattle.wb_commands.specs.declared.fault.LineFault.{LineFault}
 use Rattle.wb_lines.specs.Handling.{Met, whole, too_long}
@@ -10,10 +13,9 @@ use Rattle.wb_lines.specs.Input.{InputLine, content}
 use Rattle.wb_lines.specs.Taking.{met}
 use Rattle.wb_dialog.specs.Hosting.{Driven, Host as HostState, Kept, Reply, denies, keep_reply, prints}
 use Rattle.wb_judged_dialog.specs.declared.beginning.Board.{Board}
-use Rattle.wb_judged_dialog.specs.declared.fault.JudgedRefusal.{JudgedRefusal}
 use Rattle.wb_judged_dialog.specs.declared.line.JudgeLine.{JudgeLine}
 use Rattle.wb_judged_dialog.specs.declared.line.JudgedLine.{JudgedLine}
-use Rattle.wb_judged_dialog.specs.declared.line.JudgedLine.TheVariants.{Held, Skip, Came, Garbled, Tick, Add, Wall, Gone, Members, List as Lists, Today}
+use Rattle.wb_judged_dialog.specs.declared.line.JudgedLine.TheVariants.{Call as Calls, Skip, Members, List as Lists, Lacks, Since, Paint, Words, Today}
 use Rattle.wb_judged_dialog.specs.Dialog.{Act, JudgedHosting, JudgedReply, act, act_reply, as_act, as_today, begins_if, begins_with, begun, board_after, did, does, fails, judge_reply, judged_by, judged_in, judged_reply, line_reply, taken_reply, today_reply}
 use Rattle.wb_judged_dialog.specs.Doing.{Owns}
 use Rattle.wb_judged_dialog.specs.Hosting.{after, hosting_from, reply_of, unopened}
@@ -30,21 +32,19 @@ abbrev LeadsOwn : Act → Type 0
 LeadsOwn (does next text) = IsOwn next
 LeadsOwn (fails e) = Unit {0}
 
-by_deed : (fault : Option JudgedRefusal) (deed : Deed) (h : Judged) → IsOwn h → LeadsOwn (did fault deed h)
-by_deed None deed h own = own_stays deed h own
-by_deed (Some e) deed h own = tt
+by_call : (fault : Option JudgedFault) (call : Call) (h : Judged) → IsOwn h → LeadsOwn (did fault call h)
+by_call None call h own = own_stays call h own
+by_call (Some fault) call h own = tt
 
 leads_own : (said : JudgedLine) (h : Judged) → IsOwn h → LeadsOwn (act said h)
-leads_own (Held line) h own = by_deed _ _ h own
+leads_own (Calls call) h own = by_call (call_fault call h) call h own
 leads_own Skip h own = own
-leads_own (Came now o v) h own = by_deed _ _ h own
-leads_own (Garbled now) h own = by_deed _ _ h own
-leads_own (Tick now) h own = by_deed _ _ h own
-leads_own (Add now page op) h own = by_deed _ _ h own
-leads_own (Wall now wall) h own = by_deed _ _ h own
-leads_own (Gone now o) h own = by_deed _ _ h own
 leads_own Members h own = own
 leads_own (Lists most) h own = own
+leads_own (Lacks page) h own = own
+leads_own (Since page count) h own = own
+leads_own (Paint page width height) h own = own
+leads_own (Words v) h own = own
 leads_own Today h own = own
 
 -- ---- a host
@@ -81,26 +81,22 @@ in_host None host h own e = absurd cc
 
 by_member : (s : JudgedHosting) (line : List ℕ) (said : JudgedLine) (h : Option Judged) → AreOwn s → ((g : Judged) → h ≡ Some g → IsOwn g) → Stays s (act_reply s line said h)
 by_member s line Today h own member = by_today s line own
-by_member s line (Held line') None own member = by_today s line own
+by_member s line (Calls call) None own member = by_today s line own
 by_member s line Skip None own member = by_today s line own
-by_member s line (Came now o v) None own member = by_today s line own
-by_member s line (Garbled now) None own member = by_today s line own
-by_member s line (Tick now) None own member = by_today s line own
-by_member s line (Add now page op) None own member = by_today s line own
-by_member s line (Wall now wall) None own member = by_today s line own
-by_member s line (Gone now o) None own member = by_today s line own
 by_member s line Members None own member = by_today s line own
 by_member s line (Lists most) None own member = by_today s line own
-by_member s line (Held line') (Some h) own member = by_act s (act (Held line') h) own (leads_own (Held line') h (member h refl))
+by_member s line (Lacks page) None own member = by_today s line own
+by_member s line (Since page count) None own member = by_today s line own
+by_member s line (Paint page width height) None own member = by_today s line own
+by_member s line (Words v) None own member = by_today s line own
+by_member s line (Calls call) (Some h) own member = by_act s (act (Calls call) h) own (leads_own (Calls call) h (member h refl))
 by_member s line Skip (Some h) own member = by_act s (act Skip h) own (leads_own Skip h (member h refl))
-by_member s line (Came now o v) (Some h) own member = by_act s (act (Came now o v) h) own (leads_own (Came now o v) h (member h refl))
-by_member s line (Garbled now) (Some h) own member = by_act s (act (Garbled now) h) own (leads_own (Garbled now) h (member h refl))
-by_member s line (Tick now) (Some h) own member = by_act s (act (Tick now) h) own (leads_own (Tick now) h (member h refl))
-by_member s line (Add now page op) (Some h) own member = by_act s (act (Add now page op) h) own (leads_own (Add now page op) h (member h refl))
-by_member s line (Wall now wall) (Some h) own member = by_act s (act (Wall now wall) h) own (leads_own (Wall now wall) h (member h refl))
-by_member s line (Gone now o) (Some h) own member = by_act s (act (Gone now o) h) own (leads_own (Gone now o) h (member h refl))
 by_member s line Members (Some h) own member = by_act s (act Members h) own (leads_own Members h (member h refl))
 by_member s line (Lists most) (Some h) own member = by_act s (act (Lists most) h) own (leads_own (Lists most) h (member h refl))
+by_member s line (Lacks page) (Some h) own member = by_act s (act (Lacks page) h) own (leads_own (Lacks page) h (member h refl))
+by_member s line (Since page count) (Some h) own member = by_act s (act (Since page count) h) own (leads_own (Since page count) h (member h refl))
+by_member s line (Paint page width height) (Some h) own member = by_act s (act (Paint page width height) h) own (leads_own (Paint page width height) h (member h refl))
+by_member s line (Words v) (Some h) own member = by_act s (act (Words v) h) own (leads_own (Words v) h (member h refl))
 
 by_judged : (s : JudgedHosting) (line : List ℕ) (said : Result JudgedLine LineFault) → AreOwn s → Stays s (judged_reply s line said)
 by_judged s line (Ok said) own = by_member s line said (judged_in s) own (λ h e. in_host s.judge s.today.host h own e)

@@ -10,7 +10,7 @@ use Rattle.wb_dialog.specs.declared.opened.Host.TheVariants as values
 use Rattle.wb_dialog.specs.Doing.{MayBeAt, kept_in}
 use Rattle.wb_dialog.specs.Hosting.{Host as HostState, Driven, Kept}
 use Rattle.wb_judged_dialog.specs.declared.line.JudgedLine.{JudgedLine}
-use Rattle.wb_judged_dialog.specs.declared.line.JudgedLine.TheVariants.{Held, Skip, Came, Garbled, Tick, Add, Wall, Gone, Members, List as Lists, Today}
+use Rattle.wb_judged_dialog.specs.declared.line.JudgedLine.TheVariants.{Call as Calls, Skip, Members, List as Lists, Lacks, Since, Paint, Words, Today}
 use Rattle.wb_judged_dialog.specs.Dialog.{JudgedHosting, JudgedReply, act, act_reply, as_act, judged_by, judged_in, judged_reply, taken_reply, today_reply}
 use Rattle.wb_judged_dialog.specs.Doing.{ActsAt, Blocks, BlocksAt, IsAt, JudgedDialogValue, Owns, member_by, member_in, with_member}
 use Rattle.wb_judged_dialog.specs.Hosting.{after}
@@ -53,29 +53,25 @@ IsOwn Today = ⊥
 IsOwn said = Unit {0}
 
 pub own_of : (said : JudgedLine) → (said ≡ Today → ⊥) → IsOwn said
-own_of (Held record') other = tt
+own_of (Calls call) other = tt
 own_of Skip other = tt
-own_of (Came now o v) other = tt
-own_of (Garbled now) other = tt
-own_of (Tick now) other = tt
-own_of (Add now page op) other = tt
-own_of (Wall now wall) other = tt
-own_of (Gone now o) other = tt
 own_of Members other = tt
 own_of (Lists most) other = tt
+own_of (Lacks page) other = tt
+own_of (Since page count) other = tt
+own_of (Paint page width height) other = tt
+own_of (Words v) other = tt
 own_of Today other = other refl
 
 own_act : (s : JudgedHosting) (line : List ℕ) (said : JudgedLine) (h : Judged) → IsOwn said → act_reply s line said (Some h) ≡ as_act s (act said h)
-own_act s line (Held record') h own = refl
+own_act s line (Calls call) h own = refl
 own_act s line Skip h own = refl
-own_act s line (Came now o v) h own = refl
-own_act s line (Garbled now) h own = refl
-own_act s line (Tick now) h own = refl
-own_act s line (Add now page op) h own = refl
-own_act s line (Wall now wall) h own = refl
-own_act s line (Gone now o) h own = refl
 own_act s line Members h own = refl
 own_act s line (Lists most) h own = refl
+own_act s line (Lacks page) h own = refl
+own_act s line (Since page count) h own = refl
+own_act s line (Paint page width height) h own = refl
+own_act s line (Words v) h own = refl
 own_act s line Today h own = absurd own
 
 -- Its judged member did it.
@@ -89,16 +85,14 @@ acts_judged old mid new m line said written result own has is did s at =
 
 -- Any line is one of today at a host that is not judged.
 none_act : (s : JudgedHosting) (line : List ℕ) (said : JudgedLine) → act_reply s line said None ≡ today_reply s line
-none_act s line (Held record') = refl
+none_act s line (Calls call) = refl
 none_act s line Skip = refl
-none_act s line (Came now o v) = refl
-none_act s line (Garbled now) = refl
-none_act s line (Tick now) = refl
-none_act s line (Add now page op) = refl
-none_act s line (Wall now wall) = refl
-none_act s line (Gone now o) = refl
 none_act s line Members = refl
 none_act s line (Lists most) = refl
+none_act s line (Lacks page) = refl
+none_act s line (Since page count) = refl
+none_act s line (Paint page width height) = refl
+none_act s line (Words v) = refl
 none_act s line Today = refl
 
 pub passes_unjudged : {U E : Type 0} (old mid new : JudgedDialogValue) (line : List ℕ) (said : JudgedLine) (written : List ℕ) (result : Result U E) → member_in old ≡ None → mid ≡ old

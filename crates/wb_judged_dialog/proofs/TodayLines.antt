@@ -22,7 +22,6 @@ use Rattle.wb_board.specs.declared.board.TheConstants.{MAX_WORKERS}
 use Rattle.wb_recovery.specs.declared.fault.TheConstants.{MAX_DELAY}
 use Rattle.wb_recovery.specs.declared.tuning.TheConstants.{MAX_CONSTANT}
 use Rattle.wb_commands.specs.Parsing.{line_of as script_line_of, four_of, number, or_fault, two_of, ◌>>=◌}
-use Rattle.wb_judge.specs.declared.origin.Origin.{Origin}
 use Rattle.wb_judging.specs.declared.record.RecordLine.{RecordLine}
 use Rattle.wb_dialog.specs.declared.line.DriverLine.{DriverLine}
 use Rattle.wb_dialog.specs.declared.line.DriverLine.TheVariants.{Script, Say, Ask, Stop, Came, Add, Version}
@@ -207,10 +206,7 @@ came_ours : (arguments : List (List ℕ)) → IsOurs (here.came_line arguments)
 unfolding here.came_by
 came_ours arguments =
     step IsOurs (λ e. tt) (or_fault faults.Words (three_of arguments)) _ (λ w. step IsOurs (λ e. tt) (number 0 MAX_MOMENT w.0) _ (λ now.
-    step IsOurs (λ e. tt) (origin w.1) _ (λ o. step IsOurs (λ e. tt) (here.arrival w.2) _ (of now o)))) where
-      of : (now : ℕ) (o : Origin) (v : Option Datagram) → IsOurs (Ok (here.came_of now o v))
-      of now o None = tt
-      of now o (Some v) = tt
+    step IsOurs (λ e. tt) (origin w.1) _ (λ o. step IsOurs (λ e. tt) (here.arrival w.2) _ (λ v. tt))))
 
 tick_ours : (arguments : List (List ℕ)) → IsOurs (here.tick_line arguments)
 unfolding here.tick_line

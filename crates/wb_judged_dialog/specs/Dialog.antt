@@ -1,15 +1,19 @@
 -- What a judged host does for a line.
-use Rattle.std.specs.Prelude.{ℕ, List, [], Option, Some, None, Result, Ok, Err}
-use Rattle.std.specs.Option.{option_map}
+use Rattle.std.specs.Prelude.{ℕ, List, length, [], Option, Some, None, Result, Ok, Err}
+use Rattle.wb_names.specs.Values.{DrawopValue}
+use Rattle.wb_names.specs.declared.name.PageId.{PageId}
 use Rattle.wb_judge.specs.Judge.{Judge}
-use Rattle.wb_member.specs.Opened.{opened_with, ticked}
+use Rattle.wb_member.specs.Opened.{opened_with, shown, ticked}
 use Rattle.wb_recovery.specs.declared.tuning.Tuning.{Tuning}
-use Rattle.wb_keeping.specs.Refusing.{back_in_time}
 use Rattle.wb_judging.specs.Asking.{members_of}
-use Rattle.wb_judging.specs.Judged.{Judged, JudgedLine as Deed, CameFrom, DayTold, Garbled as GarbledAt, GoneFrom, Held as TakenUp, Passed, UserDrew}
+use Rattle.wb_judging.specs.Calling.{call_fault}
+use Rattle.wb_judging.specs.Judged.{Judged}
+use Rattle.wb_judging.specs.declared.call.Call.{Call}
 use Rattle.wb_judging.specs.Opening.{opened}
 use Rattle.wb_judging.specs.Performing.{after_judged, events_of}
-use Rattle.wb_judging.specs.Refusing.{draw_fault, held_fault}
+use Rattle.wb_judging.specs.Missing.{missing_on}
+use Rattle.wb_judging.specs.Since.{hidden_since, shown_since}
+use Rattle.wb_judging.specs.declared.judged_fault.JudgedFault.{JudgedFault}
 use Rattle.wb_judging.specs.declared.judged_member.Opening.{Opening}
 use Rattle.wb_commands.specs.declared.command.Command.{Command}
 use Rattle.wb_commands.specs.declared.command.Command.TheVariants as lines
@@ -24,11 +28,11 @@ use Rattle.wb_judged_dialog.specs.declared.fault.JudgedRefusal.{JudgedRefusal}
 use Rattle.wb_judged_dialog.specs.declared.fault.JudgedRefusal.TheVariants.{Host}
 use Rattle.wb_judged_dialog.specs.declared.line.JudgeLine.{JudgeLine}
 use Rattle.wb_judged_dialog.specs.declared.line.JudgedLine.{JudgedLine}
-use Rattle.wb_judged_dialog.specs.declared.line.JudgedLine.TheVariants.{Held, Skip, Came, Garbled, Tick, Add, Wall, Gone, Members, List as Lists, Today}
+use Rattle.wb_judged_dialog.specs.declared.line.JudgedLine.TheVariants.{Call as Calls, Skip, Members, List as Lists, Paint, Since, Lacks, Words, Today}
 use Rattle.wb_judged_dialog.specs.Lines.{judge_line_of, judged_line_of}
 use Rattle.wb_judged_dialog.specs.Listing.{listed_first}
-use Rattle.wb_judged_dialog.specs.Refusals.{judged_refusal, kept_refusal}
-use Rattle.wb_judged_dialog.specs.Texts.{events_text, list_text, members_text}
+use Rattle.wb_judged_dialog.specs.Refusals.{judged_refusal}
+use Rattle.wb_judged_dialog.specs.Texts.{events_text, lacks_line, list_text, members_text, paint_text, since_text, worded_line}
 
 -- ---- a judged member
 
@@ -37,26 +41,24 @@ pub data Act : Type 0 where
   does : Judged → List ℕ → Act
   fails : JudgedRefusal → Act
 
--- It does what a deed leads to, and prints the events of that, unless it is refused.
-abbrev pub did : Option JudgedRefusal → Deed → Judged → Act
-did None deed h = does (after_judged deed h) (events_text (events_of deed h))
-did (Some e) deed h = fails e
+-- It comes to where a call leads, and prints the events of that, unless the call is refused.
+abbrev pub did : Option JudgedFault → Call → Judged → Act
+did None call h = does (after_judged call h) (events_text (events_of call h))
+did (Some fault) call h = fails (judged_refusal fault)
 
-abbrev pub did_at : ℕ → Deed → Judged → Act
-did_at now deed h = did (option_map kept_refusal (back_in_time now h.kept)) deed h
+abbrev pub since_of : PageId → ℕ → List DrawopValue → List ℕ
+since_of page count held = since_text (length held) (hidden_since page count held) (shown_since page count held)
 
 -- what a line does at a judged member that is for it alone
 abbrev pub act : JudgedLine → Judged → Act
-act (Held line) h = did (option_map kept_refusal (held_fault line h)) (TakenUp line) h
+act (Calls call) h = did (call_fault call h) call h
 act Skip h = does h []
-act (Came now o v) h = did_at now (CameFrom now o v) h
-act (Garbled now) h = did_at now (GarbledAt now) h
-act (Tick now) h = did_at now (Passed now) h
-act (Add now page op) h = did (option_map judged_refusal (draw_fault now page op h)) (UserDrew now page op) h
-act (Wall now wall) h = did_at now (DayTold now wall) h
-act (Gone now o) h = did_at now (GoneFrom now o) h
 act Members h = does h (members_text (members_of h))
 act (Lists most) h = does h (list_text (listed_first most h))
+act (Paint page width height) h = does h (paint_text (shown page h.kept.host) width height)
+act (Since page count) h = does h (since_of page count h.kept.host.is.held)
+act (Lacks page) h = does h (lacks_line (missing_on page h.kept.host))
+act (Words v) h = does h (worded_line v)
 act Today h = does h []
 
 -- ---- a host

@@ -5,7 +5,8 @@ use Rattle.wb_judge.specs.Adding.{own_echo}
 use Rattle.wb_keeping.specs.Laws.{KeptLine, Added, Came as CameIn, Ticked, Tuned, sent_by_kept}
 use Rattle.wb_judging.specs.Echoing.{echoing}
 use Rattle.wb_judging.specs.Handing.{handed}
-use Rattle.wb_judging.specs.Judged.{Judged, JudgedLine as Deed, CameFrom, DayTold, Garbled as GarbledAt, GoneFrom, Held as TakenUp, Passed, UserDrew, moment_of}
+use Rattle.wb_judging.specs.Judged.{Judged, moment_of}
+use Rattle.wb_judging.specs.declared.call.Call.{Call}
 use Rattle.wb_judging.specs.Laws.{is_record, is_send, sends_in}
 use Rattle.wb_judging.specs.Performing.{after_judged, events_of, judging}
 use Rattle.wb_lines.specs.Input.{InputLine, input_lines, content}
@@ -18,8 +19,7 @@ use Rattle.wb_dialog.specs.declared.line.DriverLine.TheVariants as today
 use Rattle.wb_dialog.specs.Dialog.{ok_line}
 use Rattle.wb_dialog.specs.Hosting.{Kept, kept_reply, prints, transcript as today_transcript}
 use Rattle.wb_judged_dialog.specs.declared.fault.JudgedRefusal.{JudgedRefusal}
-use Rattle.wb_judged_dialog.specs.declared.line.JudgedLine.{JudgedLine}
-use Rattle.wb_judged_dialog.specs.declared.line.JudgedLine.TheVariants.{Held, Skip, Came, Garbled, Tick, Add, Wall, Gone, Members, List as Lists, Today}
+use Rattle.wb_judged_dialog.specs.declared.line.JudgedLine.TheVariants.{Call as Calls}
 use Rattle.wb_judged_dialog.specs.Dialog.{JudgedHosting, act, does, judged_in, refuses}
 use Rattle.wb_judged_dialog.specs.Hosting.{blocks_from, hosting_from, reply_of, transcript, unopened}
 use Rattle.wb_judged_dialog.specs.Lines.{judge_line_of}
@@ -61,28 +61,14 @@ UnjudgedAsToday = (tuning : Tuning) (cut : Bool) (input : List ℕ) → All (λ 
 
 -- ---- what a judged member does for a line
 
--- what a line hands to a judged member: the others ask, or do nothing
-abbrev pub deed_of : JudgedLine → Option Deed
-deed_of (Held line) = Some (TakenUp line)
-deed_of Skip = None
-deed_of (Came now o v) = Some (CameFrom now o v)
-deed_of (Garbled now) = Some (GarbledAt now)
-deed_of (Tick now) = Some (Passed now)
-deed_of (Add now page op) = Some (UserDrew now page op)
-deed_of (Wall now wall) = Some (DayTold now wall)
-deed_of (Gone now o) = Some (GoneFrom now o)
-deed_of Members = None
-deed_of (Lists most) = None
-deed_of Today = None
-
 -- Its block has a line for each of some events, in which all that is to be recorded stands before all that is to be sent.
-pub record RecordsFirst (deed : Deed) (h next : Judged) (text : List ℕ) : Type 0 where
-  pub next_is : next ≡ after_judged deed h
-  pub text_is : text ≡ events_text (events_of deed h)
-  pub order : AllPairs (λ one other. is_send one ≡ true → is_record other ≡ false) (events_of deed h)
+pub record RecordsFirst (call : Call) (h next : Judged) (text : List ℕ) : Type 0 where
+  pub next_is : next ≡ after_judged call h
+  pub text_is : text ≡ events_text (events_of call h)
+  pub order : AllPairs (λ one other. is_send one ≡ true → is_record other ≡ false) (events_of call h)
 
 abbrev pub RecordBeforeSend : Type 0
-RecordBeforeSend = (said : JudgedLine) (deed : Deed) (h next : Judged) (text : List ℕ) → deed_of said ≡ Some deed → act said h ≡ does next text → RecordsFirst deed h next text
+RecordBeforeSend = (call : Call) (h next : Judged) (text : List ℕ) → act (Calls call) h ≡ does next text → RecordsFirst call h next text
 
 -- ---- a judged host is a self-managing one
 
@@ -95,11 +81,11 @@ line_of_kept (Tuned constants) = today.Script (lines.Tune constants)
 
 -- The self-managing host that is handed one line in its place, the same or a tick, comes to the same and sends the same, but for an echo that a
 -- report has besides.
-pub record AsKept (deed : Deed) (h next : Judged) : Type 0 where
+pub record AsKept (call : Call) (h next : Judged) : Type 0 where
   pub rest : List ℕ
-  pub reply_is : kept_reply (line_of_kept (handed deed h)) h.kept ≡ prints (Some (Kept next.kept)) (sends_text (sent_by_kept (handed deed h ∷ []) h.kept) ++ rest)
-  pub sends : sends_in (events_of deed h) ≡ map (echoing (own_echo (moment_of deed h) (judging deed h))) (sent_by_kept (handed deed h ∷ []) h.kept)
+  pub reply_is : kept_reply (line_of_kept (handed call h)) h.kept ≡ prints (Some (Kept next.kept)) (sends_text (sent_by_kept (handed call h ∷ []) h.kept) ++ rest)
+  pub sends : sends_in (events_of call h) ≡ map (echoing (own_echo (moment_of call h) (judging call h))) (sent_by_kept (handed call h ∷ []) h.kept)
 
 abbrev pub JudgedIsKept : Type 0
-JudgedIsKept = (tuning : Tuning) (before : List InputLine) (said : JudgedLine) (deed : Deed) (h next : Judged) (text : List ℕ)
-    → judged_in (hosting_from (unopened tuning) before) ≡ Some h → deed_of said ≡ Some deed → act said h ≡ does next text → AsKept deed h next
+JudgedIsKept = (tuning : Tuning) (before : List InputLine) (call : Call) (h next : Judged) (text : List ℕ)
+    → judged_in (hosting_from (unopened tuning) before) ≡ Some h → act (Calls call) h ≡ does next text → AsKept call h next

@@ -1,5 +1,5 @@
 -- What a line of a driver says to a judged host, or its first fault.
-use Rattle.std.specs.Prelude.{◌≤◌, ◌<◌, ℕ, ◌-◌, ◌^◌, List, [], ◌∷◌, ◌++◌, Option, Some, None, Result, Ok, Err, if◌then◌else◌, codes, nat_le}
+use Rattle.std.specs.Prelude.{◌≡◌, ◌≤◌, ◌<◌, true, ℕ, ◌-◌, ◌^◌, List, [], ◌∷◌, ◌++◌, Option, Some, None, Result, Ok, Err, if◌then◌else◌, codes, nat_le}
 use Rattle.std.specs.Str.{bytes_eq}
 use Rattle.wb_names.specs.Moments.{IsMoment}
 use Rattle.wb_names.specs.declared.moment.TheConstants.{MAX_MOMENT}
@@ -9,16 +9,21 @@ use Rattle.wb_words.specs.declared.digits_fault.DigitsFault.TheVariants as digit
 use Rattle.wb_words.specs.declared.fault.WrongWord.{WrongWord}
 use Rattle.wb_words.specs.Words.{split_once}
 use Rattle.wb_words.specs.Adding.{adding_reading}
+use Rattle.wb_display.specs.Canvas.{is_canvas_size}
+use Rattle.wb_display.specs.declared.canvas.TheConstants.Canvas.{MAX_WIDTH, MAX_HEIGHT}
 use Rattle.wb_lines.specs.Words.{words}
 use Rattle.wb_commands.specs.declared.fault.LineFault.{LineFault}
 use Rattle.wb_commands.specs.declared.fault.LineFault.TheVariants as faults
-use Rattle.wb_commands.specs.Parsing.{◌>>=◌, datagram, none_of, number, one_of, or_fault, two_of}
+use Rattle.wb_commands.specs.Parsing.{◌>>=◌, datagram, four_of, none_of, number, one_of, or_fault, page, two_of}
 use Rattle.wb_dialog.specs.Lines.{part_behind}
 use Rattle.wb_judge.specs.declared.origin.Origin.{Origin}
+use Rattle.wb_judging.specs.Calling.{IsWithin as IsCallWithin}
+use Rattle.wb_judging.specs.declared.call.Call.{Call}
+use Rattle.wb_judging.specs.declared.call.Call.TheVariants.{CameFrom, DayTold, Garbled, GoneFrom, Held, Passed, UserDrew}
 use Rattle.wb_judging.specs.declared.record.RecordLine.{RecordLine}
 use Rattle.wb_judged_dialog.specs.declared.line.JudgeLine.{JudgeLine}
 use Rattle.wb_judged_dialog.specs.declared.line.JudgedLine.{JudgedLine}
-use Rattle.wb_judged_dialog.specs.declared.line.JudgedLine.TheVariants.{Add, Came, Garbled, Gone, Held, List as Lists, Members, Skip, Tick, Today, Wall}
+use Rattle.wb_judged_dialog.specs.declared.line.JudgedLine.TheVariants.{Call as Calls, Skip, Members, List as Lists, Paint, Since, Lacks, Words, Today}
 use Rattle.wb_judged_dialog.specs.Records.{record_of}
 use Rattle.wb_judged_dialog.specs.Words.{most64, number_or_none, origin, six_of, three_of}
 
@@ -61,16 +66,16 @@ arrived (Err e) = Err e
 abbrev pub arrival : List (List ℕ) → Result (Option Datagram) LineFault
 arrival arguments = arrived (datagram arguments)
 
-abbrev pub came_of : ℕ → Origin → Option Datagram → JudgedLine
+abbrev pub came_of : ℕ → Origin → Option Datagram → Call
 came_of now o None = Garbled now
-came_of now o (Some v) = Came now o v
+came_of now o (Some v) = CameFrom now o v
 
 unfoldable pub came_by : List ℕ → List ℕ → List (List ℕ) → Result JudgedLine LineFault
 came_by now place digits = do
   now' ← number 0 MAX_MOMENT now
   origin' ← origin place
   datagram' ← arrival digits
-  Ok (came_of now' origin' datagram')
+  Ok (Calls (came_of now' origin' datagram'))
 
 abbrev pub came_line : List (List ℕ) → Result JudgedLine LineFault
 came_line arguments = or_fault faults.Words (three_of arguments) >>= λ words'. came_by words'.0 words'.1 words'.2
@@ -79,21 +84,21 @@ unfoldable pub tick_line : List (List ℕ) → Result JudgedLine LineFault
 tick_line arguments = do
   word ← or_fault faults.Words (one_of arguments)
   now ← number 0 MAX_MOMENT word
-  Ok (Tick now)
+  Ok (Calls (Passed now))
 
 unfoldable pub wall_line : List (List ℕ) → Result JudgedLine LineFault
 wall_line arguments = do
   words' ← or_fault faults.Words (two_of arguments)
   now ← number 0 MAX_MOMENT words'.0
   wall ← day_time words'.1
-  Ok (Wall now wall)
+  Ok (Calls (DayTold now wall))
 
 unfoldable pub gone_line : List (List ℕ) → Result JudgedLine LineFault
 gone_line arguments = do
   words' ← or_fault faults.Words (two_of arguments)
   now ← number 0 MAX_MOMENT words'.0
   origin' ← origin words'.1
-  Ok (Gone now origin')
+  Ok (Calls (GoneFrom now origin'))
 
 abbrev pub members_line : List (List ℕ) → Result JudgedLine LineFault
 members_line arguments = or_fault faults.Words (none_of arguments) >>= λ nothing. Ok Members
@@ -104,9 +109,36 @@ list_line arguments = do
   most ← number 0 (2 ^ 32 - 1) word
   Ok (Lists most)
 
+-- the page, the width and the height of a canvas
+unfoldable pub paint_line : List (List ℕ) → Result JudgedLine LineFault
+paint_line arguments = do
+  words' ← or_fault faults.Words (four_of arguments)
+  creator ← number 0 (2 ^ 32 - 1) words'.0
+  number' ← number 0 (2 ^ 32 - 1) words'.1
+  width ← number 1 MAX_WIDTH words'.2
+  height ← number 1 MAX_HEIGHT words'.3
+  Ok (Paint (record { creator = creator; number = number' }) width height)
+
+-- the page, and how many drawops were held
+unfoldable pub since_line : List (List ℕ) → Result JudgedLine LineFault
+since_line arguments = do
+  words' ← or_fault faults.Words (three_of arguments)
+  last ← or_fault faults.Words (one_of words'.2)
+  creator ← number 0 (2 ^ 32 - 1) words'.0
+  number' ← number 0 (2 ^ 32 - 1) words'.1
+  count ← number 0 (2 ^ 32 - 1) last
+  Ok (Since (record { creator = creator; number = number' }) count)
+
+abbrev pub lacks_line : List (List ℕ) → Result JudgedLine LineFault
+lacks_line arguments = page arguments >>= λ p. Ok (Lacks p)
+
+-- Bytes that spell no datagram are refused, with their fault.
+abbrev pub words_line : List (List ℕ) → Result JudgedLine LineFault
+words_line arguments = datagram arguments >>= λ v. Ok (Words v)
+
 abbrev pub held_by : Option RecordLine → JudgedLine
 held_by None = Skip
-held_by (Some line) = Held line
+held_by (Some line) = Calls (Held line)
 
 abbrev pub held_line : List ℕ → Result JudgedLine LineFault
 held_line line = record_of line >>= λ record'. Ok (held_by record')
@@ -125,7 +157,7 @@ abbrev pub unwritten : WrongWord → WrongWord
 unwritten wrong = record { place = if nat_le wrong.place 1 then 1 else wrong.place - 1; fault = wrong.fault }
 
 abbrev pub drawn : Result Adding WrongWord → Result JudgedLine LineFault
-drawn (Ok a) = Ok (Add a.moment a.page a.op)
+drawn (Ok a) = Ok (Calls (UserDrew a.moment a.page a.op))
 drawn (Err wrong) = Err (faults.Word (unwritten wrong))
 
 abbrev pub added : List ℕ → Result JudgedLine LineFault
@@ -145,7 +177,11 @@ command word arguments =
     else (if bytes_eq word (codes "gone") then gone_line arguments
     else (if bytes_eq word (codes "members") then members_line arguments
     else (if bytes_eq word (codes "list") then list_line arguments
-    else Ok Today)))))))
+    else (if bytes_eq word (codes "paint") then paint_line arguments
+    else (if bytes_eq word (codes "since") then since_line arguments
+    else (if bytes_eq word (codes "lacks") then lacks_line arguments
+    else (if bytes_eq word (codes "words") then words_line arguments
+    else Ok Today)))))))))))
 
 abbrev pub line_of_words : List (List ℕ) → Result JudgedLine LineFault
 line_of_words [] = Ok Today
@@ -171,14 +207,12 @@ pub record IsJudgeLine (line : JudgeLine) : Type 0 where
   pub wall : line.wall < 2 ^ 62
 
 abbrev pub IsWithin : JudgedLine → Type 0
-IsWithin (Held line) = Unit {0}
+IsWithin (Calls call) = IsCallWithin call
 IsWithin Skip = Unit {0}
-IsWithin (Came now o v) = IsMoment now
-IsWithin (Garbled now) = IsMoment now
-IsWithin (Tick now) = IsMoment now
-IsWithin (Add now page op) = IsMoment now
-IsWithin (Wall now wall) = IsMoment now × (wall < 2 ^ 62)
-IsWithin (Gone now o) = IsMoment now
 IsWithin Members = Unit {0}
 IsWithin (Lists most) = Unit {0}
+IsWithin (Lacks page) = Unit {0}
+IsWithin (Since page count) = Unit {0}
+IsWithin (Words v) = Unit {0}
+IsWithin (Paint page width height) = is_canvas_size width height ≡ true
 IsWithin Today = Unit {0}

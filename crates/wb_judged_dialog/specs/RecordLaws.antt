@@ -5,7 +5,8 @@ use Rattle.wb_codec.specs.Ranges.{IsDatagram, IsDrawop}
 use Rattle.wb_codec.specs.declared.datagram.Datagram.TheVariants.{PageState}
 use Rattle.wb_judging.specs.declared.record.RecordLine.{RecordLine}
 use Rattle.wb_judging.specs.declared.record.RecordLine.TheVariants.{Known, Mark, Said, Strange, Tick}
-use Rattle.wb_judged_dialog.specs.declared.line.JudgedLine.TheVariants.{Held}
+use Rattle.wb_judging.specs.declared.call.Call.TheVariants.{Held}
+use Rattle.wb_judged_dialog.specs.declared.line.JudgedLine.TheVariants.{Call as Calls}
 use Rattle.wb_judged_dialog.specs.Lines.{judged_line_of}
 use Rattle.wb_judged_dialog.specs.Texts.{record_text}
 
@@ -19,4 +20,4 @@ IsRecord (Mark speaker page mark) = IsDatagram (PageState speaker page (mark ∷
 
 -- What is printed after `record `, and written to a file, is after `held ` the same line of the record.
 abbrev pub RecordsAreRead : Type 0
-RecordsAreRead = (line : RecordLine) → IsRecord line → judged_line_of (codes "held " ++ record_text line) ≡ Ok (Held line)
+RecordsAreRead = (line : RecordLine) → IsRecord line → judged_line_of (codes "held " ++ record_text line) ≡ Ok (Calls (Held line))

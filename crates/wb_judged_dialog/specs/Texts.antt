@@ -1,11 +1,15 @@
 -- What is printed for the events of a call, and for the members and the pages that a driver asks for.
-use Rattle.std.specs.Prelude.{ℕ, List, [], ◌∷◌, ◌++◌, Option, Some, None, codes, flat_map}
+use Rattle.std.specs.Prelude.{ℕ, List, [], ◌∷◌, ◌++◌, ◌+◌, Option, Some, None, codes, flat_map, length}
 use Rattle.std.specs.Fmt.{decimal}
+use Rattle.std.specs.List.{range_with_len}
 use Rattle.wb_names.specs.Values.{DrawopValue, MarkValue, NameValue}
 use Rattle.wb_names.specs.declared.name.PageId.{PageId}
+use Rattle.wb_names.specs.declared.parts.Target.{Target}
+use Rattle.wb_codec.specs.declared.datagram.Datagram.{Datagram}
 use Rattle.wb_codec.specs.declared.datagram.Datagram.TheVariants.{Draw, PageState}
+use Rattle.wb_display.specs.Canvas.{row_text}
 use Rattle.wb_words.specs.Spelling.{spelled}
-use Rattle.wb_commands.specs.Answers.{list_text as counted}
+use Rattle.wb_commands.specs.Answers.{list_text as counted, words_line}
 use Rattle.wb_commands.specs.SentLines.{digits_of, send_line}
 use Rattle.wb_judge.specs.declared.origin.Origin.{Origin}
 use Rattle.wb_judge.specs.declared.others.Other.{Other}
@@ -19,6 +23,7 @@ use Rattle.wb_judging.specs.declared.event.Event.TheVariants.{Became, Dropped, D
 use Rattle.wb_judging.specs.declared.event.Fate.{Fate}
 use Rattle.wb_judging.specs.declared.event.Fate.TheVariants as fates
 use Rattle.wb_judging.specs.declared.record.RecordLine.{RecordLine}
+use Rattle.wb_judging.specs.declared.since.ShownAt.{ShownAt}
 use Rattle.wb_judging.specs.declared.record.RecordLine.TheVariants.{Known, Mark, Said, Strange, Tick}
 
 -- ---- lines of the record, without their ends
@@ -132,3 +137,38 @@ listed_line p = decimal p.page.creator ++ (codes " " ++ (decimal p.page.number +
 
 abbrev pub list_text : List Listed → List ℕ
 list_text pages = counted (codes "list ") listed_line pages
+
+-- ---- a canvas
+
+-- A row after a mark: no line that closes a block begins so.
+abbrev pub painted_row : List DrawopValue → ℕ → ℕ → List ℕ
+painted_row shown width y = codes "|" ++ row_text shown width y
+
+-- how many rows, and each
+abbrev pub paint_text : List DrawopValue → ℕ → ℕ → List ℕ
+paint_text shown width height = codes "paint " ++ (decimal height ++ codes "\n") ++ flat_map (painted_row shown width) (range_with_len 0 height)
+
+-- ---- what a page shows otherwise than it did
+
+-- what may be shown no more, by its source and its number, and what is shown, by its place
+abbrev pub hidden_line : Target → List ℕ
+hidden_line t = codes "hidden " ++ (decimal t.source ++ (codes " " ++ (decimal t.seq ++ codes "\n")))
+
+abbrev pub shown_line : ShownAt → List ℕ
+shown_line p = (codes "shown " ++ (decimal p.place ++ codes " ")) ++ words_line p.drawop
+
+-- how many drawops are held, how many lines follow, and these: first what may be shown no more
+abbrev pub since_text : ℕ → List Target → List ShownAt → List ℕ
+since_text held hidden shown =
+    (codes "since " ++ (decimal held ++ (codes " " ++ (decimal (length hidden + length shown) ++ codes "\n")))) ++ (flat_map hidden_line hidden ++ flat_map shown_line shown)
+
+-- ---- what is missing
+
+abbrev pub lacks_line : ℕ → List ℕ
+lacks_line count = codes "lacks " ++ (decimal count ++ codes "\n")
+
+-- ---- a datagram in words
+
+-- as `wb words` says it
+abbrev pub worded_line : Datagram → List ℕ
+worded_line v = codes "words " ++ (spelled v ++ codes "\n")

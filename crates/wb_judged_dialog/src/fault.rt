@@ -76,7 +76,7 @@ fn wrong_target(fault: FieldFault) -> Refusal
 }
 
 /// Why a line is not answered, by why a kept member refuses it.
-pub(crate) fn refused(fault: KeptFault) -> Unanswered
+fn refused_by_kept(fault: KeptFault) -> Unanswered
     ensures { result ≡ unanswered_by_kept fault }
 {
     let refusal = match fault {
@@ -90,14 +90,14 @@ pub(crate) fn refused(fault: KeptFault) -> Unanswered
     Unanswered::Refused(JudgedRefusal::Host(refusal))
 }
 
-/// The same, by why a judged member draws nothing.
-pub(crate) fn undrawn(fault: JudgedFault) -> Unanswered
+/// Why a line is not answered, by why a judged member refuses a call.
+pub(crate) fn refused(fault: JudgedFault) -> Unanswered
     ensures { result ≡ unanswered_by_judged fault }
 {
     match fault {
         JudgedFault::Judge(AddFault::Twin) => Unanswered::Refused(JudgedRefusal::Twin),
         JudgedFault::Judge(AddFault::Full) => Unanswered::Refused(JudgedRefusal::Full),
-        JudgedFault::Kept(fault) => refused(fault),
+        JudgedFault::Kept(fault) => refused_by_kept(fault),
     }
 }
 

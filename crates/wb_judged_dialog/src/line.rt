@@ -1,8 +1,7 @@
 //! The lines that a judged host has besides those of any host.
 use wb_codec::Datagram;
-use wb_judge::Origin;
-use wb_judging::RecordLine;
-use wb_names::{Op, PageId};
+use wb_judging::Call;
+use wb_names::PageId;
 
 /// `judge NOW RATE LISTEN WALL HERE STRANGERS`: from the moment NOW on the host is judged.
 #[derive(Clone, Copy, Debug)]
@@ -22,50 +21,40 @@ pub struct JudgeLine {
     pub strangers: Option<u16>,
 }
 
-/// A line at a judged host, with its words as fields. Moments are in microseconds, below 2^48.
+/// A line at a judged host, with its words as fields.
 #[derive(Debug, Drop)]
 pub enum JudgedLine {
-    /// `held LINE`: a line of the record.
-    Held(RecordLine),
+    /// Something happens to the member: `came NOW ORIGIN HEX`, where an origin is `PLACE` or
+    /// `PLACE@OWNER`, `tick NOW`, `add NOW C/N OPERATION`, `wall NOW WALL`, `gone NOW ORIGIN`, or
+    /// `held LINE` with a line of the record.
+    Call(Call),
     /// `held LINE`, if the line of the record says nothing to a member: no words, a comment, or the
     /// line of its board.
     Skip,
-    /// `came NOW ORIGIN HEX`: a datagram came in from an origin, `PLACE` or `PLACE@OWNER`.
-    Came {
-        now: u64,
-        origin: Origin,
-        datagram: Datagram,
-    },
-    /// The same, if the bytes spell no datagram.
-    Garbled {
-        now: u64,
-    },
-    /// `tick NOW`: time goes on.
-    Tick {
-        now: u64,
-    },
-    /// `add NOW C/N OPERATION`: the user draws. The operation has no number yet, so nothing is its
-    /// own target.
-    Add {
-        now: u64,
-        page: PageId,
-        op: Op,
-    },
-    /// `wall NOW WALL`: the time of day, in microseconds since 1970, below 2^62.
-    Wall {
-        now: u64,
-        wall: u64,
-    },
-    /// `gone NOW ORIGIN`: the network says that whoever spoke from there is gone.
-    Gone {
-        now: u64,
-        origin: Origin,
-    },
     /// `members`: which numbers were heard lately, and from where.
     Members,
     /// `list MOST`: the first pages that are drawn on, at most MOST.
     List {
         most: u32,
+    },
+    /// `paint C N W H`: the canvas of a page, W cells wide and H high.
+    Paint {
+        page: PageId,
+        width: u32,
+        height: u32,
+    },
+    /// `since C N K`: what a page shows otherwise than when K drawops were held.
+    Since {
+        page: PageId,
+        count: u32,
+    },
+    /// `lacks C N`: how many drawops of a page are missing.
+    Lacks {
+        page: PageId,
+    },
+    /// `words HEX`: a datagram in words.
+    Words {
+        datagram: Datagram,
     },
     /// Any other line, which is answered as at a self-managing host.
     Today,

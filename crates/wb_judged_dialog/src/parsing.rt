@@ -1,7 +1,7 @@
 //! What a line of a driver says to a judged host.
 ghost use Rattle.std.specs.Prelude.{◌≡◌, IfOk, IfSome};
 ghost use Rattle.wb_lines.specs.Words.{words};
-ghost use Rattle.wb_judged_dialog.specs.Lines.{IsJudgeLine, IsWithin, added, arrival, came_by, came_line, came_of, command, gone_line, held_by, held_line, judge_line, judge_line_of, judged_line_of, list_line, members_line, strangers, tick_line, timed, unwritten, wall_line};
+ghost use Rattle.wb_judged_dialog.specs.Lines.{IsJudgeLine, IsWithin, added, arrival, came_by, came_line, came_of, command, gone_line, held_by, held_line, judge_line, judge_line_of, judged_line_of, lacks_line, list_line, members_line, paint_line, since_line, strangers, tick_line, timed, unwritten, wall_line, words_line};
 ghost use Rattle.wb_judged_dialog.specs.Records.{Reads};
 
 use crate::line::{JudgeLine, JudgedLine};
@@ -10,12 +10,14 @@ use crate::words::{behind, is_word, number_or_none, origin, six_words, three_wor
 use std::alloc::{AllocError, Global};
 use wb_codec::Datagram;
 use wb_commands::{
-    LineFault, Untaken, datagram, no_words, number_word, one_word, two_words, u32_word,
+    LineFault, Untaken, datagram, four_words, no_words, number_word, one_word, page, two_words,
+    u32_word,
 };
+use wb_display::Canvas;
 use wb_judge::{Origin, TIME_LIMIT};
-use wb_judging::RecordLine;
+use wb_judging::{Call, RecordLine};
 use wb_lines::next_word;
-use wb_names::MAX_MOMENT;
+use wb_names::{MAX_MOMENT, PageId};
 use wb_words::{Adding, DigitsFault, WordsFault, WrongWord, read_adding, split_once};
 
 /// The most bytes a second that reports may take.
@@ -78,12 +80,12 @@ fn arrival(alloc: Global, rest: &[u8]) -> Result<Option<Datagram>, Untaken>
 }
 
 /// Bytes came in at a moment from an origin.
-fn came_of(now: u64, origin: Origin, datagram: Option<Datagram>) -> JudgedLine
+fn came_of(now: u64, origin: Origin, datagram: Option<Datagram>) -> Call
     ensures { result ≡ came_of now origin datagram }
 {
     match datagram {
-        None => JudgedLine::Garbled { now },
-        Some(datagram) => JudgedLine::Came {
+        None => Call::Garbled { now },
+        Some(datagram) => Call::CameFrom {
             now,
             origin,
             datagram,
@@ -100,7 +102,7 @@ fn came_by(alloc: Global, now: &[u8], place: &[u8], digits: &[u8]) -> Result<Jud
     let now = number_word(now, 0, MAX_MOMENT)?;
     let origin = origin(place)?;
     let datagram = arrival(alloc, digits)?;
-    Ok(came_of(now, origin, datagram))
+    Ok(JudgedLine::Call(came_of(now, origin, datagram)))
 }
 
 /// Bytes came in.
@@ -120,7 +122,7 @@ fn tick_line(rest: &[u8]) -> Result<JudgedLine, LineFault>
 {
     let word = one_word(rest).ok_or(LineFault::Words)?;
     let now = number_word(word, 0, MAX_MOMENT)?;
-    Ok(JudgedLine::Tick { now })
+    Ok(JudgedLine::Call(Call::Passed { now }))
 }
 
 /// The time of day.
@@ -132,7 +134,7 @@ fn wall_line(rest: &[u8]) -> Result<JudgedLine, LineFault>
     let (now, wall) = two_words(rest).ok_or(LineFault::Words)?;
     let now = number_word(now, 0, MAX_MOMENT)?;
     let wall = number_word(wall, 0, TIME_LIMIT - 1)?;
-    Ok(JudgedLine::Wall { now, wall })
+    Ok(JudgedLine::Call(Call::DayTold { now, wall }))
 }
 
 /// Whoever spoke from an origin is gone.
@@ -144,7 +146,7 @@ fn gone_line(rest: &[u8]) -> Result<JudgedLine, LineFault>
     let (now, place) = two_words(rest).ok_or(LineFault::Words)?;
     let now = number_word(now, 0, MAX_MOMENT)?;
     let origin = origin(place)?;
-    Ok(JudgedLine::Gone { now, origin })
+    Ok(JudgedLine::Call(Call::GoneFrom { now, origin }))
 }
 
 /// Who was heard lately.
@@ -165,6 +167,58 @@ fn list_line(rest: &[u8]) -> Result<JudgedLine, LineFault>
     let word = one_word(rest).ok_or(LineFault::Words)?;
     let most = u32_word(word, 0, u32::MAX)?;
     Ok(JudgedLine::List { most })
+}
+
+/// The canvas of a page.
+#[tactic(auto, unfolding(crate::specs::Lines::paint_line))]
+fn paint_line(rest: &[u8]) -> Result<JudgedLine, LineFault>
+    ensures line { result ≡ paint_line (words rest.now) }
+    ensures within { IfOk result IsWithin }
+{
+    let (creator, number, width, height) = four_words(rest).ok_or(LineFault::Words)?;
+    let creator = u32_word(creator, 0, u32::MAX)?;
+    let number = u32_word(number, 0, u32::MAX)?;
+    let width = u32_word(width, 1, Canvas::MAX_WIDTH)?;
+    let height = u32_word(height, 1, Canvas::MAX_HEIGHT)?;
+    let page = PageId { creator, number };
+    Ok(JudgedLine::Paint {
+        page,
+        width,
+        height,
+    })
+}
+
+/// What a page shows otherwise than it did.
+#[tactic(auto, unfolding(crate::specs::Lines::since_line))]
+fn since_line(rest: &[u8]) -> Result<JudgedLine, LineFault>
+    ensures line { result ≡ since_line (words rest.now) }
+    ensures within { IfOk result IsWithin }
+{
+    let (creator, number, rest) = three_words(rest).ok_or(LineFault::Words)?;
+    let count = one_word(rest).ok_or(LineFault::Words)?;
+    let creator = u32_word(creator, 0, u32::MAX)?;
+    let number = u32_word(number, 0, u32::MAX)?;
+    let count = u32_word(count, 0, u32::MAX)?;
+    let page = PageId { creator, number };
+    Ok(JudgedLine::Since { page, count })
+}
+
+/// How many drawops of a page are missing.
+fn lacks_line(rest: &[u8]) -> Result<JudgedLine, LineFault>
+    ensures line { result ≡ lacks_line (words rest.now) }
+    ensures within { IfOk result IsWithin }
+{
+    let page = page(rest)?;
+    Ok(JudgedLine::Lacks { page })
+}
+
+/// A datagram that is to be said in words.
+fn words_line(alloc: Global, rest: &[u8]) -> Result<JudgedLine, Untaken>
+    ensures line { Reads result (words_line (words rest.now)) }
+    ensures within { IfOk result IsWithin }
+{
+    let datagram = datagram(alloc, rest)?;
+    Ok(JudgedLine::Words { datagram })
 }
 
 /// The line of these words. A word that a judged host does not have for itself begins a line of
@@ -198,6 +252,18 @@ fn command(alloc: Global, word: &[u8], rest: &[u8]) -> Result<JudgedLine, Untake
     if is_word(word, b"list") {
         return Ok(list_line(rest)?);
     }
+    if is_word(word, b"paint") {
+        return Ok(paint_line(rest)?);
+    }
+    if is_word(word, b"since") {
+        return Ok(since_line(rest)?);
+    }
+    if is_word(word, b"lacks") {
+        return Ok(lacks_line(rest)?);
+    }
+    if is_word(word, b"words") {
+        return words_line(alloc, rest);
+    }
     Ok(JudgedLine::Today)
 }
 
@@ -208,7 +274,7 @@ fn held_by(line: Option<RecordLine>) -> JudgedLine
 {
     match line {
         None => JudgedLine::Skip,
-        Some(line) => JudgedLine::Held(line),
+        Some(line) => JudgedLine::Call(Call::Held(line)),
     }
 }
 
@@ -263,11 +329,11 @@ fn added(alloc: Global, rest: &[u8]) -> Result<JudgedLine, Untaken>
                 op,
                 ..
             },
-        ) => Ok(JudgedLine::Add {
+        ) => Ok(JudgedLine::Call(Call::UserDrew {
             now: moment,
             page,
             op,
-        }),
+        })),
         Err(WordsFault::Word(wrong)) => Err(Untaken::Line(LineFault::Word(unwritten(wrong)))),
         Err(WordsFault::Memory) => Err(Untaken::Memory),
     }

@@ -1,16 +1,22 @@
 //! What is printed for events, and for the members and the pages that a driver asks for.
-ghost use Rattle.std.specs.Prelude.{◌≡◌, IfOk};
+ghost use Rattle.std.specs.Prelude.{◌≡◌, ◌+◌, ◌++◌, IfOk, OnOk, List, codes, drop, flat_map, length, min, take};
+ghost use Rattle.std.specs.List.{range_with_len};
 ghost use Rattle.std.specs.String.{string_bytes};
 ghost use Rattle.wb_dialog.specs.Doing.{Adds, Prints};
-ghost use Rattle.wb_judged_dialog.specs.Texts.{drew_line, dropped_line, became_line, event_line, events_text, fate_word, fetch_line, list_text, listed_line, member_line, members_text, moment_word, origin_word, record_line, warning_line, why_word};
+ghost use Rattle.wb_judged_dialog.specs.Texts.{drew_line, dropped_line, became_line, event_line, events_text, fate_word, fetch_line, lacks_line, list_text, listed_line, member_line, members_text, moment_word, origin_word, paint_text, painted_row, hidden_line, record_line, shown_line, since_text, warning_line, why_word, worded_line};
+ghost use Rattle.wb_names.specs.Values.{DrawopValue};
+ghost use Rattle.wb_display.specs.Canvas.{canvas_text};
 
 use crate::record_text::write_record;
 use std::alloc::{AllocError, Global};
+use wb_codec::Datagram;
 use wb_commands::send_line;
+use wb_display::Canvas;
 use wb_judge::{Listed, Origin, Other, Warning, Why};
-use wb_judging::{Event, Fate, RecordLine};
+use wb_judging::{Event, Fate, RecordLine, ShownAt, Since};
 use wb_lines::Output;
-use wb_names::{Name, PageId};
+use wb_names::{Name, PageId, Target};
+use wb_words::write_words;
 
 /// Why a datagram is dropped.
 fn why_word(why: Why) -> &'static str
@@ -188,6 +194,123 @@ fn list_text(alloc: Global, pages: &[Listed]) -> Result<String, AllocError>
     Ok(text)
 }
 
+/// Adds a mark and the first row of a canvas. Answers the other rows.
+fn add_row<'a>(text: &mut Vec<u8>, canvas: &'a [u8], width: u32) -> Result<&'a [u8], AllocError>
+    ensures others { IfOk result (λ others. others.now ≡
+        drop (min (length canvas.now) (width + 1)) canvas.now) }
+    ensures text { OnOk result (text.new.items ≡
+        text.old.items ++ codes "|" ++ take (min (length canvas.now) (width + 1)) canvas.now) }
+{
+    let (row, others) = canvas.split_at(canvas.len().min(width as usize + 1));
+    text.push(b'|')?;
+    text.extend_from_slice(row)?;
+    Ok(others)
+}
+
+/// The rows of a canvas, each after a mark.
+fn painted_rows(
+    alloc: Global,
+    canvas: &[u8],
+    width: u32,
+    height: u32,
+) -> Result<Vec<u8>, AllocError>
+    ensures { IfOk result (λ text. (shown : List DrawopValue) →
+        canvas.now ≡ canvas_text shown width height →
+        text.items ≡ flat_map (painted_row shown width) (range_with_len 0 height)) }
+{
+    let mut text = Vec::new(alloc);
+    let mut rest = canvas;
+    for _ in 0..height {
+        rest = add_row(&mut text, rest, width)?;
+    }
+    Ok(text)
+}
+
+/// How many rows a canvas has, and each after a mark.
+fn paint_text(alloc: Global, canvas: &[u8], width: u32, height: u32) -> Result<Vec<u8>, AllocError>
+    ensures { IfOk result (λ text. (shown : List DrawopValue) →
+        canvas.now ≡ canvas_text shown width height →
+        text.items ≡ paint_text shown width height) }
+{
+    let rows = painted_rows(alloc, canvas, width, height)?;
+    let mut text = format!(in alloc; "paint {height}\n")?.into_bytes();
+    text.extend_from_slice(rows.as_slice())?;
+    Ok(text)
+}
+
+/// What may be shown no more.
+fn hidden_line(alloc: Global, target: Target) -> Result<String, AllocError>
+    ensures { IfOk result (λ text. string_bytes text ≡ hidden_line target) }
+{
+    let Target { source, seq } = target;
+    format!(in alloc; "hidden {source} {seq}\n")
+}
+
+/// What is shown, and its place.
+fn shown_line(alloc: Global, placed: &ShownAt) -> Result<Vec<u8>, AllocError>
+    ensures { IfOk result (λ text. text.items ≡ shown_line placed.now) }
+{
+    let place = placed.place;
+    let mut text = format!(in alloc; "shown {place} ")?.into_bytes();
+    let words = write_words(alloc, &Datagram::Draw(placed.drawop))?;
+    text.extend_from_slice(words.as_slice())?;
+    text.push(b'\n')?;
+    Ok(text)
+}
+
+/// A line for each that may be shown no more.
+fn hidden_lines(alloc: Global, hidden: &[Target]) -> Result<Vec<u8>, AllocError>
+    ensures { IfOk result (λ text. text.items ≡ flat_map hidden_line hidden.now) }
+{
+    let mut text = Vec::new(alloc);
+    for target in hidden {
+        text.extend_from_slice(hidden_line(alloc, *target)?.as_bytes())?;
+    }
+    Ok(text)
+}
+
+/// A line for each that is shown.
+fn shown_lines(alloc: Global, shown: &[ShownAt]) -> Result<Vec<u8>, AllocError>
+    ensures { IfOk result (λ text. text.items ≡ flat_map shown_line shown.now) }
+{
+    let mut text = Vec::new(alloc);
+    for placed in shown {
+        text.extend_from_slice(shown_line(alloc, placed)?.as_slice())?;
+    }
+    Ok(text)
+}
+
+/// How many drawops are held, how many lines follow, and these.
+fn since_text(alloc: Global, since: &Since) -> Result<Vec<u8>, AllocError>
+    ensures { IfOk result (λ text. text.items ≡
+        since_text since.now.held since.now.hidden.items since.now.shown.items) }
+{
+    let held = since.held;
+    let count = since.hidden.len() + since.shown.len();
+    let mut text = format!(in alloc; "since {held} {count}\n")?.into_bytes();
+    text.extend_from_slice(hidden_lines(alloc, &since.hidden)?.as_slice())?;
+    text.extend_from_slice(shown_lines(alloc, &since.shown)?.as_slice())?;
+    Ok(text)
+}
+
+/// How many drawops of a page are missing.
+fn lacks_line(alloc: Global, count: u64) -> Result<String, AllocError>
+    ensures { IfOk result (λ text. string_bytes text ≡ lacks_line count) }
+{
+    format!(in alloc; "lacks {count}\n")
+}
+
+/// A datagram in words.
+fn worded_line(alloc: Global, datagram: &Datagram) -> Result<Vec<u8>, AllocError>
+    ensures { IfOk result (λ text. text.items ≡ worded_line datagram.now) }
+{
+    let mut text = Vec::new(alloc);
+    text.extend_from_slice(b"words ")?;
+    text.extend_from_slice(write_words(alloc, datagram)?.as_slice())?;
+    text.push(b'\n')?;
+    Ok(text)
+}
+
 /// Prints events, a line for each. If an allocation fails, nothing is printed.
 pub(crate) fn print_events(
     alloc: Global,
@@ -222,4 +345,50 @@ pub(crate) fn print_list(
         Prints written result (list_text pages.now)) }
 {
     output.add(list_text(alloc, pages)?.as_bytes())
+}
+
+/// Prints `paint H`, and H rows, each after a mark. If an allocation fails, nothing is printed.
+pub(crate) fn print_canvas(
+    alloc: Global,
+    canvas: &Canvas,
+    width: u32,
+    height: u32,
+    output: &mut Output,
+) -> Result<(), AllocError>
+    ensures { Adds output.old output.new (λ written. (shown : List DrawopValue) →
+        canvas.now ≡ canvas_text shown width height →
+        Prints written result (paint_text shown width height)) }
+{
+    output.add(paint_text(alloc, canvas.bytes(), width, height)?.as_slice())
+}
+
+/// Prints what a page shows otherwise than it did. If an allocation fails, nothing is printed.
+pub(crate) fn print_since(
+    alloc: Global,
+    since: &Since,
+    output: &mut Output,
+) -> Result<(), AllocError>
+    ensures { Adds output.old output.new (λ written. Prints written result
+        (since_text since.now.held since.now.hidden.items since.now.shown.items)) }
+{
+    output.add(since_text(alloc, since)?.as_slice())
+}
+
+/// Prints how many drawops of a page are missing. If an allocation fails, nothing is printed.
+pub(crate) fn print_lacks(alloc: Global, count: u64, output: &mut Output) -> Result<(), AllocError>
+    ensures { Adds output.old output.new (λ written. Prints written result (lacks_line count)) }
+{
+    output.add(lacks_line(alloc, count)?.as_bytes())
+}
+
+/// Prints a datagram in words. If an allocation fails, nothing is printed.
+pub(crate) fn print_words(
+    alloc: Global,
+    datagram: &Datagram,
+    output: &mut Output,
+) -> Result<(), AllocError>
+    ensures { Adds output.old output.new (λ written.
+        Prints written result (worded_line datagram.now)) }
+{
+    output.add(worded_line(alloc, datagram)?.as_slice())
 }

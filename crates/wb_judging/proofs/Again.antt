@@ -28,7 +28,7 @@ use Rattle.wb_member.specs.Opened.{Opened, last_number, present}
 use Rattle.wb_judging.specs.Events.{fate_of, is_new}
 use Rattle.wb_judging.specs.Handing.{facts_of, handed, handed_for, judge_after, verdict_on}
 use Rattle.wb_judging.specs.Hearing.{after_fate, after_recalling, after_sending, after_sends, with_strange}
-use Rattle.wb_judging.specs.Judged.{CameFrom, DayTold, Garbled, GoneFrom, Held, Judged, JudgedLine, Passed, UserDrew, giver_of, moment_of}
+use Rattle.wb_judging.specs.Judged.{Call, CameFrom, DayTold, Garbled, GoneFrom, Held, Judged, Passed, UserDrew, giver_of, moment_of}
 use Rattle.wb_judging.specs.Laws.{ItBeginsAgain, TheRecordIsTheBoard, after_all, drawops_in, drawops_of, record_by, record_of}
 use Rattle.wb_judging.specs.Performing.{after_judged, fate_by, first_lines, gained, judging, lines_of, sent_by_kept_line}
 use Rattle.wb_judging.specs.Recording.{freed, gain_lines, line_of, mark_lines, named, new_mark, new_mark_of}
@@ -121,7 +121,7 @@ cells_of h = h.kept.host.is.cells
 abbrev AreHeld : List DrawopValue → List DrawopValue → Type 0
 AreHeld h ds = Of (λ (d : DrawopValue). holds h d.name ≡ true) ds
 
-first_held : (line : JudgedLine) (h : Judged) → AreHeld (held_by h) (drawops_of (first_lines line h))
+first_held : (line : Call) (h : Judged) → AreHeld (held_by h) (drawops_of (first_lines line h))
 first_held (CameFrom now o v) h =
     let held = held_by h in
     let ds = named (freed o h.judge.strange.given (judge_after now o v h).strange.given) held in
@@ -138,11 +138,11 @@ first_held (DayTold now wall) h = tt
 first_held (GoneFrom now o) h = tt
 first_held (Held line) h = tt
 
-first_again : (line : JudgedLine) (h : Judged) → history_after (cells_of h) (held_by h) (drawops_of (first_lines line h)) ≡ held_by h
+first_again : (line : Call) (h : Judged) → history_after (cells_of h) (held_by h) (drawops_of (first_lines line h)) ≡ held_by h
 first_again line h = taken_again (cells_of h) (held_by h) (drawops_of (first_lines line h)) (first_held line h)
 
 -- if all that is gained is recorded
-held_other : (line : JudgedLine) (h : Judged) → drawops_of (gain_lines (giver_of line) (judging line h).strange.given (gained (handed line h) h.kept)) ≡ gained (handed line h) h.kept
+held_other : (line : Call) (h : Judged) → drawops_of (gain_lines (giver_of line) (judging line h).strange.given (gained (handed line h) h.kept)) ≡ gained (handed line h) h.kept
     → held_by (after_judged line h) ≡ history_after (cells_of h) (held_by h) (drawops_of (noted (moment_of line h) (lines_of line h)))
 held_other line h all =
     let cells = cells_of h in
@@ -156,14 +156,14 @@ held_other line h all =
     ∙ ap (λ (ds : List DrawopValue). history_after cells held ds) (all ∙ gained_kept (handed line h) h.kept)
     ∙ g.again)
 
-held_noted : (line : JudgedLine) (h : Judged) → drawops_of (gain_lines (giver_of line) (judging line h).strange.given (gained (handed line h) h.kept)) ≡ gained (handed line h) h.kept
+held_noted : (line : Call) (h : Judged) → drawops_of (gain_lines (giver_of line) (judging line h).strange.given (gained (handed line h) h.kept)) ≡ gained (handed line h) h.kept
     → (recorded : List RecordLine) → recorded ≡ noted (moment_of line h) (lines_of line h) → held_by (after_judged line h) ≡ history_after (cells_of h) (held_by h) (drawops_of recorded)
 held_noted line h all recorded is = held_other line h all ∙ ap (λ (ls : List RecordLine). history_after (cells_of h) (held_by h) (drawops_of ls)) (sym is)
 
-others_all : (line : JudgedLine) (h : Judged) → drawops_of (map (line_of (judging line h).strange.given) (gained (handed line h) h.kept)) ≡ gained (handed line h) h.kept
+others_all : (line : Call) (h : Judged) → drawops_of (map (line_of (judging line h).strange.given) (gained (handed line h) h.kept)) ≡ gained (handed line h) h.kept
 others_all line h = drawops_given (judging line h).strange.given (gained (handed line h) h.kept)
 
-pub held_line : (line : JudgedLine) (h : Judged) → held_by (after_judged line h) ≡ history_after (cells_of h) (held_by h) (drawops_of (record_of line h))
+pub held_line : (line : Call) (h : Judged) → held_by (after_judged line h) ≡ history_after (cells_of h) (held_by h) (drawops_of (record_of line h))
 held_line (CameFrom now o v) h = let l = CameFrom now o v in held_noted l h (others_all l h) (record_of l h) (line_recorded l h)
 held_line (Garbled now) h = let l = Garbled now in held_noted l h (others_all l h) (record_of l h) (line_recorded l h)
 held_line (Passed now) h = let l = Passed now in held_noted l h (others_all l h) (record_of l h) (line_recorded l h)
@@ -173,7 +173,7 @@ held_line (GoneFrom now o) h = let l = GoneFrom now o in held_noted l h (others_
 held_line (Held line) h =
     held_recalled (present h.kept.host) line h.kept ∙ ap (λ (ds : List DrawopValue). history_after (cells_of h) (held_by h) ds) (sym (append-nil (drawops_in line)))
 
-cells_line : (line : JudgedLine) (h : Judged) → cells_of (after_judged line h) ≡ cells_of h
+cells_line : (line : Call) (h : Judged) → cells_of (after_judged line h) ≡ cells_of h
 cells_line line h = (takes_kept (handed line h) h.kept).cells
 
 pub the_record_is_the_board : TheRecordIsTheBoard
@@ -305,7 +305,7 @@ strange_sends : (sent : List Datagram) (j : Judge) → (after_sends sent j).stra
 strange_sends [] j = refl
 strange_sends (v ∷ sent) j = strange_sends sent (after_sending v j) ∙ strange_sending v j
 
-strange_line : (line : JudgedLine) (h : Judged) → (after_judged line h).judge.strange ≡ (judging line h).strange
+strange_line : (line : Call) (h : Judged) → (after_judged line h).judge.strange ≡ (judging line h).strange
 strange_line line h = strange_sends (sent_by_kept_line (handed line h) h.kept) (judging line h)
 
 -- a datagram leaves it, or what its origin gave is strange no more
@@ -387,7 +387,7 @@ first_told now o v h s =
     ∙ sym (freed_told o h.judge.strange (judge_after now o v h).strange held (strange_judged now o v h) s)
 
 -- its first lines, and then those of what is gained
-told_line : (line : JudgedLine) (h : Judged) (ns : List NameValue) → told_by (most_of h) (cells_of h) (first_lines line h) (held_by h) (strange_names h) ≡ ns
+told_line : (line : Call) (h : Judged) (ns : List NameValue) → told_by (most_of h) (cells_of h) (first_lines line h) (held_by h) (strange_names h) ≡ ns
     → told_by (most_of h) (cells_of h) (gain_lines (giver_of line) (judging line h).strange.given (gained (handed line h) h.kept)) (held_by h) ns ≡ names_of (judging line h).strange.given
     → (recorded : List RecordLine) → recorded ≡ noted (moment_of line h) (lines_of line h)
     → told_by (most_of h) (cells_of h) recorded (held_by h) (strange_names h) ≡ strange_names (after_judged line h)
@@ -410,7 +410,7 @@ nothing_gained : (most cells : ℕ) (given : List Given) (gained : List DrawopVa
 nothing_gained most cells given gained held ns none = ap (λ (ds : List DrawopValue). told_by most cells (map (line_of given) ds) held ns) none
 
 -- time goes on, and nothing of what is strange changes
-tick_told : (line : JudgedLine) (h : Judged) (now : ℕ) → giver_of line ≡ Others → first_lines line h ≡ [] → handed line h ≡ Ticked now → (judging line h).strange ≡ h.judge.strange
+tick_told : (line : Call) (h : Judged) (now : ℕ) → giver_of line ≡ Others → first_lines line h ≡ [] → handed line h ≡ Ticked now → (judging line h).strange ≡ h.judge.strange
     → (recorded : List RecordLine) → recorded ≡ noted (moment_of line h) (lines_of line h)
     → told_by (most_of h) (cells_of h) recorded (held_by h) (strange_names h) ≡ strange_names (after_judged line h)
 tick_told line h now others none ticked same recorded is =
@@ -530,7 +530,7 @@ new_names : (held : List DrawopValue) (ns : List NameValue) (ds : List DrawopVal
     → Of (λ (d : DrawopValue). Of (λ (m : NameValue). same_name m d.name ≡ false) ns) ds
 new_names held ns ds sound new = of_so (λ (d : DrawopValue). holds held d.name ≡ false) (λ (d : DrawopValue). Of (λ (m : NameValue). same_name m d.name ≡ false) ns) ds (λ d absent. not_held_none held d.name ns absent sound) new
 
-names_line : (line : JudgedLine) (h : Judged) → SoundAt h → told_by (most_of h) (cells_of h) (record_of line h) (held_by h) (strange_names h) ≡ strange_names (after_judged line h)
+names_line : (line : Call) (h : Judged) → SoundAt h → told_by (most_of h) (cells_of h) (record_of line h) (held_by h) (strange_names h) ≡ strange_names (after_judged line h)
 names_line (CameFrom now o v) h s =
     let l = CameFrom now o v in
     told_line l h (names_of (judge_after now o v h).strange.given) (first_told now o v h s) (gain_told now o v h s) (record_of l h) (line_recorded l h)
@@ -589,7 +589,7 @@ most_recalled (Known d) fate j = refl
 most_recalled (Strange d) fate j = most_if (is_new fate) (with_strange d.name j) j (most_given (record { name = d.name; origin = None }) j.strange)
 most_recalled (Mark speaker page mark) fate j = refl
 
-most_judging : (line : JudgedLine) (h : Judged) → (judging line h).strange.most ≡ most_of h
+most_judging : (line : Call) (h : Judged) → (judging line h).strange.most ≡ most_of h
 most_judging (CameFrom now o v) h = most_fate now o v (fate_by (handed (CameFrom now o v) h) h.kept) (judge_after now o v h) ∙ most_judged now o v h
 most_judging (Garbled now) h = refl
 most_judging (Passed now) h = refl
@@ -598,26 +598,26 @@ most_judging (DayTold now wall) h = refl
 most_judging (GoneFrom now o) h = refl
 most_judging (Held line) h = most_recalled line (fate_by (handed (Held line) h) h.kept) h.judge
 
-most_line : (line : JudgedLine) (h : Judged) → most_of (after_judged line h) ≡ most_of h
+most_line : (line : Call) (h : Judged) → most_of (after_judged line h) ≡ most_of h
 most_line line h = ap (λ (s : Shares). s.most) (strange_line line h) ∙ most_judging line h
 
 -- ---- many lines
 
-cells_all : (lines : List JudgedLine) (h : Judged) → cells_of (after_all lines h) ≡ cells_of h
+cells_all : (lines : List Call) (h : Judged) → cells_of (after_all lines h) ≡ cells_of h
 cells_all [] h = refl
 cells_all (line ∷ lines) h = cells_all lines (after_judged line h) ∙ cells_line line h
 
-most_all : (lines : List JudgedLine) (h : Judged) → most_of (after_all lines h) ≡ most_of h
+most_all : (lines : List Call) (h : Judged) → most_of (after_all lines h) ≡ most_of h
 most_all [] h = refl
 most_all (line ∷ lines) h = most_all lines (after_judged line h) ∙ most_line line h
 
-sound_after : (line : JudgedLine) (h : Judged) → SoundAt h → SoundAt (after_judged line h)
+sound_after : (line : Call) (h : Judged) → SoundAt h → SoundAt (after_judged line h)
 sound_after line h s =
     let t = sound_lines (most_of h) (cells_of h) (record_of line h) (held_by h) (strange_names h) s in
     subst (λ (held : List DrawopValue). Sound held (strange_names (after_judged line h))) (sym (held_line line h))
     (subst (λ (ns : List NameValue). Sound (history_after (cells_of h) (held_by h) (drawops_of (record_of line h))) ns) (names_line line h s) t)
 
-names_all : (lines : List JudgedLine) (h : Judged) → SoundAt h → strange_names (after_all lines h) ≡ told_by (most_of h) (cells_of h) (record_by lines h) (held_by h) (strange_names h)
+names_all : (lines : List Call) (h : Judged) → SoundAt h → strange_names (after_all lines h) ≡ told_by (most_of h) (cells_of h) (record_by lines h) (held_by h) (strange_names h)
 names_all [] h s = refl
 names_all (line ∷ lines) h s =
     let next = after_judged line h in

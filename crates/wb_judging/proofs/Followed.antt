@@ -22,7 +22,7 @@ use Rattle.wb_keeping.specs.declared.kept_fault.KeptFault.TheVariants.{Host}
 use Rattle.wb_judging.specs.Events.{is_new}
 use Rattle.wb_judging.specs.Handing.{facts_of, handed, handed_for, judge_after, verdict_on}
 use Rattle.wb_judging.specs.Hearing.{after_fate, after_sending, after_sends}
-use Rattle.wb_judging.specs.Judged.{CameFrom, DayTold, Garbled, GoneFrom, Held, Judged, JudgedLine, Passed, UserDrew}
+use Rattle.wb_judging.specs.Judged.{Call, CameFrom, DayTold, Garbled, GoneFrom, Held, Judged, Passed, UserDrew}
 use Rattle.wb_judging.specs.Laws.{MembersAreHandedIn, NobodyMovesOurTime, OnlyAnswersMakeKnown, StrangersHushNobody, TheNetworkRefusesNothing, is_told}
 use Rattle.wb_judging.specs.Performing.{after_judged, fate_by, judging, sent_by_kept_line}
 use Rattle.wb_judging.specs.declared.event.Fate.{Fate}
@@ -109,7 +109,7 @@ only_answers now o p v h later is =
 
 -- ---- the time of day
 
-clock_after : (line : JudgedLine) (h : Judged) → is_told line ≡ false → (judging line h).clock ≡ h.judge.clock
+clock_after : (line : Call) (h : Judged) → is_told line ≡ false → (judging line h).clock ≡ h.judge.clock
 clock_after (CameFrom now o v) h other = (came_fixed now o v h).clock
 clock_after (Garbled now) h other = refl
 clock_after (Passed now) h other = refl

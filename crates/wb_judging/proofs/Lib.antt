@@ -4,8 +4,9 @@ pub mod Fixed
 pub mod Numbers
 pub mod Handed
 pub mod Performed
-pub mod Taken
 pub mod Drawn
+pub mod Taken
+pub mod Called
 pub mod AsKept
 pub mod Heard
 pub mod Followed
@@ -15,5 +16,6 @@ pub mod StrangeNames
 pub mod Boards
 pub mod Again
 pub mod Asked
+pub mod Patching
 pub mod MembersIn
 pub mod MembersStay

@@ -25,7 +25,7 @@ use Rattle.wb_judge.proofs.Sameness.{same_itself, same_origins}
 use Rattle.wb_judging.specs.Events.{is_new}
 use Rattle.wb_judging.specs.Handing.{facts_of, handed, judge_after}
 use Rattle.wb_judging.specs.Hearing.{after_fate, after_recalling, after_sending, after_sends, with_strange}
-use Rattle.wb_judging.specs.Judged.{CameFrom, DayTold, Garbled, GoneFrom, Held, Judged, JudgedLine, Passed, UserDrew}
+use Rattle.wb_judging.specs.Judged.{Call, CameFrom, DayTold, Garbled, GoneFrom, Held, Judged, Passed, UserDrew}
 use Rattle.wb_judging.specs.Members.{IsMemberUntil, MembersAreKnownAgain, MembersStay}
 use Rattle.wb_judging.specs.Performing.{after_judged, fate_by, judging, sent_by_kept_line}
 use Rattle.wb_judging.specs.declared.event.Fate.{Fate}
@@ -97,7 +97,7 @@ same_one o number until j k s m = record {
 }
 
 -- after the line, it sends
-and_sends : (line : JudgedLine) (h : Judged) (o : Origin) (number until : ℕ) → IsOne o number until (judging line h) → IsMemberUntil o number until (after_judged line h)
+and_sends : (line : Call) (h : Judged) (o : Origin) (number until : ℕ) → IsOne o number until (judging line h) → IsMemberUntil o number until (after_judged line h)
 and_sends line h o number until m =
     let sent = sent_by_kept_line (handed line h) h.kept in
     let n = same_one o number until (judging line h) (after_sends sent (judging line h)) (all_sent sent (judging line h)) m in

@@ -13,7 +13,7 @@ use Rattle.wb_keeping.specs.Laws.{KeptLine, doing_of}
 use Rattle.wb_keeping.specs.Performing.{Keeping, sees}
 use Rattle.wb_judging.specs.Events.{is_new}
 use Rattle.wb_judging.specs.Handing.{facts_of, handed, judge_after}
-use Rattle.wb_judging.specs.Judged.{CameFrom, DayTold, Garbled, GoneFrom, Held, Judged, JudgedLine, Passed, UserDrew}
+use Rattle.wb_judging.specs.Judged.{Call, CameFrom, DayTold, Garbled, GoneFrom, Held, Judged, Passed, UserDrew}
 use Rattle.wb_judging.specs.Hearing.{after_fate, after_recalling, after_sending, after_sends, with_members, with_strange}
 use Rattle.wb_judging.specs.Performing.{after_judged, after_kept_line, fate_by, judging, sent_by_kept_line}
 use Rattle.wb_judging.specs.declared.event.Fate.{Fate}
@@ -98,7 +98,7 @@ recalled_fixed (Known d) fate j = members_fixed d.name j
 recalled_fixed (Strange d) fate j = either (is_new fate) j (with_strange d.name j) (strange_fixed d.name j)
 recalled_fixed (Mark speaker page mark) fate j = itself j
 
-me_judging : (line : JudgedLine) (h : Judged) → (judging line h).me ≡ h.judge.me
+me_judging : (line : Call) (h : Judged) → (judging line h).me ≡ h.judge.me
 me_judging (CameFrom now o v) h = (came_fixed now o v h).me
 me_judging (Garbled now) h = refl
 me_judging (Passed now) h = refl
@@ -107,6 +107,6 @@ me_judging (DayTold now wall) h = refl
 me_judging (GoneFrom now o) h = refl
 me_judging (Held line) h = (recalled_fixed line (fate_by (handed (Held line) h) h.kept) h.judge).me
 
-pub own_stays : (line : JudgedLine) (h : Judged) → h.judge.me ≡ h.kept.host.is.number → (after_judged line h).judge.me ≡ (after_judged line h).kept.host.is.number
+pub own_stays : (line : Call) (h : Judged) → h.judge.me ≡ h.kept.host.is.number → (after_judged line h).judge.me ≡ (after_judged line h).kept.host.is.number
 own_stays line h own =
     (sends (sent_by_kept_line (handed line h) h.kept) (judging line h)).me ∙ me_judging line h ∙ own ∙ sym (number_kept (handed line h) h.kept)

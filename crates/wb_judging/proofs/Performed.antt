@@ -8,7 +8,7 @@ use Rattle.wb_keeping.specs.Performing.{IsKeptAt, Keeping, KeptValue}
 use Rattle.wb_judging.specs.Events.{gain_events, told}
 use Rattle.wb_judging.specs.Handing.{handed}
 use Rattle.wb_judging.specs.Hearing.{after_sends}
-use Rattle.wb_judging.specs.Judged.{Judged, JudgedLine, giver_of, moment_of}
+use Rattle.wb_judging.specs.Judged.{Call, Judged, giver_of, moment_of}
 use Rattle.wb_judging.specs.Performing.{Goes, IsJudgedAt, JudgedValue, KeptDoes, after_judged, after_kept_line, events_of, first_events, first_lines, judging, last_events, sent_by_kept_line, told_by}
 use Rattle.wb_judging.specs.Recording.{gain_lines}
 use Rattle.wb_judging.specs.declared.event.Event.{Event}
@@ -38,7 +38,7 @@ went now lines giver line old mid new held sent fate first events did same kept 
     )
 
 -- A line was performed whose judge is known, before its last events.
-pub performed : (line : JudgedLine) (h : Judged) (old mid new : JudgedValue) (lines : List RecordLine) (first events all : List Event) → IsJudgedAt old h → mid.kept ≡ old.kept → mid.judge ≡ judging line h
+pub performed : (line : Call) (h : Judged) (old mid new : JudgedValue) (lines : List RecordLine) (first events all : List Event) → IsJudgedAt old h → mid.kept ≡ old.kept → mid.judge ≡ judging line h
     → lines ≡ first_lines line h → first ≡ first_events line h → Goes (moment_of line h) lines (giver_of line) (handed line h) first mid events new → all ≡ events ++ last_events line h
     → (all ≡ events_of line h) × IsJudgedAt new (after_judged line h)
 performed line h old mid new lines first events all at kept judge records begins goes ends =

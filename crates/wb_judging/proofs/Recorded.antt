@@ -12,7 +12,7 @@ use Rattle.wb_judge.specs.declared.verdict.Warning.{Warning}
 use Rattle.wb_judge.specs.declared.verdict.Why.{Why}
 use Rattle.wb_judging.specs.Events.{became_events, drew_event, dropped_events, fetch_events, record_events, send_event, warn_events}
 use Rattle.wb_judging.specs.Handing.{facts_of, handed, verdict_on}
-use Rattle.wb_judging.specs.Judged.{CameFrom, DayTold, Garbled, GoneFrom, Held, Judged, JudgedLine, Passed, UserDrew, moment_of}
+use Rattle.wb_judging.specs.Judged.{Call, CameFrom, DayTold, Garbled, GoneFrom, Held, Judged, Passed, UserDrew, moment_of}
 use Rattle.wb_judging.specs.Laws.{RecordsComeFirst, is_record, is_send, lines_in}
 use Rattle.wb_judging.specs.Performing.{events_of, fate_by, first_events, gained, judging, last_events, lines_of, sent_by_kept_line}
 use Rattle.wb_judging.specs.declared.event.Event.{Event}
@@ -83,7 +83,7 @@ un_warn : (warning : Option Warning) → Unrecorded (warn_events warning)
 un_warn None = un_nil
 un_warn (Some warning) = un_one (Warn warning) refl
 
-un_first : (line : JudgedLine) (h : Judged) → Unrecorded (first_events line h)
+un_first : (line : Call) (h : Judged) → Unrecorded (first_events line h)
 un_first (CameFrom now o v) h = un_dropped (verdict_on now o v h).why
 un_first (Garbled now) h = un_one NoDatagram refl
 un_first (Passed now) h = un_nil
@@ -92,7 +92,7 @@ un_first (DayTold now wall) h = un_nil
 un_first (GoneFrom now o) h = un_nil
 un_first (Held line) h = un_nil
 
-un_last : (line : JudgedLine) (h : Judged) → Unrecorded (last_events line h)
+un_last : (line : Call) (h : Judged) → Unrecorded (last_events line h)
 un_last (CameFrom now o v) h = let r = verdict_on now o v h in un_both (fetch_events r.fetch (facts_of now v h.kept).lacking) (warn_events r.warning) (un_fetch r.fetch (facts_of now v h.kept).lacking) (un_warn r.warning)
 un_last (Garbled now) h = un_nil
 un_last (Passed now) h = un_nil
@@ -104,13 +104,13 @@ un_last (Held line) h = un_nil
 -- ---- one line, and many
 
 -- after the records of a line nothing is recorded
-abbrev records_of : JudgedLine → Judged → List Event
+abbrev records_of : Call → Judged → List Event
 records_of line h = record_events (moment_of line h) (lines_of line h)
 
-abbrev sends_of : JudgedLine → Judged → List Event
+abbrev sends_of : Call → Judged → List Event
 sends_of line h = map (send_event (own_echo (moment_of line h) (judging line h))) (sent_by_kept_line (handed line h) h.kept) ++ became_events (fate_by (handed line h) h.kept)
 
-un_sends : (line : JudgedLine) (h : Judged) → Unrecorded (sends_of line h)
+un_sends : (line : Call) (h : Judged) → Unrecorded (sends_of line h)
 un_sends line h =
     un_both (map (send_event (own_echo (moment_of line h) (judging line h))) (sent_by_kept_line (handed line h) h.kept)) (became_events (fate_by (handed line h) h.kept))
     (un_sent (own_echo (moment_of line h) (judging line h)) (sent_by_kept_line (handed line h) h.kept)) (un_became (fate_by (handed line h) h.kept))
@@ -129,7 +129,7 @@ lines_noted now [] = refl
 lines_noted now (line ∷ lines) = ap (λ (ls : List RecordLine). Tick now ∷ ls) (lines_each (line ∷ lines))
 
 -- what a line records
-pub line_recorded : (line : JudgedLine) (h : Judged) → lines_in (events_of line h) ≡ noted (moment_of line h) (lines_of line h)
+pub line_recorded : (line : Call) (h : Judged) → lines_in (events_of line h) ≡ noted (moment_of line h) (lines_of line h)
 line_recorded line h =
     let ds = gained (handed line h) h.kept in
     let records = records_of line h in
@@ -181,7 +181,7 @@ us_dropped : (why : Option Why) → Unsent (dropped_events why)
 us_dropped None = us_nil
 us_dropped (Some why) = us_one (Dropped why) refl
 
-us_first : (line : JudgedLine) (h : Judged) → Unsent (first_events line h)
+us_first : (line : Call) (h : Judged) → Unsent (first_events line h)
 us_first (CameFrom now o v) h = us_dropped (verdict_on now o v h).why
 us_first (Garbled now) h = us_one NoDatagram refl
 us_first (Passed now) h = us_nil

@@ -1,6 +1,7 @@
 -- A datagram that came: what becomes of it, by what each part of the call does.
 use Rattle.std.proofs.Common.{◌≡◌, ◌∙◌, ℕ, List, [], ◌∷◌, ◌++◌, None, Vec, Global, IfOk, ap, append-nil, arith, drop, refl, subst, sym, true}
 use Rattle.std.specs.Prelude.{IsTrue, Option, Result, Ok, Err, Some, is_some, nat_le}
+use Rattle.std.specs.Option.{option_map}
 use Rattle.std.proofs.lemmas.Bool.Decides.{nat_tests}
 use Rattle.wb_codec.specs.declared.datagram.Datagram.{Datagram}
 use Rattle.wb_judge.specs.Adding.{own_echo}
@@ -18,21 +19,24 @@ use Rattle.wb_keeping.specs.declared.kept_fault.KeptFault.{KeptFault}
 use Rattle.wb_judging.specs.Events.{advice, dropped_events, gain_events, told}
 use Rattle.wb_judging.specs.Handing.{facts_of, handed, handed_for, judge_after, recalled, verdict_on}
 use Rattle.wb_judging.specs.Hearing.{after_fate, after_recalling, after_sends}
-use Rattle.wb_judging.specs.Judged.{CameFrom, DayTold, Garbled, GoneFrom, Held, Judged, JudgedLine, Passed}
+use Rattle.wb_judging.specs.Judged.{Call, CameFrom, DayTold, Garbled, GoneFrom, Held, Judged, Passed}
 use Rattle.wb_judging.specs.Performing.{Goes, IsJudgedAt, JudgedValue, KeptDoes, Performs, after_judged, events_of, fate_by, first_lines}
 use Rattle.wb_judging.specs.Recording.{freed_lines, gain_lines, mark_lines}
+use Rattle.wb_judging.specs.Refusing.{IsRefusedAs}
 use Rattle.wb_judging.specs.declared.event.Event.{Event}
 use Rattle.wb_judging.specs.declared.event.Event.TheVariants.{NoDatagram}
 use Rattle.wb_judging.specs.declared.event.Fate.{Fate}
+use Rattle.wb_judging.specs.declared.judged_fault.JudgedFault.{JudgedFault}
+use Rattle.wb_judging.specs.declared.judged_fault.JudgedFault.TheVariants.{Kept}
 use Rattle.wb_judging.specs.declared.record.Giver.TheVariants.{Others, Past}
 use Rattle.wb_judging.specs.declared.record.RecordLine.{RecordLine}
-use Rattle.wb_judging.proofs.Kept.{refused_so}
+use Rattle.wb_judging.proofs.Drawn.{refused_as}
 use Rattle.wb_judging.proofs.Performed.{performed, went}
 
 -- ---- lines in whose place a tick is handed in
 
 -- a call that gives events, or fails
-pub passes : {E : Type 0} (line : JudgedLine) (now : ℕ) (old mid new : JudgedValue) (first : List Event) (r : Result (Vec Event Global) E)
+pub passes : {E : Type 0} (line : Call) (now : ℕ) (old mid new : JudgedValue) (first : List Event) (r : Result (Vec Event Global) E)
     → IfOk r (λ (events : Vec Event Global). Goes now [] Others (Ticked now) first mid events.items new)
     → ((events : List Event) → Goes now [] Others (Ticked now) first mid events new → Performs line old events new)
     → IfOk r (λ (events : Vec Event Global). Performs line old events.items new)
@@ -71,9 +75,9 @@ judge_is now o v h f j k is facts judge = is ∙ ap (λ (f : Facts). after_judgi
 pub why_is : (now : ℕ) (o : Origin) (v : Datagram) (h : Judged) (f : Facts) (j : Judge) (r : Verdict) → r ≡ verdict o v f j → f ≡ facts_of now v h.kept → j ≡ h.judge → r.why ≡ (verdict_on now o v h).why
 why_is now o v h f j r is facts judge = ap (λ (r : Verdict). r.why) (verdict_is now o v h f j r is facts judge)
 
-pub not_refused : (X Y : Type 0) (f : Option KeptFault) (e : KeptFault) (r : Result Y KeptFault) → IsRefusedBy {X = X} f (Err e) → f ≡ None → r ≡ Err e → IsRefusedBy {X = Y} None r
+pub not_refused : (X Y : Type 0) (f : Option KeptFault) (e : KeptFault) (r : Result Y JudgedFault) → IsRefusedBy {X = X} f (Err e) → f ≡ None → r ≡ Err (Kept e) → IsRefusedAs {X = Y} None r
 not_refused X Y f e r is none gives =
-    subst (λ (r : Result Y KeptFault). IsRefusedBy {X = Y} None r) (sym gives) (subst (λ (f : Option KeptFault). IsRefusedBy {X = X} f (Err e)) none is)
+    subst (λ (f : Option KeptFault). IsRefusedAs {X = Y} (option_map Kept f) r) none (refused_as X Y f e r is gives)
 
 -- The judge judged a datagram: the judge afterwards, and what is recorded first.
 pub record Weighs (now : ℕ) (o : Origin) (v : Datagram) (f : Facts) (k : KeptValue) (j0 j1 : Judge) (r : Verdict) (first : List RecordLine) : Type 0 where
@@ -138,11 +142,10 @@ pub now_is_time : (k : Keeping) (now : ℕ) → now ≡ present k.host → nat_l
 now_is_time k now is = grind (arith, nat_tests)
 
 -- what it is refused for, and that it is refused
-pub recalled_refused : (X Y : Type 0) (line : RecordLine) (h : Judged) (now : ℕ) (e : KeptFault) (r : Result Y KeptFault) → now ≡ present h.kept.host
-    → IsRefusedBy {X = X} (fault_of (recalled now line) h.kept) (Err e) → r ≡ Err e → IsRefusedBy {X = Y} (fault_of (recalled (present h.kept.host) line) h.kept) r
+pub recalled_refused : (X Y : Type 0) (line : RecordLine) (h : Judged) (now : ℕ) (e : KeptFault) (r : Result Y JudgedFault) → now ≡ present h.kept.host
+    → IsRefusedBy {X = X} (fault_of (recalled now line) h.kept) (Err e) → r ≡ Err (Kept e) → IsRefusedAs {X = Y} (option_map Kept (fault_of (recalled (present h.kept.host) line) h.kept)) r
 recalled_refused X Y line h now e r moment is gives =
-    subst (λ (r : Result Y KeptFault). IsRefusedBy {X = Y} (fault_of (recalled (present h.kept.host) line) h.kept) r) (sym gives)
-    (refused_so X Y (fault_of (recalled (present h.kept.host) line) h.kept) e (subst (λ (n : ℕ). IsRefusedBy {X = X} (fault_of (recalled n line) h.kept) (Err e)) moment is))
+    refused_as X Y (fault_of (recalled (present h.kept.host) line) h.kept) e r (subst (λ (n : ℕ). IsRefusedBy {X = X} (fault_of (recalled n line) h.kept) (Err e)) moment is) gives
 
 pub not_taken : (X : Type 0) (line : RecordLine) (h : Judged) (now : ℕ) (x : X) → now ≡ present h.kept.host → IsRefusedBy {X = X} (fault_of (recalled now line) h.kept) (Ok x)
     → IsTrue (is_some (fault_of (recalled (present h.kept.host) line) h.kept)) → ⊥

@@ -16,7 +16,7 @@ use Rattle.wb_member.specs.Judged.{highest, holds}
 use Rattle.wb_member.specs.Opened.{Opened, present}
 use Rattle.wb_keeping.specs.Laws.{KeptLine, Added, Came, Ticked}
 use Rattle.wb_keeping.specs.Performing.{Keeping}
-use Rattle.wb_judging.specs.Judged.{CameFrom, DayTold, Garbled, GoneFrom, Held, Judged, JudgedLine, Passed, UserDrew}
+use Rattle.wb_judging.specs.Judged.{Call, CameFrom, DayTold, Garbled, GoneFrom, Held, Judged, Passed, UserDrew}
 use Rattle.wb_judging.specs.declared.record.RecordLine.{RecordLine}
 use Rattle.wb_judging.specs.declared.record.RecordLine.TheVariants.{Known, Mark, Said, Strange, Tick}
 
@@ -76,7 +76,7 @@ recalled now (Known d) = Came now (Draw d)
 recalled now (Strange d) = Came now (Draw d)
 recalled now (Mark speaker page mark) = Came now (PageState speaker page (mark ∷ []))
 
-abbrev pub handed : JudgedLine → Judged → KeptLine
+abbrev pub handed : Call → Judged → KeptLine
 handed (CameFrom now o v) h = handed_for now v (verdict_on now o v h).why
 handed (Garbled now) h = Ticked now
 handed (Passed now) h = Ticked now

@@ -19,7 +19,7 @@ use Rattle.wb_policy.specs.Choices.{own_echo as echo_of}
 use Rattle.wb_keeping.specs.Laws.{KeptLine, Came, Ticked, after_kept, fault_of}
 use Rattle.wb_judging.specs.Echoing.{echoing, with_echo}
 use Rattle.wb_judging.specs.Handing.{handed}
-use Rattle.wb_judging.specs.Judged.{CameFrom, DayTold, Garbled, GoneFrom, Held, Judged, JudgedLine, Passed, UserDrew, giver_of, moment_of}
+use Rattle.wb_judging.specs.Judged.{Call, CameFrom, DayTold, Held, Judged, giver_of, moment_of}
 use Rattle.wb_judging.specs.Performing.{after_judged, events_of, judging, sent_by_kept_line}
 use Rattle.wb_judging.specs.declared.event.Event.{Event}
 use Rattle.wb_judging.specs.declared.record.Giver.TheVariants.{Others}
@@ -29,18 +29,18 @@ use Rattle.wb_judging.specs.declared.event.Event.TheVariants.{Became, Dropped, D
 
 -- ---- a judged member is a kept member
 
-abbrev pub after_all : List JudgedLine → Judged → Judged
+abbrev pub after_all : List Call → Judged → Judged
 after_all [] h = h
 after_all (line ∷ lines) h = after_all lines (after_judged line h)
 
 -- what its kept member is handed
-abbrev pub expanded : List JudgedLine → Judged → List KeptLine
+abbrev pub expanded : List Call → Judged → List KeptLine
 expanded [] h = []
 expanded (line ∷ lines) h = handed line h ∷ expanded lines (after_judged line h)
 
 -- It is the kept member that was handed these lines, one in the place of each.
 abbrev pub JudgedMembersAreKept : Type 0
-JudgedMembersAreKept = (lines : List JudgedLine) (h : Judged) → ((after_all lines h).kept ≡ after_kept (expanded lines h) h.kept) × (length (expanded lines h) ≡ length lines)
+JudgedMembersAreKept = (lines : List Call) (h : Judged) → ((after_all lines h).kept ≡ after_kept (expanded lines h) h.kept) × (length (expanded lines h) ≡ length lines)
 
 -- In the place of a datagram that came it is handed that datagram or a tick, so nothing comes in that did not come, nor twice, nor later.
 abbrev pub TheSameOrATick : Type 0
@@ -60,7 +60,7 @@ sends_in (Warn warning ∷ events) = sends_in events
 
 -- It sends what its kept member sends, in that order, where a report has one echo besides.
 abbrev pub SendsAsKept : Type 0
-SendsAsKept = (line : JudgedLine) (h : Judged) → sends_in (events_of line h) ≡ map (echoing (own_echo (moment_of line h) (judging line h))) (sent_by_kept_line (handed line h) h.kept)
+SendsAsKept = (line : Call) (h : Judged) → sends_in (events_of line h) ≡ map (echoing (own_echo (moment_of line h) (judging line h))) (sent_by_kept_line (handed line h) h.kept)
 
 -- To all members of other numbers a report with that echo says the same as without it.
 abbrev pub OthersHearTheSame : Type 0
@@ -70,7 +70,7 @@ OthersHearTheSame = (e : Echo) (echoes : List Echo) (number : ℕ) → ¬ (e.sou
 
 -- Nothing that others give is refused, unless its moment is before the present one.
 abbrev pub TheNetworkRefusesNothing : Type 0
-TheNetworkRefusesNothing = (line : JudgedLine) (h : Judged) → h.judge.me ≡ h.kept.host.is.number → giver_of line ≡ Others → present h.kept.host ≤ moment_of line h
+TheNetworkRefusesNothing = (line : Call) (h : Judged) → h.judge.me ≡ h.kept.host.is.number → giver_of line ≡ Others → present h.kept.host ≤ moment_of line h
     → fault_of (handed line h) h.kept ≡ None
 
 -- ---- members and strangers
@@ -93,18 +93,13 @@ OnlyAnswersMakeKnown = (now : ℕ) (o p : Origin) (v : Datagram) (h : Judged) (l
 
 -- ---- the time of day
 
-abbrev pub is_told : JudgedLine → Bool
+abbrev pub is_told : Call → Bool
 is_told (DayTold now wall) = true
-is_told (CameFrom now o v) = false
-is_told (Garbled now) = false
-is_told (Passed now) = false
-is_told (UserDrew now page op) = false
-is_told (GoneFrom now o) = false
-is_told (Held line) = false
+is_told call = false
 
 -- The driver alone tells the time of day, from which our drawings get their times.
 abbrev pub NobodyMovesOurTime : Type 0
-NobodyMovesOurTime = (line : JudgedLine) (h : Judged) (later : ℕ) → is_told line ≡ false → time_of_day (after_judged line h).judge.clock later ≡ time_of_day h.judge.clock later
+NobodyMovesOurTime = (line : Call) (h : Judged) (later : ℕ) → is_told line ≡ false → time_of_day (after_judged line h).judge.clock later ≡ time_of_day h.judge.clock later
 
 -- ---- the record
 
@@ -121,11 +116,11 @@ lines_in (Fetch o lacking ∷ events) = lines_in events
 lines_in (Warn warning ∷ events) = lines_in events
 
 -- The record of many lines: it has what they record, and what was handed in from it.
-abbrev pub record_of : JudgedLine → Judged → List RecordLine
+abbrev pub record_of : Call → Judged → List RecordLine
 record_of (Held line) h = line ∷ []
 record_of line h = lines_in (events_of line h)
 
-abbrev pub record_by : List JudgedLine → Judged → List RecordLine
+abbrev pub record_by : List Call → Judged → List RecordLine
 record_by [] h = []
 record_by (line ∷ lines) h = record_of line h ++ record_by lines (after_judged line h)
 
@@ -143,7 +138,7 @@ drawops_of (line ∷ lines) = drawops_in line ++ drawops_of lines
 
 -- What its board holds is what a board holds that takes the drawops of the record, in their order, each name once.
 abbrev pub TheRecordIsTheBoard : Type 0
-TheRecordIsTheBoard = (lines : List JudgedLine) (h : Judged)
+TheRecordIsTheBoard = (lines : List Call) (h : Judged)
     → (after_all lines h).kept.host.is.held ≡ history_after h.kept.host.is.cells h.kept.host.is.held (drawops_of (record_by lines h))
 
 -- each that is strange is held, and its name stands once
@@ -160,7 +155,7 @@ pub record AreAlike (h other : Judged) : Type 0 where
 
 -- However its moments, its number and its network differ, a member that begins anew and is handed the record of another, line by line, is alike.
 abbrev pub ItBeginsAgain : Type 0
-ItBeginsAgain = (lines : List JudgedLine) (h anew : Judged) → IsSound h → AreAlike h anew
+ItBeginsAgain = (lines : List Call) (h anew : Judged) → IsSound h → AreAlike h anew
     → AreAlike (after_all lines h) (after_all (map Held (record_by lines h)) anew)
 
 -- no line of the record stands after a datagram that is sent
@@ -186,4 +181,4 @@ is_send (Warn warning) = false
 
 -- All that is to be recorded comes before all that is to be sent.
 abbrev pub RecordsComeFirst : Type 0
-RecordsComeFirst = (line : JudgedLine) (h : Judged) → AllPairs (λ one other. is_send one ≡ true → is_record other ≡ false) (events_of line h)
+RecordsComeFirst = (line : Call) (h : Judged) → AllPairs (λ one other. is_send one ≡ true → is_record other ≡ false) (events_of line h)

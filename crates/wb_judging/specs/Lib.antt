@@ -7,6 +7,9 @@ pub mod Hearing
 pub mod Performing
 pub mod Opening
 pub mod Refusing
+pub mod Calling
 pub mod Asking
+pub mod Since
+pub mod Missing
 pub mod Laws
 pub mod Members

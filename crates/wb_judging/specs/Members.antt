@@ -17,7 +17,7 @@ use Rattle.wb_member.specs.Judged.{holds}
 use Rattle.wb_member.specs.Opened.{Opened}
 use Rattle.wb_keeping.specs.Laws.{Came}
 use Rattle.wb_judging.specs.Handing.{facts_of, handed}
-use Rattle.wb_judging.specs.Judged.{CameFrom, DayTold, Garbled, GoneFrom, Held, Judged, JudgedLine, Passed, UserDrew}
+use Rattle.wb_judging.specs.Judged.{Call, CameFrom, GoneFrom, Judged}
 use Rattle.wb_judging.specs.Performing.{after_judged}
 
 -- What a kept member needs to have all that others hold, and to give what it holds: a drawop that it lacks, a request for what it holds, and each report.
@@ -61,18 +61,14 @@ pub record IsMemberUntil (o : Origin) (number until : ℕ) (h : Judged) : Type 0
   pub speaks : Speaks o number h.judge
 
 -- By a line only members speak, and whoever is gone is another. What comes from the member itself comes no longer than ten minutes before that moment.
-abbrev pub LeavesMember : Origin → ℕ → JudgedLine → Judged → Type 0
+abbrev pub LeavesMember : Origin → ℕ → Call → Judged → Type 0
 LeavesMember o until (CameFrom now p v) h = (knows p now h.judge ≡ true) × IsSpoken p v h.judge × (same_origin p o ≡ true → until ≤ now + SILENCE)
-LeavesMember o until (Garbled now) h = Unit {0}
-LeavesMember o until (Passed now) h = Unit {0}
-LeavesMember o until (UserDrew now page op) h = Unit {0}
-LeavesMember o until (DayTold now wall) h = Unit {0}
 LeavesMember o until (GoneFrom now p) h = same_origin p o ≡ false
-LeavesMember o until (Held line) h = Unit {0}
+LeavesMember o until call h = Unit {0}
 
 -- Such a line leaves it a member.
 abbrev pub MembersStay : Type 0
-MembersStay = (line : JudgedLine) (h : Judged) (o : Origin) (number until : ℕ) → IsBounded h.judge → LeavesMember o until line h → IsMemberUntil o number until h → IsMemberUntil o number until (after_judged line h)
+MembersStay = (line : Call) (h : Judged) (o : Origin) (number until : ℕ) → IsBounded h.judge → LeavesMember o until line h → IsMemberUntil o number until h → IsMemberUntil o number until (after_judged line h)
 
 -- What comes from a member makes it one for ten minutes more.
 abbrev pub MembersAreKnownAgain : Type 0

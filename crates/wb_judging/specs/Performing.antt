@@ -12,7 +12,7 @@ use Rattle.wb_keeping.specs.Refusing.{drawn_as}
 use Rattle.wb_judging.specs.Events.{advice, dropped_events, fate_of, gain_events, told}
 use Rattle.wb_judging.specs.Handing.{facts_of, handed, judge_after, verdict_on}
 use Rattle.wb_judging.specs.Hearing.{after_fate, after_recalling, after_sends}
-use Rattle.wb_judging.specs.Judged.{CameFrom, DayTold, Garbled, GoneFrom, Held, Judged, JudgedLine, Passed, UserDrew, giver_of, moment_of}
+use Rattle.wb_judging.specs.Judged.{Call, CameFrom, DayTold, Garbled, GoneFrom, Held, Judged, giver_of, moment_of}
 use Rattle.wb_judging.specs.Recording.{freed_lines, gain_lines, mark_lines}
 use Rattle.wb_judging.specs.declared.event.Event.{Event}
 use Rattle.wb_judging.specs.declared.event.Event.TheVariants.{NoDatagram}
@@ -49,51 +49,35 @@ gained line k = drop (length k.host.is.held) (after_kept_line line k).host.is.he
 -- ---- what becomes of the judge
 
 -- the judge, before it hears what is sent
-abbrev pub judging : JudgedLine → Judged → Judge
+abbrev pub judging : Call → Judged → Judge
 judging (CameFrom now o v) h = after_fate now o v (fate_by (handed (CameFrom now o v) h) h.kept) (judge_after now o v h)
-judging (Garbled now) h = h.judge
-judging (Passed now) h = h.judge
-judging (UserDrew now page op) h = h.judge
 judging (DayTold now wall) h = record h.judge { clock = record { wall = wall; at = now } }
 judging (GoneFrom now o) h = after_leaving o h.judge
 judging (Held line) h = after_recalling line (fate_by (handed (Held line) h) h.kept) h.judge
+judging call h = h.judge
 
 -- ---- a line
 
-abbrev pub first_events : JudgedLine → Judged → List Event
+abbrev pub first_events : Call → Judged → List Event
 first_events (CameFrom now o v) h = dropped_events (verdict_on now o v h).why
 first_events (Garbled now) h = NoDatagram ∷ []
-first_events (Passed now) h = []
-first_events (UserDrew now page op) h = []
-first_events (DayTold now wall) h = []
-first_events (GoneFrom now o) h = []
-first_events (Held line) h = []
+first_events call h = []
 
-abbrev pub last_events : JudgedLine → Judged → List Event
+abbrev pub last_events : Call → Judged → List Event
 last_events (CameFrom now o v) h = advice (verdict_on now o v h) (facts_of now v h.kept).lacking
-last_events (Garbled now) h = []
-last_events (Passed now) h = []
-last_events (UserDrew now page op) h = []
-last_events (DayTold now wall) h = []
-last_events (GoneFrom now o) h = []
-last_events (Held line) h = []
+last_events call h = []
 
 -- what is recorded before what the board gained: what the origin gave that has answered by this datagram, and a mark of ours
-abbrev pub first_lines : JudgedLine → Judged → List RecordLine
+abbrev pub first_lines : Call → Judged → List RecordLine
 first_lines (CameFrom now o v) h =
     freed_lines o h.judge.strange.given (judge_after now o v h).strange.given h.kept.host.is.held ++ mark_lines now v (verdict_on now o v h).why h.kept
-first_lines (Garbled now) h = []
-first_lines (Passed now) h = []
-first_lines (UserDrew now page op) h = []
-first_lines (DayTold now wall) h = []
-first_lines (GoneFrom now o) h = []
-first_lines (Held line) h = []
+first_lines call h = []
 
 -- all that is recorded after these lines, as a kept member does a line at a judge
 abbrev pub lines_by : List RecordLine → Giver → KeptLine → Keeping → Judge → List RecordLine
 lines_by first giver line k j = first ++ gain_lines giver j.strange.given (gained line k)
 
-abbrev pub lines_of : JudgedLine → Judged → List RecordLine
+abbrev pub lines_of : Call → Judged → List RecordLine
 lines_of line h = lines_by (first_lines line h) (giver_of line) (handed line h) h.kept (judging line h)
 
 -- the events of that
@@ -101,11 +85,11 @@ abbrev pub told_by : ℕ → List RecordLine → Giver → KeptLine → Keeping 
 told_by now first giver line k j =
     told (gain_events now (lines_by first giver line k j) (gained line k)) (own_echo now j) (sent_by_kept_line line k) (fate_by line k)
 
-abbrev pub events_of : JudgedLine → Judged → List Event
+abbrev pub events_of : Call → Judged → List Event
 events_of line h =
     first_events line h ++ (told_by (moment_of line h) (first_lines line h) (giver_of line) (handed line h) h.kept (judging line h) ++ last_events line h)
 
-abbrev pub after_judged : JudgedLine → Judged → Judged
+abbrev pub after_judged : Call → Judged → Judged
 after_judged line h = record {
   kept = after_kept_line (handed line h) h.kept;
   judge = after_sends (sent_by_kept_line (handed line h) h.kept) (judging line h);
@@ -124,7 +108,7 @@ pub record IsJudgedAt (v : JudgedValue) (h : Judged) : Type 0 where
   pub own : h.judge.me ≡ h.kept.host.is.number
 
 -- A line was performed: whichever judged member the code was at, these are its events, and it is where the line leads.
-abbrev pub Performs : JudgedLine → JudgedValue → List Event → JudgedValue → Type 0
+abbrev pub Performs : Call → JudgedValue → List Event → JudgedValue → Type 0
 Performs line old events new = (h : Judged) → IsJudgedAt old h → (events ≡ events_of line h) × IsJudgedAt new (after_judged line h)
 
 -- A kept member performed a line: whichever it was; how many drawops were held before; what was sent; and what became of a drawop.

@@ -1,4 +1,4 @@
-//! Why nothing is drawn.
+//! Why a call is refused.
 
 use std::alloc::AllocError;
 use thiserror::Error;
@@ -6,7 +6,7 @@ use wb_judge::AddFault;
 use wb_keeper::KeepFault;
 use wb_keeping::KeptFault;
 
-/// Why a judged member draws nothing.
+/// Why a judged member refuses a call.
 #[derive(Clone, Copy, Debug, PartialEq, Eq, Error)]
 pub enum JudgedFault {
     /// Its judge refuses.

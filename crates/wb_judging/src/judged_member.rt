@@ -8,6 +8,7 @@ ghost use Rattle.wb_judging.specs.Judged.{Judged};
 ghost use Rattle.wb_judging.specs.Opening.{opened};
 ghost use Rattle.wb_judging.specs.Performing.{IsJudgedAt};
 
+mod asking;
 mod calls;
 mod doing;
 mod listing;

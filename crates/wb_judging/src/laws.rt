@@ -1,6 +1,7 @@
 //! What follows for a judged member, proved for whatever comes in. The functions do nothing: each
 //! stands here for its clause.
 
+ghost use Rattle.wb_judging.specs.Since.{SincePatches};
 ghost use Rattle.wb_judging.specs.Laws.{ItBeginsAgain, JudgedMembersAreKept, MembersAreHandedIn, NobodyMovesOurTime, OnlyAnswersMakeKnown, OthersHearTheSame, RecordsComeFirst, SendsAsKept, StrangersHushNobody, TheNetworkRefusesNothing, TheRecordIsTheBoard, TheSameOrATick};
 ghost use Rattle.wb_judging.specs.Members.{EachKindIsHandedIn, MembersAreKnownAgain, MembersStay, NeededIsHandedIn, OthersDrawopsAreFit, ReportsAreFit};
 
@@ -72,4 +73,10 @@ pub fn only_answers_make_known()
 /// The driver alone tells the time of day, from which our drawings get their times.
 pub fn nobody_moves_our_time()
     ensures { NobodyMovesOurTime }
+{}
+
+/// What a page showed when fewer drawops were held, with what `since` takes off and puts in, is
+/// what it shows now.
+pub fn since_patches()
+    ensures { SincePatches }
 {}

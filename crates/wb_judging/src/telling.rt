@@ -1,7 +1,7 @@
 //! The events of a call.
-ghost use Rattle.std.specs.Prelude.{◌≡◌, ◌++◌, ◌∷◌, [], drop, map, OnOk};
+ghost use Rattle.std.specs.Prelude.{◌≡◌, ◌++◌, ◌∷◌, [], drop, map, IfOk, OnOk};
 ghost use Rattle.wb_judging.specs.Events.{advice, became_events, drew_event, dropped_events, fetch_events, gain_events, send_event, warn_events};
-ghost use Rattle.wb_judging.specs.declared.event.Event.TheVariants.{Record};
+ghost use Rattle.wb_judging.specs.declared.event.Event.TheVariants.{NoDatagram, Record};
 
 use crate::echoing::echoing;
 use crate::event::{Event, Fate};
@@ -12,11 +12,20 @@ use wb_judge::{Origin, Verdict, Warning, Why};
 use wb_names::{Drawop, Echo};
 
 /// Adds an event.
-pub(crate) fn add(events: &mut Vec<Event>, event: Event) -> Result<(), AllocError>
+fn add(events: &mut Vec<Event>, event: Event) -> Result<(), AllocError>
     ensures { OnOk result (events.new.items ≡ events.old.items ++ event ∷ []) }
 {
     events.push(event)?;
     Ok(())
+}
+
+/// The event of what came that is not a datagram.
+pub(crate) fn no_datagram(alloc: Global) -> Result<Vec<Event>, AllocError>
+    ensures { IfOk result (λ events. events.items ≡ NoDatagram ∷ []) }
+{
+    let mut events = Vec::new(alloc);
+    add(&mut events, Event::NoDatagram)?;
+    Ok(events)
 }
 
 /// Adds why a datagram is dropped, if it is.

@@ -1,128 +1,86 @@
-//! What a judged member is handed.
-ghost use Rattle.std.specs.Prelude.{◌≡◌, ◌<◌, ◌^◌, IfOk, IsTrue, is_some};
+//! What happens to a judged member.
+ghost use Rattle.std.specs.Prelude.{◌≡◌, IfOk, IsTrue, is_some};
+ghost use Rattle.std.specs.Option.{option_map};
 ghost use Rattle.wb_names.specs.Moments.{IsMoment};
 ghost use Rattle.wb_names.specs.Shapes.{op_of};
 ghost use Rattle.wb_judge.specs.Judging.{draws};
-ghost use Rattle.wb_keeping.specs.Refusing.{IsRefusedBy, back_in_time};
-ghost use Rattle.wb_judging.specs.Judged.{CameFrom, DayTold, Garbled, GoneFrom, Held, Judged, Passed, UserDrew};
+ghost use Rattle.wb_judging.specs.Calling.{Answers, IsWithin, is_early};
+ghost use Rattle.wb_judging.specs.Judged.{Held, Judged, UserDrew};
 ghost use Rattle.wb_judging.specs.Performing.{IsJudgedAt, Performs};
 ghost use Rattle.wb_judging.specs.Refusing.{IsRefusedAs, draw_fault, held_fault};
+ghost use Rattle.wb_judging.specs.declared.judged_fault.JudgedFault.TheVariants.{Kept};
 
+use crate::call::Call;
 use crate::event::Event;
-use crate::handing::{draw, recall};
+use crate::handing::{draw, recall, shape_of};
 use crate::hearing::hear_recalled;
 use crate::judged_fault::JudgedFault;
 use crate::judged_member::JudgedMember;
 use crate::record::{Giver, RecordLine};
-use crate::telling::add;
+use crate::telling::no_datagram;
 use std::alloc::Global;
-use wb_codec::Datagram;
-use wb_judge::Origin;
 use wb_keeper::KeepFault;
 use wb_keeping::KeptFault;
 use wb_names::{PageId, Shape};
 
 /// A moment is before the present one.
-const BACK_IN_TIME: KeptFault = KeptFault::Host(KeepFault::BackInTime);
+const BACK_IN_TIME: JudgedFault = JudgedFault::Kept(KeptFault::Host(KeepFault::BackInTime));
 
 impl JudgedMember {
-    /// A datagram came in from an origin, at a moment in microseconds below 2^48. Refused before the
-    /// present moment, and for nothing else.
-    pub fn came(
-        &mut self,
-        alloc: Global,
-        now: u64,
-        origin: Origin,
-        datagram: &Datagram,
-    ) -> Result<Vec<Event>, KeptFault>
-        requires { IsMoment now }
-        ensures fault { (h : Judged) → IsJudgedAt self.old h →
-            IsRefusedBy (back_in_time now h.kept) result }
-        ensures refused { (h : Judged) → IsJudgedAt self.old h →
-            IsTrue (is_some (back_in_time now h.kept)) → self.new ≡ self.old }
-        ensures does { IfOk result (λ events.
-            Performs (CameFrom now origin datagram.now) self.old events.items self.new) }
+    /// Something happens to the member, and these events follow; or the call is refused, and the
+    /// member stays as it was.
+    ///
+    /// What others give, a moment and a time of day are refused before the present moment, and for
+    /// nothing else. The user draws nothing if somebody has our number too, or no cell is left for
+    /// a drawing; and then as the kept member refuses it. A line of the record is refused only if
+    /// it has a drawop of ours that is not held and has a number that we would never reach.
+    pub fn call(&mut self, alloc: Global, call: &Call) -> Result<Vec<Event>, JudgedFault>
+        requires { IsWithin call.now }
+        ensures { Answers call.now self.old result self.new }
     {
-        if !self.is_time(now) {
+        if self.is_early(call) {
             return Err(BACK_IN_TIME);
         }
-        self.take(alloc, now, origin, datagram)
-    }
-
-    /// What came in is not a datagram. Refused before the present moment, and for nothing else.
-    pub fn garbled(&mut self, alloc: Global, now: u64) -> Result<Vec<Event>, KeptFault>
-        requires { IsMoment now }
-        ensures fault { (h : Judged) → IsJudgedAt self.old h →
-            IsRefusedBy (back_in_time now h.kept) result }
-        ensures refused { (h : Judged) → IsJudgedAt self.old h →
-            IsTrue (is_some (back_in_time now h.kept)) → self.new ≡ self.old }
-        ensures does { IfOk result (λ events.
-            Performs (Garbled now) self.old events.items self.new) }
-    {
-        if !self.is_time(now) {
-            return Err(BACK_IN_TIME);
+        match call {
+            Call::CameFrom {
+                now,
+                origin,
+                datagram,
+            } => self.take(alloc, *now, *origin, datagram),
+            Call::Garbled { now } => {
+                let first = no_datagram(alloc)?;
+                self.pass(alloc, *now, first)
+            }
+            Call::Passed { now } => self.pass(alloc, *now, Vec::new(alloc)),
+            Call::UserDrew { now, page, op } => self.add(alloc, *now, *page, shape_of(op)),
+            Call::DayTold { now, wall } => {
+                self.judge.tell_time(*now, *wall);
+                self.pass(alloc, *now, Vec::new(alloc))
+            }
+            Call::GoneFrom { now, origin } => {
+                self.judge.leave(*origin);
+                self.pass(alloc, *now, Vec::new(alloc))
+            }
+            Call::Held(line) => self.held(alloc, line),
         }
-        let mut first = Vec::new(alloc);
-        add(&mut first, Event::NoDatagram)?;
-        self.pass(alloc, now, first)
     }
 
-    /// Time goes on to a moment. Refused before the present moment.
-    pub fn tick(&mut self, alloc: Global, now: u64) -> Result<Vec<Event>, KeptFault>
-        requires { IsMoment now }
-        ensures fault { (h : Judged) → IsJudgedAt self.old h →
-            IsRefusedBy (back_in_time now h.kept) result }
-        ensures refused { (h : Judged) → IsJudgedAt self.old h →
-            IsTrue (is_some (back_in_time now h.kept)) → self.new ≡ self.old }
-        ensures does { IfOk result (λ events.
-            Performs (Passed now) self.old events.items self.new) }
+    /// Whether a call is of a moment before the present one, and so is refused.
+    fn is_early(&self, call: &Call) -> bool
+        ensures { (h : Judged) → IsJudgedAt self.now h → result ≡ is_early call.now h }
     {
-        if !self.is_time(now) {
-            return Err(BACK_IN_TIME);
+        match call {
+            Call::UserDrew { .. } | Call::Held(_) => false,
+            Call::CameFrom { now, .. }
+            | Call::Garbled { now }
+            | Call::Passed { now }
+            | Call::DayTold { now, .. }
+            | Call::GoneFrom { now, .. } => *now < self.kept.member().moment(),
         }
-        self.pass(alloc, now, Vec::new(alloc))
     }
 
-    /// The time of day at a moment is this, in microseconds since 1970, below 2^62. Refused before
-    /// the present moment.
-    pub fn wall(&mut self, alloc: Global, now: u64, wall: u64) -> Result<Vec<Event>, KeptFault>
-        requires moment { IsMoment now }
-        requires wall { wall < 2 ^ 62 }
-        ensures fault { (h : Judged) → IsJudgedAt self.old h →
-            IsRefusedBy (back_in_time now h.kept) result }
-        ensures refused { (h : Judged) → IsJudgedAt self.old h →
-            IsTrue (is_some (back_in_time now h.kept)) → self.new ≡ self.old }
-        ensures does { IfOk result (λ events.
-            Performs (DayTold now wall) self.old events.items self.new) }
-    {
-        if !self.is_time(now) {
-            return Err(BACK_IN_TIME);
-        }
-        self.judge.tell_time(now, wall);
-        self.pass(alloc, now, Vec::new(alloc))
-    }
-
-    /// The network says that whoever spoke from an origin is gone. Refused before the present
-    /// moment.
-    pub fn gone(&mut self, alloc: Global, now: u64, origin: Origin) -> Result<Vec<Event>, KeptFault>
-        requires { IsMoment now }
-        ensures fault { (h : Judged) → IsJudgedAt self.old h →
-            IsRefusedBy (back_in_time now h.kept) result }
-        ensures refused { (h : Judged) → IsJudgedAt self.old h →
-            IsTrue (is_some (back_in_time now h.kept)) → self.new ≡ self.old }
-        ensures does { IfOk result (λ events.
-            Performs (GoneFrom now origin) self.old events.items self.new) }
-    {
-        if !self.is_time(now) {
-            return Err(BACK_IN_TIME);
-        }
-        self.judge.leave(origin);
-        self.pass(alloc, now, Vec::new(alloc))
-    }
-
-    /// Its user draws on a page, at the time of day. Refused if somebody has our number too, or no
-    /// cell is left for a drawing; and then as the kept member refuses it.
-    pub fn add(
+    /// Its user draws.
+    fn add(
         &mut self,
         alloc: Global,
         now: u64,
@@ -148,14 +106,10 @@ impl JudgedMember {
         Ok(events)
     }
 
-    /// A line of its record, which is taken at the present moment. It is not judged, and not
-    /// recorded again. A drawop that no known origin gave counts as a stranger's again, unless the
-    /// user or a member gave it too. A moment changes nothing but what a tick at the present
-    /// moment does. Refused only if the line has a drawop of ours that is not held and has a number
-    /// that we would never reach.
-    pub fn held(&mut self, alloc: Global, line: &RecordLine) -> Result<Vec<Event>, KeptFault>
+    /// A line of its record is taken.
+    fn held(&mut self, alloc: Global, line: &RecordLine) -> Result<Vec<Event>, JudgedFault>
         ensures fault { (h : Judged) → IsJudgedAt self.old h →
-            IsRefusedBy (held_fault line.now h) result }
+            IsRefusedAs (option_map Kept (held_fault line.now h)) result }
         ensures refused { (h : Judged) → IsJudgedAt self.old h →
             IsTrue (is_some (held_fault line.now h)) → self.new ≡ self.old }
         ensures does { IfOk result (λ events.

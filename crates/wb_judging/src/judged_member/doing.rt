@@ -5,18 +5,19 @@ ghost use Rattle.wb_judge.specs.Adding.{own_echo};
 ghost use Rattle.wb_member.specs.Opened.{present};
 ghost use Rattle.wb_keeping.specs.Laws.{Ticked};
 ghost use Rattle.wb_keeping.specs.Performing.{IsKeptAt, Keeping};
-ghost use Rattle.wb_keeping.specs.Refusing.{IsRefusedBy};
 ghost use Rattle.wb_judging.specs.Events.{gain_events, told};
 ghost use Rattle.wb_judging.specs.Judged.{CameFrom, Judged};
 ghost use Rattle.wb_judging.specs.Hearing.{after_sends};
 ghost use Rattle.wb_judging.specs.Performing.{Goes, IsJudgedAt, Performs};
 ghost use Rattle.wb_judging.specs.Recording.{gain_lines};
+ghost use Rattle.wb_judging.specs.Refusing.{IsRefusedAs};
 ghost use Rattle.wb_judging.specs.declared.record.Giver.TheVariants.{Others};
 
 use crate::event::Event;
 use crate::facts::facts_of;
 use crate::handing::{Did, hand, tick};
 use crate::hearing::{hear_fate, hear_sent};
+use crate::judged_fault::JudgedFault;
 use crate::judged_member::JudgedMember;
 use crate::record::{Giver, RecordLine, add_gain_lines};
 use crate::telling::{add_advice, add_became, add_dropped, add_gain, add_sent, gained};
@@ -24,16 +25,8 @@ use crate::weighing::{Weighed, weigh};
 use std::alloc::{AllocError, Global};
 use wb_codec::Datagram;
 use wb_judge::Origin;
-use wb_keeping::KeptFault;
 
 impl JudgedMember {
-    /// Whether a moment is not before the present one.
-    pub(super) fn is_time(&self, now: u64) -> bool
-        ensures { (k : Keeping) → IsKeptAt self.now.kept k → result ≡ nat_le (present k.host) now }
-    {
-        self.kept.member().moment() <= now
-    }
-
     /// Tells what its kept member did for a line, after these lines of the record, and has its
     /// judge hear which reports were sent.
     pub(super) fn tell(
@@ -71,10 +64,10 @@ impl JudgedMember {
         alloc: Global,
         now: u64,
         first: Vec<Event>,
-    ) -> Result<Vec<Event>, KeptFault>
+    ) -> Result<Vec<Event>, JudgedFault>
         requires { IsMoment now }
         ensures fault { (k : Keeping) → IsKeptAt self.old.kept k →
-            nat_le (present k.host) now ≡ true → IsRefusedBy None result }
+            nat_le (present k.host) now ≡ true → IsRefusedAs None result }
         ensures does { IfOk result
             (λ events. Goes now [] Others (Ticked now) first.items self.old events.items self.new) }
     {
@@ -91,10 +84,10 @@ impl JudgedMember {
         now: u64,
         origin: Origin,
         datagram: &Datagram,
-    ) -> Result<Vec<Event>, KeptFault>
+    ) -> Result<Vec<Event>, JudgedFault>
         requires { IsMoment now }
         ensures fault { (h : Judged) → IsJudgedAt self.old h →
-            nat_le (present h.kept.host) now ≡ true → IsRefusedBy None result }
+            nat_le (present h.kept.host) now ≡ true → IsRefusedAs None result }
         ensures does { IfOk result (λ events.
             Performs (CameFrom now origin datagram.now) self.old events.items self.new) }
     {

@@ -3,8 +3,8 @@ use Rattle.wb_codec.specs.Reading.{reading}
 use Rattle.wb_c.proofs.Served.{came_as_read, garbled_as_read}
 use Rattle.wb_c.proofs.judged_serving.arrival.Goals as goal
 
-pub returns-in-Ok-clause-line : goal.returns-in-Ok-clause-line
-returns-in-Ok-clause-line c = came_as_read c.args.now c.args.origin (reading c.args.bytes.now) c.in-Ok.datagram (sym c.in-Ok.is ∙ c.in_ok-datagram.ensures)
+pub returns-in-Ok-clause-call : goal.returns-in-Ok-clause-call
+returns-in-Ok-clause-call c = came_as_read c.args.now c.args.origin (reading c.args.bytes.now) c.in-Ok.datagram (sym c.in-Ok.is ∙ c.in_ok-datagram.ensures)
 
-pub returns-in-Err-clause-line : goal.returns-in-Err-clause-line
-returns-in-Err-clause-line c = garbled_as_read c.args.now c.args.origin (reading c.args.bytes.now) c.in-Err.field-0 (sym c.in-Err.is ∙ c.in_ok-datagram.ensures)
+pub returns-in-Err-clause-call : goal.returns-in-Err-clause-call
+returns-in-Err-clause-call c = garbled_as_read c.args.now c.args.origin (reading c.args.bytes.now) c.in-Err.field-0 (sym c.in-Err.is ∙ c.in_ok-datagram.ensures)

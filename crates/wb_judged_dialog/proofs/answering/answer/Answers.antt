@@ -1,17 +1,22 @@
-use Rattle.wb_keeping.specs.Refusing.{back_in_time}
-use Rattle.wb_judging.specs.Judged.{CameFrom}
-use Rattle.wb_judged_dialog.proofs.Acts.{does_deed}
+use Rattle.std.proofs.Common.{refl}
+use Rattle.wb_judged_dialog.specs.Texts.{worded_line}
+use Rattle.wb_judged_dialog.proofs.Acts.{answered, does_call}
 use Rattle.wb_judged_dialog.proofs.answering.answer.Goals as goal
 
-pub returns-in-Came : goal.returns-in-Came
-returns-in-Came c =
-    let told = c.tell-in-Came.ensures in
-    let came = c.in-Came in
+pub returns-in-Call : goal.returns-in-Call
+returns-in-Call c =
+    let told = c.tell.ensures in
+    let it = c.in-Call in
+    record { text = (told.0, told.1, rw it.is (does_call it.call c.args.member.now c.call.new.self c.call.result told.0 c.tell.result c.call.ensures told.2)) }
+
+pub returns-in-Words : goal.returns-in-Words
+returns-in-Words c =
+    let told = c.words.ensures in
+    let said = c.in-Words in
     record {
       text = (
         told.0,
         told.1,
-        rw came.is (does_deed (λ events. events.items) (CameFrom came.now came.origin came.datagram) (λ h. back_in_time came.now h.kept) c.args.member.now c.came.new.self c.came.result told.0 c.tell-in-Came.result
-            (λ h at. c.came.ensures.fault h at) (λ h at. c.came.ensures.refused h at) c.came.ensures.does told.2),
+        rw said.is (answered c.args.member.now c.args.member.now (λ h. worded_line said.datagram) told.0 c.words.result refl (λ h at. told.2)),
       );
     }

@@ -1,6 +1,6 @@
 use Rattle.std.proofs.Common.{IfOk, refl, subst, arith}
 use Rattle.wb_codec.specs.Reading.{reading}
-use Rattle.wb_judging.specs.Judged.{JudgedLine}
+use Rattle.wb_judging.specs.declared.call.Call.{Call}
 use Rattle.wb_c.specs.Serving.{AtJudged, arrival}
 use Rattle.wb_c.proofs.Served.{all_in_time, not_in_time}
 use Rattle.wb_c.proofs.room.Room.came_from.Goals as goal
@@ -11,6 +11,6 @@ returns-then-now-ge-MOMENT_LIMIT c =
 
 pub returns : goal.returns
 returns c =
-    let line = arrival c.args.now c.args.origin (reading c.args.bytes.now) in
-    all_in_time (AtJudged line) c.args.self.now c.judge.new.self c.args.now c.judge.result (omega (arith, c.if-now-ge-MOMENT_LIMIT.false))
-    (subst (λ (l : JudgedLine). IfOk c.judge.result (AtJudged l c.args.self.now c.judge.new.self)) c.in_ok-deed.ensures.line c.judge.ensures)
+    let call = arrival c.args.now c.args.origin (reading c.args.bytes.now) in
+    all_in_time (AtJudged call) c.args.self.now c.judge.new.self c.args.now c.judge.result (omega (arith, c.if-now-ge-MOMENT_LIMIT.false))
+    (subst (λ (call : Call). IfOk c.judge.result (AtJudged call c.args.self.now c.judge.new.self)) c.in_ok-call.ensures.call c.judge.ensures)

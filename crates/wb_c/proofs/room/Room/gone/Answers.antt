@@ -1,5 +1,5 @@
 use Rattle.std.proofs.Common.{refl, arith}
-use Rattle.wb_judging.specs.Judged.{GoneFrom}
+use Rattle.wb_judging.specs.declared.call.Call.TheVariants.{GoneFrom}
 use Rattle.wb_c.specs.Serving.{AtJudged}
 use Rattle.wb_c.proofs.Served.{all_in_time, not_in_time}
 use Rattle.wb_c.proofs.room.Room.gone.Goals as goal

@@ -1,6 +1,6 @@
 use Rattle.std.proofs.Common.{refl, arith}
 use Rattle.wb_keeping.specs.Laws.{Ticked}
-use Rattle.wb_judging.specs.Judged.{Passed}
+use Rattle.wb_judging.specs.declared.call.Call.TheVariants.{Passed}
 use Rattle.wb_c.specs.Performing.{Performs}
 use Rattle.wb_c.specs.Serving.{Ticks}
 use Rattle.wb_c.proofs.Served.{all_in_time, either_judged, either_kept, not_in_time}

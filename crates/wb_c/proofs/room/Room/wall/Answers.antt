@@ -1,6 +1,6 @@
 use Rattle.std.proofs.Common.{◌^◌, refl, arith}
 use Rattle.std.specs.Prelude.{nat_lt}
-use Rattle.wb_judging.specs.Judged.{DayTold}
+use Rattle.wb_judging.specs.declared.call.Call.TheVariants.{DayTold}
 use Rattle.wb_c.specs.Serving.{AtJudged, OfDay}
 use Rattle.wb_c.proofs.Served.{all_in_time, all_of_day, in_time, not_in_time, not_of_day}
 use Rattle.wb_c.proofs.room.Room.wall.Goals as goal

@@ -4,6 +4,7 @@ use Rattle.wb_member.specs.Holding.{IsOpenAt, MemberValue}
 use Rattle.wb_judging.specs.Performing.{IsJudgedAt, JudgedValue}
 use Rattle.wb_judging.specs.declared.event.Event.{Event}
 use Rattle.wb_judging.specs.declared.handing.Did.{Did}
+use Rattle.wb_judging.specs.declared.judged_fault.JudgedFault.TheVariants.{Kept}
 use Rattle.wb_judging.proofs.Taken.{not_taken, now_is_time, recalled_done, recalled_refused}
 use Rattle.wb_judging.proofs.judged_member.JudgedMember.held.Goals as goal
 
@@ -12,7 +13,7 @@ returns-in_err-did-clause-fault c = λ h here.
     let at = subst (λ (v : JudgedValue). IsJudgedAt v h) (sym c.self.view_is) here in
     let opened = subst (λ (v : MemberValue). IsOpenAt v h.kept.host) (sym c.member.ensures) at.kept.member in
     let e = c.in_err-did.field-0.0 in
-    let gives : c.from_residual.result ≡ Err e = search rules in
+    let gives : c.from_residual.result ≡ Err (Kept e) = search rules in
     recalled_refused Did (Vec Event Global) c.args.line.now h c.moment-now.result e c.from_residual.result (c.moment-now.ensures.moment h.kept.host opened) (c.in_err-did.ensures.fault h.kept at.kept (now_is_time h.kept c.moment-now.result (c.moment-now.ensures.moment h.kept.host opened))) gives
 
 pub returns-in_err-tell-clause-refused : goal.returns-in_err-tell-clause-refused

@@ -8,6 +8,7 @@ use Rattle.wb_keeping.specs.Laws.{fault_of}
 use Rattle.wb_keeping.specs.declared.kept_fault.KeptFault.TheVariants.{Host}
 use Rattle.wb_judging.specs.Handing.{handed_for}
 use Rattle.wb_judging.specs.Performing.{IsJudgedAt, JudgedValue}
+use Rattle.wb_judging.specs.declared.judged_fault.JudgedFault.TheVariants.{Kept}
 use Rattle.wb_judging.proofs.Handed.{handed_fault}
 use Rattle.wb_judging.proofs.Kept.{at_same}
 use Rattle.wb_judging.proofs.Taken.{not_refused, took, why_is}
@@ -23,7 +24,7 @@ returns-in_err-did-clause-fault c = λ h here time.
     let v = c.args.datagram.now in
     let at = subst (λ (v : JudgedValue). IsJudgedAt v h) (sym c.self.view_is) here in
     let e = c.in_err-did.field-0.0 in
-    let gives : c.from_residual-in_err-did.result ≡ Err e = search rules in
+    let gives : c.from_residual-in_err-did.result ≡ Err (Kept e) = search rules in
     let facts = c.in_ok-facts.ensures.facts h.kept at.kept in
     let why = why_is now o v h c.in_ok-facts.facts c.self.inside.judge c.in_ok-weighed.weighed.verdict c.in_ok-weighed.ensures.verdict facts at.judge in
     let none : fault_of (handed_for now v c.in_ok-weighed.weighed.verdict.why) h.kept ≡ None =
