@@ -51,6 +51,7 @@ class Seen:
     least: int = NAMES  # of the names that it asks for, once one came, while it lacks 64 below its tops
     idle: list[Name] = field(default_factory=list)  # these came, were asked for, and led to no request
     alone: list[Name] = field(default_factory=list)  # these came, and a neighbour is not asked for, though fewer than 48 names are
+    unfilled: list[int] = field(default_factory=list)  # after a call at this time it asked for fewer names than it has places, and not for all that it lacked
 
 
 @dataclass
@@ -66,19 +67,26 @@ class Watched(Model):
 
 
 class Joining:
-    """Two hosts hold all, and a third one, which nothing has come to yet, is watched. What one sends reaches each other one within `delay`."""
+    """Two hosts hold all, and a third one is watched, which nothing has come to yet but what it holds at first. What one sends reaches each other one
+    within `delay`. It has so many places."""
 
-    def __init__(self, names: list[Name], delay: int, seed: int) -> None:
+    def __init__(self, names: list[Name], delay: int, seed: int, held: frozenset[Name] = frozenset(), places: int = STRANGERS) -> None:
         self.random, self.delay, self.now = random.Random(seed), delay, 0
-        self.names = set(names)
+        self.names, self.places = set(names), places
         self.order = itertools.count()
         self.events: list[tuple[int, int, int, Datagram]] = []
         self.models = [Watched(place + 1, 2 * len(names), Words(seed + place)) for place in range(3)]
         self.hosts = [Kept(model, RATE, 0, Words(seed + place, 55)) for place, model in enumerate(self.models)]
         self.calls = [0, 0, 0]
         for model in self.models[:2]:
-            model.held = {name: Drawop(name, 5, datagrams.line(0, 0, 1, 1, "x"), "*") for name in names}
+            model.held = {name: self.drawop(name) for name in names}
+        self.models[2].held = {name: self.drawop(name) for name in held}
         self.newcomer, self.seen = self.hosts[2], Seen()
+        self.lacked = self.lacked_first = frozenset(names) - held
+
+    @staticmethod
+    def drawop(name: Name) -> Drawop:
+        return Drawop(name, 5, datagrams.line(0, 0, 1, 1, "x"), "*")
 
     def is_whole(self) -> bool:
         return self.names <= set(self.newcomer.host.held)
@@ -95,6 +103,8 @@ class Joining:
 
     def say(self, place: int, block: str) -> None:
         self.calls[place] = max(self.now, self.hosts[place].due()) + self.random.randrange(LATE)
+        if self.hosts[place] is self.newcomer:
+            self.count()
         for line in block.splitlines():
             for other in range(3):
                 if line.startswith("send ") and other != place:
@@ -119,14 +129,21 @@ class Joining:
         if len(missing) >= NAMES:
             self.seen.least = min(self.seen.least, len(asked))
 
+    def count(self) -> None:
+        """Whether its places are filled, from the first drawop on that came."""
+        self.lacked -= frozenset(self.newcomer.host.held)
+        asked = self.lacked & frozenset(self.newcomer.asked())
+        if self.lacked < self.lacked_first and asked != self.lacked and len(asked) < self.places:
+            self.seen.unfilled.append(self.now)
+
     def missing(self) -> Iterator[Name]:
         """What it lacks below its tops."""
         for page, source, first, last in self.newcomer.holes():
             yield from (Name(source, page, number) for number in range(first, last + 1))
 
 
-def joined(names: list[Name], delay: int, seed: int) -> Joining:
-    session = Joining(names, delay, seed)
+def joined(names: list[Name], delay: int, seed: int, held: frozenset[Name] = frozenset(), places: int = STRANGERS) -> Joining:
+    session = Joining(names, delay, seed, held, places)
     while session.now < LASTS and not session.is_whole():
         session.step()
     return session
@@ -137,12 +154,25 @@ def row(source: int, last: int) -> list[Name]:
 
 
 def test_places() -> None:
-    """While a newcomer lacks 64 names or more below its tops, it asks for 48 or more after each that came. Some are given up before their timers were
-    backed off, since one that came pays for two: so places are filled, and names are not kept."""
+    """While a newcomer lacks 64 names or more below its tops, it asks for 48 or more after each that came. After each call, once it holds something, it asks
+    for all that it lacks, or for 48. Some are given up before their timers were backed off, since one that came pays for two: so places are filled, and
+    names are not kept."""
     sessions = [joined(row(900, 300), 50_000, seed) for seed in (1, 2)] + [joined(row(900, 150) + row(901, 150), 50_000, 3)]
     for session in sessions:
         print(f"whole after {session.now / SECOND:.1f} s, {session.seen.least} names or more, {session.models[2].early} given up early")
     assert all(session.is_whole() for session in sessions)
     assert [session.seen.idle + session.seen.alone for session in sessions] == [[], [], []]
     assert min(session.seen.least for session in sessions) >= STRANGERS
+    assert [session.seen.unfilled for session in sessions[:2]] == [[], []]
     assert max(session.models[2].early for session in sessions) > 0
+
+
+def test_two_places() -> None:
+    """A host that lacks single names among others asks for two, or for all that it lacks, from the first on that came. Then few timers run, and no name is
+    given up before its timer was backed off."""
+    names, sessions = row(900, 300), []
+    for seed in (1, 2):
+        lost = set(random.Random(seed).sample(names[:-1], 40))
+        sessions.append(joined(names, 50_000, seed, frozenset(names) - lost, 2))
+        print(f"whole after {sessions[-1].now / SECOND:.1f} s, {sessions[-1].models[2].early} given up early")
+    assert [(session.is_whole(), session.seen.unfilled, session.models[2].early) for session in sessions] == [(True, [], 0)] * 2

@@ -9,7 +9,7 @@ import pytest
 
 from ..host import datagrams
 from . import timely_kept
-from .timely_kept import DRAWOP, Loses, TimelyKept, by_rate, holes_of, kind, name, rounds_by, rows_of, slowest, soonest, whole_by
+from .timely_kept import DRAWOP, Loses, TimelyKept, by_rate, crowded_by, holes_of, kind, name, rounds_by, rows_of, slowest, soonest, whole_by
 
 TWO_PAGES = [(7, 1), (7, 2)]
 STRANGER = 9  # of this number there is no member
@@ -129,7 +129,8 @@ def test_whole(seed: int) -> None:
 
 
 def test_rounds() -> None:
-    """One lacks 1,000 names, and holds them within minutes: within the time of 21 rounds of 48. Whether its places are always filled nothing prints."""
+    """One lacks 1,000 names, and holds them within minutes: within the time of 21 rounds of 48, and within that of rounds in which names may be given up
+    early. Whether its places are always filled nothing prints; tests/host/test_places.py sees it in the model."""
     session = TimelyKept(3, 2_000, 1, all_to_the_last)
     for number, member in ((number, member) for number in range(1, 1_001) for member in (1, 2)):
         drawop = datagrams.drawop(STRANGER, TWO_PAGES[0], number, 1, datagrams.line(0, 0, 0, 0, "x"))
@@ -142,9 +143,12 @@ def test_rounds() -> None:
     session.run_until_all_hold(every, GOES_ON)
     rounds = -(-len(every) // timely_kept.PLACES_OF_LAST)
     by = rounds_by(by_rate(session.sizes, 1_000, 3), wait, rounds)
-    print(f"rounds, 1,000 lacked, all held by all at {session.now / 1e6:.1f} s, by the law at {by / 1e6:,.0f} s")
+    crowded = crowded_by(wait, len(every), timely_kept.FAR)
+    print(f"rounds, 1,000 lacked, all held by all at {session.now / 1e6:.1f} s, by the law at {by / 1e6:,.0f} s, in crowds at {crowded / 1e6:,.0f} s")
     assert (session.refused, session.latest <= timely_kept.LATE) == ([], True), "no line was refused, and no host called late"
-    assert (session.now < by, list(session.held.values())) == (True, [every] * 3), "all hold all by then"
+    assert (session.now < min(by, crowded), list(session.held.values())) == (True, [every] * 3), "all hold all by then"
+    assert crowded < timely_kept.QUIET + 1_800_000_000, "half an hour, though distances may be a second"
+    assert crowded_by(timely_kept.ASKING * 100_000, 1_000, 100_000) < timely_kept.QUIET + 90_000_000, "a minute and a half where they are a tenth"
 
 
 def check_reports(session: TimelyKept) -> None:

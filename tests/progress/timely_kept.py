@@ -31,6 +31,7 @@ LONGEST_MEAN = 64_000_000
 LONGEST_PAUSE = LONGEST_MEAN + LONGEST_MEAN // 2
 LONGEST_GAP = 16_000_000  # from one turn to the next
 PLACES_OF_LAST = 48  # for so many names a host asks at once, if there are as many
+PLACES, PAYS = 64, 2  # so many names may be owed, and one that came pays for two
 MOST_REPORT_BYTES = 1_184
 COUNTED = SETTLED + HEARD + DRIFT + LONGEST_PAUSE  # from then on reports go by the number of hosts
 
@@ -117,6 +118,17 @@ def whole_by(sizes: Sizes, soon: Soon, wait: int, most: int) -> int:
 def rounds_by(soon: Soon, wait: int, rounds: int) -> int:
     """The time at which all hold all if each host always asks for all that it lacks, or for so many names that `rounds` times as many are all."""
     return max(KNOWN + wait + REPAIRING, soon.since) + rounds * (soon.pause + LATE + request_span() + REPAIRING)
+
+
+def crowded_by(wait: int, most: int, far: int) -> int:
+    """The time at which all hold all if each host that lacks something always asks for all that it lacks, or for 48 names, though it gives names up early,
+    and uses no distance above `far`. In a round 47 names come, or 64 are asked for, and credit pays for few such rounds."""
+    asking, answering = ASKING * far + LATE, ANSWERING * far + 2 * DELIVERY + 2 * LATE
+    span = 2 * asking + answering
+    bringing = -(-most // (PLACES_OF_LAST - 1))
+    owed = (PLACES + PAYS * most) * COST + LONGEST_GAP + LATE + bringing * span
+    crowded = -(-owed // (PLACES * COST - span))
+    return SETTLED + DELIVERY + 3 * far + DRIFT + 1 + wait + answering + LONGEST_GAP + LATE + (bringing + crowded) * span
 
 
 def rows_of(held: set[str]) -> dict[str, list[int]]:

@@ -9,7 +9,9 @@ use Rattle.wb_member.specs.Opened.{present}
 use Rattle.wb_keeping.specs.Laws.{doing_of}
 use Rattle.wb_keeping.specs.Performing.{after_doing}
 use Rattle.wb_judging.specs.Handing.{handed, handed_for, recalled, verdict_on}
-use Rattle.wb_judging.specs.Judged.{CameFrom, DayTold, Garbled, GoneFrom, Held, Judged, JudgedLine, Passed, UserDrew, moment_of}
+use Rattle.wb_judging.specs.Judged.{Judged, moment_of}
+use Rattle.wb_judging.specs.declared.call.Call.{Call}
+use Rattle.wb_judging.specs.declared.call.Call.TheVariants.{CameFrom, DayTold, Garbled, GoneFrom, Held, Passed, UserDrew}
 use Rattle.wb_judging.specs.Laws.{after_all}
 use Rattle.wb_judging.specs.Performing.{after_judged, after_kept_line}
 use Rattle.wb_judging.specs.declared.record.RecordLine.{RecordLine}
@@ -39,7 +41,7 @@ came_moment now v None = refl
 came_moment now v (Some why) = refl
 
 -- what is handed in says the moment of the line
-handed_moment : (line : JudgedLine) (h : Judged) → kept_moment (handed line h) ≡ moment_of line h
+handed_moment : (line : Call) (h : Judged) → kept_moment (handed line h) ≡ moment_of line h
 handed_moment (CameFrom now o v) h = came_moment now v (verdict_on now o v h).why
 handed_moment (Garbled now) h = refl
 handed_moment (Passed now) h = refl
@@ -48,7 +50,7 @@ handed_moment (DayTold now wall) h = refl
 handed_moment (GoneFrom now o) h = refl
 handed_moment (Held line) h = recalled_moment line (present h.kept.host)
 
-line_present : (line : JudgedLine) (h : Judged) (lag time : ℕ) → moment_of line h + lag ≤ time → present h.kept.host + lag ≤ time → present (after_judged line h).kept.host + lag ≤ time
+line_present : (line : Call) (h : Judged) (lag time : ℕ) → moment_of line h + lag ≤ time → present h.kept.host + lag ≤ time → present (after_judged line h).kept.host + lag ≤ time
 unfolding after_kept_line
 line_present line h lag time said before =
     let call = handed line h in
@@ -57,7 +59,7 @@ line_present line h lag time said before =
     (λ (now : present (after_doing (doing_of call) h.kept).host ≡ kept_moment call). let is = handed_moment line h in omega (arith, now, is, said))
     (call_now call h.kept (kept_moment call) (told_itself call))
 
-line_due : (line : JudgedLine) (h : Judged) → IsOwn h → IsLineTaken line h → IsDueSoon h.kept → IsDueSoon (after_judged line h).kept
+line_due : (line : Call) (h : Judged) → IsOwn h → IsLineTaken line h → IsDueSoon h.kept → IsDueSoon (after_judged line h).kept
 unfolding after_kept_line
 line_due line h own taken soon = due_soon (handed line h) h.kept (fault_none line h own taken) soon
 

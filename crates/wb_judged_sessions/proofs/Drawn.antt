@@ -16,7 +16,9 @@ use Rattle.wb_keeping.proofs.EachLine.{Each, each_both, ends_each, then_each}
 use Rattle.wb_judge.specs.declared.verdict.Why.{Why}
 use Rattle.wb_judge.specs.Days.{time_of_day}
 use Rattle.wb_judging.specs.Handing.{handed, handed_for, recalled, verdict_on}
-use Rattle.wb_judging.specs.Judged.{CameFrom, DayTold, Garbled, GoneFrom, Held, Judged, JudgedLine, Passed, UserDrew}
+use Rattle.wb_judging.specs.Judged.{Judged}
+use Rattle.wb_judging.specs.declared.call.Call.{Call}
+use Rattle.wb_judging.specs.declared.call.Call.TheVariants.{CameFrom, DayTold, Garbled, GoneFrom, Held, Passed, UserDrew}
 use Rattle.wb_judging.specs.Laws.{expanded}
 use Rattle.wb_judging.specs.Performing.{after_judged, after_kept_line, gained}
 use Rattle.wb_judging.specs.declared.record.RecordLine.{RecordLine}
@@ -176,7 +178,7 @@ module _ (numbers : ℕ → ℕ) (time place : ℕ) (h : Judged) (older : List C
   nothing : (line : KeptLine) → DrawsNone line → drawn_by_steps numbers (steps_of numbers (lines_then time place (line ∷ []) older)) i ≡ cond (nat_eq place i) ([] ++ drawn) drawn
   nothing line is = lines_draw numbers time place (line ∷ []) older i (is, tt) ∙ sym (if_none (nat_eq place i) [] drawn refl)
 
-  line_draws : (line : JudgedLine) → Draws (Takes line)
+  line_draws : (line : Call) → Draws (Takes line)
   line_draws (CameFrom now o v) = nothing (plain_line (handed (CameFrom now o v) h)) (came_draws now v (verdict_on now o v h).why)
   line_draws (Garbled now) = nothing (Ticked now) tt
   line_draws (Passed now) = nothing (Ticked now) tt

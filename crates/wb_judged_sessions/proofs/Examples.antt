@@ -17,7 +17,8 @@ use Rattle.wb_member.specs.Random.{after_word, started as random_started, word_o
 use Rattle.wb_policy.specs.Choices.{near_names}
 use Rattle.wb_policy.specs.Words as words
 use Rattle.wb_judging.specs.Handing.{judge_after, verdict_on}
-use Rattle.wb_judging.specs.Judged.{CameFrom, DayTold, Garbled, GoneFrom, Held, JudgedLine, Passed, UserDrew}
+use Rattle.wb_judging.specs.declared.call.Call.{Call}
+use Rattle.wb_judging.specs.declared.call.Call.TheVariants.{CameFrom, DayTold, Garbled, GoneFrom, Held, Passed, UserDrew}
 use Rattle.wb_judging.specs.Laws.{drawops_of}
 use Rattle.wb_judging.specs.Performing.{after_kept_line, sent_by_kept_line}
 use Rattle.wb_judging.specs.declared.record.RecordLine.{RecordLine}
@@ -113,7 +114,7 @@ all_held = (
 
 -- before its user draws it has drawn nothing
 module _ (older : List JudgedCallAt) (place : ℕ) where
-  abbrev KnowsAt : JudgedLine → Type 0
+  abbrev KnowsAt : Call → Type 0
   KnowsAt (UserDrew now on op) = KnowsItsOwn numbers older place on
   KnowsAt (CameFrom now o v) = Unit {0}
   KnowsAt (Garbled now) = Unit {0}

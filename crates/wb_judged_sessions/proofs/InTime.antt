@@ -18,7 +18,9 @@ use Rattle.wb_keeping.specs.Laws.{Added, Came, KeptLine, doing_of}
 use Rattle.wb_keeping.specs.Performing.{Keeping, due, sent_by_doing}
 use Rattle.wb_judging.specs.Echoing.{echoing}
 use Rattle.wb_judging.specs.Handing.{handed, handed_for, verdict_on}
-use Rattle.wb_judging.specs.Judged.{CameFrom, DayTold, Garbled, GoneFrom, Held, Judged, JudgedLine, Passed, UserDrew, moment_of}
+use Rattle.wb_judging.specs.Judged.{Judged, moment_of}
+use Rattle.wb_judging.specs.declared.call.Call.{Call}
+use Rattle.wb_judging.specs.declared.call.Call.TheVariants.{CameFrom, DayTold, Garbled, GoneFrom, Held, Passed, UserDrew}
 use Rattle.wb_judging.specs.Laws.{sends_in}
 use Rattle.wb_judging.specs.Members.{IsOfMember, needs}
 use Rattle.wb_judging.specs.Performing.{events_of, judging, sent_by_kept_line}
@@ -56,7 +58,7 @@ came_one : (now then : ℕ) (v w : Datagram) → Came now v ≡ Came then w → 
 came_one now then v w e = (cc, cc)
 
 -- It draws nothing, unless its user draws.
-none_drawn : (line : JudgedLine) (h : Judged) → ((now : ℕ) (page : PageId) (op : Op) → line ≡ UserDrew now page op → ⊥) → ((recalled : RecordLine) → line ≡ Held recalled → ⊥)
+none_drawn : (line : Call) (h : Judged) → ((now : ℕ) (page : PageId) (op : Op) → line ≡ UserDrew now page op → ⊥) → ((recalled : RecordLine) → line ≡ Held recalled → ⊥)
     → DrawsNone (plain_line (handed line h))
 none_drawn (CameFrom now o v) h drew held = came_draws now v (verdict_on now o v h).why
 none_drawn (Garbled now) h drew held = tt
@@ -67,7 +69,7 @@ none_drawn (UserDrew now page op) h drew held = absurd (drew now page op refl)
 none_drawn (Held line) h drew held = absurd (held line refl)
 
 -- If it hands a datagram in, that came and was let in.
-record LetIn (line : JudgedLine) (h : Judged) (v : Datagram) : Type 0 where
+record LetIn (line : Call) (h : Judged) (v : Datagram) : Type 0 where
   now : ℕ
   origin : Origin
   whole : Datagram
@@ -75,7 +77,7 @@ record LetIn (line : JudgedLine) (h : Judged) (v : Datagram) : Type 0 where
   lets : handed (CameFrom now origin whole) h ≡ Came now whole
   same : plain whole ≡ v
 
-let_in : (line : JudgedLine) (h : Judged) (now : ℕ) (v : Datagram) → ((recalled : RecordLine) → line ≡ Held recalled → ⊥) → plain_line (handed line h) ≡ Came now v → LetIn line h v
+let_in : (line : Call) (h : Judged) (now : ℕ) (v : Datagram) → ((recalled : RecordLine) → line ≡ Held recalled → ⊥) → plain_line (handed line h) ≡ Came now v → LetIn line h v
 let_in (CameFrom then o w) h now v held e = by (verdict_on then o w h).why refl e where
   by : (why : Option Why) → (verdict_on then o w h).why ≡ why → plain_line (handed_for then w why) ≡ Came now v → LetIn (CameFrom then o w) h v
   by None is e = record { now = then; origin = o; whole = w; is = refl; lets = ap (λ (why : Option Why). handed_for then w why) is; same = (came_one then now (plain w) v e).1 }
@@ -90,12 +92,12 @@ let_in (Held line) h now v held e = absurd (held line refl)
 -- ---- what a line sends
 
 -- What the self-managing member sends, the judged one sends with an echo or without.
-record SaysAs (line : JudgedLine) (h : Judged) (v : Datagram) : Type 0 where
+record SaysAs (line : Call) (h : Judged) (v : Datagram) : Type 0 where
   whole : Datagram
   sent : Contains (sends_in (events_of line h)) whole
   same : plain whole ≡ v
 
-says_as : (line : JudgedLine) (h : Judged) → h.judge.me ≡ h.kept.host.is.number → IsLineTaken line h → (v : Datagram) → Contains (sent_by_doing (doing_of (handed line h)) h.kept) v → SaysAs line h v
+says_as : (line : Call) (h : Judged) → h.judge.me ≡ h.kept.host.is.number → IsLineTaken line h → (v : Datagram) → Contains (sent_by_doing (doing_of (handed line h)) h.kept) v → SaysAs line h v
 unfolding sent_by_kept_line
 says_as line h own taken v c =
     let j = judging line h in
@@ -146,10 +148,10 @@ module _ (numbers : ℕ → ℕ) (terms : Terms) (calls : List JudgedCallAt) (s 
     there_is i = ap (λ (cs : List CallAt). kept_at numbers cs i) f.older_is ∙ sym (judged_is_kept numbers f.before i)
 
     not_held : (line : RecordLine) → f.line ≡ Held line → ⊥
-    not_held line is = s.recalled f.later f.before f.call line f.split later_than (f.takes ∙ ap (λ (l : JudgedLine). Takes l) is)
+    not_held line is = s.recalled f.later f.before f.call line f.split later_than (f.takes ∙ ap (λ (l : Call). Takes l) is)
 
     not_drawn : (now : ℕ) (page : PageId) (op : Op) → f.line ≡ UserDrew now page op → ⊥
-    not_drawn now page op is = s.drawn f.later f.before f.call now page op f.split later_than (f.takes ∙ ap (λ (l : JudgedLine). Takes l) is)
+    not_drawn now page op is = s.drawn f.later f.before f.call now page op f.split later_than (f.takes ∙ ap (λ (l : Call). Takes l) is)
 
     alone_kept : Contains terms.live e.place × ((line : KeptLine) × (e.call ≡ Handed line))
     alone_kept = (subst (Contains terms.live) (sym place_is) (s.alone f.later f.before f.call f.split later_than).0, (plain_line (handed f.line h), call_is))
@@ -280,7 +282,7 @@ module _ (numbers : ℕ → ℕ) (terms : Terms) (calls : List JudgedCallAt) (s 
     fresh_kept settled now v called =
         let l = let_in f.line h now v not_held (handed_one (plain_line (handed f.line h)) (Came now v) (sym call_is ∙ called)) in
         let time = time_is in
-        let w = s.fresh f.later f.before f.call l.now l.origin l.whole f.split (omega (arith, settled, time)) (f.takes ∙ ap (λ (x : JudgedLine). Takes x) l.is) l.lets in
+        let w = s.fresh f.later f.before f.call l.now l.origin l.whole f.split (omega (arith, settled, time)) (f.takes ∙ ap (λ (x : Call). Takes x) l.is) l.lets in
         let sender = judged_at numbers w.before w.e.place in
         let line = plain_line (handed w.line sender) in
         let part = calls_split numbers w.newer (w.e ∷ w.before) in

@@ -4,7 +4,9 @@ use Rattle.std.specs.Prelude.{nat_eq}
 use Rattle.wb_keeping.specs.Laws.{KeptLine, after_kept, doing_of}
 use Rattle.wb_keeping.specs.Performing.{Keeping, after_doing}
 use Rattle.wb_judging.specs.Handing.{handed}
-use Rattle.wb_judging.specs.Judged.{Held, Judged, JudgedLine}
+use Rattle.wb_judging.specs.Judged.{Judged}
+use Rattle.wb_judging.specs.declared.call.Call.{Call}
+use Rattle.wb_judging.specs.declared.call.Call.TheVariants.{Held}
 use Rattle.wb_judging.specs.Laws.{expanded}
 use Rattle.wb_judging.specs.Performing.{after_kept_line}
 use Rattle.wb_judging.specs.declared.record.RecordLine.{RecordLine}
@@ -44,7 +46,7 @@ module _ (numbers : ℕ → ℕ) (time place : ℕ) where
       ∙ sym (judged_members_are_kept (map Held given) first).0
 
   takes_kept : (h : Judged) (older : List CallAt) (i : ℕ) → nat_eq place i ≡ true → h.kept ≡ kept_at numbers older i
-      → (line : JudgedLine) → kept_at numbers (kept_then time place (Takes line) h older) i ≡ (after_call (Takes line) h).kept
+      → (line : Call) → kept_at numbers (kept_then time place (Takes line) h older) i ≡ (after_call (Takes line) h).kept
   unfolding after_kept_line
   takes_kept h older i e same line =
       kept_lines (plain_line (handed line h) ∷ []) older i true e

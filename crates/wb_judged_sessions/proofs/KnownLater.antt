@@ -22,7 +22,9 @@ use Rattle.wb_keeping.specs.Laws.{doing_of}
 use Rattle.wb_keeping.specs.Performing.{after_doing, due, sent_by_doing}
 use Rattle.wb_judging.specs.Echoing.{echoing, with_echo}
 use Rattle.wb_judging.specs.Handing.{handed}
-use Rattle.wb_judging.specs.Judged.{CameFrom, DayTold, Garbled, GoneFrom, Held, Judged, JudgedLine, Passed, UserDrew, moment_of}
+use Rattle.wb_judging.specs.Judged.{Judged, moment_of}
+use Rattle.wb_judging.specs.declared.call.Call.{Call}
+use Rattle.wb_judging.specs.declared.call.Call.TheVariants.{CameFrom, DayTold, Garbled, GoneFrom, Held, Passed, UserDrew}
 use Rattle.wb_judging.specs.Laws.{sends_in}
 use Rattle.wb_judging.specs.Performing.{after_judged, after_kept_line, events_of, judging, sent_by_kept_line}
 use Rattle.wb_judging.proofs.AsKept.{sends_as_kept}
@@ -106,7 +108,7 @@ until_later s (e ∷ newer) older late =
 -- ---- who sends
 
 -- what says who sends it says the number of its sender
-says_own : (line : JudgedLine) (h : Judged) → IsOwn h → IsLineTaken line h → (v : Datagram) → Contains (sends_in (events_of line h)) v → IsUnder h.kept.host.is.number (plain v)
+says_own : (line : Call) (h : Judged) → IsOwn h → IsLineTaken line h → (v : Datagram) → Contains (sends_in (events_of line h)) v → IsUnder h.kept.host.is.number (plain v)
 says_own line h own taken v sent = call_sends (handed line h) h.kept (fault_none line h own taken) (plain v) (line_sends line h own taken v sent)
 
 spoken_by : (o : Origin) (number at : ℕ) (v : Datagram) (h : Judged) → ¬ (number ≡ h.judge.me) → IsKnownSince o number at h.judge → IsUnder number (plain v) → IsSpoken o v h.judge
@@ -117,7 +119,7 @@ spoken_by o number at (AskPages asker) h another m under = subst (λ (n : ℕ). 
 spoken_by o number at (PageState s page marks) h another m under = subst (λ (n : ℕ). Speaks o n h.judge) (sym under) (speaks_since o number at h.judge another m)
 
 -- what a self-managing member reports the judged one does
-reported : (line : JudgedLine) (h : Judged) → IsReported (sent_by_doing (doing_of (handed line h)) h.kept) → IsReported (sends_in (events_of line h))
+reported : (line : Call) (h : Judged) → IsReported (sent_by_doing (doing_of (handed line h)) h.kept) → IsReported (sends_in (events_of line h))
 unfolding sent_by_kept_line
 reported line h r =
     let j = judging line h in
@@ -166,13 +168,13 @@ module _ (numbers : ℕ → ℕ) (origins : ℕ → ℕ → Origin) (terms : Ter
   abbrev FitsAs : (i : ℕ) → JudgedCallAt → List JudgedCallAt → Bool → JudgedCall → Type 0
   FitsAs i x older b call = IsFittingSince terms (numbers i) i b x.time call (judged_at numbers older x.place) (AreFittingSince terms numbers i older)
 
-  fit_tail : (i : ℕ) (x : JudgedCallAt) (older : List JudgedCallAt) (line : JudgedLine) → x.call ≡ Takes line → AreFittingSince terms numbers i (x ∷ older) → AreFittingSince terms numbers i older
+  fit_tail : (i : ℕ) (x : JudgedCallAt) (older : List JudgedCallAt) (line : Call) → x.call ≡ Takes line → AreFittingSince terms numbers i (x ∷ older) → AreFittingSince terms numbers i older
   fit_tail i x older line takes fits = by (nat_eq x.place i) (subst (λ (call : JudgedCall). FitsAs i x older (nat_eq x.place i) call) takes fits) where
     by : (b : Bool) → FitsAs i x older b (Takes line) → AreFittingSince terms numbers i older
     by true fits = fits.1
     by false fits = fits
 
-  fit_now : (i : ℕ) (x : JudgedCallAt) (older : List JudgedCallAt) (line : JudgedLine) → x.call ≡ Takes line → x.place ≡ i → AreFittingSince terms numbers i (x ∷ older)
+  fit_now : (i : ℕ) (x : JudgedCallAt) (older : List JudgedCallAt) (line : Call) → x.call ≡ Takes line → x.place ≡ i → AreFittingSince terms numbers i (x ∷ older)
       → IsNowAt terms x.time i (moment_of line (judged_at numbers older i))
   fit_now i x older line takes here fits =
       let now : FitsAs i x older true (Takes line) =
@@ -198,7 +200,7 @@ module _ (numbers : ℕ → ℕ) (origins : ℕ → ℕ → Origin) (terms : Ter
     abbrev AreSoon : List JudgedCallAt → Type 0
     AreSoon cs = (c : JudgedCallAt) → Contains cs c → (terms.quiet < c.time) × (time ≤ c.time) × (c.time + terms.drift ≤ time + PATIENCE)
 
-    leaves : (newer older : List JudgedCallAt) (x : JudgedCallAt) (line : JudgedLine) → calls ≡ newer ++ x ∷ older → (terms.quiet < x.time) × (time ≤ x.time) × (x.time + terms.drift ≤ time + PATIENCE)
+    leaves : (newer older : List JudgedCallAt) (x : JudgedCallAt) (line : Call) → calls ≡ newer ++ x ∷ older → (terms.quiet < x.time) × (time ≤ x.time) × (x.time + terms.drift ≤ time + PATIENCE)
         → x.place ≡ j → x.call ≡ Takes line → LeavesKnown (origins j i) (numbers i) (moment_by terms time j) line (judged_at numbers older j)
     leaves newer older x (CameFrom now p v) split soon here takes =
         let fits = fitting_of newer (x ∷ older) j split (late_of newer older x split soon.0) live_j in
@@ -252,7 +254,7 @@ module _ (numbers : ℕ → ℕ) (origins : ℕ → ℕ → Origin) (terms : Ter
     between : List JudgedCallAt
     split : window ≡ later ++ call ∷ between
     place : call.place ≡ i
-    line : JudgedLine
+    line : Call
     takes : call.call ≡ Takes line
     report : IsReported (sends_in (events_of line (judged_at numbers (between ++ base) call.place)))
     due : report_due (judged_at numbers (between ++ base) i).kept ≡ report_due (judged_at numbers base i).kept
@@ -557,7 +559,7 @@ module _ (numbers : ℕ → ℕ) (origins : ℕ → ℕ → Origin) (terms : Ter
 
   -- ---- what is sent comes as a member's
 
-  arrives : (newer older : List JudgedCallAt) (e : JudgedCallAt) (line : JudgedLine) (j : ℕ) (v : Datagram) → calls ≡ newer ++ e ∷ older → e.call ≡ Takes line → Contains terms.live j → e.place ≢ j → terms.quiet < e.time
+  arrives : (newer older : List JudgedCallAt) (e : JudgedCallAt) (line : Call) (j : ℕ) (v : Datagram) → calls ≡ newer ++ e ∷ older → e.call ≡ Takes line → Contains terms.live j → e.place ≢ j → terms.quiet < e.time
       → Contains (sends_in (events_of line (judged_at numbers older e.place))) v → e.time + terms.delivery < called_at calls → Arrives numbers newer (e ∷ older) j (e.time + terms.delivery) v
   arrives newer older e line j v split takes live apart late sent long =
       record { later = c.later; call = c.call; between = c.between; split = c.split; place = c.place; soon = c.soon; now = c.now; origin = origins j i; is = c.is; member = record { known = knows_then c.call.time i j c.now rest now_at m; spoken = spoken; fit = c.fit } } where

@@ -14,7 +14,8 @@ use Rattle.wb_keeping.specs.Laws.{Came, KeptLine}
 use Rattle.wb_keeping.specs.Performing.{Keeping}
 use Rattle.wb_judge.specs.declared.origin.Origin.{Origin}
 use Rattle.wb_judging.specs.Handing.{handed}
-use Rattle.wb_judging.specs.Judged.{CameFrom, Held, Judged}
+use Rattle.wb_judging.specs.Judged.{Judged}
+use Rattle.wb_judging.specs.declared.call.Call.TheVariants.{CameFrom, Held}
 use Rattle.wb_judging.specs.Laws.{expanded}
 use Rattle.wb_judging.specs.declared.record.RecordLine.{RecordLine}
 use Rattle.wb_laws_kept.specs.Listening.{IsHeardWhole, TellsMark}

@@ -11,7 +11,9 @@ use Rattle.wb_member.specs.Lines.{Ticks}
 use Rattle.wb_member.specs.Opened.{Opened, opened_with}
 use Rattle.wb_keeping.specs.Performing.{Keeping}
 use Rattle.wb_judging.specs.Handing.{handed}
-use Rattle.wb_judging.specs.Judged.{CameFrom, DayTold, Garbled, GoneFrom, Held, Judged, JudgedLine, Passed, UserDrew}
+use Rattle.wb_judging.specs.Judged.{Judged}
+use Rattle.wb_judging.specs.declared.call.Call.{Call}
+use Rattle.wb_judging.specs.declared.call.Call.TheVariants.{CameFrom, DayTold, Garbled, GoneFrom, Held, Passed, UserDrew}
 use Rattle.wb_judging.specs.Laws.{after_all, drawops_of, record_by, record_of}
 use Rattle.wb_judging.specs.Performing.{after_judged}
 use Rattle.wb_judging.specs.declared.record.RecordLine.{RecordLine}
@@ -52,10 +54,10 @@ cells_of h = h.kept.host.is.cells
 abbrev held_by : Judged → List DrawopValue
 held_by h = h.kept.host.is.held
 
-cells_line : (line : JudgedLine) (h : Judged) → cells_of (after_judged line h) ≡ cells_of h
+cells_line : (line : Call) (h : Judged) → cells_of (after_judged line h) ≡ cells_of h
 cells_line line h = (takes_kept (handed line h) h.kept).cells
 
-cells_all : (lines : List JudgedLine) (h : Judged) → cells_of (after_all lines h) ≡ cells_of h
+cells_all : (lines : List Call) (h : Judged) → cells_of (after_all lines h) ≡ cells_of h
 cells_all [] h = refl
 cells_all (line ∷ lines) h = cells_all lines (after_judged line h) ∙ cells_line line h
 
@@ -112,12 +114,12 @@ boards_are_files numbers (e ∷ older) i =
 
 -- ---- members hold what they drew
 
-line_keeps : (line : JudgedLine) (h : Judged) (d : DrawopValue) → Contains (held_by h) d → Contains (held_by (after_judged line h)) d
+line_keeps : (line : Call) (h : Judged) (d : DrawopValue) → Contains (held_by h) d → Contains (held_by (after_judged line h)) d
 line_keeps line h d c =
     let g = gains_kept (handed line h) h.kept in
     subst (λ (held : List DrawopValue). Contains held d) (sym g.is) (Contains-append_left (held_by h) g.more d c)
 
-line_gains : (line : JudgedLine) (h : Judged) (d : DrawopValue) → Contains (drawn_by_line line h) d → Contains (held_by (after_judged line h)) d
+line_gains : (line : Call) (h : Judged) (d : DrawopValue) → Contains (drawn_by_line line h) d → Contains (held_by (after_judged line h)) d
 line_gains (CameFrom now o v) h d c = absurd (Contains-none d c)
 line_gains (Garbled now) h d c = absurd (Contains-none d c)
 line_gains (Passed now) h d c = absurd (Contains-none d c)

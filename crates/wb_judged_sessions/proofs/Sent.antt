@@ -15,7 +15,9 @@ use Rattle.wb_keeping.specs.Laws.{KeptLine, doing_of, sent_by_kept}
 use Rattle.wb_keeping.specs.Performing.{Keeping, after_doing, sees, sent_by_doing}
 use Rattle.wb_judging.specs.Echoing.{echoing}
 use Rattle.wb_judging.specs.Handing.{handed}
-use Rattle.wb_judging.specs.Judged.{CameFrom, DayTold, Garbled, GoneFrom, Held, Judged, JudgedLine, Passed, UserDrew, moment_of}
+use Rattle.wb_judging.specs.Judged.{Judged, moment_of}
+use Rattle.wb_judging.specs.declared.call.Call.{Call}
+use Rattle.wb_judging.specs.declared.call.Call.TheVariants.{CameFrom, DayTold, Garbled, GoneFrom, Held, Passed, UserDrew}
 use Rattle.wb_judging.specs.Laws.{expanded, sends_in}
 use Rattle.wb_judging.specs.Performing.{after_judged, after_kept_line, events_of, fate_by, judging, sent_by_kept_line}
 use Rattle.wb_judging.specs.declared.record.RecordLine.{RecordLine}
@@ -36,7 +38,7 @@ use Rattle.wb_judged_sessions.proofs.Terms.{IsOwn, begins, fault_none, here, own
 
 -- ---- one line
 
-pub me_judging : (line : JudgedLine) (h : Judged) → (judging line h).me ≡ h.judge.me
+pub me_judging : (line : Call) (h : Judged) → (judging line h).me ≡ h.judge.me
 me_judging (CameFrom now o v) h = (came_fixed now o v h).me
 me_judging (Garbled now) h = refl
 me_judging (Passed now) h = refl
@@ -55,7 +57,7 @@ echo_mine me now (Some alien) e is = by (nat_le (now - alien.at) FRESH) is where
   by true is = ap (λ (f : Echo). f.source) (sym (same_Some echo e is))
   by false is = absurd (none-some e is)
 
-pub line_sends : (line : JudgedLine) (h : Judged) → IsOwn h → IsLineTaken line h → (v : Datagram) → Contains (sends_in (events_of line h)) v
+pub line_sends : (line : Call) (h : Judged) → IsOwn h → IsLineTaken line h → (v : Datagram) → Contains (sends_in (events_of line h)) v
     → Contains (sent_by_doing (doing_of (handed line h)) h.kept) (plain v)
 unfolding sent_by_kept_line
 line_sends line h own taken v c =

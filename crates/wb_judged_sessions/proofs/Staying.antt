@@ -26,7 +26,9 @@ use Rattle.wb_judge.proofs.Sameness.{same_itself, same_origins}
 use Rattle.wb_judging.specs.Events.{is_new}
 use Rattle.wb_judging.specs.Handing.{facts_of, handed, judge_after}
 use Rattle.wb_judging.specs.Hearing.{after_fate, after_recalling, after_sending, after_sends, with_strange}
-use Rattle.wb_judging.specs.Judged.{CameFrom, DayTold, Garbled, GoneFrom, Held, Judged, JudgedLine, Passed, UserDrew}
+use Rattle.wb_judging.specs.Judged.{Judged}
+use Rattle.wb_judging.specs.declared.call.Call.{Call}
+use Rattle.wb_judging.specs.declared.call.Call.TheVariants.{CameFrom, DayTold, Garbled, GoneFrom, Held, Passed, UserDrew}
 use Rattle.wb_judging.specs.Performing.{after_judged, fate_by, judging, sent_by_kept_line}
 use Rattle.wb_judging.specs.declared.event.Fate.{Fate}
 use Rattle.wb_judging.specs.declared.record.RecordLine.{RecordLine}
@@ -90,7 +92,7 @@ alike o number at j k s m = record {
 }
 
 -- after the line, it sends
-and_sends : (line : JudgedLine) (h : Judged) (o : Origin) (number at : ℕ) → IsKnownSince o number at (judging line h) → IsKnownSince o number at (after_judged line h).judge
+and_sends : (line : Call) (h : Judged) (o : Origin) (number at : ℕ) → IsKnownSince o number at (judging line h) → IsKnownSince o number at (after_judged line h).judge
 and_sends line h o number at m =
     let sent = sent_by_kept_line (handed line h) h.kept in
     alike o number at (judging line h) (after_sends sent (judging line h)) (all_sent sent (judging line h)) m

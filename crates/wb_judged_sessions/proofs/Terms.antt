@@ -19,7 +19,9 @@ use Rattle.wb_keeping.specs.Performing.{Keeping, after_doing}
 use Rattle.wb_keeping.specs.Refusing.{add_fault}
 use Rattle.wb_keeping.specs.declared.kept_fault.KeptFault.{KeptFault}
 use Rattle.wb_judging.specs.Handing.{handed, recalled, verdict_on}
-use Rattle.wb_judging.specs.Judged.{CameFrom, DayTold, Garbled, GoneFrom, Held, Judged, JudgedLine, Passed, UserDrew}
+use Rattle.wb_judging.specs.Judged.{Judged}
+use Rattle.wb_judging.specs.declared.call.Call.{Call}
+use Rattle.wb_judging.specs.declared.call.Call.TheVariants.{CameFrom, DayTold, Garbled, GoneFrom, Held, Passed, UserDrew}
 use Rattle.wb_judging.specs.Laws.{after_all, drawops_in, drawops_of, expanded}
 use Rattle.wb_judging.specs.Performing.{after_judged, after_kept_line}
 use Rattle.wb_judging.specs.declared.judged_fault.JudgedFault.{JudgedFault}
@@ -30,7 +32,7 @@ use Rattle.wb_judging.proofs.Followed.{the_network_refuses_nothing}
 use Rattle.wb_judging.proofs.Numbers.{own_stays}
 use Rattle.wb_laws_kept.specs.Openings.{Opening, opened}
 use Rattle.wb_laws_kept.specs.Restarts.{KnowTheirOwn as KeptKnowTheirOwn, KnowsItsOwn as KeptKnowsItsOwn}
-use Rattle.wb_laws_kept.specs.Sessions.{AreTaken as AreKeptTaken, Begins, Call, CallAt, DrawopsWereHeld as KeptDrawopsWereHeld, Handed, WereHeld, kept_at, steps_of}
+use Rattle.wb_laws_kept.specs.Sessions.{AreTaken as AreKeptTaken, Begins, Call as KeptCall, CallAt, DrawopsWereHeld as KeptDrawopsWereHeld, Handed, WereHeld, kept_at, steps_of}
 use Rattle.wb_laws_kept.proofs.Agreeing.{steps_split}
 use Rattle.wb_laws_kept.proofs.Steps.{kept_is_session}
 use Rattle.wb_laws_sessions.specs.Drawn.{WasHeld as HeldBySteps}
@@ -47,7 +49,7 @@ use Rattle.wb_judged_sessions.proofs.Plain.{plain_came, plain_fault}
 abbrev pub IsOwn : Judged → Type 0
 IsOwn h = h.judge.me ≡ h.kept.host.is.number
 
-own_through : (lines : List JudgedLine) (h : Judged) → IsOwn h → IsOwn (after_all lines h)
+own_through : (lines : List Call) (h : Judged) → IsOwn h → IsOwn (after_all lines h)
 own_through [] h own = own
 own_through (line ∷ lines) h own = own_through lines (after_judged line h) (own_stays line h own)
 
@@ -72,7 +74,7 @@ second_none None None e = refl
 second_none None (Some f) e = absurd cc
 second_none (Some f) two e = absurd cc
 
-pub fault_none : (line : JudgedLine) (h : Judged) → IsOwn h → IsLineTaken line h → fault_of (handed line h) h.kept ≡ None
+pub fault_none : (line : Call) (h : Judged) → IsOwn h → IsLineTaken line h → fault_of (handed line h) h.kept ≡ None
 fault_none (CameFrom now o v) h own le = the_network_refuses_nothing (CameFrom now o v) h own refl le
 fault_none (Garbled now) h own le = the_network_refuses_nothing (Garbled now) h own refl le
 fault_none (Passed now) h own le = the_network_refuses_nothing (Passed now) h own refl le
@@ -147,7 +149,7 @@ module _ (numbers : ℕ → ℕ) where
       let split = steps_split numbers (e ∷ []) older in
       subst (λ (s : List Step). HeldBySteps numbers s d) (sym split.1) (longer split.0 (steps_of numbers older) d w)
 
-abbrev came_by : Call → List DrawopValue
+abbrev came_by : KeptCall → List DrawopValue
 came_by (Handed line) = came_in line
 came_by (Begins o given) = []
 
@@ -177,16 +179,16 @@ record_came (line ∷ given) h =
 module _ (numbers : ℕ → ℕ) (time place : ℕ) where
   came_held : (line : KeptLine) (older : List CallAt) → ((d : DrawopValue) → Contains (came_in line) d → HeldBySteps numbers (steps_of numbers older) d) → WereHeld numbers older (at time place line)
   came_held line older were = record {
-    handed = λ now d e. were d (subst (λ (call : Call). Contains (came_by call) d) (sym e) (Contains-here d []));
+    handed = λ now d e. were d (subst (λ (call : KeptCall). Contains (came_by call) d) (sym e) (Contains-here d []));
     given = λ o given d e c. absurd (not_begun line o given e);
   }
 
   begun_held : (start : Start) (older : List CallAt) → WereHeld numbers older (begins numbers time place start)
   begun_held start older = record {
     handed = λ now d e. absurd (not_handed start.opening start.opening [] (Came now (Draw d)) e);
-    given = λ o given d e c. absurd (Contains-none (Draw d) (subst (λ (call : Call). Contains (given_in call) (Draw d)) (sym e) c));
+    given = λ o given d e c. absurd (Contains-none (Draw d) (subst (λ (call : KeptCall). Contains (given_in call) (Draw d)) (sym e) c));
   } where
-    given_in : Call → List Datagram
+    given_in : KeptCall → List Datagram
     given_in (Begins o given) = given
     given_in (Handed line) = []
 
@@ -210,16 +212,16 @@ module _ (numbers : ℕ → ℕ) (time place : ℕ) where
 
   -- ---- members know their own numbers
 
-  abbrev KnowsFor : List CallAt → Call → Type 0
+  abbrev KnowsFor : List CallAt → KeptCall → Type 0
   KnowsFor older (Handed (Added now page told op)) = KeptKnowsItsOwn numbers older place page
   KnowsFor older (Handed (Came now v)) = Unit {0}
   KnowsFor older (Handed (Ticked now)) = Unit {0}
   KnowsFor older (Handed (Tuned constants)) = Unit {0}
   KnowsFor older (Begins o given) = Unit {0}
 
-  knows_for : (call : Call) (older : List CallAt) → KnowsFor older call → (now : ℕ) (page : PageId) (told : ℕ) (op : Op) → call ≡ Handed (Added now page told op)
+  knows_for : (call : KeptCall) (older : List CallAt) → KnowsFor older call → (now : ℕ) (page : PageId) (told : ℕ) (op : Op) → call ≡ Handed (Added now page told op)
       → KeptKnowsItsOwn numbers older place page
-  knows_for call older knows now page told op e = subst (λ (c : Call). KnowsFor older c) e knows
+  knows_for call older knows now page told op e = subst (λ (c : KeptCall). KnowsFor older c) e knows
 
   none_for : (line : KeptLine) (older : List CallAt) → DrawsNone line → KnowsFor older (Handed line)
   none_for (Came now v) older is = tt
@@ -232,7 +234,7 @@ module _ (numbers : ℕ → ℕ) (time place : ℕ) where
   lines_know (line ∷ lines) older none rest =
       lines_know lines (at time place line ∷ older) none.1 (knows_for (Handed line) older (none_for line older none.0), rest)
 
-  line_know : (line : JudgedLine) (h : Judged) (older : List CallAt)
+  line_know : (line : Call) (h : Judged) (older : List CallAt)
       → ((now : ℕ) (page : PageId) (op : Op) → Takes line ≡ Takes (UserDrew now page op) → KeptKnowsItsOwn numbers older place page) → KnowsFor older (Handed (plain_line (handed line h)))
   line_know (CameFrom now o v) h older knows = none_for (plain_line (handed (CameFrom now o v) h)) older (came_draws now v (verdict_on now o v h).why)
   line_know (Garbled now) h older knows = tt

@@ -12,7 +12,9 @@ use Rattle.wb_member.specs.Opened.{present}
 use Rattle.wb_keeping.specs.Laws.{Added, Came, KeptLine, Ticked, Tuned, doing_of}
 use Rattle.wb_keeping.specs.Performing.{after_doing}
 use Rattle.wb_judging.specs.Handing.{handed, handed_for, recalled, verdict_on}
-use Rattle.wb_judging.specs.Judged.{CameFrom, DayTold, Garbled, GoneFrom, Held, Judged, JudgedLine, Passed, UserDrew, moment_of}
+use Rattle.wb_judging.specs.Judged.{Judged, moment_of}
+use Rattle.wb_judging.specs.declared.call.Call.{Call}
+use Rattle.wb_judging.specs.declared.call.Call.TheVariants.{CameFrom, DayTold, Garbled, GoneFrom, Held, Passed, UserDrew}
 use Rattle.wb_judging.specs.Laws.{expanded}
 use Rattle.wb_judging.specs.Performing.{after_judged, after_kept_line}
 use Rattle.wb_judging.specs.declared.record.RecordLine.{RecordLine}
@@ -108,7 +110,7 @@ module _ (terms : Terms) (time place : ℕ) where
   fits_plain (Added now page t op) fits = fits
   fits_plain (Tuned constants) fits = fits
 
-  fits_line : (line : JudgedLine) (h : Judged) → IsNowAt terms time place (moment_of line h) → IsFitting terms time place (plain_line (handed line h))
+  fits_line : (line : Call) (h : Judged) → IsNowAt terms time place (moment_of line h) → IsFitting terms time place (plain_line (handed line h))
   fits_line (CameFrom now o v) h is = fits_came now v (verdict_on now o v h).why is
   fits_line (Garbled now) h is = record { says = is; tuned = λ constants e. absurd cc }
   fits_line (Passed now) h is = record { says = is; tuned = λ constants e. absurd cc }
@@ -143,7 +145,7 @@ module _ (terms : Terms) (number i time place : ℕ) where
   fit_elsewhere other (line ∷ lines) older rest =
       fit_elsewhere other lines (at time place line ∷ older) (subst (λ (b : Bool). IsKeptFitting terms number i b time (Handed line) (AreKeptFitting terms number i older)) (sym other) rest)
 
-  fit_takes : (b : Bool) → nat_eq place i ≡ b → (line : JudgedLine) (h : Judged) (older : List CallAt) (before : Type 0) → IsFittingSince terms number i b time (Takes line) h before
+  fit_takes : (b : Bool) → nat_eq place i ≡ b → (line : Call) (h : Judged) (older : List CallAt) (before : Type 0) → IsFittingSince terms number i b time (Takes line) h before
       → (before → AreKeptFitting terms number i older)
       → AreKeptFitting terms number i (lines_then time place (plain_line (handed line h) ∷ []) older)
   fit_takes true here line h older before is rest = fit_there here (plain_line (handed line h) ∷ []) older (fits_line terms time i line h is.0, tt) (rest is.1)
@@ -179,7 +181,7 @@ fit_kept numbers terms i (e ∷ older) is =
 
 -- ---- a call after `quiet` is one line
 
-pub taken_at : (numbers : ℕ → ℕ) (newer older : List JudgedCallAt) (e : JudgedCallAt) (line : JudgedLine) → AreTaken numbers (newer ++ e ∷ older) → e.call ≡ Takes line
+pub taken_at : (numbers : ℕ → ℕ) (newer older : List JudgedCallAt) (e : JudgedCallAt) (line : Call) → AreTaken numbers (newer ++ e ∷ older) → e.call ≡ Takes line
     → IsLineTaken line (judged_at numbers older e.place)
 taken_at numbers [] older e line taken takes = subst (λ (call : JudgedCall). IsTaken call (judged_at numbers older e.place)) takes taken.0
 taken_at numbers (x ∷ newer) older e line taken takes = taken_at numbers newer older e line taken.1 takes
@@ -195,7 +197,7 @@ kept_no_later (x ∷ cs) c order among = ⊎_elim
     (λ (before : Contains cs c). let le = kept_no_later cs c order.1 before in let first = order.0 in omega (arith, le, first))
     (Contains-cases x c cs among)
 
-pub takes_is : (numbers : ℕ → ℕ) (e : JudgedCallAt) (older : List JudgedCallAt) (line : JudgedLine) → e.call ≡ Takes line
+pub takes_is : (numbers : ℕ → ℕ) (e : JudgedCallAt) (older : List JudgedCallAt) (line : Call) → e.call ≡ Takes line
     → kept_calls numbers (e ∷ older) ≡ at e.time e.place (plain_line (handed line (judged_at numbers older e.place))) ∷ kept_calls numbers older
 takes_is numbers e older line takes = ap (λ (call : JudgedCall). kept_then e.time e.place call (judged_at numbers older e.place) (kept_calls numbers older)) takes
 
@@ -205,7 +207,7 @@ pub record FromLine (numbers : ℕ → ℕ) (calls : List JudgedCallAt) (e : Cal
   pub call : JudgedCallAt
   pub before : List JudgedCallAt
   pub split : calls ≡ later ++ call ∷ before
-  pub line : JudgedLine
+  pub line : Call
   pub takes : call.call ≡ Takes line
   pub is : e ≡ at call.time call.place (plain_line (handed line (judged_at numbers before call.place)))
   pub older_is : older ≡ kept_calls numbers before
@@ -218,7 +220,7 @@ one_more numbers calls c e older f =
     record { later = c ∷ f.later; call = f.call; before = f.before; split = ap (λ (cs : List JudgedCallAt). c ∷ cs) f.split; line = f.line; takes = f.takes; is = f.is; older_is = f.older_is }
 
 abbrev TakeLines : ℕ → List JudgedCallAt → Type 0
-TakeLines quiet calls = (newer older : List JudgedCallAt) (e : JudgedCallAt) → calls ≡ newer ++ e ∷ older → quiet < e.time → (line : JudgedLine) × (e.call ≡ Takes line)
+TakeLines quiet calls = (newer older : List JudgedCallAt) (e : JudgedCallAt) → calls ≡ newer ++ e ∷ older → quiet < e.time → (line : Call) × (e.call ≡ Takes line)
 
 pub from_line : (numbers : ℕ → ℕ) (quiet : ℕ) (calls : List JudgedCallAt) → AreInOrder calls → TakeLines quiet calls → (newer older : List CallAt) (e : CallAt)
     → kept_calls numbers calls ≡ newer ++ e ∷ older → quiet < e.time → FromLine numbers calls e older
@@ -240,7 +242,7 @@ from_line numbers quiet (c ∷ rest) order alone newer older e split late =
           let not = not_less quiet c.time above in
           omega (arith, le, at_c, late, not)
 
-      with_line : (t : (line : JudgedLine) × (c.call ≡ Takes line)) → ((newer : List CallAt) → kept_calls numbers rest ≡ newer ++ e ∷ older → FromLine numbers rest e older)
+      with_line : (t : (line : Call) × (c.call ≡ Takes line)) → ((newer : List CallAt) → kept_calls numbers rest ≡ newer ++ e ∷ older → FromLine numbers rest e older)
           → (newer : List CallAt) → at c.time c.place (plain_line (handed t.0 (judged_at numbers rest c.place))) ∷ kept_calls numbers rest ≡ newer ++ e ∷ older → FromLine numbers (c ∷ rest) e older
       with_line t again [] split = record { later = []; call = c; before = rest; split = refl; line = t.0; takes = t.1; is = sym cc; older_is = sym cc }
       with_line t again (x ∷ newer) split =

@@ -12,10 +12,10 @@ use Rattle.wb_kept_progress.specs.Since.{called_at as kept_called_at, hosts_of, 
 use Rattle.wb_kept_progress.specs.Timed.{called_at as timed_called_at, lines_of}
 use Rattle.wb_kept_progress.specs.Whole.{Sizes, there, whole_by}
 use Rattle.wb_kept_progress.proofs.Agreeing.{sessions_agree}
-use Rattle.wb_kept_progress.proofs.Since.{restarted_become_whole, restarted_become_whole_by_rounds, since_is_same, since_is_timely}
+use Rattle.wb_kept_progress.proofs.Since.{restarted_become_whole, restarted_become_whole_by_rounds, restarted_become_whole_in_crowds, since_is_same, since_is_timely}
 use Rattle.wb_judged_sessions.specs.Sessions.{JudgedCallAt, WasDrawn, judged_at, kept_calls}
 use Rattle.wb_judged_sessions.specs.Terms.{IsSession}
-use Rattle.wb_judged_sessions.specs.Timely.{IsTimely, JudgedAgree, JudgedBecomeWhole, JudgedBecomeWholeByRounds, called_at}
+use Rattle.wb_judged_sessions.specs.Timely.{IsTimely, JudgedAgree, JudgedBecomeWhole, JudgedBecomeWholeByRounds, JudgedBecomeWholeInCrowds, called_at}
 use Rattle.wb_judged_sessions.proofs.InTime.{judged_is_timely}
 use Rattle.wb_judged_sessions.proofs.Kept.{calls_split, judged_is_kept}
 use Rattle.wb_judged_sessions.proofs.Timely.{called_kept, takes_is}
@@ -43,6 +43,13 @@ judged_become_whole_by_rounds numbers terms calls newer later since pause wait m
     holds_there numbers calls newer later split i n
     (restarted_become_whole_by_rounds numbers terms (kept_calls numbers calls) (calls_split numbers newer later).0 (kept_calls numbers later) since pause wait most places rounds i n
     (judged_is_timely numbers terms calls s) reports waits lack new filled enough some
+    (kept_split numbers calls newer later split) (later_than_kept numbers calls newer later split _ late) live)
+
+pub judged_become_whole_in_crowds : JudgedBecomeWholeInCrowds
+judged_become_whole_in_crowds numbers terms calls newer later since wait most places bringing crowded i n s waits lack filled brings enough some split late live =
+    holds_there numbers calls newer later split i n
+    (restarted_become_whole_in_crowds numbers terms (kept_calls numbers calls) (calls_split numbers newer later).0 (kept_calls numbers later) since wait most places bringing crowded i n
+    (judged_is_timely numbers terms calls s) waits lack filled brings enough some
     (kept_split numbers calls newer later split) (later_than_kept numbers calls newer later split _ late) live)
 
 -- ---- they look alike

@@ -9,7 +9,9 @@ use Rattle.wb_judge.specs.declared.known.KnownOrigin.{KnownOrigin}
 use Rattle.wb_judge.specs.declared.limits.TheConstants.{MOST_KNOWN, MOST_OTHERS, PATIENCE}
 use Rattle.wb_judge.specs.declared.origin.Origin.{Origin}
 use Rattle.wb_judge.specs.declared.others.Other.{Other}
-use Rattle.wb_judging.specs.Judged.{CameFrom, DayTold, Garbled, GoneFrom, Held, Judged, JudgedLine, Passed, UserDrew}
+use Rattle.wb_judging.specs.Judged.{Judged}
+use Rattle.wb_judging.specs.declared.call.Call.{Call}
+use Rattle.wb_judging.specs.declared.call.Call.TheVariants.{CameFrom, DayTold, Garbled, GoneFrom, Held, Passed, UserDrew}
 use Rattle.wb_judging.specs.Performing.{after_judged}
 
 -- an origin is known, and something came from there at a moment or later
@@ -32,7 +34,7 @@ pub record HasRoom (j : Judge) : Type 0 where
   pub others : length (filter (λ x. is_some x.answered) j.others) < MOST_OTHERS
 
 -- By a line nobody answers under the number from elsewhere, and whoever is gone is another. Anybody may send anything else, within 192 seconds of that moment.
-abbrev pub LeavesKnown : Origin → (number at : ℕ) → JudgedLine → Judged → Type 0
+abbrev pub LeavesKnown : Origin → (number at : ℕ) → Call → Judged → Type 0
 LeavesKnown o number at (CameFrom now p v) h =
     (at ≤ now) × (now ≤ at + PATIENCE) × (speaker_in v ≡ Some number → is_answer v now h.judge ≡ true → same_origin p o ≡ true)
 LeavesKnown o number at (Garbled now) h = Unit {0}
@@ -44,5 +46,5 @@ LeavesKnown o number at (Held line) h = Unit {0}
 
 -- Such a line leaves it known, if the judge has room.
 abbrev pub StaysKnown : Type 0
-StaysKnown = (line : JudgedLine) (h : Judged) (o : Origin) (number at : ℕ) → HasRoom h.judge → LeavesKnown o number at line h → IsKnownSince o number at h.judge
+StaysKnown = (line : Call) (h : Judged) (o : Origin) (number at : ℕ) → HasRoom h.judge → LeavesKnown o number at line h → IsKnownSince o number at h.judge
     → IsKnownSince o number at (after_judged line h).judge

@@ -10,7 +10,7 @@ use Rattle.wb_policy.specs.declared.limits.TheConstants.{LONGEST_PAUSE}
 use Rattle.wb_progress.specs.Turns.{Terms}
 use Rattle.wb_member.specs.Judged.{holds}
 use Rattle.wb_judging.specs.Handing.{facts_of}
-use Rattle.wb_judging.specs.Judged.{CameFrom, GoneFrom}
+use Rattle.wb_judging.specs.declared.call.Call.TheVariants.{CameFrom, GoneFrom}
 use Rattle.wb_kept_progress.specs.Since.{hosts_of, since}
 use Rattle.wb_kept_progress.specs.Whole.{AreSoon, AreWithin, IsHeldBySome, LackAtMost, Sizes, WaitAtMost, request_span, whole_by}
 use Rattle.wb_judged_sessions.specs.Knowing.{HasRoom, IsKnownSince}

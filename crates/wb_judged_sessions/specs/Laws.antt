@@ -13,7 +13,7 @@ use Rattle.wb_member.specs.Opened.{becomes, gaps_at, last_number}
 use Rattle.wb_judge.specs.declared.origin.Origin.{Origin}
 use Rattle.wb_keeping.specs.Laws.{Came}
 use Rattle.wb_judging.specs.Handing.{handed}
-use Rattle.wb_judging.specs.Judged.{CameFrom}
+use Rattle.wb_judging.specs.declared.call.Call.TheVariants.{CameFrom}
 use Rattle.wb_judging.specs.Laws.{drawops_of}
 use Rattle.wb_judging.specs.declared.record.RecordLine.{RecordLine}
 use Rattle.wb_laws_kept.specs.Listening.{IsHeardWhole, TellsMark}

@@ -6,7 +6,7 @@ use Rattle.wb_codec.specs.declared.datagram.Datagram.{Datagram}
 use Rattle.wb_codec.specs.declared.datagram.Datagram.TheVariants.{AskPages, Session}
 use Rattle.wb_judge.specs.declared.origin.Origin.{Origin}
 use Rattle.wb_progress.specs.Turns.{Terms}
-use Rattle.wb_judging.specs.Judged.{CameFrom, Passed}
+use Rattle.wb_judging.specs.declared.call.Call.TheVariants.{CameFrom, Passed}
 use Rattle.wb_judging.specs.Laws.{sends_in}
 use Rattle.wb_judging.specs.Performing.{events_of}
 use Rattle.wb_judged_sessions.specs.Examples.{at, numbers, start}

@@ -11,7 +11,9 @@ use Rattle.wb_keeping.specs.Kept.{came}
 use Rattle.wb_keeping.specs.Laws.{Added, Came, KeptLine, Ticked, Tuned}
 use Rattle.wb_keeping.specs.Performing.{Keeping, sees}
 use Rattle.wb_judging.specs.Handing.{handed}
-use Rattle.wb_judging.specs.Judged.{Held, Judged, JudgedLine, UserDrew, CameFrom, Garbled, Passed, DayTold, GoneFrom}
+use Rattle.wb_judging.specs.Judged.{Judged}
+use Rattle.wb_judging.specs.declared.call.Call.{Call}
+use Rattle.wb_judging.specs.declared.call.Call.TheVariants.{Held, UserDrew, CameFrom, Garbled, Passed, DayTold, GoneFrom}
 use Rattle.wb_judging.specs.Laws.{after_all, expanded, sends_in}
 use Rattle.wb_judging.specs.Opening.{opened as opened_judged}
 use Rattle.wb_judging.specs.Performing.{after_judged, events_of, gained}
@@ -58,7 +60,7 @@ unstarted number = record {
 -- from an origin that its driver tells, `tick`, `add`, `wall`, `gone`, or once more `held`.
 pub data JudgedCall : Type 0 where
   Starts : (start : Start) (given : List RecordLine) → JudgedCall
-  Takes : (line : JudgedLine) → JudgedCall
+  Takes : (line : Call) → JudgedCall
 
 -- the member at a place is called at a time
 pub record JudgedCallAt : Type 0 where
@@ -81,7 +83,7 @@ judged_at numbers (e ∷ older) i =
 -- ---- what they draw, hold and send
 
 -- What its user draws is what its board gains by that.
-abbrev pub drawn_by_line : JudgedLine → Judged → List DrawopValue
+abbrev pub drawn_by_line : Call → Judged → List DrawopValue
 drawn_by_line (UserDrew now page op) h = gained (handed (UserDrew now page op) h) h.kept
 drawn_by_line (CameFrom now o v) h = []
 drawn_by_line (Garbled now) h = []
@@ -119,7 +121,7 @@ pub record WasHeld (numbers : ℕ → ℕ) (calls : List JudgedCallAt) (d : Draw
   pub held : Holds numbers older place d
 
 -- all that a member sends by some lines
-abbrev pub sent_by_lines : List JudgedLine → Judged → List Datagram
+abbrev pub sent_by_lines : List Call → Judged → List Datagram
 sent_by_lines [] h = []
 sent_by_lines (line ∷ lines) h = sends_in (events_of line h) ++ sent_by_lines lines (after_judged line h)
 

@@ -7,7 +7,9 @@ use Rattle.wb_names.specs.declared.parts.Op.{Op}
 use Rattle.wb_member.specs.Opened.{last_number, present}
 use Rattle.wb_keeping.specs.Laws.{Added, Came, KeptLine, Ticked, Tuned}
 use Rattle.wb_judging.specs.Handing.{handed}
-use Rattle.wb_judging.specs.Judged.{CameFrom, DayTold, Garbled, GoneFrom, Held, Judged, JudgedLine, Passed, UserDrew}
+use Rattle.wb_judging.specs.Judged.{Judged}
+use Rattle.wb_judging.specs.declared.call.Call.{Call}
+use Rattle.wb_judging.specs.declared.call.Call.TheVariants.{CameFrom, DayTold, Garbled, GoneFrom, Held, Passed, UserDrew}
 use Rattle.wb_judging.specs.Laws.{drawops_of, record_of}
 use Rattle.wb_judging.specs.Performing.{after_judged}
 use Rattle.wb_judging.specs.Refusing.{draw_fault, held_fault}
@@ -21,7 +23,7 @@ use Rattle.wb_judged_sessions.specs.Sessions.{JudgedCall, JudgedCallAt, Start, S
 
 -- Time does not go back; the user draws if nobody has the number too and a cell is left; and of the
 -- record no line has a number of ours that we would never reach. Nothing else is ever refused.
-abbrev pub IsLineTaken : JudgedLine → Judged → Type 0
+abbrev pub IsLineTaken : Call → Judged → Type 0
 IsLineTaken (CameFrom now o v) h = present h.kept.host ≤ now
 IsLineTaken (Garbled now) h = present h.kept.host ≤ now
 IsLineTaken (Passed now) h = present h.kept.host ≤ now
@@ -30,7 +32,7 @@ IsLineTaken (GoneFrom now o) h = present h.kept.host ≤ now
 IsLineTaken (UserDrew now page op) h = draw_fault now page op h ≡ None
 IsLineTaken (Held line) h = held_fault line h ≡ None
 
-abbrev pub AreLinesTaken : List JudgedLine → Judged → Type 0
+abbrev pub AreLinesTaken : List Call → Judged → Type 0
 AreLinesTaken [] h = Unit {0}
 AreLinesTaken (line ∷ lines) h = IsLineTaken line h × AreLinesTaken lines (after_judged line h)
 

@@ -1,5 +1,5 @@
 -- By when all of a session has come to judged members, if from some time on nobody draws or starts, and nothing is lost.
-use Rattle.std.specs.Prelude.{◌≡◌, ◌≢◌, ℕ, ◌+◌, ◌<◌, ◌≤◌, ◌*◌, Bool, true, false, List, [], ◌∷◌, ◌++◌, Contains, nat_eq}
+use Rattle.std.specs.Prelude.{◌≡◌, ◌≢◌, ℕ, ◌+◌, ◌-◌, ◌<◌, ◌≤◌, ◌*◌, Bool, true, false, List, [], ◌∷◌, ◌++◌, Contains, nat_eq}
 use Rattle.wb_names.specs.Values.{NameValue}
 use Rattle.wb_names.specs.declared.name.PageId.{PageId}
 use Rattle.wb_names.specs.declared.parts.Op.{Op}
@@ -9,10 +9,13 @@ use Rattle.wb_progress.specs.Bounds.{IsUnder}
 use Rattle.wb_progress.specs.Turns.{IsNowAt, Terms, longest, settled_by}
 use Rattle.wb_member.specs.Judged.{holds, is_full}
 use Rattle.wb_member.specs.Opened.{present}
+use Rattle.wb_policy.specs.declared.limits.TheConstants.{COST, MOST_TIMERS}
 use Rattle.wb_keeping.specs.Laws.{Came}
 use Rattle.wb_keeping.specs.Performing.{due}
 use Rattle.wb_judging.specs.Handing.{handed}
-use Rattle.wb_judging.specs.Judged.{CameFrom, Held, Judged, JudgedLine, UserDrew, moment_of}
+use Rattle.wb_judging.specs.Judged.{Judged, moment_of}
+use Rattle.wb_judging.specs.declared.call.Call.{Call}
+use Rattle.wb_judging.specs.declared.call.Call.TheVariants.{CameFrom, Held, UserDrew}
 use Rattle.wb_judging.specs.Laws.{sends_in}
 use Rattle.wb_judging.specs.Members.{IsOfMember}
 use Rattle.wb_judging.specs.Performing.{events_of}
@@ -20,6 +23,7 @@ use Rattle.wb_judging.specs.declared.record.RecordLine.{RecordLine}
 use Rattle.wb_laws_kept.specs.Openings.{opened_host}
 use Rattle.wb_laws_sessions.specs.Sessions.{AreApart}
 use Rattle.wb_kept_progress.specs.Agreement.{LookAlike}
+use Rattle.wb_kept_progress.specs.Crowded.{crowded_by, spent_in}
 use Rattle.wb_kept_progress.specs.Rounds.{OneLacksAtMost, PlacesAreFilled, rounds_by}
 use Rattle.wb_kept_progress.specs.Since.{IsTimelyWithStarts, hosts_of, since}
 use Rattle.wb_kept_progress.specs.Timed.{greatest_distance}
@@ -72,7 +76,7 @@ pub record WasSentBy (numbers : ℕ → ℕ) (older : List JudgedCallAt) (time w
   pub before : List JudgedCallAt
   pub split : older ≡ newer ++ e ∷ before
   pub soon : time ≤ e.time + within
-  pub line : JudgedLine
+  pub line : Call
   pub call : e.call ≡ Takes line
   pub sent : Contains (sends_in (events_of line (judged_at numbers before e.place))) v
 
@@ -87,13 +91,13 @@ pub record IsTimelyBy (Arrived : (newer base : List JudgedCallAt) (i j by : ℕ)
   pub covered : terms.drift ≤ terms.late
   pub far : greatest_distance ≤ terms.far
   pub fitting : (i : ℕ) → Contains terms.live i → AreFittingSince terms numbers i calls
-  pub alone : (newer older : List JudgedCallAt) (e : JudgedCallAt) → calls ≡ newer ++ e ∷ older → terms.quiet < e.time → Contains terms.live e.place × ((line : JudgedLine) × (e.call ≡ Takes line))
+  pub alone : (newer older : List JudgedCallAt) (e : JudgedCallAt) → calls ≡ newer ++ e ∷ older → terms.quiet < e.time → Contains terms.live e.place × ((line : Call) × (e.call ≡ Takes line))
   pub drawn : (newer older : List JudgedCallAt) (e : JudgedCallAt) (now : ℕ) (page : PageId) (op : Op) → calls ≡ newer ++ e ∷ older → terms.quiet < e.time → e.call ≢ Takes (UserDrew now page op)
   pub recalled : (newer older : List JudgedCallAt) (e : JudgedCallAt) (line : RecordLine) → calls ≡ newer ++ e ∷ older → terms.quiet < e.time → e.call ≢ Takes (Held line)
   pub soon : (newer older : List JudgedCallAt) (e : JudgedCallAt) (i : ℕ) → calls ≡ newer ++ e ∷ older → Contains terms.live i → terms.quiet < e.time
       → e.time ≤ due (judged_at numbers older i).kept + (terms.lag i + terms.late)
   pub room : (newer older : List JudgedCallAt) (i : ℕ) → calls ≡ newer ++ older → Contains terms.live i → terms.quiet < called_at older → is_full (judged_at numbers older i).kept.host ≡ false
-  pub delivered : (newer older : List JudgedCallAt) (e : JudgedCallAt) (line : JudgedLine) (j : ℕ) (v : Datagram) → calls ≡ newer ++ e ∷ older → e.call ≡ Takes line → Contains terms.live j
+  pub delivered : (newer older : List JudgedCallAt) (e : JudgedCallAt) (line : Call) (j : ℕ) (v : Datagram) → calls ≡ newer ++ e ∷ older → e.call ≡ Takes line → Contains terms.live j
       → e.place ≢ j → terms.quiet < e.time
       → Contains (sends_in (events_of line (judged_at numbers older e.place))) v → e.time + terms.delivery < called_at calls → Arrived newer (e ∷ older) e.place j (e.time + terms.delivery) v
   pub fresh : (newer older : List JudgedCallAt) (e : JudgedCallAt) (now : ℕ) (o : Origin) (v : Datagram) → calls ≡ newer ++ e ∷ older → settled_by terms < e.time → e.call ≡ Takes (CameFrom now o v)
@@ -127,6 +131,16 @@ JudgedBecomeWholeByRounds = (numbers : ℕ → ℕ) (terms : Terms) (calls newer
     ReportWithin hosts terms trace from pause → WaitAtMost hosts terms trace wait → OneLacksAtMost hosts terms trace most → NewAreKept hosts terms trace from
     → PlacesAreFilled hosts terms trace from places → most ≤ rounds * places
     → IsHeldBySome hosts terms trace n → calls ≡ newer ++ later → rounds_by terms from pause wait rounds < called_at later → Contains terms.live i
+    → holds (judged_at numbers later i).kept.host n ≡ true
+
+-- And though names are given up in crowds.
+abbrev pub JudgedBecomeWholeInCrowds : Type 0
+JudgedBecomeWholeInCrowds = (numbers : ℕ → ℕ) (terms : Terms) (calls newer later : List JudgedCallAt) (from wait most places bringing crowded i : ℕ) (n : NameValue) → IsTimely numbers terms calls
+    → let hosts = hosts_of numbers (kept_calls numbers calls) in
+    let trace = since numbers (kept_calls numbers calls) in
+    WaitAtMost hosts terms trace wait → OneLacksAtMost hosts terms trace most → PlacesAreFilled hosts terms trace from places
+    → most ≤ bringing * (places - 1) → spent_in terms most (bringing + crowded) ≤ crowded * (MOST_TIMERS * COST)
+    → IsHeldBySome hosts terms trace n → calls ≡ newer ++ later → crowded_by terms from wait (bringing + crowded) < called_at later → Contains terms.live i
     → holds (judged_at numbers later i).kept.host n ≡ true
 
 -- After that time the boards of any two live members look alike, at the end of the session, if it is one of those in which each drawop that is let in

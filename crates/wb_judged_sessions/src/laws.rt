@@ -1,13 +1,15 @@
 //! Laws of sessions of judged members. Each function does nothing: its contract is a law, for
 //! proofs to cite.
 
+ghost use Rattle.std.specs.Prelude.{◌≡◌, ◌^◌};
+ghost use Rattle.wb_judge.specs.declared.limits.TheConstants.{FETCH_AGAIN, FETCH_PAUSE, FORGED_ABOVE, FORGED_NUMBER, LACKING, NEW_AHEAD, NEW_PAUSE};
 ghost use Rattle.wb_judged_sessions.specs.Examples.{IsShared};
 ghost use Rattle.wb_judged_sessions.specs.Known.{JudgedStayKnown, KnownBecomeWhole};
 ghost use Rattle.wb_judged_sessions.specs.Knowing.{StaysKnown};
 ghost use Rattle.wb_judged_sessions.specs.Laws.{BoardsAreFiles, FiledReportsTellAgreement, FilesAreWhole, HeldOnce, HeldWasDrawn, JudgedKeepKeptTerms, ListeningTells, MarksWereDrawn, NamesMeanOne, NoneClashes, NumbersCount, OnceHeldWasDrawn, RecordsTell, ReportsTellAgreement, SendsAsKept, SentWasDrawn, WholeBoardsAgree};
 ghost use Rattle.wb_judged_sessions.specs.Meeting.{HaveMet};
 ghost use Rattle.wb_judged_sessions.specs.Sessions.{DrawsAsKept, JudgedIsKept, PlainIsTheSame};
-ghost use Rattle.wb_judged_sessions.specs.Timely.{JudgedAgree, JudgedBecomeWhole, JudgedBecomeWholeByRounds, JudgedIsTimely};
+ghost use Rattle.wb_judged_sessions.specs.Timely.{JudgedAgree, JudgedBecomeWhole, JudgedBecomeWholeByRounds, JudgedBecomeWholeInCrowds, JudgedIsTimely};
 
 /// A session of judged members is one of self-managing members, in which the network lost what the
 /// judges dropped. Each judged member is the self-managing one at its place, and draws the same. It
@@ -81,6 +83,7 @@ pub fn judged_sessions_keep_to_times()
 pub fn judged_sessions_become_whole()
     ensures whole { JudgedBecomeWhole }
     ensures rounds { JudgedBecomeWholeByRounds }
+    ensures crowded { JudgedBecomeWholeInCrowds }
     ensures agree { JudgedAgree }
 {}
 
@@ -97,4 +100,15 @@ pub fn judged_members_stay_known()
 /// each knows the other, and the session keeps to all that `judged_members_stay_known` asks.
 pub fn two_judged_members_meet()
     ensures { HaveMet }
+{}
+
+/// The numbers of a judge that wb_judge has no law for: how many numbers a member lacks that takes a
+/// stream, and how long, in microseconds, it waits for the next one, and for the next one of the
+/// same member; how far ahead new numbers are paid for, and what one costs, in microseconds; and
+/// which numbers of our own are forged: those so far above what is held, and those from the last
+/// one on.
+pub fn numbers_of_a_judge()
+    ensures streams { (LACKING ≡ 500) × (FETCH_PAUSE ≡ 10000000) × (FETCH_AGAIN ≡ 60000000) }
+    ensures ahead { (NEW_AHEAD ≡ 255000000) × (NEW_PAUSE ≡ 1000000) }
+    ensures forged { (FORGED_ABOVE ≡ 65536) × (FORGED_NUMBER ≡ 2 ^ 31) }
 {}

@@ -22,8 +22,8 @@ use Rattle.wb_member.specs.Opened.{Opened, events, present}
 use Rattle.wb_policy.specs.Policy.{Policy}
 use Rattle.wb_keeping.specs.Bounds.{answer_count, ask_count, is_ask, is_request, new_keeping, request_count, requests, timer_count}
 use Rattle.wb_keeping.specs.Kept.{Arrives, Asks, Hears, Line, Says, SetsDistance, Stops, Ticks, Tunes}
-use Rattle.wb_keeping.specs.Laws.{AreTaken, KeptLine, after_kept, doing_of, expand, sent_by_kept}
-use Rattle.wb_keeping.specs.Performing.{Keeping, after_doing, after_line, after_lines, sees, sent_by_line, sent_by_lines}
+use Rattle.wb_keeping.specs.Laws.{AreTaken, KeptLine, after_kept, expand, sent_by_kept}
+use Rattle.wb_keeping.specs.Performing.{Keeping, after_line, after_lines, sent_by_line, sent_by_lines}
 use Rattle.wb_keeping.proofs.AptLines.{apt_from_new, apt_parts, new_spaced}
 use Rattle.wb_keeping.proofs.BackedOff.{Backs, Rests}
 use Rattle.wb_keeping.proofs.FewTimers.{few_timers_stand}
@@ -33,6 +33,7 @@ use Rattle.wb_keeping.proofs.Performed.{after_both, sent_by_both}
 use Rattle.wb_keeping.proofs.SeldomRequested.{names_are_seldom_requested}
 use Rattle.wb_keeping.proofs.SpacedLines.{AreApt, IsSpacedHost, ask_at, line_later, line_moves, line_spaced, lines_later, lines_spaced}
 use Rattle.wb_kept_progress.specs.Traffic.{FewRequestsAreSent, how_many}
+use Rattle.wb_kept_progress.proofs.Handed.{asked_in, expand_both, one_ask, taken_both}
 use Rattle.wb_kept_progress.proofs.Named.{all_by_names, apart_passing, count, count_more, filter_same, for_itself, is_for, names_by_all, names_of, one_if, passing, sums_rise, sums_scale}
 use Rattle.wb_kept_progress.proofs.SentKinds.{kind_both}
 
@@ -59,26 +60,6 @@ for_name n (Request asker name) = refl
 for_name n (AskPages asker) = refl
 for_name n (PageState sender page marks) = refl
 
-abbrev asked_in : Line → Option NameValue
-asked_in (Ticks now) = None
-asked_in (Arrives d) = None
-asked_in (Hears v) = None
-asked_in (Asks name) = Some name
-asked_in (Stops name) = None
-asked_in (SetsDistance source micros) = None
-asked_in (Tunes constants) = None
-asked_in (Says v) = None
-
-one_ask : (line : Line) → is_ask line ≡ is_some (asked_in line)
-one_ask (Ticks now) = refl
-one_ask (Arrives d) = refl
-one_ask (Hears v) = refl
-one_ask (Asks name) = refl
-one_ask (Stops name) = refl
-one_ask (SetsDistance source micros) = refl
-one_ask (Tunes constants) = refl
-one_ask (Says v) = refl
-
 abbrev asks_it : NameValue → Line → Bool
 asks_it n line = is_for n (asked_in line)
 
@@ -98,19 +79,6 @@ is_asked n (Says v) e = absurd (true≢false (sym e))
 
 asked_more : (n : NameValue) (line : Line) (lines : List Line) (b : Bool) → asks_it n line ≡ b → asked n (line ∷ lines) ≡ one_if b + asked n lines
 asked_more n line lines b e = count_more asked_in n line lines ∙ ap (λ (b : Bool). one_if b + asked n lines) e
-
--- ---- kept lines, one after the other
-
-expand_both : (one other : List KeptLine) (k : Keeping) → expand (one ++ other) k ≡ expand one k ++ expand other (after_kept one k)
-expand_both [] other k = refl
-expand_both (line ∷ one) other k =
-    let next = after_doing (doing_of line) k in
-    let lines = (doing_of line (sees k.host) k.policy).lines in
-    ap (λ (ls : List Line). lines ++ ls) (expand_both one other next) ∙ sym (append_assoc lines (expand one next) (expand other (after_kept one next)))
-
-taken_both : (one other : List KeptLine) (k : Keeping) → AreTaken one k → AreTaken other (after_kept one k) → AreTaken (one ++ other) k
-taken_both [] other k a b = b
-taken_both (line ∷ one) other k a b = (a.0, taken_both one other (after_doing (doing_of line) k) a.1 b)
 
 -- ---- one name, in some lines
 

@@ -23,7 +23,9 @@ use Rattle.wb_judging.specs.Echoing.{echoing}
 use Rattle.wb_judging.specs.Events.{fate_of, is_new}
 use Rattle.wb_judging.specs.Handing.{facts_of, handed, handed_for, judge_after, verdict_on}
 use Rattle.wb_judging.specs.Hearing.{after_fate, after_sending, after_sends}
-use Rattle.wb_judging.specs.Judged.{CameFrom, DayTold, Garbled, GoneFrom, Held, Judged, JudgedLine, Passed, UserDrew}
+use Rattle.wb_judging.specs.Judged.{Judged}
+use Rattle.wb_judging.specs.declared.call.Call.{Call}
+use Rattle.wb_judging.specs.declared.call.Call.TheVariants.{CameFrom, DayTold, Garbled, GoneFrom, Held, Passed, UserDrew}
 use Rattle.wb_judging.specs.Laws.{expanded, sends_in}
 use Rattle.wb_judging.specs.Performing.{after_judged, after_kept_line, events_of, fate_by, judging, sent_by_kept_line}
 use Rattle.wb_judging.proofs.AsKept.{sends_as_kept}
@@ -69,7 +71,7 @@ coming now o (Request asker name) h = Comes o (Request asker name) (facts_of now
 coming now o (AskPages asker) h = Comes o (AskPages asker) (facts_of now (AskPages asker) h.kept)
 coming now o (PageState sender page marks) h = Comes o (PageState sender page marks) (facts_of now (PageState sender page marks) h.kept)
 
-abbrev first_steps : JudgedLine → Judged → List Step
+abbrev first_steps : Call → Judged → List Step
 first_steps (CameFrom now o v) h = coming now o v h ∷ []
 first_steps (Garbled now) h = []
 first_steps (Passed now) h = []
@@ -78,13 +80,13 @@ first_steps (DayTold now wall) h = Tells (record { wall = wall; at = now }) ∷ 
 first_steps (GoneFrom now o) h = Leaves o ∷ []
 first_steps (Held line) h = []
 
-abbrev sent_then : JudgedLine → Judged → List Datagram
+abbrev sent_then : Call → Judged → List Datagram
 sent_then line h = sent_by_kept_line (handed line h) h.kept
 
-abbrev steps_of : JudgedLine → Judged → List Step
+abbrev steps_of : Call → Judged → List Step
 steps_of line h = first_steps line h ++ reports_in (sent_then line h)
 
-abbrev all_steps : List JudgedLine → Judged → List Step
+abbrev all_steps : List Call → Judged → List Step
 all_steps [] h = []
 all_steps (line ∷ lines) h = steps_of line h ++ all_steps lines (after_judged line h)
 
@@ -130,10 +132,10 @@ came_judged now o (Request asker name) h = refl
 came_judged now o (AskPages asker) h = refl
 came_judged now o (PageState sender page marks) h = refl
 
-abbrev IsOfNow : JudgedLine → Type 0
+abbrev IsOfNow : Call → Type 0
 IsOfNow line = AreOfNow (line ∷ [])
 
-first_judged : (line : JudgedLine) (h : Judged) → IsOfNow line → after_steps (first_steps line h) h.judge ≡ judging line h
+first_judged : (line : Call) (h : Judged) → IsOfNow line → after_steps (first_steps line h) h.judge ≡ judging line h
 first_judged (CameFrom now o v) h fine = came_judged now o v h
 first_judged (Garbled now) h fine = refl
 first_judged (Passed now) h fine = refl
@@ -142,7 +144,7 @@ first_judged (DayTold now wall) h fine = refl
 first_judged (GoneFrom now o) h fine = refl
 first_judged (Held line) h fine = absurd fine
 
-line_judged : (line : JudgedLine) (h : Judged) → IsOfNow line → after_steps (steps_of line h) h.judge ≡ (after_judged line h).judge
+line_judged : (line : Call) (h : Judged) → IsOfNow line → after_steps (steps_of line h) h.judge ≡ (after_judged line h).judge
 line_judged line h fine =
     steps_both (first_steps line h) (reports_in (sent_then line h)) h.judge ∙ heard_by_judge (sent_then line h) (after_steps (first_steps line h) h.judge)
     ∙ ap (after_sends (sent_then line h)) (first_judged line h fine)
@@ -175,13 +177,13 @@ abbrev as_one : Bool → ℕ
 as_one b = cond b 1 0
 
 -- what a line calls for
-abbrev called : JudgedLine → Judged → ℕ
+abbrev called : Call → Judged → ℕ
 called line h = cond (calls_for_drawop (handed line h) h.kept) 1 0
 
 quiet_came : (now : ℕ) (v : Datagram) (k : Keeping) (why : Option Why) → calls_for_drawop (handed_for now v None) k ≡ false → as_one (calls_for_drawop (handed_for now v why) k) ≡ 0
 quiet_came now v k why none = ap as_one (handed_calls now v k why ∙ ap (λ (b : Bool). is_none why && b) none ∙ and_false (is_none why))
 
-first_called : (line : JudgedLine) (h : Judged) → IsOfNow line → called line h ≤ drawing_count (line ∷ []) + many is_repaired_in (first_steps line h) h.judge + many is_asked_in (first_steps line h) h.judge
+first_called : (line : Call) (h : Judged) → IsOfNow line → called line h ≤ drawing_count (line ∷ []) + many is_repaired_in (first_steps line h) h.judge + many is_asked_in (first_steps line h) h.judge
 unfolding verdict_on
 first_called (CameFrom now o (Draw d)) h fine = let none = quiet_came now (Draw d) h.kept (verdict o (Draw d) (facts_of now (Draw d) h.kept) h.judge).why refl in omega (arith, none)
 first_called (CameFrom now o (Session sender sent page marks echoes)) h fine =
@@ -202,7 +204,7 @@ first_called (DayTold now wall) h fine = omega arith
 first_called (GoneFrom now o) h fine = omega arith
 first_called (Held line) h fine = absurd fine
 
-line_called : (line : JudgedLine) (h : Judged) → IsOfNow line → called line h ≤ drawing_count (line ∷ []) + many is_repaired_in (steps_of line h) h.judge + many is_asked_in (steps_of line h) h.judge
+line_called : (line : Call) (h : Judged) → IsOfNow line → called line h ≤ drawing_count (line ∷ []) + many is_repaired_in (steps_of line h) h.judge + many is_asked_in (steps_of line h) h.judge
 line_called line h fine =
     let le = first_called line h fine in
     let reports = reports_in (sent_then line h) in
@@ -211,7 +213,7 @@ line_called line h fine =
     omega (arith, le, one, other)
 
 -- the first of some lines
-of_now : (line : JudgedLine) (lines : List JudgedLine) → AreOfNow (line ∷ lines) → IsOfNow line × AreOfNow lines
+of_now : (line : Call) (lines : List Call) → AreOfNow (line ∷ lines) → IsOfNow line × AreOfNow lines
 of_now (CameFrom now o v) lines fine = (tt, fine)
 of_now (Garbled now) lines fine = (tt, fine)
 of_now (Passed now) lines fine = (tt, fine)
@@ -220,7 +222,7 @@ of_now (DayTold now wall) lines fine = (tt, fine)
 of_now (GoneFrom now o) lines fine = (tt, fine)
 of_now (Held line) lines fine = absurd fine
 
-drawings_more : (line : JudgedLine) (lines : List JudgedLine) → drawing_count (line ∷ lines) ≡ drawing_count (line ∷ []) + drawing_count lines
+drawings_more : (line : Call) (lines : List Call) → drawing_count (line ∷ lines) ≡ drawing_count (line ∷ []) + drawing_count lines
 drawings_more (CameFrom now o v) lines = omega arith
 drawings_more (Garbled now) lines = omega arith
 drawings_more (Passed now) lines = omega arith
@@ -229,7 +231,7 @@ drawings_more (DayTold now wall) lines = omega arith
 drawings_more (GoneFrom now o) lines = omega arith
 drawings_more (Held line) lines = omega arith
 
-lines_called : (lines : List JudgedLine) (h : Judged) → AreOfNow lines → call_count (expanded lines h) h.kept ≤ drawing_count lines + many is_repaired_in (all_steps lines h) h.judge + many is_asked_in (all_steps lines h) h.judge
+lines_called : (lines : List Call) (h : Judged) → AreOfNow lines → call_count (expanded lines h) h.kept ≤ drawing_count lines + many is_repaired_in (all_steps lines h) h.judge + many is_asked_in (all_steps lines h) h.judge
 unfolding after_kept_line
 lines_called [] h fine = omega arith
 lines_called (line ∷ lines) h fine =
@@ -245,12 +247,12 @@ lines_called (line ∷ lines) h fine =
 
 -- ---- when they come
 
-line_moments : (line : JudgedLine) (h : Judged) (lines : List JudgedLine) (more : List Step) → IsOfNow line → moments_of more ≡ came_at lines → moments_of (steps_of line h ++ more) ≡ came_at (line ∷ lines)
+line_moments : (line : Call) (h : Judged) (lines : List Call) (more : List Step) → IsOfNow line → moments_of more ≡ came_at lines → moments_of (steps_of line h ++ more) ≡ came_at (line ∷ lines)
 line_moments line h lines more fine same = by line fine where
   later : (sent : List Datagram) → moments_of (reports_in sent ++ more) ≡ came_at lines
   later sent = no_moments sent more ∙ same
 
-  by : (line : JudgedLine) → IsOfNow line → moments_of (steps_of line h ++ more) ≡ came_at (line ∷ lines)
+  by : (line : Call) → IsOfNow line → moments_of (steps_of line h ++ more) ≡ came_at (line ∷ lines)
   by (CameFrom now o (Draw d)) fine = ap (λ (ms : List ℕ). now ∷ ms) (later (sent_then (CameFrom now o (Draw d)) h))
   by (CameFrom now o (Session sender sent page marks echoes)) fine = ap (λ (ms : List ℕ). now ∷ ms) (later (sent_then (CameFrom now o (Session sender sent page marks echoes)) h))
   by (CameFrom now o (Request asker name)) fine = ap (λ (ms : List ℕ). now ∷ ms) (later (sent_then (CameFrom now o (Request asker name)) h))
@@ -263,7 +265,7 @@ line_moments line h lines more fine same = by line fine where
   by (GoneFrom now o) fine = later (sent_then (GoneFrom now o) h)
   by (Held line) fine = absurd fine
 
-all_moments : (lines : List JudgedLine) (h : Judged) → AreOfNow lines → moments_of (all_steps lines h) ≡ came_at lines
+all_moments : (lines : List Call) (h : Judged) → AreOfNow lines → moments_of (all_steps lines h) ≡ came_at lines
 all_moments [] h fine = refl
 all_moments (line ∷ lines) h fine =
     let parts = of_now line lines fine in
@@ -279,7 +281,7 @@ echoed_drawops (Request asker name ∷ sent) echo = echoed_drawops sent echo
 echoed_drawops (AskPages asker ∷ sent) echo = echoed_drawops sent echo
 echoed_drawops (PageState sender page marks ∷ sent) echo = echoed_drawops sent echo
 
-sent_as_kept : (lines : List JudgedLine) (h : Judged) → how_many is_drawop (sent_by_judged lines h) ≡ how_many is_drawop (sent_by_kept (expanded lines h) h.kept)
+sent_as_kept : (lines : List Call) (h : Judged) → how_many is_drawop (sent_by_judged lines h) ≡ how_many is_drawop (sent_by_kept (expanded lines h) h.kept)
 unfolding after_kept_line sent_by_kept_line
 sent_as_kept [] h = refl
 sent_as_kept (line ∷ lines) h =

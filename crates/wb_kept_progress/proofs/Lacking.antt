@@ -99,8 +99,8 @@ module _ (terms : Terms) (trace : List TimedLine) where
           some_none : (a : AskTimer) → Some a ≡ None → ⊥
           some_none a e = cc
 
-    pub places_filled : (since : ℕ) → parts (asks_for_it since) trace ≡ true → PlacesAreFilled hosts terms trace since 1
-    places_filled since filled newer older i n split live late held lacks =
+    pub places_filled : (since places : ℕ) → parts (asks_for_it since) trace ≡ true → PlacesAreFilled hosts terms trace since places
+    places_filled since places filled newer older i n split live late held lacks =
         let named = is_it n held in
         inl (subst (λ (m : NameValue). asks_for m (there hosts older i).host ≡ true) (sym named) asks) where
           here : Bool
@@ -221,7 +221,7 @@ module _ (quiet late drift since : ℕ) (lag : ℕ → ℕ) (trace : List TimedL
     reports = reports;
     lacks = one_lacks_one T trace p.only;
     kept = none_stops T trace since p.kept;
-    filled = places_filled T trace p.only since p.filled;
+    filled = λ places. places_filled T trace p.only since places p.filled;
     held = held;
     lost = (Contains-there 0 1 (1 ∷ []) (Contains-here 1 []), held, p.lost);
     comes = p.comes;

@@ -34,7 +34,7 @@ use Rattle.wb_policy.specs.Policy.{Policy, after_answer, after_question, after_b
 use Rattle.wb_policy.specs.Questions.{is_due}
 use Rattle.wb_policy.specs.Reports.{rest_after}
 use Rattle.wb_policy.specs.Turns.{name_in, nowhere, number_in}
-use Rattle.wb_policy.specs.Wanting.{goes_on, is_paid}
+use Rattle.wb_policy.specs.Wanting.{goes_on, is_paid, passes_on}
 use Rattle.wb_policy.specs.declared.leaps.Leaps.{Leaps}
 use Rattle.wb_policy.specs.declared.limits.TheConstants.{COST}
 use Rattle.wb_policy.specs.declared.turns.Turns.{Turns}
@@ -43,17 +43,17 @@ use Rattle.wb_policy.proofs.FilledHoles.{hole_filled}
 use Rattle.wb_policy.proofs.HolesRise.{holes_rise}
 use Rattle.wb_policy.proofs.NearNumbers.{each_near, near_is_among}
 use Rattle.wb_keeping.specs.Fairness.{AnswersWhatIsHeld}
-use Rattle.wb_keeping.specs.Kept.{Arrives, Doing, Line, Says, Ticks, Transition, and_then, answers, asks_pages, came, is_begun, is_unasked, leap, leap_to, learned, paid_for, performs, reports, reports_due, reports_rest, state_of, still, takes, timed, turn, turn_by_clock, turn_if, turn_to, turns_on, turns_past, want, want_near}
+use Rattle.wb_keeping.specs.Kept.{Arrives, Doing, Line, Says, Ticks, Transition, and_then, answers, asks_pages, came, is_begun, is_unasked, leap, leap_to, leaps_on, learned, paid_for, performs, reports, reports_due, reports_rest, state_of, still, takes, timed, turn, turn_by_clock, turn_if, turn_to, turns_on, turns_past, want, want_near}
 use Rattle.wb_keeping.specs.Laws.{Came, Tuned, fault_of}
 use Rattle.wb_keeping.specs.Performing.{Keeping, after_doing, after_line, sees, view_of}
 use Rattle.wb_keeping.specs.Views.{View, is_asked, is_known, level, holds as holds_by, is_full as is_full_by}
 use Rattle.wb_keeping.proofs.AskedTimers.{level_seen}
 use Rattle.wb_keeping.proofs.EachLine.{learned_each, timed_each, want_each}
-use Rattle.wb_keeping.proofs.EachStep.{doing, having, having_done, leap_holds, turns_past_hold, with_policy}
+use Rattle.wb_keeping.proofs.EachStep.{doing, having, having_done, leaps_on_hold, turns_past_hold, with_policy}
 use Rattle.wb_keeping.proofs.Performed.{then_after}
 use Rattle.wb_keeping.proofs.Saying.{says_after}
 use Rattle.wb_keeping.proofs.StandingTimers.{IsMissed, is_some_level, missed_from, missed_to, stands_asked}
-use Rattle.wb_keeping.proofs.Wanted.{begun as wanted_begins, is_not_asked_for, is_wanted_here, learned_room, lines_wanted, no_turns, turns_end, turns_go_on}
+use Rattle.wb_keeping.proofs.Wanted.{begun as wanted_begins, is_not_asked_for, is_wanted_here, leaps_end, leaps_go_on, learned_room, lines_wanted, no_leaps, no_turns, turns_end, turns_go_on}
 use Rattle.wb_keeping.proofs.WantedNames.{wanted_is_asked}
 use Rattle.wb_kept_progress.specs.LeadsOn.{AskedLeadsOn, AsksForMissing, IsAskedBy, IsMissingAt, IsNeighbour, IsNew, IsShort, NeighboursAreAskedFor, with_drawop}
 use Rattle.wb_kept_progress.specs.Sessions.{LineAt, Opening, kept_at}
@@ -320,9 +320,9 @@ near_asks (name ∷ names) k n among may = by (near_asks names) (some_unasked na
 turn_if_costs : (was : Bool) (k : Keeping) → CostsMore k (after_doing (turn_if was) k)
 turn_if_costs false k = costs_nothing k
 turn_if_costs true k =
-    let l = after_doing leap k in
-    subst (CostsMore k) (sym (then_after leap turns_past k))
-    (costs_both k l (after_doing turns_past l) (leap_holds (λ k lines m. CostsMore k m) costs k) (turns_past_hold (λ k lines m. CostsMore k m) costs l))
+    let l = after_doing (leaps_on 65) k in
+    subst (CostsMore k) (sym (then_after (leaps_on 65) turns_past k))
+    (costs_both k l (after_doing turns_past l) (leaps_on_hold (λ k lines m. CostsMore k m) costs 65 k) (turns_past_hold (λ k lines m. CostsMore k m) costs l))
 
 -- ---- leaps and turns
 
@@ -382,6 +382,25 @@ leap_starts k n answers_held room credit missing = by (hole_after held l.page l.
   by None e (Some h) f = to (in_next_leaps k.policy) refl nowhere 0 0 h f
   by None e None f = let hole = in_hole held n missing in absurd (some_first _ (holes_of held) hole.there (holes_rise held) f)
 
+-- leaps up to the first that asks lead to what the first of them leads to
+leaps_lead : (most : ℕ) (k : Keeping) → AnswersWhatIsHeld k.host → AsksForMissing k → AsksForMissing (after_doing (leaps_on most) k)
+leaps_lead zero k answers_held asks = subst (λ (d : Doing). AsksForMissing (having_done d k)) (sym (no_leaps (sees k.host) k.policy)) asks
+leaps_lead (suc more) k answers_held asks = by (leaps_lead more) (is_begun (leap (sees k.host) k.policy)) refl where
+  by : ((m : Keeping) → AnswersWhatIsHeld m.host → AsksForMissing m → AsksForMissing (after_doing (leaps_on more) m)) → (begun : Bool) → is_begun (leap (sees k.host) k.policy) ≡ begun → AsksForMissing (after_doing (leaps_on (suc more)) k)
+  by rest true e = subst (λ (d : Doing). AsksForMissing (having_done d k)) (sym (leaps_end more (sees k.host) k.policy e)) (leap_leads k answers_held asks)
+  by rest false e = subst (λ (d : Doing). AsksForMissing (having_done d k)) (sym (leaps_go_on more (sees k.host) k.policy e))
+      (subst AsksForMissing (sym (then_after leap (leaps_on more) k)) (rest (after_doing leap k) (answers_on leap k answers_held) (leap_leads k answers_held asks)))
+
+leaps_start : (more : ℕ) (k : Keeping) (n : NameValue) → AnswersWhatIsHeld k.host → is_full k.host ≡ false → has_credit k.policy.owed (present k.host) ≡ true → IsMissingAt k n → AsksForMissing (after_doing (leaps_on (suc more)) k)
+leaps_start more k n answers_held room credit missing = by (is_begun (leap (sees k.host) k.policy)) refl where
+  first : AsksForMissing (after_doing leap k)
+  first = leap_starts k n answers_held room credit missing
+
+  by : (begun : Bool) → is_begun (leap (sees k.host) k.policy) ≡ begun → AsksForMissing (after_doing (leaps_on (suc more)) k)
+  by true e = subst (λ (d : Doing). AsksForMissing (having_done d k)) (sym (leaps_end more (sees k.host) k.policy e)) first
+  by false e = subst (λ (d : Doing). AsksForMissing (having_done d k)) (sym (leaps_go_on more (sees k.host) k.policy e))
+      (subst AsksForMissing (sym (then_after leap (leaps_on more) k)) (leaps_lead more (after_doing leap k) (answers_on leap k answers_held) first))
+
 turn_leads : (k : Keeping) → AnswersWhatIsHeld k.host → AsksForMissing k → AsksForMissing (after_doing turn k)
 turn_leads k answers_held asks = by (hole_after held t.page t.source t.number) refl (hole_after held nowhere 0 0) refl where
   t : Turns
@@ -407,7 +426,7 @@ turns_lead (suc more) k answers_held asks = by (turns_lead more) (is_begun (turn
       (subst AsksForMissing (sym (then_after turn (turns_on more) k)) (rest (after_doing turn k) (answers_on turn k answers_held) (turn_leads k answers_held asks)))
 
 past_leads : (k : Keeping) → AnswersWhatIsHeld k.host → AsksForMissing k → AsksForMissing (after_doing turns_past k)
-past_leads k answers_held asks = by (has_credit k.policy.owed (present k.host)) where
+past_leads k answers_held asks = by (passes_on (length (view_of k.host).asked) k.policy.owed (present k.host)) where
   by : (b : Bool) → AsksForMissing (having_done (cond b (turns_on 65 (sees k.host) k.policy) (still (sees k.host) k.policy)) k)
   by true = turns_lead 65 k answers_held asks
   by false = asks
@@ -643,17 +662,17 @@ module _ (hosts : ℕ → Opening) (older : List LineAt) (i now : ℕ) (d : Draw
           left : (owed before now : ℕ) → owed ≤ before + 16000000 → before ≤ now → max (owed - 500000) now - now ≤ 63 * 250000
           left owed before now le later = omega (arith, le, later)
 
-    leapt : AsksForMissing (after_doing leap c)
+    leapt : AsksForMissing (after_doing (leaps_on 65) c)
     leapt = ⊎_elim
-        (λ (asks : AsksForMissing c). leap_leads c (answers_on (want_near near) b answers_held) asks)
-        (λ (same : c ≡ b). subst (λ (x : Keeping). AsksForMissing (after_doing leap x)) (sym same) (leap_starts b n answers_held room_then credit missing_there))
+        (λ (asks : AsksForMissing c). leaps_lead 65 c (answers_on (want_near near) b answers_held) asks)
+        (λ (same : c ≡ b). subst (λ (x : Keeping). AsksForMissing (after_doing (leaps_on 65) x)) (sym same) (leaps_start 64 b n answers_held room_then credit missing_there))
         (near_starts near b all_below answers_held)
 
     turned : AsksForMissing e
     turned =
         let held_c = answers_on (want_near near) b answers_held in
         subst (λ (asked : Bool). AsksForMissing (after_doing (turn_if asked) c)) (sym was_asked)
-        (subst AsksForMissing (sym (then_after leap turns_past c)) (past_leads (after_doing leap c) (answers_on leap c held_c) leapt))
+        (subst AsksForMissing (sym (then_after (leaps_on 65) turns_past c)) (past_leads (after_doing (leaps_on 65) c) (answers_on (leaps_on 65) c held_c) leapt))
 
     leads_on : AsksForMissing m
     leads_on = subst AsksForMissing (sym there_is) (timed_leads e (answers_on (turn_if was) c (answers_on (want_near near) b answers_held)) turned)

@@ -12,17 +12,17 @@ use Rattle.wb_gaps.specs.declared.holes.Hole.{Hole}
 use Rattle.wb_policy.specs.Fairness.{Told}
 use Rattle.wb_keeping.specs.Fairness.{AnswersWhatIsHeld}
 use Rattle.wb_policy.specs.Choices.{distance_in, own_echo, own_marks, told_names}
-use Rattle.wb_keeping.specs.Kept.{Arrives, Doing, Hears, Line, Says, Transition, and_then, answers, asks_pages, end, hears, hears_session, hears_some, hears_state, is_begun, is_unasked, leap, leap_to, learned, measures, of_other, paid_for, performs, reports, reports_due, reports_rest, state_of, still, takes, takes_question, turn, turn_if, turn_to, turns_due, turns_on, turns_past, want, want_near, want_told, hears_request}
+use Rattle.wb_keeping.specs.Kept.{Arrives, Doing, Hears, Line, Says, Transition, and_then, answers, asks_pages, end, hears, hears_session, hears_some, hears_state, is_begun, is_unasked, leap, leap_to, leaps_on, learned, measures, of_other, paid_for, performs, reports, reports_due, reports_rest, state_of, still, takes, takes_question, turn, turn_if, turn_to, turns_due, turns_on, turns_past, want, want_near, want_told, hears_request}
 use Rattle.wb_keeping.specs.Performing.{Keeping, after_doing, sees}
 use Rattle.wb_policy.specs.Policy.{Policy, after_answer, after_beat, after_leaping, after_question, after_state, after_taking_up, after_turn, after_wanting, in_next_leaps, in_next_round}
 use Rattle.wb_keeping.specs.Views.{View, holds, is_asked, is_full}
-use Rattle.wb_policy.specs.Credit.{has_credit}
 use Rattle.wb_policy.specs.Leaps.{far_name}
 use Rattle.wb_policy.specs.declared.limits.TheConstants.{MOST_TIMERS}
 use Rattle.wb_policy.specs.Pace.{gap_within}
 use Rattle.wb_policy.specs.Questions.{is_due, is_to_answer}
 use Rattle.wb_policy.specs.Reports.{next_report, rest_after}
 use Rattle.wb_policy.specs.Turns.{name_in, nowhere}
+use Rattle.wb_policy.specs.Wanting.{passes_on}
 use Rattle.wb_policy.specs.Words.{word_of}
 use Rattle.wb_keeping.proofs.Wanted.{is_wanted_here, lines_wanted, near_here, with_room_done}
 use Rattle.wb_keeping.proofs.WantedNames.{lines_answer_held}
@@ -173,6 +173,13 @@ leap_to_tells None None see p = record { due = refl; beat = refl; told = refl }
 leap_tells : TellsNothing leap
 leap_tells see p = leap_to_tells (hole_after (see []).held p.leaps.page p.leaps.source p.leaps.number) (hole_after (see []).held nowhere 0 0) see p
 
+leaps_on_tell : (most : ℕ) → TellsNothing (leaps_on most)
+unfolding leaps_on
+leaps_on_tell zero see p = same p
+leaps_on_tell (suc more) see p =
+    choose p (is_begun (leap see p)) (leap see p) (and_then leap (leaps_on more) see p) (leap_tells see p)
+    (both leap (leaps_on more) leap_tells (leaps_on_tell more) see p)
+
 turns_on_tell : (most : ℕ) → TellsNothing (turns_on most)
 unfolding turns_on
 turns_on_tell zero see p = same p
@@ -182,7 +189,7 @@ turns_on_tell (suc more) see p =
 
 turns_past_tell : TellsNothing turns_past
 turns_past_tell see p =
-    choose p (has_credit p.owed (see []).now) (turns_on (MOST_TIMERS + 1) see p) (still see p) (turns_on_tell (MOST_TIMERS + 1) see p) (same p)
+    choose p (passes_on (length (see []).asked) p.owed (see []).now) (turns_on (MOST_TIMERS + 1) see p) (still see p) (turns_on_tell (MOST_TIMERS + 1) see p) (same p)
 
 -- a turn by the clock puts the next one off, and tells nothing
 pub turns_tell : (see : List Line → View) (p : Policy) → ((turns_due see p).policy.reports.due ≡ p.reports.due) × (told_of (turns_due see p).policy ≡ told_of p)
@@ -199,7 +206,7 @@ paid_tells true p = record { due = refl; beat = refl; told = refl }
 paid_tells false p = same p
 
 turn_if_tells : (was : Bool) → TellsNothing (turn_if was)
-turn_if_tells true see p = both leap turns_past leap_tells turns_past_tell see p
+turn_if_tells true see p = both (leaps_on 65) turns_past (leaps_on_tell 65) turns_past_tell see p
 turn_if_tells false see p = same p
 
 learned_tells : (name : NameValue) (was : Bool) → TellsNothing (learned name was)

@@ -18,6 +18,11 @@ pub mod KeptInTime
 pub mod WholeParts
 pub mod CallParts
 pub mod AskedComes
+pub mod Handed
+pub mod ComeOnce
+pub mod Crowds
+pub mod RoundCounts
+pub mod InCrowds
 pub mod Reached
 pub mod Becoming
 pub mod LackAsked

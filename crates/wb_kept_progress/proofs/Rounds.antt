@@ -1,6 +1,6 @@
 -- While live hosts keep places filled, each round brings as many names as there are places: what is asked for comes within a round.
 use Rattle.std.proofs.Common.{◌≡◌, ℕ, zero, suc, ◌+◌, ◌*◌, ◌<◌, ◌≤◌, Bool, true, false, List, [], ◌∷◌, ◌++◌, ◌∙◌, ap, append_assoc, arith, inl, inr, length, length-append, max, refl, subst, sym, true≢false, ⊎_elim}
-use Rattle.std.specs.Prelude.{◌⊎◌, Contains, is_some}
+use Rattle.std.specs.Prelude.{◌⊎◌, Contains}
 use Rattle.std.proofs.lemmas.List.Elements.{Contains-append_cases}
 use Rattle.wb_names.specs.Values.{NameValue}
 use Rattle.wb_names.proofs.Listings.{Contains-cases, Contains-none}
@@ -8,19 +8,18 @@ use Rattle.wb_progress.specs.InTime.{AreApart, known_from, repairing}
 use Rattle.wb_progress.specs.Turns.{Terms, settled_by}
 use Rattle.wb_progress.proofs.NamesApart.{apart_append}
 use Rattle.wb_member.specs.Judged.{holds}
-use Rattle.wb_member.specs.Opened.{Opened, asks_for}
+use Rattle.wb_member.specs.Opened.{asks_for}
 use Rattle.wb_kept_progress.specs.Promises.{host_then, timer_then}
 use Rattle.wb_kept_progress.specs.Rounds.{AreAsked, OneLacksAtMost, PlacesAreFilled, SessionsBecomeWholeByRounds, coming, rounds_by}
 use Rattle.wb_kept_progress.specs.Sessions.{Opening}
 use Rattle.wb_kept_progress.specs.Timed.{AllKeptHoldBehind, IsTimely, Start, TimedLine, called_at, performed, start_of, until}
 use Rattle.wb_kept_progress.specs.Whole.{AreCalledInOrder, IsHeldBySome, IsLackedAt, IsTimelySession, NewAreKept, ReportWithin, WaitAtMost, there}
-use Rattle.wb_kept_progress.proofs.AskedComes.{asked_comes, the_ask}
+use Rattle.wb_kept_progress.proofs.AskedComes.{asked_comes, asked_lacked, the_ask, timer_of}
 use Rattle.wb_kept_progress.proofs.Becoming.{held_on, lacked_before}
-use Rattle.wb_kept_progress.proofs.CallParts.{calls_order, host_is, lacked_until}
+use Rattle.wb_kept_progress.proofs.CallParts.{calls_order, lacked_until}
 use Rattle.wb_kept_progress.proofs.CallsInTime.{performed_is_timely}
 use Rattle.wb_kept_progress.proofs.KeptInTime.{front_of, holding, time_is}
 use Rattle.wb_kept_progress.proofs.Reached.{reached}
-use Rattle.wb_kept_progress.proofs.Timely.{none_held}
 
 module _ (hosts : ℕ → Opening) (terms : Terms) (trace : List TimedLine) (since pause wait most places : ℕ) (session : IsTimelySession hosts terms trace)
     (reports : ReportWithin hosts terms trace since pause) (waits : WaitAtMost hosts terms trace wait) (lacks_most : OneLacksAtMost hosts terms trace most)
@@ -42,28 +41,15 @@ module _ (hosts : ℕ → Opening) (terms : Terms) (trace : List TimedLine) (sin
 
   -- ---- what is asked for comes
 
-  -- a request timer stands for it
-  timer_of : (part : List TimedLine) (i : ℕ) (n : NameValue) → asks_for n (there hosts part i).host ≡ true → is_some (timer_then hosts (performed hosts part) i n) ≡ true
-  timer_of part i n asked = ap (λ (h : Opened). asks_for n h) (host_is hosts part i) ∙ asked
-
   comes_by : (newer part : List TimedLine) (i : ℕ) (n : NameValue) → trace ≡ newer ++ part → start < called_at part → Contains terms.live i → IsHeldBySome hosts terms trace n → asks_for n (there hosts part i).host ≡ true
       → AllKeptHoldBehind hosts terms trace (called_at part + coming terms) n
   comes_by newer part i n split late live held asked =
       let f = front_of hosts newer part in
-      let t = the_ask (timer_then hosts (performed hosts part) i n) (timer_of part i n asked) in
+      let t = the_ask (timer_then hosts (performed hosts part) i n) (timer_of hosts part i n asked) in
       let time = time_is hosts part in
       let comes =
       asked_comes hosts terms trace since wait timely waits kept f.0 (performed hosts part) i n t.0 (ap (performed hosts) split ∙ f.1) (omega (arith, late, time)) (omega (arith, late, time)) live held t.1 in
       holding hosts terms trace timely n (called_at part + coming terms) (λ front later j is lt live_j. comes front later j is (omega (arith, lt, time)) live_j)
-
-  -- what is asked for is lacked
-  asked_lacked : (part : List TimedLine) (i : ℕ) (n : NameValue) → asks_for n (there hosts part i).host ≡ true → holds (there hosts part i).host n ≡ false
-  asked_lacked part i n asked = by (holds (there hosts part i).host n) refl where
-    by : (b : Bool) → holds (there hosts part i).host n ≡ b → b ≡ false
-    by false e = refl
-    by true e =
-        let held : holds (host_then hosts (performed hosts part) i) n ≡ true = ap (λ (h : Opened). holds h n) (host_is hosts part i) ∙ e in
-        absurd (true≢false (sym (timer_of part i n asked) ∙ ap is_some (none_held starts (performed hosts part) i n held)))
 
   -- ---- round by round
 
@@ -124,11 +110,11 @@ module _ (hosts : ℕ → Opening) (terms : Terms) (trace : List TimedLine) (sin
                 names = a.names ++ h.names;
                 apart = apart_append a.names h.names a.apart h.apart (λ x new old. ⊎_elim
                     (λ (same : x ≡ n). true≢false (sym (subst (λ (y : NameValue). holds (there hosts part i).host y ≡ true) same (comes x (a.held x new) (a.asked x new))) ∙ lacks))
-                    (λ (had : holds (there hosts base i).host x ≡ true). true≢false (sym had ∙ asked_lacked base i x (a.asked x new)))
+                    (λ (had : holds (there hosts base i).host x ≡ true). true≢false (sym had ∙ asked_lacked hosts base i x (a.asked x new)))
                     (h.then x old));
                 count = let all = length-append a.names h.names in let one = a.count in let other = h.count in omega (arith, all, one, other);
                 first = λ x c. ⊎_elim
-                    (λ (new : Contains a.names x). lacked_first (newer ++ window) base i x whole (omega (arith, from)) live (a.held x new) (asked_lacked base i x (a.asked x new)))
+                    (λ (new : Contains a.names x). lacked_first (newer ++ window) base i x whole (omega (arith, from)) live (a.held x new) (asked_lacked hosts base i x (a.asked x new)))
                     (λ (old : Contains h.names x). h.first x old)
                     (Contains-append_cases a.names h.names x c);
                 then = λ x c. ⊎_elim

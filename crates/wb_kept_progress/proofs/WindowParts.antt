@@ -12,7 +12,7 @@ use Rattle.wb_progress.proofs.Parts.{heads, tails}
 -- ---- calls
 
 -- a part that ends earlier than another is within it
-calls_past : (newer later front base : List TimedLine) → newer ++ later ≡ front ++ base → AreCalledInOrder (newer ++ later) → called_at base < called_at later → (middle : List TimedLine) × (later ≡ middle ++ base)
+pub calls_past : (newer later front base : List TimedLine) → newer ++ later ≡ front ++ base → AreCalledInOrder (newer ++ later) → called_at base < called_at later → (middle : List TimedLine) × (later ≡ middle ++ base)
 calls_past [] later front base same order lt = (front, same)
 calls_past (e ∷ newer) later [] base same order lt =
     let le : called_at later ≤ called_at (newer ++ later) = calls_end newer later order.1 in

@@ -1,7 +1,7 @@
 -- Two sessions that the laws are about, as examples. Two hosts are opened one after the other. The first draws a frame, and the
 -- network loses it. From `quiet` on nothing is lost, and nobody draws. The second hears a report of the first, and asks for the
 -- drawing; it is repaired. The lines are those that two `wb host` were handed, with the bytes that these printed.
-use Rattle.std.specs.Prelude.{◌≡◌, ℕ, ◌+◌, ◌*◌, ◌<◌, true, List, [], ◌∷◌}
+use Rattle.std.specs.Prelude.{◌≡◌, ℕ, ◌+◌, ◌*◌, ◌<◌, ◌≤◌, true, List, [], ◌∷◌}
 use Rattle.wb_names.specs.History.{name_of}
 use Rattle.wb_names.specs.Values.{DrawopValue, MarkValue, NameValue}
 use Rattle.wb_names.specs.declared.echo.Echo.{Echo}
@@ -13,8 +13,10 @@ use Rattle.wb_codec.specs.declared.datagram.Datagram.TheVariants.{AskPages, Draw
 use Rattle.wb_progress.specs.Turns.{Terms, settled_by}
 use Rattle.wb_member.specs.Judged.{holds}
 use Rattle.wb_policy.specs.Turns.{nowhere}
+use Rattle.wb_policy.specs.declared.limits.TheConstants.{COST, MOST_TIMERS}
 use Rattle.wb_keeping.specs.Laws.{Added, Came, KeptLine, Ticked}
 use Rattle.wb_kept_progress.specs.Promises.{Holds}
+use Rattle.wb_kept_progress.specs.Crowded.{spent_in}
 use Rattle.wb_kept_progress.specs.Rounds.{OneLacksAtMost, PlacesAreFilled, rounds_by}
 use Rattle.wb_kept_progress.specs.Sessions.{Opening, at}
 use Rattle.wb_kept_progress.specs.Timed.{TimedLine, called_at, performed, until}
@@ -239,19 +241,19 @@ sizes_in terms = slowest terms 2 0 0 1
 pub record Meets (terms : Terms) (trace : List TimedLine) (wait since : ℕ) : Type 0 where
   -- of the law that sessions become whole
   pub whole : Holds hosts terms trace (sizes_in terms) wait 1
-  -- of the law by rounds
+  -- of the law by rounds, and of that in crowds
   pub reports : ReportWithin hosts terms trace since (sizes_in terms).pause
   pub lacks : OneLacksAtMost hosts terms trace 1
   pub kept : NewAreKept hosts terms trace since
-  pub filled : PlacesAreFilled hosts terms trace since 1
+  pub filled : (places : ℕ) → PlacesAreFilled hosts terms trace since places
   -- the drawing was lost, and comes
   pub held : IsHeldBySome hosts terms trace drawn
   pub lost : IsLackedAt hosts terms trace (until (settled_by terms) (performed hosts trace)) (record { place = 1; name = drawn })
   pub comes : holds (there hosts trace 1).host drawn ≡ true
 
--- The first session ends before the laws say that it is whole.
+-- The first session ends before the laws say that it is whole. Credit pays for eight crowds, beside one round that brings the drawing.
 abbrev pub LivelyMeets : Type 0
-LivelyMeets = Meets lively lively_lines 0 2600000
+LivelyMeets = Meets lively lively_lines 0 2600000 × (spent_in lively 1 9 ≤ 8 * (MOST_TIMERS * COST))
 
 -- The second goes on after these times.
 abbrev pub PatientMeets : Type 0

@@ -3,19 +3,21 @@ use Rattle.std.specs.Prelude.{ℕ, ◌+◌, ◌-◌, ◌/◌, ◌≤◌, List, [
 use Rattle.wb_codec.specs.declared.datagram.Datagram.{Datagram}
 use Rattle.wb_judge.specs.Laws.{AreFrom}
 use Rattle.wb_judge.specs.declared.limits.TheConstants.{ASKED_AHEAD, ASKED_PAUSE, REPAIRS_AHEAD, REPAIR_PAUSE}
-use Rattle.wb_judging.specs.Judged.{CameFrom, DayTold, Garbled, GoneFrom, Held, Judged, JudgedLine, Passed, UserDrew}
+use Rattle.wb_judging.specs.Judged.{Judged}
+use Rattle.wb_judging.specs.declared.call.Call.{Call}
+use Rattle.wb_judging.specs.declared.call.Call.TheVariants.{CameFrom, DayTold, Garbled, GoneFrom, Held, Passed, UserDrew}
 use Rattle.wb_judging.specs.Laws.{sends_in}
 use Rattle.wb_judging.specs.Performing.{after_judged, events_of}
 use Rattle.wb_kept_progress.specs.Timed.{is_drawop}
 use Rattle.wb_kept_progress.specs.Traffic.{answering_count, how_many}
 
 -- all that it sends by some lines
-abbrev pub sent_by_judged : List JudgedLine → Judged → List Datagram
+abbrev pub sent_by_judged : List Call → Judged → List Datagram
 sent_by_judged [] h = []
 sent_by_judged (line ∷ lines) h = sends_in (events_of line h) ++ sent_by_judged lines (after_judged line h)
 
 -- none of them is of a record
-abbrev pub AreOfNow : List JudgedLine → Type 0
+abbrev pub AreOfNow : List Call → Type 0
 AreOfNow [] = Unit {0}
 AreOfNow (Held line ∷ lines) = ⊥
 AreOfNow (CameFrom now o v ∷ lines) = AreOfNow lines
@@ -26,7 +28,7 @@ AreOfNow (DayTold now wall ∷ lines) = AreOfNow lines
 AreOfNow (GoneFrom now o ∷ lines) = AreOfNow lines
 
 -- the moments at which datagrams came
-abbrev pub came_at : List JudgedLine → List ℕ
+abbrev pub came_at : List Call → List ℕ
 came_at [] = []
 came_at (CameFrom now o v ∷ lines) = now ∷ came_at lines
 came_at (Garbled now ∷ lines) = came_at lines
@@ -37,7 +39,7 @@ came_at (GoneFrom now o ∷ lines) = came_at lines
 came_at (Held line ∷ lines) = came_at lines
 
 -- how often the user draws
-abbrev pub drawing_count : List JudgedLine → ℕ
+abbrev pub drawing_count : List Call → ℕ
 drawing_count [] = 0
 drawing_count (UserDrew now page op ∷ lines) = 1 + drawing_count lines
 drawing_count (CameFrom now o v ∷ lines) = drawing_count lines
@@ -58,5 +60,5 @@ for_strangers micros = (ASKED_AHEAD + ASKED_PAUSE + micros) / ASKED_PAUSE
 -- answer timer that stood before, and for each request that its judge lets in: 512 of members at once, and then one in two milliseconds; and 64 of
 -- strangers, and then one in a sixteenth of a second.
 abbrev pub JudgedMembersSendFewDrawops : Type 0
-JudgedMembersSendFewDrawops = (start end : ℕ) (lines : List JudgedLine) (h : Judged) → AreOfNow lines → AreFrom start end (came_at lines)
+JudgedMembersSendFewDrawops = (start end : ℕ) (lines : List Call) (h : Judged) → AreOfNow lines → AreFrom start end (came_at lines)
     → how_many is_drawop (sent_by_judged lines h) ≤ answering_count h.kept.host + drawing_count lines + for_members (end - start) + for_strangers (end - start)

@@ -5,6 +5,7 @@ pub mod Timed
 pub mod Whole
 pub mod Promises
 pub mod Rounds
+pub mod Crowded
 pub mod LeadsOn
 pub mod Agreement
 pub mod Since

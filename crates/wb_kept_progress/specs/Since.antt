@@ -1,6 +1,6 @@
 -- Sessions in which programs start, and start anew. What came since the last start of each member is a session of hosts: by when it becomes
 -- whole is said of that.
-use Rattle.std.specs.Prelude.{◌≡◌, ◌≢◌, ◌⊎◌, ℕ, ◌+◌, ◌*◌, ◌<◌, ◌≤◌, Bool, true, false, List, [], ◌∷◌, ◌++◌, Contains, nat_eq, if◌then◌else◌}
+use Rattle.std.specs.Prelude.{◌≡◌, ◌≢◌, ◌⊎◌, ℕ, ◌+◌, ◌-◌, ◌*◌, ◌<◌, ◌≤◌, Bool, true, false, List, [], ◌∷◌, ◌++◌, Contains, nat_eq, if◌then◌else◌}
 use Rattle.wb_names.specs.Values.{NameValue}
 use Rattle.wb_names.specs.declared.name.PageId.{PageId}
 use Rattle.wb_names.specs.declared.parts.Op.{Op}
@@ -10,6 +10,7 @@ use Rattle.wb_progress.specs.Bounds.{IsUnder}
 use Rattle.wb_progress.specs.Turns.{IsNowAt, Terms, longest, settled_by}
 use Rattle.wb_member.specs.Judged.{holds, is_full}
 use Rattle.wb_member.specs.Opened.{present}
+use Rattle.wb_policy.specs.declared.limits.TheConstants.{COST, MOST_TIMERS}
 use Rattle.wb_keeping.specs.Laws.{KeptLine, Added, Came, Tuned, doing_of}
 use Rattle.wb_keeping.specs.Performing.{due, sent_by_doing}
 use Rattle.wb_judging.specs.Members.{needs}
@@ -19,6 +20,7 @@ use Rattle.wb_laws_kept.specs.Openings.{opened, opened_host}
 use Rattle.wb_laws_kept.specs.Sessions.{AreTaken, Begins, Call, CallAt, Handed, given_lines, kept_at}
 use Rattle.wb_kept_progress.specs.Sessions.{Opening, at}
 use Rattle.wb_kept_progress.specs.Timed.{SaysNow, TimedLine, greatest_distance}
+use Rattle.wb_kept_progress.specs.Crowded.{crowded_by, spent_in}
 use Rattle.wb_kept_progress.specs.Rounds.{OneLacksAtMost, PlacesAreFilled, rounds_by}
 use Rattle.wb_kept_progress.specs.Whole.{AreSoon, AreWithin, IsHeldBySome, IsTimelySession, LackAtMost, NewAreKept, ReportWithin, Sizes, WaitAtMost, request_span, there, whole_by}
 
@@ -159,3 +161,11 @@ RestartedBecomeWholeByRounds = (numbers : ℕ → ℕ) (terms : Terms) (calls ne
     let trace = since numbers calls in
     ReportWithin hosts terms trace from pause → WaitAtMost hosts terms trace wait → OneLacksAtMost hosts terms trace most → NewAreKept hosts terms trace from → PlacesAreFilled hosts terms trace from places → most ≤ rounds * places
     → IsHeldBySome hosts terms trace n → calls ≡ newer ++ later → rounds_by terms from pause wait rounds < called_at later → Contains terms.live i → holds (kept_at numbers later i).host n ≡ true
+
+-- And though names are given up in crowds.
+abbrev pub RestartedBecomeWholeInCrowds : Type 0
+RestartedBecomeWholeInCrowds = (numbers : ℕ → ℕ) (terms : Terms) (calls newer later : List CallAt) (from wait most places bringing crowded i : ℕ) (n : NameValue) → IsTimelyWithStarts numbers terms calls
+    → let hosts = hosts_of numbers calls in
+    let trace = since numbers calls in
+    WaitAtMost hosts terms trace wait → OneLacksAtMost hosts terms trace most → PlacesAreFilled hosts terms trace from places → most ≤ bringing * (places - 1) → spent_in terms most (bringing + crowded) ≤ crowded * (MOST_TIMERS * COST)
+    → IsHeldBySome hosts terms trace n → calls ≡ newer ++ later → crowded_by terms from wait (bringing + crowded) < called_at later → Contains terms.live i → holds (kept_at numbers later i).host n ≡ true

@@ -2,13 +2,14 @@
 //! proofs to cite.
 
 ghost use Rattle.wb_kept_progress.specs.Agreement.{SessionsAgree};
+ghost use Rattle.wb_kept_progress.specs.Crowded.{SessionsBecomeWholeInCrowds};
 ghost use Rattle.wb_kept_progress.specs.Examples.{LivelyMeets, PatientMeets};
 ghost use Rattle.wb_kept_progress.specs.Judged.{JudgedMembersSendFewDrawops};
 ghost use Rattle.wb_kept_progress.specs.LeadsOn.{AskedLeadsOn, NeighboursAreAskedFor};
 ghost use Rattle.wb_kept_progress.specs.Promises.{Promises, PromisesSuffice};
 ghost use Rattle.wb_kept_progress.specs.Repairs.{AskedCanCome, MarksComeToBeTold, MissingCanCome, MissingIsAsked, MissingIsAskedInTurn, MissingIsAskedSoon, TurnsAsk};
 ghost use Rattle.wb_kept_progress.specs.Rounds.{SessionsBecomeWholeByRounds};
-ghost use Rattle.wb_kept_progress.specs.Since.{RestartedBecomeWhole, RestartedBecomeWholeByRounds, SinceIsSame, SinceIsTimely};
+ghost use Rattle.wb_kept_progress.specs.Since.{RestartedBecomeWhole, RestartedBecomeWholeByRounds, RestartedBecomeWholeInCrowds, SinceIsSame, SinceIsTimely};
 ghost use Rattle.wb_kept_progress.specs.Starts.{NoStateIsADeadEnd};
 ghost use Rattle.wb_kept_progress.specs.Timed.{KeptGoByShort, KeptIsPerformed, KeptKeepsMoments, KeptRequestIsAnswered, KeptTimerLeadsOrIsGivenUp, RequestIsAnswered, TimerLeadsOrIsGivenUp};
 ghost use Rattle.wb_kept_progress.specs.Traffic.{DrawopsAreCalledFor, FewRequestsAreSent, LittleIsSent, NoAnswerStands};
@@ -91,11 +92,12 @@ pub fn sessions_become_whole()
     ensures agree { SessionsAgree }
 {}
 
-/// It becomes whole by rounds while live hosts keep places filled, and give up no name before its
-/// timer was backed off. Then each round brings as many names as there are places, to each of them
-/// at once.
+/// It becomes whole by rounds while live hosts keep places filled. If they give up no name before
+/// its timer was backed off, each round brings as many names as there are places, to each of them at
+/// once. If they do, 64 names were asked for shortly before, and credit pays for few such crowds.
 pub fn filled_places_bring_rounds()
     ensures whole { SessionsBecomeWholeByRounds }
+    ensures crowded { SessionsBecomeWholeInCrowds }
 {}
 
 /// What `sessions_become_whole` takes of the policy of self-managing hosts. They promise that, while nothing
@@ -143,4 +145,5 @@ pub fn starts_begin_sessions()
     ensures timely { SinceIsTimely }
     ensures whole { RestartedBecomeWhole }
     ensures rounds { RestartedBecomeWholeByRounds }
+    ensures crowded { RestartedBecomeWholeInCrowds }
 {}

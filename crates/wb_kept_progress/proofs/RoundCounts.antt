@@ -1,0 +1,425 @@
+-- Round by round: what a live host asks for comes, but for one name, or 64 names are asked for.
+use Rattle.std.proofs.Common.{◌≡◌, ℕ, zero, suc, ◌+◌, ◌-◌, ◌*◌, ◌<◌, ◌≤◌, Bool, true, false, cond, List, [], ◌∷◌, ◌++◌, ◌∙◌, Some, ap, append_assoc, arith, inl, inr, length, length-append, max, refl, subst, sym, true≢false, ⊎_elim}
+use Rattle.std.specs.Prelude.{◌⊎◌, Contains, filter}
+use Rattle.std.proofs.lemmas.Bool.Decides.{leb_tells}
+use Rattle.std.proofs.lemmas.List.Elements.{Contains-append_cases, Contains-append_right}
+use Rattle.wb_names.specs.Values.{NameValue}
+use Rattle.wb_names.proofs.Listings.{Contains-cases, Contains-from_filter, Contains-here, Contains-none, Contains-there}
+use Rattle.wb_recovery.specs.declared.timers.AskTimer.{AskTimer}
+use Rattle.wb_progress.specs.InTime.{AreApart, known_from, repairing}
+use Rattle.wb_progress.specs.Turns.{Terms, settled_by}
+use Rattle.wb_progress.proofs.NamesApart.{apart_append}
+use Rattle.wb_progress.proofs.Parts.{tails}
+use Rattle.wb_member.specs.Judged.{holds}
+use Rattle.wb_member.specs.Opened.{asks_for}
+use Rattle.wb_keeping.specs.Bounds.{ask_count}
+use Rattle.wb_keeping.specs.Kept.{Asks, Line}
+use Rattle.wb_kept_progress.specs.Crowded.{round_span}
+use Rattle.wb_kept_progress.specs.Promises.{timer_then}
+use Rattle.wb_kept_progress.specs.Rounds.{AreAsked, PlacesAreFilled}
+use Rattle.wb_kept_progress.specs.Sessions.{Opening}
+use Rattle.wb_kept_progress.specs.Timed.{AllHoldBehind, AreInOrder, IsGivenUp, IsTimely, Performed, Start, TimedLine, called_at, performed, start_of, time_of}
+use Rattle.wb_kept_progress.specs.Whole.{AreCalledInOrder, IsHeldBySome, IsTimelySession, WaitAtMost, request_span, there}
+use Rattle.wb_kept_progress.proofs.AskedComes.{asked_lacked, comes_or_is_given_up, the_ask, timer_of}
+use Rattle.wb_kept_progress.proofs.Becoming.{held_on, lacked_before}
+use Rattle.wb_kept_progress.proofs.CallLines.{call_ends, lines_have_calls}
+use Rattle.wb_kept_progress.proofs.CallParts.{calls_end, calls_order}
+use Rattle.wb_kept_progress.proofs.CallsInTime.{performed_is_timely}
+use Rattle.wb_kept_progress.proofs.ComeOnce.{one_comes}
+use Rattle.wb_kept_progress.proofs.Crowds.{IsAskedFor, IsCrowd, crowd}
+use Rattle.wb_kept_progress.proofs.Handed.{asked_both, asks_at_least, performs_in, stands_in}
+use Rattle.wb_kept_progress.proofs.KeptInTime.{front_of, holding, time_is}
+use Rattle.wb_kept_progress.proofs.Named.{apart_passing}
+use Rattle.wb_kept_progress.proofs.Timely.{in_past}
+use Rattle.wb_kept_progress.proofs.WholeParts.{IsOfCall, does}
+use Rattle.wb_kept_progress.proofs.WindowParts.{calls_past, in_window}
+
+-- ---- lists
+
+-- of some names, of which all but one pass
+all_but_one : (p : NameValue → Bool) (names : List NameValue) → AreApart names → ((x y : NameValue) → Contains names x → Contains names y → p x ≡ false → p y ≡ false → x ≡ y) → length names ≤ length (filter p names) + 1
+all_but_one p [] apart one = omega arith
+all_but_one p (n ∷ names) apart one = by (p n) refl (all_but_one p names apart.1 (λ x y c d. one x y (Contains-there n x names c) (Contains-there n y names d))) where
+  all_pass : (rest : List NameValue) → ((x : NameValue) → Contains rest x → p x ≡ true) → length rest ≤ length (filter p rest)
+  all_pass [] pass = omega arith
+  all_pass (m ∷ rest) pass = from (p m) (pass m (Contains-here m rest)) (all_pass rest (λ x c. pass x (Contains-there m x rest c))) where
+    from : (b : Bool) → b ≡ true → length rest ≤ length (filter p rest) → length (m ∷ rest) ≤ length (cond b (m ∷ filter p rest) (filter p rest))
+    from true e le = omega (arith, le)
+    from false e le = absurd (true≢false (sym e))
+
+  by : (b : Bool) → p n ≡ b → length names ≤ length (filter p names) + 1 → length (n ∷ names) ≤ length (cond b (n ∷ filter p names) (filter p names)) + 1
+  by true e le = omega (arith, le)
+  by false e le =
+      let rest = all_pass names (λ x c. other x c (p x) refl) in
+      omega (arith, rest) where
+        other : (x : NameValue) → Contains names x → (b : Bool) → p x ≡ b → b ≡ true
+        other x c true f = refl
+        other x c false f = absurd (apart.0 (subst (Contains names) (sym (one n x (Contains-here n names) (Contains-there n x names c) e f)) c))
+
+-- each is so, or something else is
+each_or : {P : NameValue → Type 0} {C : Type 0} (names : List NameValue) → ((x : NameValue) → Contains names x → P x ⊎ C) → ((x : NameValue) → Contains names x → P x) ⊎ C
+each_or [] either = inl (λ x c. absurd (Contains-none x c))
+each_or {P} {C} (n ∷ names) either = ⊎_elim
+    (λ (first : P n). ⊎_elim
+    (λ (rest : (x : NameValue) → Contains names x → P x). inl (λ x c. ⊎_elim (λ (is : n ≡ x). subst P is first) (λ (d : Contains names x). rest x d) (Contains-cases n x names c)))
+    (λ (other : C). inr other)
+    (each_or {P = P} {C = C} names (λ x c. either x (Contains-there n x names c))))
+    (λ (other : C). inr other)
+    (either n (Contains-here n names))
+
+-- nothing ends in itself and more
+no_longer_than_itself : (a b xs : List Performed) (x : Performed) → xs ≡ a ++ x ∷ (b ++ xs) → ⊥
+no_longer_than_itself a b xs x same =
+    let all = ap (λ (l : List Performed). length l) same in
+    let one = length-append a (x ∷ (b ++ xs)) in
+    let other = length-append b xs in
+    omega (arith, all, one, other)
+
+-- ---- calls
+
+-- the calls up to a time, and the next call
+pub record IsThen (calls : List TimedLine) (s : ℕ) : Type 0 where
+  pub front : List TimedLine
+  pub next : TimedLine
+  pub part : List TimedLine
+  pub split : calls ≡ front ++ next ∷ part
+  pub by : called_at part ≤ s
+  pub after : s < next.time
+
+pub then_at : (calls : List TimedLine) (s : ℕ) → s < called_at calls → IsThen calls s
+then_at [] s lt = absurd (omega (arith, lt))
+then_at (e ∷ older) s lt = ⊎_elim
+    (λ no. record { front = []; next = e; part = older; split = refl; by = no.1; after = lt })
+    (λ yes.
+    let r = then_at older s yes.1 in
+    record { front = e ∷ r.front; next = r.next; part = r.part; split = ap (λ (t : List TimedLine). e ∷ t) r.split; by = r.by; after = r.after })
+    (leb_tells (called_at older) s)
+
+-- an older part is one of what stands before the newest call, too
+older_part : (front : List TimedLine) (e y : TimedLine) (part rest : List TimedLine) → e ∷ part ≡ front ++ y ∷ rest → (more : List TimedLine) × (part ≡ more ++ rest)
+older_part [] e y part rest same = ([], tails e y part rest same)
+older_part (z ∷ front) e y part rest same = (front ++ y ∷ [], tails e z part (front ++ y ∷ rest) same ∙ sym (append_assoc front (y ∷ []) rest))
+
+-- what comes before the newest call
+before_newest : (front : List TimedLine) (e y : TimedLine) (part rest : List TimedLine) → e ∷ part ≡ front ++ y ∷ rest → y.time < e.time → (more : List TimedLine) × (part ≡ more ++ y ∷ rest)
+before_newest [] e y part rest same lt = let is : e.time ≡ y.time = ap called_at same in absurd (omega (arith, is, lt))
+before_newest (z ∷ front) e y part rest same lt = (front, tails e z part (front ++ y ∷ rest) same)
+
+module _ (hosts : ℕ → Opening) where
+  -- what is performed after the lines of some calls is performed in the next call, or later
+  since_next : (newer part : List TimedLine) (next : TimedLine) (front between : List Performed) (x : Performed) → AreCalledInOrder (newer ++ next ∷ part) → AreInOrder (performed hosts (newer ++ next ∷ part))
+      → performed hosts (newer ++ next ∷ part) ≡ front ++ x ∷ (between ++ performed hosts part) → next.time ≤ x.time
+  since_next newer part next front between x order in_order split = ⊎_elim (λ no. no.1) (λ yes. absurd (earlier yes.1)) (leb_tells next.time x.time) where
+    back : List Performed
+    back = between ++ performed hosts part
+
+    earlier : x.time < next.time → ⊥
+    earlier lt =
+        let f = front_of hosts newer (next ∷ part) in
+        let p = in_past f.0 (performed hosts (next ∷ part)) front (x ∷ back) (sym f.1 ∙ split) (subst AreInOrder f.1 in_order) (subst (λ (t : ℕ). x.time < t) (sym (time_is hosts (next ∷ part))) lt) in
+        inside (lines_have_calls hosts (next ∷ part) p.0 x back p.1) where
+          inside : IsOfCall hosts (next ∷ part) x back → ⊥
+          inside c = of_call c.newer c.split where
+            of_call : (newest : List TimedLine) → next ∷ part ≡ newest ++ c.e ∷ c.older → ⊥
+            of_call [] same = let is : next.time ≡ c.e.time = ap called_at same in let time = c.time in omega (arith, is, time, lt)
+            of_call (y ∷ newest) same =
+                let in_part : part ≡ newest ++ c.e ∷ c.older = tails next y part (newest ++ c.e ∷ c.older) same in
+                let g = front_of hosts newest (c.e ∷ c.older) in
+                let h = call_ends hosts (next ∷ part) x back c in
+                no_longer_than_itself (g.0 ++ h.0) between (performed hosts part) x
+                (ap (performed hosts) in_part ∙ g.1 ∙ ap (λ (l : List Performed). g.0 ++ l) h.1 ∙ sym (append_assoc g.0 h.0 (x ∷ back)))
+
+-- ---- one host
+
+module _ (hosts : ℕ → Opening) (terms : Terms) (trace : List TimedLine) (since wait places i : ℕ) (n : NameValue) (session : IsTimelySession hosts terms trace) (waits : WaitAtMost hosts terms trace wait)
+    (filled : PlacesAreFilled hosts terms trace since places) (live : Contains terms.live i) (held : IsHeldBySome hosts terms trace n) (newest base : List TimedLine) (split_base : trace ≡ newest ++ base)
+    (known : known_from terms + wait + repairing terms < called_at base) (late_base : since < called_at base) where
+  abbrev starts : ℕ → Start
+  starts j = start_of (hosts j)
+
+  timely : IsTimely starts terms (performed hosts trace)
+  timely = performed_is_timely hosts terms trace session
+
+  ordered : (newer part : List TimedLine) → trace ≡ newer ++ part → AreCalledInOrder part
+  ordered newer part split = calls_order newer part (subst AreCalledInOrder split session.order)
+
+  abbrev at_round : ℕ → ℕ
+  at_round k = called_at base + k * round_span terms
+
+  next_round : (k : ℕ) → at_round (suc k) ≡ at_round k + round_span terms
+  next_round k = one_more (called_at base) k (round_span terms) where
+    one_more : (from k round : ℕ) → from + suc k * round ≡ from + k * round + round
+    one_more from k round = let product : suc k * round ≡ k * round + round = omega arith in omega (arith, product)
+
+  -- what the rounds so far brought: in each one all places but one, or a crowd
+  pub record Counted (part : List TimedLine) (k : ℕ) : Type 0 where
+    pub window : List TimedLine
+    pub is : part ≡ window ++ base
+    pub bringing : ℕ
+    pub crowded : ℕ
+    pub rounds : bringing + crowded ≡ k
+    pub names : List NameValue
+    pub apart : AreApart names
+    pub count : bringing * (places - 1) + 1 ≤ length names
+    pub first : (x : NameValue) → Contains names x → IsHeldBySome hosts terms trace x × (holds (there hosts base i).host x ≡ false)
+    pub then : (x : NameValue) → Contains names x → (x ≡ n) ⊎ (holds (there hosts part i).host x ≡ true)
+    pub asks : 64 * crowded ≤ ask_count (performs_in hosts i window base)
+
+  -- ---- before the first round
+
+  -- a part that goes on after the base ends in it
+  in_base : (newer : List TimedLine) (e : TimedLine) (part : List TimedLine) → trace ≡ newer ++ e ∷ part → called_at base < e.time → (window : List TimedLine) × (part ≡ window ++ base)
+  in_base newer e part split lt =
+      let p = calls_past newer (e ∷ part) newest base (sym split ∙ split_base) (subst AreCalledInOrder split session.order) lt in
+      by p.0 p.1 where
+        by : (middle : List TimedLine) → e ∷ part ≡ middle ++ base → (window : List TimedLine) × (part ≡ window ++ base)
+        by [] same = let is : e.time ≡ called_at base = ap called_at same in absurd (omega (arith, is, lt))
+        by (y ∷ middle) same = (middle, tails e y part (middle ++ base) same)
+
+  at_first : (newer : List TimedLine) (e : TimedLine) (part : List TimedLine) → trace ≡ newer ++ e ∷ part → at_round 0 < e.time → holds (there hosts (e ∷ part) i).host n ≡ false → Counted part 0
+  at_first newer e part split lt lacks =
+      let w = in_base newer e part split (omega (arith, lt)) in
+      record {
+        window = w.0;
+        is = w.1;
+        bringing = 0;
+        crowded = 0;
+        rounds = refl;
+        names = n ∷ [];
+        apart = (λ c. absurd (Contains-none n c), tt);
+        count = none (places - 1);
+        first = λ x c. ⊎_elim
+            (λ (same : n ≡ x). subst (λ (y : NameValue). IsHeldBySome hosts terms trace y × (holds (there hosts base i).host y ≡ false)) same
+            (held, lacked_before hosts (e ∷ w.0) base i n (subst (λ (l : List TimedLine). holds (there hosts (e ∷ l) i).host n ≡ false) w.1 lacks)))
+            (λ (none : Contains [] x). absurd (Contains-none x none))
+            (Contains-cases n x [] c);
+        then = λ x c. ⊎_elim (λ (same : n ≡ x). inl (sym same)) (λ (none : Contains [] x). absurd (Contains-none x none)) (Contains-cases n x [] c);
+        asks = omega arith;
+      } where
+        none : (m : ℕ) → 0 * m + 1 ≤ length (n ∷ [])
+        none m = omega arith
+
+  -- ---- one round
+
+  module _ (k : ℕ) (newer part : List TimedLine) (e : TimedLine) (split : trace ≡ newer ++ e ∷ part) (ends : called_at part ≤ at_round (suc k)) (goes_on : at_round (suc k) < e.time)
+      (lacks : holds (there hosts (e ∷ part) i).host n ≡ false) where
+    abbrev time : ℕ
+    time = at_round k + request_span terms
+
+    in_round : at_round k + 2 * request_span terms + repairing terms ≡ at_round (suc k)
+    in_round = let r = next_round k in omega (arith, r)
+
+    q : IsThen (e ∷ part) time
+    q = then_at (e ∷ part) time (let r = in_round in omega (arith, r, goes_on))
+
+    p : IsThen (q.next ∷ q.part) (at_round k)
+    p = then_at (q.next ∷ q.part) (at_round k) (let after = q.after in omega (arith, after))
+
+    a : (more : List TimedLine) × (part ≡ more ++ q.part)
+    a = older_part q.front e q.next part q.part q.split
+
+    b : (more : List TimedLine) × (q.part ≡ more ++ p.part)
+    b = older_part p.front q.next p.next q.part p.part p.split
+
+    split_q : trace ≡ (newer ++ q.front) ++ q.next ∷ q.part
+    split_q = split ∙ ap (λ (l : List TimedLine). newer ++ l) q.split ∙ sym (append_assoc newer q.front (q.next ∷ q.part))
+
+    split_p : trace ≡ ((newer ++ q.front) ++ p.front) ++ p.next ∷ p.part
+    split_p = split_q ∙ ap (λ (l : List TimedLine). (newer ++ q.front) ++ l) p.split ∙ sym (append_assoc (newer ++ q.front) p.front (p.next ∷ p.part))
+
+    upto_q : trace ≡ ((newer ++ q.front) ++ q.next ∷ []) ++ q.part
+    upto_q = split_q ∙ sym (append_assoc (newer ++ q.front) (q.next ∷ []) q.part)
+
+    lacks_next : holds (there hosts (q.next ∷ q.part) i).host n ≡ false
+    lacks_next = lacked_before hosts q.front (q.next ∷ q.part) i n (subst (λ (l : List TimedLine). holds (there hosts l i).host n ≡ false) q.split lacks)
+
+    lacks_then : holds (there hosts q.part i).host n ≡ false
+    lacks_then = lacked_before hosts (q.next ∷ []) q.part i n lacks_next
+
+    lacks_before : holds (there hosts (p.next ∷ p.part) i).host n ≡ false
+    lacks_before = lacked_before hosts p.front (p.next ∷ p.part) i n (subst (λ (l : List TimedLine). holds (there hosts l i).host n ≡ false) p.split lacks_next)
+
+    lacks_part : holds (there hosts part i).host n ≡ false
+    lacks_part = lacked_before hosts (e ∷ []) part i n lacks
+
+    since_start : called_at base ≤ at_round k
+    since_start = omega arith
+
+    settled : settled_by terms < called_at base
+    settled = omega (arith, known)
+
+    whole : part ≡ (a.0 ++ b.0) ++ p.part
+    whole = a.1 ∙ ap (λ (l : List TimedLine). a.0 ++ l) b.1 ∙ sym (append_assoc a.0 b.0 p.part)
+
+    module _ (c : Counted p.part k) where
+      base_by : called_at base ≤ called_at q.part
+      base_by =
+          let is : q.part ≡ (b.0 ++ c.window) ++ base = b.1 ∙ ap (λ (l : List TimedLine). b.0 ++ l) c.is ∙ sym (append_assoc b.0 c.window base) in
+          let le = calls_end (b.0 ++ c.window) base (subst AreCalledInOrder is (ordered ((newer ++ q.front) ++ q.next ∷ []) q.part upto_q)) in
+          subst (λ (l : List TimedLine). called_at base ≤ called_at l) (sym is) le
+
+      -- 64 names are asked for in the round
+      abbrev Crowd : Type 0
+      Crowd = 64 ≤ ask_count (performs_in hosts i (a.0 ++ b.0) p.part)
+
+      asks_in : (m : NameValue) (now : ℕ) → q.next.time ≤ now → now ≤ time + request_span terms → IsAskedFor hosts terms trace i now m → Contains (performs_in hosts i (a.0 ++ b.0) p.part) (Asks m)
+      asks_in m now from by_end x = of_call (lines_have_calls hosts trace x.newer x.y x.older x.split) where
+        after : at_round k < x.y.time
+        after = let s = x.since in let t = q.after in let f = settled in let z = since_start in omega (arith, s, t, from, f, z)
+
+        before : x.y.time < e.time
+        before = let le = x.before in let r = in_round in omega (arith, le, by_end, r, goes_on)
+
+        of_call : IsOfCall hosts trace x.y x.older → Contains (performs_in hosts i (a.0 ++ b.0) p.part) (Asks m)
+        of_call d =
+            let is = d.time in
+            let w = calls_past newer (e ∷ part) d.newer (d.e ∷ d.older) (sym split ∙ d.split) (subst AreCalledInOrder split session.order) (omega (arith, is, before)) in
+            let z = before_newest w.0 e d.e part d.older w.1 (omega (arith, is, before)) in
+            let same : (a.0 ++ b.0) ++ p.part ≡ z.0 ++ d.e ∷ d.older = sym whole ∙ z.1 in
+            let order : AreCalledInOrder ((a.0 ++ b.0) ++ p.part) = subst AreCalledInOrder whole (ordered (newer ++ e ∷ []) part (split ∙ sym (append_assoc newer (e ∷ []) part))) in
+            let v = in_window (a.0 ++ b.0) p.part z.0 d.older d.e same order (let le = p.by in let t = after in omega (arith, le, t, is)) in
+            let asks : Contains (does hosts d.e d.older) (Asks m) =
+            subst (λ (ls : List Line). Contains ls (Asks m)) (sym d.lines)
+            (subst (λ (line : Line). Contains (d.before ++ line ∷ d.later) (Asks m)) (sym x.line) (Contains-append_right d.before (Asks m ∷ d.later) (Asks m) (Contains-here (Asks m) d.later))) in
+            subst (λ (l : List TimedLine). Contains (performs_in hosts i l p.part) (Asks m)) (sym v.window_is)
+            (stands_in hosts i z.0 v.part p.part d.e (Asks m) (sym d.place ∙ x.place) (subst (λ (l : List TimedLine). Contains (does hosts d.e l) (Asks m)) v.older_is asks))
+
+      is_crowd : (now : ℕ) → q.next.time ≤ now → now ≤ time + request_span terms → IsCrowd hosts terms trace i now → Crowd
+      is_crowd now from by_end x =
+          let least = asks_at_least x.names (performs_in hosts i (a.0 ++ b.0) p.part) x.apart (λ m d. asks_in m now from by_end (x.asked m d)) in
+          let many = x.many in
+          omega (arith, least, many)
+
+      -- what is asked for comes by the end of the round, or a crowd is
+      fate : (m : NameValue) → IsHeldBySome hosts terms trace m → asks_for m (there hosts q.part i).host ≡ true → (holds (there hosts (e ∷ part) i).host m ≡ true) ⊎ Crowd
+      fate m held_m asked =
+          let f = front_of hosts ((newer ++ q.front) ++ q.next ∷ []) q.part in
+          let at = time_is hosts q.part in
+          let t = the_ask (timer_then hosts (performed hosts q.part) i m) (timer_of hosts q.part i m asked) in
+          let le = base_by in
+          ⊎_elim
+          (λ (comes : AllHoldBehind starts terms (performed hosts trace) (time_of (performed hosts q.part) + request_span terms + repairing terms) m).
+          inl (holding hosts terms trace timely m (time_of (performed hosts q.part) + request_span terms + repairing terms) comes newer (e ∷ part) i split (let by = q.by in let r = in_round in omega (arith, by, r, at, goes_on)) live))
+          (λ (g : (t.0.level ≡ 0) × IsGivenUp starts (performed hosts trace) (performed hosts q.part) i m t.0 (max (time_of (performed hosts q.part)) (time_of (performed hosts q.part) + terms.asking * terms.far) + terms.late)).
+          inr (given_up m t.0 t.1 g.0 g.1))
+          (comes_or_is_given_up hosts terms trace wait timely waits f.0 (performed hosts q.part) i m t.0 (ap (performed hosts) upto_q ∙ f.1) (omega (arith, known, le, at)) live held_m t.1) where
+            given_up : (m : NameValue) (ask : AskTimer) → timer_then hosts (performed hosts q.part) i m ≡ Some ask → ask.level ≡ 0
+                → IsGivenUp starts (performed hosts trace) (performed hosts q.part) i m ask (max (time_of (performed hosts q.part)) (time_of (performed hosts q.part) + terms.asking * terms.far) + terms.late) → Crowd
+            given_up m ask stands new g = is_crowd g.e.time from by_end
+                (crowd hosts terms trace i session timely live g.front (g.between ++ performed hosts q.part) g.e g.split late m ask g.place g.line g.stands new) where
+                  from : q.next.time ≤ g.e.time
+                  from =
+                      since_next hosts (newer ++ q.front) q.part q.next g.front g.between g.e (subst AreCalledInOrder split_q session.order)
+                      (subst (λ (l : List TimedLine). AreInOrder (performed hosts l)) split_q timely.order) (sym (ap (performed hosts) split_q) ∙ g.split)
+
+                  by_end : g.e.time ≤ time + request_span terms
+                  by_end = let soon = g.soon in let by = q.by in let at = time_is hosts q.part in omega (arith, soon, by, at)
+
+                  late : terms.quiet < g.e.time
+                  late = let f = from in let s = settled in let z = since_start in let after = q.after in omega (arith, f, s, z, after)
+
+      -- ---- what that counts for
+
+      abbrev window : List TimedLine
+      window = (a.0 ++ b.0) ++ c.window
+
+      window_is : part ≡ window ++ base
+      window_is = whole ∙ ap (λ (l : List TimedLine). (a.0 ++ b.0) ++ l) c.is ∙ sym (append_assoc (a.0 ++ b.0) c.window base)
+
+      both : ask_count (performs_in hosts i window base) ≡ ask_count (performs_in hosts i c.window base) + ask_count (performs_in hosts i (a.0 ++ b.0) p.part)
+      both = asked_both hosts i (a.0 ++ b.0) c.window base ∙ ap (λ (l : List TimedLine). ask_count (performs_in hosts i c.window base) + ask_count (performs_in hosts i (a.0 ++ b.0) l)) (sym c.is)
+
+      held_since : (x : NameValue) → holds (there hosts p.part i).host x ≡ true → holds (there hosts part i).host x ≡ true
+      held_since x h = subst (λ (l : List TimedLine). holds (there hosts l i).host x ≡ true) (sym whole) (held_on hosts (a.0 ++ b.0) p.part i x h)
+
+      one_crowd : Crowd → Counted part (suc k)
+      one_crowd many = record {
+        window = window;
+        is = window_is;
+        bringing = c.bringing;
+        crowded = suc c.crowded;
+        rounds = let r = c.rounds in omega (arith, r);
+        names = c.names;
+        apart = c.apart;
+        count = c.count;
+        first = c.first;
+        then = λ x d. ⊎_elim (λ (same : x ≡ n). inl same) (λ (had : holds (there hosts p.part i).host x ≡ true). inr (held_since x had)) (c.then x d);
+        asks = let asks = c.asks in let two = both in omega (arith, asks, two, many);
+      }
+
+      came : (s : AreAsked hosts terms trace q.part i places) → ((x : NameValue) → Contains s.names x → holds (there hosts (e ∷ part) i).host x ≡ true) → Counted part (suc k)
+      came s comes = record {
+        window = window;
+        is = window_is;
+        bringing = suc c.bringing;
+        crowded = c.crowded;
+        rounds = let r = c.rounds in omega (arith, r);
+        names = new ++ c.names;
+        apart = apart_append new c.names (apart_passing there_then s.names s.apart) c.apart not_twice;
+        count = let all = length-append new c.names in let one = few in let many = s.count in more (length (new ++ c.names)) (length new) (length c.names) c.bringing (places - 1) all (omega (arith, one, many)) c.count;
+        first = λ x d. ⊎_elim
+            (λ (here : Contains new x). let o = of_new x here in (s.held x o.0, lacked_base x (asked_lacked hosts q.part i x (s.asked x o.0))))
+            (λ (old : Contains c.names x). c.first x old)
+            (Contains-append_cases new c.names x d);
+        then = λ x d. ⊎_elim
+            (λ (here : Contains new x). inr (of_new x here).1)
+            (λ (old : Contains c.names x). ⊎_elim (λ (same : x ≡ n). inl same) (λ (had : holds (there hosts p.part i).host x ≡ true). inr (held_since x had)) (c.then x old))
+            (Contains-append_cases new c.names x d);
+        asks = let asks = c.asks in let two = both in omega (arith, asks, two);
+      } where
+        there_then : NameValue → Bool
+        there_then x = holds (there hosts part i).host x
+
+        new : List NameValue
+        new = filter there_then s.names
+
+        of_new : (x : NameValue) → Contains new x → Contains s.names x × (holds (there hosts part i).host x ≡ true)
+        of_new x d = Contains-from_filter there_then s.names x d
+
+        late : terms.quiet < e.time
+        late = let s = settled in let z = since_start in let r = in_round in omega (arith, s, z, r, goes_on)
+
+        few : length s.names ≤ length new + 1
+        few = all_but_one there_then s.names s.apart (λ x y d f lacks_x lacks_y. one_comes hosts terms trace newer part e i session split late x y lacks_x (comes x d) lacks_y (comes y f))
+
+        lacked_base : (x : NameValue) → holds (there hosts q.part i).host x ≡ false → holds (there hosts base i).host x ≡ false
+        lacked_base x l =
+            let is : q.part ≡ (b.0 ++ c.window) ++ base = b.1 ∙ ap (λ (l : List TimedLine). b.0 ++ l) c.is ∙ sym (append_assoc b.0 c.window base) in
+            lacked_before hosts (b.0 ++ c.window) base i x (subst (λ (l : List TimedLine). holds (there hosts l i).host x ≡ false) is l)
+
+        not_twice : (x : NameValue) → Contains new x → Contains c.names x → ⊥
+        not_twice x here old =
+            let o = of_new x here in
+            ⊎_elim
+            (λ (same : x ≡ n). true≢false (sym (subst (λ (y : NameValue). holds (there hosts part i).host y ≡ true) same o.1) ∙ lacks_part))
+            (λ (had : holds (there hosts p.part i).host x ≡ true).
+            let then = subst (λ (l : List TimedLine). holds (there hosts l i).host x ≡ true) (sym b.1) (held_on hosts b.0 p.part i x had) in
+            true≢false (sym then ∙ asked_lacked hosts q.part i x (s.asked x o.0)))
+            (c.then x old)
+
+        more : (all new old rounds less : ℕ) → all ≡ new + old → less ≤ new → rounds * less + 1 ≤ old → suc rounds * less + 1 ≤ all
+        more all new old rounds less is some le =
+            let product : suc rounds * less ≡ rounds * less + less = omega arith in
+            omega (arith, is, some, le, product)
+
+      one_round : Counted part (suc k)
+      one_round = ⊎_elim
+          (λ (asked : asks_for n (there hosts q.part i).host ≡ true). ⊎_elim
+          (λ (comes : holds (there hosts (e ∷ part) i).host n ≡ true). absurd (true≢false (sym comes ∙ lacks)))
+          one_crowd
+          (fate n held asked))
+          (λ (s : AreAsked hosts terms trace q.part i places). ⊎_elim
+          (came s)
+          one_crowd
+          (each_or {P = λ x. holds (there hosts (e ∷ part) i).host x ≡ true} {C = Crowd} s.names (λ x d. fate x (s.held x d) (s.asked x d))))
+          (filled ((newer ++ q.front) ++ q.next ∷ []) q.part i n upto_q live (let le = base_by in omega (arith, le, late_base)) held lacks_then)
+
+  -- ---- all rounds
+
+  pub counted : (k : ℕ) (newer part : List TimedLine) (e : TimedLine) → trace ≡ newer ++ e ∷ part → called_at part ≤ at_round k → at_round k < e.time → holds (there hosts (e ∷ part) i).host n ≡ false → Counted part k
+  counted zero newer part e split ends goes_on lacks = at_first newer e part split goes_on lacks
+  counted (suc k) newer part e split ends goes_on lacks =
+      let older = q k newer part e split ends goes_on lacks in
+      let first = p k newer part e split ends goes_on lacks in
+      one_round k newer part e split ends goes_on lacks
+      (counted k ((newer ++ older.front) ++ first.front) first.part first.next (split_p k newer part e split ends goes_on lacks) first.by first.after (lacks_before k newer part e split ends goes_on lacks))
