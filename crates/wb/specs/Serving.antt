@@ -2,6 +2,8 @@
 use Rattle.std.specs.Prelude.{◌≡◌, ◌⊎◌, ℕ, ◌^◌, ◌-◌, List, [], ◌++◌, Bool, true, Option, Result, Ok, Err, codes}
 use Rattle.std.specs.Fmt.{decimal}
 use Rattle.std.specs.Io.KnownBytes.{Appends}
+use Rattle.wb_names.specs.declared.stream.Sink.{Ghosts as SinkOf}
+use Rattle.wb_names.specs.declared.stream.Source.{Ghosts as SourceOf}
 use Rattle.wb_lines.specs.Driving.{Gave, Meets}
 use Rattle.wb_lines.specs.Input.{BeginsWith, input_lines}
 use Rattle.wb_lines.specs.declared.fault.DriveFault.{DriveFault}
@@ -103,8 +105,9 @@ pub record Reading : Type 0 where
   pub rest : Option (List ℕ)
   pub has_failed : Bool
 
-abbrev pub reading : Option (List ℕ) → Option (List ℕ) → Bool → Reading
-reading left rest has_failed = record { left = left; rest = rest; has_failed = has_failed }
+-- what a call read, by its source before and after
+abbrev pub reading : {R : Type 0} → SourceOf R → R → R → Reading
+reading R old new = record { left = R.left old; rest = R.left new; has_failed = R.has_failed new }
 
 -- what a sink has taken before and after, and whether it has failed then
 pub record Writing : Type 0 where
@@ -112,8 +115,9 @@ pub record Writing : Type 0 where
   pub after : Option (List ℕ)
   pub has_failed : Bool
 
-abbrev pub writing : Option (List ℕ) → Option (List ℕ) → Bool → Writing
-writing before after has_failed = record { before = before; after = after; has_failed = has_failed }
+-- what a call wrote, by its sink before and after
+abbrev pub writing : {W : Type 0} → SinkOf W → W → W → Writing
+writing W old new = record { before = W.taken old; after = W.taken new; has_failed = W.has_failed new }
 
 -- ---- lines about failures
 
