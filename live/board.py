@@ -15,7 +15,8 @@ from .constants import FEW
 from .held import Held, held_of
 from .options import Options
 from .record import FIRST_LINE, MOST_MOMENT, Act, NoRoom, Record, RecordFault, comment, write_record
-from .views import Drawop, Name, Page, name_in, name_of
+from .showing import Since
+from .views import Drawop, Name, Page, name_in, name_of, name_on
 from .waiting import Waiting
 from .words import Words
 
@@ -91,7 +92,7 @@ class Board:
 
     def start(self, listening: int = 0, waiting: Optional[Waiting] = None, lead: float = 0.0) -> List[Tuple[str, Block]]:
         """Starts a judged host, after this part of the moments that the record leaves, and gives it the lines of the record: each datagram
-        with its block. A record that is shown has a host that judges nothing."""
+        with its block."""
         held = held_of(self.program, [*self.record.acts(), *map(Act, self.unkept)])
         self.me, self.cells = map(int, held.board.split()[1:3])
         self.host = Host(self.program, "--tuning", self.tuning)
@@ -108,7 +109,7 @@ class Board:
         self.begun_at = self.moment = 1 + max(self.moment, held.moment + int(lead * (MOST_MOMENT - held.moment)))
         self.ready_at = self.moment + max(LEAST_LISTENING, listening)
         self.strange = held.strange
-        begun = self.ask([held.board] if self.options.replay else [held.board, self.line_to_judge()])
+        begun = self.ask([held.board, self.line_to_judge()])
         if any(block.fault is not None for block in begun):
             raise RecordFault("%s: no host can have its board: %s" % (self.record.path, held.board))
 
@@ -318,9 +319,16 @@ class Board:
 
     # ---- questions
 
-    def view(self, page: Page) -> List[str]:
-        """The drawops that a page shows, in words, in the order of display."""
-        return self.tell("view %d %d" % page).lines[1:]
+    def view(self, page: Page) -> List[Name]:
+        """The names of the drawings that a page shows, in the order of display."""
+        return [name for name in map(name_in, self.tell("view %d %d" % page).lines[1:]) if name]
+
+    def since(self, page: Page, held: int) -> Since:
+        """What a page shows otherwise than when the host held `held` drawops."""
+        head, *lines = self.tell("since %d %d %d" % (*page, held)).lines
+        told = [line.split(" ", 2) for line in lines]
+        gone = {(int(source), page, int(seq)) for word, source, seq in told if word == "hidden"}
+        return Since(int(head.split(" ")[1]), gone, [(int(place), name_on(page, words), words) for word, place, words in told if word == "shown"])
 
     def pages(self, most: int) -> List[Page]:
         """The first `most` of the pages that are drawn on: first those of ours, then those of members, and of each kind first those drawn on last."""
@@ -328,7 +336,7 @@ class Board:
 
     def canvas(self, page: Page) -> List[str]:
         """The rows of a page, without what is empty at their right and at the end."""
-        rows = [row.rstrip(" ") for row in self.tell("show %d %d %d %d" % (page + (COLUMNS, ROWS))).lines]
+        rows = [row[1:].rstrip(" ") for row in self.tell("paint %d %d %d %d" % (page + (COLUMNS, ROWS))).lines[1:]]
         while rows and not rows[-1]:
             rows.pop()
         return rows

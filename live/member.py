@@ -140,7 +140,7 @@ class Member:
             self.words.change_over(stage.program)
         except HostEnded:
             self.stage = Stage(before.program, False, fault="the host of another build ended", build=before.build)
-        # what views show is compared with what this host shows
+        # views get what this host shows
         self.telling.is_changed = True
 
     def begin_again(self) -> None:

@@ -123,7 +123,7 @@ class People:
         member = self.member
         if not member.is_ready:
             raise Refused("busy")
-        own = [drawop.name[2] for drawop in member.drawn.sheet(member.page).shown if drawop.name[0] == member.me]
+        own = [seq for source, _, seq in member.board.view(member.page) if source == member.me]
         if not own:
             raise Refused("nothing of ours is shown")
         return self.draw_now(member.page, "delete %d %d" % (member.me, max(own)))

@@ -6,16 +6,16 @@ from typing import TYPE_CHECKING, Any, Callable, Dict, Iterator, List, Optional,
 
 from .carriers.carrier import Origin
 from .clock import SECOND
+from .board import said
 from .drawn import Drawn
 from .film import Film, scenes_of
+from .held import words_in
 from .inbox import Arrival
-from .views import Drawop
+from .record import DIGITS
+from .views import Drawop, name_of
 
 if TYPE_CHECKING:
     from .member import Member
-
-# what a host that judges nothing says of a drawop that is new
-NEW = ["batch 1 0 0 0"]
 
 # lines that are played before views can look on
 MOST_LINES = 100
@@ -66,7 +66,7 @@ class Playing:
             member.board.moment = 0
             member.board.start()
             member.drawn = Drawn()
-            member.telling.page, member.telling.is_changed = None, True
+            member.telling.is_changed = True
             self.film.next = 0
         self.film.begin_at(moment)
         while self.play_due():
@@ -80,31 +80,25 @@ class Playing:
         return len(lines)
 
     def play(self, line: str) -> None:
-        """A drawop of the record comes in or goes out once more, and any other line is said once more."""
-        member, word = self.member, line.split(" ", 1)[0]
-        if word == "datagram" and len(line) % 2:
-            self.arrive([Arrival(bytes.fromhex(line[9:]), Origin("record"))])
-        elif word == "draw":
-            if member.board.tell(line).lines == NEW:
-                member.hold(Drawop(line))
-        elif line.startswith("say draw "):
-            for digits in member.tell(line).sent():
-                member.hold(Drawop(line[4:], digits))
-        elif word != "board":
-            member.tell(line)
+        """A drawop of the record comes in or goes out once more. Other lines change nothing that is shown."""
+        member, words = self.member, words_in(line)
+        if DIGITS.fullmatch(line):
+            self.arrive(line.split(" ")[1])
+        elif words.startswith("draw "):
+            block = member.board.tell("held " + line)
+            if said(block, "drew"):
+                member.hold(Drawop(words))
+            if line != words and block.fault is None:
+                member.wire.went(words)
 
-    def arrive(self, arrivals: List[Arrival]) -> None:
-        member = self.member
-        for arrival in arrivals:
-            digits = arrival.data.hex()
-            told, block = member.words.of(digits), member.board.tell("datagram " + digits)
-            if told.words is not None and block.lines == NEW:
-                member.hold(Drawop(told.words, digits))
-            member.wire.tell({**member.wire.came(arrival, told.words), "refused": block.fault})
-
-    def outgoing(self, digits: str) -> Optional[str]:
-        """Nothing is sent otherwise than the host says it."""
-        return digits
+    def arrive(self, digits: str) -> None:
+        """A report of an older record is shown as it went by; nothing is done about it."""
+        member, told = self.member, self.member.words.of(digits)
+        block = member.board.tell("held datagram " + digits)
+        if told.words is not None and said(block, "drew"):
+            member.hold(Drawop(told.words, digits))
+        entry = member.wire.came(Arrival(bytes.fromhex(digits), Origin("record")), told.words)
+        member.wire.tell({**entry, "refused": block.fault if name_of(digits) else told.fault})
 
     def fault_of_drawing(self) -> Optional[str]:
         return "a replay draws nothing"

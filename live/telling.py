@@ -3,13 +3,14 @@ from __future__ import annotations
 
 import os
 import time
-from typing import TYPE_CHECKING, Any, Dict, List, Set, Tuple
+from typing import TYPE_CHECKING, Any, Dict, List, Optional, Set, Tuple
 
 from .board import COLUMNS
 from .clock import SECOND
-from .drawn import Drawn, Sheet
+from .drawn import Drawn
 from .events import Events, Whole
 from .heard import Other
+from .showing import NO_CHANGE, Change, Showing
 from .views import Name, Page, Report, page_text
 
 if TYPE_CHECKING:
@@ -25,9 +26,8 @@ PART = 6
 MEMBERS_PAUSE = 0.5
 PAGES_PAUSE = 0.1
 
-# seconds from a change to the comparison of what views show with the host's view, which takes one part in CHECK_PART of the time at most
-CHECK_PAUSE = 2.0
-CHECK_PART = 50
+# the most pages of which it remembers what they show, so that one who turns back sees them at once
+MOST_SHOWINGS = 16
 
 # pages that are reported
 MOST_PAGES = 1_000
@@ -84,17 +84,15 @@ class Telling:
         self.events = events
         self.is_changed = True
         self.are_pages_changed = True
-        self.page: Any = None  # what the views have
-        self.names: Set[Name] = set()  # of the drawings that it was told of, shown or hidden
+        self.page: Optional[Showing] = None  # what the views have
+        self.showings: Dict[Page, Showing] = {}
+        self.host: Any = None  # that told these
         self.rows: List[str] = []
         self.turn = 0
         self.version = 0
         self.next_at = 0.0
         self.next_members = 0.0
         self.next_pages = 0.0
-        self.check_at = 0.0
-        self.is_checked = True
-        self.differences = 0
         self.caught_up: Dict[Page, int] = {}
         self.missing: Set[Page] = set()
         self.reported = Reported()
@@ -111,7 +109,6 @@ class Telling:
             self.tell_board()
             ended = time.monotonic()
             self.next_at = ended + max(LEAST_PAUSE, (PART - 1) * (ended - began))
-            self.check_at, self.is_checked = max(self.check_at, ended + CHECK_PAUSE), False
         if self.are_pages_changed and began >= self.next_pages:
             self.are_pages_changed = False
             asked = time.monotonic()
@@ -122,8 +119,6 @@ class Telling:
             self.tell_members()
             self.tell_health()
             self.next_members = time.monotonic() + MEMBERS_PAUSE
-        if not self.is_checked and not self.is_changed and began >= self.check_at:
-            self.check()
 
     def tell_hello(self) -> None:
         member, options = self.member, self.member.options
@@ -136,52 +131,46 @@ class Telling:
     # ---- the page
 
     def tell_board(self) -> None:
-        """The whole of another page, and of the same what changed since."""
+        """The whole of another page, and of one of which another host shows something else; and of the same what changed since."""
         member = self.member
-        sheet, rows = member.drawn.sheet(member.page), member.board.canvas(member.page)
-        changed, sheet.changed = sheet.changed, {}
-        is_turned = self.page != member.page
-        change = None if is_turned else self.change_of(changed, rows)
-        if is_turned:
-            self.page, self.turn, self.version = member.page, self.turn + 1, 0
-            self.names = {drawop.name for drawop in sheet.shown} | set(sheet.hidden)
+        page, rows = self.showing(member.page), member.board.canvas(member.page)
+        change = page.renew(member.board, member.drawn.sheet(page.page))
+        if page.is_as(self.page) and self.page is not page:
+            self.page, change = page, NO_CHANGE
+        if self.page is not page:
+            self.page, self.turn, self.version = page, self.turn + 1, 0
             self.are_pages_changed = True
             self.next_members = self.next_pages = 0.0
-        elif not changed and rows == self.rows:
-            return
-        else:
+            self.events.tell_page(self.whole(page, rows), None)
+        elif any(change) or rows != self.rows:
             self.version += 1
+            self.events.tell_page(self.whole(page, rows), self.told_change(change, rows))
         self.rows = rows
-        head = {"page": page_text(member.page), "columns": COLUMNS, "rows": rows}
-        self.events.tell_page(Whole(self.turn, self.version, head, list(sheet.shown), list(sheet.hidden.values())), change)
+
+    def showing(self, page: Page) -> Showing:
+        """What a page shows, by the host of now."""
+        if self.host is not self.member.board.host:
+            self.host, self.showings = self.member.board.host, {}
+        self.showings[page] = showing = self.showings.pop(page, None) or Showing(page)
+        if len(self.showings) > MOST_SHOWINGS:
+            del self.showings[next(iter(self.showings))]
+        return showing
 
     def whole_of(self, page: Page) -> Whole:
         """What a page shows that need not be in view."""
-        sheet = self.member.drawn.pages.get(page, Sheet())
-        head = {"page": page_text(page), "columns": COLUMNS, "rows": self.member.board.canvas(page)}
-        return Whole(0, 0, head, list(sheet.shown), list(sheet.hidden.values()))
+        member, asked = self.member, Showing(page)
+        asked.renew(member.board, member.drawn.sheet(page))
+        return self.whole(asked, member.board.canvas(page))
 
-    def change_of(self, changed: Dict[Name, Any], rows: List[str]) -> Dict[str, Any]:
-        """The names of what changed; where of it stands what is shown now, in the order in which it is put in; what of it is hidden;
-        and the rows that are other ones."""
-        sheet = self.member.drawn.sheet(self.member.page)
-        hidden = [drawop for name, drawop in changed.items() if name in sheet.hidden]
-        added = sorted(((sheet.index(drawop), drawop) for name, drawop in changed.items() if name not in sheet.hidden), key=lambda each: each[0])
-        names = [[name[0], name[2]] for name in changed if name in self.names]
-        self.names.update(changed)
+    def whole(self, page: Showing, rows: List[str]) -> Whole:
+        head = {"page": page_text(page.page), "columns": COLUMNS, "rows": rows}
+        return Whole(self.turn, self.version, head, list(page.shown), list(page.hidden.values()))
+
+    def told_change(self, change: Change, rows: List[str]) -> Dict[str, Any]:
+        """A change for views, with the rows that are other ones."""
+        names = [[source, seq] for source, _, seq in change.names]
         new = {y: row for y, row in enumerate(rows) if y >= len(self.rows) or self.rows[y] != row}
-        return {"page": page_text(self.member.page), "names": names, "added": added, "hidden": hidden, "rows": new, "height": len(rows)}
-
-    def check(self) -> None:
-        """Compares what views show with the host's view; what differs is sent again, as the host has it."""
-        began = time.monotonic()
-        self.is_checked = True
-        sheet, lines = self.member.drawn.sheet(self.member.page), self.member.board.view(self.member.page)
-        if [drawop.words for drawop in sheet.shown] != lines:
-            self.differences += 1
-            self.member.drawn.replace(self.member.page, lines)
-            self.page, self.is_changed = None, True
-        self.check_at = time.monotonic() + CHECK_PART * (time.monotonic() - began)
+        return {"page": page_text(self.member.page), "names": names, "added": change.added, "hidden": change.hidden, "rows": new, "height": len(rows)}
 
     # ---- what is noticed of what comes in, for people alone
 
@@ -252,7 +241,7 @@ class Telling:
         elif page in self.missing:
             self.missing.remove(page)
             self.caught_up = {page: now, **{each: at for each, at in self.caught_up.items() if now - at < CAUGHT_UP}}
-        counts = dict(member.wire.counts, dropped=member.inbox.dropped, foreign=member.inbox.foreign, starts=1 + len(member.board.ends), differences=self.differences)
+        counts = dict(member.wire.counts, dropped=member.inbox.dropped, foreign=member.inbox.foreign, starts=1 + len(member.board.ends))
         self.events.tell("health", {
             "page": page_text(page), "phrase": self.phrase(missing), "missing": missing, "warnings": self.warnings(), "counts": counts,
         })

@@ -62,10 +62,10 @@ class Drawop:
         """It puts glyphs on the page: it is neither a delete nor a restore."""
         return self.kind not in AIMED
 
-    def target(self) -> Tuple[int, int]:
-        """The source and the number that a delete or a restore names."""
+    def aimed(self) -> Name:
+        """What a delete or a restore is aimed at."""
         source, seq = self.words.split(" ")[6:8]
-        return int(source), int(seq)
+        return int(source), self.name[1], int(seq)
 
     def fields(self) -> Dict[str, Any]:
         """What a page of a browser gets of it."""
@@ -101,6 +101,12 @@ def name_in(words: str) -> Optional[Name]:
     if parts[0] == "request":
         return int(parts[2]), page_of(parts[3]), int(parts[4])
     return None
+
+
+def name_on(page: Page, words: str) -> Name:
+    """The name of a drawop on this page."""
+    _, source, _, seq, _ = words.split(" ", 4)
+    return int(source), page, int(seq)
 
 
 def name_of(digits: str) -> Optional[Name]:

@@ -11,6 +11,7 @@ import { Member } from '../../web/member/member.js';
 import { numberOf } from '../../web/member/origins.js';
 import { FIRST_LINE, Record, actsOf } from '../../web/member/record.js';
 import { check } from '../check.mjs';
+import { testShowing } from './showing.mjs';
 
 const file = process.env.WB_MODULE, PAGE = '1/1', SECOND = 1_000_000;
 const BEYOND = 0x7fff0000; // a place beyond the end of the memory, where a call traps
@@ -38,6 +39,9 @@ async function bytesOf(program, ...many) {
     return host.ask(`say ${words}`).sent()[0];
   });
 }
+
+/** All that the page shows. */
+const viewOf = async (board) => (await board.since(PAGE, 0)).shown.map(([, drawop]) => drawop);
 
 /** The number of the next drawing on the page. */
 const nextOf = async (board) => Number((await board.tell('next 1 1')).lines[0].split(' ')[1]);
@@ -129,7 +133,7 @@ async function testDraw(program) {
   for (const operation of ['delete 1 1', 'restore 1 1', 'frame 0 0 2 2 #']) await board.draw(PAGE, operation);
   const lines = await record.lines();
   check('the record', [lines[0], actsOf(lines).filter((line) => !line.startsWith('tick ')).map((line) => line.split(' ')[0])], [FIRST_LINE, ['board', 'say', 'say', 'say', 'say', 'say']]);
-  check('what is shown', (await board.view(PAGE)).map(({ seq }) => seq), [1, 2, 5]);
+  check('what is shown', (await board.since(PAGE, 0)).shown.map(([place, { seq }]) => [place, seq]), [[0, 1], [1, 2], [2, 5]]);
 }
 
 /** What the record can't have, the host does not have either. */
@@ -140,7 +144,7 @@ async function testNoRoom(program) {
   const faults = [];
   for (let i = 0; i < 3; i += 1) await board.draw(PAGE, 'line 0 1 4 1 +').catch((fault) => faults.push(fault instanceof NoRoom && fault.message));
   check('a drawing for which the record has no room is refused, as often as it is tried', faults, ['no room', 'no room', 'no room']);
-  check('the host does not have it either', [await nextOf(board), (await board.view(PAGE)).length, board.ends.length], [2, 1, 0]);
+  check('the host does not have it either', [await nextOf(board), (await viewOf(board)).length, board.ends.length], [2, 1, 0]);
   record.write = write;
   check('with room one draws on, by the next number', (await board.draw(PAGE, 'line 0 1 4 1 +')).drawop.seq, 2);
   check('and the record has it once', [(await record.lines()).filter((line) => line.startsWith('say ')).length, new Set(held.map(({ name }) => name)).size], [2, 2]);
@@ -152,7 +156,7 @@ async function testEnds(program) {
   new DataView(board.host.memory.buffer).setUint32(Number(board.host.place), BEYOND, true);
   const fault = await nextOf(board).catch((it) => it);
   check('a host that broke off is told', [fault instanceof HostEnded, board.ends.length, (await record.lines()).at(-1).startsWith('# the host broke off')], [true, 1, true]);
-  check('another goes on from the record', [await nextOf(board), (await board.view(PAGE)).length], [2, 1]);
+  check('another goes on from the record', [await nextOf(board), (await viewOf(board)).length], [2, 1]);
   await board.beginAgain();
   check('and so does one that begins again', [await nextOf(board), board.ends.length], [2, 1]);
   const other = new Record(null, 'here', 5), drawn = 'draw 6 1/1 1 60 line 0 2 4 2 +';
@@ -160,7 +164,7 @@ async function testEnds(program) {
   record.add('page-state 9 1/1 1=9');
   await board.renumber(5, other);
   const lines = await other.lines(), [own] = lines.filter((line) => line.startsWith('datagram '));
-  check('under another number it has all that was held', [board.me, await nextOf(board), (await board.view(PAGE)).length, lines[0]], [5, 1, 2, FIRST_LINE]);
+  check('under another number it has all that was held', [board.me, await nextOf(board), (await viewOf(board)).length, lines[0]], [5, 1, 2, FIRST_LINE]);
   check('and what strangers drew is strangers\u2019', [[...board.strange], lines.at(-1)], [['6 1/1 1'], drawn]);
   check('and no mark of the one before', lines.some((line) => line.startsWith('page-state')), false);
   check('and what it drew under the one before is a member\u2019s', readDatagram(unhex(own.slice(9))).words, drawop.words);
@@ -181,7 +185,7 @@ async function testBefore(program) {
   const before = written.length;
   await board.came(second, ANYWHERE);
   check('without room nothing that is sent waits for it', [await isDue(), record.waiting.slice(-1), written.length], [true, [words[1]], before]);
-  check('the host took them', (await board.view(PAGE)).map((drawop) => drawop.words), words);
+  check('the host took them', (await viewOf(board)).map((drawop) => drawop.words), words);
 }
 
 // ---- what comes in
@@ -262,7 +266,7 @@ async function testTime(program) {
   const { seq } = await member.people.drawNow('5/1', 'line 0 0 1 1 *');
   check('our time is ours', Math.abs(member.drawn.find(`1 5/1 ${seq}`).time - Date.now() * 1_000) < SECOND, true);
   await member.people.drawNow(PAGE, 'line 0 0 1 1 *');
-  check('and what we draw lies above theirs', member.drawn.sheet(PAGE).shown.at(-1).source, 1);
+  check('and what we draw lies above theirs', (await viewOf(member.board)).at(-1).source, 1);
 }
 
 // ---- a session
@@ -274,7 +278,7 @@ async function memberOf(program, network, me, record, mayHaveDrawn = false, plac
   const origin = { place: `wb/${place}`, owner: null };
   const transport = { where: 'here', state: '', here: null, strangers: null, goneBy: () => origin, end: () => network.delete(place),
     send: (bytes) => { for (const [other, take] of network) if (other !== place) take(bytes, origin); } };
-  const member = new Member(program, record, me, inbox, transport, { notice: '', teach: false, start: { ...START, cells: 1_000, mayHaveDrawn } }, (name, news) => { told[name] = news; });
+  const member = new Member(program, record, me, inbox, transport, { notice: '', teach: false, start: { ...START, cells: 1_000, mayHaveDrawn } }, (name, news) => { told[name === 'change' ? 'board' : name] = name === 'change' ? changed(told.board, news) : news; });
   network.set(place, (bytes, from) => member.take(bytes, from));
   await member.open();
   Object.assign(member, { told, running: member.run() });
@@ -287,6 +291,20 @@ async function comes(isSo, seconds = 60) {
   return isSo();
 }
 
+/** Whether the board of a member comes to be what its host shows. Changes are put in as the board of a page does. */
+async function showsAll({ told, people, telling }) {
+  const wholes = [], isSo = () => wholes.some((whole) => JSON.stringify(whole) === JSON.stringify(told.board));
+  for (let i = 0; i < 100 && !isSo(); i += 1) wholes.splice(0, 1, await people.call(() => telling.boardOf(PAGE)));
+  return isSo();
+}
+
+/** What a board has after a change. */
+function changed(board, { names, added, hidden, rows, height }) {
+  const isGone = ({ source, seq }) => names.some(([one, other]) => one === source && other === seq), drawops = board.drawops.filter((drawop) => !isGone(drawop));
+  for (const [at, drawop] of added) drawops.splice(at, 0, drawop);
+  return { ...board, drawops, hidden: [...board.hidden.filter((drawop) => !isGone(drawop)), ...hidden], rows: Array.from({ length: height }, (_, y) => rows[y] ?? board.rows[y]) };
+}
+
 async function testSession(program) {
   const network = new Map(), members = [];
   for (const me of [11, 12, 13]) members.push(await memberOf(program, network, me, new Record(null, 'here', me)));
@@ -294,7 +312,8 @@ async function testSession(program) {
   check('each has its name', new Set(answers.map(({ source, seq }) => `${source} ${seq}`)).size, 24);
   const all = () => members.map((member) => member.drawn.count(PAGE)), isWhole = () => members.every((member) => member.drawn.count(PAGE) === 24 && member.told.board);
   check('all have all, though a third is lost', await comes(isWhole) || all(), true);
-  check('nothing is told to be missing', [members.map(({ telling, drawn }) => telling.reported.missing(PAGE, drawn)), members.map(({ telling }) => telling.differences)], [[0, 0, 0], [0, 0, 0]]);
+  check('nothing is told to be missing', members.map(({ telling, drawn }) => telling.reported.missing(PAGE, drawn)), [0, 0, 0]);
+  check('what was told piece by piece is the whole that the host shows', await Promise.all(members.map(showsAll)), [true, true, true]);
   check('each knows how far the others are', await comes(() => members.every((member) => [...member.judging.heard.others.values()].filter(({ distance }) => distance !== null).length === 2)), true);
   check('something was asked for, and repaired', members.reduce((sum, { wire }) => sum + wire.counts.requests, 0) > 0, true);
   const [one] = members, fault = await one.people.draw(PAGE, 'line 0 0 4 5000 x').catch((it) => it.message);
@@ -368,4 +387,4 @@ async function testTwins(program) {
 }
 
 const program = new Program(await WebAssembly.compile(fs.readFileSync(file)), false);
-for (const each of [testOld, testLines, testBegun, testMarks, testClock, testDraw, testNoRoom, testEnds, testBefore, testOwnMarks, testRoom, testTime, testSession, testStrangers, testTail, testTwins]) test(each.name.slice('test'.length), () => each(program));
+for (const each of [testOld, testLines, testBegun, testMarks, testClock, testDraw, testShowing, testNoRoom, testEnds, testBefore, testOwnMarks, testRoom, testTime, testSession, testStrangers, testTail, testTwins]) test(each.name.slice('test'.length), () => each(program));

@@ -65,7 +65,7 @@ def test_numbers_of_the_library() -> None:
     known = dict(re.findall(r"WB_(\w+) = (\d+)", header))
     named = dict(re.findall(r"\b([A-Z_]+) = (\d+)[,;]", next(line for line in script.splitlines() if line.startswith("const DONE = "))))
     assert named == {name: known[name] for name in named} and len(named) == 7
-    told = re.findall(r"^ +(\d+): \(answer", script.split("const TELLS")[1].split("\n};")[0], re.MULTILINE)
+    told = re.findall(r"^ +case (\d+): answer\.", script, re.MULTILINE)
     assert told == [known[name] for name in ("SENT", "NEW", "AGAIN", "CLASH", "LEFT", "DROPPED", "RECORD", "DREW", "FETCH", "WARN")]
     for words, kind in (("DROPS", "DROP_"), ("WARNINGS", "WARN_")):
         listed = re.findall(r"'(\w+)'", script.split(f"const {words} = [")[1].split("]")[0])

@@ -2,12 +2,12 @@
 import crypto from 'node:crypto';
 import test from 'node:test';
 import { Alarms } from '../../web/member/alarms.js';
-import { Drawn, Sheet } from '../../web/member/drawn.js';
+import { Drawn } from '../../web/member/drawn.js';
 import { Block } from '../../web/member/host.js';
 import { Inbox } from '../../web/member/inbox.js';
 import { newName, readInvitation, writeInvitation } from '../../web/member/invitation.js';
 import { Presence, isAside, pointOf, readGone, readPoint, writeGone, writePoint } from '../../web/member/presence.js';
-import { FIRST_LINE, Record, actsOf, isLater } from '../../web/member/record.js';
+import { FIRST_LINE, Record, actsOf, isLater, keptMembers } from '../../web/member/record.js';
 import { Counters, Seal, Sealed, keyBytes, newKey, readEnvelope, writeEnvelope } from '../../web/member/seal.js';
 import { drawopOf, fieldsOf, orderOfPages } from '../../web/member/views.js';
 import { Wire } from '../../web/member/wire.js';
@@ -37,13 +37,6 @@ const LINES = ['draw 7 7/1 1 10 line 0 1 4 1 *', 'draw 7 7/1 2 90 line 0 1 4 1 *
   'draw 9 7/1 1 60 delete 7 1', 'draw 7 7/1 3 5 frame 0 0 4 1 +'];
 
 function testDrawn() {
-  for (let round = 0; round < 20; round += 1) {
-    const sheet = new Sheet(), order = [...LINES].sort(() => Math.random() - 0.5);
-    order.map((words) => drawopOf(words)).forEach((drawop) => { sheet.add(drawop); sheet.add(drawop); });
-    check('what is shown, in any order of coming', sheet.shown.map(({ words }) => words), [LINES[5], LINES[1]]);
-    check('and what is hidden', [...sheet.hidden.keys()], ['7 7/1 1']);
-  }
-  testOrder();
   const drawn = new Drawn();
   LINES.forEach((words) => { drawn.add(drawopOf(words)); drawn.add(drawopOf(words)); });
   check('each once', [drawn.total, drawn.count('7/1'), drawn.count('7/2'), drawn.find('7 7/1 1').words, drawn.find('7 7/2 1')], [6, 6, 0, LINES[0], null]);
@@ -54,30 +47,6 @@ function testDrawn() {
   const before = drawn.pages.size;
   for (let page = 1; page <= 1_000; page += 1) drawn.sheet(`9/${page}`);
   check('of pages that are looked at and have nothing none is remembered', drawn.pages.size, before);
-  const sheet = drawn.sheet('7/1'), view = [LINES[5], LINES[0], LINES[1]].map((words) => drawopOf(words));
-  check('what differs from the host is seen', [sheet.agrees(view), (sheet.replace(view), sheet.agrees(view)), sheet.hidden.size], [false, true, 0]);
-}
-
-/** What lies on what, and what a delete or a restore does, in the order of their times and not of their coming. */
-function testOrder() {
-  const sheetOf = (...lines) => lines.reduce((sheet, words) => (sheet.add(drawopOf(words)), sheet), new Sheet()), shown = ({ shown: all }) => all.map(({ name }) => name);
-  const line = (source, seq, time) => `draw ${source} 7/1 ${seq} ${time} line 0 1 4 1 *`;
-  check('of one time the greater source lies above, and then the greater number', shown(sheetOf(line(8, 1, 5), line(7, 2, 5), line(7, 3, 5), line(7, 1, 5), line(9, 1, 4))),
-    ['9 7/1 1', '7 7/1 1', '7 7/1 2', '7 7/1 3', '8 7/1 1']);
-  const back = sheetOf(line(7, 1, 5), 'draw 8 7/1 1 50 delete 7 1', 'draw 8 7/1 2 60 restore 7 1');
-  check('what was restored is shown, and not hidden', [shown(back), back.hidden.size], [['7 7/1 1'], 0]);
-  back.changed.clear();
-  back.add(drawopOf('draw 8 7/1 3 70 delete 8 1'));
-  back.add(drawopOf('draw 9 7/1 1 55 delete 7 1'));
-  check('a delete of a delete, and an earlier one, change nothing', [shown(back), back.hidden.size, back.changed.size], [['7 7/1 1'], 0, 0]);
-  back.add(drawopOf('draw 8 7/1 4 80 delete 7 1'));
-  check('a later one does, which is told', [shown(back), [...back.hidden.keys()], [...back.changed.keys()]], [[], ['7 7/1 1'], ['7 7/1 1']]);
-  const late = sheetOf(line(7, 9, 5), line(7, 2, 6));
-  check('the greatest number of a source, whichever came last', late.tops.get(7), 9);
-  check('a view that has less than what is shown differs', late.agrees([drawopOf(line(7, 9, 5))]), false);
-  const held = late.drawops.get('7 7/1 2');
-  late.replace([drawopOf(line(7, 2, 6))]);
-  check('of the host\u2019s view what is held is shown as it is held', [late.shown[0] === held, [...late.hidden.keys()]], [true, ['7 7/1 9']]);
 }
 
 function testInvitations() {
@@ -280,6 +249,41 @@ async function testRecords() {
   check('each line in one part', [parts, broken.waiting], [[[0, ['board 7 100 1 1', 'tick 5']], [1, ['tick 7']]], []]);
 }
 
+/** In the place of a browser's database: it has members and the first parts of their records, and notes what is put into its stores and deleted. */
+class Noting {
+  noted = [];
+
+  constructor(members = [], firsts = {}) {
+    Object.assign(this, { members, firsts });
+  }
+
+  transaction() {
+    const transaction = new globalThis.IDBTransaction(), note = (what) => (value) => void this.noted.push([what, value]);
+    const answer = (result) => {
+      const request = { result };
+      setTimeout(() => request.onsuccess?.());
+      return request;
+    };
+    transaction.objectStore = () => ({ put: note('put'), delete: note('delete'), getAll: () => answer(this.members), get: ([, me]) => answer(this.firsts[me]) });
+    setTimeout(() => transaction.oncomplete?.());
+    return transaction;
+  }
+}
+
+/** A record in a browser's database: which member is found first, and that nothing of one that was removed comes back. */
+async function testDatabase() {
+  Object.assign(globalThis, { IDBTransaction: class {}, IDBKeyRange: { bound: () => 'all' } });
+  const members = [{ me: 5, at: 1 }, { me: 6, at: 3 }, { me: 7, at: 2 }, { me: 8, at: 4 }], database = new Noting(members, { 6: `${FIRST_LINE}\nboard 6 100 1 1\n`, 8: '# wb record 2\n' });
+  const { kept, later } = await keptMembers(/** @type {any} */ (database), 'here');
+  check('the members of a session, the latest first, without those of a later build', [kept.map(({ me }) => me), later], [[6, 7, 5], 1]);
+  const record = new Record(/** @type {any} */ (database), 'here', 7);
+  await record.keep(['board 7 100 1 1']);
+  record.add('tick 5');
+  await record.remove();
+  await new Promise((done) => setTimeout(done, 200));
+  check('what waited when a record was removed is not written', database.noted.map(([what, value]) => [what, value.length ?? value.me]), [['put', 16], ['put', 7], ['delete', 3], ['delete', 2]]);
+}
+
 const TESTS = [testBlocks, testWords, testDatagrams, testDrawn, testInvitations, testSeal, testEnvelope, testSealed, testCounters, testPackets, testBrokers, testInbox, testWire, testWireBounds,
-  testPresence, testPresences, testAlarms, testRecords, testReported, testJudging, testTails, testConstants];
+  testPresence, testPresences, testAlarms, testRecords, testDatabase, testReported, testJudging, testTails, testConstants];
 for (const each of TESTS) test(each.name.slice('test'.length), each);

@@ -56,9 +56,9 @@ class Process:
         """Its port of this machine."""
         return int(re.findall(r", port (\d+) of", self.lines[1])[0])
 
-    def get(self, path: str) -> Tuple[int, str]:
+    def get(self, path: str, headers: Optional[Dict[str, str]] = None) -> Tuple[int, str]:
         connection = http.client.HTTPConnection("127.0.0.1", self.port, timeout=PATIENCE)
-        connection.request("GET", path)
+        connection.request("GET", path, headers=headers or {})
         answer = connection.getresponse()
         text = answer.read().decode()
         connection.close()
@@ -120,6 +120,18 @@ class Process:
         """What the page shows."""
         self.turn(page)
         return list(self.states["board"]["rows"])
+
+    def shows_all(self, states: Optional[Dict[str, Any]] = None, headers: Optional[Dict[str, str]] = None) -> bool:
+        """Whether a view comes to have, piece by piece, the page that the host then tells as a whole: this one, or the one with these states."""
+        def is_so() -> bool:
+            board = (self.states if states is None else states)["board"]
+            try:
+                status, text = self.get("/%s/board?page=%s" % (self.token, board["page"]), {**(headers or {}), "X-Wb-Token": self.token})
+            except (OSError, http.client.HTTPException):  # a full page may take too long on a machine that does much else
+                return False
+            return status == 200 and all(board[part] == told for part, told in json.loads(text).items())
+
+        return comes(is_so)
 
     def counts(self) -> Dict[str, int]:
         return dict(self.states["health"]["counts"])

@@ -4,13 +4,15 @@ from __future__ import annotations
 import json
 from typing import Any, Dict, List, Tuple
 
+from live.board import COLUMNS
 from live.drawn import Drawn
 from live.events import MOST_BYTES, MOST_CHANGES, NAMES, Events, Watcher, Whole
 from live.heard import Other
-from live.telling import MOST_MEMBERS, Reported
+from live.showing import Showing
+from live.telling import MOST_MEMBERS, MOST_SHOWINGS, Reported
 from live.views import Drawop
 from ..facts import Facts
-from .test_judging import PAGE, X, One, drawing
+from .test_judging import PAGE, Answering, One, X, drawing
 
 
 class Told(One):
@@ -58,18 +60,66 @@ def test_missing(facts: Facts) -> None:
     facts("and what is held is not, though nobody said so", reported.missing(PAGE, drawn), 0)
 
 
-def test_check(facts: Facts) -> None:
-    """What views show is what the host shows. If it differs, the host is right, and views get the whole page again."""
-    one = Told()
-    one.drawn.add(Drawop(drawing(7, 1)))
-    one.telling.page, one.telling.is_changed = PAGE, False
-    one.host.said["view"] = ["view 1", drawing(7, 1)]
-    one.telling.check()
-    facts("the same", (one.telling.differences, one.telling.page, one.telling.is_changed), (0, PAGE, False))
-    one.host.said["view"] = ["view 2", drawing(7, 1), drawing(8, 1)]
-    one.telling.check()
-    facts("another", (one.telling.differences, one.telling.page, one.telling.is_changed), (1, None, True))
-    facts("views get what the host shows", [drawop.words for drawop in one.drawn.sheet(PAGE).shown], [drawing(7, 1), drawing(8, 1)])
+def test_showing(facts: Facts) -> None:
+    """What the host says piece by piece: what is taken off, and what is put in where. What is hidden is what it does not show of what is held."""
+    one, showing = Told(), Showing(PAGE)
+
+    def renew(held: int, lines: List[str], *came: str) -> Tuple[List[Any], List[Any], List[str]]:
+        for words in came:
+            one.drawn.add(Drawop(words))
+        one.host.said["since"] = ["since %d %d" % (held, len(lines)), *lines]
+        names, added, hidden = showing.renew(one.board, one.drawn.sheet(PAGE))
+        return names, [(place, drawop.words) for place, drawop in added], [drawop.words for drawop in hidden]
+
+    def state() -> Tuple[List[str], List[str]]:
+        return [drawop.words for drawop in showing.shown], [drawop.words for drawop in showing.hidden.values()]
+
+    first, second, third = drawing(7, 1), drawing(7, 2, 6), drawing(8, 1, 5)
+    facts("all of it at first", renew(3, ["shown 0 " + first, "shown 1 " + second], first, second, "draw 9 7/2 1 5 line 0 0 1 1 *"), ([], [(0, first), (1, second)], []))
+    facts("by how many drawops are held on all pages", one.host.told[-1], "since 7 1 0")
+    facts("one between", renew(4, ["shown 1 " + third], third), ([], [(1, third)], []))
+    facts("since then", one.host.told[-1], "since 7 1 3")
+    facts("in the order of display", state(), ([first, third, second], []))
+    facts("one is deleted", renew(5, ["hidden 7 1"], "draw 8 7/1 2 9 delete 7 1"), ([(7, PAGE, 1)], [], [first]))
+    facts("and is hidden", state(), ([third, second], [first]))
+    facts("one is restored, and one deleted", renew(7, ["hidden 7 1", "hidden 7 2", "shown 0 " + first], "draw 8 7/1 3 10 restore 7 1", "draw 8 7/1 4 10 delete 7 2"),
+          ([(7, PAGE, 1), (7, PAGE, 2)], [(0, first)], [second]))
+    facts("each stands where it belongs", state(), ([first, third], [second]))
+    late = drawing(9, 1)
+    facts("one comes after its delete", renew(9, [], "draw 8 7/1 5 11 delete 9 1", late), ([], [], [late]))
+    facts("it is hidden, and was deleted last", state(), ([first, third], [second, late]))
+    facts("a delete that is not the last word", renew(10, ["hidden 7 1", "shown 0 " + first], "draw 9 7/1 2 9 delete 7 1"), ([], [], []))
+    facts("changes nothing", state(), ([first, third], [second, late]))
+    facts("nothing is new", (renew(10, []), state()), (([], [], []), ([first, third], [second, late])))
+
+
+def test_turns(facts: Facts) -> None:
+    """Views get another page as a whole, and one of which another host shows something else; what was seen of a page lasts while its host does."""
+    one, first = Told(), drawing(7, 1)
+
+    def turn(page: Tuple[int, int], *lines: str) -> int:
+        one.page = page
+        one.host.said["since"] = ["since %d %d" % (len(lines), len(lines)), *lines]
+        one.telling.tell_board()
+        assert one.telling.events.page is not None
+        return one.telling.events.page.turn
+
+    def begin_again() -> None:
+        one.board.host, said = Answering(), one.host.said  # type: ignore[assignment]
+        one.host = one.board.host  # type: ignore[assignment]
+        one.host.said = said
+
+    one.host.said["paint"] = ["paint 2", "|ok never", "|  "]
+    facts("each turn is told", [turn(PAGE), turn((7, 2)), turn(PAGE)], [1, 2, 3])
+    facts("the rows stand after their marks", one.telling.events.page and one.telling.events.page.head, {"page": "7/1", "columns": COLUMNS, "rows": ["ok never"]})
+    facts("what was seen of a page is not asked again", (turn(PAGE, "shown 0 " + first), turn(PAGE), one.host.told[-1]), (3, 3, "since 7 1 1"))
+    begin_again()
+    facts("another host is asked for all", (turn(PAGE), one.host.told[-1]), (4, "since 7 1 0"))
+    begin_again()
+    facts("one that shows the same tells nothing", (turn(PAGE), turn(PAGE, "shown 0 " + first)), (4, 4))
+    facts("of another host nothing is remembered", list(one.telling.showings), [PAGE])
+    last = [one.telling.showing((9, number)) for number in range(99)][-1]
+    facts("and of few pages", (len(one.telling.showings), one.telling.showing((9, 98)) is last), (MOST_SHOWINGS, True))
 
 
 class Page:

@@ -274,10 +274,13 @@ export class Board {
 
   // ---- questions
 
-  /** The drawops that a page shows, in the order of display.
-   * @param {string} page */
-  async view(page) {
-    return (await this.tell(`view ${pageWords(page)}`)).lines.slice(1).map(drawopOf);
+  /** What a page shows otherwise than when the host held `held` drawops.
+   * @param {string} page @param {number} held
+   * @returns {Promise<import('./showing.js').Since>} */
+  async since(page, held) {
+    const block = await this.tell(`since ${pageWords(page)} ${held}`), [head] = block.said('since');
+    const hidden = block.said('hidden').map((name) => name.replace(' ', ` ${page} `));
+    return { held: Number(head.split(' ', 1)[0]), hidden, shown: block.said('shown').map(placedOf) };
   }
 
   /** The first `most` of the pages that are drawn on: first those of ours, then those of members, and of each kind first those drawn on last.
@@ -289,10 +292,17 @@ export class Board {
   /** The rows of a page, without what is empty at their right and at the end.
    * @param {string} page */
   async canvas(page) {
-    const rows = (await this.tell(`show ${pageWords(page)} ${COLUMNS} ${ROWS}`)).lines.map((row) => row.trimEnd());
+    const rows = (await this.tell(`paint ${pageWords(page)} ${COLUMNS} ${ROWS}`)).lines.slice(1).map((row) => row.slice(1).trimEnd());
     while (rows.length && !rows[rows.length - 1]) rows.pop();
     return rows;
   }
+}
+
+/** What stands after `shown`: the place of a drawing, and its words.
+ * @param {string} told @returns {import('./showing.js').Placed} */
+function placedOf(told) {
+  const [place] = told.split(' ', 1);
+  return [Number(place), drawopOf(told.slice(place.length + 1))];
 }
 
 /** The time of day of this machine, in microseconds. */

@@ -84,21 +84,6 @@ const DONE = 0, WAITS = 1, CLOSED = 3, MEMORY = 4, NOTHING = 6, NO_DATAGRAM = 10
 const DROPS = ['datagram', 'own', 'speaks', 'crowd', 'mark', 'stranger', 'flood', 'again', 'ahead', 'full', 'share', 'pages'];
 const WARNINGS = ['speaks', 'mark', 'twin', 'full', 'share'];
 
-/** What each kind of event tells. Those of questions are handed on as they are.
- * @type {Record<number, (answer: Answer, host: Host) => void>} */
-const TELLS = {
-  1: (answer, host) => { answer.send.push(host.copied()); },
-  2: (answer) => { answer.became = 'new'; },
-  3: (answer) => { answer.became = 'again'; },
-  4: (answer) => { answer.became = 'clash'; },
-  5: (answer) => { answer.became = 'full'; },
-  12: (answer, host) => { answer.dropped = DROPS[host.numberIn(0) - 1]; },
-  13: (answer, host) => { answer.records.push(host.textIn()); },
-  14: (answer, host) => { answer.drew.push(`${host.numberIn(0)} ${host.numberIn(1)}/${host.numberIn(2)} ${host.numberIn(3)}`); },
-  15: (answer, host) => { answer.fetch = { place: host.longIn(0), owner: host.size() > 16 ? host.longIn(2) : null, lacking: host.longIn(1) }; },
-  16: (answer, host) => { answer.warning = WARNINGS[host.numberIn(0) - 1] + (host.size() > 4 ? ` ${host.numberIn(1)}` : ''); },
-};
-
 /** Why a call was refused, by its status, as a line of the same meaning says it. */
 const REFUSALS = /** @type {Record<number, string>} */ ({ 7: 'not kept', 8: 'number', 9: 'back in time', 10: 'listening', 11: 'ours',
   12: 'too many', 13: 'no drawop', 14: 'no question', 15: 'judged', 16: 'not judged', 17: 'twin', 18: 'full', 19: 'number' });
@@ -131,6 +116,8 @@ function refusalOf(status) {
 
 const written = new TextEncoder();
 const read = new TextDecoder('latin1');
+// of letters without accents, for which it is quicker
+const readLetters = new TextDecoder(), FEW_LETTERS = 24;
 
 /** The size of a host's place, and of what a call tells of an event: its kind, and 8 bytes on its size. */
 const PLACE = 16, SIZE_AT = 8;
@@ -167,11 +154,14 @@ export class Host {
     this.calls = /** @type {Calls} */ (/** @type {unknown} */ (instance.exports));
     this.memory = /** @type {WebAssembly.Memory} */ (instance.exports.memory);
     this.bytes = new Uint8Array(0);
+    this.numbers = new DataView(this.bytes.buffer);
     this.isOver = false;
     this.input = new Room(this.calls, ROOM);
     this.output = new Room(this.calls, ROOM);
     this.told = new Room(this.calls, PLACE);
     this.sizePlace = this.told.place + BigInt(SIZE_AT);
+    // where the bytes of the event are that was fetched
+    this.from = this.until = 0;
     const { at, place } = new Room(this.calls, PLACE);
     this.place = place;
     this.seen().fill(0, at, at + PLACE); // closed
@@ -184,42 +174,42 @@ export class Host {
    * @param {number} now @param {Uint8Array} datagram */
   came(now, datagram) {
     const moment = BigInt(now), length = BigInt(datagram.length);
-    return this.answer(() => this.calls.wb_came(this.place, moment, this.given(datagram), length));
+    return this.guarded(() => this.answer(this.calls.wb_came(this.place, moment, this.given(datagram), length)));
   }
 
   /** Bytes came in from an origin, at a judged host.
    * @param {number} now @param {OriginNumbers} origin @param {Uint8Array} datagram */
   cameFrom(now, { place, owner }, datagram) {
     const moment = BigInt(now), length = BigInt(datagram.length);
-    return this.answer(() => this.calls.wb_came_from(this.place, moment, place, owner ?? 0n, Number(owner !== null), this.given(datagram), length));
+    return this.guarded(() => this.answer(this.calls.wb_came_from(this.place, moment, place, owner ?? 0n, Number(owner !== null), this.given(datagram), length)));
   }
 
   /** The time of day at a moment, in microseconds since 1970, at a judged host.
    * @param {number} now @param {number} time */
   wall(now, time) {
     const moment = BigInt(now), day = BigInt(time);
-    return this.answer(() => this.calls.wb_wall(this.place, moment, day));
+    return this.guarded(() => this.answer(this.calls.wb_wall(this.place, moment, day)));
   }
 
   /** The network says that whoever spoke from an origin is gone, at a judged host.
    * @param {number} now @param {OriginNumbers} origin */
   gone(now, { place, owner }) {
     const moment = BigInt(now);
-    return this.answer(() => this.calls.wb_gone(this.place, moment, place, owner ?? 0n, Number(owner !== null)));
+    return this.guarded(() => this.answer(this.calls.wb_gone(this.place, moment, place, owner ?? 0n, Number(owner !== null))));
   }
 
   /** Time goes on to a moment.
    * @param {number} now */
   tick(now) {
     const moment = BigInt(now);
-    return this.answer(() => this.calls.wb_tick(this.place, moment));
+    return this.guarded(() => this.answer(this.calls.wb_tick(this.place, moment)));
   }
 
   /** The user draws what the drawop of these bytes does, on its page and at its time; it gets a name of its own.
    * @param {number} now @param {Uint8Array} drawop */
   add(now, drawop) {
     const moment = BigInt(now), length = BigInt(drawop.length);
-    return this.answer(() => this.calls.wb_add(this.place, moment, this.given(drawop), length));
+    return this.guarded(() => this.answer(this.calls.wb_add(this.place, moment, this.given(drawop), length)));
   }
 
   /** The events of a question (include/wb.h), or why it is none.
@@ -243,16 +233,32 @@ export class Host {
     return due < 0n ? null : Number(due); // WB_NEVER has all bits
   }
 
-  /** Makes a call, and takes its events.
-   * @param {() => number} call */
-  answer(call) {
-    return this.guarded(() => {
-      const status = this.must(call()), answer = new Answer();
-      if (status !== DONE) answer.refused = refusalOf(status);
-      else for (let kind = this.next(); kind; kind = this.next()) TELLS[kind]?.(answer, this);
-      answer.due = this.nextDue();
-      return answer;
-    });
+  /** What a call came to that has this status: its events are taken.
+   * @param {number} status */
+  answer(status) {
+    const answer = new Answer();
+    if (this.must(status) !== DONE) answer.refused = refusalOf(status);
+    else for (let kind = this.next(); kind; kind = this.next()) this.tell(kind, answer);
+    answer.due = this.nextDue();
+    return answer;
+  }
+
+  /** What the event that was fetched tells. Those of questions are handed on as they are.
+   * @param {number} kind @param {Answer} answer */
+  tell(kind, answer) {
+    switch (kind) {
+      case 1: answer.send.push(this.copied()); break;
+      case 2: answer.became = 'new'; break;
+      case 3: answer.became = 'again'; break;
+      case 4: answer.became = 'clash'; break;
+      case 5: answer.became = 'full'; break;
+      case 12: answer.dropped = DROPS[this.numberIn(0) - 1]; break;
+      case 13: answer.records.push(this.textIn()); break;
+      case 14: answer.drew.push(`${this.numberIn(0)} ${this.numberIn(1)}/${this.numberIn(2)} ${this.numberIn(3)}`); break;
+      case 15: answer.fetch = { place: this.longIn(0), owner: this.sizeIn() > 16 ? this.longIn(2) : null, lacking: this.longIn(1) }; break;
+      case 16: answer.warning = WARNINGS[this.numberIn(0) - 1] + (this.sizeIn() > 4 ? ` ${this.numberIn(1)}` : ''); break;
+      default:
+    }
   }
 
   // ---- calls by lines
@@ -288,7 +294,8 @@ export class Host {
 
   /** The bytes of the memory: others after it has grown. */
   seen() {
-    if (this.bytes.buffer !== this.memory.buffer) this.bytes = new Uint8Array(this.memory.buffer);
+    const { buffer } = this.memory;
+    if (this.bytes.buffer !== buffer) [this.bytes, this.numbers] = [new Uint8Array(buffer), new DataView(buffer)];
     return this.bytes;
   }
 
@@ -300,51 +307,55 @@ export class Host {
     return this.input.place;
   }
 
-  /** The number that a call wrote, as many bytes behind the place for that.
-   * @param {number} behind */
-  number(behind) {
-    const at = this.told.at + behind, bytes = this.seen();
-    return bytes[at] + (bytes[at + 1] << 8) + (bytes[at + 2] << 16) + bytes[at + 3] * 2 ** 24;
-  }
-
+  /** The size that a call told. */
   size() {
-    return this.number(SIZE_AT);
+    this.seen();
+    return this.numbers.getUint32(this.told.at + SIZE_AT, true);
   }
 
   /** Fetches the next event, and gives its kind; 0 if none waits.
    * @returns {number} */
   next() {
-    const { calls, place, told, output, sizePlace } = this, status = this.must(calls.wb_event(place, told.place, output.place, output.length, sizePlace));
+    const { calls, place, output, told } = this, status = this.must(calls.wb_event(place, told.place, output.place, output.length, this.sizePlace));
     if (status === NOTHING) return 0;
-    if (status === DONE) return this.number(0);
-    output.reach(this.size());
-    return this.next();
+    const size = this.size();
+    if (status === WAITS) {
+      output.reach(size);
+      return this.next();
+    }
+    this.from = output.at;
+    this.until = output.at + size;
+    return this.numbers.getUint32(told.at, true);
   }
 
   /** The bytes of the event that was fetched. */
   copied() {
-    return this.seen().slice(this.output.at, this.output.at + this.size());
+    return this.bytes.slice(this.from, this.until);
   }
 
-  /** The text of the event that was fetched: a line of the record. For so few letters a decoder takes longer. */
+  sizeIn() {
+    return this.until - this.from;
+  }
+
+  /** Its text: a line of the record. For a few letters a decoder takes longer. */
   textIn() {
-    const { at } = this.output, bytes = this.seen(), end = at + this.size();
+    const { bytes, from, until } = this;
+    if (until - from > FEW_LETTERS) return readLetters.decode(bytes.subarray(from, until));
     let text = '';
-    for (let i = at; i < end; i += 1) text += String.fromCharCode(bytes[i]);
+    for (let at = from; at < until; at += 1) text += String.fromCharCode(bytes[at]);
     return text;
   }
 
-  /** A number of the event that was fetched, by its place among those.
+  /** A number of it, by its place among those.
    * @param {number} index */
   numberIn(index) {
-    const at = this.output.at + 4 * index, bytes = this.seen();
-    return bytes[at] * 2 ** 24 + (bytes[at + 1] << 16) + (bytes[at + 2] << 8) + bytes[at + 3];
+    return this.numbers.getUint32(this.from + 4 * index);
   }
 
   /** The same of numbers of 64 bits.
    * @param {number} index */
   longIn(index) {
-    return (BigInt(this.numberIn(2 * index)) << 32n) + BigInt(this.numberIn(2 * index + 1));
+    return this.numbers.getBigUint64(this.from + 8 * index);
   }
 
   // ---- its end

@@ -1,8 +1,8 @@
 /** What a member tells the board: what changed on the page, the pages, who is there, what is missing and what goes by. `live/telling.py`
  * once more. */
 import { COLUMNS } from './board.js';
-import { Sheet } from './drawn.js';
 import { Reported } from './reported.js';
+import { Showing } from './showing.js';
 import { fieldsOf, orderOfPages } from './views.js';
 
 /** @typedef {import('./views.js').Drawop} Drawop */
@@ -13,8 +13,8 @@ const LEAST_PAUSE = 15, PART = 6;
 /** Milliseconds between two tellings of who is there, and of the pages. */
 const MEMBERS_PAUSE = 500, PAGES_PAUSE = 100;
 
-/** Milliseconds from a change to the comparison of what views show with the host's view, which takes one part in this many of the time at most. */
-const CHECK_PAUSE = 2_000, CHECK_PART = 50;
+/** The most pages of which it remembers what they show, so that one who turns back sees them at once. */
+const MOST_SHOWINGS = 16;
 
 const MOST_PAGES = 1_000, MOST_MEMBERS = 500;
 
@@ -35,14 +35,16 @@ export class Telling {
     this.post = post;
     this.isChanged = true;
     this.arePagesChanged = true;
-    this.nextAt = this.nextMembers = this.nextPages = this.checkAt = 0;
-    this.isChecked = true;
-    this.differences = 0;
+    this.nextAt = this.nextMembers = this.nextPages = 0;
     this.hello = '';
-    this.page = ''; // that was told last
-    /** The drawings that the board knows of, shown or hidden.
-     * @type {Set<string>} */
-    this.names = new Set();
+    /** What the board has.
+     * @type {Showing | null} */
+    this.page = null;
+    /** @type {Map<string, Showing>} */
+    this.showings = new Map();
+    /** That told these.
+     * @type {import('./host.js').Host | null} */
+    this.host = null;
     /** @type {string[]} */
     this.rows = [];
     /** @type {Map<string, number>} */
@@ -54,7 +56,7 @@ export class Telling {
 
   /** Milliseconds until an update is due. */
   pause() {
-    const moments = [this.nextMembers, ...this.isChanged ? [this.nextAt] : this.isChecked ? [] : [this.checkAt], ...this.arePagesChanged ? [this.nextPages] : []];
+    const moments = [this.nextMembers, ...this.isChanged ? [this.nextAt] : [], ...this.arePagesChanged ? [this.nextPages] : []];
     return Math.max(0, Math.min(...moments) - performance.now());
   }
 
@@ -68,7 +70,6 @@ export class Telling {
       await this.tellBoard();
       const ended = performance.now();
       this.nextAt = ended + Math.max(LEAST_PAUSE, (PART - 1) * (ended - began));
-      [this.checkAt, this.isChecked] = [Math.max(this.checkAt, ended + CHECK_PAUSE), false];
     }
     if (this.arePagesChanged && began >= this.nextPages) {
       this.arePagesChanged = false;
@@ -80,7 +81,6 @@ export class Telling {
       this.tellHealth();
       this.nextMembers = performance.now() + MEMBERS_PAUSE;
     }
-    if (!this.isChecked && !this.isChanged && began >= this.checkAt) await this.check();
   }
 
   tellHello() {
@@ -94,54 +94,46 @@ export class Telling {
 
   // ---- the page
 
-  /** The whole of another page, and of the same what changed since. */
+  /** The whole of another page, and of one of which another host shows something else; and of the same what changed since. */
   async tellBoard() {
-    const { page, drawn, board } = this.member, rows = await board.canvas(page), sheet = drawn.sheet(page), { changed } = sheet;
-    sheet.changed = new Map();
-    if (this.page !== page) {
-      this.post('board', this.whole(page, sheet, rows));
-      [this.page, this.arePagesChanged, this.nextMembers, this.nextPages] = [page, true, 0, 0];
-      this.names = new Set([...sheet.shown.map(({ name }) => name), ...sheet.hidden.keys()]);
-    } else if (changed.size || rows.length !== this.rows.length || rows.some((row, y) => row !== this.rows[y])) {
-      this.post('change', this.changeOf(sheet, [...changed.values()], rows));
+    const { page, drawn, board } = this.member, rows = await board.canvas(page), showing = this.showing(page);
+    let change = await showing.renew(board, drawn.sheet(page));
+    if (this.page !== showing && showing.isAs(this.page)) [this.page, change] = [showing, { before: [], added: [], hidden: [] }];
+    if (this.page !== showing) {
+      this.post('board', whole(showing, rows));
+      [this.page, this.arePagesChanged, this.nextMembers, this.nextPages] = [showing, true, 0, 0];
+    } else if (Object.values(change).some(({ length }) => length) || rows.length !== this.rows.length || rows.some((row, y) => row !== this.rows[y])) {
+      this.post('change', this.toldChange(page, change, rows));
     }
     this.rows = rows;
+  }
+
+  /** What a page shows, by the host of now.
+   * @param {string} page */
+  showing(page) {
+    const { host } = this.member.board;
+    if (this.host !== host) [this.host, this.showings] = [host, new Map()];
+    const showing = this.showings.get(page) ?? new Showing(page);
+    this.showings.delete(page);
+    this.showings.set(page, showing);
+    if (this.showings.size > MOST_SHOWINGS) this.showings.delete([...this.showings.keys()][0]);
+    return showing;
   }
 
   /** What a page shows, which need not be in view: its drawings in the order of display, what was deleted, and its rows as the host paints them.
    * @param {string} page */
   async boardOf(page) {
-    return this.whole(page, this.member.drawn.pages.get(page) ?? new Sheet(), await this.member.board.canvas(page));
+    const { board, drawn } = this.member, showing = new Showing(page);
+    await showing.renew(board, drawn.sheet(page));
+    return whole(showing, await board.canvas(page));
   }
 
-  /** @param {string} page @param {Sheet} sheet @param {string[]} rows */
-  whole(page, sheet, rows) {
-    return { page, columns: COLUMNS, rows, drawops: sheet.shown.map(fieldsOf), hidden: [...sheet.hidden.values()].map(fieldsOf) };
-  }
-
-  /** The names of what changed; where of it stands what is shown now, in the order in which it is put in; what of it is hidden; and the rows
-   * that are other ones.
-   * @param {Sheet} sheet @param {Drawop[]} changed @param {string[]} rows */
-  changeOf(sheet, changed, rows) {
-    const names = changed.filter(({ name }) => this.names.has(name)).map(({ source, seq }) => [source, seq]);
-    const added = changed.filter(({ name }) => !sheet.hidden.has(name)).map((drawop) => /** @type {const} */ ([sheet.index(drawop), drawop]))
-      .sort(([one], [other]) => one - other).map(([at, drawop]) => [at, fieldsOf(drawop)]);
-    for (const { name } of changed) this.names.add(name);
+  /** A change for the board, with the rows that are other ones.
+   * @param {string} page @param {import('./showing.js').Change} change @param {string[]} rows */
+  toldChange(page, { before, added, hidden }, rows) {
     const others = rows.map((row, y) => /** @type {const} */ ([y, row])).filter(([y, row]) => row !== this.rows[y]);
-    return { page: this.member.page, names, added, hidden: changed.filter(({ name }) => sheet.hidden.has(name)).map(fieldsOf),
-      rows: Object.fromEntries(others), height: rows.length };
-  }
-
-  /** Compares what views show with the host's view; what differs is sent again, as the host has it. */
-  async check() {
-    const began = performance.now(), { page, drawn, board } = this.member, view = await board.view(page), sheet = drawn.sheet(page);
-    this.isChecked = true;
-    if (!sheet.agrees(view)) {
-      this.differences += 1;
-      drawn.replace(page, view);
-      [this.page, this.isChanged] = ['', true];
-    }
-    this.checkAt = performance.now() + CHECK_PART * (performance.now() - began);
+    return { page, names: before.map(({ source, seq }) => [source, seq]), added: added.map(([at, drawop]) => [at, fieldsOf(drawop)]),
+      hidden: hidden.map(fieldsOf), rows: Object.fromEntries(others), height: rows.length };
   }
 
   // ---- what is noticed of what comes in, for people alone
@@ -200,7 +192,7 @@ export class Telling {
     const { page, drawn, wire, inbox, board, transport } = this.member, missing = this.reported.missing(page, drawn);
     if (missing) this.missing.add(page);
     else if (this.missing.delete(page)) this.caughtUp.set(page, board.now());
-    const counts = { ...wire.counts, dropped: inbox.dropped, foreign: transport.foreign ?? 0, starts: 1 + board.ends.length, differences: this.differences };
+    const counts = { ...wire.counts, dropped: inbox.dropped, foreign: transport.foreign ?? 0, starts: 1 + board.ends.length };
     const phrase = transport.state || this.phrase(missing);
     this.post('health', { page, phrase, missing, warnings: this.warnings(), counts, carried: !transport.state });
   }
@@ -221,4 +213,10 @@ export class Telling {
     if (passed < CAUGHT_UP) return `caught up ${Math.floor(passed / SECOND)} s ago`;
     return this.member.judging.present().length ? 'whole' : 'whole; nobody else is heard';
   }
+}
+
+/** All of a page.
+ * @param {Showing} showing @param {string[]} rows */
+function whole({ page, shown, hidden }, rows) {
+  return { page, columns: COLUMNS, rows, drawops: shown.map(fieldsOf), hidden: [...hidden.values()].map(fieldsOf) };
 }
