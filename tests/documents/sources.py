@@ -3,6 +3,7 @@
 from __future__ import annotations
 
 import re
+from functools import cache
 from pathlib import Path
 
 import pytest
@@ -40,18 +41,44 @@ def sources_of(crate: str) -> str:
     return "\n".join(it.read_text() for it in sorted(files))
 
 
-SOURCES = {crate: sources_of(crate) for crate in crates_below()}
-VALUE_TESTS = "\n".join(it.read_text() for it in sorted((TOP / "tests/value_cases").rglob("*.rt.in")))
-ALL_SOURCES = "\n".join([*SOURCES.values(), VALUE_TESTS])
-EDITS = {it.stem for it in CRATES.glob("*/must-fail/*.edit")}
-WORDS = set(re.findall(r"\w+", ALL_SOURCES)) | EDITS | set(SOURCES) | {"unsafe"}
-# beside the crates: scripts, Python and the page
-SCRIPTS = [it for part in ("live", "lab", "web", "tools", "tests", "examples") for it in (TOP / part).rglob("*") if it.suffix != ".pyc"]
-NEAR = {it.name for it in TOP.iterdir()} | {
-    word for it in [*SCRIPTS, TOP / "wb", TOP / "wb-live", TOP / "test"] if it.is_file() for word in re.findall(r"\w+", it.read_text())
-}
-CLAUSES = set(re.findall(r"\bensures\s+(\w+)", ALL_SOURCES))
-FUNCTIONS = set(re.findall(r"\b(?:fn|mod)\s+(\w+)", ALL_SOURCES))
+# each of these is read at its first use, since every process of the tests takes in this file
+
+
+@cache
+def texts() -> dict[str, str]:
+    """Of each crate all that stands in it."""
+    return {crate: sources_of(crate) for crate in crates_below()}
+
+
+@cache
+def all_text() -> str:
+    """All that is written in Rattle, with the tests of values."""
+    return "\n".join([*texts().values(), *(it.read_text() for it in sorted((TOP / "tests/value_cases").rglob("*.rt.in")))])
+
+
+@cache
+def all_words() -> set[str]:
+    """The words of all sources, and the names of crates and edits."""
+    edits = {it.stem for it in CRATES.glob("*/must-fail/*.edit")}
+    return set(re.findall(r"\w+", all_text())) | edits | set(texts()) | {"unsafe"}
+
+
+@cache
+def words_beside() -> set[str]:
+    """The words of what stands beside the crates: scripts, Python and the page."""
+    scripts = [it for part in ("live", "lab", "web", "tools", "tests", "examples") for it in (TOP / part).rglob("*") if it.suffix != ".pyc"]
+    files = [it for it in [*scripts, TOP / "wb", TOP / "wb-live", TOP / "test"] if it.is_file()]
+    return {it.name for it in TOP.iterdir()} | {word for it in files for word in re.findall(r"\w+", it.read_text())}
+
+
+@cache
+def all_clauses() -> set[str]:
+    return set(re.findall(r"\bensures\s+(\w+)", all_text()))
+
+
+@cache
+def all_functions() -> set[str]:
+    return set(re.findall(r"\b(?:fn|mod)\s+(\w+)", all_text()))
 
 
 def rows_of(document: Path) -> list[str]:

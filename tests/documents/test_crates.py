@@ -5,7 +5,7 @@ from __future__ import annotations
 import functools
 import re
 
-from .sources import CRATES, SOURCES, SPAN, TOP, crates_below, is_tests, nothing_is_wrong, rows_of
+from .sources import CRATES, SPAN, TOP, crates_below, is_tests, nothing_is_wrong, rows_of, texts
 
 # a limit of docs/FORMAT.md: its row, and the constants that keep it, each with the text of the row
 LIMITS = {
@@ -48,8 +48,8 @@ def files_of(crate: str) -> set[str]:
 @functools.cache
 def words_of(crate: str) -> set[str]:
     """The words of a crate that may be names: of lower-case letters alone, which a comment may have too, those that it declares."""
-    declared = re.findall(r"^(?:abbrev |unfoldable |pub |record |data )*([a-z]+) :|\b(?:fn|mod|type|ghost) ([a-z]+)\b", SOURCES[crate], re.MULTILINE)
-    return {it for it in re.findall(r"\w+", SOURCES[crate]) if not re.fullmatch(r"[a-z]+", it)} | {it for pair in declared for it in pair}
+    declared = re.findall(r"^(?:abbrev |unfoldable |pub |record |data )*([a-z]+) :|\b(?:fn|mod|type|ghost) ([a-z]+)\b", texts()[crate], re.MULTILINE)
+    return {it for it in re.findall(r"\w+", texts()[crate]) if not re.fullmatch(r"[a-z]+", it)} | {it for pair in declared for it in pair}
 
 
 def wrong_modules() -> list[str]:
@@ -58,7 +58,7 @@ def wrong_modules() -> list[str]:
     text, below, wrong = (TOP / "docs/ARCHITECTURE.md").read_text(), crates_below(), []
     for row in rows_of(TOP / "docs/ARCHITECTURE.md"):
         crate, *_, last = [it.strip() for it in row.strip("|").split("|")]
-        if crate in SOURCES:
+        if crate in texts():
             wrong += [f"no {crate}/specs/{it}.antt" for it in SPAN.findall(last) if not (CRATES / crate / "specs" / f"{it}.antt").exists()]
     for part in re.split(r"^### ", text, flags=re.MULTILINE)[1:]:
         crate, _, said = part.partition("\n")
@@ -66,7 +66,7 @@ def wrong_modules() -> list[str]:
         reached, ahead = set(), [crate]
         while ahead:
             name = ahead.pop()
-            if name in SOURCES and name not in reached:
+            if name in texts() and name not in reached:
                 reached.add(name)
                 ahead += below[name]
         known = set(reached) | {word for name in reached for word in words_of(name) | files_of(name)}

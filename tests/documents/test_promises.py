@@ -7,7 +7,7 @@ from pathlib import Path
 
 import pytest
 
-from .sources import ALL_SOURCES, CLAUSES, CRATES, DOCUMENTS, FUNCTIONS, NEAR, PAGES, SOURCES, SPAN, TOP, WORDS, crates_below, nothing_is_wrong, short
+from .sources import CRATES, DOCUMENTS, PAGES, SPAN, TOP, all_clauses, all_functions, all_text, all_words, crates_below, nothing_is_wrong, short, texts, words_beside
 
 def promises(page: Path, label: str) -> list[str]:
     """What follows a label, as 'refused', in the promises of a page."""
@@ -32,7 +32,7 @@ def wrong_calls(page: Path) -> list[str]:
     wrong = []
     for line in promises(page, "carried by"):
         for kind, name in names_by_kind(line):
-            known = {"call": WORDS, "clause": CLAUSES, "law": FUNCTIONS}[kind]
+            known = {"call": all_words, "clause": all_clauses, "law": all_functions}[kind]()
             if re.fullmatch(r"\w+", name) and name not in known:
                 wrong.append(f"no {kind} {name}")
     return wrong
@@ -44,7 +44,7 @@ def wrong_edits(page: Path) -> list[str]:
     for line in promises(page, "refused"):
         for part in line.split("; "):
             other = re.search(r"of (wb_\w+) `", part)
-            crate = other.group(1) if other else page.stem if page.stem in SOURCES else "*"
+            crate = other.group(1) if other else page.stem if page.stem in texts() else "*"
             wrong += [f"no edit {it}" for it in SPAN.findall(part) if not any(CRATES.glob(f"{crate}/must-fail/{it}.edit"))]
     return wrong
 
@@ -87,28 +87,28 @@ def wrong_needs(page: Path) -> list[str]:
                 wrong.append(f"no crate that stands on this one in: {part}")
                 continue
             before = part[: crate.start() + 1]
-            wrong += [f"no function {it} of {crate[1]}" for it in SPAN.findall(before) if not re.search(rf"\bfn {it}\b", SOURCES[crate[1]])]
+            wrong += [f"no function {it} of {crate[1]}" for it in SPAN.findall(before) if not re.search(rf"\bfn {it}\b", texts()[crate[1]])]
     return wrong
 
 
 def wrong_tests(page: Path) -> list[str]:
     names = [it for line in promises(page, "tested") for it in SPAN.findall(line)]
-    return [f"no test {it}" for it in names if not re.search(rf"#\[test\](?:\s*#\[.*\])*\s*fn {it}\b", ALL_SOURCES)]
+    return [f"no test {it}" for it in names if not re.search(rf"#\[test\](?:\s*#\[.*\])*\s*fn {it}\b", all_text())]
 
 
-def wrong_words(document: Path, known: set[str] = WORDS) -> list[str]:
+def wrong_words(document: Path, known: set[str]) -> list[str]:
     """Names in code type that stand nowhere in the sources, and clauses that no contract has. CRATE stands for any name."""
     text = " ".join(document.read_text().split())
     lists = re.findall(r"clauses? ((?:`\w+`(?:, | and )?)+)", text)
     clauses = {it for names in lists for it in SPAN.findall(names)}
     names = {it for it in SPAN.findall(text) if re.fullmatch(r"[A-Za-z_]\w*(::\w+)*", it)}
-    wrong = [f"no clause {it}" for it in sorted(clauses - CLAUSES)]
+    wrong = [f"no clause {it}" for it in sorted(clauses - all_clauses())]
     return wrong + [f"no name {it}" for it in sorted(names) if "CRATE" not in it and not set(it.split("::")) <= known]
 
 
 @pytest.mark.parametrize("document", [it for it in DOCUMENTS if it not in PAGES], ids=short)
 def test_names(document: Path) -> None:
-    nothing_is_wrong(wrong_words(document, WORDS | NEAR))
+    nothing_is_wrong(wrong_words(document, all_words() | words_beside()))
 
 
 PROOFS = [TOP / "docs/PROOFS.md", *PAGES]
@@ -116,7 +116,7 @@ PROOFS = [TOP / "docs/PROOFS.md", *PAGES]
 
 @pytest.mark.parametrize("page", PROOFS, ids=short)
 def test_promises(page: Path) -> None:
-    nothing_is_wrong(wrong_words(page) + wrong_calls(page))
+    nothing_is_wrong(wrong_words(page, all_words()) + wrong_calls(page))
 
 
 @pytest.mark.parametrize("page", PROOFS, ids=short)

@@ -5,6 +5,8 @@ from __future__ import annotations
 import math
 import random
 from collections import Counter
+from types import SimpleNamespace
+from typing import Any
 
 from laboratory.clocks import Clock
 from laboratory.losses import Bursts, Cut, NoLoss, OnceEach, Same, Sending, Share, ShareIn
@@ -13,6 +15,7 @@ from laboratory.program import program
 from laboratory.queues import Hop, Queues
 from laboratory.reading import Datagram
 from laboratory.runs import Settings, make_plan, run
+from laboratory.session import Session
 from laboratory.shapes import Link, Tree, bounded_pairs, labelled_pairs, make_tree
 from .checking import is_within, must_be, one_loss
 
@@ -55,6 +58,8 @@ def test_a_share_of_the_links_loses() -> None:
     assert abs(len(lost) - 2_000) < 212 and lost == sorted(set(lost)), len(lost)
     assert Share(random.Random(1), 0.1, True).places(way, Sending(1, 0, 0)) == [], "only first drawops are lost"
     assert len(Share(random.Random(1), 1.0, True).places(way, Sending(1, 0, 1))) == len(way), "all are lost"
+    outage = Share(random.Random(1), 1.0, False, (10, 20))
+    assert [len(outage.places(way, Sending(1, moment, 0))) for moment in (9, 10, 19, 20)] == [0, len(way), len(way), 0], "between two moments"
 
 
 def reached(pairs: list[tuple[int, int]], nodes: int) -> set[int]:
@@ -151,6 +156,8 @@ def test_a_queue_delays_and_drops() -> None:
     assert at_hub == Hop(datagram, True, 0, 0, frozenset())
     [(moment, there)], _ = queues.pass_on(moment, at_hub)
     assert (moment, there.node, queues.pass_on(moment, there)) == (210_000, 2, ([], []))
+    queues.pass_on(1_000_000, hop)
+    assert queues.fullest == 100, "the most that ever waited"
 
 
 def test_nothing_is_given_to_a_deaf_member() -> None:
@@ -193,3 +200,5 @@ def test_who_goes_and_comes_lacks_what_was_drawn_meanwhile() -> None:
     settings = Settings(members=3, coming=1, gone=2, start=2, draws=8, loss="none", session=1)
     assert make_plan(settings).away == {3: ((2_000_000, 4_000_000), (6_000_000, 8_000_000))}
     assert [(row.number, row.lost) for row in run(settings, program()).rows] == [(1, 1), (2, 1), (5, 1), (6, 1)], "four"
+    session: Any = SimpleNamespace(plan=make_plan(settings))
+    assert [Session.is_there(session, 3, moment) for moment in (1_999_999, 2_000_000, 3_999_999, 4_000_000)] == [True, False, False, True]

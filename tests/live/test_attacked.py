@@ -144,7 +144,7 @@ def check_attacked(facts: Facts, count: int, seconds: float, speed: int) -> None
             print("%d members, %d datagrams in %d s: %d drawings, each in %.2f s at most; equal %.0f s after it; load %.0f" % (
                 count, attacks.sent, seconds, len(drawing.times), late, time.monotonic() - began, os.getloadavg()[0]))
             facts("%d attacked: no host was started again" % count, [member.counts()["starts"] for member in members], [1] * count)
-            facts("%d attacked: what was told is what the hosts show" % count, [member.counts()["differences"] for member in members], [0] * count)
+            facts("%d attacked: what was told is what the hosts show" % count, [member.shows_all() for member in members], [True] * count)
         finally:
             facts("%d attacked: all end with 0" % count, [member.end() for member in members], [0] * count)
 

@@ -142,6 +142,9 @@ def test_hub(facts: Facts) -> None:
     wire.inbox.miss()
     wire.inbox.tell("gone")
     facts("and what is the matter with it", [(inbox.missed, inbox.trouble) for inbox in kept], [(1, "gone")] * 3)
+    late = Kept()
+    hub.place().begin(late)
+    facts("which a member that comes later is told, too", (late.missed, late.trouble), (0, "gone"))
     places[2].end()
     facts("who goes is told of to the others", kept[0].came[-1], (GONE + places[2].origin.text.encode(), places[2].origin))
     wire.inbox.arrive(b"three", HOME)
@@ -157,8 +160,9 @@ def test_keys(facts: Facts) -> None:
         write_key(path)
         facts("a new key is read again, by its owner alone", (len(key_bytes(read_key(path))), stat.S_IMODE(os.stat(path).st_mode)), (32, 0o600))
         facts("a file that is there stays as it is", fault_of(lambda: write_key(path)).endswith("can't be made: File exists"), True)
-        os.chmod(path, 0o644)
-        facts("a key that others can read", fault_of(lambda: read_key(path)), "%s can be read by others: chmod 600 %s" % (path, path))
+        for mode in (0o644, 0o640, 0o620, 0o601):
+            os.chmod(path, mode)
+            facts("a key whose file has %o" % mode, fault_of(lambda: read_key(path)), "%s can be read by others: chmod 600 %s" % (path, path))
         short = Path(folder) / "short"
         short.touch(0o600)
         short.write_text("AAAA\n")

@@ -1,9 +1,10 @@
 """A record as a film: its moments, its scenes, and where it is."""
 from __future__ import annotations
 
-from typing import List
+from types import SimpleNamespace
+from typing import Any, List
 
-from live.film import Film, times_of
+from live.film import Film, scenes_of, times_of
 
 from ..facts import Facts
 
@@ -40,3 +41,16 @@ def test_film(facts: Facts) -> None:
     film.begin_at(10**9)
     rest: List[str] = list(film.take(100))
     facts("a jump to the end", (film.at(), rest, film.due()), (7_000_000, LINES[3:], None))
+
+
+def test_scenes(facts: Facts) -> None:
+    """Who drew what when: a drawop that stands in a record twice, first as a stranger's, is one scene, at its first moment."""
+    def line(source: int, seq: int, kind: str = "line 0 0 4 0 *") -> str:
+        return "draw %d 7/1 %d 10 %s" % (source, seq, kind)
+
+    told = {"aa": line(9, 2), "bb": line(8, 1), "cc": "session-message 9 5 7/1", "dd": None}
+    words: Any = SimpleNamespace(all=lambda digits: [SimpleNamespace(words=told[each]) for each in digits])
+    lines = [line(9, 2), "tick 1000000", "say " + line(7, 1, "delete 9 2"), "tick 2000000", "datagram aa", "datagram bb", "datagram cc", "datagram dd", "tick 2500000", line(9, 1), "tick 4000000"]
+    facts("each once, and one that came after a later one of its source was late", scenes_of(Film(lines, Clock()), words), {
+        "last": 3_000, "scenes": [[0, 9, "line", False], [0, 7, "delete", False], [1_000, 8, "line", False], [1_500, 9, "line", True]],
+    })

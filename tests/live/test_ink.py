@@ -12,9 +12,9 @@ from typing import Any, Dict, List
 import pytest
 
 from live import ink
-from live.drawn import Sheet
 from live.views import Drawop
 from ..facts import Facts
+from .hosts import AtHost
 from .members import TOP
 
 NODE = shutil.which("node")
@@ -128,10 +128,9 @@ def test_orders(facts: Facts) -> None:
                          (hidden, [(7, 1, 1, ""), (8, 1, 1, "one "), (9, 2, 1, "two"), (7, 3, 1, ""), (8, 3, 2, "three four")]),
                          ([*hidden, "draw 9 7/1 4 51 restore 7 2"], [(7, 1, 3, ""), (8, 1, 1, "one "), (9, 2, 1, "two"), (8, 3, 2, "three four")])):
         for _ in range(20):
-            sheet = Sheet()
-            for line in chance.sample(held, len(held)):
-                sheet.add(Drawop(line))
-            facts("items in any order of coming", [(item.key[1], item.key[2], item.many, item.letters) for item in ink.items_of(sheet.shown)], wanted)
+            at = AtHost(*chance.sample(held, len(held)))
+            at.end()
+            facts("items in any order of coming", [(item.key[1], item.key[2], item.many, item.letters) for item in ink.items_of(at.showing.shown)], wanted)
 
 
 def long_board(many: int) -> List[Dict[str, Any]]:
@@ -172,7 +171,7 @@ def check_page(facts: Facts, node: str) -> None:
     facts("the page's ink: its tests end", (done.returncode, done.stderr), (0, ""))
     if done.returncode == 0:
         found = json.loads(done.stdout)
-        facts("the page's ink: %d judged" % found["judged"], found["wrong"], [])
+        facts("the page's ink: %d facts" % found["checked"], found["wrong"], [])
 
 
 def test_texts_of_the_vectors(facts: Facts) -> None:

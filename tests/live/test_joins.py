@@ -60,7 +60,7 @@ def check_join(facts: Facts, full: Process, drawops: int) -> Process:
     if is_measured():
         facts("within %d s" % SECONDS, took < SECONDS, True)
     facts("it shows the same", newcomer.wait_for(lambda states: states["board"]["rows"] == full.states["board"]["rows"]), True)
-    facts("it agrees with its host", newcomer.counts()["differences"], 0)
+    facts("it agrees with its host", newcomer.shows_all(), True)
     print("and %d requests" % newcomer.counts()["requests"])
     facts("it asked for few by name, since a stream came", newcomer.counts()["requests"] < max(1_000, drawops // 10), True)
     return newcomer

@@ -206,6 +206,33 @@ def test_heard(facts: Facts) -> None:
     facts("who is gone is gone", one.judging.heard.within(2 * PATIENCE), {})
 
 
+def test_forgotten(facts: Facts) -> None:
+    """Of those that it heard itself a host tells who is there. What it tells no more is forgotten, and what another place or an end has made untrue."""
+    one = One()
+    heard = one.judging.heard
+
+    def tells(at: int, speaker: int, origin: Origin, *members: str, more: str = "") -> Dict[int, Optional[int]]:
+        """How far away each is, after a report."""
+        one.at = at
+        one.says()
+        one.host.members(*members)
+        one.heed("session-message %d 78 7/1%s" % (speaker, more), origin)
+        return {number: other.distance for number, other in one.judging.present().items()}
+
+    one.meet(9, X)
+    facts("an answer tells how far away its speaker is, and nothing else of it is remembered", (heard.within(PATIENCE)[9].distance, heard.echoes), (5, {}))
+    facts("a report that answers nobody changes no distance", tells(25 + PAUSE, 9, X, "9 %s 25 125" % X.word), {9: 5})
+    facts("nor does an echo that the host takes for no answer", tells(25 + 2 * PAUSE, 9, X, "9 %s 25 225" % X.word, more=" 1@5+10"), {9: 5})
+    facts("from another place it says nothing of the distance", tells(25 + 3 * PAUSE, 9, Y, "9 %s 25 325" % Y.word), {9: None})
+    both = "9 %s 25 425" % Y.word, "8 %s - 425" % Z.word
+    facts("two are there", tells(25 + 4 * PAUSE, 8, Z, *both), {9: None, 8: None})
+    facts("for each of two the pause is as long", tells(25 + 5 * PAUSE, 9, Y, both[0]), {9: None, 8: None})
+    facts("after both, the host tells one no more", tells(25 + 6 * PAUSE, 9, Y, both[0]), {9: None})
+    facts("there speaks a member", heard.is_member(Y), True)
+    heard.leave(Y)
+    facts("and none once the network says that it is gone", (heard.is_member(Y), one.judging.present()), (False, {}))
+
+
 def test_patience(facts: Facts) -> None:
     """A member is gone after a minute, or, where many speak seldom, after three reports."""
     one = One()

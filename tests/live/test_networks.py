@@ -139,7 +139,7 @@ def test_numbers(facts: Facts) -> None:
 
 
 def has_rows(count: int, states: Dict[str, Any]) -> bool:
-    return len(states["board"]["rows"]) == count
+    return len(states["board"]["rows"]) == len(states["board"]["drawops"]) == count
 
 
 def replay(facts: Facts, record: str) -> None:
@@ -148,6 +148,7 @@ def replay(facts: Facts, record: str) -> None:
     for at, rows in ((0, 1), (shown.states["scenes"]["last"], 4)):
         shown.post("/film", {"at": at, "stopped": True})
         facts("a jump to %d ms" % at, shown.wait_for(partial(has_rows, rows)), True)
+        facts("with what the record has", shown.states["board"]["rows"], ["bbbb"] * rows)
     facts("a replay draws nothing", shown.draw("2/1", "line 0 0 3 0 c"), (422, {"ok": False, "fault": "a replay draws nothing"}))
     facts("a replay ends with 0", shown.end(), 0)
 

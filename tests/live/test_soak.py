@@ -80,6 +80,11 @@ class Soak:
         """Who draws: a member, or a window of a guest."""
         return self.members[index] if index < MEMBERS else self.windows[index - MEMBERS]
 
+    def shows_all(self, index: int) -> bool:
+        """Whether the page of one who draws is what its host shows."""
+        drawer = self.drawer(index)
+        return drawer.shows_all() if isinstance(drawer, Process) else self.served.shows_all(drawer.states, drawer.headers())
+
     def draw(self, index: int, end: float) -> None:
         """One draws on both pages until the end, and takes note of the numbers that its drawings have."""
         chance, own = random.Random(index), {page: [] for page in PAGES}  # type: random.Random, Dict[str, List[int]]
@@ -232,7 +237,7 @@ def check_soak(facts: Facts, seconds: float = SECONDS, drawings: int = DRAWINGS)
                 "%.0f and %.0f" % (sum(each[:MEMBERS]) / MEMBERS / 1024, each[MEMBERS] / 1024) for each in marks))
             healths = [soak.drawer(index).states["health"] for index in range(MEMBERS + GUESTS)]
             facts("a soak: no twin and no clash", [text for health in healths for text in health["warnings"] if "number" in text], [])
-            facts("a soak: what was told is what the hosts show", [health["counts"]["differences"] for health in healths], [0] * len(healths))
+            facts("a soak: what was told is what the hosts show", [soak.shows_all(index) for index in range(MEMBERS + GUESTS)], [True] * len(healths))
         finally:
             facts("a soak: all end with 0", soak.end(), [0] * (MEMBERS + 1))
 

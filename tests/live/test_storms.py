@@ -168,7 +168,7 @@ def check_storm(facts: Facts, seconds: float = SECONDS) -> None:
             facts("after it all boards are equal, and whole but for what was forged", wait_until_equal(records, {1, 2, 3, 4}, LONGEST), True)
             print("a storm of %d datagrams in %d s: equal %.0f s after it" % (storm.sent, seconds, time.monotonic() - began))
             facts("no host was started again", [member.counts()["starts"] for member in members], [1] * 4)
-            facts("what was told is what the hosts show", [member.counts()["differences"] for member in members], [0] * 4)
+            facts("what was told is what the hosts show", [member.shows_all() for member in members], [True] * 4)
         finally:
             facts("after a storm all end with 0", [member.end() for member in members], [0] * 4)
 

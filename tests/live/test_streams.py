@@ -230,6 +230,16 @@ def ask(place: Tuple[str, int], source: str = "127.0.0.1") -> bytes:
     return got
 
 
+def test_order(facts: Facts) -> None:
+    """All that is held comes by page, source and number, in whatever order it was drawn: so nothing seems to be missing on the way."""
+    names = [(7, (1, 1), 10), (9, (1, 2), 1), (7, (1, 1), 2), (8, (1, 1), 1), (7, (1, 2), 3), (6, (0, 5), 4)]
+    member: Any = Keeper()
+    member.drawn = SimpleNamespace(all=lambda: [SimpleNamespace(name=name, digits="%02x" % at) for at, name in enumerate(names)])
+    written: List[bytes] = []
+    Offer(member, Streams(None, None)).send_all(SimpleNamespace(write=written.append))  # type: ignore[arg-type]
+    facts("the order", list(b"".join(written)), [5, 2, 0, 3, 4, 1])
+
+
 def test_silent(facts: Facts, monkeypatch: pytest.MonkeyPatch) -> None:
     """Nobody is kept out by connections of another host that ask for nothing."""
     monkeypatch.setattr("live.joining.QUESTION_TIME", PATIENCE)

@@ -11,13 +11,13 @@ import tempfile
 from functools import partial
 from pathlib import Path
 from types import SimpleNamespace
-from typing import Any, Callable, Dict, List, Optional, Tuple
+from typing import Any, Callable, Dict, List, Optional
 
 import pytest
 
 from live.alarms import Alarms
 from live.carriers.carrier import Origin
-from live.drawn import Drawn, Sheet
+from live.drawn import Drawn
 from live import board as boards, connections, inbox as inboxes
 from live.inbox import MOST_WAITING, PACE, PACE_BYTES, Arrival, Inbox
 from live.letters import fitting, letter_rows, printable
@@ -26,10 +26,11 @@ from live.people import People
 from live.record import NoRoom, Record, RecordFault, read_played
 from live.state import folder_of, open_record
 from live.telling import MOST_REPORTED, Reported
-from live.views import Drawop, Question, Report, datagram_of, name_in, page_of
+from live.views import Drawop, Question, Report, datagram_of, name_in, name_of, page_of
 from live.waiting import Waiting
 from live.wire import MOST_CHARACTERS, MOST_REMEMBERED, Wire
 from ..facts import Facts
+from .hosts import AtHost
 from .members import PATIENCE, TOP
 
 PAGE = (7, 1)
@@ -44,7 +45,10 @@ def test_words(facts: Facts) -> None:
     told = Drawop("draw 7 7/1 1 10 line 0 1 4 1 *").fields()
     facts("a line", [told[key] for key in ("op", "x0", "y0", "x1", "y1", "glyph", "time")], ["line", 0, 1, 4, 1, "*", "10"])
     facts("the name of a request", name_in("request 8 7 7/4 2"), (7, (7, 4), 2))
-    facts("the target of a delete", Drawop("draw 8 7/1 1 20 delete 7 3").target(), (7, 3))
+    digits = "57420101000000220000000800000001000000020000000300000000000003e7"
+    facts("the name of a drawop by its digits, in both versions", [name_of(digits), name_of("57420201" + digits[8:])], [(8, (1, 2), 3)] * 2)
+    facts("what is cut off or no drawop has none", [name_of(each) for each in (digits[:47], "57420101", "57420102" + digits[8:], "")], [None] * 4)
+    facts("the target of a delete", Drawop("draw 8 7/1 1 20 delete 7 3").aimed(), (7, (7, 1), 3))
     report = Report("session-message 1 50 7/4 7=1 9=3 8@100+50")
     facts("a report", (report.speaker, report.sent, report.page, report.marks, report.echoes), (1, 50, (7, 4), {7: 1, 9: 3}, {8: (100, 50)}))
     facts("a page state", Report("page-state 9 8/1 8=4").marks, {8: 4})
@@ -57,13 +61,6 @@ def test_words(facts: Facts) -> None:
             facts("no page: " + text, True, True)
 
 
-def sheet_of(*lines: str) -> Sheet:
-    sheet = Sheet()
-    for line in lines:
-        sheet.add(Drawop(line))
-    return sheet
-
-
 def test_drawn(facts: Facts) -> None:
     """What is shown, drawop by drawop, in any order of coming."""
     lines = ["draw 7 7/1 1 10 line 0 1 4 1 *", "draw 7 7/1 2 90 line 0 1 4 1 *", "draw 8 7/1 1 50 delete 7 1", "draw 8 7/1 2 60 restore 7 1",
@@ -71,10 +68,12 @@ def test_drawn(facts: Facts) -> None:
     chance = random.Random(3)
     for _ in range(20):
         chance.shuffle(lines)
-        sheet = sheet_of(*lines)
-        facts("what is shown", [drawop.name[2] for drawop in sheet.shown], [3, 2])
-        facts("what is hidden", list(sheet.hidden), [(7, PAGE, 1)])
-    facts("a restore of equal time by a greater source", len(sheet_of(*lines, "draw 9 7/1 2 60 restore 7 1").shown), 3)
+        at = AtHost(*lines)
+        facts("what is shown", at.shown(), [(7, 3), (7, 2)])
+        facts("what is hidden", list(at.showing.hidden), [(7, PAGE, 1)])
+        names = [name for change in at.changes for name in [*change.names, *(drawop.name for drawop in change.hidden)]]
+        facts("nothing else was ever told to change, or to be hidden", set(names) - {(7, PAGE, 1)}, set())
+    facts("a restore of equal time by a greater source", len(AtHost(*lines, "draw 9 7/1 2 60 restore 7 1").shown()), 3)
     drawn = Drawn()
     for line in [*lines, lines[0]]:
         drawn.add(Drawop(line))
@@ -82,10 +81,8 @@ def test_drawn(facts: Facts) -> None:
     facts("nothing is missing", (drawn.missing(PAGE), drawn.missing((1, 1))), (0, 0))
     drawn.add(Drawop("draw 7 7/1 6 10 line 0 1 4 1 *"))
     facts("two numbers are missing", drawn.missing(PAGE), 2)
-    shown = [len(drawn.sheet((9, number)).shown) for number in range(1_000)]
-    facts("of pages that are looked at and have nothing none is remembered", (set(shown), len(drawn.pages)), ({0}, 1))
-    drawn.replace((9, 1), ["draw 7 9/1 1 10 line 0 1 4 1 *"])
-    facts("what the host alone has is shown", [drawop.name for drawop in drawn.sheet((9, 1)).shown], [(7, (9, 1), 1)])
+    counts = [len(drawn.sheet((9, number)).drawops) for number in range(1_000)]
+    facts("of pages that are looked at and have nothing none is remembered", (set(counts), len(drawn.pages)), ({0}, 1))
 
 
 def test_order(facts: Facts) -> None:
@@ -93,29 +90,23 @@ def test_order(facts: Facts) -> None:
     def line(source: int, seq: int, time: int) -> str:
         return "draw %d 7/1 %d %d line 0 1 4 1 *" % (source, seq, time)
 
-    def shown(sheet: Sheet) -> List[Tuple[int, int]]:
-        return [(drawop.name[0], drawop.name[2]) for drawop in sheet.shown]
-
-    above = sheet_of(line(8, 1, 5), line(7, 2, 5), line(7, 3, 5), line(7, 1, 5), line(9, 1, 4))
-    facts("of one time the greater source lies above, and then the greater number", shown(above), [(9, 1), (7, 1), (7, 2), (7, 3), (8, 1)])
-    back = sheet_of(line(7, 1, 5), "draw 8 7/1 1 50 delete 7 1", "draw 8 7/1 2 60 restore 7 1")
-    facts("what was restored is shown, and not hidden", (shown(back), back.hidden), ([(7, 1)], {}))
-    back.changed.clear()
+    above = AtHost(line(8, 1, 5), line(7, 2, 5), line(7, 3, 5), line(7, 1, 5), line(9, 1, 4))
+    facts("of one time the greater source lies above, and then the greater number", above.shown(), [(9, 1), (7, 1), (7, 2), (7, 3), (8, 1)])
+    back = AtHost(line(7, 1, 5), "draw 8 7/1 1 50 delete 7 1", "draw 8 7/1 2 60 restore 7 1")
+    facts("what was restored is shown, and not hidden", ([drawop.name[2] for drawop in back.showing.shown], back.showing.hidden), ([1], {}))
     for words in ("draw 8 7/1 3 70 delete 8 1", "draw 9 7/1 1 55 delete 7 1"):
-        back.add(Drawop(words))
-    facts("a delete of a delete, and an earlier one, change nothing", (shown(back), back.hidden, back.changed), ([(7, 1)], {}, {}))
-    back.add(Drawop("draw 8 7/1 4 80 delete 7 1"))
-    facts("a later one does, which is told", (shown(back), list(back.hidden), list(back.changed)), ([], [(7, PAGE, 1)], [(7, PAGE, 1)]))
-    back.replace([line(7, 1, 5)])
-    facts("of the host's view no delete is hidden", (shown(back), back.hidden), ([(7, 1)], {}))
-    late = sheet_of(line(7, 9, 5), line(7, 2, 6))
-    facts("the greatest number of a source, and how many are held, whichever came last", (late.tops, late.counts), ({7: 9}, {7: 2}))
-    held = late.drawops[7, PAGE, 2]
-    late.replace([line(7, 2, 6)])
-    facts("of the host's view what is held is shown as it is held", (late.shown[0] is held, list(late.hidden)), (True, [(7, PAGE, 9)]))
+        facts("a delete of a delete, and an earlier one, change nothing", back.add(words), ([], [], []))
+    deleted = back.add("draw 8 7/1 4 80 delete 7 1")
+    facts("a later one does, which is told", (deleted.names, [drawop.name for drawop in deleted.hidden], deleted.added), ([(7, PAGE, 1)], [(7, PAGE, 1)], []))
+    facts("it is hidden", (back.shown(), list(back.showing.hidden)), ([], [(7, PAGE, 1)]))
+    late = AtHost(line(7, 9, 5), line(7, 2, 6))
+    sheet = late.drawn.sheet(PAGE)
+    facts("the greatest number of a source, and how many are held, whichever came last", (sheet.tops, sheet.counts), ({7: 9}, {7: 2}))
+    facts("what is held is shown as it is held", late.showing.shown, list(sheet.drawops.values()))
+    late.board.tell("held " + line(7, 4, 5))  # of which the member knows nothing
     for words in (line(7, 3, 6), line(7, 10, 5)):
-        late.add(Drawop(words))
-    facts("and what comes then has its place", shown(late), [(7, 10), (7, 2), (7, 3)])
+        late.add(words)
+    facts("what the host alone has is shown, and what comes then has its place", late.shown(), [(7, 4), (7, 9), (7, 10), (7, 2), (7, 3)])
     drawn = Drawn()
     for words in (line(7, 9, 5), line(7, 2, 6)):
         drawn.add(Drawop(words))
@@ -301,7 +292,7 @@ def test_taken_back(facts: Facts, monkeypatch: pytest.MonkeyPatch) -> None:
     record.add("board 1 16 1 42")
     record.add("tick 5", "tick 6")
     record.take_back()
-    facts("two lines that were added at once", record.text(), b"board 1 16 1 42\n")
+    facts("two lines that were added at once", (record.text(), os.fstat(record.file).st_size), (b"board 1 16 1 42\n", 16))
     record.add("tick 7")
     write = os.pwrite
     with monkeypatch.context() as patch:
@@ -414,6 +405,17 @@ def test_new_page(facts: Facts) -> None:
     facts("another than one that is drawn on", people.new_page(), {"page": "7/4"})
     member.page = (7, 9)
     facts("one that is empty yet", (people.new_page(), turned), ({"page": "7/9"}, [(7, 2), (7, 4), (7, 4), (7, 9)]))
+
+
+def test_undo(facts: Facts) -> None:
+    """What we drew last is deleted, wherever its time puts it: of drawings that the host shows on the page in view."""
+    deleted: List[Any] = []
+    shown = {PAGE: [(7, PAGE, 2), (7, PAGE, 1), (8, PAGE, 4)], (7, 2): [(7, (7, 2), 5)]}
+    member: Any = SimpleNamespace(me=7, page=PAGE, board=SimpleNamespace(view=shown.__getitem__), is_ready=True)
+    people = People(member)
+    people.draw_now = lambda page, operation: deleted.append((page, operation)) or {}  # type: ignore[assignment, func-returns-value]
+    people.undo()
+    facts("the greatest number of ours that is shown", deleted, [(PAGE, "delete 7 2")])
 
 
 def test_options(facts: Facts) -> None:

@@ -13,10 +13,10 @@ import { keptInks, movedInk, placed, writeLink, writeShape, writeStroke, writeWo
 import { awayFrom } from './away.mjs';
 
 const wrong = [];
-let judged = 0;
+let checked = 0;
 
-function judge(name, found, wanted) {
-  judged += 1;
+function check(name, found, wanted) {
+  checked += 1;
   if (JSON.stringify(found) !== JSON.stringify(wanted)) wrong.push(`${name}: ${JSON.stringify(found)}, not ${JSON.stringify(wanted)}`);
 }
 
@@ -39,9 +39,9 @@ const drawings = (texts, source = 1, first = 1) => texts.map((text, i) => ({ ...
 // ---- reading
 
 function testVectors({ reads, plain, items }) {
-  for (const { what, text, ink } of reads) judge(`reads: ${what}`, toldInk(readInk(text)), ink);
-  for (const { what, text } of plain) judge(`plain text: ${what}`, readInk(text), null);
-  for (const { what, drawops, items: wanted } of items) judge(`items: ${what}`, toldItems(drawops), wanted);
+  for (const { what, text, ink } of reads) check(`reads: ${what}`, toldInk(readInk(text)), ink);
+  for (const { what, text } of plain) check(`plain text: ${what}`, readInk(text), null);
+  for (const { what, drawops, items: wanted } of items) check(`items: ${what}`, toldItems(drawops), wanted);
 }
 
 /** Each text that reads is written from what it reads as. */
@@ -51,23 +51,23 @@ function testBack({ reads }) {
     if (goesOn && kind === 't') continue;
     const texts = 'shv'.includes(kind) ? writeStroke(look, points, goesOn).map((written) => written.text)
       : kind === 't' ? writeWords(look, flag, points[0], letters) : kind === 'k' ? [writeLink(look, points[0], letters)] : writeShape(kind, look, flag, points, letters);
-    judge(`writes: ${what}`, texts, [text]);
+    check(`writes: ${what}`, texts, [text]);
   }
 }
 
 function testSigns() {
-  judge('values of signs', ['!', '#', '[', ']', '}', '~', '"', '\\', ' '].map(numberOf), [0, 1, 57, 58, 90, 91, null, null, null]);
-  judge('numbers', [spelled(0, 3), spelled(262143, 3), numberOf('@|E'), numberOf('](Y')], ['!!!', '@|E', 262143, 491519]);
-  judge('ways', [0, 10, 25, 44, 45, 46, 65, 66, 80, 81, 90].map(wayOf), [-100, -50, -20, -1, 0, 1, 20, 22, 50, 55, 100]);
-  judge('each way has its value', Array.from({ length: 91 }, (_, value) => valueFor(wayOf(value)) === value).every(Boolean), true);
-  judge('and each number the nearest', Array.from({ length: 201 }, (_, i) => i - 100).filter((way) => Math.abs(wayOf(valueFor(way)) - way) > 2), []);
+  check('values of signs', ['!', '#', '[', ']', '}', '~', '"', '\\', ' '].map(numberOf), [0, 1, 57, 58, 90, 91, null, null, null]);
+  check('numbers', [spelled(0, 3), spelled(262143, 3), numberOf('@|E'), numberOf('](Y')], ['!!!', '@|E', 262143, 491519]);
+  check('ways', [0, 10, 25, 44, 45, 46, 65, 66, 80, 81, 90].map(wayOf), [-100, -50, -20, -1, 0, 1, 20, 22, 50, 55, 100]);
+  check('each way has its value', Array.from({ length: 91 }, (_, value) => valueFor(wayOf(value)) === value).every(Boolean), true);
+  check('and each number the nearest', Array.from({ length: 201 }, (_, i) => i - 100).filter((way) => Math.abs(wayOf(valueFor(way)) - way) > 2), []);
 }
 
 function testLetters() {
   const all = [...Array(0x5f0e0).keys()].filter((code) => code === 10 || (code >= 32 && code !== 127 && (code < 0xd800 || code > 0xdfff)));
-  judge('each letter is read as it was written', all.filter((code) => readLetters(writeLetters(String.fromCodePoint(code)).join('')) !== String.fromCodePoint(code)), []);
-  judge('letters that there are not', writeLetters('a\t\u007f\ud800\u{5f0e0}\u{10ffff}').join(''), 'a?????');
-  judge('a row of 3999 is no ink', itemsOf(drawings(['~s$1!hV#HJ']).map((drawing) => ({ ...drawing, y: FIRST_ROW - 1 })))[0].kind, 'text');
+  check('each letter is read as it was written', all.filter((code) => readLetters(writeLetters(String.fromCodePoint(code)).join('')) !== String.fromCodePoint(code)), []);
+  check('letters that there are not', writeLetters('a\t\u007f\ud800\u{5f0e0}\u{10ffff}').join(''), 'a?????');
+  check('a row of 3999 is no ink', itemsOf(drawings(['~s$1!hV#HJ']).map((drawing) => ({ ...drawing, y: FIRST_ROW - 1 })))[0].kind, 'text');
 }
 
 // ---- writing
@@ -102,9 +102,9 @@ function testStrokes() {
       for (let many = 0; many < 6; many += 1) {
         const points = strokeOf(chance, scale), look = { kind, colour: chance(10), width: chance(9), scale }, texts = writeStroke(look, points).map(({ text }) => text);
         const inks = texts.map(readInk), items = itemsOf(drawings(texts)), found = items.flatMap((item) => item.points);
-        judge(`texts of a ${kind} of scale ${scale} read`, inks.filter((ink) => ink?.kind !== kind || ink.colour !== look.colour || ink.width !== look.width || ink.flag < scale), []);
-        judge(`a ${kind} of scale ${scale} is one item`, items.length, Math.ceil(texts.length / 256));
-        judge(`a ${kind} of scale ${scale} is there`, missed(points, found, 2.5 * 2 ** scale, kind === 'v'), []);
+        check(`texts of a ${kind} of scale ${scale} read`, inks.filter((ink) => ink?.kind !== kind || ink.colour !== look.colour || ink.width !== look.width || ink.flag < scale), []);
+        check(`a ${kind} of scale ${scale} is one item`, items.length, Math.ceil(texts.length / 256));
+        check(`a ${kind} of scale ${scale} is there`, missed(points, found, 2.5 * 2 ** scale, kind === 'v'), []);
       }
     }
   }
@@ -114,12 +114,12 @@ function testCurves({ curves }) {
   const rounded = ({ x, y }) => ({ x: Math.round(1000 * x) / 1000, y: Math.round(1000 * y) / 1000 });
   for (const { what, points, cubics } of curves) {
     const stroke = points.map(({ x, y, lift }) => ({ x, y, ...(lift ? { up: true } : {}) })), steps = [...stroke.keys()].slice(1).filter((i) => !stroke[i].up).map((i) => i - 1);
-    judge(`curve: ${what}`, steps.map((i) => ({ from: rounded(stroke[i]), middles: bend(stroke, i).map(rounded), to: rounded(stroke[i + 1]) })), cubics);
+    check(`curve: ${what}`, steps.map((i) => ({ from: rounded(stroke[i]), middles: bend(stroke, i).map(rounded), to: rounded(stroke[i + 1]) })), cubics);
   }
   const at = (part) => along({ x: 0, y: 0 }, { x: 0, y: 100 }, { x: 100, y: 100 }, { x: 100, y: 0 }, part);
-  judge('points of a cubic', [at(0), at(0.5), at(1)], [{ x: 0, y: 0 }, { x: 50, y: 75 }, { x: 100, y: 0 }]);
-  judge('how far off a way', [{ x: 5, y: 3 }, { x: -3, y: 4 }, { x: 13, y: -4 }].map((point) => off(point, { x: 0, y: 0 }, { x: 10, y: 0 })), [3, 5, 5]);
-  judge('of no length', off({ x: 3, y: 4 }, { x: 0, y: 0 }, { x: 0, y: 0 }), 5);
+  check('points of a cubic', [at(0), at(0.5), at(1)], [{ x: 0, y: 0 }, { x: 50, y: 75 }, { x: 100, y: 0 }]);
+  check('how far off a way', [{ x: 5, y: 3 }, { x: -3, y: 4 }, { x: 13, y: -4 }].map((point) => off(point, { x: 0, y: 0 }, { x: 10, y: 0 })), [3, 5, 5]);
+  check('of no length', off({ x: 3, y: 4 }, { x: 0, y: 0 }, { x: 0, y: 0 }), 5);
 }
 
 /** Points of the screen, of 6.4 units each: what a mouse tells at 100 %. */
@@ -136,16 +136,16 @@ function testHands() {
     zigzag: [handOf(100, (i) => ({ x: 300 + 3 * i, y: 900 + 5 * (i % 20 < 10 ? i % 20 : 20 - (i % 20)) })), 1] };
   for (const [name, [hand, most]] of Object.entries(hands)) {
     const texts = writeStroke(look, fitted(hand, near)).map(({ text }) => text), [{ points }] = itemsOf(drawings(texts));
-    judge(`${name}: texts`, texts.length <= most, true);
-    judge(`${name}: within one and a third points of the screen`, awayFrom(hand, points) < 1.34 * UNITS, true);
+    check(`${name}: texts`, texts.length <= most, true);
+    check(`${name}: within one and a third points of the screen`, awayFrom(hand, points) < 1.34 * UNITS, true);
   }
   const from = { x: 20000, y: 20000 }, ends = Array.from({ length: 90 }, (_, i) => (i * Math.PI) / 180).map((turn) => ({ x: 20000 + Math.round(5760 * Math.cos(turn)), y: 20000 + Math.round(5760 * Math.sin(turn)) }));
   const ways = ends.map((to) => ({ to, texts: writeStroke(look, [from, to]).map(({ text }) => readInk(text)) }));
-  judge('a straight stroke of 900 points, in any direction, is one text', ways.filter(({ texts }) => texts.length > 1), []);
+  check('a straight stroke of 900 points, in any direction, is one text', ways.filter(({ texts }) => texts.length > 1), []);
   const beside = (point, to) => Math.abs((point.x - from.x) * (to.y - from.y) - (point.y - from.y) * (to.x - from.x)) / 5760;
-  judge('and up to its end straight within two units, a third of a point of the screen', ways.filter(({ to, texts: [{ points }] }) => Math.max(...points.slice(0, -1).map((point) => beside(point, to))) > 2), []);
-  judge('a dot', fitted([{ x: 5.4, y: 7.6 }], 1), [{ x: 5, y: 8 }]);
-  judge('what else a point has stays', fitted([{ x: 1, y: 1, i: 7 }, { x: 9, y: 1, i: 8 }], 1).map(({ i }) => i), [7, 8]);
+  check('and up to its end straight within two units, a third of a point of the screen', ways.filter(({ to, texts: [{ points }] }) => Math.max(...points.slice(0, -1).map((point) => beside(point, to))) > 2), []);
+  check('a dot', fitted([{ x: 5.4, y: 7.6 }], 1), [{ x: 5, y: 8 }]);
+  check('what else a point has stays', fitted([{ x: 1, y: 1, i: 7 }, { x: 9, y: 1, i: 8 }], 1).map(({ i }) => i), [7, 8]);
 }
 
 /** A stroke in pieces, each sent when its text is full, is the stroke written at once. */
@@ -159,35 +159,35 @@ function testPieces() {
     left = more.length ? [first.end, ...left.slice(first.upTo + 1)] : [];
     goesOn = true;
   }
-  judge('in pieces as at once', itemsOf(drawings(pieces))[0].points, itemsOf(drawings(whole))[0].points);
-  judge('a text after a lift begins where the pen is put down', [writeStroke(look, [{ x: 9, y: 9 }, { x: 50, y: 50, up: true }, { x: 60, y: 50 }], true).map(({ text }) => readInk(text).points)],
+  check('in pieces as at once', itemsOf(drawings(pieces))[0].points, itemsOf(drawings(whole))[0].points);
+  check('a text after a lift begins where the pen is put down', [writeStroke(look, [{ x: 9, y: 9 }, { x: 50, y: 50, up: true }, { x: 60, y: 50 }], true).map(({ text }) => readInk(text).points)],
     [[[{ x: 50, y: 50 }, { x: 60, y: 50 }]]]);
   const [{ upTo, part }] = writeStroke({ ...look, scale: 0 }, [{ x: 0, y: 0 }, { x: 60000, y: 7001 }]);
-  judge('a way that fills a text is written in part', [upTo, part > 0 && part < 1], [0, true]);
+  check('a way that fills a text is written in part', [upTo, part > 0 && part < 1], [0, true]);
 }
 
 function testShapes() {
   const look = { colour: 3, width: 2 }, at = [{ x: 640, y: 1200 }, { x: 1920, y: 1800 }], letters = 'Größe '.repeat(40);
   const note = itemsOf(drawings(writeShape('n', look, 1, at, letters)));
-  judge('a note of many letters', note.map(({ kind, letters: all, points }) => [kind, all, points]), [['n', letters, at]]);
-  judge('words of many letters', itemsOf(drawings(writeWords(look, 2, at[0], letters))).map((item) => [item.letters, item.flag]), [[letters, 2]]);
-  judge('a text is filled to its end', [writeWords(look, 0, at[0], 'x'.repeat(54)), writeWords(look, 0, at[0], 'x'.repeat(55))].map((texts) => texts.map(({ length }) => length)), [[64], [64, 11]]);
+  check('a note of many letters', note.map(({ kind, letters: all, points }) => [kind, all, points]), [['n', letters, at]]);
+  check('words of many letters', itemsOf(drawings(writeWords(look, 2, at[0], letters))).map((item) => [item.letters, item.flag]), [[letters, 2]]);
+  check('a text is filled to its end', [writeWords(look, 0, at[0], 'x'.repeat(54)), writeWords(look, 0, at[0], 'x'.repeat(55))].map((texts) => texts.map(({ length }) => length)), [[64], [64, 11]]);
   const steps = (many) => writeStroke({ ...look, kind: 's', scale: 0 }, Array.from({ length: many + 1 }, (_, i) => ({ x: 9 * i, y: i % 2 }))).map(({ text }) => text.length);
-  judge('and so by steps', [steps(27), steps(28)], [[64], [64, 12]]);
-  judge('no words', writeWords(look, 0, at[0], ''), []);
-  judge('no link', [writeLink(look, at[0], 'javascript:alert(1)'), writeLink(look, at[0], `https://a/${'b'.repeat(50)}`)], [null, null]);
-  judge('a corner off the page is put on it', readInk(writeShape('l', look, 0, [{ x: -5, y: 3.5 }, { x: 1e9, y: 1e9 }])[0]).points, [{ x: 0, y: 4 }, { x: PAGE_WIDE - 1, y: PAGE_HIGH - 1 }]);
+  check('and so by steps', [steps(27), steps(28)], [[64], [64, 12]]);
+  check('no words', writeWords(look, 0, at[0], ''), []);
+  check('no link', [writeLink(look, at[0], 'javascript:alert(1)'), writeLink(look, at[0], `https://a/${'b'.repeat(50)}`)], [null, null]);
+  check('a corner off the page is put on it', readInk(writeShape('l', look, 0, [{ x: -5, y: 3.5 }, { x: 1e9, y: 1e9 }])[0]).points, [{ x: 0, y: 4 }, { x: PAGE_WIDE - 1, y: PAGE_HIGH - 1 }]);
 }
 
 function testMoves({ reads }) {
   for (const { what, text } of reads) {
     const ink = readInk(text), [dx, dy] = keptInks([ink], -300, 777);
-    judge(`moved: ${what}`, readInk(movedInk(text, dx, dy)).points, ink.points.map((point) => ({ ...point, x: point.x + dx, y: point.y + dy })));
-    judge(`and back: ${what}`, movedInk(movedInk(text, dx, dy), -dx, -dy), text);
+    check(`moved: ${what}`, readInk(movedInk(text, dx, dy)).points, ink.points.map((point) => ({ ...point, x: point.x + dx, y: point.y + dy })));
+    check(`and back: ${what}`, movedInk(movedInk(text, dx, dy), -dx, -dy), text);
   }
-  judge('not off the page', [movedInk('~s$1!hV#HJ', -6401, 0), movedInk('~s$1!hV#HJ', 0, 479520), movedInk('no ink', 1, 1)], [null, null, null]);
-  judge('as far as all stay on the page', keptInks([readInk('~s$1!hV#HJ'), readInk('~hC2!!!!!!sOsP')], -50, 1e6), [0, 479519]);
-  judge('places of inks', [0, 63, 64, 6143, 6144].map((n) => placed('', n)).map(({ x, y }) => [x, y]), [[0, 4000], [4032, 4000], [0, 4001], [4032, 4095], [0, 4000]]);
+  check('not off the page', [movedInk('~s$1!hV#HJ', -6401, 0), movedInk('~s$1!hV#HJ', 0, 479520), movedInk('no ink', 1, 1)], [null, null, null]);
+  check('as far as all stay on the page', keptInks([readInk('~s$1!hV#HJ'), readInk('~hC2!!!!!!sOsP')], -50, 1e6), [0, 479519]);
+  check('places of inks', [0, 63, 64, 6143, 6144].map((n) => placed('', n)).map(({ x, y }) => [x, y]), [[0, 4000], [4032, 4000], [0, 4001], [4032, 4095], [0, 4000]]);
 }
 
 // ---- letters in a text
@@ -196,10 +196,10 @@ function testText() {
   const board = (...drawops) => ({ page: '1/1', drawops, hidden: [], rows: ['', drawops.length > 1 ? ' cells' : ''] }), look = { colour: 0, width: 2 };
   const words = (source, x, y, letters) => drawings(writeWords(look, 0, { x, y }, letters), source), plain = { op: 'text', x: 1, y: 1, text: 'cells', source: 9, seq: 1, time: '1' };
   const ink = [...words(1, 640, 9000, 'two\nlines'), ...words(2, 9000, 100, '\u03c0'), ...words(3, 640, 100, 'a long text of letters '.repeat(5)), ...drawings(['~s$1!hV#HJ'], 4)];
-  judge('the letters of ink below the rows', textOf(board(plain, ...ink)), `\n cells\n\n${'a long text of letters '.repeat(5)}\n\u03c0\ntwo\nlines\n`);
-  judge('letters alone', textOf(board(...words(1, 0, 0, 'a'))), 'a\n');
-  judge('ink without letters', textOf(board(...drawings(['~s$1!hV#HJ']))), '\n');
-  judge('a plain text in a row of ink', textOf(board({ ...plain, y: 4000 })), 'cells\n'.padStart(7));
+  check('the letters of ink below the rows', textOf(board(plain, ...ink)), `\n cells\n\n${'a long text of letters '.repeat(5)}\n\u03c0\ntwo\nlines\n`);
+  check('letters alone', textOf(board(...words(1, 0, 0, 'a'))), 'a\n');
+  check('ink without letters', textOf(board(...drawings(['~s$1!hV#HJ']))), '\n');
+  check('a plain text in a row of ink', textOf(board({ ...plain, y: 4000 })), 'cells\n'.padStart(7));
 }
 
 // ---- pictures
@@ -207,12 +207,12 @@ function testText() {
 function testSvg() {
   const svg = (...texts) => svgOfInk(itemsOf(drawings(texts)), { colourOf: ({ colour }) => `c${colour}` }, { paper: 'white', ink: 'black' }, 'a <page>');
   const lines = [...svg('~v%0!({!/&!dOOdO}').matchAll(/<line x1="([\d.]+)" y1="([\d.]+)" x2="([\d.]+)" y2="([\d.]+)" stroke-width="([\d.]+)"/g)].map((found) => found.slice(1).map(Number));
-  judge('a stroke with pressure has its widths', [lines.length, lines[5], lines[11]], [12, [656.7, 1200, 660, 1200, 22], [676.7, 1200, 680, 1200, 35.2]]);
-  judge('a dot with pressure', [...svg('~v%0!({!/&!').matchAll(/stroke-width="([\d.]+)"/g)].map(([, wide]) => wide), ['8.8']);
-  judge('strokes, a highlighter below them', [...svg('~s]1!#*!#*YO~T8OaOd', '~hC2!!!!!!sOsP').matchAll(/<path d="(\w)[^"]*" stroke="(\w+)" stroke-width="([\d.]+)"/g)].map((found) => found.slice(1)),
+  check('a stroke with pressure has its widths', [lines.length, lines[5], lines[11]], [12, [656.7, 1200, 660, 1200, 22], [676.7, 1200, 680, 1200, 35.2]]);
+  check('a dot with pressure', [...svg('~v%0!({!/&!').matchAll(/stroke-width="([\d.]+)"/g)].map(([, wide]) => wide), ['8.8']);
+  check('strokes, a highlighter below them', [...svg('~s]1!#*!#*YO~T8OaOd', '~hC2!!!!!!sOsP').matchAll(/<path d="(\w)[^"]*" stroke="(\w+)" stroke-width="([\d.]+)"/g)].map((found) => found.slice(1)),
     [['M', 'c3', '192'], ['M', 'c6', '34']]);
-  judge('a path has a part for each lift', svg('~s]1!#*!#*YO~T8OaOd').match(/d="([^"]*)"/)[1], 'M100 100C106.7 100 113.3 100 120 100M900 40C900 53.3 900 66.7 900 80');
-  judge('letters that would be no XML', escaped('\uffff<\ufffe&'), '\ufffd&#60;\ufffd&#38;');
+  check('a path has a part for each lift', svg('~s]1!#*!#*YO~T8OaOd').match(/d="([^"]*)"/)[1], 'M100 100C106.7 100 113.3 100 120 100M900 40C900 53.3 900 66.7 900 80');
+  check('letters that would be no XML', escaped('\uffff<\ufffe&'), '\ufffd&#60;\ufffd&#38;');
 }
 
 // ---- items
@@ -222,19 +222,19 @@ const kindsOf = (items) => items.map(({ kind, flag, drawings: of }) => `${kind} 
 
 function testLines() {
   const at = (drawops) => kindsOf(itemsOf(drawops)), second = 1_000_000;
-  judge('lines end to end', at([plainLine(1, 1, 0, 0, 4), plainLine(1, 2, second / 2, 4, 9)]), ['line 1+2']);
-  judge('too late', at([plainLine(1, 1, 0, 0, 4), plainLine(1, 2, second / 2 + 1, 4, 9)]), ['line 1', 'line 2']);
-  judge('not end to end, another glyph, another number', [at([plainLine(1, 1, 0, 0, 4), plainLine(1, 2, 1, 5, 9)]), at([plainLine(1, 1, 0, 0, 4), plainLine(1, 2, 1, 4, 9, '+')]),
+  check('lines end to end', at([plainLine(1, 1, 0, 0, 4), plainLine(1, 2, second / 2, 4, 9)]), ['line 1+2']);
+  check('too late', at([plainLine(1, 1, 0, 0, 4), plainLine(1, 2, second / 2 + 1, 4, 9)]), ['line 1', 'line 2']);
+  check('not end to end, another glyph, another number', [at([plainLine(1, 1, 0, 0, 4), plainLine(1, 2, 1, 5, 9)]), at([plainLine(1, 1, 0, 0, 4), plainLine(1, 2, 1, 4, 9, '+')]),
     at([plainLine(1, 1, 0, 0, 4), plainLine(1, 3, 1, 4, 9)])], [['line 1', 'line 2'], ['line 1', 'line 2'], ['line 1', 'line 3']]);
-  judge('a head, and nothing after it', at([plainLine(1, 1, 0, 0, 4), plainLine(1, 2, 1, 4, 4, '>'), plainLine(1, 3, 2, 4, 9, '>')]), ['line 1+2 head', 'line 3']);
-  judge('a head of one line only', at([plainLine(1, 1, 0, 0, 4), plainLine(1, 2, 1, 4, 9), plainLine(1, 3, 2, 9, 9, '>')]), ['line 1+2', 'line 3']);
-  judge('the points of a stroke of cells', itemsOf([plainLine(1, 1, 0, 0, 4), plainLine(1, 2, 1, 4, 9)])[0].points, [{ x: 32, y: 60 }, { x: 288, y: 60 }, { x: 608, y: 60 }]);
+  check('a head, and nothing after it', at([plainLine(1, 1, 0, 0, 4), plainLine(1, 2, 1, 4, 4, '>'), plainLine(1, 3, 2, 4, 9, '>')]), ['line 1+2 head', 'line 3']);
+  check('a head of one line only', at([plainLine(1, 1, 0, 0, 4), plainLine(1, 2, 1, 4, 9), plainLine(1, 3, 2, 9, 9, '>')]), ['line 1+2', 'line 3']);
+  check('the points of a stroke of cells', itemsOf([plainLine(1, 1, 0, 0, 4), plainLine(1, 2, 1, 4, 9)])[0].points, [{ x: 32, y: 60 }, { x: 288, y: 60 }, { x: 608, y: 60 }]);
   const plain = [{ ...plainLine(1, 1, 1, 0, 4, '#'), op: 'frame', y1: 2 }, { op: 'text', x: 2, y: 3, text: 'ab', source: 2, seq: 1, time: '2' }, plainLine(3, 1, 3, 0, 4, '#')];
-  judge('plain drawings', itemsOf(plain).map(({ kind, colour, width, flag, points, letters }) => [kind, colour, width, flag, points, letters]), [
+  check('plain drawings', itemsOf(plain).map(({ kind, colour, width, flag, points, letters }) => [kind, colour, width, flag, points, letters]), [
     ['frame', 9, 5, 0, [{ x: 32, y: 60 }, { x: 288, y: 300 }], ''], ['text', 9, 2, 0, [{ x: 128, y: 360 }], 'ab'], ['line', 9, 5, 0, [{ x: 32, y: 60 }, { x: 288, y: 60 }], '']]);
   const many = Array.from({ length: 600 }, (_, i) => plainLine(1, 1 + i, i, i, i + 1));
-  judge('an item has at most 256', itemsOf(many).map(({ drawings: of }) => of.length), [256, 256, 88]);
-  judge('times of 64 bits', at([plainLine(1, 1, '18446744073709551615', 0, 4), plainLine(1, 2, '18446744073709051615', 4, 9), plainLine(2, 1, '9', 0, 4)]), ['line 1', 'line 1+2']);
+  check('an item has at most 256', itemsOf(many).map(({ drawings: of }) => of.length), [256, 256, 88]);
+  check('times of 64 bits', at([plainLine(1, 1, '18446744073709551615', 0, 4), plainLine(1, 2, '18446744073709051615', 4, 9), plainLine(2, 1, '9', 0, 4)]), ['line 1', 'line 1+2']);
 }
 
 /** Some drawings of a source that belong together in all ways: strokes, notes with letters, lines with heads. */
@@ -270,21 +270,21 @@ function testOrders() {
       const changed = items.change(gone, come), left = before.filter((item) => !changed.gone.includes(item));
       isSame &&= left.length + changed.come.length === items.list.length && [...left, ...changed.come].every((item) => items.list.includes(item));
     }
-    judge('what did not change is the same object', isSame, true);
-    judge('items after changes are those of what is shown', whole(items.list), whole(itemsOf([...shown])));
-    judge('the order of coming does not matter', whole(itemsOf([...shown].sort((a, b) => a.text < b.text ? -1 : 1))), whole(items.list));
+    check('what did not change is the same object', isSame, true);
+    check('items after changes are those of what is shown', whole(items.list), whole(itemsOf([...shown])));
+    check('the order of coming does not matter', whole(itemsOf([...shown].sort((a, b) => a.text < b.text ? -1 : 1))), whole(items.list));
     items.show([...all]);
-    judge('all shown at once', whole(items.list), whole(itemsOf(all)));
-    judge('nothing to change', items.show([...all]), { gone: [], come: [] });
+    check('all shown at once', whole(items.list), whole(itemsOf(all)));
+    check('nothing to change', items.show([...all]), { gone: [], come: [] });
   }
   const items = new Items(), [first, second] = [plainLine(1, 1, 1, 0, 4), plainLine(1, 2, 2, 100, 104)];
   items.show([first]);
   const [before] = items.list;
   items.show([first, second]);
-  judge('what comes after an item leaves it as it was', items.list[0] === before, true);
+  check('what comes after an item leaves it as it was', items.list[0] === before, true);
   items.change([], [{ ...second, x1: 105 }]);
-  judge('another drawing of the same name', items.list.map(({ points }) => points[1].x), [288, 6752]);
-  judge('an item by the name of a drawing', items.itemOf(1, 2) === items.list[1], true);
+  check('another drawing of the same name', items.list.map(({ points }) => points[1].x), [288, 6752]);
+  check('an item by the name of a drawing', items.itemOf(1, 2) === items.list[1], true);
 }
 
 const [, , file, word] = process.argv, vectors = JSON.parse(readFileSync(file, 'utf8'));
@@ -293,5 +293,5 @@ if (word === 'read') {
   process.stdout.write(JSON.stringify({ texts: texts.map((text) => toldInk(readInk(text))), boards: boards.map(toldItems) }));
 } else {
   for (const test of [testVectors, testBack, testSigns, testLetters, testStrokes, testCurves, testHands, testPieces, testShapes, testText, testSvg, testMoves, testLines, testOrders]) test(vectors);
-  console.log(JSON.stringify({ judged, wrong }));
+  console.log(JSON.stringify({ checked, wrong }));
 }

@@ -34,6 +34,7 @@ def words() -> argparse.ArgumentParser:
     made.add_argument("--sessions", type=int, default=3, help="sessions of a kind")
     made.add_argument("--drawings", type=int, default=300, help="drawings of a session")
     made.add_argument("--killed", type=int, default=12, help="sessions whose last drawer is killed")
+    made.add_argument("--side-by-side", type=int, default=1, help="how many of those sessions run at once")
     made.add_argument("--members", type=int, nargs="+", default=(3, 10), help="sizes of groups")
     made.add_argument("--lost", type=float, nargs="+", default=(0.2, 0.3), help="shares that are lost")
     made.add_argument("--constants", nargs="+", default=CONSTANTS, help=f"constants of wb's timers, or {LIVE} for those that a member of wb-live takes by itself")
@@ -49,7 +50,7 @@ def main() -> None:
     if "sessions" in options.only:
         sessions.compare(plan, options.sessions, options.drawings)
     if "killed" in options.only:
-        sessions.compare_killed(plan, options.killed)
+        sessions.compare_killed(plan, options.killed, options.side_by_side)
 
 
 if __name__ == "__main__":

@@ -4,6 +4,7 @@ from __future__ import annotations
 
 import statistics
 from collections.abc import Callable, Iterator, Mapping, Sequence
+from concurrent.futures import ThreadPoolExecutor
 from functools import partial
 from typing import NamedTuple, TypeVar
 
@@ -121,15 +122,18 @@ def place_of(network: Network) -> str:
     return f"{network.members}, {network.lose:.0%}"
 
 
-def each_seed(runs: int, kind: Kind, network: Network, run: Callable[[Network], Found]) -> list[Found]:
+def each_seed(runs: int, kind: Kind, network: Network, run: Callable[[Network], Found], side_by_side: int = 1) -> list[Found]:
     """What came of each session. If its processes do not begin, as on a machine that is too busy, it is left out, with a line."""
-    found = []
-    for seed in range(1, runs + 1):
+
+    def one(seed: int) -> Found | None:
         try:
-            found.append(run(network._replace(seed=seed)))
+            return run(network._replace(seed=seed))
         except Ended as fault:
             print(f"peers: {kind.name}, session {seed}, is left out: {fault}")
-    return found
+            return None
+
+    with ThreadPoolExecutor(side_by_side) as threads:
+        return [found for found in threads.map(one, range(1, runs + 1)) if found is not None]
 
 
 def compare(plan: Plan, runs: int, drawings: int) -> None:
@@ -142,11 +146,11 @@ def compare(plan: Plan, runs: int, drawings: int) -> None:
         table.row(place_of(network), kind.name, *cells_of(outcomes))
 
 
-def compare_killed(plan: Plan, runs: int) -> None:
-    """Prints the table of sessions whose last drawer is killed."""
+def compare_killed(plan: Plan, runs: int, side_by_side: int) -> None:
+    """Prints the table of sessions whose last drawer is killed. They take little but time, so some run side by side."""
     title = f"The last to draw is killed {1000 * KILLED_AFTER:.0f} ms later: of {runs} sessions"
     table = Table(title, "members, lost", "", "all have what anyone has", "nobody has the last drawing")
     for kind, network in plan.rows():
-        ends = each_seed(runs, kind, network, partial(run_and_kill, kind))
+        ends = each_seed(runs, kind, network, partial(run_and_kill, kind), side_by_side)
         cells = sum(end.is_same for end in ends), sum(not end.has_last for end in ends)
         table.row(place_of(network), kind.name, *(f"{cell} of {len(ends)}" for cell in cells))
