@@ -63,11 +63,14 @@ export class Host {
     calls: Calls;
     memory: WebAssembly.Memory;
     bytes: Uint8Array;
+    numbers: DataView;
     isOver: boolean;
     input: Room;
     output: Room;
     told: Room;
     sizePlace: bigint;
+    from: number;
+    until: number;
     place: bigint;
     /** A datagram came in, at a host that is not judged. The answer refuses bytes that are none, or that no host takes.
      * @param {number} now @param {Uint8Array} datagram */
@@ -97,9 +100,12 @@ export class Host {
     /** The moment at which to call `tick` next. */
     due(): number | null;
     nextDue(): number | null;
-    /** Makes a call, and takes its events.
-     * @param {() => number} call */
-    answer(call: () => number): Answer;
+    /** What a call came to that has this status: its events are taken.
+     * @param {number} status */
+    answer(status: number): Answer;
+    /** What the event that was fetched tells. Those of questions are handed on as they are.
+     * @param {number} kind @param {Answer} answer */
+    tell(kind: number, answer: Answer): void;
     /** The block of a line.
      * @param {string} line */
     ask(line: string): Block;
@@ -114,18 +120,17 @@ export class Host {
     /** Puts bytes where a call reads them, and gives the place.
      * @param {Uint8Array} bytes */
     given(bytes: Uint8Array): bigint;
-    /** The number that a call wrote, as many bytes behind the place for that.
-     * @param {number} behind */
-    number(behind: number): number;
+    /** The size that a call told. */
     size(): number;
     /** Fetches the next event, and gives its kind; 0 if none waits.
      * @returns {number} */
     next(): number;
     /** The bytes of the event that was fetched. */
     copied(): Uint8Array;
-    /** The text of the event that was fetched: a line of the record. For so few letters a decoder takes longer. */
+    sizeIn(): number;
+    /** Its text: a line of the record. For a few letters a decoder takes longer. */
     textIn(): string;
-    /** A number of the event that was fetched, by its place among those.
+    /** A number of it, by its place among those.
      * @param {number} index */
     numberIn(index: number): number;
     /** The same of numbers of 64 bits.
