@@ -1,5 +1,5 @@
 -- What each call by bytes does, by what was held before and what is held after it, and which status it gives.
-use Rattle.std.specs.Prelude.{◌≡◌, ◌^◌, ℕ, List, [], ◌∷◌, length, Bool, true, false, nat_lt, Option, Some, None, is_some, unwrap_or, Result, Ok, Err}
+use Rattle.std.specs.Prelude.{◌≡◌, ◌-◌, ◌^◌, ℕ, List, [], ◌∷◌, length, Bool, true, false, nat_lt, Option, Some, None, is_some, unwrap_or, Result, Ok, Err}
 use Rattle.wb_names.specs.Values.{DrawopValue}
 use Rattle.wb_names.specs.declared.moment.TheConstants.{MOMENT_LIMIT}
 use Rattle.wb_names.specs.declared.name.PageId.{PageId}
@@ -13,6 +13,7 @@ use Rattle.wb_dialog.specs.Doing.{kept_in}
 use Rattle.wb_dialog.specs.Hosting.{due_at}
 use Rattle.wb_judged_dialog.specs.Dialog.{JudgedHosting}
 use Rattle.wb_judged_dialog.specs.Doing.{IsAt, member_in, with_kept, with_member}
+use Rattle.wb_judge.specs.declared.limits.TheConstants.{TIME_LIMIT}
 use Rattle.wb_judge.specs.declared.origin.Origin.{Origin}
 use Rattle.wb_judging.specs.declared.call.Call.{Call}
 use Rattle.wb_judging.specs.declared.call.Call.TheVariants.{CameFrom, DayTold, Garbled, GoneFrom, Passed, UserDrew}
@@ -116,7 +117,7 @@ OfDay true does old new status = does old new status
 OfDay false does old new status = Refuses no_time old new status
 
 abbrev pub WallBy : ℕ → ℕ → Room → Room → ℕ → Type 0
-WallBy now wall old new status = InTime (nat_lt now MOMENT_LIMIT) (OfDay (nat_lt wall (2 ^ 62)) (AtJudged (DayTold now wall))) old new status
+WallBy now wall old new status = InTime (nat_lt now MOMENT_LIMIT) (OfDay (nat_lt wall TIME_LIMIT) (AtJudged (DayTold now wall))) old new status
 
 abbrev pub GoneBy : ℕ → Origin → Room → Room → ℕ → Type 0
 GoneBy now o old new status = InTime (nat_lt now MOMENT_LIMIT) (AtJudged (GoneFrom now o)) old new status
@@ -157,7 +158,10 @@ FetchesEvent (Some old) (Some new) before after kind size status = (new.dialog �
 
 -- ---- the next moment
 
--- the next moment at which a tick is due, or 2^64 - 1
+abbrev pub never : ℕ
+never = 2 ^ 64 - 1
+
+-- the next moment at which a tick is due, or never
 abbrev pub IsDue : Option Room → ℕ → Type 0
-IsDue None due = due ≡ 18446744073709551615
-IsDue (Some room) due = (s : JudgedHosting) → IsAt room.dialog s → due ≡ unwrap_or (due_at s.today.host) 18446744073709551615
+IsDue None due = due ≡ never
+IsDue (Some room) due = (s : JudgedHosting) → IsAt room.dialog s → due ≡ unwrap_or (due_at s.today.host) never

@@ -10,12 +10,9 @@ use crate::room::Room;
 use crate::serving::datagram_of;
 use crate::status::{NO_MOMENT, NO_TIME, NOT_JUDGED};
 use std::alloc::{AllocError, Global};
-use wb_judge::Origin;
+use wb_judge::{Origin, TIME_LIMIT};
 use wb_judging::Call;
 use wb_names::MOMENT_LIMIT;
-
-/// A time of day is below this.
-const WALL_LIMIT: u64 = 1 << 62;
 
 /// What came in from an origin.
 fn arrival(alloc: Global, now: u64, origin: Origin, bytes: &[u8]) -> Result<Call, AllocError>
@@ -71,7 +68,7 @@ impl Room {
         if now >= MOMENT_LIMIT {
             return Ok(NO_MOMENT);
         }
-        if wall >= WALL_LIMIT {
+        if wall >= TIME_LIMIT {
             return Ok(NO_TIME);
         }
         self.judge(alloc, &Call::DayTold { now, wall })

@@ -14,10 +14,9 @@ use std::alloc::{AllocError, Global};
 use std::collections::VecDeque;
 use wb_board::Reply;
 use wb_codec::Datagram;
-use wb_dialog::shape_of;
 use wb_keeping::{Done, KeptMember};
 use wb_member::Query;
-use wb_names::Drawop;
+use wb_names::{Drawop, shape_of};
 
 /// Adds the event that says what became of the drawop that came in, if the datagram is one.
 fn add_became(

@@ -34,10 +34,11 @@ use Rattle.wb_dialog.specs.declared.line.DriverLine.TheVariants.{Script, Say, As
 use Rattle.wb_dialog.specs.Dialog.{Answer, answer_at, answered, gives, refuses, says_line}
 use Rattle.wb_dialog.specs.Hosting.{Driven, Host, Hosting, Kept, Reply, as_driven, denies, host_after, hosting_after, hosting_from, is_acting, keep_reply, kept_does, kept_reply, kept_shows, reply, reply_of, reply_to, seed_after, taken_reply, unopened}
 use Rattle.wb_dialog.specs.KeptLaws.{AddIsNotTooMany}
+use Rattle.wb_board.specs.Counts.{MAX_CELLS}
 
 -- a host that may become self-managing, or is, on a board of at most 65,535 cells
 abbrev MayCount : Opened → Type 0
-MayCount host = host.is.cells ≤ 65535 → IsBounded host
+MayCount host = host.is.cells ≤ MAX_CELLS → IsBounded host
 
 abbrev Counts : Option Host → Type 0
 Counts None = Unit {0}
@@ -76,7 +77,7 @@ cells_lines (line ∷ ls) host = cells_lines ls (after_line line host) ∙ cells
 does_count : (line : KeptLine) (text : List ℕ) (k : Keeping) (fault : Option KeptFault) → fault ≡ fault_of line k → MayCount k.host → Counts (host_after (Some (Kept k)) (kept_does fault (doing_of line) text k))
 does_count line text k (Some f) e counts = counts
 does_count line text k None e counts = λ few.
-    bounded_kept line k (sym e) (counts (subst (λ (n : ℕ). n ≤ 65535) (cells_lines (doing_of line (sees k.host) k.policy).lines k.host) few))
+    bounded_kept line k (sym e) (counts (subst (λ (n : ℕ). n ≤ MAX_CELLS) (cells_lines (doing_of line (sees k.host) k.policy).lines k.host) few))
 
 shows_count : (k : Keeping) (a : Answer) → MayCount k.host → Counts (host_after (Some (Kept k)) (kept_shows k a))
 shows_count k (gives next text) counts = counts

@@ -28,6 +28,7 @@ use Rattle.wb_dialog.specs.declared.fault.Refusal.{Refusal}
 use Rattle.wb_dialog.specs.declared.fault.Refusal.TheVariants as refusals
 use Rattle.wb_dialog.specs.declared.fault.Unanswered.{Unanswered}
 use Rattle.wb_dialog.specs.declared.fault.Unanswered.TheVariants as unanswered
+use Rattle.wb_policy.specs.declared.limits.TheConstants.{MAX_RATE}
 
 -- what follows a word and a space, with which a line begins
 abbrev pub part_behind : List ℕ → Option (List ℕ × List ℕ) → Option (List ℕ)
@@ -76,7 +77,7 @@ script_or query (Err e) = Err (refusals.Line e)
 unfoldable pub keep_line : List (List ℕ) → Result DriverLine LineFault
 keep_line arguments = do
   words' ← or_fault faults.Words (two_of arguments)
-  rate ← number 1 1000000 words'.0
+  rate ← number 1 MAX_RATE words'.0
   listen ← number 0 (2 ^ 32 - 1) words'.1
   Ok (Keep rate listen)
 

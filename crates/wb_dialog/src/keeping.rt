@@ -23,7 +23,7 @@ use wb_keeper::KeepFault;
 use wb_keeping::{Done, KeptFault, KeptMember};
 use wb_lines::Output;
 use wb_member::Query;
-use wb_names::{FieldFault, Op, Shape};
+use wb_names::{FieldFault, Shape, shape_of};
 use wb_recovery::Tuning;
 use wb_words::{Adding, WordFault, WrongWord};
 
@@ -125,21 +125,6 @@ fn came(
     match kept.came(alloc, now, datagram) {
         Ok(Done { sent, became }) => tell(alloc, &sent, batch(datagram, became), output),
         Err(fault) => Err(refused(fault)),
-    }
-}
-
-/// An operation as it is handed in.
-pub fn shape_of(op: &Op) -> Shape<'_>
-    ensures { op_of result ≡ op.now }
-{
-    match op {
-        Op::Drawn(figure, stroke) => Shape::Drawn(*figure, *stroke),
-        Op::Text { x, y, text } => Shape::Text {
-            x: *x,
-            y: *y,
-            bytes: text.as_slice(),
-        },
-        Op::Aimed(change, target) => Shape::Aimed(*change, *target),
     }
 }
 

@@ -21,5 +21,4 @@ mod parsing;
 pub use dialog::Dialog;
 pub use fault::{HostFault, Refusal};
 pub use hosting::host;
-pub use keeping::shape_of;
 pub use line::{DriverLine, LINES_VERSION};

@@ -21,10 +21,8 @@ use wb_commands::{
 use wb_lines::next_word;
 use wb_member::Query;
 use wb_names::{MAX_MOMENT, Name, PageId};
+use wb_policy::limits::MAX_RATE;
 use wb_words::{WordsFault, read_adding, read_words, split_once};
-
-/// The most bytes a second that reports may take.
-const MAX_RATE: u32 = 1_000_000;
 
 /// Whether a word is this one. Most words are told apart by their lengths.
 #[inline(always)]

@@ -13,6 +13,7 @@ use Rattle.wb_gaps.specs.Pages.{ArePages}
 use Rattle.wb_gaps.specs.declared.page_reports.PageReport.{PageReport}
 use Rattle.wb_gaps.proofs.PageAnswers.{report_of_page, pages_of_history}
 use Rattle.wb_gaps.proofs.Rearranged.{one_report, one_pages}
+use Rattle.wb_names.specs.declared.entries.TheConstants.{MAX_ENTRIES}
 
 -- ---- there is one list of reports
 
@@ -57,7 +58,7 @@ module _ (history : List DrawopValue) where
   pages_back [] = refl
   pages_back (page ∷ pages) = ap (λ (ps : List PageId). page ∷ ps) (pages_back pages)
 
-  each_report : length history ≤ 65535 → (pages : List PageId) → All (λ r. IsReport history r.page r.marks) (map reported pages)
+  each_report : length history ≤ MAX_ENTRIES → (pages : List PageId) → All (λ r. IsReport history r.page r.marks) (map reported pages)
   each_report few [] = λ k d lt. absurd (omega arith)
   each_report few (page ∷ pages) = All-cons (λ (r : PageReport). IsReport history r.page r.marks) (reported page) (map reported pages) (report_of_page history page few) (each_report few pages)
 

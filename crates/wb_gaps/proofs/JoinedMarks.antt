@@ -13,6 +13,7 @@ use Rattle.wb_names.specs.Marks.{mark_of, IsMerge}
 use Rattle.wb_names.proofs.MarkLists.{Above, Rises, Positive, rest_above, rest_rises, here, there, none_above, above_less}
 use Rattle.wb_gaps.specs.Merging.{source_count}
 use Rattle.wb_gaps.specs.Joining.{greater, joined, joined_at}
+use Rattle.wb_names.specs.declared.entries.TheConstants.{MAX_ENTRIES}
 
 -- the marks of a list whose sources another list lacks
 abbrev lacking : List MarkValue → List MarkValue → ℕ
@@ -171,7 +172,7 @@ joins_read a b first second items p q la lb made =
     subst (Joins first second) (sym made) (joins first up.ascending up.positive second (subst AreMarks (sym q) lb).ascending)
 
 -- where there are not too many, they are a list of marks
-pub joined_marks : (a b first second items : List MarkValue) → first ≡ a → second ≡ b → AreMarks a → AreMarks b → items ≡ joined first second → source_count first second ≤ 65535 → AreMarks items
+pub joined_marks : (a b first second items : List MarkValue) → first ≡ a → second ≡ b → AreMarks a → AreMarks b → items ≡ joined first second → source_count first second ≤ MAX_ENTRIES → AreMarks items
 joined_marks a b first second items p q la lb made few =
     let j = joins_read a b first second items p q la lb made in
     let count = j.count in

@@ -14,6 +14,7 @@ use Rattle.wb_gaps.specs.LastNumbers.{AreGreatest}
 use Rattle.wb_gaps.proofs.HeldNumbers.{same_page-here}
 use Rattle.wb_gaps.proofs.GreatestNumbers.{one_greatest}
 use Rattle.wb_gaps.specs.declared.run.Run.{Run}
+use Rattle.wb_names.specs.declared.entries.TheConstants.{MAX_ENTRIES}
 
 pub held_here : (d : DrawopValue) (history : List DrawopValue) (page : PageId) (source : ℕ) → is_of page source d ≡ true → IsHeld (d ∷ history) page source d.name.seq
 held_here d history page source e = let h = and_both _ _ e in (0, d, omega arith, refl, name_parts _ _ _ _ _ _ (eqb-true d.name.source source h.1) (same_page-is d.name.page page h.0) refl)
@@ -73,7 +74,7 @@ highest_from_marks history page runs marks of tops source =
     (λ n h. (of.held source n).1 h)
 
 -- the marks of the runs of a page, of which there are few, are its report
-pub report_of_runs : (history : List DrawopValue) (page : PageId) (runs : List Run) (marks : List MarkValue) → AreRunsOf history page runs → AreGreatest runs marks → length runs ≤ 65535 → IsReport history page marks
+pub report_of_runs : (history : List DrawopValue) (page : PageId) (runs : List Run) (marks : List MarkValue) → AreRunsOf history page runs → AreGreatest runs marks → length runs ≤ MAX_ENTRIES → IsReport history page marks
 report_of_runs history page runs marks of tops few =
     let fewer = tops.few in
     (record { ascending = tops.ascending; positive = tops.positive; few = omega arith }, highest_from_marks history page runs marks of tops)

@@ -23,6 +23,7 @@ use Rattle.wb_dialog.specs.Lines.{added_part, by_words, command, in_words, keep_
 use Rattle.wb_dialog.proofs.ScriptLines.{script_lines_are_read}
 use Rattle.wb_judged_dialog.specs.declared.beginning.Board.{Board}
 use Rattle.wb_judged_dialog.specs.Dialog.{board_in, opens}
+use Rattle.wb_policy.specs.declared.limits.TheConstants.{MAX_RATE}
 
 -- ---- a line of a script that is no question is one that a script has
 
@@ -95,8 +96,8 @@ itself_read read (Err e) own = tt
 keep_read : (arguments : List (List ℕ)) → IsOwn (keep_line arguments)
 unfolding keep_line
 keep_read arguments =
-    step (or_fault faults.Words (script.two_of arguments)) (λ w. number 1 1000000 w.0 >>= λ rate. number 0 (2 ^ 32 - 1) w.1 >>= λ listen. Ok (Keep rate listen))
-    (λ w. step (number 1 1000000 w.0) (λ rate. number 0 (2 ^ 32 - 1) w.1 >>= λ listen. Ok (Keep rate listen)) (λ rate. step (number 0 (2 ^ 32 - 1) w.1) (λ listen. Ok (Keep rate listen)) (λ listen. tt)))
+    step (or_fault faults.Words (script.two_of arguments)) (λ w. number 1 MAX_RATE w.0 >>= λ rate. number 0 (2 ^ 32 - 1) w.1 >>= λ listen. Ok (Keep rate listen))
+    (λ w. step (number 1 MAX_RATE w.0) (λ rate. number 0 (2 ^ 32 - 1) w.1 >>= λ listen. Ok (Keep rate listen)) (λ rate. step (number 0 (2 ^ 32 - 1) w.1) (λ listen. Ok (Keep rate listen)) (λ listen. tt)))
 
 came_read : (arguments : List (List ℕ)) → IsOwn (came_line arguments)
 unfolding came_line

@@ -33,6 +33,7 @@ use Rattle.wb_judged_dialog.specs.declared.line.JudgedLine.TheVariants as judged
 use Rattle.wb_judged_dialog.specs.Lines as here
 use Rattle.wb_judged_dialog.specs.Records.{record_of}
 use Rattle.wb_judged_dialog.specs.Words.{origin, three_of}
+use Rattle.wb_policy.specs.declared.limits.TheConstants.{MAX_RATE}
 
 -- ---- results that are none of some lines
 
@@ -179,7 +180,7 @@ KeepTells r = TellsNone (today.by_words (λ line. line) r)
 keep_none : (arguments : List (List ℕ)) → KeepTells (today.keep_line arguments)
 unfolding today.keep_line
 keep_none arguments =
-    step KeepTells (λ e. tt) (or_fault faults.Words (two_of arguments)) _ (λ w. step KeepTells (λ e. tt) (number 1 1000000 w.0) _ (λ rate. step KeepTells (λ e. tt) (number 0 (2 ^ 32 - 1) w.1) _ (λ listen. tt)))
+    step KeepTells (λ e. tt) (or_fault faults.Words (two_of arguments)) _ (λ w. step KeepTells (λ e. tt) (number 1 MAX_RATE w.0) _ (λ rate. step KeepTells (λ e. tt) (number 0 (2 ^ 32 - 1) w.1) _ (λ listen. tt)))
 
 command_tells : (line word : List ℕ) (arguments : List (List ℕ)) → bytes_eq word (codes "came") ≡ false → IsNoTick (script_line_of line) → TellsNone (today.command line word arguments)
 unfolding today.command

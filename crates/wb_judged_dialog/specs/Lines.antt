@@ -26,6 +26,7 @@ use Rattle.wb_judged_dialog.specs.declared.line.JudgedLine.{JudgedLine}
 use Rattle.wb_judged_dialog.specs.declared.line.JudgedLine.TheVariants.{Call as Calls, Skip, Members, List as Lists, Paint, Since, Lacks, Words, Today}
 use Rattle.wb_judged_dialog.specs.Records.{record_of}
 use Rattle.wb_judged_dialog.specs.Words.{most64, number_or_none, origin, six_of, three_of}
+use Rattle.wb_policy.specs.declared.limits.TheConstants.{MAX_RATE}
 
 -- a time of day, in microseconds since 1970
 abbrev pub day_time : List ℕ → Result ℕ LineFault
@@ -40,7 +41,7 @@ unfoldable pub judge_line : List (List ℕ) → Result JudgeLine LineFault
 judge_line arguments = do
   words' ← or_fault faults.Words (six_of arguments)
   now ← number 0 MAX_MOMENT words'.0
-  rate ← number 1 1000000 words'.1
+  rate ← number 1 MAX_RATE words'.1
   listen ← number 0 (2 ^ 32 - 1) words'.2
   wall ← day_time words'.3
   here ← number_or_none most64 words'.4

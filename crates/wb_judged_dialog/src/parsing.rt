@@ -18,10 +18,8 @@ use wb_judge::{Origin, TIME_LIMIT};
 use wb_judging::{Call, RecordLine};
 use wb_lines::next_word;
 use wb_names::{MAX_MOMENT, PageId};
+use wb_policy::limits::MAX_RATE;
 use wb_words::{Adding, DigitsFault, WordsFault, WrongWord, read_adding, split_once};
-
-/// The most bytes a second that reports may take.
-const MAX_RATE: u32 = 1_000_000;
 
 /// How many drawops of strangers are taken, or none for `-`.
 fn strangers(word: &[u8]) -> Result<Option<u16>, LineFault>

@@ -14,6 +14,7 @@ use Rattle.wb_judge.specs.declared.verdict.Why.{Why}
 use Rattle.wb_judge.specs.Judge.{Judge}
 use Rattle.wb_member.specs.Judged.{highest, holds}
 use Rattle.wb_member.specs.Opened.{Opened, present}
+use Rattle.wb_policy.specs.declared.limits.TheConstants.{MOST_MARKS}
 use Rattle.wb_keeping.specs.Laws.{KeptLine, Added, Came, Ticked}
 use Rattle.wb_keeping.specs.Performing.{Keeping}
 use Rattle.wb_judging.specs.Judged.{Call, CameFrom, DayTold, Garbled, GoneFrom, Held, Judged, Passed, UserDrew}
@@ -40,9 +41,9 @@ own_top page host = highest page host.is.number host
 abbrev pub lacks : PageId → Opened → MarkValue → ℕ
 lacks page host m = if nat_eq m.source host.is.number then 0 else m.high - highest page m.source host
 
--- the sum of that over the first 64 marks
+-- the sum of that over as many marks as a report has at most
 abbrev pub lacking : PageId → Opened → List MarkValue → ℕ
-lacking page host marks = sum_by (lacks page host) (take 64 marks)
+lacking page host marks = sum_by (lacks page host) (take MOST_MARKS marks)
 
 abbrev pub report_facts : ℕ → PageId → List MarkValue → Keeping → Facts
 report_facts now page marks k = facts_with now false (own_top page k.host) (lacking page k.host marks) k

@@ -8,9 +8,7 @@ use wb_codec::Datagram;
 use wb_judge::Facts;
 use wb_keeping::KeptMember;
 use wb_names::{Mark, Marks, PageId};
-
-/// The most marks of a report that are looked at.
-const MOST_MARKS: usize = 64;
+use wb_policy::limits::MOST_MARKS;
 
 /// What a kept member says of itself at a moment, and of a datagram.
 pub(crate) fn facts_of(

@@ -18,7 +18,7 @@ use wb_board::Reply;
 use wb_codec::Datagram;
 use wb_judge::Why;
 use wb_keeping::{Done, KeptFault, KeptMember};
-use wb_names::{Mark, Marks, Op, PageId, Shape};
+use wb_names::{Mark, Marks, PageId, Shape};
 
 /// What a kept member did for a line: how many drawops it held before, what is to be sent, in this
 /// order, and what became of the drawop that was handed in or drawn, if there is one.
@@ -175,20 +175,5 @@ pub(crate) fn draw(
             fate: Some(fate_of(became)),
         }),
         Err(fault) => Err(fault),
-    }
-}
-
-/// An operation as a kept member is handed it.
-pub(crate) fn shape_of(op: &Op) -> Shape<'_>
-    ensures { op_of result ≡ op.now }
-{
-    match op {
-        Op::Drawn(figure, stroke) => Shape::Drawn(*figure, *stroke),
-        Op::Text { x, y, text } => Shape::Text {
-            x: *x,
-            y: *y,
-            bytes: text.as_slice(),
-        },
-        Op::Aimed(change, target) => Shape::Aimed(*change, *target),
     }
 }

@@ -12,6 +12,7 @@ use Rattle.wb_names.proofs.Listings.{Contains-there, Contains-cases, Contains-he
 use Rattle.wb_keeper.specs.Keeper.{KeeperCall, session_heard, remember, senders_of, heard_by, newest, last_heard}
 use Rattle.wb_keeper.specs.KeeperLaws.{all_senders, by_first, first_senders, IsLatest, FirstSendersAreEchoed}
 use Rattle.wb_keeper.specs.declared.keeper.Heard.{Heard}
+use Rattle.wb_names.specs.declared.entries.TheConstants.{MAX_ENTRIES}
 
 abbrev has : List ℕ → ℕ → Bool
 has xs x = list_any (nat_eq x) xs
@@ -85,13 +86,13 @@ module _ (n : ℕ) where
         (when_full le (has kept s) (has all s)))
         (cases_lt (length all) n)
 
-remembered : (me : ℕ) (calls : List KeeperCall) → Same 65535 (senders_of me calls) (by_first (all_senders me calls))
+remembered : (me : ℕ) (calls : List KeeperCall) → Same MAX_ENTRIES (senders_of me calls) (by_first (all_senders me calls))
 remembered me [] = record { any = λ x. refl; len = refl }
 remembered me (call ∷ calls) = from (session_heard me call) (remembered me calls) where
-  from : (o : Option (ℕ × Heard)) → Same 65535 (senders_of me calls) (by_first (all_senders me calls))
-      → Same 65535 (remember o (senders_of me calls)) (by_first (cons_option (option_map (λ (told : ℕ × Heard). told.0) o) (all_senders me calls)))
+  from : (o : Option (ℕ × Heard)) → Same MAX_ENTRIES (senders_of me calls) (by_first (all_senders me calls))
+      → Same MAX_ENTRIES (remember o (senders_of me calls)) (by_first (cons_option (option_map (λ (told : ℕ × Heard). told.0) o) (all_senders me calls)))
   from None same = same
-  from (Some told) same = one_more 65535 told.0 (senders_of me calls) (by_first (all_senders me calls)) same
+  from (Some told) same = one_more MAX_ENTRIES told.0 (senders_of me calls) (by_first (all_senders me calls)) same
 
 -- ---- the last that a sender sent
 abbrev last_of : ℕ → List KeeperCall → ℕ → Option Heard

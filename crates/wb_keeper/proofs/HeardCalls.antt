@@ -34,6 +34,7 @@ use Rattle.wb_keeper.specs.declared.keeper.Heard.{Heard}
 use Rattle.wb_keeper.specs.TakingIn.{count_with, delays_with, has_place, heard_with, marks_with, IsMerged}
 use Rattle.wb_keeper.proofs.KeptCalls.{max_none}
 use Rattle.wb_keeper.proofs.MapEdits.{lookup_put, nat_one, nat_here}
+use Rattle.wb_names.specs.declared.entries.TheConstants.{MAX_ENTRIES}
 
 -- it is enough to look at the keeper's own number
 keeps_own : (call : KeeperCall) (old new : KeeperValue) → ((t : Tuning) (calls : List KeeperCall) → StandsFor old.me t calls old → StandsFor old.me t (call ∷ calls) new) → Keeps call old new
@@ -193,7 +194,7 @@ heard_before me (call ∷ calls) s e = from (heard_before me calls s) (session_h
 
     by : (b : Bool) → nat_eq told.0 s ≡ b → is_some (option_or (cond b (Some told.1) None) (heard_last me calls s)) ≡ true
     by true g = refl
-    by false g = rest (none g (list_any (nat_eq told.0) (senders_of me calls) || nat_le 65535 (length (senders_of me calls))) f)
+    by false g = rest (none g (list_any (nat_eq told.0) (senders_of me calls) || nat_le MAX_ENTRIES (length (senders_of me calls))) f)
 
 module _ (me : ℕ) (calls : List KeeperCall) (old : List (ℕ × Heard)) (sender : ℕ) (h : Heard) (agrees : (s : ℕ) → heard_at old s ≡ last_heard me calls s) (count : length old ≡ length (senders_of me calls)) where
   known : (s : ℕ) → is_some (heard_at old s) ≡ list_any (nat_eq s) (senders_of me calls)
@@ -203,7 +204,7 @@ module _ (me : ℕ) (calls : List KeeperCall) (old : List (ℕ × Heard)) (sende
     from false e = refl
 
   pub count_put : count_with sender old ≡ length (remember (Some (sender, h)) (senders_of me calls))
-  count_put = ap (λ (b : Bool). cond (b || nat_le 65535 (length old)) (length old) (length old + 1)) (known sender) ∙ ap (λ (n : ℕ). cond (list_any (nat_eq sender) (senders_of me calls) || nat_le 65535 n) n (n + 1)) count ∙ from (list_any (nat_eq sender) (senders_of me calls) || nat_le 65535 (length (senders_of me calls))) where
+  count_put = ap (λ (b : Bool). cond (b || nat_le MAX_ENTRIES (length old)) (length old) (length old + 1)) (known sender) ∙ ap (λ (n : ℕ). cond (list_any (nat_eq sender) (senders_of me calls) || nat_le MAX_ENTRIES n) n (n + 1)) count ∙ from (list_any (nat_eq sender) (senders_of me calls) || nat_le MAX_ENTRIES (length (senders_of me calls))) where
     from : (b : Bool) → cond b (length (senders_of me calls)) (length (senders_of me calls) + 1) ≡ length (cond b (senders_of me calls) (sender ∷ senders_of me calls))
     from true = refl
     from false = omega arith
@@ -211,13 +212,13 @@ module _ (me : ℕ) (calls : List KeeperCall) (old : List (ℕ × Heard)) (sende
   put_at : (s : ℕ) → heard_at (insert_entry nat_cmp old sender h) s ≡ cond (nat_eq sender s) (Some h) (heard_at old s)
   put_at s = lookup_put nat_cmp nat_one nat_here sender h s old ∙ ap (λ (b : Bool). cond b (Some h) (heard_at old s)) (nat_turned s sender)
 
-  placed : has_place sender old ≡ (list_any (nat_eq sender) (senders_of me calls) || not (nat_le 65535 (length (senders_of me calls))))
-  placed = ap (λ (b : Bool). b || nat_lt (length old) 65535) (known sender) ∙ ap (λ (b : Bool). list_any (nat_eq sender) (senders_of me calls) || b) (room (length old) ∙ ap (λ (n : ℕ). not (nat_le 65535 n)) count) where
-    room : (n : ℕ) → nat_lt n 65535 ≡ not (nat_le 65535 n)
+  placed : has_place sender old ≡ (list_any (nat_eq sender) (senders_of me calls) || not (nat_le MAX_ENTRIES (length (senders_of me calls))))
+  placed = ap (λ (b : Bool). b || nat_lt (length old) MAX_ENTRIES) (known sender) ∙ ap (λ (b : Bool). list_any (nat_eq sender) (senders_of me calls) || b) (room (length old) ∙ ap (λ (n : ℕ). not (nat_le MAX_ENTRIES n)) count) where
+    room : (n : ℕ) → nat_lt n MAX_ENTRIES ≡ not (nat_le MAX_ENTRIES n)
     room n = grind (arith, nat_tests)
 
   pub heard_put : (s : ℕ) → heard_at (heard_with sender h old) s ≡ cond (list_any (nat_eq s) (remember (Some (sender, h)) (senders_of me calls))) (option_or (cond (nat_eq sender s) (Some h) None) (heard_last me calls s)) None
-  heard_put s = ap (λ (b : Bool). heard_at (cond b (insert_entry nat_cmp old sender h) old) s) placed ∙ from (list_any (nat_eq sender) (senders_of me calls)) (nat_le 65535 (length (senders_of me calls))) (nat_eq sender s) refl refl where
+  heard_put s = ap (λ (b : Bool). heard_at (cond b (insert_entry nat_cmp old sender h) old) s) placed ∙ from (list_any (nat_eq sender) (senders_of me calls)) (nat_le MAX_ENTRIES (length (senders_of me calls))) (nat_eq sender s) refl refl where
     from : (seen full b : Bool) → list_any (nat_eq sender) (senders_of me calls) ≡ seen → nat_eq sender s ≡ b
         → heard_at (cond (seen || not full) (insert_entry nat_cmp old sender h) old) s ≡ cond (list_any (nat_eq s) (cond (seen || full) (senders_of me calls) (sender ∷ senders_of me calls))) (option_or (cond b (Some h) None) (heard_last me calls s)) None
     from true full true e f = put_at s ∙ ap (λ (b : Bool). cond b (Some h) (heard_at old s)) f ∙ sym (ap (λ (b : Bool). cond b (Some h) None) (ap (λ (n : ℕ). list_any (nat_eq n) (senders_of me calls)) (sym (eqb-true sender s f)) ∙ e))

@@ -18,6 +18,7 @@ use Rattle.wb_recovery.specs.declared.tuning.Tuning.{Tuning}
 use Rattle.wb_keeper.specs.Hearing.{AreAnswers, IsSent, asks_for_pages, page_states, answers_to, OneSent, AnswersAreSent}
 use Rattle.wb_keeper.specs.Keeper.{is_own}
 use Rattle.wb_keeper.specs.Missing.{AreWanted, wanted, wanted_of, names_in_gaps, OneWanted, WantedOfPage}
+use Rattle.wb_board.specs.Counts.{MAX_CELLS}
 
 one_answer : (me : ℕ) (history : List DrawopValue) (asked : Bool) (a b : List Datagram) → AreAnswers asked me history a → AreAnswers asked me history b → a ≡ b
 one_answer me history true a b (reports, are, is) (others, theirs, same) = is ∙ ap (map (λ (r : PageReport). PageState me r.page r.marks)) (one_reports history reports others are theirs) ∙ sym same
@@ -33,10 +34,10 @@ one_wanted constants events history page marks a b (gaps, are, is) (others, thei
 -- ---- the functions
 
 -- a desk has few enough members for each report
-pub few_seen : (q : PassValue) → IsSound q → length q.seen ≤ 65535
+pub few_seen : (q : PassValue) → IsSound q → length q.seen ≤ MAX_CELLS
 few_seen q sound = let room = sound.room in let few = sound.few_cells in omega arith
 
-states_sent : (me : ℕ) (history : List DrawopValue) (asked : Bool) → length history ≤ 65535 → AreAnswers asked me history (cond asked (page_states me history) [])
+states_sent : (me : ℕ) (history : List DrawopValue) (asked : Bool) → length history ≤ MAX_CELLS → AreAnswers asked me history (cond asked (page_states me history) [])
 states_sent me history true few = (reports_of history, reports_of_pages history few, refl)
 states_sent me history false few = refl
 

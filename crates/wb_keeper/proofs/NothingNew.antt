@@ -9,6 +9,7 @@ use Rattle.wb_names.specs.Ascending.{AreMarks}
 use Rattle.wb_names.proofs.Orders.{and_both}
 use Rattle.wb_gaps.specs.Merging.{source_count}
 use Rattle.wb_keeper.specs.TakingIn.{IsMerged, has_all}
+use Rattle.wb_names.specs.declared.entries.TheConstants.{MAX_ENTRIES}
 
 module _ (heard : List MarkValue) where
   -- no number that these tell is above that which was heard
@@ -42,11 +43,11 @@ module _ (heard : List MarkValue) where
     merges = (of_heard, λ s. let l = low told h s in omega arith);
   }
 
-  pub room_for_nothing_new : (told : List MarkValue) → AreMarks heard → AreMarks told → has_all heard told ≡ true → nat_le (source_count heard told) 65535 ≡ true
+  pub room_for_nothing_new : (told : List MarkValue) → AreMarks heard → AreMarks told → has_all heard told ≡ true → nat_le (source_count heard told) MAX_ENTRIES ≡ true
   room_for_nothing_new told of_heard of_told h =
       let few = of_heard.few in
       let none = none_new told of_told.positive h in
-      let count : source_count heard told ≤ 65535 = omega arith in
+      let count : source_count heard told ≤ MAX_ENTRIES = omega arith in
       test (source_count heard told) count where
-        test : (n : ℕ) → n ≤ 65535 → nat_le n 65535 ≡ true
+        test : (n : ℕ) → n ≤ MAX_ENTRIES → nat_le n MAX_ENTRIES ≡ true
         test n le = grind (arith, nat_tests)

@@ -22,6 +22,7 @@ use Rattle.wb_keeper.specs.Keeper.{KeeperCall, last_heard}
 use Rattle.wb_keeper.specs.Keeping.{heard_at}
 use Rattle.wb_keeper.specs.Sessions.{echo_cmp, IsEchoTo, echoes_at}
 use Rattle.wb_keeper.specs.declared.keeper.Heard.{Heard}
+use Rattle.wb_names.specs.declared.entries.TheConstants.{MAX_ENTRIES}
 
 abbrev pub echo_at : ℕ → ℕ × Heard → Echo
 echo_at now p = record { source = p.0; sent = p.1.sent; held = now - p.1.at }
@@ -31,7 +32,7 @@ sources_are now [] = refl
 sources_are now (p ∷ heard) = ap (λ (xs : List ℕ). p.0 ∷ xs) (sources_are now heard)
 
 -- they are refused for nothing
-pub no_fault : (now : ℕ) (heard : List (ℕ × Heard)) (fault : ListFault) → IsStrictlySortedBy nat_cmp (keys_of heard) → length heard ≤ 65535 → IsListFault (map (λ (e : Echo). e.source) (echoes_at now heard)) fault → ⊥
+pub no_fault : (now : ℕ) (heard : List (ℕ × Heard)) (fault : ListFault) → IsStrictlySortedBy nat_cmp (keys_of heard) → length heard ≤ MAX_ENTRIES → IsListFault (map (λ (e : Echo). e.source) (echoes_at now heard)) fault → ⊥
 no_fault now heard TooMany rises few h =
     let a = length-map (echoes_at now heard) (λ (e : Echo). e.source) in
     let b = length-map heard (echo_at now) in

@@ -34,6 +34,7 @@ use Rattle.wb_keeping.specs.Refusing.{is_unknown, is_unknown_of_ours}
 use Rattle.wb_keeping.specs.declared.kept_fault.KeptFault.TheVariants.{Host, Ours}
 use Rattle.wb_keeping.proofs.Performed.{then_after}
 use Rattle.wb_keeping.proofs.EachLine.{DoesEach, Each, OfPolicy, ends_each, learned_each, measures_each, then_each, timed_each, told_each}
+use Rattle.wb_board.specs.Counts.{MAX_CELLS}
 
 -- ---- marks of one source
 
@@ -138,7 +139,7 @@ pub record IsBounded (host : Opened) : Type 0 where
   pub marks : (page : PageId) → OwnBelow host.is.number 2147483647 (marks_heard host.is.number host.is.calls page)
   pub held : (page : PageId) → highest page host.is.number host.is.held ≤ 2147483647 + length host.is.held
   pub room : length host.is.held ≤ host.is.cells
-  pub cells : host.is.cells ≤ 65535
+  pub cells : host.is.cells ≤ MAX_CELLS
 
 abbrev pub IsTame : Opened → Line → Type 0
 IsTame host (Ticks now) = Unit {0}
@@ -358,7 +359,7 @@ ticks_quiet : (moments : List ℕ) → AreQuiet (map Ticks moments)
 ticks_quiet [] = tt
 ticks_quiet (moment ∷ moments) = (tt, ticks_quiet moments)
 
-pub bounded_open : (constants : Tuning) (number cells seed : ℕ) → cells ≤ 65535 → IsBounded (opened_with constants number cells seed)
+pub bounded_open : (constants : Tuning) (number cells seed : ℕ) → cells ≤ MAX_CELLS → IsBounded (opened_with constants number cells seed)
 bounded_open constants number cells seed few = record { marks = λ page. tt; held = λ page. omega arith; room = omega arith; cells = few }
 
 pub a_number_is_left : ANumberIsLeft

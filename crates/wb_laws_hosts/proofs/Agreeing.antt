@@ -36,6 +36,7 @@ use Rattle.wb_laws_hosts.proofs.Lines.{member_in}
 use Rattle.wb_laws_hosts.proofs.Ranges.{boards_are_in_range}
 use Rattle.wb_laws_hosts.proofs.ReportTexts.{IsSmall, report_once, some_printed, none_are_told}
 use Rattle.wb_laws_hosts.proofs.TextSessions.{older_numbered, texts_are_sessions, texts_split}
+use Rattle.wb_board.specs.Counts.{MAX_CELLS}
 
 -- ---- what is printed for a question
 
@@ -56,7 +57,7 @@ asked_text tuning (Kept k) query = kept_text k (answer_text (answer_to query k.h
 small : (held : List DrawopValue) → All IsDrawop held → (page : PageId) → All IsSmall (report_of held page)
 small held fit page = All-weaker IsMark IsSmall (λ m f. let a = f.source in let b = f.high in record { source = omega arith; high = omega arith }) (report_of held page) (marks_fit held fit page)
 
-few : (held : List DrawopValue) → length held ≤ 65535 → (page : PageId) → length (report_of held page) < 2 ^ 64
+few : (held : List DrawopValue) → length held ≤ MAX_CELLS → (page : PageId) → length (report_of held page) < 2 ^ 64
 few held le page = let marks = (report_of_page held page le).0.few in omega arith
 
 -- ---- a host that printed that there are no gaps is open
@@ -89,7 +90,7 @@ module _ (numbers : ℕ → ℕ) (events newer older newer' older' : List EventA
   steps_split : (new front : List EventAt) → events ≡ new ++ front → (more : List Step) × (steps_of_texts events ≡ more ++ steps_of_texts front)
   steps_split new front e = let s = texts_split new front in (s.0, ap steps_of_texts e ∙ s.1)
 
-  few_held : (new front : List EventAt) (k : ℕ) → events ≡ new ++ front → length (host_at numbers (steps_of_texts front) k).is.held ≤ 65535
+  few_held : (new front : List EventAt) (k : ℕ) → events ≡ new ++ front → length (host_at numbers (steps_of_texts front) k).is.held ≤ MAX_CELLS
   few_held new front k e =
       let s = steps_split new front e in
       let f = fits numbers (steps_of_texts events) apart honest (steps_of_texts front) (older_honest numbers (steps_of_texts events) apart honest s.0 (steps_of_texts front) (subst (AreHonest numbers) s.1 honest)) k in

@@ -17,6 +17,7 @@ use Rattle.wb_gaps.proofs.PageAnswers.{report_of_page}
 use Rattle.wb_gaps.proofs.Sorting.{Contains-from_sorted}
 use Rattle.wb_keeper.specs.Hearing.{asks_for_pages, page_states, answers_to}
 use Rattle.wb_laws_sessions.proofs.Holding.{all_from}
+use Rattle.wb_board.specs.Counts.{MAX_CELLS}
 
 -- ---- one number of a source
 
@@ -63,7 +64,7 @@ marks_fit held fit page = all_from IsMark (report_of held page) (λ m c.
     let a = Any-from_map (top_mark held page) (sources_of held page) m kept.0 in
     subst IsMark a.4 (mark_fits a.1 (highest page a.1 held) (ltb-true 0 (highest page a.1 held) (subst (λ (k : MarkValue). IsTrue (nat_lt 0 k.high)) (sym a.4) kept.1)) (highest_small held fit page a.1)))
 
-module _ (held : List DrawopValue) (fit : All IsDrawop held) (few : length held ≤ 65535) where
+module _ (held : List DrawopValue) (fit : All IsDrawop held) (few : length held ≤ MAX_CELLS) where
   pub report_fits : (page : PageId) → IsMarkList (report_of held page)
   report_fits page = record { lawful = (report_of_page held page few).0; ranges = marks_fit held fit page }
 

@@ -30,6 +30,7 @@ use Rattle.wb_laws_hosts.proofs.AddedLines.{IsAdding, adding_fits}
 use Rattle.wb_laws_hosts.proofs.ScriptLines as scripts
 use Rattle.wb_laws_hosts.proofs.ScriptLines.{Asks, IsWithin, IsDigitsOf, bound, behind, number_fits, datagram_fits, datagram_digits, line_fits}
 use Rattle.wb_laws_hosts.specs.Laws.{SaysDatagram, LinesCarryBytes}
+use Rattle.wb_policy.specs.declared.limits.TheConstants.{MAX_RATE}
 
 -- a datagram that a line hands in has a property, and all else that it carries is in range
 abbrev pub Carries : (Datagram → Type 0) → DriverLine → Type 0
@@ -105,7 +106,7 @@ moment_fits arguments = behind (λ now. now < 2 ^ 48) (or_fault faults.Words (tw
 keep_fits : (arguments : List (List ℕ)) → IfOk (keep_line arguments) IsKept
 unfolding keep_line
 keep_fits arguments = behind IsKept (or_fault faults.Words (two_of arguments)) _ (λ ws.
-    behind IsKept (number 1 1000000 ws.0) _ (λ rate. behind IsKept (number 0 (2 ^ 32 - 1) ws.1) _ (λ listen. tt)))
+    behind IsKept (number 1 MAX_RATE ws.0) _ (λ rate. behind IsKept (number 0 (2 ^ 32 - 1) ws.1) _ (λ listen. tt)))
 
 came_line_fits : (arguments : List (List ℕ)) → IfOk (came_line arguments) IsKept
 unfolding came_line

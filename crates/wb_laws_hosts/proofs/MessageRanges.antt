@@ -37,6 +37,8 @@ use Rattle.wb_laws_hosts.proofs.BoardRanges.{report_fits}
 use Rattle.wb_laws_hosts.proofs.CallRanges.{Fits, names_fit}
 use Rattle.std.proofs.lemmas.Option.{same_Some}
 use Rattle.wb_laws_sessions.proofs.Holding.{all_from}
+use Rattle.wb_board.specs.Counts.{MAX_CELLS}
+use Rattle.wb_names.specs.declared.entries.TheConstants.{MAX_ENTRIES}
 
 -- ---- how many echoes there are
 
@@ -47,15 +49,15 @@ few_told f (x ∷ xs) = from (f x) (few_told f xs) where
   from None le = omega arith
   from (Some y) le = omega arith
 
-few_senders : (me : ℕ) (calls : List KeeperCall) → length (senders_of me calls) ≤ 65535
+few_senders : (me : ℕ) (calls : List KeeperCall) → length (senders_of me calls) ≤ MAX_ENTRIES
 few_senders me [] = omega arith
 few_senders me (call ∷ calls) = from (session_heard me call) (senders_of me calls) (few_senders me calls) where
-  from : (o : Option (ℕ × Heard)) (senders : List ℕ) → length senders ≤ 65535 → length (remember o senders) ≤ 65535
+  from : (o : Option (ℕ × Heard)) (senders : List ℕ) → length senders ≤ MAX_ENTRIES → length (remember o senders) ≤ MAX_ENTRIES
   from None senders le = le
-  from (Some told) senders le = at (list_any (nat_eq told.0) senders || nat_le 65535 (length senders)) refl where
-    at : (b : Bool) → (list_any (nat_eq told.0) senders || nat_le 65535 (length senders)) ≡ b → length (if b then senders else told.0 ∷ senders) ≤ 65535
+  from (Some told) senders le = at (list_any (nat_eq told.0) senders || nat_le MAX_ENTRIES (length senders)) refl where
+    at : (b : Bool) → (list_any (nat_eq told.0) senders || nat_le MAX_ENTRIES (length senders)) ≡ b → length (if b then senders else told.0 ∷ senders) ≤ MAX_ENTRIES
     at true e = le
-    at false e = let lt = leb-false 65535 (length senders) (or_parts (list_any (nat_eq told.0) senders) (nat_le 65535 (length senders)) e).1 in omega arith
+    at false e = let lt = leb-false MAX_ENTRIES (length senders) (or_parts (list_any (nat_eq told.0) senders) (nat_le MAX_ENTRIES (length senders)) e).1 in omega arith
 
 -- ---- the session message that an echo answers
 
@@ -92,7 +94,7 @@ module _ (me : ℕ) (calls : List KeeperCall) (fit : All Fits calls) (now : ℕ)
       let a = is.1 in
       record { source = is.0; sent = omega arith; held = omega arith }
 
-  module _ (history : List DrawopValue) (board : All IsDrawop history) (few : length history ≤ 65535) (lt : me < 2 ^ 32) where
+  module _ (history : List DrawopValue) (board : All IsDrawop history) (few : length history ≤ MAX_CELLS) (lt : me < 2 ^ 32) where
     echoes_listed : (page : PageId) → Lists echo_cmp (IsEchoTo me calls now) (echoes_of me calls now)
     echoes_listed page =
         let is = message_is_session me calls now history page few in

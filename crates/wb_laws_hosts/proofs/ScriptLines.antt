@@ -25,6 +25,7 @@ use Rattle.wb_commands.specs.declared.fault.LineFault.TheVariants as faults
 use Rattle.wb_commands.specs.declared.command.Command.{Command}
 use Rattle.wb_commands.specs.declared.command.Command.TheVariants as lines
 use Rattle.std.proofs.lemmas.Bool.{le-leb, and_from}
+use Rattle.wb_board.specs.Counts.{MAX_CELLS}
 
 -- ---- steps
 
@@ -132,7 +133,7 @@ datagram_digits arguments =
 
 -- a datagram that a line of a script carries has a property, and all else that it carries is in range
 abbrev pub Carries : (Datagram → Type 0) → Command → Type 0
-Carries P (lines.Board member cells workers seed) = (member < 2 ^ 32) × (cells ≤ 65535)
+Carries P (lines.Board member cells workers seed) = (member < 2 ^ 32) × (cells ≤ MAX_CELLS)
 Carries P (lines.Arrive d) = P (datagrams.Draw d)
 Carries P (lines.Hear v) = P v
 Carries P (lines.Tick moment) = moment < 2 ^ 48
@@ -159,7 +160,7 @@ module _ (P : Datagram → Type 0) where
   unfolding board
   board_fits arguments = behind Has (or_fault faults.Words (four_of arguments)) _ (λ ws.
       bound (IsWithin 0 (2 ^ 32 - 1)) Has (number 0 (2 ^ 32 - 1) ws.0) _ (number_fits 0 (2 ^ 32 - 1) ws.0) (λ member m.
-      bound (IsWithin 1 65535) Has (number 1 65535 ws.1) _ (number_fits 1 65535 ws.1) (λ cells c.
+      bound (IsWithin 1 MAX_CELLS) Has (number 1 MAX_CELLS ws.1) _ (number_fits 1 MAX_CELLS ws.1) (λ cells c.
       behind Has (number 1 8 ws.2) _ (λ workers.
       behind Has (number 0 (2 ^ 64 - 1) ws.3) _ (λ seed.
       let a = m.1 in (omega arith, c.1))))))

@@ -74,7 +74,7 @@ its_high (x ∷ marks) m rises c = ⊎_elim
     there x marks m.source (λ (e : x.source ≡ m.source). omega (arith, lt, e)) ∙ its_high marks m (rest_rises x marks rises) later)
     (Contains-cases x m marks c)
 
-report_holds : (held : List DrawopValue) (page : PageId) (m : MarkValue) → length held ≤ 65535 → Contains (report_of held page) m → HoldsName held (name_of page m.source m.high)
+report_holds : (held : List DrawopValue) (page : PageId) (m : MarkValue) → length held ≤ MAX_CELLS → Contains (report_of held page) m → HoldsName held (name_of page m.source m.high)
 report_holds held page m few c =
     let r = report_of_page held page few in
     let high : m.high ≡ highest page m.source held = sym (its_high (report_of held page) m r.0.ascending c) ∙ r.1 m.source in
@@ -84,7 +84,7 @@ report_holds held page m few c =
     (λ (is : IsHeld held page m.source (highest page m.source held)). subst (λ (n : ℕ). HoldsName held (name_of page m.source n)) (sym high) is)
     (greatest_held held page m.source).reached
 
-slice_holds : (held : List DrawopValue) (page : PageId) (told : Option ℕ) (m : MarkValue) → length held ≤ 65535 → Contains (slice_after told (report_of held page)) m → HoldsName held (name_of page m.source m.high)
+slice_holds : (held : List DrawopValue) (page : PageId) (told : Option ℕ) (m : MarkValue) → length held ≤ MAX_CELLS → Contains (slice_after told (report_of held page)) m → HoldsName held (name_of page m.source m.high)
 slice_holds held page told m few c =
     report_holds held page m few (Contains-from_filter (λ m. is_untold told m.source) (report_of held page) m (from_take 64 (filter (λ m. is_untold told m.source) (report_of held page)) m c)).0
 
@@ -130,7 +130,7 @@ tick_tells me held actions v c =
         by None e = cc
         by (Some x) e = drawing_tells held v x (same_Some (Draw x) v e)
 
-answer_tells : (me : ℕ) (held : List DrawopValue) (heard v : Datagram) → length held ≤ 65535 → Contains (answers_to me held heard) v → TellsHeld held v
+answer_tells : (me : ℕ) (held : List DrawopValue) (heard v : Datagram) → length held ≤ MAX_CELLS → Contains (answers_to me held heard) v → TellsHeld held v
 answer_tells me held heard v few c = by (asks_for_pages me heard) c where
   state : PageReport → Datagram
   state r = PageState me r.page r.marks
@@ -166,7 +166,7 @@ names_grow lines host n h =
 tells_later : (lines : List Line) (host : Opened) (v : Datagram) → TellsHeld host.is.held v → TellsHeld (after_lines lines host).is.held v
 tells_later lines host v tells page m c = names_grow lines host (name_of page m.source m.high) (tells page m c)
 
-few_held : (host : Opened) → Fits host → length host.is.held ≤ 65535
+few_held : (host : Opened) → Fits host → length host.is.held ≤ MAX_CELLS
 few_held host f = let a = f.few in let b = f.small in omega (arith, a, b)
 
 -- ---- what a policy has its host send
@@ -229,7 +229,7 @@ one_tells k line tells = record {
 }
 
 -- the host says page states, one after the other
-states_tell : (told : Opened) (pages : List PageId) (host : Opened) → length host.is.held ≤ 65535 → told ≡ host → (v : Datagram) → Contains (sent_by_lines (map (λ page. Says (state_of (view_of told) page)) pages) host) v → TellsHeld host.is.held v
+states_tell : (told : Opened) (pages : List PageId) (host : Opened) → length host.is.held ≤ MAX_CELLS → told ≡ host → (v : Datagram) → Contains (sent_by_lines (map (λ page. Says (state_of (view_of told) page)) pages) host) v → TellsHeld host.is.held v
 states_tell told [] host few is v c = absurd (Contains-none v c)
 states_tell told (page ∷ pages) host few is v c = ⊎_elim
     (λ (e : state_of (view_of told) page ≡ v). subst (TellsHeld host.is.held) e
@@ -244,7 +244,7 @@ said_tells d host v (Known place) c = drawing_tells host.is.held v d (one_of (Dr
 said_tells d host v (Clashed place) c = absurd (Contains-none v c)
 said_tells d host v Left c = absurd (Contains-none v c)
 
-hears_tells : (h : Datagram) (host : Opened) → length host.is.held ≤ 65535 → (v : Datagram) → Contains (sent_by_line (Hears h) host) v → TellsHeld host.is.held v
+hears_tells : (h : Datagram) (host : Opened) → length host.is.held ≤ MAX_CELLS → (v : Datagram) → Contains (sent_by_line (Hears h) host) v → TellsHeld host.is.held v
 hears_tells h host few v c = by (has_room_for h host) c where
   by : (b : Bool) → Contains (cond b (answers_to host.is.number host.is.held h) []) v → TellsHeld host.is.held v
   by true c = answer_tells host.is.number host.is.held h v few c

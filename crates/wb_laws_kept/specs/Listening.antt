@@ -8,6 +8,7 @@ use Rattle.wb_codec.specs.declared.datagram.Datagram.TheVariants.{Draw, Session,
 use Rattle.wb_keeper.specs.Hearing.{marks_in}
 use Rattle.wb_member.specs.Opened.{has_room_for, last_number, ticked}
 use Rattle.wb_policy.specs.Choices.{own_echo, own_marks}
+use Rattle.wb_policy.specs.declared.limits.TheConstants.{FIRST_FORGED}
 use Rattle.wb_keeping.specs.Laws.{Came}
 use Rattle.wb_keeping.specs.Performing.{Keeping}
 use Rattle.wb_laws_kept.specs.Openings.{Opening}
@@ -52,6 +53,6 @@ ListeningTells =
     (now : ℕ) (v : Datagram) (page : PageId) (m : MarkValue)
     → e.call ≡ Handed (Came now v) → now < (kept_at numbers older e.place).policy.ready
     → AreMarks (marks_in page v) → TellsMark v (numbers e.place) page m
-    → m.source ≡ numbers e.place → m.high < 2147483648
+    → m.source ≡ numbers e.place → m.high < FIRST_FORGED
     → IsHeardWhole now v (kept_at numbers older e.place) → HasNotBegun newer e.place
     → m.high ≤ last_number page (kept_at numbers (newer ++ e ∷ older) e.place).host

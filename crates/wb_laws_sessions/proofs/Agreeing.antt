@@ -21,6 +21,7 @@ use Rattle.wb_laws_sessions.proofs.Deeds.{Fits, fits_after}
 use Rattle.wb_laws_sessions.proofs.Drawn.{each_was_drawn, held_once_at, held_was_drawn, names_mean_one, numbers_count}
 use Rattle.wb_laws_sessions.proofs.Names.{at_most_highest, name_in, named, of_name}
 use Rattle.wb_laws_sessions.proofs.Sharing.{ShareAPage, view_alike}
+use Rattle.wb_board.specs.Counts.{MAX_CELLS}
 
 -- no range covers anything where there is none
 pub covers_none : (gaps : List Gap) (source n : ℕ) → gaps ≡ [] → Covers gaps source n → ⊥
@@ -65,7 +66,7 @@ module _ (numbers : ℕ → ℕ) (steps : List Step) (apart : AreApart numbers) 
   older_honest [] older h = h
   older_honest (e ∷ newer) older h = older_honest newer older h.1
 
-  few : (newer older : List Step) (i : ℕ) → steps ≡ newer ++ older → length (host_at numbers older i).is.held ≤ 65535
+  few : (newer older : List Step) (i : ℕ) → steps ≡ newer ++ older → length (host_at numbers older i).is.held ≤ MAX_CELLS
   few newer older i split =
       let f = fits older (older_honest newer older (subst (AreHonest numbers) split honest)) i in
       let a = f.few in

@@ -11,6 +11,7 @@ use Rattle.wb_board.specs.Board.{IsAnswer, AskGaps, AskReport, AskPages, AskView
 use Rattle.wb_member.specs.Board.{Held, held_of, OwnsAll}
 use Rattle.wb_member.specs.Queries.{view_of}
 use Rattle.wb_member.proofs.Queries.{only_view}
+use Rattle.wb_board.specs.Counts.{MAX_CELLS}
 
 kept : (b : HistoryValue) (p q : PassValue) → OwnsAll b p → IsSamePass p q → IsSound q → KeepsRows p q → OwnsAll b q
 kept b p q owns same sound rows = record {
@@ -26,7 +27,7 @@ read_on b p q owns r = kept b p q owns r.same r.sound r.nothing.0
 seen_is : (b : HistoryValue) (p q : PassValue) (h : Held) → held_of p ≡ h → OwnsAll b p → ReadsOn p q → q.seen ≡ h.drawops
 seen_is b p q h view owns r = r.nothing.1 owns.whole ∙ ap (λ (k : Held). k.drawops) view
 
-pub few_seen : (q : PassValue) → IsSound q → length q.seen ≤ 65535
+pub few_seen : (q : PassValue) → IsSound q → length q.seen ≤ MAX_CELLS
 few_seen q sound = let room = sound.room in let few = sound.few_cells in omega arith
 
 -- the answers of a board whose desk owns all rows

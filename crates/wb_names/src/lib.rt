@@ -36,6 +36,6 @@ pub use moment::{MAX_MOMENT, MOMENT_LIMIT};
 pub use name::{Name, PageId};
 pub use order::{before, display_order};
 pub use parts::{Change, Figure, Op, OpKind, Stroke, Target};
-pub use shape::{MAX_COORDINATE, Shape};
+pub use shape::{MAX_COORDINATE, Shape, shape_of};
 pub use stream::{FromRead, Sink, Source, ToWrite};
 pub use text::Text;

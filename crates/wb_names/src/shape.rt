@@ -24,6 +24,21 @@ pub enum Shape<'a> {
     Aimed(Change, Target),
 }
 
+/// An operation as it is handed in.
+pub fn shape_of(op: &Op) -> Shape<'_>
+    ensures { op_of result ≡ op.now }
+{
+    match op {
+        Op::Drawn(figure, stroke) => Shape::Drawn(*figure, *stroke),
+        Op::Text { x, y, text } => Shape::Text {
+            x: *x,
+            y: *y,
+            bytes: text.as_slice(),
+        },
+        Op::Aimed(change, target) => Shape::Aimed(*change, *target),
+    }
+}
+
 /// The greatest coordinate, in cells.
 pub const MAX_COORDINATE: u16 = 4095;
 

@@ -95,6 +95,9 @@ pub const HEARD: u64 = 3 * LONGEST_MEAN;
 /// The most members that are counted: this one, and those of a list of echoes.
 pub const MEMBERS: u64 = 1 + MAX_ENTRIES as u64;
 
+/// The most bytes a second that reports may take.
+pub const MAX_RATE: u32 = 1_000_000;
+
 /// The most marks of one report.
 pub const MOST_MARKS: usize = 64;
 

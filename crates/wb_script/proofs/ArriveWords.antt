@@ -21,6 +21,7 @@ use Rattle.wb_commands.specs.declared.command.Command.{Command}
 use Rattle.wb_commands.specs.declared.command.Command.TheVariants.{Arrive, Skip, Board, Distance, Tune, Tick, Look, Session, Question}
 use Rattle.wb_commands.specs.Parsing.{◌>>=◌, or_fault, number, one_of, two_of, four_of, page, spelled, datagram, board, arrived, heard, arrive, hear, handed_in, bytes_line, distance, tuning, tick, question, page_line, command, begins_comment, line_of_words, in_words, line_of}
 use Rattle.wb_script.specs.Script.{Arrival, part_of}
+use Rattle.wb_board.specs.Counts.{MAX_CELLS}
 
 -- ---- the words of a line that ends so
 
@@ -71,7 +72,7 @@ unfolding board
 no_board ws =
     none_then (or_fault faults.Words (four_of ws)) _ (λ w.
     none_then (number 0 (2 ^ 32 - 1) w.0) _ (λ member.
-    none_then (number 1 65535 w.1) _ (λ cells.
+    none_then (number 1 MAX_CELLS w.1) _ (λ cells.
     none_then (number 1 8 w.2) _ (λ workers.
     none_then (number 0 (2 ^ 64 - 1) w.3) (λ seed. Ok (Board member cells workers seed)) (λ seed. tt)))))
 

@@ -14,6 +14,7 @@ use Rattle.wb_words.specs.declared.fault.WrongWord.{WrongWord}
 use Rattle.wb_words.specs.declared.fault.WordFault.{WordFault}
 use Rattle.wb_words.specs.declared.fault.WordFault.TheVariants.{TooMany}
 use Rattle.wb_words.specs.Reading.{◌>>=◌, require, wrong, entries_at, left_at}
+use Rattle.wb_names.specs.declared.entries.TheConstants.{MAX_ENTRIES}
 
 -- ---- steps and checks
 
@@ -79,15 +80,15 @@ module _ {X : Type 0} (entry_at : ℕ → Option ℕ → List ℕ → Result X W
   -- what is left to read, where these entries are read
   pub record HasRead (place : ℕ) (ws : List (List ℕ)) (before : Option ℕ) (rest : List (List ℕ)) (xs : List X) : Type 0 where
     pub so_far : entries_at entry_at source stops place 0 None ws ≡ onto xs (entries_at entry_at source stops (place + length xs) (length xs) before rest)
-    pub few : length xs ≤ 65535
+    pub few : length xs ≤ MAX_ENTRIES
 
-  read_one : (place n : ℕ) (before : Option ℕ) (w : List ℕ) (after : List (List ℕ)) (x : X) → stops w ≡ false → n < 65535 → entry_at place before w ≡ Ok x
+  read_one : (place n : ℕ) (before : Option ℕ) (w : List ℕ) (after : List (List ℕ)) (x : X) → stops w ≡ false → n < MAX_ENTRIES → entry_at place before w ≡ Ok x
       → read place n before (w ∷ after) ≡ onto (x ∷ []) (read (place + 1) (n + 1) (Some (source x)) after)
   unfolding entries_at
   read_one place n before w after x goes few e = grind (arith, common_steps, lt-ltb, onto_one)
 
   -- one entry more was read, and put to the others
-  pub read_pushed : (place : ℕ) (ws : List (List ℕ)) (before : Option ℕ) (rest : List (List ℕ)) (w : List ℕ) (after : List (List ℕ)) (xs : List X) (x : X) (here last : ℕ) (ys : List X) → HasRead place ws before rest xs → rest ≡ w ∷ after → stops w ≡ false → length xs < 65535 → here ≡ place + length xs → entry_at here before w ≡ Ok x → last ≡ source x → ys ≡ xs ++ x ∷ []
+  pub read_pushed : (place : ℕ) (ws : List (List ℕ)) (before : Option ℕ) (rest : List (List ℕ)) (w : List ℕ) (after : List (List ℕ)) (xs : List X) (x : X) (here last : ℕ) (ys : List X) → HasRead place ws before rest xs → rest ≡ w ∷ after → stops w ≡ false → length xs < MAX_ENTRIES → here ≡ place + length xs → entry_at here before w ≡ Ok x → last ≡ source x → ys ≡ xs ++ x ∷ []
       → HasRead place ws (Some last) after ys
   read_pushed place ws before rest w after xs x here last ys h is goes few at-is e source-is pushed =
       let entry : entry_at (place + length xs) before w ≡ Ok x = ap (λ (p : ℕ). entry_at p before w) (sym at-is) ∙ e in
@@ -97,12 +98,12 @@ module _ {X : Type 0} (entry_at : ℕ → Option ℕ → List ℕ → Result X W
       let there : place + length xs + 1 ≡ place + length ys = omega arith in
       record { so_far = cc; few = omega arith }
 
-  pub read_stops : (place : ℕ) (ws : List (List ℕ)) (before : Option ℕ) (rest : List (List ℕ)) (w : List ℕ) (after : List (List ℕ)) (xs : List X) (e : WrongWord) (here : ℕ) → HasRead place ws before rest xs → rest ≡ w ∷ after → stops w ≡ false → length xs < 65535 → here ≡ place + length xs → entry_at here before w ≡ Err e
+  pub read_stops : (place : ℕ) (ws : List (List ℕ)) (before : Option ℕ) (rest : List (List ℕ)) (w : List ℕ) (after : List (List ℕ)) (xs : List X) (e : WrongWord) (here : ℕ) → HasRead place ws before rest xs → rest ≡ w ∷ after → stops w ≡ false → length xs < MAX_ENTRIES → here ≡ place + length xs → entry_at here before w ≡ Err e
       → entries_at entry_at source stops place 0 None ws ≡ Err e
   unfolding entries_at
   read_stops place ws before rest w after xs e here h is goes few at-is refused = grind (arith, common_steps, lt-ltb)
 
-  pub read_many : (place : ℕ) (ws : List (List ℕ)) (before : Option ℕ) (rest : List (List ℕ)) (w : List ℕ) (after : List (List ℕ)) (xs : List X) → HasRead place ws before rest xs → rest ≡ w ∷ after → stops w ≡ false → 65535 ≤ length xs
+  pub read_many : (place : ℕ) (ws : List (List ℕ)) (before : Option ℕ) (rest : List (List ℕ)) (w : List ℕ) (after : List (List ℕ)) (xs : List X) → HasRead place ws before rest xs → rest ≡ w ∷ after → stops w ≡ false → MAX_ENTRIES ≤ length xs
       → entries_at entry_at source stops place 0 None ws ≡ wrong (place + length xs) TooMany
   unfolding entries_at
   read_many place ws before rest w after xs h is goes many = grind (arith, common_steps, nat_tests)
@@ -131,9 +132,9 @@ module _ {X : Type 0} (entry_at : ℕ → Option ℕ → List ℕ → Result X W
       fits : All Fits xs
       ascending : AllPairs (λ a b. source a < source b) xs
       above : All (λ a. is_above before (source a) ≡ true) xs
-      few : n + length xs ≤ 65535
+      few : n + length xs ≤ MAX_ENTRIES
 
-    taken_none : (n : ℕ) (before : Option ℕ) (ws : List (List ℕ)) → n ≤ 65535 → left_at stops ws ≡ ws → ListTaken n before ws []
+    taken_none : (n : ℕ) (before : Option ℕ) (ws : List (List ℕ)) → n ≤ MAX_ENTRIES → left_at stops ws ≡ ws → ListTaken n before ws []
     taken_none n before ws few is = record {
       words = sym is;
       fits = λ k d h. absurd (omega arith);
@@ -161,13 +162,13 @@ module _ {X : Type 0} (entry_at : ℕ → Option ℕ → List ℕ → Result X W
     abbrev EntryReads : Type 0
     EntryReads = (place : ℕ) (before : Option ℕ) (w : List ℕ) → Reads (EntryTaken spell Fits before w) (entry_at place before w)
 
-    entries_read : EntryReads → (place n : ℕ) (before : Option ℕ) (ws : List (List ℕ)) → n ≤ 65535 → Reads (ListTaken n before ws) (entries_at entry_at source stops place n before ws)
+    entries_read : EntryReads → (place n : ℕ) (before : Option ℕ) (ws : List (List ℕ)) → n ≤ MAX_ENTRIES → Reads (ListTaken n before ws) (entries_at entry_at source stops place n before ws)
     unfolding entries_at
     entries_read entry place n before [] few = gives _ (taken_none n before [] few refl)
     entries_read entry place n before (w ∷ ws) few = chosen (stops w) _ _
         (λ (h : stops w ≡ true). gives _ (taken_none n before (w ∷ ws) few (rw h refl)))
-        (λ (h : stops w ≡ false). required (nat_lt n 65535) place TooMany w _ (λ room.
-        let more : n + 1 ≤ 65535 = omega (arith, ltb-true n 65535 room) in
+        (λ (h : stops w ≡ false). required (nat_lt n MAX_ENTRIES) place TooMany w _ (λ room.
+        let more : n + 1 ≤ MAX_ENTRIES = omega (arith, ltb-true n MAX_ENTRIES room) in
         step _ (entry place before w) (λ x t. step _ (entries_read entry (place + 1) (n + 1) (Some (source x)) ws more) (λ xs ts. gives _ (taken_more n before w ws x xs h t ts)))))
 
     pub list_reads : EntryReads → (place : ℕ) (ws : List (List ℕ)) → Reads (λ xs. (ws ≡ map spell xs ++ left_at stops ws) × IsEntryList source IsPositive IsEntry xs) (entries_at entry_at source stops place 0 None ws)
@@ -185,7 +186,7 @@ module _ {X : Type 0} (entry_at : ℕ → Option ℕ → List ℕ → Result X W
     stopped_ends place n before (w ∷ ws) h = rw h refl
 
     entries_again : ((place : ℕ) (before : Option ℕ) (x : X) → Fits x → is_above before (source x) ≡ true → entry_at place before (spell x) ≡ Ok x) → ((x : X) → Fits x → stops (spell x) ≡ false)
-        → (xs : List X) (place n : ℕ) (before : Option ℕ) (rest : List (List ℕ)) → Stopped stops rest → n + length xs ≤ 65535 → All Fits xs → AllPairs (λ a b. source a < source b) xs → All (λ a. is_above before (source a) ≡ true) xs
+        → (xs : List X) (place n : ℕ) (before : Option ℕ) (rest : List (List ℕ)) → Stopped stops rest → n + length xs ≤ MAX_ENTRIES → All Fits xs → AllPairs (λ a b. source a < source b) xs → All (λ a. is_above before (source a) ≡ true) xs
         → entries_at entry_at source stops place n before (map spell xs ++ rest) ≡ Ok xs
     unfolding entries_at
     entries_again again goes [] place n before rest ended few fits up above = stopped_ends place n before rest ended
@@ -193,7 +194,7 @@ module _ {X : Type 0} (entry_at : ℕ → Option ℕ → List ℕ → Result X W
         let higher : All (λ a. is_above (Some (source x)) (source a) ≡ true) xs = λ k d h. lt-ltb (source x) (source (get_or xs k d)) (up 0 (suc k) d (omega arith) (omega arith)) in
         let one = All-head Fits x xs fits in
         let first = again place before x one (All-head (λ (a : X). is_above before (source a) ≡ true) x xs above) in
-        let test : nat_lt n 65535 ≡ true = lt-ltb n 65535 (omega arith) in
+        let test : nat_lt n MAX_ENTRIES ≡ true = lt-ltb n MAX_ENTRIES (omega arith) in
         let others = entries_again again goes xs (place + 1) (n + 1) (Some (source x)) rest ended (omega arith) (All-tail Fits x xs fits) (λ i j d ij h. up (suc i) (suc j) d (omega arith) (omega arith)) higher in
         rw (goes x one, test, first, others) refl
 

@@ -25,8 +25,8 @@ impl JudgedMember {
         self.kept.answer(alloc, query)
     }
 
-    /// What a page shows otherwise than when the first `count` of its drawops were held, which stand
-    /// in the order in which they came.
+    /// What a page shows otherwise than when the member held the first `count` drawops that came,
+    /// counted over all pages.
     pub fn since(&mut self, alloc: Global, page: PageId, count: u32) -> Result<Since, AllocError>
         ensures same { self.new ≡ self.old }
         ensures since { IfOk result (λ since. (h : Judged) → IsJudgedAt self.old h →

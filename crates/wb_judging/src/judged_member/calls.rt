@@ -12,7 +12,7 @@ ghost use Rattle.wb_judging.specs.declared.judged_fault.JudgedFault.TheVariants.
 
 use crate::call::Call;
 use crate::event::Event;
-use crate::handing::{draw, recall, shape_of};
+use crate::handing::{draw, recall};
 use crate::hearing::hear_recalled;
 use crate::judged_fault::JudgedFault;
 use crate::judged_member::JudgedMember;
@@ -21,7 +21,7 @@ use crate::telling::no_datagram;
 use std::alloc::Global;
 use wb_keeper::KeepFault;
 use wb_keeping::KeptFault;
-use wb_names::{PageId, Shape};
+use wb_names::{PageId, Shape, shape_of};
 
 /// A moment is before the present one.
 const BACK_IN_TIME: JudgedFault = JudgedFault::Kept(KeptFault::Host(KeepFault::BackInTime));

@@ -6,6 +6,7 @@ use Rattle.wb_names.specs.Values.{MarkValue}
 use Rattle.wb_judging.specs.Handing.{lacks}
 use Rattle.wb_judging.proofs.Kept.{at_same, take_first}
 use Rattle.wb_judging.proofs.facts.lacking.Goals as goal
+use Rattle.wb_policy.specs.declared.limits.TheConstants.{MOST_MARKS}
 
 pub loop-mark-preserved : goal.loop-mark-preserved
 loop-mark-preserved c = record {
@@ -27,4 +28,4 @@ returns-clause-lacking c = λ k at.
     let items = take c.min-count.result c.args.marks.now in
     let whole = take_all c.loop-mark.mark-index items c.loop-mark-test.false in
     let first = ap (λ (n : ℕ). take n c.args.marks.now) c.min-count.ensures in
-    c.loop-mark.invariant.lacking k at ∙ ap (sum_by (lacks c.args.page k.host)) (whole ∙ first ∙ take_first 64 c.args.marks.now)
+    c.loop-mark.invariant.lacking k at ∙ ap (sum_by (lacks c.args.page k.host)) (whole ∙ first ∙ take_first MOST_MARKS c.args.marks.now)

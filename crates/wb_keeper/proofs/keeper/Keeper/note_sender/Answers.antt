@@ -2,6 +2,7 @@ use Rattle.std.proofs.Common.{ℕ, ◌≤◌, ◌∙◌, List, length, sym, subs
 use Rattle.wb_keeper.specs.declared.keeper.Heard.{Heard}
 use Rattle.wb_keeper.proofs.MapEdits.{on_is_err, heard_again, keeper_again}
 use Rattle.wb_keeper.proofs.keeper.Keeper.note_sender.Goals as goal
+use Rattle.wb_names.specs.declared.entries.TheConstants.{MAX_ENTRIES}
 
 pub invariant_of-self-then-is_err : goal.invariant_of-self-then-is_err
 invariant_of-self-then-is_err c =
@@ -11,7 +12,7 @@ invariant_of-self-then-is_err c =
       moment = c.self-2.invariant.moment;
       before = c.self-2.invariant.before;
       near = c.self-2.invariant.near;
-      few = subst (λ (es : List (ℕ × Heard)). length es ≤ 65535) (sym again) c.self.invariant.few;
+      few = subst (λ (es : List (ℕ × Heard)). length es ≤ MAX_ENTRIES) (sym again) c.self.invariant.few;
       empty = c.self-2.invariant.empty;
     }
 
