@@ -9,7 +9,7 @@ import pytest
 
 from ..host import datagrams
 from . import timely_kept
-from .timely_kept import DRAWOP, Loses, TimelyKept, by_rate, crowded_by, holes_of, kind, name, rounds_by, rows_of, slowest, soonest, whole_by
+from .timely_kept import DRAWOP, Loses, TimelyKept, by_rate, crowded_by, filled_by, holes_of, kind, name, rounds_by, rows_of, slowest, soonest, whole_by
 
 TWO_PAGES = [(7, 1), (7, 2)]
 STRANGER = 9  # of this number there is no member
@@ -144,11 +144,15 @@ def test_rounds() -> None:
     rounds = -(-len(every) // timely_kept.PLACES_OF_LAST)
     by = rounds_by(by_rate(session.sizes, 1_000, 3), wait, rounds)
     crowded = crowded_by(wait, len(every), timely_kept.FAR)
-    print(f"rounds, 1,000 lacked, all held by all at {session.now / 1e6:.1f} s, by the law at {by / 1e6:,.0f} s, in crowds at {crowded / 1e6:,.0f} s")
+    assert max(every) in session.held[3], "the newcomer holds the last number by now, so it lacks nothing but numbers below that"
+    filled = filled_by(wait, len(every), timely_kept.FAR)
+    bounds = f"by the law at {by / 1e6:,.0f} s, in crowds at {crowded / 1e6:,.0f} s, of holes alone at {filled / 1e6:,.0f} s"
+    print(f"rounds, 1,000 lacked, all held by all at {session.now / 1e6:.1f} s, {bounds}")
     assert (session.refused, session.latest <= timely_kept.LATE) == ([], True), "no line was refused, and no host called late"
-    assert (session.now < min(by, crowded), list(session.held.values())) == (True, [every] * 3), "all hold all by then"
+    assert (session.now < min(by, crowded, filled), list(session.held.values())) == (True, [every] * 3), "all hold all by then"
     assert crowded < timely_kept.QUIET + 1_800_000_000, "half an hour, though distances may be a second"
     assert crowded_by(timely_kept.ASKING * 100_000, 1_000, 100_000) < timely_kept.QUIET + 90_000_000, "a minute and a half where they are a tenth"
+    assert filled_by(timely_kept.ASKING * 100_000, 1_000, 100_000) < timely_kept.QUIET + 1_380_000_000, "and 23 minutes, whatever hosts ask for"
 
 
 def check_reports(session: TimelyKept) -> None:
@@ -171,6 +175,7 @@ def check_sent(session: TimelyKept) -> None:
         assert kinds[timely_kept.ASK_PAGES] * timely_kept.SECOND <= timely_kept.SECOND + 2 * micros, f"questions of {member}"
         assert kinds[timely_kept.REQUEST] * timely_kept.COST <= 15 * ((128 + 2 * called["came"]) * timely_kept.COST + micros), f"requests of {member}"
         assert kinds[DRAWOP] <= called["drawop"], f"drawops of {member}"
+        assert all(sent.bytes[each] <= kinds[each] * most for each, most in timely_kept.MOST_BYTES.items()), f"bytes of {member}"
 
 
 def check_shown(session: TimelyKept, every: set[str]) -> None:

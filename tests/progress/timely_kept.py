@@ -33,6 +33,7 @@ LONGEST_GAP = 16_000_000  # from one turn to the next
 PLACES_OF_LAST = 48  # for so many names a host asks at once, if there are as many
 PLACES, PAYS = 64, 2  # so many names may be owed, and one that came pays for two
 MOST_REPORT_BYTES = 1_184
+MOST_BYTES = {DRAWOP: 102, SESSION: MOST_REPORT_BYTES, REQUEST: 28, ASK_PAGES: 12, PAGE_STATE: 534}  # no datagram of a kind is longer
 COUNTED = SETTLED + HEARD + DRIFT + LONGEST_PAUSE  # from then on reports go by the number of hosts
 
 SECOND, COST = 1_000_000, 250_000
@@ -59,10 +60,12 @@ class Soon(NamedTuple):
 
 
 class Sent(NamedTuple):
-    """What a host sent since its opening, by kinds, what it was called for: requests for what it held and drawings, and how many drawops came in."""
+    """What a host sent since its opening, by kinds, and in how many bytes, what it was called for: requests for what it held and drawings, and how many
+    drawops came in."""
 
     since: int
     kinds: Counter[str]
+    bytes: Counter[str]
     called: Counter[str]
 
 
@@ -120,15 +123,21 @@ def rounds_by(soon: Soon, wait: int, rounds: int) -> int:
     return max(KNOWN + wait + REPAIRING, soon.since) + rounds * (soon.pause + LATE + request_span() + REPAIRING)
 
 
-def crowded_by(wait: int, most: int, far: int) -> int:
-    """The time at which all hold all if each host that lacks something always asks for all that it lacks, or for 48 names, though it gives names up early,
-    and uses no distance above `far`. In a round 47 names come, or 64 are asked for, and credit pays for few such rounds."""
+def crowded_by(wait: int, most: int, far: int, places: int = PLACES_OF_LAST) -> int:
+    """The time at which all hold all if each host that lacks something always asks for all that it lacks, or for `places` names, though it gives names up
+    early, and uses no distance above `far`. In a round as many names come, or 64 are asked for, and credit pays for few such rounds."""
     asking, answering = ASKING * far + LATE, ANSWERING * far + 2 * DELIVERY + 2 * LATE
     span = 2 * asking + answering
-    bringing = -(-most // (PLACES_OF_LAST - 1))
+    bringing = -(-most // places)
     owed = (PLACES + PAYS * most) * COST + LONGEST_GAP + LATE + bringing * span
     crowded = -(-owed // (PLACES * COST - span))
     return SETTLED + DELIVERY + 3 * far + DRIFT + 1 + wait + answering + LONGEST_GAP + LATE + (bringing + crowded) * span
+
+
+def filled_by(wait: int, most: int, far: int) -> int:
+    """The time at which all hold all if each lacks nothing but numbers below one that it holds, and each of these is held by one of them: a round brings
+    one name, and each host asks for one within three turns."""
+    return crowded_by(wait, most, far, 1) + 3 * (LONGEST_GAP + LATE)
 
 
 def rows_of(held: set[str]) -> dict[str, list[int]]:
@@ -188,7 +197,7 @@ class TimelyKept:
         dialog = self.hosts[member] = Dialog()
         dialog.ask(f"board {member} {self.cells} 1 {self.seed * 100 + member}")
         dialog.ask(f"tick {moment}")
-        self.sent[member] = Sent(moment, Counter(), Counter())
+        self.sent[member] = Sent(moment, Counter(), Counter(), Counter())
         self.lag[member] = self.now - self.slow(member, self.now) - moment
         self.due[member] = int(dialog.ask(f"keep {RATE} 0").split()[1])
         self.called_by[member] = self.now + self.random.randrange(LATE + 1)
@@ -242,6 +251,7 @@ class TimelyKept:
     def send(self, sender: int, datagram: str) -> None:
         """What is sent before the quiet time may be lost. Then it comes to each, at times twice."""
         self.sent[sender].kinds[kind(datagram)] += 1
+        self.sent[sender].bytes[kind(datagram)] += len(datagram) // 2
         if kind(datagram) == DRAWOP:
             self.holds(sender, datagram)
         if kind(datagram) == REQUEST:

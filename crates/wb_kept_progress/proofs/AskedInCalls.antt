@@ -77,7 +77,7 @@ AskNothing lines = AskFor (λ n. ⊥) lines
 pub for_nothing : (P : NameValue → Type 0) (lines : List Line) → AskNothing lines → AskFor P lines
 for_nothing P lines none = asks_as (λ n. ⊥) P (λ n is. absurd is) lines none
 
-wanted_is_asked : (name : NameValue) (anew : Bool) (see : List Line → View) (p : Policy) → Contains (lines_wanted name anew see p) (Asks name)
+pub wanted_is_asked : (name : NameValue) (anew : Bool) (see : List Line → View) (p : Policy) → Contains (lines_wanted name anew see p) (Asks name)
 wanted_is_asked name anew see p =
     let v = see [] in
     let usual = lent_first name.source (v.distance name.source) p.usual in
@@ -114,7 +114,7 @@ IsMore k m = length k.host.is.held < length m.host.is.held
 pub more_differs : (k m : Keeping) → IsMore k m → m.host.is.held ≢ k.host.is.held
 more_differs k m more same = let e = ap (λ (h : List DrawopValue). length h) same in absurd (omega (arith, e, more))
 
-longer_by_one : (h : List DrawopValue) (d : DrawopValue) → length h < length (h ++ d ∷ [])
+pub longer_by_one : (h : List DrawopValue) (d : DrawopValue) → length h < length (h ++ d ∷ [])
 longer_by_one h d = let e = length-append h (d ∷ []) in omega (arith, e)
 
 new_is_more : (d : DrawopValue) (k : Keeping) (lines : List Line) → holds (view_of k.host) d.name ≡ false → is_full (view_of k.host) ≡ false

@@ -11,11 +11,12 @@ use Rattle.wb_progress.specs.Bounds.{IsUnder}
 use Rattle.wb_progress.specs.Turns.{AreNotOverdue, IsNowAt, Terms, longest, settled_by}
 use Rattle.wb_member.specs.Judged.{holds, is_full}
 use Rattle.wb_member.specs.Opened.{Opened, events, opened_with}
+use Rattle.wb_policy.specs.declared.limits.TheConstants.{MOST_DISTANCE}
 use Rattle.wb_keeping.specs.Kept.{Line, Arrives, Hears, Says, Ticks, Tunes}
 use Rattle.wb_keeping.specs.Laws.{KeptLine, doing_of}
 use Rattle.wb_keeping.specs.Performing.{Keeping, after_line, after_lines, sees, sent_by_line}
 use Rattle.wb_kept_progress.specs.Sessions.{Opening}
-use Rattle.wb_kept_progress.specs.Timed.{ComesTo, GoByShort, IsHeldBy, IsQuietLine, SaysNow, Performed, Start, TellTimes, TimedLine, WasSent, called_at, greatest_distance, host_after, performed, performed_then, lines_of as lines_of_calls, sends, start_of, time_of, timers_after}
+use Rattle.wb_kept_progress.specs.Timed.{ComesTo, GoByShort, IsHeldBy, IsQuietLine, SaysNow, Performed, Start, TellTimes, TimedLine, WasSent, called_at, host_after, performed, performed_then, lines_of as lines_of_calls, sends, start_of, time_of, timers_after}
 use Rattle.wb_kept_progress.specs.Whole.{IsHandedIn, IsSpared, IsTimelySession, WasSentBy, sends_then, there}
 use Rattle.wb_kept_progress.proofs.CallLines.{Ends, call_ends, ends_both, host_amid, host_apart, host_before, line_stands, lines_have_calls, sent_in}
 use Rattle.wb_kept_progress.proofs.CallParts.{host_is, lines_order}
@@ -280,7 +281,7 @@ performed_is_timely hosts terms trace s = record {
   behind = (kept_keeps_moments hosts terms trace s.times).behind;
   soon = λ newer older e i m split live late. soon hosts terms trace s e older (of newer older e split) i m live late;
   delays = ⊎_elim
-      (λ (second : greatest_distance ≤ terms.far). kept_go_by_short hosts terms trace s.taken second)
+      (λ (second : MOST_DISTANCE ≤ terms.far). kept_go_by_short hosts terms trace s.taken second)
       (λ (short : GoByShort (λ j. start_of (hosts j)) terms (performed hosts trace)). short)
       s.delays;
   alone = λ newer older e split late. alone hosts terms trace s e older (of newer older e split) late;

@@ -91,7 +91,7 @@ module _ (held_was : HeldWasHeld) (hosts : ℕ → Opening) (terms : Terms) (tra
     goes_by (Ticked moment) is told = inr (subst (λ (t : ℕ). IsCourse IsSome k t (lines_by (doing_of (Ticked moment)) k) (after_doing (doing_of (Ticked moment)) k)) told
         (ticked_course IsSome k moment))
     goes_by (Added moment page time op) is told = absurd (session.drawn newer older e moment page time op split (omega (arith, late)) is)
-    goes_by (Tuned constants) is told = inr (record { asks = (tt, tt); owed = inr (inl refl) })
+    goes_by (Tuned constants) is told = inr (record { held = refl; asks = (tt, tt); owed = inr (inl refl) })
 
     pub goes : Goes
     goes =

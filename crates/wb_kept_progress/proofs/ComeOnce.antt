@@ -1,29 +1,19 @@
--- What comes: by one call one drawop at most, and what was asked for and came is of distinct names.
-use Rattle.std.proofs.Common.{◌≡◌, ℕ, ◌+◌, ◌<◌, Bool, true, false, cond, List, [], ◌∷◌, ◌++◌, ◌∙◌, ap, arith, inl, inr, length, refl, subst, sym, true≢false, ⊎_elim}
-use Rattle.std.specs.Prelude.{◌⊎◌, Contains, nat_eq, not}
+-- What was asked for and came is of distinct names.
+use Rattle.std.proofs.Common.{◌≡◌, ◌+◌, Bool, true, false, cond, List, [], ◌∷◌, ◌∙◌, ap, arith, length, refl, subst, sym, true≢false, ⊎_elim}
+use Rattle.std.specs.Prelude.{Contains, not}
 use Rattle.std.proofs.lemmas.Bool.{and_parts, not-true}
 use Rattle.std.proofs.lemmas.List.Elements.{Contains-append_right}
 use Rattle.wb_names.specs.Values.{DrawopValue, NameValue}
-use Rattle.wb_names.specs.declared.name.PageId.{PageId}
-use Rattle.wb_names.specs.declared.parts.Op.{Op}
 use Rattle.wb_names.proofs.Listings.{Contains-cases, Contains-here, Contains-none}
-use Rattle.wb_codec.specs.declared.datagram.Datagram.TheVariants.{Draw}
 use Rattle.wb_keeper.proofs.KeptCalls.{holds_from}
 use Rattle.wb_progress.specs.InTime.{AreApart}
-use Rattle.wb_progress.specs.Turns.{Terms}
 use Rattle.wb_progress.proofs.Giving.{held_as}
 use Rattle.wb_member.specs.Judged.{holds, is_full}
 use Rattle.wb_member.specs.Opened.{Opened}
 use Rattle.wb_keeping.specs.Bounds.{answer_count, is_answer}
 use Rattle.wb_keeping.specs.Kept.{Arrives, Asks, Hears, Line, Says, SetsDistance, Stops, Ticks, Tunes}
-use Rattle.wb_keeping.specs.Laws.{Added, Came, KeptLine, doing_of}
-use Rattle.wb_keeping.specs.Performing.{Keeping, after_doing, after_line, after_lines, sees, view_of}
+use Rattle.wb_keeping.specs.Performing.{after_line, after_lines, view_of}
 use Rattle.wb_keeping.specs.Views as views
-use Rattle.wb_kept_progress.specs.Sessions.{Opening}
-use Rattle.wb_kept_progress.specs.Timed.{TimedLine}
-use Rattle.wb_kept_progress.specs.Whole.{IsTimelySession, there}
-use Rattle.wb_kept_progress.proofs.Bringing.{line_brings}
-use Rattle.wb_kept_progress.proofs.FirstLines.{AreLinesOf, IsLineOf, lines_of_call}
 use Rattle.wb_kept_progress.proofs.Lines.{line_grows, lines_grow}
 use Rattle.wb_kept_progress.proofs.Repairs.{taken_in}
 use Rattle.wb_kept_progress.proofs.StopCauses.{room_before}
@@ -94,55 +84,3 @@ have_come (line ∷ lines) host room = by (is_answer line host) refl (have_come 
             (λ (old : Contains rest.names n). rest.held n old)
             (Contains-cases a.0.name n rest.names d);
       }
-
--- ---- what one call brings
-
-abbrev IsBroughtBy : KeptLine → NameValue → Type 0
-IsBroughtBy call n = (now : ℕ) × (d : DrawopValue) × (call ≡ Came now (Draw d)) × (d.name ≡ n)
-
-abbrev IsDrawnBy : KeptLine → Type 0
-IsDrawnBy call = (now : ℕ) × (page : PageId) × (time : ℕ) × (op : Op) × (call ≡ Added now page time op)
-
-one_brings : (call : KeptLine) (start host : Opened) (line : Line) (n : NameValue) → IsLineOf call start host line → holds (after_line line host) n ≡ true → (holds host n ≡ true) ⊎ (IsBroughtBy call n ⊎ IsDrawnBy call)
-one_brings call start host line n is e =
-    let x = held_as (after_line line host).is.held n e in
-    ⊎_elim
-    (λ (c : Contains host.is.held x.0). inl (holds_from host.is.held n x.0 c x.2))
-    (λ (comes : (line ≡ Arrives x.0) ⊎ (line ≡ Says (Draw x.0))). ⊎_elim
-    (λ (arrives : line ≡ Arrives x.0). let a : IsLineOf call start host (Arrives x.0) = subst (IsLineOf call start host) arrives is in inr (inl (a.0.0, x.0, a.0.1, x.2)))
-    (λ (says : line ≡ Says (Draw x.0)). let a : IsLineOf call start host (Says (Draw x.0)) = subst (IsLineOf call start host) says is in inr (inr (a.0, a.1, a.2, a.3, a.4)))
-    comes)
-    (line_brings line host x.0 x.1)
-
-lines_bring : (call : KeptLine) (start host : Opened) (lines : List Line) (n : NameValue) → AreLinesOf call start host lines → holds (after_lines lines host) n ≡ true → (holds host n ≡ true) ⊎ (IsBroughtBy call n ⊎ IsDrawnBy call)
-lines_bring call start host [] n all held = inl held
-lines_bring call start host (line ∷ lines) n all held = ⊎_elim
-    (λ (had : holds (after_line line host) n ≡ true). one_brings call start host line n all.0 had)
-    (λ (brought : IsBroughtBy call n ⊎ IsDrawnBy call). inr brought)
-    (lines_bring call start (after_line line host) lines n all.1 held)
-
-module _ (hosts : ℕ → Opening) (terms : Terms) (trace newer older : List TimedLine) (e : TimedLine) (i : ℕ) (session : IsTimelySession hosts terms trace) (split : trace ≡ newer ++ e ∷ older) (late : terms.quiet < e.time) where
-  came_by : (n : NameValue) → holds (there hosts older i).host n ≡ false → holds (there hosts (e ∷ older) i).host n ≡ true → IsBroughtBy e.at.line n
-  came_by n lacks held = from (nat_eq e.at.place i) held where
-    k : Keeping
-    k = there hosts older i
-
-    from : (b : Bool) → holds (cond b (after_doing (doing_of e.at.line) k) k).host n ≡ true → IsBroughtBy e.at.line n
-    from false h = absurd (true≢false (sym h ∙ lacks))
-    from true h = ⊎_elim
-        (λ (had : holds k.host n ≡ true). absurd (true≢false (sym had ∙ lacks)))
-        (λ (brought : IsBroughtBy e.at.line n ⊎ IsDrawnBy e.at.line). ⊎_elim
-        (λ (c : IsBroughtBy e.at.line n). c)
-        (λ (a : IsDrawnBy e.at.line). absurd (session.drawn newer older e a.0 a.1 a.2 a.3 split late a.4))
-        brought)
-        (lines_bring e.at.line k.host k.host (doing_of e.at.line (sees k.host) k.policy).lines n (lines_of_call e.at.line k) h)
-
-  -- two names that came by one call are one
-  pub one_comes : (x y : NameValue) → holds (there hosts older i).host x ≡ false → holds (there hosts (e ∷ older) i).host x ≡ true
-      → holds (there hosts older i).host y ≡ false → holds (there hosts (e ∷ older) i).host y ≡ true → x ≡ y
-  one_comes x y lacks_x held_x lacks_y held_y =
-      let a = came_by x lacks_x held_x in
-      let b = came_by y lacks_y held_y in
-      sym a.3 ∙ ap (λ (d : DrawopValue). d.name) (same a.0 b.0 a.1 b.1 (sym a.2 ∙ b.2)) ∙ b.3 where
-        same : (now then : ℕ) (d x : DrawopValue) → Came now (Draw d) ≡ Came then (Draw x) → d ≡ x
-        same now then d x e = cc

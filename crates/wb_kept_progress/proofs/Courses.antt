@@ -26,12 +26,12 @@ use Rattle.wb_policy.specs.declared.turns.Turns.{Turns}
 use Rattle.wb_keeping.proofs.EachStep.{doing, having, having_done, with_policy}
 use Rattle.wb_keeping.proofs.Performed.{then_after}
 use Rattle.wb_keeping.proofs.Wanted.{lines_wanted}
-use Rattle.wb_kept_progress.proofs.Lines.{AreSmall, lines_rest, IsSmall, are_small, lines_grow}
+use Rattle.wb_kept_progress.proofs.Lines.{AreSmall, lines_rest, IsSmall, are_small, does_rest, lines_grow}
 use Rattle.wb_kept_progress.proofs.Repairs.{came_after}
 use Rattle.wb_kept_progress.proofs.Leaving.{reports_leave}
 use Rattle.wb_kept_progress.proofs.WholeParts.{HasTurn}
 use Rattle.wb_kept_progress.proofs.AskedInCalls.{AreTold, AskFor, AskNothing, AsksFor, HasAsk, IsMore, as_it_was, asked_is, asks_as, for_nothing, hears_asks, lines_by, then_lines, IsAskOf}
-use Rattle.wb_keeping.proofs.EachLine.{answers_each, each_both, states_each, wanted_each}
+use Rattle.wb_keeping.proofs.EachLine.{answers_each, each_both, states_each, timed_each, wanted_each}
 
 -- ---- what is due
 
@@ -206,8 +206,9 @@ timed_taken k =
 
 -- ---- a call
 
--- From one moment on it asks for what reports tell, and for the name in turn, once a turn is due; it spends for that alone.
+-- What is held stays. From one moment on it asks for what reports tell, and for the name in turn, once a turn is due; it spends for that alone.
 pub record IsCourse (P : NameValue → Type 0) (k : Keeping) (now : ℕ) (lines : List Line) (m : Keeping) : Type 0 where
+  pub held : m.host.is.held ≡ k.host.is.held
   pub asks : AskFor (λ n. P n ⊎ HasTurn k now n) lines
   pub owed : ((n : NameValue) × Contains lines (Asks n) × P n) ⊎ ((m.policy.owed ≡ k.policy.owed) ⊎ ((k.policy.pace.due ≤ now) × (m.policy.owed ≡ spent k.policy.owed now)))
 
@@ -223,6 +224,7 @@ module _ (P : NameValue → Type 0) (k : Keeping) (now : ℕ) where
       let s = a.stays in
       let t = timed_taken x in
       record {
+        held = (does_rest timed (timed_each IsSmall are_small) x).held ∙ s.held;
         asks = (
           tt,
           each_both (IsAskOf Q) lines (lines_by timed x) (asks_as P Q (λ n is. inl is) lines a.asks)

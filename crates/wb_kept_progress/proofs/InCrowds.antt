@@ -15,7 +15,7 @@ use Rattle.wb_keeping.proofs.KeptHosts.{kept_hosts_are_hosts}
 use Rattle.wb_keeping.proofs.LittleSaid.{few_names_are_asked}
 use Rattle.wb_kept_progress.specs.Crowded.{SessionsBecomeWholeInCrowds, crowded_by, round_span, spent_in}
 use Rattle.wb_kept_progress.specs.Promises.{host_then}
-use Rattle.wb_kept_progress.specs.Rounds.{OneLacksAtMost, PlacesAreFilled}
+use Rattle.wb_kept_progress.specs.Rounds.{OneLacksAtMost}
 use Rattle.wb_kept_progress.specs.Sessions as sessions
 use Rattle.wb_kept_progress.specs.Sessions.{Opening}
 use Rattle.wb_kept_progress.specs.Timed.{TimedLine, called_at, lines_of, performed, until}
@@ -26,7 +26,7 @@ use Rattle.wb_kept_progress.proofs.ComeOnce.{HaveCome, have_come}
 use Rattle.wb_kept_progress.proofs.Handed.{after_handed, handed, performs_in, taken_handed}
 use Rattle.wb_kept_progress.proofs.NothingNew.{held_was_held}
 use Rattle.wb_kept_progress.proofs.OwedAndDue.{beat_there, near_there, now_there, taken_of}
-use Rattle.wb_kept_progress.proofs.RoundCounts.{Counted, IsThen, counted, then_at}
+use Rattle.wb_kept_progress.proofs.RoundCounts.{Counted, FilledFor, IsThen, counted, then_at}
 
 module _ (hosts : ℕ → Opening) (terms : Terms) (trace : List TimedLine) (most i : ℕ) (session : IsTimelySession hosts terms trace) (lacks_most : OneLacksAtMost hosts terms trace most) (live : Contains terms.live i) where
   -- what is lacked behind a time that is late enough, and another held, was lacked at first
@@ -126,7 +126,7 @@ module _ (hosts : ℕ → Opening) (terms : Terms) (trace : List TimedLine) (mos
 -- ---- the law
 
 module _ (hosts : ℕ → Opening) (terms : Terms) (trace : List TimedLine) (since wait most places bringing crowded i : ℕ) (n : NameValue) (session : IsTimelySession hosts terms trace) (waits : WaitAtMost hosts terms trace wait)
-    (lacks_most : OneLacksAtMost hosts terms trace most) (filled : PlacesAreFilled hosts terms trace since places) (brings : most ≤ bringing * (places - 1)) (enough : spent_in terms most (bringing + crowded) ≤ crowded * (64 * 250000))
+    (lacks_most : OneLacksAtMost hosts terms trace most) (filled : FilledFor hosts terms trace since places i n) (brings : most ≤ bringing * places) (enough : spent_in terms most (bringing + crowded) ≤ crowded * (64 * 250000))
     (held : IsHeldBySome hosts terms trace n) (live : Contains terms.live i) (newer later : List TimedLine) (split : trace ≡ newer ++ later) (late : crowded_by terms since wait (bringing + crowded) < called_at later)
     (lacks : holds (there hosts later i).host n ≡ false) where
   abbrev start : ℕ
@@ -193,10 +193,10 @@ module _ (hosts : ℕ → Opening) (terms : Terms) (trace : List TimedLine) (sin
         same : (k : ℕ) → k ≤ k
         same k = omega arith
 
-        by : (c.bringing < bringing) ⊎ (bringing ≤ c.bringing) → (many : ℕ) → many ≤ most → c.bringing * (places - 1) + 1 ≤ many → c.bringing < bringing
+        by : (c.bringing < bringing) ⊎ (bringing ≤ c.bringing) → (many : ℕ) → many ≤ most → c.bringing * places + 1 ≤ many → c.bringing < bringing
         by cases many le count = ⊎_elim
             (λ (lt : c.bringing < bringing). lt)
-            (λ (more : bringing ≤ c.bringing). absurd (past (bringing * (places - 1)) (c.bringing * (places - 1)) many most brings (mul-le-mul more (same (places - 1))) count le))
+            (λ (more : bringing ≤ c.bringing). absurd (past (bringing * places) (c.bringing * places) many most brings (mul-le-mul more (same places)) count le))
             cases
 
   -- so there were more crowds than credit pays for
@@ -217,4 +217,5 @@ pub sessions_become_whole_in_crowds : SessionsBecomeWholeInCrowds
 sessions_become_whole_in_crowds hosts terms trace since wait most places bringing crowded n session waits lacks_most filled brings enough held newer later i split late live = by (holds (there hosts later i).host n) refl where
   by : (b : Bool) → holds (there hosts later i).host n ≡ b → b ≡ true
   by true e = refl
-  by false e = absurd (none_lacks hosts terms trace since wait most places bringing crowded i n session waits lacks_most filled brings enough held live newer later split late e)
+  by false e =
+      absurd (none_lacks hosts terms trace since wait most places bringing crowded i n session waits lacks_most (λ newest older is from lacks. filled newest older i n is live (omega (arith, from)) held lacks) brings enough held live newer later split late e)

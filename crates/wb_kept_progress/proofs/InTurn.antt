@@ -163,7 +163,7 @@ module _ (m : Keeping) where
   beat_r : reported.policy.pace.due ≡ m.policy.pace.due
   beat_r = leaves_r.beat ∙ leaves_q.beat ∙ leaves_a.beat
 
-  owed_r : reported.policy.owed ≡ m.policy.owed
+  pub owed_r : reported.policy.owed ≡ m.policy.owed
   owed_r = leaves_r.owed ∙ leaves_q.owed ∙ leaves_a.owed
 
   pub to_turn : after_doing timed m ≡ after_doing turns_due reported

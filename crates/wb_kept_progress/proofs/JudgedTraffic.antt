@@ -1,6 +1,6 @@
 -- A judged member sends a drawop for a drawing, or once for a request that its judge let in; and a judge lets few in.
 use Rattle.std.proofs.Common.{◌≡◌, ℕ, ◌+◌, ◌-◌, ◌≤◌, Bool, true, false, cond, List, [], ◌∷◌, ◌++◌, ◌∙◌, Option, Some, None, ap, arith, map, refl, subst, sym}
-use Rattle.std.specs.Prelude.{◌&&◌, is_none, not}
+use Rattle.std.specs.Prelude.{◌&&◌, filter, is_none, not}
 use Rattle.std.proofs.lemmas.Nat.{le-div}
 use Rattle.wb_names.specs.Arrivals.{Outcome, Clashed, Fresh, Known, Left}
 use Rattle.wb_names.specs.Values.{DrawopValue}
@@ -34,6 +34,7 @@ use Rattle.wb_kept_progress.specs.Judged.{AreOfNow, JudgedMembersSendFewDrawops,
 use Rattle.wb_kept_progress.specs.Timed.{is_drawop}
 use Rattle.wb_kept_progress.specs.Traffic.{call_count, calls_for_drawop, how_many}
 use Rattle.wb_kept_progress.proofs.FewDrawops.{drawops_are_called_for}
+use Rattle.wb_kept_progress.proofs.Named.{more_if, one_if}
 use Rattle.wb_kept_progress.proofs.SentKinds.{kind_both}
 
 -- ---- the steps of its judge
@@ -80,7 +81,7 @@ first_steps (DayTold now wall) h = Tells (record { wall = wall; at = now }) ∷ 
 first_steps (GoneFrom now o) h = Leaves o ∷ []
 first_steps (Held line) h = []
 
-abbrev sent_then : Call → Judged → List Datagram
+abbrev pub sent_then : Call → Judged → List Datagram
 sent_then line h = sent_by_kept_line (handed line h) h.kept
 
 abbrev steps_of : Call → Judged → List Step
@@ -273,24 +274,34 @@ all_moments (line ∷ lines) h fine =
 
 -- ---- what is sent
 
-echoed_drawops : (sent : List Datagram) (echo : Option Echo) → how_many is_drawop (map (echoing echo) sent) ≡ how_many is_drawop sent
-echoed_drawops [] echo = refl
-echoed_drawops (Draw d ∷ sent) echo = let rest = echoed_drawops sent echo in omega (arith, rest)
-echoed_drawops (Session sender at page marks echoes ∷ sent) echo = echoed_drawops sent echo
-echoed_drawops (Request asker name ∷ sent) echo = echoed_drawops sent echo
-echoed_drawops (AskPages asker ∷ sent) echo = echoed_drawops sent echo
-echoed_drawops (PageState sender page marks ∷ sent) echo = echoed_drawops sent echo
+-- of a kind that echoes do not change
+module _ (kind : Datagram → Bool) (same : (echo : Option Echo) (v : Datagram) → kind (echoing echo v) ≡ kind v) where
+  echoed_kind : (sent : List Datagram) (echo : Option Echo) → how_many kind (map (echoing echo) sent) ≡ how_many kind sent
+  echoed_kind [] echo = refl
+  echoed_kind (v ∷ sent) echo =
+      let echoed = more_if (kind (echoing echo v)) (echoing echo v) (filter kind (map (echoing echo) sent)) in
+      let plain = more_if (kind v) v (filter kind sent) in
+      let one = ap one_if (same echo v) in
+      let rest = echoed_kind sent echo in
+      omega (arith, echoed, plain, one, rest)
 
-sent_as_kept : (lines : List Call) (h : Judged) → how_many is_drawop (sent_by_judged lines h) ≡ how_many is_drawop (sent_by_kept (expanded lines h) h.kept)
-unfolding after_kept_line sent_by_kept_line
-sent_as_kept [] h = refl
-sent_as_kept (line ∷ lines) h =
-    let next = after_judged line h in
-    let one = ap (how_many is_drawop) (sends_as_kept line h) ∙ echoed_drawops (sent_then line h) _ in
-    let rest = sent_as_kept lines next in
-    let judged = kind_both is_drawop (sends_in (events_of line h)) (sent_by_judged lines next) in
-    let kept = kind_both is_drawop (sent_then line h) (sent_by_kept (expanded lines next) next.kept) in
-    omega (arith, one, rest, judged, kept)
+  pub sent_as_kept : (lines : List Call) (h : Judged) → how_many kind (sent_by_judged lines h) ≡ how_many kind (sent_by_kept (expanded lines h) h.kept)
+  unfolding after_kept_line sent_by_kept_line
+  sent_as_kept [] h = refl
+  sent_as_kept (line ∷ lines) h =
+      let next = after_judged line h in
+      let one = ap (how_many kind) (sends_as_kept line h) ∙ echoed_kind (sent_then line h) _ in
+      let rest = sent_as_kept lines next in
+      let judged = kind_both kind (sends_in (events_of line h)) (sent_by_judged lines next) in
+      let kept = kind_both kind (sent_then line h) (sent_by_kept (expanded lines next) next.kept) in
+      omega (arith, one, rest, judged, kept)
+
+same_drawops : (echo : Option Echo) (v : Datagram) → is_drawop (echoing echo v) ≡ is_drawop v
+same_drawops echo (Draw d) = refl
+same_drawops echo (Session sender sent page marks echoes) = refl
+same_drawops echo (Request asker name) = refl
+same_drawops echo (AskPages asker) = refl
+same_drawops echo (PageState sender page marks) = refl
 
 -- ---- all of it
 
@@ -302,7 +313,7 @@ judged_members_send_few start end lines h fine from =
     let strangers = strangers_are_few start end steps h.judge when in
     let one = le-div (many is_repaired_in steps h.judge) (1022000 + 2000 + (end - start)) 2000 (omega arith) members in
     let other = le-div (many is_asked_in steps h.judge) (3937500 + 62500 + (end - start)) 62500 (omega arith) strangers in
-    let sent = sent_as_kept lines h in
+    let sent = sent_as_kept is_drawop same_drawops lines h in
     let few = drawops_are_called_for (expanded lines h) h.kept in
     let called = lines_called lines h fine in
     omega (arith, one, other, sent, few, called)

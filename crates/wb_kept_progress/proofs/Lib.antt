@@ -39,7 +39,12 @@ pub mod WantingCalls
 pub mod AsksStand
 pub mod NoCredit
 pub mod TurnNames
+pub mod LeadingSteps
 pub mod LeadsOn
+pub mod AskedStays
+pub mod Awake
+pub mod Waking
+pub mod SameReports
 pub mod LackWanted
 pub mod Young
 pub mod StopCauses
@@ -69,9 +74,13 @@ pub mod Since
 pub mod Counted
 pub mod Named
 pub mod SentKinds
+pub mod Lengths
+pub mod SentEach
+pub mod FewBytes
 pub mod FewRequests
 pub mod FewDrawops
 pub mod JudgedTraffic
+pub mod JudgedBytes
 pub mod ReportsCome
 pub mod SameDatagrams
 pub mod Testing

@@ -57,6 +57,7 @@ use Rattle.wb_kept_progress.proofs.NextDue.{there_here, there_other}
 use Rattle.wb_kept_progress.proofs.OwedAndDue.{due_there, now_there, taken_of}
 use Rattle.wb_kept_progress.proofs.Repairs.{came_after}
 use Rattle.wb_kept_progress.proofs.TurnsApart.{DrawsNothing}
+use Rattle.wb_names.specs.declared.entries.TheConstants.{MAX_ENTRIES}
 
 -- ---- the echoes of a host ascend, and are at most 65,535
 
@@ -80,27 +81,27 @@ mapped_few f (s ∷ sources) = by (f s) (mapped_few f sources) where
   by None rest = omega (arith, rest)
   by (Some e) rest = omega (arith, rest)
 
-senders_few : (me : ℕ) (calls : List KeeperCall) → length (senders_of me calls) ≤ 65535
+senders_few : (me : ℕ) (calls : List KeeperCall) → length (senders_of me calls) ≤ MAX_ENTRIES
 senders_few me [] = omega arith
 senders_few me (call ∷ calls) = by (session_heard me call) (senders_few me calls) where
   senders : List ℕ
   senders = senders_of me calls
 
-  room : (source : ℕ) (known full : Bool) → nat_le 65535 (length senders) ≡ full → length senders ≤ 65535
-      → length (cond (known || full) senders (source ∷ senders)) ≤ 65535
+  room : (source : ℕ) (known full : Bool) → nat_le MAX_ENTRIES (length senders) ≡ full → length senders ≤ MAX_ENTRIES
+      → length (cond (known || full) senders (source ∷ senders)) ≤ MAX_ENTRIES
   room source true full e le = le
   room source false true e le = le
   room source false false e le = let lt = leb-false _ _ e in omega (arith, lt)
 
-  by : (told : Option (ℕ × Heard)) → length senders ≤ 65535 → length (remember told senders) ≤ 65535
+  by : (told : Option (ℕ × Heard)) → length senders ≤ MAX_ENTRIES → length (remember told senders) ≤ MAX_ENTRIES
   by None le = le
-  by (Some told) le = room told.0 (list_any (nat_eq told.0) senders) (nat_le 65535 (length senders)) refl le
+  by (Some told) le = room told.0 (list_any (nat_eq told.0) senders) (nat_le MAX_ENTRIES (length senders)) refl le
 
 module _ (me : ℕ) (calls : List KeeperCall) (now : ℕ) where
   rising : IsStrictlySortedBy echo_cmp (echoes_of me calls now)
   rising = (echoes_listed me calls now).rising
 
-  lawful_echoes : AreEchoes (echoes_of me calls now)
+  pub lawful_echoes : AreEchoes (echoes_of me calls now)
   lawful_echoes = record {
     ascending = λ i j d lt within. below (get_or (echoes_of me calls now) i d) (get_or (echoes_of me calls now) j d) (Less-from_sorted echo_cmp (echoes_of me calls now) i j d rising lt within);
     positive = λ i d lt. tt;

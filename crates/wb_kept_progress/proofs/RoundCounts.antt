@@ -1,60 +1,42 @@
--- Round by round: what a live host asks for comes, but for one name, or 64 names are asked for.
-use Rattle.std.proofs.Common.{◌≡◌, ℕ, zero, suc, ◌+◌, ◌-◌, ◌*◌, ◌<◌, ◌≤◌, Bool, true, false, cond, List, [], ◌∷◌, ◌++◌, ◌∙◌, Some, ap, append_assoc, arith, inl, inr, length, length-append, max, refl, subst, sym, true≢false, ⊎_elim}
-use Rattle.std.specs.Prelude.{◌⊎◌, Contains, filter}
+-- Round by round: what a live host asks for comes, or 64 names are asked for.
+use Rattle.std.proofs.Common.{◌≡◌, ℕ, zero, suc, ◌+◌, ◌*◌, ◌<◌, ◌≤◌, Bool, true, false, cond, List, [], ◌∷◌, ◌++◌, ◌∙◌, Some, ap, append_assoc, arith, inl, inr, length, length-append, max, refl, subst, sym, true≢false, ⊎_elim}
+use Rattle.std.specs.Prelude.{◌⊎◌, Contains, nat_eq}
 use Rattle.std.proofs.lemmas.Bool.Decides.{leb_tells}
 use Rattle.std.proofs.lemmas.List.Elements.{Contains-append_cases, Contains-append_right}
 use Rattle.wb_names.specs.Values.{NameValue}
-use Rattle.wb_names.proofs.Listings.{Contains-cases, Contains-from_filter, Contains-here, Contains-none, Contains-there}
+use Rattle.wb_names.proofs.Listings.{Contains-cases, Contains-here, Contains-none, Contains-there}
 use Rattle.wb_recovery.specs.declared.timers.AskTimer.{AskTimer}
 use Rattle.wb_progress.specs.InTime.{AreApart, known_from, repairing}
 use Rattle.wb_progress.specs.Turns.{Terms, settled_by}
 use Rattle.wb_progress.proofs.NamesApart.{apart_append}
 use Rattle.wb_progress.proofs.Parts.{tails}
 use Rattle.wb_member.specs.Judged.{holds}
-use Rattle.wb_member.specs.Opened.{asks_for}
+use Rattle.wb_member.specs.Opened.{Opened, asks_for}
 use Rattle.wb_keeping.specs.Bounds.{ask_count}
-use Rattle.wb_keeping.specs.Kept.{Asks, Line}
+use Rattle.wb_keeping.specs.Kept.{Asks, Line, Ticks, Tunes}
+use Rattle.wb_keeping.specs.Laws.{Added, Came, KeptLine, Ticked, Tuned, doing_of}
+use Rattle.wb_keeping.specs.Performing.{Keeping, after_line, sees}
+use Rattle.wb_keeping.specs.Views.{View}
+use Rattle.wb_policy.specs.Policy.{Policy}
 use Rattle.wb_kept_progress.specs.Crowded.{round_span}
 use Rattle.wb_kept_progress.specs.Promises.{timer_then}
-use Rattle.wb_kept_progress.specs.Rounds.{AreAsked, PlacesAreFilled}
+use Rattle.wb_kept_progress.specs.Rounds.{AreAsked}
 use Rattle.wb_kept_progress.specs.Sessions.{Opening}
-use Rattle.wb_kept_progress.specs.Timed.{AllHoldBehind, AreInOrder, IsGivenUp, IsTimely, Performed, Start, TimedLine, called_at, performed, start_of, time_of}
+use Rattle.wb_kept_progress.specs.Timed.{AllHoldBehind, AreInOrder, IsGivenUp, IsTimely, Performed, Start, TimedLine, called_at, host_after, performed, start_of, time_of}
 use Rattle.wb_kept_progress.specs.Whole.{AreCalledInOrder, IsHeldBySome, IsTimelySession, WaitAtMost, request_span, there}
 use Rattle.wb_kept_progress.proofs.AskedComes.{asked_lacked, comes_or_is_given_up, the_ask, timer_of}
 use Rattle.wb_kept_progress.proofs.Becoming.{held_on, lacked_before}
-use Rattle.wb_kept_progress.proofs.CallLines.{call_ends, lines_have_calls}
-use Rattle.wb_kept_progress.proofs.CallParts.{calls_end, calls_order}
+use Rattle.wb_kept_progress.proofs.CallLines.{call_ends, line_stands, lines_have_calls}
+use Rattle.wb_kept_progress.proofs.CallParts.{calls_end, calls_order, host_is}
 use Rattle.wb_kept_progress.proofs.CallsInTime.{performed_is_timely}
-use Rattle.wb_kept_progress.proofs.ComeOnce.{one_comes}
 use Rattle.wb_kept_progress.proofs.Crowds.{IsAskedFor, IsCrowd, crowd}
 use Rattle.wb_kept_progress.proofs.Handed.{asked_both, asks_at_least, performs_in, stands_in}
-use Rattle.wb_kept_progress.proofs.KeptInTime.{front_of, holding, time_is}
-use Rattle.wb_kept_progress.proofs.Named.{apart_passing}
+use Rattle.wb_kept_progress.proofs.KeptInTime.{at_place, front_of, time_is}
 use Rattle.wb_kept_progress.proofs.Timely.{in_past}
 use Rattle.wb_kept_progress.proofs.WholeParts.{IsOfCall, does}
 use Rattle.wb_kept_progress.proofs.WindowParts.{calls_past, in_window}
 
 -- ---- lists
-
--- of some names, of which all but one pass
-all_but_one : (p : NameValue → Bool) (names : List NameValue) → AreApart names → ((x y : NameValue) → Contains names x → Contains names y → p x ≡ false → p y ≡ false → x ≡ y) → length names ≤ length (filter p names) + 1
-all_but_one p [] apart one = omega arith
-all_but_one p (n ∷ names) apart one = by (p n) refl (all_but_one p names apart.1 (λ x y c d. one x y (Contains-there n x names c) (Contains-there n y names d))) where
-  all_pass : (rest : List NameValue) → ((x : NameValue) → Contains rest x → p x ≡ true) → length rest ≤ length (filter p rest)
-  all_pass [] pass = omega arith
-  all_pass (m ∷ rest) pass = from (p m) (pass m (Contains-here m rest)) (all_pass rest (λ x c. pass x (Contains-there m x rest c))) where
-    from : (b : Bool) → b ≡ true → length rest ≤ length (filter p rest) → length (m ∷ rest) ≤ length (cond b (m ∷ filter p rest) (filter p rest))
-    from true e le = omega (arith, le)
-    from false e le = absurd (true≢false (sym e))
-
-  by : (b : Bool) → p n ≡ b → length names ≤ length (filter p names) + 1 → length (n ∷ names) ≤ length (cond b (n ∷ filter p names) (filter p names)) + 1
-  by true e le = omega (arith, le)
-  by false e le =
-      let rest = all_pass names (λ x c. other x c (p x) refl) in
-      omega (arith, rest) where
-        other : (x : NameValue) → Contains names x → (b : Bool) → p x ≡ b → b ≡ true
-        other x c true f = refl
-        other x c false f = absurd (apart.0 (subst (Contains names) (sym (one n x (Contains-here n names) (Contains-there n x names c) e f)) c))
 
 -- each is so, or something else is
 each_or : {P : NameValue → Type 0} {C : Type 0} (names : List NameValue) → ((x : NameValue) → Contains names x → P x ⊎ C) → ((x : NameValue) → Contains names x → P x) ⊎ C
@@ -129,10 +111,55 @@ module _ (hosts : ℕ → Opening) where
                 no_longer_than_itself (g.0 ++ h.0) between (performed hosts part) x
                 (ap (performed hosts) in_part ∙ g.1 ∙ ap (λ (l : List Performed). g.0 ++ l) h.1 ∙ sym (append_assoc g.0 h.0 (x ∷ back)))
 
+  -- What comes by a time is held before a call after it: a call begins with a tick, or sets constants, and brings nothing by that.
+  module _ (terms : Terms) (trace newer part : List TimedLine) (e : TimedLine) (i by : ℕ) (m : NameValue) (split : trace ≡ newer ++ e ∷ part) (comes : AllHoldBehind (λ j. start_of (hosts j)) terms (performed hosts trace) by m)
+      (late : by < e.time) (live : Contains terms.live i) where
+    abbrev starts_all : ℕ → Start
+    starts_all j = start_of (hosts j)
+
+    -- the first line of a call, which brings nothing
+    abbrev First : KeptLine → (List Line → View) → Policy → Type 0
+    First line see p = (first : Line) × (rest : List Line) × ((doing_of line see p).lines ≡ first ∷ rest) × ((h : Opened) → holds (after_line first h) m ≡ true → holds h m ≡ true)
+
+    first_line : (line : KeptLine) (see : List Line → View) (p : Policy) → First line see p
+    first_line (Came now v) see p = (Ticks now, _, refl, λ h e. e)
+    first_line (Ticked now) see p = (Ticks now, _, refl, λ h e. e)
+    first_line (Added now page time op) see p = (Ticks now, _, refl, λ h e. e)
+    first_line (Tuned constants) see p = (Tunes constants, [], refl, λ h e. e)
+
+    abbrev its : Keeping
+    its = there hosts part e.at.place
+
+    first : First e.at.line (sees its.host) its.policy
+    first = first_line e.at.line (sees its.host) its.policy
+
+    abbrev back : List Performed
+    back = at_place e.time e.at.place first.0 ∷ performed hosts part
+
+    within : (front : List Performed) × (performed hosts trace ≡ front ++ back)
+    within = line_stands hosts trace newer part e [] first.1 first.0 split first.2
+
+    held_after : holds (host_after starts_all back i) m ≡ true
+    held_after = comes within.0 back i within.1 late live
+
+    pub held_before : holds (there hosts part i).host m ≡ true
+    held_before = ap (λ (h : Opened). holds h m) (sym (host_is hosts part i)) ∙ from (nat_eq e.at.place i) refl held_after where
+      h : Opened
+      h = host_after starts_all (performed hosts part) i
+
+      from : (b : Bool) → nat_eq e.at.place i ≡ b → holds (cond b (after_line first.0 h) h) m ≡ true → holds h m ≡ true
+      from false other held = held
+      from true same held = first.3 h held
+
 -- ---- one host
 
+-- From a time on, after each call, a live host asks for a name if it lacks that, or for `places` that another holds.
+abbrev pub FilledFor : (ℕ → Opening) → Terms → List TimedLine → (since places i : ℕ) → NameValue → Type 0
+FilledFor hosts terms trace since places i n = (newer older : List TimedLine) → trace ≡ newer ++ older → since < called_at older → holds (there hosts older i).host n ≡ false
+    → (asks_for n (there hosts older i).host ≡ true) ⊎ AreAsked hosts terms trace older i places
+
 module _ (hosts : ℕ → Opening) (terms : Terms) (trace : List TimedLine) (since wait places i : ℕ) (n : NameValue) (session : IsTimelySession hosts terms trace) (waits : WaitAtMost hosts terms trace wait)
-    (filled : PlacesAreFilled hosts terms trace since places) (live : Contains terms.live i) (held : IsHeldBySome hosts terms trace n) (newest base : List TimedLine) (split_base : trace ≡ newest ++ base)
+    (filled : FilledFor hosts terms trace since places i n) (live : Contains terms.live i) (held : IsHeldBySome hosts terms trace n) (newest base : List TimedLine) (split_base : trace ≡ newest ++ base)
     (known : known_from terms + wait + repairing terms < called_at base) (late_base : since < called_at base) where
   abbrev starts : ℕ → Start
   starts j = start_of (hosts j)
@@ -151,7 +178,7 @@ module _ (hosts : ℕ → Opening) (terms : Terms) (trace : List TimedLine) (sin
     one_more : (from k round : ℕ) → from + suc k * round ≡ from + k * round + round
     one_more from k round = let product : suc k * round ≡ k * round + round = omega arith in omega (arith, product)
 
-  -- what the rounds so far brought: in each one all places but one, or a crowd
+  -- what the rounds so far brought: in each one as many names as there are places, or a crowd
   pub record Counted (part : List TimedLine) (k : ℕ) : Type 0 where
     pub window : List TimedLine
     pub is : part ≡ window ++ base
@@ -160,7 +187,7 @@ module _ (hosts : ℕ → Opening) (terms : Terms) (trace : List TimedLine) (sin
     pub rounds : bringing + crowded ≡ k
     pub names : List NameValue
     pub apart : AreApart names
-    pub count : bringing * (places - 1) + 1 ≤ length names
+    pub count : bringing * places + 1 ≤ length names
     pub first : (x : NameValue) → Contains names x → IsHeldBySome hosts terms trace x × (holds (there hosts base i).host x ≡ false)
     pub then : (x : NameValue) → Contains names x → (x ≡ n) ⊎ (holds (there hosts part i).host x ≡ true)
     pub asks : 64 * crowded ≤ ask_count (performs_in hosts i window base)
@@ -187,7 +214,7 @@ module _ (hosts : ℕ → Opening) (terms : Terms) (trace : List TimedLine) (sin
         rounds = refl;
         names = n ∷ [];
         apart = (λ c. absurd (Contains-none n c), tt);
-        count = none (places - 1);
+        count = none places;
         first = λ x c. ⊎_elim
             (λ (same : n ≡ x). subst (λ (y : NameValue). IsHeldBySome hosts terms trace y × (holds (there hosts base i).host y ≡ false)) same
             (held, lacked_before hosts (e ∷ w.0) base i n (subst (λ (l : List TimedLine). holds (there hosts (e ∷ l) i).host n ≡ false) w.1 lacks)))
@@ -291,7 +318,7 @@ module _ (hosts : ℕ → Opening) (terms : Terms) (trace : List TimedLine) (sin
           omega (arith, least, many)
 
       -- what is asked for comes by the end of the round, or a crowd is
-      fate : (m : NameValue) → IsHeldBySome hosts terms trace m → asks_for m (there hosts q.part i).host ≡ true → (holds (there hosts (e ∷ part) i).host m ≡ true) ⊎ Crowd
+      fate : (m : NameValue) → IsHeldBySome hosts terms trace m → asks_for m (there hosts q.part i).host ≡ true → (holds (there hosts part i).host m ≡ true) ⊎ Crowd
       fate m held_m asked =
           let f = front_of hosts ((newer ++ q.front) ++ q.next ∷ []) q.part in
           let at = time_is hosts q.part in
@@ -299,7 +326,7 @@ module _ (hosts : ℕ → Opening) (terms : Terms) (trace : List TimedLine) (sin
           let le = base_by in
           ⊎_elim
           (λ (comes : AllHoldBehind starts terms (performed hosts trace) (time_of (performed hosts q.part) + request_span terms + repairing terms) m).
-          inl (holding hosts terms trace timely m (time_of (performed hosts q.part) + request_span terms + repairing terms) comes newer (e ∷ part) i split (let by = q.by in let r = in_round in omega (arith, by, r, at, goes_on)) live))
+          inl (held_before hosts terms trace newer part e i (time_of (performed hosts q.part) + request_span terms + repairing terms) m split comes (let by = q.by in let r = in_round in omega (arith, by, r, at, goes_on)) live))
           (λ (g : (t.0.level ≡ 0) × IsGivenUp starts (performed hosts trace) (performed hosts q.part) i m t.0 (max (time_of (performed hosts q.part)) (time_of (performed hosts q.part) + terms.asking * terms.far) + terms.late)).
           inr (given_up m t.0 t.1 g.0 g.1))
           (comes_or_is_given_up hosts terms trace wait timely waits f.0 (performed hosts q.part) i m t.0 (ap (performed hosts) upto_q ∙ f.1) (omega (arith, known, le, at)) live held_m t.1) where
@@ -347,72 +374,55 @@ module _ (hosts : ℕ → Opening) (terms : Terms) (trace : List TimedLine) (sin
         asks = let asks = c.asks in let two = both in omega (arith, asks, two, many);
       }
 
-      came : (s : AreAsked hosts terms trace q.part i places) → ((x : NameValue) → Contains s.names x → holds (there hosts (e ∷ part) i).host x ≡ true) → Counted part (suc k)
+      came : (s : AreAsked hosts terms trace q.part i places) → ((x : NameValue) → Contains s.names x → holds (there hosts part i).host x ≡ true) → Counted part (suc k)
       came s comes = record {
         window = window;
         is = window_is;
         bringing = suc c.bringing;
         crowded = c.crowded;
         rounds = let r = c.rounds in omega (arith, r);
-        names = new ++ c.names;
-        apart = apart_append new c.names (apart_passing there_then s.names s.apart) c.apart not_twice;
-        count = let all = length-append new c.names in let one = few in let many = s.count in more (length (new ++ c.names)) (length new) (length c.names) c.bringing (places - 1) all (omega (arith, one, many)) c.count;
+        names = s.names ++ c.names;
+        apart = apart_append s.names c.names s.apart c.apart not_twice;
+        count = let all = length-append s.names c.names in let many = s.count in more (length (s.names ++ c.names)) (length s.names) (length c.names) c.bringing places all many c.count;
         first = λ x d. ⊎_elim
-            (λ (here : Contains new x). let o = of_new x here in (s.held x o.0, lacked_base x (asked_lacked hosts q.part i x (s.asked x o.0))))
+            (λ (here : Contains s.names x). (s.held x here, lacked_base x (asked_lacked hosts q.part i x (s.asked x here))))
             (λ (old : Contains c.names x). c.first x old)
-            (Contains-append_cases new c.names x d);
+            (Contains-append_cases s.names c.names x d);
         then = λ x d. ⊎_elim
-            (λ (here : Contains new x). inr (of_new x here).1)
+            (λ (here : Contains s.names x). inr (comes x here))
             (λ (old : Contains c.names x). ⊎_elim (λ (same : x ≡ n). inl same) (λ (had : holds (there hosts p.part i).host x ≡ true). inr (held_since x had)) (c.then x old))
-            (Contains-append_cases new c.names x d);
+            (Contains-append_cases s.names c.names x d);
         asks = let asks = c.asks in let two = both in omega (arith, asks, two);
       } where
-        there_then : NameValue → Bool
-        there_then x = holds (there hosts part i).host x
-
-        new : List NameValue
-        new = filter there_then s.names
-
-        of_new : (x : NameValue) → Contains new x → Contains s.names x × (holds (there hosts part i).host x ≡ true)
-        of_new x d = Contains-from_filter there_then s.names x d
-
-        late : terms.quiet < e.time
-        late = let s = settled in let z = since_start in let r = in_round in omega (arith, s, z, r, goes_on)
-
-        few : length s.names ≤ length new + 1
-        few = all_but_one there_then s.names s.apart (λ x y d f lacks_x lacks_y. one_comes hosts terms trace newer part e i session split late x y lacks_x (comes x d) lacks_y (comes y f))
-
         lacked_base : (x : NameValue) → holds (there hosts q.part i).host x ≡ false → holds (there hosts base i).host x ≡ false
         lacked_base x l =
             let is : q.part ≡ (b.0 ++ c.window) ++ base = b.1 ∙ ap (λ (l : List TimedLine). b.0 ++ l) c.is ∙ sym (append_assoc b.0 c.window base) in
             lacked_before hosts (b.0 ++ c.window) base i x (subst (λ (l : List TimedLine). holds (there hosts l i).host x ≡ false) is l)
 
-        not_twice : (x : NameValue) → Contains new x → Contains c.names x → ⊥
-        not_twice x here old =
-            let o = of_new x here in
-            ⊎_elim
-            (λ (same : x ≡ n). true≢false (sym (subst (λ (y : NameValue). holds (there hosts part i).host y ≡ true) same o.1) ∙ lacks_part))
+        not_twice : (x : NameValue) → Contains s.names x → Contains c.names x → ⊥
+        not_twice x here old = ⊎_elim
+            (λ (same : x ≡ n). true≢false (sym (subst (λ (y : NameValue). holds (there hosts part i).host y ≡ true) same (comes x here)) ∙ lacks_part))
             (λ (had : holds (there hosts p.part i).host x ≡ true).
             let then = subst (λ (l : List TimedLine). holds (there hosts l i).host x ≡ true) (sym b.1) (held_on hosts b.0 p.part i x had) in
-            true≢false (sym then ∙ asked_lacked hosts q.part i x (s.asked x o.0)))
+            true≢false (sym then ∙ asked_lacked hosts q.part i x (s.asked x here)))
             (c.then x old)
 
-        more : (all new old rounds less : ℕ) → all ≡ new + old → less ≤ new → rounds * less + 1 ≤ old → suc rounds * less + 1 ≤ all
-        more all new old rounds less is some le =
-            let product : suc rounds * less ≡ rounds * less + less = omega arith in
+        more : (all new old rounds each : ℕ) → all ≡ new + old → new ≡ each → rounds * each + 1 ≤ old → suc rounds * each + 1 ≤ all
+        more all new old rounds each is some le =
+            let product : suc rounds * each ≡ rounds * each + each = omega arith in
             omega (arith, is, some, le, product)
 
       one_round : Counted part (suc k)
       one_round = ⊎_elim
           (λ (asked : asks_for n (there hosts q.part i).host ≡ true). ⊎_elim
-          (λ (comes : holds (there hosts (e ∷ part) i).host n ≡ true). absurd (true≢false (sym comes ∙ lacks)))
+          (λ (comes : holds (there hosts part i).host n ≡ true). absurd (true≢false (sym comes ∙ lacks_part)))
           one_crowd
           (fate n held asked))
           (λ (s : AreAsked hosts terms trace q.part i places). ⊎_elim
           (came s)
           one_crowd
-          (each_or {P = λ x. holds (there hosts (e ∷ part) i).host x ≡ true} {C = Crowd} s.names (λ x d. fate x (s.held x d) (s.asked x d))))
-          (filled ((newer ++ q.front) ++ q.next ∷ []) q.part i n upto_q live (let le = base_by in omega (arith, le, late_base)) held lacks_then)
+          (each_or {P = λ x. holds (there hosts part i).host x ≡ true} {C = Crowd} s.names (λ x d. fate x (s.held x d) (s.asked x d))))
+          (filled ((newer ++ q.front) ++ q.next ∷ []) q.part upto_q (let le = base_by in omega (arith, le, late_base)) lacks_then)
 
   -- ---- all rounds
 

@@ -24,7 +24,7 @@ use Rattle.wb_kept_progress.proofs.Named.{more_if, one_if}
 
 -- ---- lines that answer no question at once
 
-abbrev AnswersNot : Line → Type 0
+abbrev pub AnswersNot : Line → Type 0
 AnswersNot (Hears (AskPages asker)) = ⊥
 AnswersNot (Hears (Draw d)) = Unit {0}
 AnswersNot (Hears (Session sender sent page marks echoes)) = Unit {0}
@@ -38,7 +38,7 @@ AnswersNot (SetsDistance source micros) = Unit {0}
 AnswersNot (Tunes constants) = Unit {0}
 AnswersNot (Says v) = Unit {0}
 
-abbrev AnswerNot : List Line → Type 0
+abbrev pub AnswerNot : List Line → Type 0
 AnswerNot [] = Unit {0}
 AnswerNot (line ∷ lines) = AnswersNot line × AnswerNot lines
 
@@ -64,7 +64,7 @@ not_both : (one other : List Line) → AnswerNot one → AnswerNot other → Ans
 not_both [] other a b = b
 not_both (line ∷ one) other a b = (a.0, not_both one other a.1 b)
 
-kept_answer_not : (lines : List KeptLine) (k : Keeping) → AnswerNot (expand lines k)
+pub kept_answer_not : (lines : List KeptLine) (k : Keeping) → AnswerNot (expand lines k)
 kept_answer_not [] k = tt
 kept_answer_not (line ∷ lines) k =
     let next = after_doing (doing_of line) k in

@@ -3,7 +3,7 @@ use Rattle.std.proofs.Common.{◌≡◌, ℕ, ◌+◌, ◌≤◌, Bool, true, fa
 use Rattle.std.specs.Prelude.{max, min, nat_eq}
 use Rattle.wb_member.specs.Judged.{delay}
 use Rattle.wb_member.specs.Opened.{Opened, opened_with}
-use Rattle.wb_policy.specs.declared.limits.TheConstants.{UNKNOWN_DISTANCE}
+use Rattle.wb_policy.specs.declared.limits.TheConstants.{MOST_DISTANCE, UNKNOWN_DISTANCE}
 use Rattle.wb_policy.specs.Distances.{bounded, known}
 use Rattle.wb_keeping.specs.Kept.{Line}
 use Rattle.wb_keeping.specs.Laws.{KeptLine, doing_of, fault_of}
@@ -12,17 +12,17 @@ use Rattle.wb_keeping.proofs.EachStep.{line_of_parts}
 use Rattle.wb_keeping.proofs.KeptDistances.{IsReady, Keeps, Terms, parts_keep, ticks_so}
 use Rattle.wb_keeping.proofs.SpacedLines.{AreAll}
 use Rattle.wb_kept_progress.specs.Sessions.{AreTaken, LineAt, Opening, kept_at, opened}
-use Rattle.wb_kept_progress.specs.Timed.{KeptGoByShort, TimedLine, goes_by_distances, greatest_distance, host_after, lines_of, start_of}
+use Rattle.wb_kept_progress.specs.Timed.{KeptGoByShort, TimedLine, goes_by_distances, host_after, lines_of, start_of}
 use Rattle.wb_kept_progress.specs.Whole.{there}
 use Rattle.wb_kept_progress.proofs.CallLines.{host_before, lines_have_calls}
 
 -- ---- what is so of each line
 
 abbrev IsShort : ℕ → Type 0
-IsShort micros = micros ≤ greatest_distance
+IsShort micros = micros ≤ MOST_DISTANCE
 
 abbrev pub IsNear : Opened → Type 0
-IsNear host = (source : ℕ) → delay host source ≤ greatest_distance
+IsNear host = (source : ℕ) → delay host source ≤ MOST_DISTANCE
 
 -- a line that goes by distances finds none that is greater
 abbrev GoesNear : Line → Opened → Type 0
@@ -35,11 +35,11 @@ near_at : (one other : List Line) (line : Line) (host : Opened) → GoNear (one 
 near_at [] other line host near goes = near.0 goes
 near_at (first ∷ one) other line host near goes = near_at one other line (after_line first host) near.1 goes
 
-bounded_short : (micros : ℕ) → bounded micros ≤ greatest_distance
+bounded_short : (micros : ℕ) → bounded micros ≤ MOST_DISTANCE
 bounded_short micros = by (min (max micros 10000) 1000000) (omega arith) where
-  by : (m : ℕ) → m ≤ 1000000 → known m ≤ greatest_distance
+  by : (m : ℕ) → m ≤ 1000000 → known m ≤ MOST_DISTANCE
   by m le = either (nat_eq m UNKNOWN_DISTANCE) where
-    either : (b : Bool) → cond b (UNKNOWN_DISTANCE + 1) m ≤ greatest_distance
+    either : (b : Bool) → cond b (UNKNOWN_DISTANCE + 1) m ≤ MOST_DISTANCE
     either true = omega arith
     either false = le
 
@@ -89,5 +89,5 @@ kept_go_by_short hosts terms trace taken far newer older x source split live goe
     let here = taken_in hosts c.newer c.older c.e (subst (λ (t : List TimedLine). AreTaken hosts (lines_of t)) c.split taken) in
     let call = call_near c.e.at.line k here.0 (are_ready hosts (lines_of c.older) here.1 c.e.at.place) in
     let near = near_at c.before c.later x.line k.host (subst (λ (lines : List Line). GoNear lines k.host) c.lines call.0) goes in
-    let short : delay (host_after (λ j. start_of (hosts j)) older x.place) source ≤ greatest_distance = subst IsNear (sym (host_before hosts trace x older c)) near source in
+    let short : delay (host_after (λ j. start_of (hosts j)) older x.place) source ≤ MOST_DISTANCE = subst IsNear (sym (host_before hosts trace x older c)) near source in
     omega (arith, short, far)

@@ -17,13 +17,15 @@ use Rattle.wb_laws_kept.specs.Openings.{opened, opened_host}
 use Rattle.wb_laws_kept.specs.Sessions.{Begins, Call, CallAt, Handed, given_lines, kept_at}
 use Rattle.wb_kept_progress.specs.Sessions as hosts
 use Rattle.wb_kept_progress.specs.Sessions.{LineAt, Opening, at}
-use Rattle.wb_kept_progress.specs.Since.{AreFittingSince, AreInOrder, IsFitting, IsFittingSince, IsHandedIn, IsSpared, IsTimelyWithStarts, RestartedBecomeWhole, RestartedBecomeWholeByRounds, RestartedBecomeWholeInCrowds, SinceIsSame, SinceIsTimely, WasSentBy, called_at, elsewhere, handed_at, hosts_of, opening_at, opening_by, since, since_by, with_number}
+use Rattle.wb_kept_progress.specs.Since.{AreFittingSince, AreInOrder, IsFitting, IsFittingSince, IsHandedIn, IsSpared, IsTimelyWithStarts, RestartedBecomeWhole, RestartedBecomeWholeByRounds, RestartedBecomeWholeInCrowds, RestartedFillHoles, SinceIsSame, SinceIsTimely, WasSentBy, called_at, elsewhere, handed_at, hosts_of, opening_at, opening_by, since, since_by, with_number}
 use Rattle.wb_kept_progress.specs.Timed.{TellTimes, TimedLine}
 use Rattle.wb_kept_progress.specs.Timed as timed
 use Rattle.wb_kept_progress.specs.Whole.{AreCalledInOrder, there}
 use Rattle.wb_kept_progress.specs.Whole as whole
 use Rattle.wb_kept_progress.specs.Crowded.{crowded_by}
+use Rattle.wb_kept_progress.specs.Filling.{filled_by}
 use Rattle.wb_kept_progress.specs.Rounds.{rounds_by}
+use Rattle.wb_kept_progress.proofs.Waking.{holes_are_filled}
 use Rattle.wb_kept_progress.proofs.InCrowds.{sessions_become_whole_in_crowds}
 use Rattle.wb_kept_progress.proofs.Promised.{sessions_become_whole}
 use Rattle.wb_kept_progress.proofs.Rounds.{sessions_become_whole_by_rounds}
@@ -541,5 +543,13 @@ restarted_become_whole_in_crowds numbers terms calls newer later from wait most 
     holding_since numbers terms calls newer later (crowded_by terms from wait (bringing + crowded)) i n s
     (sessions_become_whole_in_crowds (hosts_of numbers calls) terms (since numbers calls) from wait most places bringing crowded n (since_is_timely numbers terms calls s) waits lacks filled brings enough held)
     (after terms.quiet terms.delivery _ wait _ from _ _) split late live where
+      after : (q d m w r first x y : ℕ) → q ≤ max (q + d + d + m + 1 + w + r) first + x + y
+      after q d m w r first x y = omega arith
+
+pub restarted_fill_holes : RestartedFillHoles
+restarted_fill_holes numbers terms calls newer later from wait most crowded i n s waits lacks holes_held only enough held split late live =
+    holding_since numbers terms calls newer later (filled_by terms from wait (most + crowded)) i n s
+    (holes_are_filled (hosts_of numbers calls) terms (since numbers calls) from wait most crowded n (since_is_timely numbers terms calls s) waits lacks holes_held only enough held)
+    (after terms.quiet terms.delivery _ wait _ _ _ _) split late live where
       after : (q d m w r first x y : ℕ) → q ≤ max (q + d + d + m + 1 + w + r) first + x + y
       after q d m w r first x y = omega arith

@@ -172,19 +172,15 @@ module _ (numbers : ℕ → ℕ) where
 
   -- ---- they are hosts
 
-  moments_go_on : (now : ℕ) (moments : List ℕ) → DoNotGoBack now moments → hosts.DoNotGoBack now moments
-  moments_go_on now [] on = tt
-  moments_go_on now (moment ∷ moments) on = (on.0, moments_go_on moment moments on.1)
-
   pub record IsFit (o : Opening) : Type 0 where
-    pub moments : hosts.DoNotGoBack 0 o.moments
+    pub moments : DoNotGoBack 0 o.moments
     in_range : are_constants o.constants ≡ true
 
   pub are_fit : (calls : List CallAt) → AreTaken numbers calls → (i : ℕ) → IsFit (opening_at calls i)
   are_fit [] taken i = record { moments = tt; in_range = refl }
   are_fit (e ∷ older) taken i = by (are_fit older taken.1 i) (nat_eq e.place i) where
     called : (call : Call) → IsTaken call (kept_at numbers older e.place) → IsFit (opening_at older i) → IsFit (opening_by call (opening_at older i))
-    called (Begins o given) is rest = record { moments = moments_go_on 0 o.moments is.0.moments; in_range = is.0.in_range }
+    called (Begins o given) is rest = record { moments = is.0.moments; in_range = is.0.in_range }
     called (Handed line) is rest = rest
 
     by : IsFit (opening_at older i) → (b : Bool) → IsFit (cond b (opening_by e.call (opening_at older i)) (opening_at older i))

@@ -16,10 +16,11 @@ use Rattle.wb_progress.specs.Turns.{IsNowAt, Terms, longest, settled_by}
 use Rattle.wb_member.specs.Judged.{is_full}
 use Rattle.wb_member.specs.Opened.{present}
 use Rattle.wb_policy.specs.Fairness.{slices_of, slices_on}
+use Rattle.wb_policy.specs.declared.limits.TheConstants.{MOST_DISTANCE}
 use Rattle.wb_keeping.specs.Laws.{KeptLine, Came, Ticked, Added, Tuned, fault_of}
 use Rattle.wb_keeping.specs.Performing.{due}
 use Rattle.wb_kept_progress.specs.Sessions.{AreTaken, DoNotGoBack, Opening, opened_host}
-use Rattle.wb_kept_progress.specs.Timed.{SaysNow, TellTimes, TimedLine, called_at, greatest_distance, lines_of}
+use Rattle.wb_kept_progress.specs.Timed.{SaysNow, TellTimes, TimedLine, called_at, lines_of}
 use Rattle.wb_kept_progress.specs.Whole.{AreCalledInOrder, AreWithin, IsHandedIn, IsTimelySession, Sizes, WasSentBy, sends_then, there}
 use Rattle.wb_kept_progress.proofs.SameDatagrams.{same_datagram, same_datagram-is}
 use Rattle.wb_kept_progress.proofs.Testing.{each, each-at, parts, parts-at, some, some-at, splits, splits-at}
@@ -257,7 +258,7 @@ module _ (hosts : ℕ → Opening) (terms : Terms) where
     pub distinct : (i j : ℕ) → (hosts i).number ≡ (hosts j).number → i ≡ j
     pub waits : (i : ℕ) → Contains terms.live i → IsUnder (longest terms) (hosts i).constants
     pub covered : terms.drift ≤ terms.late
-    pub far : greatest_distance ≤ terms.far
+    pub far : MOST_DISTANCE ≤ terms.far
 
   pub session_of : (trace : List TimedLine) → Begins → passes trace ≡ true → IsTimelySession hosts terms trace
   session_of trace b so = record {

@@ -9,7 +9,7 @@ use Rattle.wb_member.specs.Queries.{view_of}
 use Rattle.wb_kept_progress.specs.Repairs.{host_at}
 use Rattle.wb_kept_progress.specs.Sessions.{LineAt, Opening}
 use Rattle.wb_kept_progress.specs.Timed.{TimedLine, called_at, lines_of}
-use Rattle.wb_kept_progress.specs.Whole.{AreSoon, AreWithin, IsTimelySession, LackAtMost, Sizes, WaitAtMost, request_span, there, whole_by}
+use Rattle.wb_kept_progress.specs.Whole.{AreSoon, AreWithin, IsTimelySession, LackAtMost, Sizes, WaitAtMost, minute, request_span, there, whole_by}
 
 -- ---- what a name means
 
@@ -29,6 +29,6 @@ pub record LookAlike (one other : List DrawopValue) : Type 0 where
 -- After the time at which a session is whole, the boards of any two live hosts look alike, if no name means two drawops to them.
 abbrev pub SessionsAgree : Type 0
 SessionsAgree = (hosts : ℕ → Opening) (terms : Terms) (trace newer later : List TimedLine) (sizes : Sizes) (wait most i j : ℕ)
-    → IsTimelySession hosts terms trace → AreWithin hosts terms trace sizes → AreSoon hosts terms trace sizes most → WaitAtMost hosts terms trace wait → LackAtMost hosts terms trace most → request_span terms + terms.drift ≤ 60000000
+    → IsTimelySession hosts terms trace → AreWithin hosts terms trace sizes → AreSoon hosts terms trace sizes most → WaitAtMost hosts terms trace wait → LackAtMost hosts terms trace most → request_span terms + terms.drift ≤ minute
     → trace ≡ newer ++ later → whole_by terms sizes wait most < called_at later → Contains terms.live i → Contains terms.live j → NamesMeanOneAt hosts (lines_of later) i j
     → LookAlike (there hosts later i).host.is.held (there hosts later j).host.is.held

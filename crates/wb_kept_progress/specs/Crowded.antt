@@ -1,6 +1,6 @@
 -- By when a session becomes whole while live hosts keep places filled, also if they give up names before their timers were backed off. One is given up so
 -- only if 64 names were asked for shortly before. Credit pays for few of such crowds: for two names where one that was asked for comes, and for four a second.
-use Rattle.std.specs.Prelude.{ℕ, ◌+◌, ◌-◌, ◌*◌, ◌≤◌, List, max}
+use Rattle.std.specs.Prelude.{ℕ, ◌+◌, ◌*◌, ◌≤◌, List, max}
 use Rattle.wb_names.specs.Values.{NameValue}
 use Rattle.wb_progress.specs.InTime.{known_from, repairing}
 use Rattle.wb_progress.specs.Turns.{Terms}
@@ -27,10 +27,10 @@ spent_in terms most rounds = (PLACES + PAYS * most) * COST + turn_span terms + r
 
 -- ---- the law
 
--- In each round all but one of `places` names come to a host that lacks something, or a crowd of 64 is asked for. So if `bringing` rounds bring all, and
+-- In each round `places` names come to a host that lacks something, or a crowd of 64 is asked for. So if `bringing` rounds bring all, and
 -- `crowded` crowds cost what it may spend, each live host holds what one of them held after these rounds.
 abbrev pub SessionsBecomeWholeInCrowds : Type 0
 SessionsBecomeWholeInCrowds = (hosts : ℕ → Opening) (terms : Terms) (trace : List TimedLine) (since wait most places bringing crowded : ℕ) (n : NameValue)
     → IsTimelySession hosts terms trace → WaitAtMost hosts terms trace wait → OneLacksAtMost hosts terms trace most → PlacesAreFilled hosts terms trace since places
-    → most ≤ bringing * (places - 1) → spent_in terms most (bringing + crowded) ≤ crowded * (MOST_TIMERS * COST)
+    → most ≤ bringing * places → spent_in terms most (bringing + crowded) ≤ crowded * (MOST_TIMERS * COST)
     → IsHeldBySome hosts terms trace n → AllKeptHoldBehind hosts terms trace (crowded_by terms since wait (bringing + crowded)) n

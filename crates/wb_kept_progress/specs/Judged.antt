@@ -1,13 +1,17 @@
--- How many drawops a judged member sends, whatever comes in.
-use Rattle.std.specs.Prelude.{ℕ, ◌+◌, ◌-◌, ◌/◌, ◌≤◌, List, [], ◌∷◌, ◌++◌}
+-- How many drawops a judged member sends, and how many bytes, whatever comes in.
+use Rattle.std.specs.Prelude.{ℕ, ◌+◌, ◌-◌, ◌*◌, ◌/◌, ◌≤◌, List, [], ◌∷◌, ◌++◌}
 use Rattle.wb_codec.specs.declared.datagram.Datagram.{Datagram}
 use Rattle.wb_judge.specs.Laws.{AreFrom}
 use Rattle.wb_judge.specs.declared.limits.TheConstants.{ASKED_AHEAD, ASKED_PAUSE, REPAIRS_AHEAD, REPAIR_PAUSE}
+use Rattle.wb_member.specs.Opened.{present}
+use Rattle.wb_policy.specs.declared.limits.TheConstants.{ECHO_BYTES, FIRST_WAIT, MOST_REPORT_BYTES}
 use Rattle.wb_judging.specs.Judged.{Judged}
 use Rattle.wb_judging.specs.declared.call.Call.{Call}
 use Rattle.wb_judging.specs.declared.call.Call.TheVariants.{CameFrom, DayTold, Garbled, GoneFrom, Held, Passed, UserDrew}
-use Rattle.wb_judging.specs.Laws.{sends_in}
+use Rattle.wb_judging.specs.Laws.{after_all, expanded, sends_in}
 use Rattle.wb_judging.specs.Performing.{after_judged, events_of}
+use Rattle.wb_keeping.specs.Laws.{AreTaken}
+use Rattle.wb_kept_progress.specs.Bytes.{AreFewBytes, AreShortTexts, BringShortTexts, byte_count, most_drawop_bytes}
 use Rattle.wb_kept_progress.specs.Timed.{is_drawop}
 use Rattle.wb_kept_progress.specs.Traffic.{answering_count, how_many}
 
@@ -62,3 +66,13 @@ for_strangers micros = (ASKED_AHEAD + ASKED_PAUSE + micros) / ASKED_PAUSE
 abbrev pub JudgedMembersSendFewDrawops : Type 0
 JudgedMembersSendFewDrawops = (start end : ℕ) (lines : List Call) (h : Judged) → AreOfNow lines → AreFrom start end (came_at lines)
     → how_many is_drawop (sent_by_judged lines h) ≤ answering_count h.kept.host + drawing_count lines + for_members (end - start) + for_strangers (end - start)
+
+-- It sends as few bytes as its kept member, if what that is handed is taken; but a report may have one echo more, of 20 bytes.
+abbrev pub JudgedMembersSendFewBytes : Type 0
+JudgedMembersSendFewBytes = (lines : List Call) (h : Judged) → FIRST_WAIT ≤ h.kept.policy.questions.wait → AreTaken (expanded lines h) h.kept
+    → AreFewBytes (MOST_REPORT_BYTES + ECHO_BYTES) (sent_by_judged lines h) (present (after_all lines h).kept.host - present h.kept.host)
+
+-- If no text that it holds or that its kept member is handed is longer than 64 bytes, n drawops that it sends have at most 102n bytes.
+abbrev pub JudgedDrawopsAreShort : Type 0
+JudgedDrawopsAreShort = (lines : List Call) (h : Judged) → AreShortTexts h.kept.host.is.held → BringShortTexts (expanded lines h) → AreTaken (expanded lines h) h.kept
+    → byte_count is_drawop (sent_by_judged lines h) ≤ how_many is_drawop (sent_by_judged lines h) * most_drawop_bytes

@@ -6,9 +6,11 @@ pub mod Whole
 pub mod Promises
 pub mod Rounds
 pub mod Crowded
+pub mod Filling
 pub mod LeadsOn
 pub mod Agreement
 pub mod Since
 pub mod Traffic
+pub mod Bytes
 pub mod Judged
 pub mod Examples

@@ -12,7 +12,7 @@ use Rattle.wb_member.specs.Opened.{Opened}
 use Rattle.wb_keeping.specs.Kept.{Stops}
 use Rattle.wb_kept_progress.specs.Sessions.{Opening}
 use Rattle.wb_kept_progress.specs.Timed.{Performed, TimedLine, called_at, host_after, performed, start_of, time_of, timers_after}
-use Rattle.wb_kept_progress.specs.Whole.{AreSoon, AreWithin, IsHeldBySome, IsTimelySession, LackAtMost, ReportsAreDue, SessionsBecomeWhole, Sizes, WaitAtMost, asked_within, request_span, there}
+use Rattle.wb_kept_progress.specs.Whole.{AreSoon, AreWithin, IsHeldBySome, IsTimelySession, LackAtMost, ReportsAreDue, SessionsBecomeWhole, Sizes, WaitAtMost, asked_within, minute, request_span, there}
 
 abbrev pub host_then : (ℕ → Opening) → List Performed → ℕ → Opened
 host_then hosts back i = host_after (λ j. start_of (hosts j)) back i
@@ -29,7 +29,7 @@ pub record Holds (hosts : ℕ → Opening) (terms : Terms) (trace : List TimedLi
   pub soon : AreSoon hosts terms trace sizes most
   pub waits : WaitAtMost hosts terms trace wait
   pub lacks : LackAtMost hosts terms trace most
-  pub short : request_span terms + terms.drift ≤ 60000000
+  pub short : request_span terms + terms.drift ≤ minute
 
 -- Nothing new comes to a live host in a window of calls, which begins late enough.
 pub record IsStill (hosts : ℕ → Opening) (terms : Terms) (trace newest window base : List TimedLine) : Type 0 where

@@ -15,7 +15,7 @@ use Rattle.wb_member.specs.Opened.{Opened, asks_for, present}
 use Rattle.wb_policy.specs.Credit.{has_credit}
 use Rattle.wb_policy.specs.Fairness.{HaveAtMost, name_in_turn, slices_of, slices_on}
 use Rattle.wb_policy.specs.Turns.{windows_in}
-use Rattle.wb_policy.specs.declared.limits.TheConstants.{ROUND_LIMIT, WINDOW}
+use Rattle.wb_policy.specs.declared.limits.TheConstants.{FIRST_FORGED, LONGEST_PAUSE, MOST_MARKS, ROUND_LIMIT, WINDOW}
 use Rattle.wb_keeping.specs.Fairness.{AnswersWhatIsHeld}
 use Rattle.wb_keeping.specs.Kept.{turn}
 use Rattle.wb_keeping.specs.Laws.{Came, Ticked}
@@ -79,7 +79,7 @@ ready_at k = max (present k.host) (max (max k.policy.reports.due k.policy.pace.d
 pub record ComesToAsk (hosts : ℕ → Opening) (newer older : List LineAt) (i : ℕ) (n : NameValue) : Type 0 where
   pub ticks : AreTicks i newer
   pub taken : AreTaken hosts (newer ++ older)
-  pub soon : present (host_at hosts (newer ++ older) i) + 96000000 ≤ ready_at (kept_at hosts older i) + length newer * 96000000
+  pub soon : present (host_at hosts (newer ++ older) i) + LONGEST_PAUSE ≤ ready_at (kept_at hosts older i) + length newer * LONGEST_PAUSE
   pub same : (host_at hosts (newer ++ older) i).is.held ≡ (host_at hosts older i).is.held
   pub asked : asks_for n (host_at hosts (newer ++ older) i) ≡ true
 
@@ -90,7 +90,7 @@ TurnsAsk = (k : Keeping) (hole : Hole) → AnswersWhatIsHeld k.host → Contains
 
 -- A number of a source that is missing below the greatest that a host holds of it comes to be asked for, if the board has a free cell.
 abbrev pub MissingIsAsked : Type 0
-MissingIsAsked = (hosts : ℕ → Opening) (older : List LineAt) (i : ℕ) (n : NameValue) → AreHosts hosts → AreTaken hosts older → IsMissing (host_at hosts older i).is.held n.page [] n.source n.seq → n.seq < 2147483648 → is_full (host_at hosts older i) ≡ false
+MissingIsAsked = (hosts : ℕ → Opening) (older : List LineAt) (i : ℕ) (n : NameValue) → AreHosts hosts → AreTaken hosts older → IsMissing (host_at hosts older i).is.held n.page [] n.source n.seq → n.seq < FIRST_FORGED → is_full (host_at hosts older i) ≡ false
     → (newer : List LineAt) × ComesToAsk hosts newer older i n
 
 -- While the rounds are counted with 32 bits, a number of one of R holes is asked for by 64 R ticks for each 64 of the numbers of its hole or part of these, and one
@@ -108,7 +108,7 @@ MissingIsAskedSoon = (hosts : ℕ → Opening) (older : List LineAt) (i : ℕ) (
 
 -- So it can come from one that holds it.
 abbrev pub MissingCanCome : Type 0
-MissingCanCome = (hosts : ℕ → Opening) (older : List LineAt) (i j : ℕ) (d : DrawopValue) → AreHosts hosts → AreTaken hosts older → IsLost hosts older i j d → IsMissing (host_at hosts older i).is.held d.name.page [] d.name.source d.name.seq → d.name.seq < 2147483648
+MissingCanCome = (hosts : ℕ → Opening) (older : List LineAt) (i j : ℕ) (d : DrawopValue) → AreHosts hosts → AreTaken hosts older → IsLost hosts older i j d → IsMissing (host_at hosts older i).is.held d.name.page [] d.name.source d.name.seq → d.name.seq < FIRST_FORGED
     → (newer : List LineAt) × IsBrought hosts newer older i j d
 
 -- ---- any number that a report tells
@@ -124,14 +124,14 @@ pub record HasCome (hosts : ℕ → Opening) (newer older : List LineAt) (i : �
 pub record ComesToTell (hosts : ℕ → Opening) (newer older : List LineAt) (j : ℕ) (page : PageId) (m : MarkValue) : Type 0 where
   pub ticks : AreTicks j newer
   pub taken : AreTaken hosts (newer ++ older)
-  pub soon : present (host_at hosts (newer ++ older) j) + 96000000 ≤ ready_at (kept_at hosts older j) + length newer * 96000000
+  pub soon : present (host_at hosts (newer ++ older) j) + LONGEST_PAUSE ≤ ready_at (kept_at hosts older j) + length newer * LONGEST_PAUSE
   pub same : (host_at hosts (newer ++ older) j).is.held ≡ (host_at hosts older j).is.held
   pub moment : ℕ
   pub marks : List MarkValue
   pub echoes : List Echo
   pub sent : Contains (sent_since hosts newer older) (Session (host_at hosts older j).is.number moment page marks echoes)
   pub among : Contains marks m
-  pub few : length marks ≤ 64
+  pub few : length marks ≤ MOST_MARKS
 
 abbrev pub MarksComeToBeTold : Type 0
 MarksComeToBeTold = (hosts : ℕ → Opening) (older : List LineAt) (j : ℕ) (page : PageId) (m : MarkValue) → AreTaken hosts older → Contains (pages_of (host_at hosts older j).is.held) page → Contains (report_of (host_at hosts older j).is.held page) m
@@ -141,5 +141,5 @@ MarksComeToBeTold = (hosts : ℕ → Opening) (older : List LineAt) (j : ℕ) (p
 -- the other holds no number of its source on its page that is 2^31 or more.
 abbrev pub LostCanCome : Type 0
 LostCanCome = (hosts : ℕ → Opening) (older : List LineAt) (i j : ℕ) (d : DrawopValue) → AreHosts hosts → AreTaken hosts older → 1 ≤ d.name.seq → Contains (host_at hosts older j).is.held d → holds (host_at hosts older i) d.name ≡ false
-    → length (host_at hosts older i).is.held + 2 ≤ (host_at hosts older i).is.cells → highest d.name.page d.name.source (host_at hosts older j).is.held < 2147483648
+    → length (host_at hosts older i).is.held + 2 ≤ (host_at hosts older i).is.cells → highest d.name.page d.name.source (host_at hosts older j).is.held < FIRST_FORGED
     → (newer : List LineAt) × HasCome hosts newer older i d

@@ -1,6 +1,6 @@
 -- Sessions of self-managing hosts. What one sends may be lost, and may be handed in to any of them, at any later point, any
 -- number of times.
-use Rattle.std.specs.Prelude.{◌≡◌, ◌≤◌, ℕ, true, List, [], ◌∷◌, ◌++◌, Contains, None, map, nat_eq, if◌then◌else◌}
+use Rattle.std.specs.Prelude.{◌≡◌, ℕ, true, List, [], ◌∷◌, ◌++◌, Contains, None, map, nat_eq, if◌then◌else◌}
 use Rattle.wb_codec.specs.declared.datagram.Datagram.{Datagram}
 use Rattle.wb_recovery.specs.Timing.{are_constants}
 use Rattle.wb_recovery.specs.declared.tuning.Tuning.{Tuning}
@@ -9,6 +9,7 @@ use Rattle.wb_keeping.specs.Kept.{Ticks}
 use Rattle.wb_keeping.specs.Laws.{KeptLine, Came, Ticked, Added, Tuned, doing_of, fault_of}
 use Rattle.wb_keeping.specs.Performing.{Keeping, after_doing, after_lines, sent_by_doing}
 use Rattle.wb_policy.specs.Policy.{begun}
+pub use Rattle.wb_laws_kept.specs.Openings.{DoNotGoBack}
 
 -- ---- hosts and their lines
 
@@ -47,11 +48,6 @@ sent hosts [] = []
 sent hosts (e ∷ older) = sent_by_doing (doing_of e.line) (kept_at hosts older e.place) ++ sent hosts older
 
 -- ---- what they keep to
-
--- moments that do not go back, from one on
-abbrev pub DoNotGoBack : ℕ → List ℕ → Type 0
-DoNotGoBack now [] = Unit {0}
-DoNotGoBack now (moment ∷ moments) = (now ≤ moment) × DoNotGoBack moment moments
 
 -- No two hosts have one number, time went on at each before it was self-managing, and the constants of timers are 1 to 16.
 pub record AreHosts (hosts : ℕ → Opening) : Type 0 where

@@ -1,6 +1,6 @@
 -- Sessions in which programs start, and start anew. What came since the last start of each member is a session of hosts: by when it becomes
 -- whole is said of that.
-use Rattle.std.specs.Prelude.{◌≡◌, ◌≢◌, ◌⊎◌, ℕ, ◌+◌, ◌-◌, ◌*◌, ◌<◌, ◌≤◌, Bool, true, false, List, [], ◌∷◌, ◌++◌, Contains, nat_eq, if◌then◌else◌}
+use Rattle.std.specs.Prelude.{◌≡◌, ◌≢◌, ◌⊎◌, ℕ, ◌+◌, ◌*◌, ◌<◌, ◌≤◌, Bool, true, false, List, [], ◌∷◌, ◌++◌, Contains, nat_eq, if◌then◌else◌}
 use Rattle.wb_names.specs.Values.{NameValue}
 use Rattle.wb_names.specs.declared.name.PageId.{PageId}
 use Rattle.wb_names.specs.declared.parts.Op.{Op}
@@ -10,7 +10,7 @@ use Rattle.wb_progress.specs.Bounds.{IsUnder}
 use Rattle.wb_progress.specs.Turns.{IsNowAt, Terms, longest, settled_by}
 use Rattle.wb_member.specs.Judged.{holds, is_full}
 use Rattle.wb_member.specs.Opened.{present}
-use Rattle.wb_policy.specs.declared.limits.TheConstants.{COST, MOST_TIMERS}
+use Rattle.wb_policy.specs.declared.limits.TheConstants.{COST, MOST_DISTANCE, MOST_TIMERS}
 use Rattle.wb_keeping.specs.Laws.{KeptLine, Added, Came, Tuned, doing_of}
 use Rattle.wb_keeping.specs.Performing.{due, sent_by_doing}
 use Rattle.wb_judging.specs.Members.{needs}
@@ -19,10 +19,11 @@ use Rattle.wb_laws_kept.specs.Openings as starts
 use Rattle.wb_laws_kept.specs.Openings.{opened, opened_host}
 use Rattle.wb_laws_kept.specs.Sessions.{AreTaken, Begins, Call, CallAt, Handed, given_lines, kept_at}
 use Rattle.wb_kept_progress.specs.Sessions.{Opening, at}
-use Rattle.wb_kept_progress.specs.Timed.{SaysNow, TimedLine, greatest_distance}
+use Rattle.wb_kept_progress.specs.Timed.{SaysNow, TimedLine}
 use Rattle.wb_kept_progress.specs.Crowded.{crowded_by, spent_in}
+use Rattle.wb_kept_progress.specs.Filling.{OnlyHolesAreLacked, filled_by}
 use Rattle.wb_kept_progress.specs.Rounds.{OneLacksAtMost, PlacesAreFilled, rounds_by}
-use Rattle.wb_kept_progress.specs.Whole.{AreSoon, AreWithin, IsHeldBySome, IsTimelySession, LackAtMost, NewAreKept, ReportWithin, Sizes, WaitAtMost, request_span, there, whole_by}
+use Rattle.wb_kept_progress.specs.Whole.{AreSoon, AreWithin, HolesAreHeld, IsHeldBySome, IsTimelySession, LackAtMost, NewAreKept, ReportWithin, Sizes, WaitAtMost, minute, request_span, there, whole_by}
 
 -- ---- the last start of each member, and the lines since then
 
@@ -125,7 +126,7 @@ pub record IsTimelyWithStarts (numbers : ℕ → ℕ) (terms : Terms) (calls : L
   pub taken : AreTaken numbers calls
   pub order : AreInOrder calls
   pub covered : terms.drift ≤ terms.late
-  pub far : greatest_distance ≤ terms.far
+  pub far : MOST_DISTANCE ≤ terms.far
   pub fitting : (i : ℕ) → Contains terms.live i → AreFittingSince terms (numbers i) i calls
   -- from `quiet` on
   pub alone : (newer older : List CallAt) (e : CallAt) → calls ≡ newer ++ e ∷ older → terms.quiet < e.time → Contains terms.live e.place × ((line : KeptLine) × (e.call ≡ Handed line))
@@ -151,7 +152,7 @@ abbrev pub RestartedBecomeWhole : Type 0
 RestartedBecomeWhole = (numbers : ℕ → ℕ) (terms : Terms) (calls newer later : List CallAt) (sizes : Sizes) (wait most i : ℕ) (n : NameValue) → IsTimelyWithStarts numbers terms calls
     → let hosts = hosts_of numbers calls in
     let trace = since numbers calls in
-    AreWithin hosts terms trace sizes → AreSoon hosts terms trace sizes most → WaitAtMost hosts terms trace wait → LackAtMost hosts terms trace most → request_span terms + terms.drift ≤ 60000000 → IsHeldBySome hosts terms trace n
+    AreWithin hosts terms trace sizes → AreSoon hosts terms trace sizes most → WaitAtMost hosts terms trace wait → LackAtMost hosts terms trace most → request_span terms + terms.drift ≤ minute → IsHeldBySome hosts terms trace n
     → calls ≡ newer ++ later → whole_by terms sizes wait most < called_at later → Contains terms.live i → holds (kept_at numbers later i).host n ≡ true
 
 -- So it does by rounds.
@@ -167,5 +168,13 @@ abbrev pub RestartedBecomeWholeInCrowds : Type 0
 RestartedBecomeWholeInCrowds = (numbers : ℕ → ℕ) (terms : Terms) (calls newer later : List CallAt) (from wait most places bringing crowded i : ℕ) (n : NameValue) → IsTimelyWithStarts numbers terms calls
     → let hosts = hosts_of numbers calls in
     let trace = since numbers calls in
-    WaitAtMost hosts terms trace wait → OneLacksAtMost hosts terms trace most → PlacesAreFilled hosts terms trace from places → most ≤ bringing * (places - 1) → spent_in terms most (bringing + crowded) ≤ crowded * (MOST_TIMERS * COST)
+    WaitAtMost hosts terms trace wait → OneLacksAtMost hosts terms trace most → PlacesAreFilled hosts terms trace from places → most ≤ bringing * places → spent_in terms most (bringing + crowded) ≤ crowded * (MOST_TIMERS * COST)
     → IsHeldBySome hosts terms trace n → calls ≡ newer ++ later → crowded_by terms from wait (bringing + crowded) < called_at later → Contains terms.live i → holds (kept_at numbers later i).host n ≡ true
+
+-- And where hosts lack nothing but numbers below one that they hold.
+abbrev pub RestartedFillHoles : Type 0
+RestartedFillHoles = (numbers : ℕ → ℕ) (terms : Terms) (calls newer later : List CallAt) (from wait most crowded i : ℕ) (n : NameValue) → IsTimelyWithStarts numbers terms calls
+    → let hosts = hosts_of numbers calls in
+    let trace = since numbers calls in
+    WaitAtMost hosts terms trace wait → OneLacksAtMost hosts terms trace most → HolesAreHeld hosts terms trace → OnlyHolesAreLacked hosts terms trace from → spent_in terms most (most + crowded) ≤ crowded * (MOST_TIMERS * COST)
+    → IsHeldBySome hosts terms trace n → calls ≡ newer ++ later → filled_by terms from wait (most + crowded) < called_at later → Contains terms.live i → holds (kept_at numbers later i).host n ≡ true

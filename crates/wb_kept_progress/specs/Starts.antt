@@ -5,6 +5,7 @@ use Rattle.wb_names.specs.Values.{DrawopValue}
 use Rattle.wb_codec.specs.declared.datagram.Datagram.{Datagram}
 use Rattle.wb_member.specs.Judged.{holds}
 use Rattle.wb_member.specs.Opened.{Opened}
+use Rattle.wb_policy.specs.declared.limits.TheConstants.{FIRST_FORGED}
 use Rattle.wb_keeping.specs.Laws.{doing_of}
 use Rattle.wb_keeping.specs.Performing.{sent_by_doing}
 use Rattle.wb_laws_sessions.specs.Sessions.{AreApart}
@@ -40,5 +41,5 @@ abbrev pub NoStateIsADeadEnd : Type 0
 NoStateIsADeadEnd = (numbers : ℕ → ℕ) (time : ℕ) (older : List CallAt) (i j : ℕ) (d : DrawopValue) → AreApart numbers → AreTaken numbers older → 1 ≤ d.name.seq
     → let one = (kept_at numbers older i).host in
     let other = (kept_at numbers older j).host in
-    Contains other.is.held d → holds one d.name ≡ false → length one.is.held + 2 ≤ one.is.cells → highest d.name.page d.name.source other.is.held < 2147483648
+    Contains other.is.held d → holds one d.name ≡ false → length one.is.held + 2 ≤ one.is.cells → highest d.name.page d.name.source other.is.held < FIRST_FORGED
     → (newer : List LineAt) × HasCome numbers time newer older i d

@@ -13,6 +13,7 @@ use Rattle.wb_progress.specs.Keepers.{is_request}
 use Rattle.wb_progress.specs.Turns.{AreNotOverdue, IsNowAt, Terms, longest, quiet_span, settled_by}
 use Rattle.wb_member.specs.Judged.{delay, holds, is_full}
 use Rattle.wb_member.specs.Opened.{Opened, events, opened_with, present}
+use Rattle.wb_policy.specs.declared.limits.TheConstants.{MOST_DISTANCE}
 use Rattle.wb_keeping.specs.Kept.{Line, Arrives, Asks, Hears, Says, SetsDistance, Stops, Ticks, Tunes}
 use Rattle.wb_keeping.specs.Laws.{KeptLine, Came, Ticked, Added, Tuned, doing_of}
 use Rattle.wb_keeping.specs.Performing.{after_line, after_lines, sees, sent_by_doing, sent_by_line}
@@ -223,12 +224,9 @@ KeptIsPerformed = (hosts : ℕ → Opening) (trace : List TimedLine) → IsPerfo
 abbrev pub KeptKeepsMoments : Type 0
 KeptKeepsMoments = (hosts : ℕ → Opening) (terms : Terms) (trace : List TimedLine) → TellTimes terms trace → KeepsMoments hosts terms trace
 
--- The greatest distance that a self-managing host goes by, in microseconds: it limits what echoes tell before it goes by that.
-abbrev pub greatest_distance : ℕ
-greatest_distance = 1000000
-
+-- A self-managing host goes by no greater distance than MOST_DISTANCE: it limits what echoes tell before it goes by that.
 abbrev pub KeptGoByShort : Type 0
-KeptGoByShort = (hosts : ℕ → Opening) (terms : Terms) (trace : List TimedLine) → AreTaken hosts (lines_of trace) → greatest_distance ≤ terms.far → GoByShort (λ j. start_of (hosts j)) terms (performed hosts trace)
+KeptGoByShort = (hosts : ℕ → Opening) (terms : Terms) (trace : List TimedLine) → AreTaken hosts (lines_of trace) → MOST_DISTANCE ≤ terms.far → GoByShort (λ j. start_of (hosts j)) terms (performed hosts trace)
 
 -- ---- by when it comes to self-managing hosts
 

@@ -1,5 +1,5 @@
 -- By when all of a session has come to self-managing hosts, if from some time on nobody draws and nothing is lost.
-use Rattle.std.specs.Prelude.{◌≡◌, ◌≢◌, ◌⊎◌, ℕ, ◌+◌, ◌*◌, ◌/◌, ◌^◌, ◌-◌, ◌<◌, ◌≤◌, false, List, [], ◌∷◌, ◌++◌, Contains, Some, length, max}
+use Rattle.std.specs.Prelude.{◌≡◌, ◌≢◌, ◌⊎◌, ℕ, ◌+◌, ◌*◌, ◌/◌, ◌-◌, ◌<◌, ◌≤◌, false, List, [], ◌∷◌, ◌++◌, Contains, Some, length, max}
 use Rattle.wb_names.specs.Values.{DrawopValue, NameValue}
 use Rattle.wb_names.specs.declared.name.PageId.{PageId}
 use Rattle.wb_names.specs.declared.parts.Op.{Op}
@@ -16,13 +16,13 @@ use Rattle.wb_member.specs.Judged.{echoes, holds, is_full}
 use Rattle.wb_member.specs.Opened.{present}
 use Rattle.wb_policy.specs.Fairness.{slices_of, slices_on}
 use Rattle.wb_policy.specs.Reports.{mean_time, members_in}
-use Rattle.wb_policy.specs.declared.limits.TheConstants.{HEARD, LONGEST_GAP, LONGEST_PAUSE, MOST_REPORT_BYTES}
+use Rattle.wb_policy.specs.declared.limits.TheConstants.{FIRST_FORGED, HEARD, LONGEST_GAP, LONGEST_PAUSE, MOST_DISTANCE, MOST_REPORT_BYTES, ROUND_LIMIT, SECOND}
 use Rattle.wb_keeping.specs.Kept.{Stops}
 use Rattle.wb_keeping.specs.Laws.{Added, Came, Tuned, doing_of}
 use Rattle.wb_keeping.specs.Performing.{Keeping, due, sent_by_doing}
 use Rattle.wb_judging.specs.Members.{needs}
 use Rattle.wb_kept_progress.specs.Sessions.{AreTaken, DoNotGoBack, Opening, kept_at, opened_host}
-use Rattle.wb_kept_progress.specs.Timed.{AllKeptHoldBehind, GoByShort, IsAnswerable, Performed, TellTimes, TimedLine, called_at, greatest_distance, host_after, lines_of, performed, start_of, timers_after, until}
+use Rattle.wb_kept_progress.specs.Timed.{AllKeptHoldBehind, GoByShort, IsAnswerable, Performed, TellTimes, TimedLine, called_at, host_after, lines_of, performed, start_of, timers_after, until}
 
 -- the host at a place, with its policy, after some calls, of which the newest is the first
 abbrev pub there : (ℕ → Opening) → List TimedLine → ℕ → Keeping
@@ -84,7 +84,7 @@ pub record IsTimelySession (hosts : ℕ → Opening) (terms : Terms) (trace : Li
   -- from `quiet` on a call of a live host comes at most `late` after the moment at which it has something to do
   pub soon : (newer older : List TimedLine) (e : TimedLine) (i : ℕ) → trace ≡ newer ++ e ∷ older → Contains terms.live i → terms.quiet < e.time → e.time ≤ due (there hosts older i) + (terms.lag i + terms.late)
   -- of distances nothing is asked if `far` is a second or more
-  pub delays : (greatest_distance ≤ terms.far) ⊎ GoByShort (λ j. start_of (hosts j)) terms (performed hosts trace)
+  pub delays : (MOST_DISTANCE ≤ terms.far) ⊎ GoByShort (λ j. start_of (hosts j)) terms (performed hosts trace)
   pub alone : (newer older : List TimedLine) (e : TimedLine) → trace ≡ newer ++ e ∷ older → terms.quiet < e.time → Contains terms.live e.at.place
   pub drawn : (newer older : List TimedLine) (e : TimedLine) (now : ℕ) (page : PageId) (time : ℕ) (op : Op) → trace ≡ newer ++ e ∷ older → terms.quiet < e.time → e.at.line ≢ Added now page time op
   pub room : (newer older : List TimedLine) (i : ℕ) → trace ≡ newer ++ older → Contains terms.live i → terms.quiet < called_at older → is_full (there hosts older i).host ≡ false
@@ -110,8 +110,8 @@ pub record AreWithin (hosts : ℕ → Opening) (terms : Terms) (trace : List Tim
   pub slices : (newer older : List TimedLine) (i : ℕ) → trace ≡ newer ++ older → Contains terms.live i → terms.quiet < called_at older → let k = there hosts older i in slices_of k.host.is.held + slices_on k.host.is.held k.policy.told_page ≤ sizes.slices
   pub holes : (newer older : List TimedLine) (i : ℕ) → trace ≡ newer ++ older → Contains terms.live i → terms.quiet < called_at older → length (holes_of (there hosts older i).host.is.held) ≤ sizes.holes
   pub numbers : (newer older : List TimedLine) (i : ℕ) (hole : Hole) → trace ≡ newer ++ older → Contains terms.live i → terms.quiet < called_at older → Contains (holes_of (there hosts older i).host.is.held) hole → hole.gap.last + 1 - hole.gap.first ≤ sizes.numbers
-  pub rounds : (newer older : List TimedLine) (i : ℕ) → trace ≡ newer ++ older → Contains terms.live i → terms.quiet < called_at older → (there hosts older i).policy.turns.round + 2 * sizes.numbers < 2 ^ 32
-  pub named : (newer older : List TimedLine) (i : ℕ) (d : DrawopValue) → trace ≡ newer ++ older → Contains terms.live i → terms.quiet < called_at older → Contains (there hosts older i).host.is.held d → (1 ≤ d.name.seq) × (d.name.seq < 2147483648)
+  pub rounds : (newer older : List TimedLine) (i : ℕ) → trace ≡ newer ++ older → Contains terms.live i → terms.quiet < called_at older → (there hosts older i).policy.turns.round + 2 * sizes.numbers < ROUND_LIMIT
+  pub named : (newer older : List TimedLine) (i : ℕ) (d : DrawopValue) → trace ≡ newer ++ older → Contains terms.live i → terms.quiet < called_at older → Contains (there hosts older i).host.is.held d → (1 ≤ d.name.seq) × (d.name.seq < FIRST_FORGED)
 
 -- ---- how often live hosts report
 
@@ -224,6 +224,9 @@ AllAreSoonByRates = (hosts : ℕ → Opening) (terms : Terms) (trace : List Time
 
 -- ---- spans, in microseconds
 
+abbrev pub minute : ℕ
+minute = 60 * SECOND
+
 -- the longest from where a name is asked for to its first request
 abbrev pub request_span : Terms → ℕ
 request_span terms = terms.asking * terms.far + terms.late
@@ -253,5 +256,5 @@ whole_by terms sizes wait most = max (known_from terms + wait + repairing terms)
 -- After that time each live host holds what one of them held, if a first request follows within a minute.
 abbrev pub SessionsBecomeWhole : Type 0
 SessionsBecomeWhole = (hosts : ℕ → Opening) (terms : Terms) (trace : List TimedLine) (sizes : Sizes) (wait most : ℕ) (n : NameValue)
-    → IsTimelySession hosts terms trace → AreWithin hosts terms trace sizes → AreSoon hosts terms trace sizes most → WaitAtMost hosts terms trace wait → LackAtMost hosts terms trace most → request_span terms + terms.drift ≤ 60000000
+    → IsTimelySession hosts terms trace → AreWithin hosts terms trace sizes → AreSoon hosts terms trace sizes most → WaitAtMost hosts terms trace wait → LackAtMost hosts terms trace most → request_span terms + terms.drift ≤ minute
     → IsHeldBySome hosts terms trace n → AllKeptHoldBehind hosts terms trace (whole_by terms sizes wait most) n

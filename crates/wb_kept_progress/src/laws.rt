@@ -2,14 +2,16 @@
 //! proofs to cite.
 
 ghost use Rattle.wb_kept_progress.specs.Agreement.{SessionsAgree};
+ghost use Rattle.wb_kept_progress.specs.Bytes.{DrawopsAreShort, FewBytesAreSent, ReportsAreReckoned, RequestsAreShort};
 ghost use Rattle.wb_kept_progress.specs.Crowded.{SessionsBecomeWholeInCrowds};
 ghost use Rattle.wb_kept_progress.specs.Examples.{LivelyMeets, PatientMeets};
-ghost use Rattle.wb_kept_progress.specs.Judged.{JudgedMembersSendFewDrawops};
+ghost use Rattle.wb_kept_progress.specs.Filling.{HolesAreFilled, SameReportsLeaveHoles};
+ghost use Rattle.wb_kept_progress.specs.Judged.{JudgedDrawopsAreShort, JudgedMembersSendFewBytes, JudgedMembersSendFewDrawops};
 ghost use Rattle.wb_kept_progress.specs.LeadsOn.{AskedLeadsOn, NeighboursAreAskedFor};
 ghost use Rattle.wb_kept_progress.specs.Promises.{Promises, PromisesSuffice};
 ghost use Rattle.wb_kept_progress.specs.Repairs.{AskedCanCome, MarksComeToBeTold, MissingCanCome, MissingIsAsked, MissingIsAskedInTurn, MissingIsAskedSoon, TurnsAsk};
 ghost use Rattle.wb_kept_progress.specs.Rounds.{SessionsBecomeWholeByRounds};
-ghost use Rattle.wb_kept_progress.specs.Since.{RestartedBecomeWhole, RestartedBecomeWholeByRounds, RestartedBecomeWholeInCrowds, SinceIsSame, SinceIsTimely};
+ghost use Rattle.wb_kept_progress.specs.Since.{RestartedBecomeWhole, RestartedBecomeWholeByRounds, RestartedBecomeWholeInCrowds, RestartedFillHoles, SinceIsSame, SinceIsTimely};
 ghost use Rattle.wb_kept_progress.specs.Starts.{NoStateIsADeadEnd};
 ghost use Rattle.wb_kept_progress.specs.Timed.{KeptGoByShort, KeptIsPerformed, KeptKeepsMoments, KeptRequestIsAnswered, KeptTimerLeadsOrIsGivenUp, RequestIsAnswered, TimerLeadsOrIsGivenUp};
 ghost use Rattle.wb_kept_progress.specs.Traffic.{DrawopsAreCalledFor, FewRequestsAreSent, LittleIsSent, NoAnswerStands};
@@ -100,6 +102,15 @@ pub fn filled_places_bring_rounds()
     ensures crowded { SessionsBecomeWholeInCrowds }
 {}
 
+/// Once live hosts lack nothing but numbers below one that they hold, and another holds each of
+/// these, a session becomes whole by a stated time, whatever hosts ask for: each of them asks for a
+/// missing number within three turns, and what was asked for and came leads on to another one. They
+/// lack nothing else once any two of them report the same.
+pub fn holes_are_filled()
+    ensures whole { HolesAreFilled }
+    ensures reports { SameReportsLeaveHoles }
+{}
+
 /// What `sessions_become_whole` takes of the policy of self-managing hosts. They promise that, while nothing
 /// new comes, a host that lacks what another holds asks for something by a time, and that it gives
 /// up such a name early only for another. From these promises alone the law follows.
@@ -129,12 +140,22 @@ pub fn reports_follow_one_another()
 /// Whatever comes in, a self-managing host sends few reports, page states and questions, by the
 /// time between two of them, and few requests, by how many names it may ask for. It sends a drawop
 /// only as its user draws, or once for a request for what it holds. A judge lets few of these in.
+/// Of bytes, reports take at most 1,184 and as many again each second, page states 34,176 and as
+/// many again each second, and questions for pages 12 and 24 more each second. n requests have 28n
+/// bytes, and n drawops at most 102n, if no text is longer than 64. A judge may add an echo to a
+/// report, so those of a judged member take 1,204.
 pub fn little_is_sent()
     ensures said { LittleIsSent }
     ensures requests { FewRequestsAreSent }
     ensures drawops { DrawopsAreCalledFor }
     ensures first { NoAnswerStands }
     ensures judged { JudgedMembersSendFewDrawops }
+    ensures bytes { FewBytesAreSent }
+    ensures reckoned { ReportsAreReckoned }
+    ensures requested { RequestsAreShort }
+    ensures drawn { DrawopsAreShort }
+    ensures judged_bytes { JudgedMembersSendFewBytes }
+    ensures judged_drawn { JudgedDrawopsAreShort }
 {}
 
 /// Of a session in which programs start, and start anew, what came since the last start of each
@@ -146,4 +167,5 @@ pub fn starts_begin_sessions()
     ensures whole { RestartedBecomeWhole }
     ensures rounds { RestartedBecomeWholeByRounds }
     ensures crowded { RestartedBecomeWholeInCrowds }
+    ensures holes { RestartedFillHoles }
 {}
