@@ -131,7 +131,7 @@ drop_new h d (Clashed place) = drop_none h
 drop_new h d Left = drop_none h
 
 module _ (now : ℕ) (page : PageId) (told : ℕ) (op : Op) (k : Keeping) where
-  abbrev its : DrawopValue
+  abbrev pub its : DrawopValue
   its = drawing (view_of (ticked now k.host)) page told op
 
   abbrev more : List Line
@@ -141,10 +141,13 @@ module _ (now : ℕ) (page : PageId) (told : ℕ) (op : Op) (k : Keeping) where
   more_given comes =
       then_each (IsGiven comes) ends_full timed (ends_each (IsGiven comes) (of_policy comes)) (timed_given comes) (λ (lines : List Line). sees k.host (Ticks now ∷ (Says (Draw its) ∷ lines))) k.policy
 
-  gained_added : gained (Added now page told op) k ≡ new_where its (becomes its (ticked now k.host))
+  pub held_added : (after_kept_line (Added now page told op) k).host.is.held ≡ history_with k.host.is.held its (becomes its (ticked now k.host))
   unfolding after_kept_line
+  held_added = (lines_stay more (after_line (Says (Draw its)) (ticked now k.host)) (more_given none)).held
+
+  pub gained_added : gained (Added now page told op) k ≡ new_where its (becomes its (ticked now k.host))
   gained_added =
-      ap (λ (held : List DrawopValue). drop (length k.host.is.held) held) (lines_stay more (after_line (Says (Draw its)) (ticked now k.host)) (more_given none)).held
+      ap (λ (held : List DrawopValue). drop (length k.host.is.held) held) held_added
       ∙ drop_new k.host.is.held its (becomes its (ticked now k.host))
 
   module _ (numbers : ℕ → ℕ) (time place : ℕ) (older : List Step) (i : ℕ) (there : host_at numbers older place ≡ k.host) where

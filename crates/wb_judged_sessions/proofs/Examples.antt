@@ -130,11 +130,11 @@ module _ (older : List JudgedCallAt) (place : ℕ) where
   knows_by : (call : JudgedCall) → Knows call → (now : ℕ) (on : PageId) (op : Op) → call ≡ Takes (UserDrew now on op) → KnowsItsOwn numbers older place on
   knows_by call knows now on op e = subst Knows e knows
 
-  abbrev HasIts : JudgedCall → Type 0
+  abbrev pub HasIts : JudgedCall → Type 0
   HasIts (Starts start given) = IsItsFile numbers older place start given
   HasIts (Takes line) = Unit {0}
 
-  its_by : (call : JudgedCall) → HasIts call → (start : Start) (given : List RecordLine) → call ≡ Starts start given → IsItsFile numbers older place start given
+  pub its_by : (call : JudgedCall) → HasIts call → (start : Start) (given : List RecordLine) → call ≡ Starts start given → IsItsFile numbers older place start given
   its_by call its start given e = subst HasIts e its
 
 all_know : KnowTheirOwn numbers again

@@ -3,11 +3,14 @@ pub mod Kept
 pub mod Drawn
 pub mod Terms
 pub mod Records
+pub mod Above
+pub mod Days
 pub mod Echoes
 pub mod Sent
 pub mod True
 pub mod Listening
 pub mod Examples
+pub mod SetBack
 pub mod Timely
 pub mod InTime
 pub mod Whole
@@ -18,3 +21,12 @@ pub mod Reporting
 pub mod Clocks
 pub mod KnownLater
 pub mod Meeting
+pub mod Answering
+pub mod Echoed
+pub mod Answered
+pub mod Twins
+pub mod Acquainted
+pub mod Remembered
+pub mod TakenIn
+pub mod FewEchoed
+pub mod Spaced

@@ -47,7 +47,7 @@ unfolding random_started word_of after_word words.started words.word_of words.af
     verdict_on judge_after answers is_known known_from is_bound_elsewhere spoken other_with without_origin is_admitted after_admitting is_fetched speaking after_answer after_fetching after_hearing is_elsewhere admitted_verdict after_admitted report_verdict after_report
 first = refl
 
-second : sends_in (events_of (CameFrom 2000001 (origin_of 0) (reports 10 2000000 [])) (judged_at numbers (at 2000000 0 (Takes (Passed 2000000)) ∷ at 1 1 (Starts (start 2 1) []) ∷ at 1 0 (Starts (start 1 1) []) ∷ []) 1)) ≡ AskPages 11 ∷ reports 11 2000001 (echo 10 2000000 0 ∷ []) ∷ []
+pub second : sends_in (events_of (CameFrom 2000001 (origin_of 0) (reports 10 2000000 [])) (judged_at numbers (at 2000000 0 (Takes (Passed 2000000)) ∷ at 1 1 (Starts (start 2 1) []) ∷ at 1 0 (Starts (start 1 1) []) ∷ []) 1)) ≡ AskPages 11 ∷ reports 11 2000001 (echo 10 2000000 0 ∷ []) ∷ []
 unfolding random_started word_of after_word words.started words.word_of words.after_word report_of gaps_of pages_of near_names leaps_on turns_on after_kept_line sent_by_kept_line
     verdict_on judge_after answers is_known known_from is_bound_elsewhere spoken other_with without_origin is_admitted after_admitting is_fetched speaking after_answer after_fetching after_hearing is_elsewhere admitted_verdict after_admitted report_verdict after_report
 second = refl
@@ -300,10 +300,10 @@ live_1 = Contains-there 0 1 (1 ∷ []) (Contains-here 1 [])
 apart : AreApart numbers
 apart i j same = omega (arith, same)
 
-is_opening : (seed moment : ℕ) → IsOpening (start seed moment).opening
+pub is_opening : (seed moment : ℕ) → IsOpening (start seed moment).opening
 is_opening seed moment = record { moments = (omega arith, tt); in_range = refl; small = omega arith }
 
-all_taken : AreTaken numbers told_again
+pub all_taken : AreTaken numbers told_again
 all_taken = (
   omega (arith, now_9),
   (

@@ -174,7 +174,7 @@ other_kept n x y others room apart answered found =
       another z at = grind (arith, nat_tests)
 
 -- and this one is found
-other_new : (n : ℕ) (x : Other) (others : List Other) → nat_eq x.number n ≡ true → other_of n (other_with x others) ≡ Some x
+pub other_new : (n : ℕ) (x : Other) (others : List Other) → nat_eq x.number n ≡ true → other_of n (other_with x others) ≡ Some x
 unfolding other_with
 other_new n x others same =
     find-append (has n) (with_place_for (without x.number others)) (x ∷ [])
@@ -204,10 +204,10 @@ unfolding after_fetching
 fetch_others true now j = refl
 fetch_others false now j = refl
 
-abbrev said_now : Bool → Origin → ℕ → Bool → ℕ → List Other → Other
+abbrev pub said_now : Bool → Origin → ℕ → Bool → ℕ → List Other → Other
 said_now fetch o number answer now others = fetching_at fetch now (answering_at answer now (spoken number o now others))
 
-hear_others : (o : Origin) (number : ℕ) (answer : Bool) (lacking now : ℕ) (j : Judge) → (fetch : Bool) × ((after_hearing o number answer lacking now j).others ≡ other_with (said_now fetch o number answer now j.others) j.others)
+pub hear_others : (o : Origin) (number : ℕ) (answer : Bool) (lacking now : ℕ) (j : Judge) → (fetch : Bool) × ((after_hearing o number answer lacking now j).others ≡ other_with (said_now fetch o number answer now j.others) j.others)
 unfolding after_hearing speaking
 hear_others o number answer lacking now j =
     let x = speaking o number answer now j in
@@ -326,10 +326,10 @@ entry_of o number at others heard = by (other_of number others) refl heard where
       let two = and_parts (is_some x.answered) (nat_le at x.at) one.1 in
       record { x = x; found = is; origin = one.0; answered = two.0; late = true_le at x.at two.1 }
 
-of_entry : (o : Origin) (at : ℕ) (x : Other) → same_origin x.origin o ≡ true → is_some x.answered ≡ true → at ≤ x.at → is_heard_since o at (Some x) ≡ true
+pub of_entry : (o : Origin) (at : ℕ) (x : Other) → same_origin x.origin o ≡ true → is_some x.answered ≡ true → at ≤ x.at → is_heard_since o at (Some x) ≡ true
 of_entry o at x origin answered late = both (same_origin x.origin o) _ origin (both (is_some x.answered) _ answered (le_true at x.at late))
 
-said_number : (fetch : Bool) (o : Origin) (number : ℕ) (answer : Bool) (now : ℕ) (others : List Other) → (said_now fetch o number answer now others).number ≡ number
+pub said_number : (fetch : Bool) (o : Origin) (number : ℕ) (answer : Bool) (now : ℕ) (others : List Other) → (said_now fetch o number answer now others).number ≡ number
 unfolding spoken
 said_number fetch o number answer now others = fetched fetch _ ∙ answered_so answer _ ∙ again (other_of number others) (found_by others) where
   fetched : (b : Bool) (x : Other) → (fetching_at b now x).number ≡ x.number

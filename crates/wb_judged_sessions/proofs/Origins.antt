@@ -40,7 +40,7 @@ true_le : (a b : ℕ) → nat_le a b ≡ true → a ≤ b
 true_le a b is = grind (arith, nat_tests)
 
 -- what came from there now is later than that moment
-from_there : (o : Origin) (at now : ℕ) (known : List KnownOrigin) → at ≤ now → is_known_since o at (known_from o now known) ≡ true
+pub from_there : (o : Origin) (at now : ℕ) (known : List KnownOrigin) → at ≤ now → is_known_since o at (known_from o now known) ≡ true
 unfolding known_from
 from_there o at now known le = any_last (is_of o at) MOST_KNOWN (record { origin = o; at = now }) (left o known) (both (same_origin o o) (nat_le at now) (same_itself o) (le_true at now le))
 

@@ -48,13 +48,13 @@ given_again : (given : List RecordLine) (h : Judged) → record_by (map Held giv
 given_again [] h = refl
 given_again (line ∷ given) h = ap (λ (ls : List RecordLine). line ∷ ls) (given_again given (after_judged (Held line) h))
 
-abbrev cells_of : Judged → ℕ
+abbrev pub cells_of : Judged → ℕ
 cells_of h = h.kept.host.is.cells
 
-abbrev held_by : Judged → List DrawopValue
+abbrev pub held_by : Judged → List DrawopValue
 held_by h = h.kept.host.is.held
 
-cells_line : (line : Call) (h : Judged) → cells_of (after_judged line h) ≡ cells_of h
+pub cells_line : (line : Call) (h : Judged) → cells_of (after_judged line h) ≡ cells_of h
 cells_line line h = (takes_kept (handed line h) h.kept).cells
 
 cells_all : (lines : List Call) (h : Judged) → cells_of (after_all lines h) ≡ cells_of h
@@ -70,12 +70,12 @@ module _ (number : ℕ) (start : Start) (given : List RecordLine) where
   abbrev last : Judged
   last = after_all (map Held given) first
 
-  start_cells : cells_of last ≡ start.opening.cells
+  pub start_cells : cells_of last ≡ start.opening.cells
   start_cells =
       let o = start.opening in
       cells_all (map Held given) first ∙ (lines_stay (map Ticks o.moments) (opened_with o.constants number o.cells o.seed) (moments_given none o.moments)).cells
 
-  start_held : held_by last ≡ history_after start.opening.cells [] (drawops_of given)
+  pub start_held : held_by last ≡ history_after start.opening.cells [] (drawops_of given)
   start_held =
       let o = start.opening in
       let s = lines_stay (map Ticks o.moments) (opened_with o.constants number o.cells o.seed) (moments_given none o.moments) in

@@ -97,7 +97,7 @@ and_sends line h o number at m =
     let sent = sent_by_kept_line (handed line h) h.kept in
     alike o number at (judging line h) (after_sends sent (judging line h)) (all_sent sent (judging line h)) m
 
-came : (now : ℕ) (p o : Origin) (v : Datagram) (h : Judged) (number at : ℕ) → IsKnownSince o number at (judge_after now p v h) → IsKnownSince o number at (after_judged (CameFrom now p v) h).judge
+pub came : (now : ℕ) (p o : Origin) (v : Datagram) (h : Judged) (number at : ℕ) → IsKnownSince o number at (judge_after now p v h) → IsKnownSince o number at (after_judged (CameFrom now p v) h).judge
 came now p o v h number at m =
     let line = CameFrom now p v in
     let fate = fate_by (handed line h) h.kept in

@@ -12,10 +12,10 @@ use Rattle.wb_kept_progress.specs.Since.{called_at as kept_called_at, hosts_of, 
 use Rattle.wb_kept_progress.specs.Timed.{called_at as timed_called_at, lines_of}
 use Rattle.wb_kept_progress.specs.Whole.{Sizes, there, whole_by}
 use Rattle.wb_kept_progress.proofs.Agreeing.{sessions_agree}
-use Rattle.wb_kept_progress.proofs.Since.{restarted_become_whole, restarted_become_whole_by_rounds, restarted_become_whole_in_crowds, since_is_same, since_is_timely}
+use Rattle.wb_kept_progress.proofs.Since.{restarted_become_whole, restarted_become_whole_by_rounds, restarted_become_whole_in_crowds, restarted_fill_holes, since_is_same, since_is_timely}
 use Rattle.wb_judged_sessions.specs.Sessions.{JudgedCallAt, WasDrawn, judged_at, kept_calls}
 use Rattle.wb_judged_sessions.specs.Terms.{IsSession}
-use Rattle.wb_judged_sessions.specs.Timely.{IsTimely, JudgedAgree, JudgedBecomeWhole, JudgedBecomeWholeByRounds, JudgedBecomeWholeInCrowds, called_at}
+use Rattle.wb_judged_sessions.specs.Timely.{IsTimely, JudgedAgree, JudgedBecomeWhole, JudgedBecomeWholeByRounds, JudgedBecomeWholeInCrowds, JudgedFillHoles, called_at}
 use Rattle.wb_judged_sessions.proofs.InTime.{judged_is_timely}
 use Rattle.wb_judged_sessions.proofs.Kept.{calls_split, judged_is_kept}
 use Rattle.wb_judged_sessions.proofs.Timely.{called_kept, takes_is}
@@ -50,6 +50,13 @@ judged_become_whole_in_crowds numbers terms calls newer later since wait most pl
     holds_there numbers calls newer later split i n
     (restarted_become_whole_in_crowds numbers terms (kept_calls numbers calls) (calls_split numbers newer later).0 (kept_calls numbers later) since wait most places bringing crowded i n
     (judged_is_timely numbers terms calls s) waits lack filled brings enough some
+    (kept_split numbers calls newer later split) (later_than_kept numbers calls newer later split _ late) live)
+
+pub judged_fill_holes : JudgedFillHoles
+judged_fill_holes numbers terms calls newer later since wait most crowded i n s waits lack holes_held only enough some split late live =
+    holds_there numbers calls newer later split i n
+    (restarted_fill_holes numbers terms (kept_calls numbers calls) (calls_split numbers newer later).0 (kept_calls numbers later) since wait most crowded i n
+    (judged_is_timely numbers terms calls s) waits lack holes_held only enough some
     (kept_split numbers calls newer later split) (later_than_kept numbers calls newer later split _ late) live)
 
 -- ---- they look alike

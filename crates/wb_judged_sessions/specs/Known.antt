@@ -12,7 +12,7 @@ use Rattle.wb_member.specs.Judged.{holds}
 use Rattle.wb_judging.specs.Handing.{facts_of}
 use Rattle.wb_judging.specs.declared.call.Call.TheVariants.{CameFrom, GoneFrom}
 use Rattle.wb_kept_progress.specs.Since.{hosts_of, since}
-use Rattle.wb_kept_progress.specs.Whole.{AreSoon, AreWithin, IsHeldBySome, LackAtMost, Sizes, WaitAtMost, request_span, whole_by}
+use Rattle.wb_kept_progress.specs.Whole.{AreSoon, AreWithin, IsHeldBySome, LackAtMost, Sizes, WaitAtMost, minute, request_span, whole_by}
 use Rattle.wb_judged_sessions.specs.Knowing.{HasRoom, IsKnownSince}
 use Rattle.wb_judged_sessions.specs.Sessions.{JudgedCallAt, Takes, judged_at, kept_calls}
 use Rattle.wb_judged_sessions.specs.Timely.{IsTimely, IsTimelyBy, called_at}
@@ -69,5 +69,5 @@ KnownBecomeWhole = (numbers : ℕ → ℕ) (origins : ℕ → ℕ → Origin) (t
     → let hosts = hosts_of numbers (kept_calls numbers calls) in
     let trace = since numbers (kept_calls numbers calls) in
     AreWithin hosts terms trace sizes → AreSoon hosts terms trace sizes most → WaitAtMost hosts terms trace wait → LackAtMost hosts terms trace most
-    → request_span terms + terms.drift ≤ 60000000 → IsHeldBySome hosts terms trace n
+    → request_span terms + terms.drift ≤ minute → IsHeldBySome hosts terms trace n
     → calls ≡ newer ++ later → whole_by terms sizes wait most < called_at later → Contains terms.live i → holds (judged_at numbers later i).kept.host n ≡ true

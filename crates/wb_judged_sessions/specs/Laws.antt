@@ -10,6 +10,7 @@ use Rattle.wb_codec.specs.declared.datagram.Datagram.TheVariants.{Draw}
 use Rattle.wb_gaps.specs.Answers.{report_of}
 use Rattle.wb_keeper.specs.Hearing.{marks_in}
 use Rattle.wb_member.specs.Opened.{becomes, gaps_at, last_number}
+use Rattle.wb_policy.specs.declared.limits.TheConstants.{FIRST_FORGED}
 use Rattle.wb_judge.specs.declared.origin.Origin.{Origin}
 use Rattle.wb_keeping.specs.Laws.{Came}
 use Rattle.wb_judging.specs.Handing.{handed}
@@ -160,6 +161,6 @@ ListeningTells =
     → e.call ≡ Takes (CameFrom now o v) → handed (CameFrom now o v) (judged_at numbers older e.place) ≡ Came now v
     → now < (judged_at numbers older e.place).kept.policy.ready
     → AreMarks (marks_in page v) → TellsMark v (numbers e.place) page m
-    → m.source ≡ numbers e.place → m.high < 2147483648
+    → m.source ≡ numbers e.place → m.high < FIRST_FORGED
     → IsHeardWhole now v (judged_at numbers older e.place).kept → HasNotStarted newer e.place
     → m.high ≤ last_number page (judged_at numbers (newer ++ e ∷ older) e.place).kept.host

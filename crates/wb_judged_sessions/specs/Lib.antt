@@ -1,8 +1,13 @@
 pub mod Sessions
 pub mod Terms
 pub mod Laws
+pub mod Days
 pub mod Examples
+pub mod SetBack
 pub mod Timely
 pub mod Knowing
 pub mod Known
 pub mod Meeting
+pub mod Answering
+pub mod Twins
+pub mod Acquainted

@@ -1,5 +1,5 @@
 -- By when all of a session has come to judged members, if from some time on nobody draws or starts, and nothing is lost.
-use Rattle.std.specs.Prelude.{◌≡◌, ◌≢◌, ℕ, ◌+◌, ◌-◌, ◌<◌, ◌≤◌, ◌*◌, Bool, true, false, List, [], ◌∷◌, ◌++◌, Contains, nat_eq}
+use Rattle.std.specs.Prelude.{◌≡◌, ◌≢◌, ℕ, ◌+◌, ◌<◌, ◌≤◌, ◌*◌, Bool, true, false, List, [], ◌∷◌, ◌++◌, Contains, nat_eq}
 use Rattle.wb_names.specs.Values.{NameValue}
 use Rattle.wb_names.specs.declared.name.PageId.{PageId}
 use Rattle.wb_names.specs.declared.parts.Op.{Op}
@@ -9,7 +9,7 @@ use Rattle.wb_progress.specs.Bounds.{IsUnder}
 use Rattle.wb_progress.specs.Turns.{IsNowAt, Terms, longest, settled_by}
 use Rattle.wb_member.specs.Judged.{holds, is_full}
 use Rattle.wb_member.specs.Opened.{present}
-use Rattle.wb_policy.specs.declared.limits.TheConstants.{COST, MOST_TIMERS}
+use Rattle.wb_policy.specs.declared.limits.TheConstants.{COST, MOST_DISTANCE, MOST_TIMERS}
 use Rattle.wb_keeping.specs.Laws.{Came}
 use Rattle.wb_keeping.specs.Performing.{due}
 use Rattle.wb_judging.specs.Handing.{handed}
@@ -24,10 +24,10 @@ use Rattle.wb_laws_kept.specs.Openings.{opened_host}
 use Rattle.wb_laws_sessions.specs.Sessions.{AreApart}
 use Rattle.wb_kept_progress.specs.Agreement.{LookAlike}
 use Rattle.wb_kept_progress.specs.Crowded.{crowded_by, spent_in}
+use Rattle.wb_kept_progress.specs.Filling.{OnlyHolesAreLacked, filled_by}
 use Rattle.wb_kept_progress.specs.Rounds.{OneLacksAtMost, PlacesAreFilled, rounds_by}
 use Rattle.wb_kept_progress.specs.Since.{IsTimelyWithStarts, hosts_of, since}
-use Rattle.wb_kept_progress.specs.Timed.{greatest_distance}
-use Rattle.wb_kept_progress.specs.Whole.{AreSoon, AreWithin, IsHeldBySome, LackAtMost, NewAreKept, ReportWithin, Sizes, WaitAtMost, request_span, whole_by}
+use Rattle.wb_kept_progress.specs.Whole.{AreSoon, AreWithin, HolesAreHeld, IsHeldBySome, LackAtMost, NewAreKept, ReportWithin, Sizes, WaitAtMost, minute, request_span, whole_by}
 use Rattle.wb_judged_sessions.specs.Sessions.{JudgedCall, JudgedCallAt, Starts, Takes, judged_at, kept_calls}
 use Rattle.wb_judged_sessions.specs.Terms.{AreTaken, IsSession}
 
@@ -89,7 +89,7 @@ pub record IsTimelyBy (Arrived : (newer base : List JudgedCallAt) (i j by : ℕ)
   pub taken : AreTaken numbers calls
   pub order : AreInOrder calls
   pub covered : terms.drift ≤ terms.late
-  pub far : greatest_distance ≤ terms.far
+  pub far : MOST_DISTANCE ≤ terms.far
   pub fitting : (i : ℕ) → Contains terms.live i → AreFittingSince terms numbers i calls
   pub alone : (newer older : List JudgedCallAt) (e : JudgedCallAt) → calls ≡ newer ++ e ∷ older → terms.quiet < e.time → Contains terms.live e.place × ((line : Call) × (e.call ≡ Takes line))
   pub drawn : (newer older : List JudgedCallAt) (e : JudgedCallAt) (now : ℕ) (page : PageId) (op : Op) → calls ≡ newer ++ e ∷ older → terms.quiet < e.time → e.call ≢ Takes (UserDrew now page op)
@@ -120,7 +120,7 @@ JudgedBecomeWhole = (numbers : ℕ → ℕ) (terms : Terms) (calls newer later :
     → let hosts = hosts_of numbers (kept_calls numbers calls) in
     let trace = since numbers (kept_calls numbers calls) in
     AreWithin hosts terms trace sizes → AreSoon hosts terms trace sizes most → WaitAtMost hosts terms trace wait → LackAtMost hosts terms trace most
-    → request_span terms + terms.drift ≤ 60000000 → IsHeldBySome hosts terms trace n
+    → request_span terms + terms.drift ≤ minute → IsHeldBySome hosts terms trace n
     → calls ≡ newer ++ later → whole_by terms sizes wait most < called_at later → Contains terms.live i → holds (judged_at numbers later i).kept.host n ≡ true
 
 -- So it does by rounds.
@@ -139,8 +139,18 @@ JudgedBecomeWholeInCrowds = (numbers : ℕ → ℕ) (terms : Terms) (calls newer
     → let hosts = hosts_of numbers (kept_calls numbers calls) in
     let trace = since numbers (kept_calls numbers calls) in
     WaitAtMost hosts terms trace wait → OneLacksAtMost hosts terms trace most → PlacesAreFilled hosts terms trace from places
-    → most ≤ bringing * (places - 1) → spent_in terms most (bringing + crowded) ≤ crowded * (MOST_TIMERS * COST)
+    → most ≤ bringing * places → spent_in terms most (bringing + crowded) ≤ crowded * (MOST_TIMERS * COST)
     → IsHeldBySome hosts terms trace n → calls ≡ newer ++ later → crowded_by terms from wait (bringing + crowded) < called_at later → Contains terms.live i
+    → holds (judged_at numbers later i).kept.host n ≡ true
+
+-- And where members lack nothing but numbers below one that they hold.
+abbrev pub JudgedFillHoles : Type 0
+JudgedFillHoles = (numbers : ℕ → ℕ) (terms : Terms) (calls newer later : List JudgedCallAt) (from wait most crowded i : ℕ) (n : NameValue) → IsTimely numbers terms calls
+    → let hosts = hosts_of numbers (kept_calls numbers calls) in
+    let trace = since numbers (kept_calls numbers calls) in
+    WaitAtMost hosts terms trace wait → OneLacksAtMost hosts terms trace most → HolesAreHeld hosts terms trace → OnlyHolesAreLacked hosts terms trace from
+    → spent_in terms most (most + crowded) ≤ crowded * (MOST_TIMERS * COST)
+    → IsHeldBySome hosts terms trace n → calls ≡ newer ++ later → filled_by terms from wait (most + crowded) < called_at later → Contains terms.live i
     → holds (judged_at numbers later i).kept.host n ≡ true
 
 -- After that time the boards of any two live members look alike, at the end of the session, if it is one of those in which each drawop that is let in
@@ -149,6 +159,6 @@ abbrev pub JudgedAgree : Type 0
 JudgedAgree = (numbers : ℕ → ℕ) (terms : Terms) (calls : List JudgedCallAt) (sizes : Sizes) (wait most i j : ℕ) → IsTimely numbers terms calls → IsSession numbers calls
     → let hosts = hosts_of numbers (kept_calls numbers calls) in
     let trace = since numbers (kept_calls numbers calls) in
-    AreWithin hosts terms trace sizes → AreSoon hosts terms trace sizes most → WaitAtMost hosts terms trace wait → LackAtMost hosts terms trace most → request_span terms + terms.drift ≤ 60000000
+    AreWithin hosts terms trace sizes → AreSoon hosts terms trace sizes most → WaitAtMost hosts terms trace wait → LackAtMost hosts terms trace most → request_span terms + terms.drift ≤ minute
     → whole_by terms sizes wait most < called_at calls → Contains terms.live i → Contains terms.live j
     → LookAlike (judged_at numbers calls i).kept.host.is.held (judged_at numbers calls j).kept.host.is.held

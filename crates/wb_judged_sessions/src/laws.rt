@@ -3,13 +3,18 @@
 
 ghost use Rattle.std.specs.Prelude.{◌≡◌, ◌^◌};
 ghost use Rattle.wb_judge.specs.declared.limits.TheConstants.{FETCH_AGAIN, FETCH_PAUSE, FORGED_ABOVE, FORGED_NUMBER, LACKING, NEW_AHEAD, NEW_PAUSE};
+ghost use Rattle.wb_judged_sessions.specs.Answering.{AnswersAreHandedIn, AnswersMakeKnown, FewAreEchoed, KnownAreHandedIn, KnownGoOn, LastTakenIsEchoed, ReportsAreRemembered, TheyComeToKnow};
 ghost use Rattle.wb_judged_sessions.specs.Examples.{IsShared};
+ghost use Rattle.wb_judged_sessions.specs.Days.{HeldIsNear, OursAreInOrder, OursLieAbove};
 ghost use Rattle.wb_judged_sessions.specs.Known.{JudgedStayKnown, KnownBecomeWhole};
 ghost use Rattle.wb_judged_sessions.specs.Knowing.{StaysKnown};
 ghost use Rattle.wb_judged_sessions.specs.Laws.{BoardsAreFiles, FiledReportsTellAgreement, FilesAreWhole, HeldOnce, HeldWasDrawn, JudgedKeepKeptTerms, ListeningTells, MarksWereDrawn, NamesMeanOne, NoneClashes, NumbersCount, OnceHeldWasDrawn, RecordsTell, ReportsTellAgreement, SendsAsKept, SentWasDrawn, WholeBoardsAgree};
 ghost use Rattle.wb_judged_sessions.specs.Meeting.{HaveMet};
+ghost use Rattle.wb_judged_sessions.specs.Acquainted.{IsAnswered, TwinsHaveMet};
 ghost use Rattle.wb_judged_sessions.specs.Sessions.{DrawsAsKept, JudgedIsKept, PlainIsTheSame};
-ghost use Rattle.wb_judged_sessions.specs.Timely.{JudgedAgree, JudgedBecomeWhole, JudgedBecomeWholeByRounds, JudgedBecomeWholeInCrowds, JudgedIsTimely};
+ghost use Rattle.wb_judged_sessions.specs.SetBack.{IsGivenAhead, IsSetBack, IsSetBackTooFar};
+ghost use Rattle.wb_judged_sessions.specs.Timely.{JudgedAgree, JudgedBecomeWhole, JudgedBecomeWholeByRounds, JudgedBecomeWholeInCrowds, JudgedFillHoles, JudgedIsTimely};
+ghost use Rattle.wb_judged_sessions.specs.Twins.{AnswersShowTwins, TwinsAreRemembered, TwinsSee, TwinsStay};
 
 /// A session of judged members is one of self-managing members, in which the network lost what the
 /// judges dropped. Each judged member is the self-managing one at its place, and draws the same. It
@@ -84,6 +89,7 @@ pub fn judged_sessions_become_whole()
     ensures whole { JudgedBecomeWhole }
     ensures rounds { JudgedBecomeWholeByRounds }
     ensures crowded { JudgedBecomeWholeInCrowds }
+    ensures holes { JudgedFillHoles }
     ensures agree { JudgedAgree }
 {}
 
@@ -102,6 +108,28 @@ pub fn two_judged_members_meet()
     ensures { HaveMet }
 {}
 
+/// What a user draws has a greater time than each drawop that its page held there, whatever came and
+/// however often programs started, if each program starts with its file, and each time of day that a
+/// driver tells is less than a day, less 65,535 microseconds, before those that the member had. So
+/// what it draws on a page has ascending times, through every start. For what a member holds is
+/// ahead of the latest time of day that it had by a day at most, and a microsecond for each drawop
+/// that it holds.
+pub fn ours_lie_above()
+    ensures above { OursLieAbove }
+    ensures order { OursAreInOrder }
+    ensures near { HeldIsNear }
+{}
+
+/// An example: a clock is set back by almost 17 hours while a program does not run. The program
+/// starts with its file, and what its user draws still has a greater time than what he drew before.
+/// If the clock is set back by more than two days, it has not. Nor has it if a new member gets that
+/// record, with a clock that shows as little: so the runs that wrote a record count too.
+pub fn clocks_are_set_back()
+    ensures less { IsSetBack }
+    ensures more { IsSetBackTooFar }
+    ensures given { IsGivenAhead }
+{}
+
 /// The numbers of a judge that wb_judge has no law for: how many numbers a member lacks that takes a
 /// stream, and how long, in microseconds, it waits for the next one, and for the next one of the
 /// same member; how far ahead new numbers are paid for, and what one costs, in microseconds; and
@@ -111,4 +139,39 @@ pub fn numbers_of_a_judge()
     ensures streams { (LACKING ≡ 500) × (FETCH_PAUSE ≡ 10000000) × (FETCH_AGAIN ≡ 60000000) }
     ensures ahead { (NEW_AHEAD ≡ 255000000) × (NEW_PAUSE ≡ 1000000) }
     ensures forged { (FORGED_ABOVE ≡ 65536) × (FORGED_NUMBER ≡ 2 ^ 31) }
+{}
+
+/// Two members come to know each other by two reports: one takes in a report of the other, and what
+/// it reports after that, with an echo of the other, comes there within 256 seconds. So its number
+/// is known there, at the origin from which that came. Whatever a judge is, a report that answers
+/// makes known, if there is room for its number. What a member echoes of another is the last report
+/// of it that it took in, and it echoes all, if it remembers 32 senders at most. Its own reports it
+/// remembers for 256 seconds. From then on each datagram of the other is handed in that is fit, as
+/// long as no 192 seconds pass without a report of it.
+pub fn judged_members_come_to_know()
+    ensures lets { AnswersAreHandedIn }
+    ensures known { AnswersMakeKnown }
+    ensures echoed { LastTakenIsEchoed }
+    ensures few { FewAreEchoed }
+    ensures remembered { ReportsAreRemembered }
+    ensures two { TheyComeToKnow }
+    ensures stays { KnownGoOn }
+    ensures handed { KnownAreHandedIn }
+{}
+
+/// Two members of one number see that: one remembers a report of the other, and its own next one,
+/// within 256 seconds, echoes that under their number. Whoever gets an answer under its own number
+/// has a twin, until its program starts anew.
+pub fn judged_twins_see()
+    ensures remembered { TwinsAreRemembered }
+    ensures shown { AnswersShowTwins }
+    ensures see { TwinsSee }
+    ensures stays { TwinsStay }
+{}
+
+/// Examples: the two members that meet keep to all that is asked for the one to know the other, and
+/// two members of one number to all that is asked for each to see the other.
+pub fn two_judged_members_answer()
+    ensures members { IsAnswered }
+    ensures twins { TwinsHaveMet }
 {}

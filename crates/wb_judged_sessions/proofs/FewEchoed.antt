@@ -1,0 +1,256 @@
+-- A member that remembers few senders echoes them all.
+use Rattle.std.proofs.Common.{◌≡◌, ◌∙◌, ◌≤◌, ◌<◌, ◌+◌, ℕ, Bool, true, false, cond, List, [], ◌∷◌, ◌++◌, ap, arith, eqb-true, filter, get_or, length, refl, subst, sym, true≢false, ⊎_elim}
+use Rattle.std.specs.Prelude.{◌-◌, ◌||◌, Contains, Option, None, Some, is_some, nat_eq, nat_le, nat_lt}
+use Rattle.std.specs.List.{cons_option, count_by, filter_map, find, list_any}
+use Rattle.std.specs.Option.{option_or}
+use Rattle.std.specs.Ordering.{match_ordering, nat_cmp}
+use Rattle.std.specs.declared.cmp.Ordering.{Ordering}
+use Rattle.std.specs.declared.cmp.Ordering.TheVariants.{Equal, Greater, Less}
+use Rattle.std.proofs.lemmas.Bool.{eq-eqb, false_from_ne_true, leb-false, leb-true}
+use Rattle.std.proofs.lemmas.Bool.Decides.{nat_tests}
+use Rattle.std.proofs.lemmas.Grind.{common_steps}
+use Rattle.std.proofs.lemmas.List.Elements.{Contains-append_left, Contains-append_right}
+use Rattle.std.proofs.lemmas.List.Recursion.{is_count_by}
+use Rattle.std.proofs.lemmas.Map.Keys.{Less-from_sorted}
+use Rattle.std.proofs.lemmas.Option.{none-some}
+use Rattle.wb_names.specs.Ascending.{AreEchoes}
+use Rattle.wb_names.specs.declared.echo.Echo.{Echo}
+use Rattle.wb_names.specs.declared.entries.TheConstants.{MAX_ENTRIES}
+use Rattle.wb_names.proofs.Listings.{Contains-cases, Contains-filter, Contains-none, Contains-there}
+use Rattle.wb_gaps.specs.Sorting.{inserted, sorted}
+use Rattle.wb_keeper.specs.Keeper.{KeeperCall, heard_by, newest, remember, senders_of, session_heard}
+use Rattle.wb_keeper.specs.Sessions.{echo_cmp, echo_to as echo_of_sender}
+use Rattle.wb_keeper.specs.declared.keeper.Heard.{Heard}
+use Rattle.wb_judge.specs.Adding.{own_echo}
+use Rattle.wb_judge.specs.Reports.{echo_to}
+use Rattle.wb_member.specs.Judged.{echoes}
+use Rattle.wb_member.specs.Opened.{Opened, present}
+use Rattle.wb_policy.specs.Choices.{heard_later, last_heard}
+use Rattle.wb_policy.proofs.Latest.{itself}
+use Rattle.wb_keeping.specs.Laws.{doing_of}
+use Rattle.wb_keeping.specs.Performing.{Keeping, after_doing}
+use Rattle.wb_judging.specs.Echoing.{placed, with_echo}
+use Rattle.wb_judging.specs.Handing.{handed}
+use Rattle.wb_judging.specs.Judged.{Judged, moment_of}
+use Rattle.wb_judging.specs.Performing.{after_judged, after_kept_line, judging}
+use Rattle.wb_kept_progress.proofs.Counted.{echoes_listed}
+use Rattle.wb_judged_sessions.specs.Answering.{FewAreEchoed}
+use Rattle.wb_judged_sessions.specs.Sessions.{JudgedCall, after_call, judged_at}
+use Rattle.wb_judged_sessions.proofs.Echoed.{IsReported, last_is, reported, taken_line, timed_line}
+use Rattle.wb_judged_sessions.proofs.Records.{number_at}
+use Rattle.wb_judged_sessions.proofs.Sent.{echo_mine, me_judging}
+use Rattle.wb_judged_sessions.proofs.TakenIn.{CallTells, call_tells, moment_in, newest_of, remember_grows, senders}
+use Rattle.wb_judged_sessions.proofs.Terms.{own_at}
+
+-- ---- as many echoes as senders, at most
+
+inserted_longer : (e : Echo) (es : List Echo) → length (inserted echo_cmp e es) ≤ length es + 1
+inserted_longer e [] = omega arith
+inserted_longer e (y ∷ ys) = by (echo_cmp e y) (inserted_longer e ys) where
+  by : (o : Ordering) → length (inserted echo_cmp e ys) ≤ length ys + 1 → length (match_ordering o (e ∷ y ∷ ys) (y ∷ ys) (y ∷ inserted echo_cmp e ys)) ≤ length (y ∷ ys) + 1
+  by Less rest = omega arith
+  by Equal rest = omega arith
+  by Greater rest = omega (arith, rest)
+
+module _ (me now : ℕ) where
+  echoes_few : (calls : List KeeperCall) (sources : List ℕ) → length (sorted echo_cmp (filter_map (echo_of_sender me calls now) sources)) ≤ length sources
+  echoes_few calls [] = omega arith
+  echoes_few calls (s ∷ sources) = by (echo_of_sender me calls now s) (echoes_few calls sources) where
+    some : List Echo
+    some = filter_map (echo_of_sender me calls now) sources
+
+    by : (o : Option Echo) → length (sorted echo_cmp some) ≤ length sources → length (sorted echo_cmp (cons_option o some)) ≤ length (s ∷ sources)
+    by None le = omega (arith, le)
+    by (Some e) le = let one = inserted_longer e (sorted echo_cmp some) in omega (arith, le, one)
+
+  senders_few : (calls : List KeeperCall) → length (senders_of me calls) ≤ MAX_ENTRIES
+  senders_few [] = omega arith
+  senders_few (call ∷ calls) = by (session_heard me call) (senders_few calls) where
+    known : List ℕ
+    known = senders_of me calls
+
+    room : (source : ℕ) (is full : Bool) → nat_le MAX_ENTRIES (length known) ≡ full → length known ≤ MAX_ENTRIES → length (cond (is || full) known (source ∷ known)) ≤ MAX_ENTRIES
+    room source true full e le = le
+    room source false true e le = le
+    room source false false e le = let lt = leb-false _ _ e in omega (arith, lt)
+
+    by : (told : Option (ℕ × Heard)) → length known ≤ MAX_ENTRIES → length (remember told known) ≤ MAX_ENTRIES
+    by None le = le
+    by (Some told) le = room told.0 (list_any (nat_eq told.0) known) (nat_le MAX_ENTRIES (length known)) refl le
+
+pub lawful : (host : Opened) → AreEchoes (echoes host)
+lawful host = record {
+  ascending = λ i j d lt within. below (get_or (echoes host) i d) (get_or (echoes host) j d) (Less-from_sorted echo_cmp (echoes host) i j d (echoes_listed me calls (present host)).rising lt within);
+  positive = λ i d lt. tt;
+  few = let a = echoes_few me (present host) calls (senders_of me calls) in let b = senders_few me (present host) calls in omega (arith, a, b);
+} where
+  me : ℕ
+  me = host.is.number
+
+  calls : List KeeperCall
+  calls = host.is.calls
+
+  less : (a b : ℕ) → nat_cmp a b ≡ Less → a < b
+  less a b e = grind (arith, common_steps, nat_tests)
+
+  below : (a b : Echo) → echo_cmp a b ≡ Less → a.source < b.source
+  below a b e = less a.source b.source e
+
+-- ---- whoever was heard is remembered
+
+remembered : (me number : ℕ) (calls : List KeeperCall) (h : Heard) → length (senders_of me calls) ≤ 32 → newest (λ call. heard_by number (session_heard me call)) calls ≡ Some h
+    → list_any (nat_eq number) (senders_of me calls) ≡ true
+remembered me number [] h few e = absurd (none-some h e)
+remembered me number (call ∷ calls) h few e = by (session_heard me call) few e (remembered me number calls h) where
+  known : List ℕ
+  known = senders_of me calls
+
+  before : Option Heard
+  before = newest (λ call. heard_by number (session_heard me call)) calls
+
+  by : (told : Option (ℕ × Heard)) → length (remember told known) ≤ 32 → option_or (heard_by number told) before ≡ Some h → (length known ≤ 32 → before ≡ Some h → list_any (nat_eq number) known ≡ true)
+      → list_any (nat_eq number) (remember told known) ≡ true
+  by None few e rest = rest few e
+  by (Some told) few e rest = choose (nat_eq told.0 number) refl e where
+    small : length known ≤ 32
+    small = let g = remember_grows (Some told) known in omega (arith, g, few)
+
+    is_there : list_any (nat_eq number) known ≡ true → (b : Bool) → list_any (nat_eq number) (cond b known (told.0 ∷ known)) ≡ true
+    is_there there true = there
+    is_there there false = ap (λ (c : Bool). nat_eq number told.0 || c) there ∙ last (nat_eq number told.0) where
+      last : (a : Bool) → (a || true) ≡ true
+      last true = refl
+      last false = refl
+
+    comes : told.0 ≡ number → (c : Bool) → list_any (nat_eq told.0) known ≡ c → (full : Bool) → nat_le MAX_ENTRIES (length known) ≡ full
+        → list_any (nat_eq number) (cond (c || full) known (told.0 ∷ known)) ≡ true
+    comes same true there full f = ap (λ (n : ℕ). list_any (nat_eq n) known) (sym same) ∙ there
+    comes same false there true f = absurd (never (leb-true MAX_ENTRIES (length known) f)) where
+      never : MAX_ENTRIES ≤ length known → ⊥
+      never le = let s = small in omega (arith, le, s)
+    comes same false there false f = ap (λ (b : Bool). b || list_any (nat_eq number) known) (eq-eqb number told.0 (sym same))
+
+    choose : (b : Bool) → nat_eq told.0 number ≡ b → option_or (cond b (Some told.1) None) before ≡ Some h → list_any (nat_eq number) (remember (Some told) known) ≡ true
+    choose true same e = comes (eqb-true told.0 number same) (list_any (nat_eq told.0) known) refl (nat_le MAX_ENTRIES (length known)) refl
+    choose false other e = is_there (rest small e) (list_any (nat_eq told.0) known || nat_le MAX_ENTRIES (length known))
+
+-- ---- each of few was heard last
+
+abbrev many : (Echo → Bool) → List Echo → ℕ
+many p [] = 0
+many p (e ∷ es) = cond (p e) (1 + many p es) (many p es)
+
+no_more : (p : Echo → Bool) (es : List Echo) → many p es ≤ length es
+no_more p [] = omega arith
+no_more p (e ∷ es) = by (p e) (no_more p es) where
+  by : (b : Bool) → many p es ≤ length es → cond b (1 + many p es) (many p es) ≤ length (e ∷ es)
+  by true le = omega (arith, le)
+  by false le = omega (arith, le)
+
+but_one : (p : Echo → Bool) (es : List Echo) (x : Echo) → Contains es x → p x ≡ false → many p es < length es
+but_one p [] x c fails = absurd (Contains-none x c)
+but_one p (e ∷ es) x c fails = ⊎_elim
+    (λ (is : e ≡ x). let le = no_more p es in let same : many p (e ∷ es) ≡ many p es = ap (λ (b : Bool). cond b (1 + many p es) (many p es)) (ap p is ∙ fails) in omega (arith, le, same))
+    (λ (later : Contains es x). by (p e) (but_one p es x later fails))
+    (Contains-cases e x es c) where
+      by : (b : Bool) → many p es < length es → cond b (1 + many p es) (many p es) < length (e ∷ es)
+      by true lt = omega (arith, lt)
+      by false lt = omega (arith, lt)
+
+among_last : (es : List Echo) (e : Echo) → length es ≤ 32 → Contains es e → Contains (last_heard es) e
+among_last es e few c = Contains-filter (λ (f : Echo). nat_lt (count_by (λ (g : Echo). heard_later g f) es) 32) es e c (less (count_by (λ (g : Echo). heard_later g e) es) below) where
+  less : (n : ℕ) → n < 32 → nat_lt n 32 ≡ true
+  less n lt = grind (arith, nat_tests)
+
+  below : count_by (λ (g : Echo). heard_later g e) es < 32
+  below =
+      let p : Echo → Bool = λ g. heard_later g e in
+      let lt = but_one p es e c (itself e) in
+      let same = is_count_by (many p) p refl (λ x xs. refl) es in
+      omega (arith, lt, same, few)
+
+-- so it is echoed
+echoed_of : (number : ℕ) (host : Opened) (h : Heard) → length (senders host) ≤ 32 → newest_of number host ≡ Some h → (e : Echo) × Contains (last_heard (echoes host)) e × (e.source ≡ number)
+echoed_of number host h few is =
+    let e : Echo = record { source = number; sent = h.sent; held = present host - h.at } in
+    let listed = echoes_listed host.is.number host.is.calls (present host) in
+    let some = ap (λ (b : Bool). cond b (newest_of number host) None) (remembered host.is.number number host.is.calls h few is) ∙ is in
+    let short = echoes_few host.is.number (present host) host.is.calls (senders host) in
+    (e, among_last (echoes host) e (omega (arith, short, few)) ((listed.members e).1 (h, some, refl, refl)), refl)
+
+-- ---- with the own echo
+
+find_some : (p : Echo → Bool) (es : List Echo) (e : Echo) → Contains es e → p e ≡ true → is_some (find p es) ≡ true
+find_some p [] e c is = absurd (Contains-none e c)
+find_some p (x ∷ es) e c is = by (p x) refl (find_some p es e) where
+  by : (b : Bool) → p x ≡ b → (Contains es e → p e ≡ true → is_some (find p es) ≡ true) → is_some (cond b (Some x) (find p es)) ≡ true
+  by true it rest = refl
+  by false it rest = ⊎_elim
+      (λ (same : x ≡ e). absurd (true≢false (sym is ∙ ap p (sym same) ∙ it)))
+      (λ (later : Contains es e). rest later is)
+      (Contains-cases x e es c)
+
+placed_too : (x e : Echo) (es : List Echo) → (x.source ≡ e.source → ⊥) → Contains es e → Contains (placed x es) e
+placed_too x e es apart c = by (nat_lt e.source x.source) refl where
+  above : nat_lt e.source x.source ≡ false → nat_lt x.source e.source ≡ true
+  above is = grind (arith, nat_tests)
+
+  before : List Echo
+  before = filter (λ (f : Echo). nat_lt f.source x.source) es
+
+  later : List Echo
+  later = filter (λ (f : Echo). nat_lt x.source f.source) es
+
+  by : (b : Bool) → nat_lt e.source x.source ≡ b → Contains (before ++ x ∷ later) e
+  by true is = Contains-append_left before (x ∷ later) e (Contains-filter (λ (f : Echo). nat_lt f.source x.source) es e c is)
+  by false is = Contains-append_right before (x ∷ later) e (Contains-there x e later (Contains-filter (λ (f : Echo). nat_lt x.source f.source) es e c (above is)))
+
+with_it : (own : Option Echo) (e : Echo) (es : List Echo) → ((x : Echo) → own ≡ Some x → x.source ≡ e.source → ⊥) → Contains es e → Contains (with_echo own es) e
+with_it None e es apart c = c
+with_it (Some x) e es apart c = by (nat_lt (length es) MAX_ENTRIES) where
+  by : (b : Bool) → Contains (cond b (placed x es) es) e
+  by true = placed_too x e es (apart x refl) c
+  by false = c
+
+pub few_are_echoed : FewAreEchoed
+unfolding after_kept_line
+few_are_echoed numbers older e line number sender moment page marks es heard taken takes another sent last few =
+    subst (λ (fs : List Echo). is_some (echo_to number fs) ≡ true) (sym r.echoed)
+    (find_some (λ (x : Echo). nat_eq x.source number) (with_echo own r.plain) it.0 (with_it own it.0 r.plain mine (subst (λ (fs : List Echo). Contains fs it.0) (sym said.2) it.1)) (eq-eqb it.0.source number it.2)) where
+      h : Judged
+      h = judged_at numbers older e.place
+
+      own : Option Echo
+      own = own_echo (moment_of line h) (judging line h)
+
+      apart : nat_eq number (numbers e.place) ≡ false
+      apart = false_from_ne_true (nat_eq number (numbers e.place)) (λ is. another (eqb-true number (numbers e.place) is))
+
+      r : IsReported line h sender moment page marks es
+      r = reported line h sender moment page marks es sent
+
+      tells : CallTells number (handed line h) h.kept
+      tells = call_tells number (handed line h) h.kept (ap (nat_eq number) (number_at numbers older e.place) ∙ apart) (timed_line line h).0
+
+      k : Keeping
+      k = after_doing (doing_of (handed line h)) h.kept
+
+      said : (there : Opened) × (moment ≡ moment_in (handed line h)) × (r.plain ≡ last_heard (echoes there)) × (newest_of number there ≡ newest_of number k.host) × (present there ≡ moment)
+          × (length (senders there) ≤ length (senders k.host))
+      said = tells.said sender moment page marks r.plain (taken_line numbers older e line taken takes) r.among
+
+      after : judged_at numbers (e ∷ older) e.place ≡ after_judged line h
+      after = ap (λ (b : Bool). cond b (after_call e.call h) h) (eq-eqb e.place e.place refl) ∙ ap (λ (call : JudgedCall). after_call call h) takes
+
+      is : newest_of number said.0 ≡ Some heard
+      is = said.3 ∙ sym (ap (λ (k : Judged). newest_of number k.kept.host) after) ∙ last_is number numbers e.place (e ∷ older) apart ∙ last
+
+      small : length (senders said.0) ≤ 32
+      small = let fewer = said.5 in let end = subst (λ (k : Judged). length (senders k.kept.host) ≤ 32) after few in omega (arith, fewer, end)
+
+      it : (x : Echo) × Contains (last_heard (echoes said.0)) x × (x.source ≡ number)
+      it = echoed_of number said.0 heard small is
+
+      mine : (x : Echo) → own ≡ Some x → x.source ≡ it.0.source → ⊥
+      mine x is same =
+          another (sym it.2 ∙ sym same ∙ echo_mine (judging line h).me (moment_of line h) (judging line h).alien x is ∙ me_judging line h ∙ own_at numbers older e.place ∙ number_at numbers older e.place)
