@@ -7,7 +7,7 @@ import shutil
 import subprocess
 from argparse import ArgumentTypeError
 from typing import TYPE_CHECKING, Dict, Optional, Tuple
-from urllib.parse import parse_qsl, quote, unquote, urlencode, urlsplit
+from urllib.parse import parse_qsl, unquote, urlencode, urlsplit
 
 from .carriers.mqtt import MOST_NAME, PORTS, Broker, Login, is_name
 from .keys import key_bytes
@@ -57,13 +57,6 @@ def read_broker(text: str) -> Tuple[Broker, str, Optional[Login]]:
     login = login_in(unquote(url.username), unquote(url.password or "")) if url.username else None
     is_web = scheme in ("ws", "wss")
     return Broker(scheme, host, port or PORTS[scheme], url.path if is_web else ""), "" if is_web else unquote(url.path).strip("/"), login
-
-
-def write_broker(broker: Broker, login: Optional[Login]) -> str:
-    if login is None:
-        return broker.text
-    scheme, rest = broker.text.split("://", 1)
-    return "%s://%s:%s@%s" % (scheme, quote(login.name, safe=""), quote(login.password, safe=""), rest)
 
 
 def read_invitation(text: str) -> Dict[str, str]:

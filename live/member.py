@@ -22,7 +22,7 @@ from .judging import Judging
 from .options import Options
 from .people import People
 from .proving import Stage
-from .presence import Point, Presence, write
+from .presence import Pointed, Presence, write
 from .record import Record
 from .replay import Playing
 from .telling import Telling
@@ -189,7 +189,7 @@ class Member:
         self.telling.is_changed = self.telling.is_changed or page == self.page
         self.telling.are_pages_changed = True
 
-    def point(self, point: Point) -> Dict[str, Any]:
+    def point(self, point: Pointed) -> Dict[str, Any]:
         """Tells others where one points, by a datagram that no host hears of."""
         self.network.send(write(point))
         return {}

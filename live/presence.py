@@ -32,7 +32,7 @@ STAYS = 4.0
 MOST_A_SECOND = 25
 
 
-class Point(NamedTuple):
+class Pointed(NamedTuple):
     """Where a member points: nowhere, or at a cell of a page."""
 
     member: int
@@ -41,7 +41,7 @@ class Point(NamedTuple):
     begun: List[str]
 
 
-def write(point: Point) -> bytes:
+def write(point: Pointed) -> bytes:
     """The bytes of a point; of what is begun, as many lines as there is room for."""
     x, y = point.cell or (NOWHERE, NOWHERE)
     begun = b""
@@ -50,7 +50,7 @@ def write(point: Point) -> bytes:
     return HEAD.pack(MARK, VERSION, point.member, point.page[0], point.page[1], x, y) + begun
 
 
-def read(data: bytes) -> Optional[Point]:
+def read(data: bytes) -> Optional[Pointed]:
     """A point from its bytes, or None where they are none."""
     if len(data) < HEAD.size or len(data) > HEAD.size + MOST_BEGUN:
         return None
@@ -59,7 +59,7 @@ def read(data: bytes) -> Optional[Point]:
     begun = data[HEAD.size:]
     if mark != MARK or version != VERSION or not (is_nowhere or max(x, y) < SIDE) or not all(byte == 10 or 32 <= byte < 127 for byte in begun):
         return None
-    return Point(member, (creator, number), None if is_nowhere else (x, y), begun.decode("ascii").splitlines()[:MOST_LINES])
+    return Pointed(member, (creator, number), None if is_nowhere else (x, y), begun.decode("ascii").splitlines()[:MOST_LINES])
 
 
 class Presence:
@@ -69,7 +69,7 @@ class Presence:
         self.me = me
         self.events = events
         self.changed = threading.Lock()
-        self.others: Dict[int, Tuple[float, Point]] = {}
+        self.others: Dict[int, Tuple[float, Pointed]] = {}
         self.second, self.heeded = 0, {}  # type: Tuple[int, Dict[int, int]]
 
     def hear(self, data: bytes, address: Any = None) -> None:
@@ -113,10 +113,10 @@ class Presence:
             del self.others[next(iter(self.others))]
 
 
-def point_in(body: Dict[str, Any], me: int, page: Page) -> Optional[Point]:
+def point_in(body: Dict[str, Any], me: int, page: Page) -> Optional[Pointed]:
     """A point as a page sends it, or None where it is none."""
     cell, begun = body.get("cell"), body.get("begun")
     is_cell = cell is None or isinstance(cell, list) and len(cell) == 2 and all(type(n) is int and 0 <= n < SIDE for n in cell)
     if not is_cell or not isinstance(begun, list) or not all(isinstance(line, str) and line.isascii() and line.isprintable() for line in begun):
         return None
-    return Point(me, page, None if cell is None else (cell[0], cell[1]), begun)
+    return Pointed(me, page, None if cell is None else (cell[0], cell[1]), begun)

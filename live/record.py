@@ -120,7 +120,6 @@ class Record:
         self.path = path
         self.file = self.open(path)
         self.size = self.good_size()
-        self.before = self.size
         self.is_synced = True
 
     def open(self, path: Optional[str]) -> int:
@@ -181,17 +180,12 @@ class Record:
         except OSError as fault:
             self.cut()
             raise NoRoom(fault.strerror) from fault
-        self.before, self.size = self.size, self.size + len(text)
+        self.size += len(text)
         self.is_synced = False
 
     def cut(self) -> None:
         """Takes off what was written last in part."""
         os.ftruncate(self.file, self.size)
-
-    def take_back(self) -> None:
-        """Takes off what was added last: nobody knows of it."""
-        self.size = self.before
-        self.cut()
 
     def sync(self) -> None:
         """Puts all lines on the disk: a crash of the machine does not lose them from now on."""

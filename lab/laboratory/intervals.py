@@ -75,12 +75,6 @@ def difference(one: Sequence[float], other: Sequence[float]) -> Estimate | None:
     return estimate([a - b for a, b in zip(one, other, strict=True)])
 
 
-def are_apart(one: Sequence[float], other: Sequence[float]) -> bool:
-    """Whether two series of draws with the same seeds have different means, by the interval of their difference."""
-    found = difference(one, other)
-    return found is not None and abs(found.mean) > found.half
-
-
 def quantile(values: Sequence[float], share: float) -> float | None:
     """The least value that is not below this share of the values."""
     if not values:

@@ -88,10 +88,6 @@ export function touches(shape, box) {
   return isCovered;
 }
 
-/** Whether a drawing covers a cell.
- * @type {(shape: Shape, cell: Cell) => boolean} */
-export const covers = (shape, { x, y }) => touches(shape, { x0: x, y0: y, x1: x, y1: y });
-
 /** The words of an operation that draws a shape.
  * @type {(shape: Shape) => string} */
 export function spell(shape) {

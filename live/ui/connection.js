@@ -1,6 +1,6 @@
 /** A member over HTTP: `wb-live`. It tells its states by a WebSocket, and takes what is drawn by requests. */
 
-/** @typedef {import('./types.js').Answer} Answer */
+/** @typedef {import('./types.js').Reply} Reply */
 /** @typedef {import('./types.js').Worse} Worse */
 
 /** Milliseconds between two tries to find a program that has ended. */
@@ -76,34 +76,32 @@ export class HttpMember {
   }
 
   /** @param {string} page @returns {Promise<import('./types.js').Board | null>} */
-  async read(page) {
-    const answer = await this.get(`board?page=${page}`);
-    return answer ? answer.json() : null;
+  read(page) {
+    return this.get(`board?page=${page}`, (answer) => answer.json());
   }
 
-  async record() {
-    const answer = await this.get('record');
-    return answer ? answer.text() : null;
+  record() {
+    return this.get('record', (answer) => answer.text());
   }
 
-  /** What is read needs no turn among what is drawn.
-   * @param {string} path */
-  async get(path) {
+  /** What is read needs no turn among what is drawn. Null if not all of it comes in time.
+   * @template T @param {string} path @param {(answer: Response) => Promise<T>} read @returns {Promise<T | null>} */
+  async get(path, read) {
     try {
       const answer = await fetch(path, { headers: { 'X-Wb-Token': this.token }, signal: patience() });
-      return answer.ok ? answer : null;
+      return answer.ok ? await read(answer) : null;
     } catch {
       return null;
     }
   }
 
-  /** @param {string} path @param {object} body @returns {Promise<Answer>} */
+  /** @param {string} path @param {object} body @returns {Promise<Reply>} */
   post(path, body) {
     this.last = this.last.then(() => this.ask(path, body));
     return this.last;
   }
 
-  /** @param {string} path @param {object} body @returns {Promise<Answer>} */
+  /** @param {string} path @param {object} body @returns {Promise<Reply>} */
   async ask(path, body) {
     const headers = { 'Content-Type': 'application/json', 'X-Wb-Token': this.token };
     try {

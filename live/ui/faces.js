@@ -8,7 +8,7 @@ import { initialsOf } from './notes.js';
 const MOST = 5, ABOUT = 6;
 
 export class Faces {
-  /** @param {import('./board.js').Board} board */
+  /** @param {import('./whiteboard.js').Whiteboard} board */
   constructor(board) {
     this.board = board;
     /** Who is there, this member first, and since when that is known.
@@ -38,7 +38,7 @@ export class Faces {
 
   /** @param {number} member */
   face(member) {
-    const { session, presence, painter, welcome } = this.board, line = make('li'), page = presence.pageOf(member), isMe = member === session.hello.me;
+    const { session, others, painter, welcome } = this.board, line = make('li'), page = others.pageOf(member), isMe = member === session.hello.me;
     const face = make('button', initialsOf(session.called.get(member), member)), isAway = Boolean(page) && page !== session.board.page;
     face.style.setProperty('--c', painter.tintOf(member));
     face.title = isMe ? `${session.nameOf(member)} (you)` : `${session.nameOf(member)}${isAway ? `, on ${session.titleOf(page)}` : ''}: follow`;
@@ -62,7 +62,7 @@ export class Faces {
 
   /** Goes to the page of who is followed, and has its pointer in view. */
   goAfter() {
-    const { presence, session, view } = this.board, pointed = this.followed === null ? null : presence.of(this.followed);
+    const { others, session, view } = this.board, pointed = this.followed === null ? null : others.of(this.followed);
     if (!pointed) return;
     if (pointed.page !== session.board.page) {
       if (session.wished !== pointed.page) session.goToPage(pointed.page);

@@ -9,7 +9,7 @@ import { svgOfInk } from './inksvg.js';
 import { NOTES } from './notes.js';
 
 /** @typedef {import('./types.js').Board} Board */
-/** @typedef {import('./board.js').Board} Whole */
+/** @typedef {import('./whiteboard.js').Whiteboard} Whiteboard */
 
 /** Points of a cell in a picture, and the points of a side that browsers can paint. */
 const WIDE = 9, HIGH = 17, MOST_SIDE = 16_000, MOST_AREA = 64_000_000;
@@ -24,7 +24,7 @@ const GLANCE = { columns: 120, rows: 60, wide: 1.5, high: 2 }, GLANCE_OF_INK = {
 const MOST_BYTES = 1_000_000;
 
 export class Files {
-  /** @param {Whole} board */
+  /** @param {Whiteboard} board */
   constructor(board) {
     this.board = board;
     /** @type {Record<string, () => void>} */

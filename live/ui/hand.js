@@ -23,7 +23,7 @@ export const middleOf = ({ x, y }) => ({ x: (x + 0.5) * CELL_WIDE, y: (y + 0.5) 
  * @typedef {{ isShifted?: boolean, isPressed?: boolean }} How */
 
 export class Hand {
-  /** @param {import('./board.js').Board} board */
+  /** @param {import('./whiteboard.js').Whiteboard} board */
   constructor(board) {
     this.parts = board;
     this.session = board.session;

@@ -11,7 +11,7 @@ import { CELL_WIDE, OWN, WIDTHS } from './inksigns.js';
  * @typedef {{ x0: number, y0: number, x1: number, y1: number }} Box */
 /** How an item is painted: so many points of the screen a cell; in another colour than its own; in a picture without a ground, under
  * what is there for a highlighter.
- * @typedef {{ wide: number, over?: string, isPicture?: boolean }} How */
+ * @typedef {{ wide: number, over?: string, isPicture?: boolean }} Paint */
 
 /** How many times as wide as a stroke a highlighter is, and how much it lets through. */
 const BROAD = 2.4, THIN = 0.45;
@@ -89,7 +89,7 @@ export class InkPaint {
     return (kind === 'h' ? BRIGHT : this.painter.isNight() ? NIGHT : DAY)[colour];
   }
 
-  /** @param {CanvasRenderingContext2D} g @param {Item} item @param {How} how */
+  /** @param {CanvasRenderingContext2D} g @param {Item} item @param {Paint} how */
   paint(g, item, how) {
     const { kind, width } = item, colour = how.over ?? this.colourOf(item);
     g.strokeStyle = g.fillStyle = colour;
@@ -103,7 +103,7 @@ export class InkPaint {
   }
 
   /** A highlighter lies under all other ink: in a picture under what is there, else so that what is there stays dark, or light.
-   * @param {CanvasRenderingContext2D} g @param {Item} item @param {How} how */
+   * @param {CanvasRenderingContext2D} g @param {Item} item @param {Paint} how */
   paintBroad(g, item, { over, isPicture }) {
     g.globalCompositeOperation = over ? 'source-over' : isPicture ? 'destination-over' : this.painter.isNight() ? 'lighten' : 'multiply';
     g.globalAlpha = over ? 0.6 : THIN;

@@ -6,8 +6,8 @@ import { CELL_WIDE, FIRST_ROW, FULL_PRESSURE, LIFT_STILL, MOST_SIGNS, PAGE_HIGH,
 
 /** @typedef {import('./ink.js').Point} Point */
 /** @typedef {import('./ink.js').Ink} Ink */
-/** How a stroke is drawn, and the finest scale that it needs.
- * @typedef {{ kind: string, colour: number, width: number, scale: number }} Look */
+/** How a stroke is drawn, and the finest scale that it needs. Strokes of one text have one nib.
+ * @typedef {{ kind: string, colour: number, width: number, scale: number }} Nib */
 /** How far a stroke is written: the number of the last point, how much of the way from it to the next, and where that is.
  * @typedef {{ upTo: number, part: number, end: Point }} Place */
 /** A text of a stroke, with how far its points are off at most.
@@ -50,7 +50,7 @@ const nearestOn = (curve, point) => curve.reduce((best, at, k) => (gap(at, point
 
 /** A text that is filled with a stroke in one scale, from a place on. */
 class Filling {
-  /** @param {Look} look @param {number} scale @param {Point[]} points @param {Place} from @param {boolean} goesOn */
+  /** @param {Nib} look @param {number} scale @param {Point[]} points @param {Place} from @param {boolean} goesOn */
   constructor({ kind, colour, width }, scale, points, { upTo, part, end }, goesOn) {
     // a text that goes on from a lift begins where the pen is put down, if that is another point
     const next = points[upTo + 1], isPutDown = goesOn && next?.up && gap(end, next) > 0;
@@ -147,7 +147,7 @@ class Filling {
 }
 
 /** The next text of a stroke. It has a coarser scale than that of the look if it holds more so, and is nearer than it need be.
- * @type {(look: Look, points: Point[], from: Place, goesOn: boolean) => Written} */
+ * @type {(look: Nib, points: Point[], from: Place, goesOn: boolean) => Written} */
 function nextText(look, points, from, goesOn) {
   const unit = 2 ** look.scale;
   let best = new Filling(look, look.scale, points, from, goesOn).fill(2.5 * unit, unit / 2);
@@ -160,7 +160,7 @@ function nextText(look, points, from, goesOn) {
 }
 
 /** The texts of a stroke, and how far it is written by each. Of a stroke that goes on the first point is the end of the text before.
- * @type {(look: Look, points: Point[], goesOn?: boolean) => Written[]} */
+ * @type {(look: Nib, points: Point[], goesOn?: boolean) => Written[]} */
 export function writeStroke(look, points, goesOn = false) {
   const way = points.map((point) => settled(point)), texts = [nextText(look, way, { upTo: 0, part: 0, end: way[0] }, goesOn)];
   while (texts[texts.length - 1].upTo + 1 < way.length) texts.push(nextText(look, way, texts[texts.length - 1], true));

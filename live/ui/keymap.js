@@ -6,7 +6,7 @@ import { $ } from './dom.js';
 const OF_INK = { v: 'select', s: 'select', h: 'hand', p: 'pen', m: 'marker', e: 'erase', d: 'erase', l: 'line', a: 'arrow', r: 'frame', f: 'frame', o: 'ellipse', n: 'note', t: 'text' };
 const OF_CELLS = { v: 'select', s: 'select', p: 'pen', e: 'erase', d: 'erase', l: 'line', a: 'arrow', f: 'frame', b: 'block', t: 'text', r: 'restore' };
 
-/** @param {import('./board.js').Board} board @returns {Record<string, () => void>} */
+/** @param {import('./whiteboard.js').Whiteboard} board @returns {Record<string, () => void>} */
 export function keysOf(board) {
   const { hand, view, session, painter, sight, style, files } = board, all = [...new Set([...Object.keys(OF_INK), ...Object.keys(OF_CELLS)])];
   /** The point that stays where it is when the page becomes larger: what is pointed at, or the middle. */

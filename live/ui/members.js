@@ -3,7 +3,7 @@ import { $, make } from './dom.js';
 import { inkOf, isStroke } from './ink.js';
 import { initialsOf } from './notes.js';
 
-/** @typedef {import('./board.js').Board} Board */
+/** @typedef {import('./whiteboard.js').Whiteboard} Whiteboard */
 /** @typedef {import('./types.js').Other} Other */
 
 /** Members, erased drawings and warnings that are listed. */
@@ -15,12 +15,12 @@ export function ago(seconds) {
   return seconds < 120 ? `${Math.floor(seconds)} s ago` : `${Math.floor(seconds / 60)} min ago`;
 }
 
-/** @param {Board} board */
-export function showMembers({ session, painter, presence, faces }) {
+/** @param {Whiteboard} board */
+export function showMembers({ session, painter, others, faces }) {
   /** Where a member is, in words.
    * @param {Other} other @param {string} heard */
   const whereOf = ({ member }, heard) => {
-    const page = presence.pageOf(member);
+    const page = others.pageOf(member);
     if (member === session.hello.me) return 'you';
     return page ? `on ${session.titleOf(page)}` : heard === 'now' ? 'here' : `heard ${heard}`;
   };
@@ -64,7 +64,7 @@ function setHealth(kind, phrase) {
 }
 
 /** What the network does, as the member tells it.
- * @param {Board} board */
+ * @param {Whiteboard} board */
 export function showHealth({ session }) {
   session.on('health', ({ phrase, missing, warnings, counts }) => {
     const more = [['lost', 'lost on purpose'], ['twice', 'twice on purpose'], ['refused', 'refused'], ['dropped', 'dropped'], ['foreign', 'sealed by no key of ours']]
@@ -89,7 +89,7 @@ export function kindOf(drawing) {
 }
 
 /** What was erased, and can be restored.
- * @param {Board} board */
+ * @param {Whiteboard} board */
 export function showHidden({ session }) {
   /** @param {import('./types.js').Drawing} drawing */
   const row = (drawing) => {
@@ -106,7 +106,7 @@ export function showHidden({ session }) {
 }
 
 /** Losses on purpose.
- * @param {Board} board */
+ * @param {Whiteboard} board */
 export function showWorse({ session }) {
   /** @type {HTMLInputElement[]} */
   const inputs = [...$('worsen').querySelectorAll('input')];

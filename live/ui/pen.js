@@ -5,8 +5,7 @@ import { placed, writeStroke } from './inkwriting.js';
 
 /** @typedef {import('./types.js').Shape} Shape */
 /** @typedef {import('./ink.js').Point} Point */
-/** What strokes look like: those of one text have one look.
- * @typedef {{ kind: string, colour: number, width: number, scale: number }} Nib */
+/** @typedef {import('./inkwriting.js').Nib} Nib */
 /** The points that are kept of a hand's way, each with its place in the way.
  * @typedef {(Point & { i?: number })[]} Knots */
 /** @typedef {import('./inkwriting.js').Written} Written */
@@ -107,7 +106,7 @@ class Strokes {
 }
 
 export class Pen {
-  /** @param {import('./board.js').Board} board */
+  /** @param {import('./whiteboard.js').Whiteboard} board */
   constructor(board) {
     this.board = board;
     /** @type {Strokes | null} */

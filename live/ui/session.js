@@ -6,7 +6,7 @@ import { NOTES } from './notes.js';
 /** @typedef {import('./types.js').Shape} Shape */
 /** @typedef {import('./types.js').Drawing} Drawing */
 /** @typedef {import('./types.js').Board} Board */
-/** @typedef {import('./types.js').Answer} Answer */
+/** @typedef {import('./types.js').Reply} Reply */
 /** What became of the page in view: whether it is another page; the drawings that it shows no more, and those that it shows since, in the
  * order of painting.
  * @typedef {{ isTurned: boolean, gone: Drawing[], added: Drawing[] }} Taken */
@@ -199,7 +199,7 @@ export class Session {
     return this.send(`restore ${nameOf(drawing)}`, page);
   }
 
-  /** @param {string} operation @param {string} [page] @param {Shape} [ghost] @returns {Promise<Answer>} */
+  /** @param {string} operation @param {string} [page] @param {Shape} [ghost] @returns {Promise<Reply>} */
   async send(operation, page = this.board.page, ghost) {
     const wait = ghost && page === this.board.page ? { ghost, name: '' } : null;
     if (wait) this.waiting.add(wait);
@@ -210,7 +210,7 @@ export class Session {
     return answer;
   }
 
-  /** @param {{ ghost: Shape, name: string }} wait @param {Answer} answer */
+  /** @param {{ ghost: Shape, name: string }} wait @param {Reply} answer */
   settle(wait, answer) {
     wait.name = `${answer.source} ${answer.seq}`;
     if (!answer.ok || this.has(wait.name)) this.waiting.delete(wait);

@@ -2,7 +2,7 @@
 import { $ } from './dom.js';
 
 export class Side {
-  /** @param {import('./board.js').Board} board */
+  /** @param {import('./whiteboard.js').Whiteboard} board */
   constructor(board) {
     this.board = board;
     /** Texts of others that were seen, and those that are new. */

@@ -11,7 +11,7 @@ const OF_INK = ['ellipse', 'note', 'marker', 'hand'], OF_CELLS = ['block'];
 const FREE = { across: 28, down: 20, beside: 16 };
 
 export class Sight {
-  /** @param {import('./board.js').Board} board */
+  /** @param {import('./whiteboard.js').Whiteboard} board */
   constructor(board) {
     this.board = board;
     /** Whether all of the page is shown as soon as its ink is taken. */

@@ -1,6 +1,6 @@
-/** The page that `wb-live` serves: a board over a member behind HTTP. */
-import { openBoard } from './board.js';
+/** The page that `wb-live` serves: the whiteboard over a member behind HTTP. */
+import { openWhiteboard } from './whiteboard.js';
 import { HttpMember } from './connection.js';
 
 const token = /** @type {HTMLMetaElement} */ (document.querySelector('meta[name=wb-token]')).content;
-openBoard(new HttpMember(token));
+openWhiteboard(new HttpMember(token));

@@ -25,7 +25,7 @@ export function fullness(warnings, pages, cells = ALL) {
 }
 
 export class State {
-  /** @param {import('./board.js').Board} board */
+  /** @param {import('./whiteboard.js').Whiteboard} board */
   constructor(board) {
     const { session } = board;
     this.board = board;

@@ -107,7 +107,7 @@ class Step {
   }
 
   /** Keeps a deed once the member has taken it.
-   * @param {Promise<import('./types.js').Answer>} asked @param {boolean} isShown @param {Name | null} target null for the drawing itself */
+   * @param {Promise<import('./types.js').Reply>} asked @param {boolean} isShown @param {Name | null} target null for the drawing itself */
   keep(asked, isShown, target) {
     this.asked.push(asked.then(({ ok, source = 0, seq = 0 }) => {
       const { source: of, seq: number } = target ?? { source, seq };

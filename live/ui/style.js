@@ -20,7 +20,7 @@ const WIDTHS = [[1, 'fine'], [2, 'normal'], [4, 'thick'], [6, 'very thick']], BR
 const SIZES = [[1, 'S', 'small'], [3, 'M', 'middle'], [5, 'L', 'large'], [7, 'XL', 'very large']], FONTS = [[0, 'Aa', 'plain'], [2, 'x²', 'formula'], [1, '{}', 'code']];
 
 export class Style {
-  /** @param {import('./board.js').Board} board */
+  /** @param {import('./whiteboard.js').Whiteboard} board */
   constructor(board) {
     this.board = board;
     /** @type {Look} */

@@ -36,7 +36,7 @@
  * @typedef {[number, number, string, boolean]} Scene */
 
 /** What a member says to something that it was asked: a drawing's name, the address of a board, or why not.
- * @typedef {{ ok: boolean, fault?: string, source?: number, seq?: number, address?: string }} Answer */
+ * @typedef {{ ok: boolean, fault?: string, source?: number, seq?: number, address?: string }} Reply */
 
 /** What a board needs of the member behind it, over HTTP or in a worker of the page. `subscribe` is called once; from then on
  * `hear` is given each state as it changes, by its name: `hello`, `board`, `pages`, `members`, `health` and `wire`, with the
@@ -44,16 +44,16 @@
  * answers; and `gone`, where it was started anew and this page can't reach it. What stands in brackets is not asked of every member.
  * @typedef {object} Member
  * @property {(hear: (name: string, news: any) => void) => void} subscribe
- * @property {(page: string, operation: string) => Promise<Answer>} draw   one drawing line, such as `line 0 0 4 4 *`
- * @property {(page: string | null) => Promise<Answer>} choose   the page to be in view; null for a new one
- * @property {() => Promise<Answer>} [renumber]   takes a new number, where another member has the same
- * @property {(worse: Worse) => Promise<Answer>} worsen   how the network is to be made worse, where `hello.teach` allows it
+ * @property {(page: string, operation: string) => Promise<Reply>} draw   one drawing line, such as `line 0 0 4 4 *`
+ * @property {(page: string | null) => Promise<Reply>} choose   the page to be in view; null for a new one
+ * @property {() => Promise<Reply>} [renumber]   takes a new number, where another member has the same
+ * @property {(worse: Worse) => Promise<Reply>} worsen   how the network is to be made worse, where `hello.teach` allows it
  * @property {(page: string) => Promise<Board | null>} [read]   what a page shows, which need not be in view: for names, titles and all pages
  * @property {() => Promise<string | null>} [record]   the record of the session, as a text
- * @property {(page: string, cell: [number, number] | null, begun: string[]) => Promise<Answer>} [point]   tells others where one points, and
+ * @property {(page: string, cell: [number, number] | null, begun: string[]) => Promise<Reply>} [point]   tells others where one points, and
  *   what is begun; they hear it as the state `presence`, which has `others`
- * @property {(change: { at?: number, speed?: number, stopped?: boolean }) => Promise<Answer>} [film]   jumps, goes faster, stops or goes on,
+ * @property {(change: { at?: number, speed?: number, stopped?: boolean }) => Promise<Reply>} [film]   jumps, goes faster, stops or goes on,
  *   where the states `scenes` and `film` are told
- * @property {(session: string) => Promise<Answer>} [next]   begins or joins the session of this name, and gives the address of its page */
+ * @property {(session: string) => Promise<Reply>} [next]   begins or joins the session of this name, and gives the address of its page */
 
 export {};

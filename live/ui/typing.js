@@ -17,7 +17,7 @@ import { plainOf, writing } from './shapes.js';
  * @typedef {{ page: string, cell: Cell } | { page: string, letters: Letters }} Typed */
 
 export class Typing {
-  /** @param {import('./board.js').Board} board */
+  /** @param {import('./whiteboard.js').Whiteboard} board */
   constructor(board) {
     this.board = board;
     /** @type {HTMLTextAreaElement} */

@@ -11,7 +11,7 @@ const NAME = 'wb-name', COLOUR = 'wb-colour', ASKED = 'wb-asked';
 const PAUSE = 700;
 
 export class Welcome {
-  /** @param {import('./board.js').Board} board */
+  /** @param {import('./whiteboard.js').Whiteboard} board */
   constructor(board) {
     this.board = board;
     this.colour = 0;

@@ -1,7 +1,7 @@
 """What a host prints for a line: a block, which its last line closes."""
 from __future__ import annotations
 
-from typing import List, NamedTuple, Optional, Sequence, Tuple
+from typing import List, NamedTuple, Optional, Sequence
 
 
 class Block(NamedTuple):
@@ -46,12 +46,3 @@ def number_of(word: bytes) -> int:
     """The number of a word, as a host reads it; -1 if it is none, or one of over ten digits."""
     digits = word.lstrip(b"0") or b"0"
     return int(digits) if word.isdigit() and len(digits) <= 10 else -1
-
-
-def parted(text: bytes, line: bytes, has_board: bool) -> Tuple[List[bytes], bool]:
-    """The lines of a text that a host wrote for one line, and whether its block is whole."""
-    lines = text.split(b"\n")
-    if lines[-1]:
-        return lines, False
-    lines.pop()
-    return lines, bool(lines) and is_closing(lines[-1]) and (not has_board or len(lines) > rows_of(line))

@@ -29,7 +29,7 @@ EDITS = [
     ('<link rel="stylesheet" href="page/style.css">\n',
      '<link rel="stylesheet" href="live/ui/style.css">\n<link rel="stylesheet" href="web/member/panel.css">\n'
      '<link rel="manifest" href="web/member/page.webmanifest">\n'),
-    ('<script type="module" src="page/start.js"></script>\n', '<script type="module" src="web/member/start.js"></script>\n'),
+    ('<script type="module" src="page/start.js"></script>\n', '<script type="module" src="web/member/page.js"></script>\n'),
 ]
 
 

@@ -6,7 +6,7 @@ from typing import Iterator
 MAGIC = b"\0asm\1\0\0\0"
 
 # the sections, by their numbers
-TYPES, IMPORTS, TABLES, EXPORTS, ELEMENTS, CODE = 1, 2, 4, 7, 9, 10
+IMPORTS, TABLES, EXPORTS, ELEMENTS, CODE = 2, 4, 7, 9, 10
 
 KINDS = ("func", "table", "memory", "global", "tag")
 

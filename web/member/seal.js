@@ -86,10 +86,10 @@ export function readEnvelope(plain) {
 const MOST_TAGS = 1_024, BELOW = 64;
 
 /** Of a tag the greatest counter, and bits for that one and those below it: whether each came.
- * @typedef {{ top: bigint, came: bigint }} Heard */
+ * @typedef {{ top: bigint, came: bigint }} Counted */
 
 /** What is remembered of a tag when a counter came that is so much ahead of the greatest, or below it.
- * @param {Heard} heard @param {bigint} ahead @returns {Heard} */
+ * @param {Counted} counted @param {bigint} ahead @returns {Counted} */
 function after({ top, came }, ahead) {
   if (ahead <= 0n) return { top, came: came | (1n << -ahead) };
   return { top: top + ahead, came: ahead > BELOW ? 1n : BigInt.asUintN(BELOW + 1, came << ahead) | 1n };
@@ -99,17 +99,17 @@ function after({ top, came }, ahead) {
 export class Counters {
   constructor() {
     /** By tag, the one that was heard last at the end.
-     * @type {Map<string, Heard>} */
+     * @type {Map<string, Counted>} */
     this.tags = new Map();
   }
 
   /** Whether a counter is new for its tag. It is not new again.
    * @param {string} tag @param {bigint} counter */
   takes(tag, counter) {
-    const heard = this.tags.get(tag) ?? { top: counter - 1n, came: 0n }, ahead = counter - heard.top;
-    if (ahead <= 0n && (ahead < -BELOW || (heard.came >> -ahead) & 1n)) return false;
+    const counted = this.tags.get(tag) ?? { top: counter - 1n, came: 0n }, ahead = counter - counted.top;
+    if (ahead <= 0n && (ahead < -BELOW || (counted.came >> -ahead) & 1n)) return false;
     this.tags.delete(tag);
-    this.tags.set(tag, after(heard, ahead));
+    this.tags.set(tag, after(counted, ahead));
     if (this.tags.size > MOST_TAGS) this.tags.delete([...this.tags.keys()][0]);
     return true;
   }

@@ -1,6 +1,6 @@
 /** A member in a worker of this page, as the board needs one (`live/ui/types.js`). */
 
-/** @typedef {import('../../live/ui/types.js').Answer} Answer */
+/** @typedef {import('../../live/ui/types.js').Reply} Reply */
 
 export class WorkerMember {
   /** @param {import('./worker.js').Beginning} beginning */
@@ -8,7 +8,7 @@ export class WorkerMember {
     this.worker = new Worker(new URL('worker.js', import.meta.url), { type: 'module' });
     this.beginning = beginning;
     /** Questions without an answer yet.
-     * @type {Map<number, (answer: Answer) => void>} */
+     * @type {Map<number, (answer: Reply) => void>} */
     this.asked = new Map();
     this.last = 0;
   }
@@ -23,7 +23,7 @@ export class WorkerMember {
     this.worker.postMessage(this.beginning);
   }
 
-  /** @param {{ id: number, answer: Answer }} told */
+  /** @param {{ id: number, answer: Reply }} told */
   settle({ id, answer }) {
     this.asked.get(id)?.(answer);
     this.asked.delete(id);
@@ -36,28 +36,28 @@ export class WorkerMember {
     return new Promise((take) => { this.asked.set(this.last, take); });
   }
 
-  /** @param {string} page @param {string} operation @returns {Promise<Answer>} */
+  /** @param {string} page @param {string} operation @returns {Promise<Reply>} */
   draw(page, operation) {
     return this.ask('draw', page, operation);
   }
 
-  /** @param {string | null} page @returns {Promise<Answer>} */
+  /** @param {string | null} page @returns {Promise<Reply>} */
   choose(page) {
     return this.ask('choose', page);
   }
 
   /** Takes a new number.
-   * @returns {Promise<Answer>} */
+   * @returns {Promise<Reply>} */
   renumber() {
     return this.ask('renumber');
   }
 
-  /** @param {string} page @param {[number, number] | null} cell @param {string[]} begun @returns {Promise<Answer>} */
+  /** @param {string} page @param {[number, number] | null} cell @param {string[]} begun @returns {Promise<Reply>} */
   point(page, cell, begun) {
     return this.ask('point', page, cell, begun);
   }
 
-  /** @param {import('../../live/ui/types.js').Worse} worse @returns {Promise<Answer>} */
+  /** @param {import('../../live/ui/types.js').Worse} worse @returns {Promise<Reply>} */
   worsen(worse) {
     return this.ask('worsen', worse);
   }

@@ -7,7 +7,7 @@ import { initialsOf } from './notes.js';
 
 /** @typedef {import('./types.js').Pointed} Pointed */
 /** @typedef {import('./types.js').Shape} Shape */
-/** @typedef {import('./board.js').Board} Board */
+/** @typedef {import('./whiteboard.js').Whiteboard} Whiteboard */
 
 /** Milliseconds between two tellings, at least, and after which one that is not heard points nowhere. */
 const PAUSE = 60, STAYS = 4000;
@@ -21,12 +21,12 @@ const KEPT = 'wb-pointing';
 /** The corners of a pointer, and points from it to the middle of its label. */
 const ARROW = [[0, 0], [4.5, 15], [8, 9], [15, 8]], LABEL = { x: 12, y: 15, high: 21 };
 
-export class Presence {
-  /** @param {Board} board */
+export class Others {
+  /** @param {Whiteboard} board */
   constructor(board) {
     this.board = board;
     /** @type {{ heardAt: number, pointed: Pointed }[]} */
-    this.others = [];
+    this.heard = [];
     /** The page that each member was heard to look at last.
      * @type {Map<number, string>} */
     this.pages = new Map();
@@ -45,8 +45,8 @@ export class Presence {
 
   /** @param {Pointed[]} others */
   take(others) {
-    const was = this.others, now = performance.now();
-    this.others = others.map((pointed) => {
+    const was = this.heard, now = performance.now();
+    this.heard = others.map((pointed) => {
       const same = was.find((other) => JSON.stringify(other.pointed) === JSON.stringify(pointed));
       return { heardAt: same && others.length > 1 ? same.heardAt : now, pointed };
     });
@@ -58,7 +58,7 @@ export class Presence {
   /** What a member points at, if that was heard lately.
    * @param {number} member */
   of(member) {
-    const found = this.others.find(({ pointed }) => pointed.member === member);
+    const found = this.heard.find(({ pointed }) => pointed.member === member);
     return found && performance.now() - found.heardAt < STAYS ? found.pointed : null;
   }
 
@@ -91,7 +91,7 @@ export class Presence {
   /** What others of this page have begun, and a mark with their initials or names where they point. */
   paint() {
     const { session, painter } = this.board, now = performance.now();
-    for (const { heardAt, pointed: { member, page, cell, begun } } of this.others) {
+    for (const { heardAt, pointed: { member, page, cell, begun } } of this.heard) {
       if (page !== session.board.page || !cell || now - heardAt > STAYS) continue;
       const shapes = /** @type {Shape[]} */ (begun.map(shapeOf).filter((shape) => shape !== null)), [x, y] = cell;
       if (painter.isInk) this.paintInk(member, shapes, x, y);

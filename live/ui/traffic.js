@@ -16,7 +16,7 @@ export function brief({ kind, words }, asked) {
   return kind === 'draw' ? [...all.slice(0, 4), ...(asked ? [] : all.slice(5))].join(' ') : words;
 }
 
-export class Wire {
+export class Traffic {
   /** @param {import('./session.js').Session} session */
   constructor(session) {
     this.session = session;

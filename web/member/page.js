@@ -1,6 +1,6 @@
-/** The page: a board over a member of its own, in a worker. */
-import { openBoard } from '../../live/ui/board.js';
+/** The page of ./wb --page: the whiteboard over a member of its own, in a worker. */
 import { tell } from '../../live/ui/dom.js';
+import { openWhiteboard } from '../../live/ui/whiteboard.js';
 import { BUILT } from './built.js';
 import { readInvitation, writeInvitation } from './invitation.js';
 import { Panel } from './panel.js';
@@ -19,7 +19,7 @@ function begin() {
   const worker = new WorkerMember({ folder, invitation, me: kept === null ? null : Number(kept), notice: NOTICE });
   // a board that goes on is a session of another name, which the same broker carries under the same key
   const member = Object.assign(worker, { next: async (/** @type {string} */ session) => ({ ok: true, address: writeInvitation({ ...invitation, session }) }) });
-  const board = openBoard(member), panel = new Panel(invitation, BUILT);
+  const board = openWhiteboard(member), panel = new Panel(invitation, BUILT);
   board.session.on('begun', ({ me, module }) => {
     sessionStorage.setItem(place, String(me));
     panel.begun(module);

@@ -1,4 +1,4 @@
-/** What is said: the form for the title of a page, and the chat. */
+/** The chat, and the form for the title of a page. */
 import { $, make } from './dom.js';
 import { badge } from './members.js';
 import { MOST_TITLE, initialsOf } from './notes.js';
@@ -20,8 +20,8 @@ function askText(label, was, most) {
   });
 }
 
-/** @param {import('./board.js').Board} board */
-export function showPeople({ session, notes, painter }) {
+/** @param {import('./whiteboard.js').Whiteboard} board */
+export function showChat({ session, notes, painter }) {
   $('entitle').addEventListener('click', async () => {
     const { page } = session.board, title = await askText('The title of this page', session.titles.get(page) ?? '', MOST_TITLE);
     if (title !== null) notes.entitle(page, title);

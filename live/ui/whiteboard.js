@@ -1,5 +1,6 @@
-/** A board over any member: puts the parts of the page together. */
+/** The whiteboard over any member: puts the parts of the page together. */
 import { nameOf } from './cells.js';
+import { showChat } from './chat.js';
 import { listenToClipboard } from './clipboard.js';
 import { $, say, tell } from './dom.js';
 import { Faces } from './faces.js';
@@ -13,13 +14,12 @@ import { Keys } from './keys.js';
 import { Layout } from './layout.js';
 import { kindOf, showHealth, showHidden, showMembers, showWorse } from './members.js';
 import { NOTES, Notes } from './notes.js';
+import { Others } from './others.js';
 import { Painter } from './painter.js';
 import { showPages } from './pages.js';
 import { makePalette } from './palette.js';
 import { Pen } from './pen.js';
-import { showPeople } from './people.js';
 import { Pointing } from './pointing.js';
-import { Presence } from './presence.js';
 import { showProof } from './proof.js';
 import { Session } from './session.js';
 import { Sight } from './sight.js';
@@ -27,10 +27,10 @@ import { Side } from './side.js';
 import { State } from './state.js';
 import { Steps } from './steps.js';
 import { Style } from './style.js';
+import { Traffic } from './traffic.js';
 import { Typing } from './typing.js';
 import { View } from './view.js';
 import { Welcome } from './welcome.js';
-import { Wire } from './wire.js';
 
 /** @typedef {import('./types.js').Member} Member */
 /** @typedef {import('./types.js').Drawing} Drawing */
@@ -40,7 +40,7 @@ import { Wire } from './wire.js';
 /** If as many drawings come at once, they are not marked one by one. */
 const MANY = 200;
 
-export class Board {
+export class Whiteboard {
   /** @param {Member} member */
   constructor(member) {
     this.session = new Session(member);
@@ -56,9 +56,9 @@ export class Board {
     this.painter.parts = this;
     this.typing = new Typing(this);
     this.pointing = new Pointing(this.view, this.hand);
-    this.wire = new Wire(this.session);
+    this.traffic = new Traffic(this.session);
     this.files = new Files(this);
-    this.presence = new Presence(this);
+    this.others = new Others(this);
     this.film = new FilmBar(this.session, this.painter);
     this.sight = new Sight(this);
     this.faces = new Faces(this);
@@ -75,7 +75,7 @@ export class Board {
   change() {
     this.showUnder();
     this.painter.soon();
-    this.presence.soon();
+    this.others.soon();
   }
 
   // ---- what is under the hand
@@ -240,7 +240,7 @@ export class Board {
     session.on('notes', ({ colours }) => this.takeColours(colours));
     session.on('fault', tell);
     this.ink.changed = () => { this.sight.show(); this.showText(); };
-    for (const show of [showPeople, showMembers, showHealth, showHidden, showWorse]) show(this);
+    for (const show of [showChat, showMembers, showHealth, showHidden, showWorse]) show(this);
     showPages(session);
     this.listen();
     this.hand.choose('pen');
@@ -265,10 +265,10 @@ function when(time) {
   return isLikely ? date.toLocaleTimeString() : `time ${time}`;
 }
 
-/** Opens the board of a member in the page, and gives a handle on its parts for tests and for who looks in from a console.
+/** Opens the whiteboard of a member in the page, and gives a handle on its parts for tests and for who looks in from a console.
  * @param {Member} member */
-export function openBoard(member) {
-  const board = new Board(member);
+export function openWhiteboard(member) {
+  const board = new Whiteboard(member);
   Object.assign(globalThis, { wb: board });
   board.begin();
   return board;
