@@ -6,7 +6,7 @@ import fcntl
 import os
 import random
 import sys
-from collections.abc import Generator, Iterator
+from collections.abc import Generator
 from typing import Any
 
 import pytest
@@ -21,15 +21,13 @@ os.environ.pop("PYTHONUNBUFFERED", None)
 
 
 @pytest.fixture
-def facts() -> Iterator[Facts]:
-    gathered = Facts()
-    yield gathered
-    assert gathered.count, "no fact was looked at"
+def facts() -> Facts:
+    return Facts()
 
 
 @pytest.hookimpl(hookwrapper=True)  # type: ignore[misc]
 def pytest_runtest_makereport(item: pytest.Item) -> Generator[None, Any, None]:
-    """A test whose facts were not all as wanted has failed."""
+    """A test whose facts were not all as wanted has failed, and one that looked at none."""
     outcome = yield
     report = outcome.get_result()
     gathered = getattr(item, "funcargs", {}).get("facts")
@@ -37,6 +35,8 @@ def pytest_runtest_makereport(item: pytest.Item) -> Generator[None, Any, None]:
         wrong = "\n".join(f"- {line}" for line in gathered.wrong)
         before = f"{report.longreprtext}\n" if report.failed else ""
         report.outcome, report.longrepr = "failed", f"{before}{len(gathered.wrong)} of {gathered.count} facts are wrong:\n{wrong}"
+    elif report.when == "call" and gathered and report.passed and not gathered.count:
+        report.outcome, report.longrepr = "failed", "no fact was looked at"
 
 
 def pytest_addoption(parser: pytest.Parser) -> None:

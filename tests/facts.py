@@ -5,18 +5,23 @@ from __future__ import annotations
 LONGEST = 600  # characters of a value that are printed
 
 
-def told(value: object) -> str:
-    text = repr(value)
+def cut(text: str) -> str:
     return text if len(text) <= LONGEST else f"{text[:LONGEST]}.. of {len(text)}"
 
 
+def told(value: object) -> str:
+    return cut(repr(value))
+
+
 def told_apart(found: object, wanted: object) -> str:
-    """Two texts from a little before the place at which they part, and else both values."""
-    if not (isinstance(found, str) and isinstance(wanted, str)):
-        return f"{told(found)}, not {told(wanted)}"
-    same = next((at for at, (one, other) in enumerate(zip(found, wanted)) if one != other), min(len(found), len(wanted)))
-    start = max(0, same - 100)
-    return f"at {same}: {told(found[start:])}, not {told(wanted[start:])}"
+    """Both values; texts, and what is too long for one line, from a little before the place at which they part."""
+    are_texts = isinstance(found, str) and isinstance(wanted, str)
+    one, other = (str(found), str(wanted)) if are_texts else (repr(found), repr(wanted))
+    if not are_texts and max(len(one), len(other)) <= LONGEST:
+        return f"{one}, not {other}"
+    same = next((at for at, (a, b) in enumerate(zip(one, other)) if a != b), min(len(one), len(other)))
+    start, tell = max(0, same - 100), told if are_texts else cut
+    return f"at {same}: {tell(one[start:])}, not {tell(other[start:])}"
 
 
 class Facts:
@@ -32,9 +37,11 @@ class Facts:
         if found != wanted:
             self.wrong.append(f"{name}: {told_apart(found, wanted)}")
 
-    def holds(self, name: str, found: object, told: object = "") -> None:
+    def holds(self, name: str, found: object, *there: object) -> None:
         """What has to be so; if it is not, the fault says what there was."""
-        self(name, True if found else f"{told}", True)
+        self.count += 1
+        if not found:
+            self.wrong.append(f"{name}: not so, with {', '.join(map(told, there or [found]))}")
 
     def status(self) -> int:
         """Tells what was wrong, and gives the status of a command."""

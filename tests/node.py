@@ -3,6 +3,7 @@
 from __future__ import annotations
 
 import os
+import re
 import shutil
 import subprocess
 from pathlib import Path
@@ -28,4 +29,11 @@ def run_tests(file: Path, **environment: str) -> None:
         pytest.skip("this needs Node 20.14 or later")
     ran = subprocess.run([node, "--test", "--test-force-exit", file], env={**os.environ, **environment}, stdin=subprocess.DEVNULL, stdout=subprocess.PIPE,
                          stderr=subprocess.STDOUT, text=True, timeout=LONGEST, check=False)
-    assert ran.returncode == 0, ran.stdout[-20_000:]
+    if ran.returncode != 0:
+        pytest.fail(failed_in(ran.stdout)[-20_000:], pytrace=False)
+
+
+def failed_in(printed: str) -> str:
+    """What Node's runner printed of the tests that failed."""
+    each = re.split(r"^(?=# Subtest: )", printed, flags=re.MULTILINE)
+    return "".join(part for part in each if re.search(r"^not ok ", part, re.MULTILINE)) or printed

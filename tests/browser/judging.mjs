@@ -144,6 +144,8 @@ async function testReports() {
   check('a page state reports, too', missing(member), 2);
   const came = member.host.told.filter((line) => line.startsWith('came ')).map((line) => line.split(' '));
   check('the host hears from where each comes, and its bytes', [came.map((line) => line[2]), new TextDecoder().decode(unhex(came[2][3]))], [[...Array(5).fill(wordOf(X)), wordOf(Y), wordOf(X)], drawing(7, 2)]);
+  await heed(member, 'page-state 9 7/1 1=9');
+  check('what a report tells of our own number is not missing', missing(member), 2);
   member.says('dropped datagram');
   check('also what is no datagram', await member.judging.heed(null, new Uint8Array([87, 66]), X), { sent: [], refused: 'no datagram' });
 }
@@ -321,6 +323,49 @@ async function testRoom() {
   check('it is full', told(), 'the board is full: 969 of 1000 cells; deletes and restores alone have room');
 }
 
+/** One cell in 16 is kept: of what people draw, names, titles and the chat alone have room there, and deletes and restores. */
+async function testKeptCells() {
+  const member = memberOf(), { host, people, drawn } = member, drawings = ['line 0 0 1 1 *', 'frame 0 0 1 1 *', 'text 0 0 "a"'], others = ['delete 1 1', 'restore 1 1'];
+  const fates = async (total, page, operations) => {
+    const found = [];
+    for (const operation of operations) {
+      drawn.total = total;
+      found.push(await people.drawNow(page, operation).then(() => 'drawn', ({ message }) => message));
+    }
+    return found;
+  };
+  host.said.add = [`record say ${drawing(1, 1)}`, 'drew 1 7 1 1', 'became new'];
+  check('up to them people draw', await fates(937, '7/1', drawings), ['drawn', 'drawn', 'drawn']);
+  check('no more from there on', await fates(938, '7/1', drawings), ['full', 'full', 'full']);
+  check('but for deletes and restores', await fates(938, '7/1', others), ['drawn', 'drawn']);
+  check('and for names, titles and the chat', await fates(938, '0/0', drawings), ['drawn', 'drawn', 'drawn']);
+}
+
+/** Until the member may draw, 1,024 drawings wait. */
+async function testWaiting() {
+  const member = memberOf({ isReady: false }), { host, people } = member;
+  member.wake = () => {};
+  host.said.add = [`record say ${drawing(1, 1)}`, 'drew 1 7 1 1', 'became new'];
+  const fates = Array.from({ length: 1_025 }, () => people.draw('7/1', 'line 0 0 1 1 *').then(({ seq }) => seq, ({ message }) => message));
+  for (const call of people.calls.splice(0)) await call();
+  check('one more is refused at once', [people.draws.length, await fates.pop()], [1_024, 'busy']);
+  await people.begin();
+  check('then all that waited are drawn', [people.draws.length, [...new Set(await Promise.all(fates))]], [0, [1]]);
+}
+
+/** A new page of ours is the first that nobody drew on or told of; one that is empty yet is new enough. */
+function testNewPage() {
+  const member = memberOf(), { drawn, people, telling } = member;
+  for (const page of ['1/1', '1/3', '8/2']) drawn.add(drawopOf(`draw 7 ${page} 1 10 line 0 1 4 1 *`));
+  check('the first that is free', people.newPage(), '1/2');
+  telling.reported.tell({ source: 8, page: '1/2', seq: 1 });
+  check('not one that somebody told of', people.newPage(), '1/4');
+  member.page = '1/1';
+  check('another than one that is drawn on', people.newPage(), '1/4');
+  member.page = '1/9';
+  check('one that is empty yet', people.newPage(), '1/9');
+}
+
 /** What we drew last goes out again when it is due, unless we heard of it; that we ask for something tells of losses. */
 async function testLast() {
   const member = memberOf(), { judging } = member, repeated = [], [one, two] = [1, 2].map((byte) => new Uint8Array([byte]));
@@ -358,6 +403,40 @@ async function testPages() {
   check('of too many the host says which', [host.told, member.pages.pages.length, member.pages.pages[4].page, member.pages.pages.at(-1).page], [['list 1000'], 1_000, '0/502', '0/1497']);
 }
 
+/** The health of a page in one phrase: what is missing, for a minute that it has caught up, and whether anybody else is heard. */
+async function testHealth() {
+  const member = Object.assign(memberOf(), { at: SECOND, inbox: { dropped: 0 }, transport: { state: '' } }), { telling } = member, lost = { source: 7, page: '7/1', seq: 2 };
+  const phrase = () => {
+    telling.tellHealth();
+    return member.health.phrase;
+  };
+  check('alone', phrase(), 'whole; nobody else is heard');
+  telling.reported.tell(lost);
+  check('a number is missing', phrase(), '1 missing');
+  telling.reported.come(lost);
+  check('it has come', phrase(), 'caught up 0 s ago');
+  member.at += 59 * SECOND;
+  check('that is told for a minute', phrase(), 'caught up 59 s ago');
+  member.at += SECOND;
+  check('and no longer', phrase(), 'whole; nobody else is heard');
+  await meet(member);
+  check('beside a member', phrase(), 'whole');
+  member.transport.state = 'the broker is gone';
+  check('without a network', [phrase(), member.health.carried], ['the broker is gone', false]);
+}
+
+/** What sixteen pages show is remembered, as long as the host is the same. */
+function testShowings() {
+  const { telling, board } = memberOf(), first = telling.showing('7/1'), look = (from, to) => { for (let number = from; number <= to; number += 1) telling.showing(`7/${number}`); };
+  look(2, 16);
+  check('of sixteen', telling.showing('7/1') === first, true);
+  look(17, 32);
+  const second = telling.showing('7/1');
+  check('of more the one goes that was looked at longest ago', [second === first, telling.showings.size], [false, 16]);
+  board.host = new Answering();
+  check('of another host nothing', [telling.showing('7/1') === second, telling.showings.size], [false, 1]);
+}
+
 /** Of too many who are heard the board gets those first that have answered us. */
 async function testMembers() {
   const member = memberOf();
@@ -369,7 +448,7 @@ async function testMembers() {
   check('by their numbers', [member.members.members.length, member.members.members.slice(-2)], [500, [{ member: 500, distance: null, heard: 0 }, { member: 900, distance: 0.002, heard: 0 }]]);
 }
 
-const TESTS = [testOrigins, testReports, testWarnings, testClash, testRefused, testRecord, testHeard, testMoves, testFollowed, testPatience, testTime, testRoom, testLast, testPages, testMembers];
+const TESTS = [testOrigins, testReports, testWarnings, testClash, testRefused, testRecord, testHeard, testMoves, testFollowed, testPatience, testTime, testRoom, testKeptCells, testWaiting, testNewPage, testLast, testPages, testHealth, testShowings, testMembers];
 
 export async function testJudging() {
   for (const test of TESTS) await test();

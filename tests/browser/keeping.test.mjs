@@ -10,6 +10,7 @@ import { Inbox } from '../../web/member/inbox.js';
 import { Member } from '../../web/member/member.js';
 import { numberOf } from '../../web/member/origins.js';
 import { FIRST_LINE, Record, actsOf } from '../../web/member/record.js';
+import { drawopOf } from '../../web/member/views.js';
 import { check } from '../check.mjs';
 import { testShowing } from './showing.mjs';
 
@@ -117,6 +118,9 @@ async function testClock(program) {
     starts.push(board.moment - 2 ** 47);
     check('it goes on from there', [board.now() > board.moment, board.now() - board.moment < 60 * SECOND], [true, true]);
   }
+  const { board } = await boardOf(program, new Record(null, 'here', 7));
+  board.base = -Number.MAX_SAFE_INTEGER;
+  check('no moment is that of a line before', board.now(), board.moment + 1);
   check('four starts are minutes apart, within a part of the moments that are left', [Math.min(...starts) >= 0, Math.max(...starts) - Math.min(...starts) > 60 * SECOND, Math.max(...starts) < 2 ** 38],
     [true, true, true]);
 }
@@ -171,6 +175,20 @@ async function testEnds(program) {
   check('and draws', (await board.draw(PAGE, 'line 0 1 4 1 +')).drawop.name, '5 1/1 1');
 }
 
+/** A host that breaks off is started again, but not after the fourth time within a minute. */
+async function testStarts(program) {
+  const { board } = await boardOf(program, new Record(null, 'here', 1));
+  const breakOff = () => {
+    new DataView(board.host.memory.buffer).setUint32(Number(board.host.place), BEYOND, true);
+    return nextOf(board).catch((it) => it.constructor.name);
+  };
+  check('three times', [await breakOff(), await breakOff(), await breakOff(), await nextOf(board)], ['HostEnded', 'HostEnded', 'HostEnded', 1]);
+  board.ends = board.ends.map((end) => end - 60_000);
+  check('and three times more a minute later', [await breakOff(), await breakOff(), await breakOff(), await nextOf(board)], ['HostEnded', 'HostEnded', 'HostEnded', 1]);
+  check('not the fourth time', [await breakOff(), board.host], ['BoardFault', null]);
+  check('then there is no host', await nextOf(board).catch((it) => it.message), 'there is no host');
+}
+
 /** What is to be recorded is in the record before anything is sent; and while it can't be written, what others draw is shown all the same. */
 async function testBefore(program) {
   const record = new Record(null, 'here', 1), { board } = await boardOf(program, record), written = [], put = record.write;
@@ -191,8 +209,8 @@ async function testBefore(program) {
 // ---- what comes in
 
 /** A member that nothing runs: what comes in is handed to it one by one. */
-async function quietOf(program, { mayHaveDrawn = false, strangers = null } = {}) {
-  const sent = [], transport = { where: 'here', state: '', here: null, strangers, end: () => {}, send: (bytes) => sent.push(readDatagram(bytes)) };
+async function quietOf(program, { mayHaveDrawn = false, strangers = null, here = null } = {}) {
+  const sent = [], transport = { where: 'here', state: '', here, strangers, end: () => {}, send: (bytes) => sent.push(readDatagram(bytes)) };
   const options = { notice: '', teach: false, start: { ...START, cells: 1_000, mayHaveDrawn } };
   const member = new Member(program, new Record(null, 'here', 1), 1, new Inbox(), transport, options, (name, news) => { member[`told ${name}`] = news; });
   await member.open();
@@ -200,10 +218,13 @@ async function quietOf(program, { mayHaveDrawn = false, strangers = null } = {})
 }
 
 /** Why each datagram that comes in from there changes nothing, or null if it is taken. */
-async function told(program, member, place, ...many) {
+const told = (program, member, place, ...many) => toldBy(program, member, { place, owner: null }, ...many);
+
+/** The same of an origin. */
+async function toldBy(program, member, origin, ...many) {
   const said = [];
   for (const bytes of await bytesOf(program, ...many)) {
-    await member.arrive({ bytes, origin: { place, owner: null }, isLost: false, isSecond: false });
+    await member.arrive({ bytes, origin, isLost: false, isSecond: false });
     said.push(member.wire.taken().filter(({ way }) => way === 'in').at(-1).refused);
   }
   return said;
@@ -256,6 +277,20 @@ async function testRoom(program) {
   check('under a key a stranger has no share, and nobody is warned of newcomers', [await told(program, sealed, 'x', ...drawings(7, 1, 1)), sealed.alarms.told()], [['over the share of strangers'], []]);
 }
 
+/** Until somebody turns, the page in view is the first that is drawn on, but for the one of names. */
+async function testPageInView(program) {
+  const member = await quietOf(program), after = (page, seq) => {
+    member.hold(drawopOf(`draw 8 ${page} ${seq} 10 line 0 1 4 1 *`));
+    return member.page;
+  };
+  const first = member.page;
+  check('names are on no page to look at', after('0/0', 1), first);
+  check('the first', after('8/2', 1), '8/2');
+  check('no other afterwards', after('8/3', 1), '8/2');
+  member.turnTo('7/4');
+  check('nor from the one that somebody has turned to', after('8/3', 2), '7/4');
+}
+
 /** Nobody moves our time, and what is drawn ahead of it is taken of members alone, a day at most. */
 async function testTime(program) {
   const member = await quietOf(program), ahead = (source, seq, seconds) => drawings(source, seq, seq, (Date.now() + seconds * 1_000) * 1_000)[0];
@@ -267,6 +302,19 @@ async function testTime(program) {
   check('our time is ours', Math.abs(member.drawn.find(`1 5/1 ${seq}`).time - Date.now() * 1_000) < SECOND, true);
   await member.people.drawNow(PAGE, 'line 0 0 1 1 *');
   check('and what we draw lies above theirs', (await viewOf(member.board)).at(-1).source, 1);
+}
+
+/** If the network keeps names, nobody speaks under a number of another, or under ours. */
+async function testNames(program) {
+  const member = await quietOf(program, { here: 'anna' }), [bob, eve] = ['bob', 'eve'].map((name) => ({ place: `wb/${name}`, owner: name }));
+  const [, , moment] = (await reportOf(member)).split(' '), refused = 'under the number of another';
+  check('a number is his who speaks first under it', await toldBy(program, member, bob, 'session-message 2 5 1/1'), [null]);
+  const forged = ['session-message 2 6 1/1', `session-message 2 7 1/1 1@${moment}+0`, 'page-state 2 1/1 2=900', 'request 2 1 1/1 1', 'ask-pages 2', `session-message 1 77 1/1 1@${moment}+0`, 'page-state 1 1/1 1=9'];
+  check('another name does not speak under it, or under ours', await toldBy(program, member, eve, ...forged), forged.map(() => refused));
+  check('nobody takes that for a member who has our number', [member.judging.hasTwin, (await member.people.drawNow(PAGE, 'line 0 0 1 1 *')).seq], [false, 1]);
+  check('people hear of it', member.alarms.told(), [2, 1].map((number) => `somebody else speaks under the number of member ${number}: that is not heeded`));
+  check('he goes on under his number', await toldBy(program, member, bob, `session-message 2 8 1/1 1@${moment}+0`), [null]);
+  check('what he drew may come of any member', await toldBy(program, member, eve, ...drawings(2, 1, 1), `session-message 3 5 1/1 1@${moment}+0`, ...drawings(2, 1, 1)), [refused, null, null]);
 }
 
 // ---- a session
@@ -339,9 +387,9 @@ async function testStrangers(program) {
   const of = (member, source) => member.drawn.all().filter((drawop) => drawop.source === source).length;
   check('a member holds all that another drew, above every share', await comes(() => of(one, 12) === 90) || of(one, 12), true);
   check('and of a stranger no more than his share, beside what the other repaired', [of(one, 900) <= 32 || of(one, 900), one.board.strange.size <= 62, one.board.strange.size > 0], [true, true, true]);
-  const before = [...one.board.strange].sort();
   await one.end();
   await one.running;
+  const before = [...one.board.strange].sort(); // until then more may come
   const again = await memberOf(program, network, 11, one.board.record);
   check('a start knows what strangers gave', [...again.board.strange].sort(), before);
   for (const member of [again, other]) await member.end();
@@ -387,4 +435,4 @@ async function testTwins(program) {
 }
 
 const program = new Program(await WebAssembly.compile(fs.readFileSync(file)), false);
-for (const each of [testOld, testLines, testBegun, testMarks, testClock, testDraw, testShowing, testNoRoom, testEnds, testBefore, testOwnMarks, testRoom, testTime, testSession, testStrangers, testTail, testTwins]) test(each.name.slice('test'.length), () => each(program));
+for (const each of [testOld, testLines, testBegun, testMarks, testClock, testDraw, testShowing, testNoRoom, testEnds, testStarts, testBefore, testOwnMarks, testRoom, testPageInView, testTime, testNames, testSession, testStrangers, testTail, testTwins]) test(each.name.slice('test'.length), () => each(program));

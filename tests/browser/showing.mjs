@@ -82,4 +82,10 @@ async function testLate(program) {
   check('a delete, a restore and a drawing at once', await at.renew(), [['7 7/1 1', '9 7/1 1'], [[0, '9 7/1 2'], [1, '9 7/1 1']], ['7 7/1 1']]);
   check('each stands where it belongs', [at.shown(), at.hidden()], [['9 7/1 2', '9 7/1 1', '7 7/1 2'], ['7 7/1 1']]);
   check('nothing is new', await at.renew(), [[], [], []]);
+  for (const words of ['draw 7 7/1 4 12 line 0 0 1 1 *', 'draw 8 7/1 4 100 delete 7 4']) at.drawn.add(drawopOf((await at.board.tell(`held ${words}`), words)));
+  check('one that comes with its delete was not there before', await at.renew(), [[], [], ['7 7/1 4']]);
+  const both = await AtHost.with(program, first, second);
+  for (const words of ['draw 8 7/1 1 200 delete 7 1', 'draw 8 7/1 2 201 delete 7 2', 'draw 8 7/1 3 202 restore 7 1', 'draw 8 7/1 4 203 delete 7 1']) both.drawn.add(drawopOf((await both.board.tell(`held ${words}`), words)));
+  await both.renew();
+  check('what was deleted last is the last that is hidden', both.hidden(), ['7 7/1 2', '7 7/1 1']);
 }

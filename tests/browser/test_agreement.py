@@ -15,12 +15,12 @@ from ..node import find_node
 from ..host.program import TOP, program
 from ..facts import Facts
 from ..host import faults
-from ..host.conversations import parted
+from ..host.conversations import first_difference, parted
 from ..host.scripts import Writer
 from ..host.sessions import Session, spoiled
 from ..host.test_judged import CONVERSATIONS as JUDGED
 from ..host.test_judged import JudgedSession
-from ..host.test_kept import DRAWING, KeptSession, first_difference
+from ..host.test_kept import DRAWING, KeptSession
 from ..seeds import seeds
 
 HERE = Path(__file__).resolve().parent

@@ -64,7 +64,7 @@ def check_live(facts: Facts, browser: Ordinary, program: str, invitation: str, w
 def draw_with_live(facts: Facts, live: Window, windows: list[Window]) -> None:
     facts.holds("its page is ready", live.is_ready(), live.health())
     before, chance, all_three = windows[0].drawings(), random.Random(8), [*windows, live]
-    live.go_to(str(windows[0].page.value("wb.session.board.page")))
+    facts.holds("it turns to the page of the others", live.go_to(str(windows[0].page.value("wb.session.board.page"))), live.health())
     for window in all_three:
         facts("drawings are taken", window.draw_all([some_drawing(chance) for _ in range(DRAWINGS)]))
     began = time.monotonic()

@@ -15,7 +15,7 @@ HERE = Path(__file__).resolve().parent
 CHECKS = ["--noEmit", "--allowJs", "--checkJs", "--strict", "--target", "es2022", "--module", "es2022", "--moduleResolution", "node"]
 
 
-@pytest.mark.parametrize("start, names", [("worker.js", "es2022,webworker,webworker.iterable"), ("start.js", "es2022,dom,dom.iterable")])
+@pytest.mark.parametrize("start, names", [("worker.js", "es2022,webworker,webworker.iterable"), ("page.js", "es2022,dom,dom.iterable")])
 def test_types(start: str, names: str) -> None:
     """Those of the worker, and those of the page."""
     words = [found("node-typescript", "tsc"), *CHECKS, "--lib", names, str(TOP / "web/member" / start), str(HERE / "newer.d.ts")]

@@ -160,11 +160,10 @@ def check_alone(facts: Facts, browser: Ordinary, folder: Folder) -> None:
 def measure(facts: Facts, browser: Ordinary, folder: Folder) -> None:
     """Milliseconds from the release of the mouse in one tab to the paint in the other."""
     windows = [Window(browser, folder.address("#session=quick")) for _ in range(2)]
-    for window in windows:
-        window.is_ready()
+    facts("two tabs are ready", [window.is_ready() for window in windows], [True, True])
     windows[0].page.value("addEventListener('pointerup', () => { window.released = performance.timeOrigin + performance.now(); }, true); 0")
     windows[1].draw("text 0 0 \"-\"")
-    windows[0].shows(0, 0, "-")
+    facts("one shows what the other drew", windows[0].shows(0, 0, "-"))
     taken = []
     for row in range(2, 2 + ROUNDS):
         windows[1].page.value(f"""window.seen = new Promise((take) => {{

@@ -144,6 +144,11 @@ function takeAll(clock) {
   };
   const [first] = [1 + taken(), clock.at += 10], second = taken();
   check('a hundred come at once, and then two in each millisecond', [Math.abs(first - 100) <= 1, Math.abs(second - 20) <= 1], [true, true]);
+  inbox.waiting = [];
+  clock.at += 1_000;
+  for (let i = 0; i < 20; i += 1) inbox.take(new Uint8Array(10_000), NOWHERE);
+  const large = [taken(), clock.at += 10, taken()];
+  check('of large ones as many as a megabyte a second has', [large[0], large[2]], [6, 1]);
   inbox.worse = { lose: 1, delay: 0, twice: 0, mix: false };
   inbox.waiting = [];
   inbox.take(new Uint8Array(1), NOWHERE);

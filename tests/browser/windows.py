@@ -5,7 +5,7 @@ import json
 import time
 from typing import Any
 
-from ..live.browser import PATIENCE, Browser, Page
+from ..live.browser import PATIENCE, Browser, Missed, Page
 from ..ui.sheets import BY_CELLS
 
 # switches that keep a hidden page's clock going, which nobody's browser has
@@ -39,16 +39,16 @@ class Window:
         if size == PHONE:
             self.page.resize(*size, mobile=True)
 
-    def is_ready(self, seconds: float = PATIENCE) -> bool:
+    def is_ready(self, seconds: float = PATIENCE) -> bool | Missed:
         return self.page.wait("wb.session.hello.ready", seconds)
 
-    def reload(self) -> bool:
+    def reload(self) -> bool | Missed:
         """Loads the page anew. Whether it comes to be ready."""
         self.page.value("window.isOld = true; 0")
         self.page.call("Page.reload")
         return self.page.wait("!window.isOld && wb.session.hello.ready")
 
-    def says(self, name: str, text: str) -> bool:
+    def says(self, name: str, text: str) -> bool | Missed:
         """Whether an element of the page comes to have a text in it."""
         return self.page.wait(f"document.getElementById({json.dumps(name)}).textContent.includes({json.dumps(text)})")
 
@@ -88,11 +88,11 @@ class Window:
     def drawings(self) -> int:
         return int(self.page.value("wb.session.board.drawops.length"))
 
-    def shows(self, x: int, y: int, text: str, seconds: float = PATIENCE) -> bool:
+    def shows(self, x: int, y: int, text: str, seconds: float = PATIENCE) -> bool | Missed:
         """Whether a row comes to show a text from a column on."""
         return self.page.wait(f"(wb.session.board.rows[{y}] ?? '').padEnd(300).substr({x}, {len(text)}) === {json.dumps(text)}", seconds)
 
-    def go_to(self, page: str) -> bool:
+    def go_to(self, page: str) -> bool | Missed:
         self.page.value(f"wb.session.goToPage({json.dumps(page)}); 0")
         return self.page.wait(f"wb.session.board.page === {json.dumps(page)}")
 

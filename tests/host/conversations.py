@@ -29,3 +29,18 @@ def documented(document: str, kind: str = HOST) -> list[str]:
         elif inside:
             found[-1] += line + "\n"
     return found
+
+
+def first_difference(given: str, printed: str, wanted: str) -> str:
+    """The first line that a host printed otherwise than wanted, and for which line that it was given; or nothing."""
+    if printed == wanted:
+        return ""
+    lines, found, listed = given.splitlines(), [*printed.split("\n"), None], [*wanted.split("\n"), None]
+    number = next(number for number, (one, other) in enumerate(zip(found, listed)) if one != other)
+    block = sum(line is not None and line.startswith(("ok ", "refused ")) for line in listed[:number])
+    what = f"{lines[block][:60]!r}" if block < len(lines) else "its end"
+    return f"line {block + 1} of {len(lines)}, {what}: it printed {told(found[number])}, and not {told(listed[number])}"
+
+
+def told(line: str | None) -> str:
+    return "no more" if line is None else f"{line[:90]!r}"

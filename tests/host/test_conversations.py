@@ -7,10 +7,11 @@ import random
 
 import pytest
 
+from .conversations import first_difference
 from .program import host
 from .sessions import Session
 from .test_judged import JudgedSession
-from .test_kept import KeptSession, first_difference
+from .test_kept import KeptSession
 
 pytest.importorskip("hypothesis", reason="there is no hypothesis here (apt-get install python3-hypothesis)")
 

@@ -8,7 +8,7 @@ import sys
 
 import pytest
 
-from .conversations import documented, parted
+from .conversations import documented, first_difference, parted
 from .program import PATIENCE, TOP, host, program
 
 SENT = """\
@@ -56,7 +56,7 @@ def conversations() -> list[tuple[str, int, str]]:
 def test_conversation(conversation: str) -> None:
     """It is what the program answers."""
     given, printed = parted(conversation)
-    assert host(given) == printed
+    assert first_difference(given, host(given), printed) == ""
 
 
 @pytest.mark.parametrize("page, least", PAGES.items())

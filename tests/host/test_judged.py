@@ -10,14 +10,14 @@ import pytest
 from ..judging import reference
 from ..seeds import seeds
 from . import datagrams
-from .conversations import JUDGED_HOST, documented, parted
+from .conversations import JUDGED_HOST, documented, first_difference, parted
 from .datagrams import Echo, Words, drawop, session
 from .judged import Judged, paged
 from .model import Drawop, Name
 from .policy import AskPages, Datagram, Kept, Message, Refused, Request, State, digits_of
 from .program import TOP, close, host
 from .sessions import ME, MEMBERS, NUMBERS, PAGES, Session
-from .test_kept import ACTING, FORGED, PAGE, QUESTION, REPORT, SEED, TURN, asked_at, first_difference, questions
+from .test_kept import ACTING, FORGED, PAGE, QUESTION, REPORT, SEED, TURN, asked_at, questions
 
 LINES = 300
 WALL = 1_764_000_000_000_000  # the time of day at the moment 0

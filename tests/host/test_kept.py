@@ -11,7 +11,7 @@ import pytest
 
 from ..seeds import seeds
 from . import datagrams
-from .conversations import parted
+from .conversations import first_difference, parted
 from .datagrams import Echo, Mark, Page, Words, drawn, drawop, session
 from .model import Drawop, Name
 from .policy import AskPages, Datagram, Kept, Message, Refused, Request, State, digits_of
@@ -431,7 +431,7 @@ MISTYPED = {
 @pytest.mark.parametrize("conversation", [pytest.param(it, id=name) for table in (DRAWING, TELLING, ASKING) for name, it in table.items()])
 def test_kept(conversation: str) -> None:
     given, printed = parted(conversation)
-    assert host(given) == printed
+    assert first_difference(given, host(given), printed) == ""
 
 
 def test_refused() -> None:
@@ -723,14 +723,3 @@ def test_crowd() -> None:
 def test_random(seed: int) -> None:
     given, printed = KeptSession(random.Random(seed)).conversation()
     assert first_difference(given, host(given), printed) == ""
-
-
-def first_difference(given: str, said: str, wanted: str) -> str:
-    """The first line that is printed otherwise than wanted, or nothing."""
-    if said == wanted:
-        return ""
-    for number, (one, other) in enumerate(zip(said.splitlines() + [""], wanted.splitlines() + [""])):
-        if one != other:
-            block = sum(line.startswith(("ok ", "refused ")) for line in wanted.splitlines()[:number])
-            return f"block {block} of {given.splitlines()[block][:60]}: {one[:90]} for {other[:90]}"
-    return "longer"

@@ -5,7 +5,7 @@ from __future__ import annotations
 import pytest
 
 from . import datagrams
-from .conversations import parted
+from .conversations import first_difference, parted
 from .datagrams import drawn, drawop, session
 from .program import close, host
 from .scripts import PAGES, Writer
@@ -488,7 +488,7 @@ ok never
 @pytest.mark.parametrize("conversation", [pytest.param(it, id=name) for table in (ARRIVALS, TIMERS, OWN) for name, it in table.items()])
 def test_line(conversation: str) -> None:
     given, printed = parted(conversation)
-    assert host(given) == printed
+    assert first_difference(given, host(given), printed) == ""
 
 
 def test_spellings() -> None:

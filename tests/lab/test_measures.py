@@ -4,7 +4,7 @@ from __future__ import annotations
 
 import math
 
-from laboratory.intervals import are_apart, bound, difference, estimate, quantile, quartiles, within
+from laboratory.intervals import bound, difference, estimate, quantile, quartiles, within
 from laboratory.measures import Book, Loss, Row, row_of
 from laboratory.program import program
 from laboratory.reading import Datagram, Reader
@@ -74,8 +74,6 @@ def test_differences_are_of_pairs() -> None:
     one, other = [101, 202, 101, 202], [100, 200, 100, 200]
     found = difference(one, other)
     assert found is not None and found.mean == 1.5 and abs(found.half - 3.18245 * math.sqrt(1 / 12)) < 0.0001, found
-    assert are_apart(one, other) and not are_apart([1, 2, 1, 2], [2, 1, 2, 1]), "apart"
-    assert not are_apart(one, one), "the same"
 
 
 def test_quartiles_are_values() -> None:

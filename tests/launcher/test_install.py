@@ -19,7 +19,7 @@ share/doc/wb/LICENCE
 share/man/man1/wb-live.1
 share/man/man1/wb.1
 share/wb/live/main.py
-share/wb/live/ui/board.js
+share/wb/live/ui/whiteboard.js
 share/wb/python/wb/__init__.py
 share/wb/wb
 share/wb/wb-live
@@ -31,7 +31,7 @@ share/wb/wbhost.py
 def with_live(checkout: Checkout) -> Checkout:
     for name in ("wb-live", "wbhost.py"):
         shutil.copy(TOP / name, checkout.top)
-    checkout.write("live/ui/board.js", "")
+    checkout.write("live/ui/whiteboard.js", "")
     shutil.copytree(TOP / "python", checkout.top / "python", ignore=shutil.ignore_patterns("__pycache__"))
     checkout.write("live/main.py", "import wbhost\ndef main(words): print(wbhost.find_program(), *words)")
     return checkout

@@ -2,6 +2,7 @@
 from __future__ import annotations
 
 import base64
+import contextlib
 import fcntl
 import json
 import os
@@ -142,6 +143,19 @@ class Browser:
         return page
 
 
+class Missed:
+    """What a page did not come to show in time: it is false, and tells what the page had."""
+
+    def __init__(self, told: str) -> None:
+        self.told = told
+
+    def __bool__(self) -> bool:
+        return False
+
+    def __repr__(self) -> str:
+        return self.told
+
+
 class Page:
     """A window of the browser."""
 
@@ -173,14 +187,28 @@ class Page:
             raise BrowserFault(told.get("exception", {}).get("description") or told["text"])
         return answer["result"].get("value")
 
-    def wait(self, expression: str, seconds: float = PATIENCE) -> bool:
+    def wait(self, expression: str, seconds: float = PATIENCE) -> bool | Missed:
         """Whether an expression comes to be true within the seconds."""
         end = time.monotonic() + seconds
         while not self.holds(expression):
             if time.monotonic() > end:
-                return False
+                return Missed(f"no {expression} within {seconds:g} s: {self.parts_of(expression)}")
             time.sleep(0.02)
         return True
+
+    def until(self, expression: str) -> None:
+        """Waits for an expression to be true. BrowserFault if it never is."""
+        came = self.wait(expression)
+        if not came:
+            raise BrowserFault(str(came))
+
+    def parts_of(self, expression: str) -> str:
+        """What the parts of an expression are now, of a comparison its left side. A part that is cut in the middle has no value."""
+        told = []
+        for part in (each.split(" === ")[0] for each in expression.split(" && ")):
+            with contextlib.suppress(BrowserFault):
+                told.append(f"{part} is {json.dumps(self.value(part))}")
+        return ", ".join(told)
 
     def holds(self, expression: str) -> bool:
         """Whether an expression is true now; a page that is being loaded has no answer yet."""

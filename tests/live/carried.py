@@ -17,14 +17,18 @@ from .test_hostile import asking, drawn, framed, session, state
 from .members import PATIENCE, Process
 from .mosquitto import BrokerFiles
 from .test_sessions import PAGES, Session, draw_together
+from .test_strangers import AHEAD, FORGED, draws, is_near
 
 MEMBERS = 8
 DRAWOPS = 8
 OUTAGE = 10.0
 NAME = "class-7"
 
-# whom somebody speaks for, and the number of nobody
-VICTIM, NOBODY = 3, 999
+# for whom somebody speaks, for whom he draws, and the number of nobody
+VICTIM, VICTIMS, NOBODY = 3, (2, 3), 999
+
+# a page that nobody draws on but in this test
+BESIDE = "5/1"
 
 
 class Carried(Session):
@@ -83,7 +87,21 @@ def check_impostor(facts: Facts, held: Carried) -> None:
                 came[entry["kind"]].append(entry["refused"])
         facts("and each kind of it is dropped by member %d" % member.me, {kind: set(faults) for kind, faults in came.items()}, {kind: {"speaks for another"} for kind in forged})
     facts("nobody takes him for a twin", [member.states["hello"]["twin"] for member in held.members], [False] * MEMBERS)
+    check_forger(facts, held, mallory)
     mallory.end()
+
+
+def check_forger(facts: Facts, held: Carried, mallory: Sealed) -> None:
+    """He draws under the numbers of two members, tomorrow."""
+    for number in range(1_000, 1_020):
+        for victim in VICTIMS:
+            mallory.send(drawn(victim, number, time.time_ns() // 1000 + AHEAD, 9, b"t", FORGED))
+        time.sleep(0.02)
+    for member in held.members:
+        why = {entry["refused"] for entry in list(member.entries) if entry["from"] == "mallory" and entry["kind"] == "draw" and not entry["lost"]}
+        wanted = {"speaks for another", "our own number"} if member.me in VICTIMS else {"speaks for another"}
+        facts("what somebody draws for others is dropped by member %d" % member.me, why, wanted)
+    facts("and all draw by the time of day", [is_near(draws(member, BESIDE)) for member in held.members], [(200, True)] * MEMBERS)
 
 
 def check_strangers(facts: Facts, held: Carried) -> None:

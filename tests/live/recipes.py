@@ -57,7 +57,7 @@ def follow(lines: List[str], environment: Dict[str, str]) -> List[Process]:
 
 def check_recipe(facts: Facts, start: str, environment: Dict[str, str]) -> None:
     lines = recipe(start)
-    facts("%s at most five lines" % start, 0 < len(lines) <= 5, True)
+    facts.holds("%s at most five lines" % start, 0 < len(lines) <= 5, lines)
     members = follow(lines, environment)
     try:
         facts("%s two members" % start, len(members), 2)

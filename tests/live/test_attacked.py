@@ -139,7 +139,7 @@ def check_attacked(facts: Facts, count: int, seconds: float, speed: int) -> None
             facts("%d attacked: the page is served" % count, served, [200] * count)
             facts("%d attacked: nothing that is drawn is refused" % count, drawing.faults[:3], [])
             if os.environ.get("WB_MEASURE"):
-                facts("%d attacked: a drawing takes at most %g s: %.2f" % (count, LATEST, late), late < LATEST, True)
+                facts.holds("%d attacked: a drawing takes at most %g s: %.2f" % (count, LATEST, late), late < LATEST, late)
             facts("%d attacked: all come to be whole and equal" % count, wait_until_equal(records, set(numbers), LONGEST), True)
             print("%d members, %d datagrams in %d s: %d drawings, each in %.2f s at most; equal %.0f s after it; load %.0f" % (
                 count, attacks.sent, seconds, len(drawing.times), late, time.monotonic() - began, os.getloadavg()[0]))

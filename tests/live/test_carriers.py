@@ -27,7 +27,7 @@ from live.carriers.mqtt import GONE, MOST_WAITING, Broker, Login, MqttCarrier
 from live.carriers.udp import Group, Peers, Ports
 from live.carriers.worse import Worse
 from live.inbox import Inbox
-from live.invitation import InvitationFault, read_broker, read_invitation, write_broker, write_invitation
+from live.invitation import InvitationFault, read_broker, read_invitation, write_invitation
 from live.keys import KeyFault, key_bytes, new_key, read_key, write_key
 from live.options import read_options
 from live.packages import advice
@@ -103,6 +103,7 @@ def test_worse(facts: Facts) -> None:
         wire, inbox = Wire(), Inbox()
         Worse(wire, read_options(words.split())).begin(inbox)
         wire.inbox.arrive(data, HOME)
+        inbox.budget = 1.0  # the pace lets both come at once
         return inbox.take(0)[1]
 
     facts("a carrier that is not made worse", [(each.is_lost, each.is_second, each.origin) for each in arrived("")], [(False, False, HOME)])
@@ -270,8 +271,8 @@ def test_invitations(facts: Facts) -> None:
     facts("of peers there is none", fault_of(lambda: line("--listen 127.0.0.1:1 --peer 127.0.0.1:2")).startswith("peers are named one by one"), True)
     browser = read_options(["https://page.example/#session=x&broker=wss%3A%2F%2Fanna%3Ase%2540cret%40h%2Fmqtt&lose=0.3"])
     facts("a browser's line may have a login", (browser.broker, browser.login, browser.lose), (Broker("wss", "h", 443, "/mqtt"), Login("anna", "se@cret"), 0.0))
-    broker, _, given = read_broker(write_broker(Broker("wss", "h", 443, "/mqtt"), Login("a b", "p@:/x")))
-    facts("which is read as it was written", (broker, given), (Broker("wss", "h", 443, "/mqtt"), Login("a b", "p@:/x")))
+    broker, _, given = read_broker("wss://a%20b:p%40%3A%2Fx@h/mqtt")
+    facts("with any letters", (broker, given), (Broker("wss", "h", 443, "/mqtt"), Login("a b", "p@:/x")))
     for wrong in ("wb:", "wb:#", "wb:#session=a+b&ports=25000", "wb:#session=x", "wb:#broker=wss://h&key=short", "wb:#broker=http://h", "wb:#lan=x", "wb:#ports=0", "wb:#lan=239.1.2.3:44\u00b3",
                   "wb:#lan=239.1.2.3:1&ports=25000"):
         facts("no invitation: " + wrong, status_of([wrong]), 2)
@@ -280,8 +281,7 @@ def test_invitations(facts: Facts) -> None:
 def test_code(facts: Facts) -> None:
     """In a terminal the line is followed by a picture of it, where the program is there that makes one."""
     if not shutil.which("qrencode"):
-        print("skipped: the picture of an invitation, since there is no qrencode: apt-get install qrencode")
-        return
+        pytest.skip("there is no qrencode: apt-get install qrencode")
     terminal, inner = pty.openpty()
     command = [sys.executable, str(TOP / "wb-live"), "--invite", "--ports", "25000"]
     ran = subprocess.Popen(command, stdin=inner, stdout=inner, stderr=subprocess.PIPE)

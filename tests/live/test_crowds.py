@@ -111,8 +111,7 @@ def test_late(facts: Facts) -> None:
         late = Process(words, environment={"PYTHONPATH": folder})
         try:
             both = [right, late]
-            for each in both:
-                each.wait_for(lambda states: states["members"]["members"])
+            facts("each hears the other", [each.wait_for(lambda states: states["members"]["members"]) for each in both], [True, True])
             first = right.draw(PAGE, "line 0 0 4 0 r")[1]
             facts("a late member shows what others draw", late.wait_for(lambda states: states["board"]["rows"] == ["rrrrr"]), True)
             late.draw(PAGE, "line 0 0 2 0 l")

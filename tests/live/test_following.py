@@ -8,6 +8,8 @@ from types import SimpleNamespace
 from typing import Any, Dict, List, Sequence, Tuple
 from urllib.parse import urlsplit
 
+import pytest
+
 from live.following import MOST, CannotFollow, Following, network_words, place_of, seen_words
 from live.keys import write_key
 from live.options import read_options
@@ -145,10 +147,9 @@ def go_on(facts: Facts, network: str, words: Sequence[Sequence[str]]) -> None:
 
 
 def test_group(facts: Facts) -> None:
-    if can_join(GROUP):
-        go_on(facts, "on a LAN", [["--lan", "%s:%d" % (GROUP, free_ports(1)[0]), "--interface", "127.0.0.1"]] * 2)
-    else:
-        print("skipped: the next board on a LAN, since the loopback interface here carries no group")
+    if not can_join(GROUP):
+        pytest.skip("the loopback interface here carries no multicast group")
+    go_on(facts, "on a LAN", [["--lan", "%s:%d" % (GROUP, free_ports(1)[0]), "--interface", "127.0.0.1"]] * 2)
 
 
 def check_broker(facts: Facts, room: BrokerFiles) -> None:

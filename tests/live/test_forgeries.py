@@ -65,7 +65,7 @@ def check_future(facts: Facts, member: Process, attacker: Attacker) -> None:
     """A delete of the last time, and a drawing of the next minutes."""
     member.turn(PAGE)
     status, answer = member.draw(PAGE, "line 0 2 4 2 f")
-    member.wait_for(lambda states: states["board"]["rows"][2] == "fffff")
+    facts("what a member draws is shown", member.wait_for(lambda states: states["board"]["rows"][2] == "fffff"), True)
     attacker.reach(member, [deleting(9, 1, 2**64 - 1, (member.me, answer["seq"]))])
     is_hidden = member.wait_for(lambda states: len(states["board"]["rows"]) < 3 or states["board"]["rows"][2] != "fffff", WHILE)
     facts("a delete of the last time hides nothing", (status, is_hidden), (200, False))

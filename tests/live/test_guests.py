@@ -14,6 +14,8 @@ from concurrent.futures import ThreadPoolExecutor
 from pathlib import Path
 from typing import Any, BinaryIO, Callable, Dict, List, Optional, Tuple
 
+import pytest
+
 from live.board import BoardFault
 from live.carriers.carrier import Nobody
 from live.carriers.hub import Hub
@@ -207,7 +209,7 @@ def check_returns(facts: Facts, served: Process, one: Window, two: Window) -> No
     third.cookie = "wb=" + "0" * 32
     facts("nor by a cookie of nobody", third.look().status, 403)
     facts("a script needs no member", served.get("/%s/page/start.js" % served.token)[0], 200)
-    two.wait_for(lambda states: "aaaa" in states["board"]["rows"])
+    facts("and the second is shown what the first drew", two.wait_for(lambda states: "aaaa" in states["board"]["rows"]), True)
 
 
 # ---- in a real browser
@@ -229,8 +231,7 @@ def test_cookies(facts: Facts) -> None:
     """The windows of one browser are one member, also after a reload; another browser is another."""
     program = find_chromium()
     if not program:
-        print("skipped: cookies in a browser, since there is no chromium here: apt-get install chromium")
-        return
+        pytest.skip("there is no chromium here: apt-get install chromium")
     served = begin(["--ports", str(FIRST_PORT), "--speed", "10"])
     address = "http://127.0.0.1:%d/%s/" % (served.port, served.token)
     try:
@@ -433,9 +434,9 @@ def test_fifty(facts: Facts) -> None:
         begun = time.monotonic() - began
         before = costs(served.process.pid)[1]
         found = delays(windows)
-        facts("a line is on all others", max(found) < PATIENCE * 1000, True)
+        facts.holds("a line is on all others", max(found) < PATIENCE * 1000, found)
         if os.environ.get("WB_MEASURE"):
-            facts("within %d ms in the median: %.0f" % (SOON, statistics.median(found)), statistics.median(found) < SOON, True)
+            facts.holds("within %d ms in the median: %.0f" % (SOON, statistics.median(found)), statistics.median(found) < SOON, found)
         more, used = costs(served.process.pid)
         time.sleep(REST)
         idle = costs(served.process.pid)[1] - used

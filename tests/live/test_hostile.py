@@ -143,7 +143,7 @@ def check_too_many_sources(facts: Facts, member: Process, attacker: Attacker, st
     facts("too many sources change nothing that is shown", member.rows(PAGE), before)
     facts("what a stranger tells of is not missing", member.wait_for(lambda states: states["health"]["missing"] > 0, WHILE), False)
     asked = {entry["name"] for entry in list(member.entries)[start:] if entry["way"] == "out" and entry["kind"] == "request"}
-    facts("64 names of them are asked for, and then four a second", len(asked) <= 65 + 4 * SPEED * (time.monotonic() - began), True)
+    facts.holds("64 names of them are asked for, and then four a second", len(asked) <= 65 + 4 * SPEED * (time.monotonic() - began), len(asked))
     attacker.send(stars)
     facts("beside too many sources a drawop is shown", member.wait_for(lambda states: shows(states, "*****")), True)
     facts("beside too many sources one draws", member.draw(PAGE, "line 0 3 4 3 =")[0], 200)

@@ -1,14 +1,15 @@
 """What one member can't do to the others, though it has answered them: make them an amplifier by requests, keep a drawing from being repaired by
-copies of it, and put a request off by its own. In virtual time.
+copies of it, and put a request off by its own. Nor can a stranger. In virtual time.
 
-    python3 -m tests.live.test_hushed [MEMBERS ..]     how long that takes, with this number of honest members"""
+    python3 -m tests.live.test_hushed RUNS [MEMBERS ..]     how long that takes in so many runs, with this number of honest members"""
 from __future__ import annotations
 
+import statistics
 import struct
 import sys
 import tempfile
 from pathlib import Path
-from typing import List, Optional, Tuple
+from typing import Callable, List, Optional, Sequence, Tuple
 from unittest import mock
 
 import pytest
@@ -24,8 +25,11 @@ from .test_virtual import CELLS, PAGE, WALL, Virtual, World
 # After each request the attacker sends copies of what it asks for to all that hold it, one in each pause, for longer than an answer takes.
 COPIES_FOR, COPIES_PAUSE = SECOND // 10, SECOND // 200
 
-# requests in a second: for what is held, and for what the one lacks that hears them
-FLOOD, PUTTING_OFF = 1_000, 400
+# requests in a second: for what is held, and for what the one lacks that hears them; and a stranger's copies of what is held
+FLOOD, PUTTING_OFF, COPYING = 1_000, 400, 250
+
+# the number and the place of somebody who has answered nobody
+STRANGER, ELSEWHERE = 900, Origin("stranger")
 
 # Seconds in which a drawing comes all the same, by how many honest members there are. Their turns are at random, but the same in each run.
 SOON = {2: 25, 3: 25, 8: 60}
@@ -68,19 +72,20 @@ class Watched(World):
                 for holder in self.holders:
                     super().put(at + after, holder, self.eve.origin, self.drawing)
 
-    def ask(self, member: Virtual, pause: int, names: List[Tuple[int, int]]) -> None:
-        """The attacker asks a member for these numbers of sources in turn, for a second."""
+    def ask(self, member: Virtual, pause: int, names: List[Tuple[int, int]], origin: Optional[Origin] = None) -> None:
+        """The attacker asks a member for these numbers of sources in turn, for a second; or a stranger from elsewhere does."""
         assert self.eve is not None
+        asker = STRANGER if origin else self.eve.number
         for turn in range(SECOND // pause):
             source, number = names[turn % len(names)]
-            self.put(self.now + turn * pause, member, self.eve.origin, framed(3, struct.pack(">5I", self.eve.number, source, *PAGE, number)))
+            self.put(self.now + turn * pause, member, origin or self.eve.origin, framed(3, struct.pack(">5I", asker, source, *PAGE, number)))
 
 
 # ---- what is measured
 
 
-def amplified(seconds: int, drawops: int = 400) -> int:
-    """How many repairs a member sends that is asked for each of its drawops in turn, for some seconds."""
+def amplified(seconds: int, origin: Optional[Origin] = None, drawops: int = 400) -> int:
+    """How many repairs a member sends that another member, or a stranger, asks for each of its drawops in turn, for some seconds."""
     with tempfile.TemporaryDirectory() as folder, Watched(1) as world:
         path = Path(folder) / "full.wb"
         digits = [drawn(100, 1 + n, WALL - n, n % 90, b"*", PAGE).hex() for n in range(drawops)]
@@ -89,7 +94,7 @@ def amplified(seconds: int, drawops: int = 400) -> int:
         world.meet(1)
         before = holder.sent["draw"]
         for _ in range(seconds):
-            world.ask(holder, SECOND // FLOOD, [(100, 1 + n) for n in range(drawops)])
+            world.ask(holder, SECOND // FLOOD, [(100, 1 + n) for n in range(drawops)], origin)
             world.run(1)
         return holder.sent["draw"] - before
 
@@ -134,12 +139,32 @@ def put_off_by_a_stranger(count: int, seed: int, longest: int = 60) -> Optional[
         with mock.patch.object(lacks.judging, "arrive"):
             first.draw(1)
             world.run(3)
-        asking = framed(3, struct.pack(">5I", 900, first.number, *PAGE, 1))
+        asking = framed(3, struct.pack(">5I", STRANGER, first.number, *PAGE, 1))
         for second in range(1, longest + 1):
             for turn in range(PUTTING_OFF):
-                world.put(world.now + turn * SECOND // PUTTING_OFF, lacks, Origin("stranger"), asking)
+                world.put(world.now + turn * SECOND // PUTTING_OFF, lacks, ELSEWHERE, asking)
             world.run(1)
             if lacks.held():
+                return second
+        return None
+
+
+def hushed_by_a_stranger(count: int, seed: int, longest: int = 60) -> Optional[int]:
+    """One honest member comes late, and all others hold a drawing. After how many seconds it has it, beside copies of it that somebody sends to all
+    holders who has answered nobody."""
+    with Watched(seed) as world:
+        holders = [world.join(world.chance.randrange(1, 2**32)) for _ in range(count - 1)]
+        world.run(60)
+        holders[0].draw(1)
+        world.run(10)
+        copy = bytes.fromhex(next(iter(holders[0].member.drawn.all())).digits)
+        late = world.join(world.chance.randrange(1, 2**32))
+        for second in range(1, longest + 1):
+            for turn in range(COPYING):
+                for holder in holders:
+                    world.put(world.now + turn * SECOND // COPYING, holder, Origin("stranger"), copy)
+            world.run(1)
+            if late.held():
                 return second
         return None
 
@@ -155,36 +180,51 @@ def test_amplifying(facts: Facts) -> None:
     seconds = 2
     repairs = amplified(seconds)
     print("a member that sends %d requests a second for %d s gets %d repairs" % (FLOOD, seconds, repairs))
-    facts("a member that floods requests gets few repairs", 0 < repairs <= REPAIRS_OF_ONE + seconds * SECOND // REPAIR_PAUSE, True)
+    facts.holds("a member that floods requests gets few repairs", 0 < repairs <= REPAIRS_OF_ONE + seconds * SECOND // REPAIR_PAUSE, repairs)
 
 
 @pytest.mark.parametrize("count", SOON)
 def test_hushing(facts: Facts, count: int) -> None:
     second = hushed(count, 1)
     print("beside a member that sends copies, a drawing came to the last of %d after %s s" % (count, told(second)))
-    facts("copies of a member keep no drawing from coming", second is not None and second <= SOON[count], True)
+    facts.holds("copies of a member keep no drawing from coming", second is not None and second <= SOON[count], second)
 
 
 @pytest.mark.parametrize("count", (2, 3))
 def test_putting_off(facts: Facts, count: int) -> None:
     second = put_off(count, 1)
     print("beside a member that sends requests, a drawing came to the last of %d after %s s" % (count, told(second)))
-    facts("requests of a member keep no drawing from coming", second is not None and second <= SOON[count], True)
+    facts.holds("requests of a member keep no drawing from coming", second is not None and second <= SOON[count], second)
 
 
 @pytest.mark.parametrize("count", (2, 3))
 def test_putting_off_by_a_stranger(facts: Facts, count: int) -> None:
     second = put_off_by_a_stranger(count, 1)
     print("beside a stranger that sends requests, a drawing came to the last of %d after %s s" % (count, told(second)))
-    facts("requests of a stranger keep no drawing from coming", second is not None and second <= 10, True)
+    facts.holds("requests of a stranger keep no drawing from coming", second is not None and second <= 10, second)
+
+
+@pytest.mark.parametrize("count", (2, 3))
+def test_hushing_by_a_stranger(facts: Facts, count: int) -> None:
+    second = hushed_by_a_stranger(count, 1)
+    print("beside a stranger that sends copies, a drawing came to the last of %d after %s s" % (count, told(second)))
+    facts.holds("copies of a stranger keep no drawing from coming", second is not None and second <= 10, second)
+
+
+def parts(measure: Callable[[int, int], Optional[int]], count: int, runs: int) -> str:
+    """The median, the 90th percentile and the most of the seconds that the runs take."""
+    seconds: Sequence[float] = sorted(float("inf") if each is None else each for each in (measure(count, seed) for seed in range(1, runs + 1)))
+    return "%g, %g, %g" % (statistics.median_low(seconds), seconds[min(runs - 1, 9 * runs // 10)], seconds[-1])
 
 
 def main(words: List[str]) -> None:
     program()
-    print("repairs in 4 s of %d requests a second: %d" % (FLOOD, amplified(4)))
-    for count in map(int, words or ["2", "3", "8"]):
-        for name, measure in (("hushed", hushed), ("put off", put_off)):
-            print("%d members, %s: after %s s" % (count, name, " ".join(told(measure(count, seed)) for seed in range(1, 6))))
+    runs, *members = map(int, words or ["3"])
+    for name, origin in (("a member", None), ("a stranger", ELSEWHERE)):
+        print("repairs in 4 s of %d requests a second of %s: %d" % (FLOOD, name, amplified(4, origin)))
+    for count in members or [2, 3, 8]:
+        for name, measure in (("hushed", hushed), ("put off", put_off), ("hushed by a stranger", hushed_by_a_stranger)):
+            print("%d members, %s: after %s s, of %d runs" % (count, name, parts(measure, count, runs), runs), flush=True)
 
 
 if __name__ == "__main__":

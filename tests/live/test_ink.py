@@ -159,10 +159,11 @@ def check_agreement(facts: Facts, node: str, known: List[str], many: int) -> Non
             if here != page:
                 different.append((text, here, page))
     facts("both readers agree on %d texts" % len(texts), different[:5], [])
-    facts("of which many are ink", reads > len(texts) // 10, True)
+    facts.holds("of which many are ink", reads > len(texts) // 10, reads)
     found = [told_items(board) for board in boards]
     facts("both make the same items", [pair for pair in zip(found, page_reads(node, [], boards)["boards"]) if pair[0] != pair[1]][:2], [])
-    facts("of which many have several inks", sum(item["inks"] > 1 for items in found for item in items) > BOARDS, True)
+    several = sum(item["inks"] > 1 for items in found for item in items)
+    facts.holds("of which many have several inks", several > BOARDS, several)
 
 
 def check_page(facts: Facts, node: str) -> None:

@@ -58,7 +58,7 @@ def check_join(facts: Facts, full: Process, drawops: int) -> Process:
     print("joining %d drawops took %.1f s" % (drawops, took))
     facts("a newcomer has %d drawops" % drawops, joined, True)
     if is_measured():
-        facts("within %d s" % SECONDS, took < SECONDS, True)
+        facts.holds("within %d s" % SECONDS, took < SECONDS, took)
     facts("it shows the same", newcomer.wait_for(lambda states: states["board"]["rows"] == full.states["board"]["rows"]), True)
     facts("it agrees with its host", newcomer.shows_all(), True)
     print("and %d requests" % newcomer.counts()["requests"])
@@ -107,7 +107,7 @@ def check_line(facts: Facts, member: Process, drawops: int) -> None:
     began = time.monotonic()
     there = max(watcher.is_told(None, began + LONGEST) for watcher in watchers) - began
     print("the page of %d drawops was in %d browsers after %.1f s" % (drawops, WATCHERS, there))
-    facts("the page is in %d browsers" % WATCHERS, there < LONGEST, True)
+    facts.holds("the page is in %d browsers" % WATCHERS, there < LONGEST, there)
     time.sleep(2)
     taken: List[float] = []
     for row in range(91, 91 + ROUNDS):
@@ -117,9 +117,9 @@ def check_line(facts: Facts, member: Process, drawops: int) -> None:
         time.sleep(0.5)
     print("a line on a page of %d drawops was seen by %d browsers after %.0f ms, the median of %d; at best %.0f" % (
         drawops, WATCHERS, statistics.median(taken), ROUNDS, min(taken)))
-    facts("a line is seen by %d browsers" % WATCHERS, min(taken) < float("inf"), True)
+    facts.holds("a line is seen by %d browsers" % WATCHERS, min(taken) < float("inf"), min(taken))
     if is_measured():
-        facts("within %d ms" % MOST_LATENCY, min(taken) < MOST_LATENCY, True)
+        facts.holds("within %d ms" % MOST_LATENCY, min(taken) < MOST_LATENCY, min(taken))
 
 
 def test_joins(facts: Facts) -> None:

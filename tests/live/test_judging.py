@@ -3,7 +3,7 @@ answers as the test says. What a host decides the table of cases says (tests/jud
 from __future__ import annotations
 
 from types import SimpleNamespace
-from typing import Any, Dict, List, Optional
+from typing import Any, Dict, List, Optional, Tuple
 
 from live.alarms import Alarms
 from live.board import SLACK, Board
@@ -146,6 +146,32 @@ def test_clash(facts: Facts) -> None:
     facts("a stranger repeats what is held", one.heed(drawing(1, 2, 6), Z), "it would hush us")
     facts("a member's copy of what is held", (one.heed(drawing(1, 2)), one.alarms.told()), ("it would hush us", []))
     facts("its drawing of another kind under that name", (one.heed(drawing(1, 2, 6)), one.alarms.told()), ("it would hush us", ["two members draw with number 1: what they drew differs from member to member"]))
+
+
+def test_last(facts: Facts) -> None:
+    """What we drew last waits to be sent again until a member tells the others of it, also by what would hush us alone."""
+    one = One()
+    one.meet()
+    cases: List[Tuple[Origin, str, str, bool]] = [
+        (Z, "", "session-message 8 78 7/1 1=2", True), (X, "dropped crowd", "session-message 9 78 7/1 1=2", True),
+        (X, "dropped again", "request 9 1 7/1 2", False), (X, "", "session-message 9 78 7/1 1=2", False)]
+    for origin, why, words, waits in cases:
+        one.judging.tails.drew(Drawop(drawing(1, 2)), one.at)
+        one.says(*filter(None, [why]))
+        one.heed(words, origin)
+        facts("%s from %s, %s" % (words, origin.text, why or "taken"), one.judging.tails.due() is not None, waits)
+
+
+def test_stream(facts: Facts) -> None:
+    """Of a stream the host gets each drawop that is not held, and nothing else."""
+    one, sent = One(), []  # type: One, List[List[str]]
+    stream = {digits_of(7, 1): drawing(7, 1), digits_of(7, 2): drawing(7, 2), "57420103": "request 9 7 7/1 3"}
+    one.words = SimpleNamespace(all=lambda digits: [SimpleNamespace(words=stream[each]) for each in digits])  # type: ignore[attr-defined]
+    one.send_all = sent.append  # type: ignore[attr-defined]
+    one.drawn.add(Drawop(drawing(7, 1)))
+    one.judging.take_stream([bytes.fromhex(each) for each in stream], Z)
+    facts("what the host hears", [line.split(" ")[3] for line in one.host.told if line.startswith("came ")], [digits_of(7, 2)])
+    facts("what it sends goes out", sent, [["00ff"]])
 
 
 def test_refused(facts: Facts) -> None:

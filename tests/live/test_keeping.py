@@ -113,13 +113,13 @@ def check_clock(facts: Facts, folder: Path) -> None:
         path.write_text("board 7 100 1 42\ntick 5\n")
         board = board_of(Record(str(path)), [])
         moments.append(board.moment)
-        facts("it goes on from there", board.moment <= board.clock.now() - 1 < board.moment + 60_000_000, True)
+        facts.holds("it goes on from there", board.moment <= board.clock.now() - 1 < board.moment + 60_000_000, board.moment, board.clock.now())
         end(board)
     facts("four starts are minutes apart, and above the record", (min(moments) >= 5, max(moments) - min(moments) > 60_000_000), (True, True))
     near = MOST_MOMENT - 10**6
     path.write_text("board 7 100 1 42\ntick %d\n" % near)
     board = board_of(Record(str(path)), [])
-    facts("of a record that leaves a second a start takes little", near <= board.moment < near + 10**4, True)
+    facts.holds("of a record that leaves a second a start takes little", near <= board.moment < near + 10**4, near, board.moment)
     end(board)
 
 

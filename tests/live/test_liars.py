@@ -144,7 +144,7 @@ def check_long(facts: Facts, is_web: bool) -> None:
         liar = Liar(is_web, [lie, good])
         carrier, kept = carrier_of(liar)
         facts("after %s the next connection carries" % name, (kept.wait_for(b"again", 120), liar.came), (Origin("anna"), 2))
-        facts("%s is not taken: of %d MB %d" % (name, OFFERED >> 20, liar.taken >> 20), liar.taken < TAKEN, True)
+        facts.holds("%s is not taken: of %d MB %d" % (name, OFFERED >> 20, liar.taken >> 20), liar.taken < TAKEN, liar.taken)
         carrier.end()
 
 

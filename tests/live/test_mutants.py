@@ -27,7 +27,7 @@ from live.held import checked
 from live.invitation import InvitationFault, read_broker, read_invitation
 from live.joining import Talk, datagrams_of
 from live.options import read_options
-from live.presence import Point, write
+from live.presence import Pointed, write
 from live.record import NoRoom, Record, RecordFault, read_played
 from live.views import Drawop
 from live.words import Words
@@ -143,13 +143,13 @@ def check_datagrams(facts: Facts, chance: random.Random, found: Dict[str, int]) 
         now, me = time.time_ns() // 1000, member.me
         good = [drawn(9, 1, now, 3, b"*"), deleting(9, 2, now, (me, 1)), text(9, 3, now, b"hello \"you\""), framed(1, struct.pack(">IIIIQBHHHHc", 9, 1, 1, 4, now, 2, 0, 0, 9, 9, b"+")),
                 state(9, (1, 1), {9: 3, me: 1}), session(9, 5, (1, 1), {9: 3}), echoing(9, me), requesting(9, me), asking(9), drawn(me, 7, now, 2, b"!"),
-                write(Point(9, (1, 1), (3, 4), ["line 0 0 1 1 *"])), b"WG\x01\x00" + b"127.0.0.1:1"]
+                write(Pointed(9, (1, 1), (3, 4), ["line 0 0 1 1 *"])), b"WG\x01\x00" + b"127.0.0.1:1"]
         before = memory_of(member.process.pid)
         for _ in bounded(DATAGRAMS // 100, found, "hundred datagrams"):
             attacker.reach(member, [data for data in (mutant(chance, good) for _ in range(100)) if not data.startswith((b"WP", b"WG"))])
             attacker.send(*[mutant(chance, good[-2:]) for _ in range(5)])
         grown = memory_of(member.process.pid) - before
-        facts("after mutated datagrams a member has little more memory: %d kB" % (grown >> 10), grown < MOST_GROWTH, True)
+        facts.holds("after mutated datagrams a member has little more memory: %d kB" % (grown >> 10), grown < MOST_GROWTH, grown)
         status, told = member.draw(PAGE, "line 0 9 4 9 z")
         if status == 422 and "number" in told.get("fault", ""):  # one of them was a report of ours
             status = member.post("/number", {"new": True})[0] and member.draw(PAGE, "line 0 9 4 9 z")[0]

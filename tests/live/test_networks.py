@@ -11,6 +11,8 @@ from pathlib import Path
 from functools import partial
 from typing import Any, Dict, List
 
+import pytest
+
 from ..facts import Facts
 from .test_hostile import Attacker, draw_datagram
 from .members import PATIENCE, Process, answers
@@ -102,8 +104,7 @@ def can_join(group: str) -> bool:
 def test_group(facts: Facts) -> None:
     group = "239.255.42.99"
     if not can_join(group):
-        print("skipped: a multicast group, since the loopback interface here carries none")
-        return
+        pytest.skip("the loopback interface here carries no multicast group")
     words = ["--lan", "%s:%d" % (group, free_ports(1)[0]), "--interface", "127.0.0.1"]
     check_pair(facts, "group", [words, words])
 

@@ -11,14 +11,14 @@ import pytest
 from wbhost import find_program
 
 from live import presence as presences
-from live.presence import MOST_A_SECOND, MOST_BEGUN, MOST_MEMBERS, STAYS, Point, Presence, point_in, read, write
+from live.presence import MOST_A_SECOND, MOST_BEGUN, MOST_MEMBERS, STAYS, Pointed, Presence, point_in, read, write
 from live.words import Words
 
 from ..facts import Facts
 from .members import Process
 
 FIRST_PORT = 26_280
-POINT = Point(7, (1, 2), (3, 4), ["line 0 0 1 1 *", 'text 0 0 "a"'])
+POINT = Pointed(7, (1, 2), (3, 4), ["line 0 0 1 1 *", 'text 0 0 "a"'])
 
 
 class LastTold:
@@ -35,7 +35,7 @@ def test_bytes(facts: Facts) -> None:
     data = write(POINT)
     facts("the bytes of a point", data[:24].hex(), "575001000000000700000001000000020003" + "0004" + b"line".hex())
     facts("it is read as it was written", read(data), POINT)
-    facts("one that points nowhere", read(write(Point(7, (1, 2), None, []))), Point(7, (1, 2), None, []))
+    facts("one that points nowhere", read(write(Pointed(7, (1, 2), None, []))), Pointed(7, (1, 2), None, []))
     long = write(POINT._replace(begun=["line 0 0 1 1 *"] * 100))
     facts("what is begun has a bound", (len(long) <= 20 + MOST_BEGUN, read(long) is not None), (True, True))
     bad = [b"", data[:19], b"WB" + data[2:], data[:2] + b"\2" + data[3:], data + b"\x00", data + b"\xff", data + b" " * MOST_BEGUN, data[:16] + b"\x10\x00" + data[18:]]
@@ -56,10 +56,10 @@ def test_heeding(facts: Facts) -> None:
     facts("who points nowhere is gone", told.others, [])
     for x in range(10 * MOST_A_SECOND):
         presence.hear(write(POINT._replace(member=8, cell=(x, 0))))
-    facts("a flood is not heeded", told.others[0]["cell"][0] < 3 * MOST_A_SECOND, True)
+    facts.holds("a flood is not heeded", told.others[0]["cell"][0] < 3 * MOST_A_SECOND, told.others[0]["cell"][0])
     for member in range(1_000):
         presence.hear(write(POINT._replace(member=100 + member)))
-    facts("members have a bound", len(told.others) <= 64, True)
+    facts.holds("members have a bound", len(told.others) <= 64, told.others)
     again = Presence(1, told)  # type: ignore[arg-type]
     again.hear(write(POINT._replace(member=9)))
     again.renumber(9)
@@ -125,5 +125,5 @@ def test_points_of_a_page(facts: Facts) -> None:
     good = {"cell": [1, 2], "begun": []}
     bad: List[Dict[str, Any]] = [{}, {"cell": [1], "begun": []}, {"cell": [1, 4096], "begun": []}, {"cell": [True, 1], "begun": []}, {"cell": None, "begun": ["\n"]},
                                  {"cell": None, "begun": ["\u00e9"]}, {"cell": None, "begun": "a"}]
-    facts("a point of a page", point_in(good, 1, (1, 1)), Point(1, (1, 1), (1, 2), []))
+    facts("a point of a page", point_in(good, 1, (1, 1)), Pointed(1, (1, 1), (1, 2), []))
     facts("what is none", [point_in(each, 1, (1, 1)) for each in bad], [None] * len(bad))

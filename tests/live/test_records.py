@@ -281,7 +281,7 @@ def check_state(facts: Facts, folder: Path) -> None:
     first.draw(PAGE, "line 0 0 4 0 a")
     second = Process(words, environment=environment)
     facts("two at once have two numbers", first.me != second.me, True)
-    facts("numbers are at random, and not the ports'", min(first.me, second.me) > 32, True)
+    facts.holds("numbers are at random, and not the ports'", min(first.me, second.me) > 32, min(first.me, second.me))
     me = first.me
     facts("both end with 0", [second.end(), first.end()], [0, 0])
     again = Process(words, environment=environment)

@@ -124,8 +124,7 @@ class Sealed(http.client.HTTPSConnection):
 def test_recipe(facts: Facts) -> None:
     """Over TLS by the recipe: a page, its stream, and a drawing; nobody speaks to the page but by its names."""
     if not shutil.which("caddy"):
-        print("skipped: the page over TLS by the recipe, since there is no caddy: apt-get install caddy")
-        return
+        pytest.skip("there is no caddy: apt-get install caddy")
     with tempfile.TemporaryDirectory() as name:
         served = Process(["--ports", str(FIRST_PORT), "--speed", "10", "--web", "127.0.0.1:8040", "--origin", "https://" + NAME])
         caddy = Caddy(Path(name))

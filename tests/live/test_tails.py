@@ -269,7 +269,7 @@ def test_soon(facts: Facts) -> None:
     """If a third is lost, a row of drawings is there much sooner than without: chance alone makes it so once in ten thousand times."""
     soon, late = (after_pauses(2, 200, is_repeated) for is_repeated in (True, False))
     print("a third lost, the last drawing is sent again: %s\n  sent once: %s" % (soon, late))
-    facts("all comes, with and without", max(*soon.took, *late.took) < LONGEST, True)
+    facts.holds("all comes, with and without", max(*soon.took, *late.took) < LONGEST, max(*soon.took, *late.took))
     facts.holds("fewer rows take over 2 s", sum(each > 2 for each in soon.took) < sum(each > 2 for each in late.took), (str(soon), str(late)))
     quiet = after_pauses(2, 20, lost=0.0)
     facts.holds("where nothing is lost, a row costs one drawop more at most", 1 < quiet.drawops <= (ROW + 1) / ROW, quiet.drawops)

@@ -91,6 +91,11 @@ def test_showing(facts: Facts) -> None:
     facts("a delete that is not the last word", renew(10, ["hidden 7 1", "shown 0 " + first], "draw 9 7/1 2 9 delete 7 1"), ([], [], []))
     facts("changes nothing", state(), ([first, third], [second, late]))
     facts("nothing is new", (renew(10, []), state()), (([], [], []), ([first, third], [second, late])))
+    fourth = drawing(7, 4, 12)
+    facts("one comes with its delete, and was not there before", renew(12, ["hidden 7 4"], fourth, "draw 8 7/1 6 13 delete 7 4"), ([], [], [fourth]))
+    words = ["draw 8 7/1 %d %d %s" % (seq, seq + 20, what) for seq, what in enumerate(("delete 7 1", "delete 8 1", "restore 7 1", "delete 7 1"), 7)]
+    facts("two are deleted, one of them twice", renew(16, ["hidden 7 1", "hidden 8 1"], *words), ([(8, PAGE, 1), (7, PAGE, 1)], [], [third, first]))
+    facts("what was deleted last is the last that is hidden", state(), ([], [second, late, fourth, third, first]))
 
 
 def test_turns(facts: Facts) -> None:

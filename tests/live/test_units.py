@@ -17,12 +17,12 @@ import pytest
 
 from live.alarms import Alarms
 from live.carriers.carrier import Origin
+from live.clock import Clock
 from live.drawn import Drawn
 from live import board as boards, connections, inbox as inboxes
 from live.inbox import MOST_WAITING, PACE, PACE_BYTES, Arrival, Inbox
 from live.letters import fitting, letter_rows, printable
 from live.options import read_options
-from live.people import People
 from live.record import NoRoom, Record, RecordFault, read_played
 from live.state import folder_of, open_record
 from live.telling import MOST_REPORTED, Reported
@@ -55,10 +55,8 @@ def test_words(facts: Facts) -> None:
     kinds = ["draw 7 7/1 1 10 line 0 1 4 1 *", "session-message 1 50 7/4", "page-state 9 8/1 8=4", "request 8 7 7/4 2", "ask-pages 8"]
     facts("which datagram it is", [(type(each), each.speaker) for each in map(datagram_of, kinds)], [(Drawop, 7), (Report, 1), (Report, 9), (Question, 8), (Question, 8)])
     for text in ("7", "7/", "/1", "7/1/1", "-7/1", "4294967296/1", "\u0667/1"):
-        try:
+        with pytest.raises(ValueError):
             facts("no page: " + text, page_of(text), "a fault")
-        except ValueError:
-            facts("no page: " + text, True, True)
 
 
 def test_drawn(facts: Facts) -> None:
@@ -215,16 +213,12 @@ def test_record(facts: Facts) -> None:
         for line in ("board 1 16 1 42", "# a note", "view 1 1", "tick 5"):
             record.add(line)
         facts("what changes a host", list(record.acts()), ["board 1 16 1 42", "tick 5"])
-        try:
-            Record(path)
-            facts("a record in use", "taken", "refused")
-        except RecordFault:
-            facts("a record in use", "refused", "refused")
+        facts("a record in use", fault_of(lambda: Record(path)), "%s is in use by another member" % path)
         record.close()
         with open(path, "ab") as file:
             file.write(b"tick 9")
         again = Record(path)
-        facts("a torn line is taken off", (list(again.acts()), os.path.getsize(path)), (["board 1 16 1 42", "tick 5"], again.size))
+        facts("a torn line is taken off", (list(again.acts()), again.size, os.path.getsize(path)), (["board 1 16 1 42", "tick 5"], 41, 41))
         again.add("tick 7")
         facts("and the next stands for itself", list(again.acts())[-1], "tick 7")
         again.close()
@@ -286,14 +280,10 @@ def test_used_last(facts: Facts, tmp_path: Path, monkeypatch: pytest.MonkeyPatch
         facts("a folder that stood at %o" % mode, folder_of(options).stat().st_mode & 0o777, 0o700)
 
 
-def test_taken_back(facts: Facts, monkeypatch: pytest.MonkeyPatch) -> None:
-    """What was added last is taken back, and a line that has no room leaves nothing."""
+def test_no_room(facts: Facts, monkeypatch: pytest.MonkeyPatch) -> None:
+    """A line that has no room leaves nothing."""
     record = Record(None)
-    record.add("board 1 16 1 42")
-    record.add("tick 5", "tick 6")
-    record.take_back()
-    facts("two lines that were added at once", (record.text(), os.fstat(record.file).st_size), (b"board 1 16 1 42\n", 16))
-    record.add("tick 7")
+    record.add("board 1 16 1 42", "tick 7")
     write = os.pwrite
     with monkeypatch.context() as patch:
         patch.setattr(os, "pwrite", lambda file, text, at: write(file, text[:3], at))
@@ -391,31 +381,15 @@ def test_starts(facts: Facts, monkeypatch: pytest.MonkeyPatch) -> None:
     board.record.close()
 
 
-def test_new_page(facts: Facts) -> None:
-    """A new page of ours is the first that nobody drew on or told of; one that is empty yet is new enough."""
-    drawn, reported, turned = Drawn(), Reported(), []  # type: Drawn, Reported, List[Any]
-    member: Any = SimpleNamespace(me=7, page=(1, 1), drawn=drawn, telling=SimpleNamespace(reported=reported), turn_to=turned.append)
-    for page in ((7, 1), (7, 3), (8, 2)):
-        drawn.add(Drawop("draw 7 %d/%d 1 10 line 0 1 4 1 *" % page))
-    people = People(member)
-    facts("the first that is free", people.new_page(), {"page": "7/2"})
-    reported.tell((8, (7, 2), 1))
-    facts("not one that somebody told of", people.new_page(), {"page": "7/4"})
-    member.page = (7, 1)
-    facts("another than one that is drawn on", people.new_page(), {"page": "7/4"})
-    member.page = (7, 9)
-    facts("one that is empty yet", (people.new_page(), turned), ({"page": "7/9"}, [(7, 2), (7, 4), (7, 4), (7, 9)]))
-
-
-def test_undo(facts: Facts) -> None:
-    """What we drew last is deleted, wherever its time puts it: of drawings that the host shows on the page in view."""
-    deleted: List[Any] = []
-    shown = {PAGE: [(7, PAGE, 2), (7, PAGE, 1), (8, PAGE, 4)], (7, 2): [(7, (7, 2), 5)]}
-    member: Any = SimpleNamespace(me=7, page=PAGE, board=SimpleNamespace(view=shown.__getitem__), is_ready=True)
-    people = People(member)
-    people.draw_now = lambda page, operation: deleted.append((page, operation)) or {}  # type: ignore[assignment, func-returns-value]
-    people.undo()
-    facts("the greatest number of ours that is shown", deleted, [(PAGE, "delete 7 2")])
+def test_clock(facts: Facts, monkeypatch: pytest.MonkeyPatch) -> None:
+    """Moments count in microseconds from the start; a clock of a test goes faster."""
+    passed = [5_000]
+    monkeypatch.setattr("live.clock.time", SimpleNamespace(monotonic_ns=lambda: passed[0]))
+    clock, fast = Clock(100), Clock(100, 10.0)
+    passed[0] += 3_000_000_000
+    facts("after three seconds", (clock.now(), fast.now()), (3_000_100, 30_000_100))
+    facts("until a moment of a second later", (clock.seconds_until(4_000_100), fast.seconds_until(40_000_100)), (1.0, 1.0))
+    facts("none is before now", clock.seconds_until(100), 0)
 
 
 def test_options(facts: Facts) -> None:
@@ -445,5 +419,5 @@ def test_security(facts: Facts) -> None:
     named = sorted(set(re.findall(r"`([a-z_]+)\.((?:test|check)\w+)`", (TOP / "docs" / "SECURITY.md").read_text())))
     files = [*(TOP / "tests").glob("**/*.py"), *(TOP / "tests" / "browser").glob("*.mjs")]
     texts = {part: [file.read_text() for file in files if file.name.split(".")[0] == part] for part, _ in named}
-    facts("tests are named", len(named) > 60, True)
+    facts.holds("tests are named", len(named) > 60, named)
     facts("no test is named that is not there", [name for name in named if not any(re.search(r"(def|function) %s\(" % name[1], text) for text in texts[name[0]])], [])

@@ -11,10 +11,12 @@ import random
 import sys
 import tempfile
 from collections import Counter
+from concurrent.futures import Future
 from pathlib import Path
 from typing import Any, Dict, List, NamedTuple, Optional, Tuple
 from unittest import mock
 
+from live.board import LISTENING
 from live.carriers.carrier import Origin
 from live.clock import SECOND
 from live.events import Events
@@ -108,10 +110,11 @@ class Virtual:
 
     # ---- what is asked of it
 
-    def draw(self, row: int) -> None:
-        self.member.people.draw(PAGE, "line 0 %d 9 %d *" % (row, row))
+    def draw(self, row: int) -> "Future[Any]":
+        drawing = self.member.people.draw(PAGE, "line 0 %d 9 %d *" % (row, row))
         for call in self.member.inbox.take(0)[0]:
             call()
+        return drawing
 
     def held(self) -> int:
         return self.member.drawn.total
@@ -291,6 +294,69 @@ def beside_a_crowd(forged: int, seconds: int = 190) -> Crowded:
         return Crowded(world.pairs(), taken, [member.judging.dropped[WHYS["crowd"]] for member in members])
 
 
+def beside_a_crowd_for_long(seconds: int, pause: int = SECOND // 10) -> int:
+    """Somebody speaks under a number after another for so long: how many of them a member takes for one."""
+    with World(seconds) as world:
+        member = world.join(1)
+        count = seconds * SECOND // pause
+        for number in range(count):
+            world.put(world.now + number * pause, member, Origin("eve%d" % number), session(10_000 + number, 5, PAGE, {}))
+        world.run(seconds)
+        return count - member.judging.dropped[WHYS["crowd"]]
+
+
+def found_in_a_crowd(seed: int, longest: int = 60) -> Optional[int]:
+    """Somebody speaks to one of two members, 200 times a second and under another number each time, and a third member joins: after how many
+    seconds the one knows it."""
+    with World(seed) as world:
+        member, _ = world.join(1), world.join(2)
+        world.run(20)
+
+        def crowd(seconds: int) -> None:
+            for number in range(world.now // 5_000, world.now // 5_000 + 200 * seconds):
+                world.put(5_000 * number, member, Origin("eve%d" % number), session(10_000 + number, 5, PAGE, {}))
+            world.run(seconds)
+
+        crowd(5)
+        late = world.join(3)
+        for second in range(1, longest + 1):
+            crowd(1)
+            if member.knows(late):
+                return second
+        return None
+
+
+class Restored(NamedTuple):
+    """How many of its three drawings a member holds that lost the last in a crash, whether it takes another for one of its number, and the
+    number of its next drawing, or why there is none."""
+
+    held: int
+    has_twin: bool
+    drawn: str
+
+
+def after_a_crash(seed: int) -> Restored:
+    """A member draws three times, and its record has two. Another member holds all of them, and says nothing while the first one listens."""
+    with tempfile.TemporaryDirectory() as folder, World(seed) as world:
+        path = Path(folder) / "a.wb"
+        world.loss = 0.0
+        first, _ = world.join(1, str(path)), world.join(2)
+        world.run(20)
+        for row in (1, 2, 3):
+            kept = path.read_text()
+            first.draw(row)
+            world.run(5)
+        world.members.remove(first)
+        first.end()
+        path.write_text(kept)
+        again = world.join(1, str(path))
+        with mock.patch.object(again.judging, "arrive"):
+            world.run(LISTENING / SECOND + 1)
+        world.run(60)
+        drawing = again.draw(4)
+        return Restored(again.held() - (drawing.exception(0) is None), again.judging.has_twin, str(drawing.exception(0) or drawing.result(0)["seq"]))
+
+
 class Departed(NamedTuple):
     """After how many seconds newcomers had a board whose sources have all left, what each dropped, and how often each would have taken a stream."""
 
@@ -360,7 +426,7 @@ def test_pages(facts: Facts) -> None:
     """A host reports its pages in turn, so beside many pages a loss is reported late: strangers begin few."""
     told = beside_forged_pages(250)
     print("beside 250 pages that strangers begin, of which %d are kept, a lost drawing is there after %s s" % told[::-1])
-    facts("strangers have few pages", told.pages <= STRANGE_PAGES, True)
+    facts.holds("strangers have few pages", told.pages <= STRANGE_PAGES, told.pages)
     facts("and a drawing that was lost beside them is told", told.there is not None, True)
 
 
@@ -371,6 +437,27 @@ def test_crowd(facts: Facts) -> None:
     facts("a newcomer and the others come to know each other", told.pairs, 1.0)
     facts("256 numbers that speak first are heard at once", [250 <= each <= 257 for each in told.taken], [True] * 3)
     facts("and the others are dropped", [taken + dropped >= 400 for taken, dropped in zip(told.taken, told.dropped)], [True] * 3)
+
+
+def test_crowd_for_long(facts: Facts) -> None:
+    """A host remembers 65,535 numbers for good, so they are taken slowly."""
+    seconds = 180
+    taken = beside_a_crowd_for_long(seconds)
+    print("of ten forged numbers a second a member took %d for members in %d s" % (taken, seconds))
+    facts.holds("256 numbers are taken at once, and then one a second", 256 < taken <= 256 + seconds, taken)
+
+
+def test_found_in_a_crowd(facts: Facts) -> None:
+    """Who answers has room of its own."""
+    told = [found_in_a_crowd(seed) for seed in (1, 2, 3)]
+    print("beside 200 forged numbers a second a member knows a newcomer after %s s" % told)
+    facts.holds("who answers is known, however many others speak", None not in told, told)
+
+
+def test_crash(facts: Facts) -> None:
+    """What a crash lost of ours a member gives back, also after we have listened. Nobody has our number then, and it goes on above."""
+    for seed in (1, 2, 3):
+        facts("what was lost is there again, and the next drawing is the fourth", after_a_crash(seed), Restored(3, False, "4"))
 
 
 def test_departed(facts: Facts) -> None:
@@ -386,7 +473,7 @@ def test_ahead(facts: Facts) -> None:
     requests, dropped = asked_ahead()
     print("two drawops that are 30 hours ahead are asked for %d times in a minute; dropped: %s" % (requests, dict(dropped)))
     facts("they are dropped for that alone", (list(dropped), dropped[WHYS["ahead"]] > 0), ([WHYS["ahead"]], True))
-    facts("and asked for, not too often", 0 < requests <= 4 * 60, True)
+    facts.holds("and asked for, not too often", 0 < requests <= 4 * 60, requests)
 
 
 def main(words: List[str]) -> None:

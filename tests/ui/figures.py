@@ -52,7 +52,7 @@ def windows(browser: Browser, room: Path) -> Iterator[tuple[list[Member], Sheet,
         members += [Member(room, PORTS, words=["--ports", str(PORTS)]) for _ in range(2)]
         one, other = (Sheet(browser.open(member.address, WIDTH, HEIGHT, first=BY_CELLS)) for member in members)
         for sheet in (one, other):
-            sheet.page.wait("wb.session.hello.ready && wb.session.board.page && document.querySelectorAll('#members li').length === 2")
+            sheet.page.until("wb.session.hello.ready && wb.session.board.page && document.querySelectorAll('#members li').length === 2")
             sheet.fold()
         clean(one, other)
         yield members, one, other
@@ -90,7 +90,7 @@ def tell_pages(one: Sheet, other: Sheet) -> None:
         clean(one, other)
         # what is shown is not on the board: with this the page is not taken for an empty one afterwards
         one.page.value("wb.session.send('line 0 0 1 0 *').then(({ ok }) => ok)")
-        one.page.wait("wb.session.board.drawops.length === 1 && !wb.session.waiting.size")
+        one.page.until("wb.session.board.drawops.length === 1 && !wb.session.waiting.size")
         took, longest = paintings.shown(one, page)
         print(f"\n{name}: painted after {least_and_median(took)}, with {longest:.0f} ms at most without a pause", flush=True)
         if folder:
@@ -108,7 +108,7 @@ def tell_pages(one: Sheet, other: Sheet) -> None:
 
 def seen_after(one: Sheet, other: Sheet, event: str) -> float:
     """Milliseconds from the first such event in one window to what the other watches for."""
-    other.page.wait("window.seen")
+    other.page.until("window.seen")
     return float(int(other.page.value("window.seen")) - int(one.page.value(f"window.times.{event}")))
 
 
@@ -128,8 +128,8 @@ def tell_latency(one: Sheet, other: Sheet) -> None:
     one.keys("p")
     for turn in range(MORE_ROUNDS):
         way = at(one, *wave(60, 200 + 40 * turn, 300, 40))
-        other.page.wait("!wb.presence.others.some(({ pointed }) => pointed.begun.length)")
-        other.page.value(f"{WATCH}(() => wb.presence.others.some(({{ pointed }}) => pointed.begun.length) && !wb.painter.isPlanned)")
+        other.page.until("!wb.others.heard.some(({ pointed }) => pointed.begun.length)")
+        other.page.value(f"{WATCH}(() => wb.others.heard.some(({{ pointed }}) => pointed.begun.length) && !wb.painter.isPlanned)")
         time.sleep(0.3)
         one.page.value("window.times = {}; 0")
         one.page.press(*way[0])
@@ -167,7 +167,7 @@ def tell_cost(members: list[Member], one: Sheet, other: Sheet) -> None:
         before = costs_of(members)
         one.page.value(f"(async () => {{ for (let n = 0; n < {DRAWN}; n += 1) await wb.session.send({text}); return 0; }})()")
         for sheet in (one, other):
-            sheet.page.wait(f"wb.session.board.drawops.length === {DRAWN} && !wb.session.waiting.size")
+            sheet.page.until(f"wb.session.board.drawops.length === {DRAWN} && !wb.session.waiting.size")
         time.sleep(1.0)
         for name, cost in costs_of(members).items():
             taken.setdefault(name, []).append(cost - before[name])

@@ -48,8 +48,8 @@ def check_presence(tally: Tally, one: Sheet, other: Sheet) -> None:
     else:
         one.page.press(*one.point(10, 5))
         one.page.mouse("mouseMoved", *one.point(20, 9))
-    seen = f"wb.presence.others.some(({{ pointed }}) => pointed.member === {number} && pointed.cell[0] === 20 && pointed.begun[0] === 'frame 10 5 20 9 #')"
-    tally.check("others see what is begun", other.page.wait(seen), str(other.page.value("JSON.stringify(wb.presence.others)")))
+    seen = f"wb.others.heard.some(({{ pointed }}) => pointed.member === {number} && pointed.cell[0] === 20 && pointed.begun[0] === 'frame 10 5 20 9 #')"
+    tally.check("others see what is begun", other.page.wait(seen), str(other.page.value("JSON.stringify(wb.others.heard)")))
     tally.check("it is painted", other.is_inked(15, 5))
     tally.check("it is nobody's drawing", not other.page.value("wb.session.board.drawops.length"))
     one.page.key("Escape")
@@ -57,9 +57,9 @@ def check_presence(tally: Tally, one: Sheet, other: Sheet) -> None:
         one.page.touch("touchEnd")
     else:
         one.page.mouse("mouseReleased", *one.point(20, 9))
-    tally.check("what is dropped is seen no more", other.page.wait("wb.presence.others.every(({ pointed }) => !pointed.begun.length)"))
+    tally.check("what is dropped is seen no more", other.page.wait("wb.others.heard.every(({ pointed }) => !pointed.begun.length)"))
     one.page.value("document.getElementById('pointing').click()")
-    tally.check("who does not want to is not seen", other.page.wait("!wb.presence.others.length"))
+    tally.check("who does not want to is not seen", other.page.wait("!wb.others.heard.length"))
     one.page.value("document.getElementById('pointing').click()")
     told = "Number(/([0-9]+) refused/.exec(document.getElementById('counts').textContent)?.[1] ?? 0)"
     tally.check("no host hears of it", other.page.value(told) == refused)
@@ -85,7 +85,7 @@ def test_film(tally: Tally, browser: Browser, room: Path, one: Sheet) -> None:
         film.press("#film-stop")
         tally.check("it stops", film.page.wait("wb.film.film.stopped"))
         film.page.value(f"wb.session.goToPage({json.dumps(page)}); 0")
-        film.page.wait(f"wb.session.board.page === {json.dumps(page)}")
+        film.page.until(f"wb.session.board.page === {json.dumps(page)}")
         for width, height, scheme, hand in ((*WINDOWS[0][:3], "keys"), WINDOWS[1], WINDOWS[3]):
             film.be(width, height, scheme, hand)
             tally.check(f"nothing lies over the film ({width} points)", not film.page.value(OVER), str(film.page.value(OVER)))

@@ -68,7 +68,7 @@ def test_cells(tally: Tally, one: Sheet, other: Sheet) -> None:
     """The page's own painting, which tints and ghosts go by, against the rows that the host painted."""
     first = one.page.value("wb.session.board.page")
     one.page.value("wb.session.goToPage(null); 0")
-    one.page.wait(f"wb.session.board.page !== '{first}' && !wb.session.board.drawops.length")
+    one.page.until(f"wb.session.board.page !== '{first}' && !wb.session.board.drawops.length")
     chance = random.Random(7)
     for _ in range(DRAWINGS):
         one.page.value(f"wb.session.send({json.dumps(some_drawing(chance))})")
@@ -79,7 +79,7 @@ def test_cells(tally: Tally, one: Sheet, other: Sheet) -> None:
     })()""")
     tally.check("each cell is the host's", one.page.value("wb.view.rows > 40 && wb.view.columns > 100") and not wrong, str(wrong))
     one.page.value(f"wb.session.goToPage('{first}')")
-    one.page.wait(f"wb.session.board.page === '{first}'")
+    one.page.until(f"wb.session.board.page === '{first}'")
 
 
 def test_narrow(tally: Tally, one: Sheet, other: Sheet) -> None:

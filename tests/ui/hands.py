@@ -57,7 +57,7 @@ def drawops_of(sheet: Sheet, strokes: list[Stroke]) -> int:
     sheet.keys("p")
     gather(sheet, *(at(sheet, *stroke) for stroke in strokes))
     send(sheet)
-    sheet.page.wait("wb.ink.items.length && !wb.session.waiting.size && !wb.ink.waiting.length")
+    sheet.page.until("wb.ink.items.length && !wb.session.waiting.size && !wb.ink.waiting.length")
     return int(sheet.page.value(DRAWN))
 
 

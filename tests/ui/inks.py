@@ -5,7 +5,7 @@ import json
 import math
 import time
 
-from ..live.browser import CONTROL, PATIENCE, SHIFT
+from ..live.browser import CONTROL, PATIENCE, SHIFT, Missed
 
 from .sheets import Sheet, Tally
 from .tools import USUAL, WINDOWS, has, on_a_new_page
@@ -66,12 +66,12 @@ def send(sheet: Sheet) -> None:
     sheet.page.value(f"wb.pen.rests = {RESTS}; wb.pen.flush(); 0")
 
 
-def is_settled(sheet: Sheet, items: int) -> bool:
+def is_settled(sheet: Sheet, items: int) -> bool | Missed:
     """Whether the page comes to show this many items, and nothing waits."""
     return sheet.page.wait(f"{ITEMS} === {items} && !wb.session.waiting.size && !wb.ink.waiting.length")
 
 
-def are_settled(one: Sheet, other: Sheet, items: int) -> bool:
+def are_settled(one: Sheet, other: Sheet, items: int) -> bool | Missed:
     """The same of both: who drew last may hear of it last."""
     return is_settled(one, items) and is_settled(other, items)
 
@@ -102,7 +102,7 @@ def test_pen(tally: Tally, one: Sheet, other: Sheet) -> None:
     one.keys("p")
     way = at(one, *wave(60, 230, 260))
     draw(one, way[:60], lifts=False)
-    tally.check("a stroke is seen while it is drawn", other.page.wait("wb.presence.others.some(({ pointed }) => pointed.begun.length) || " + f"{ITEMS} === 1"))
+    tally.check("a stroke is seen while it is drawn", other.page.wait("wb.others.heard.some(({ pointed }) => pointed.begun.length) || " + f"{ITEMS} === 1"))
     for point in way[60:]:
         one.page.touch("touchMove", point) if one.hand == "finger" else one.page.mouse("mouseMoved", *point)
     lift(one, way[-1])
@@ -172,7 +172,7 @@ def test_shapes(tally: Tally, one: Sheet, other: Sheet) -> None:
     tally.check("a shape is moved by units", other.page.wait(f"{ITEMS} === 4 && wb.ink.items[3].kind === 'r'"), other.page.value("wb.ink.items.map(({ kind }) => kind).join('')"))
     moved = other.page.value("[wb.ink.items[3].points[0].x, wb.ink.items[3].points[0].y]")
     one.page.key("z", CONTROL)
-    other.page.wait(f"{ITEMS} === 4 && wb.ink.items[2].kind === 'r'")
+    other.page.until(f"{ITEMS} === 4 && wb.ink.items[2].kind === 'r'")
     was = other.page.value("[wb.ink.items[2].points[0].x, wb.ink.items[2].points[0].y]")
     tally.check("by as much as the hand", abs(moved[0] - was[0] - 256) <= 7 and abs(moved[1] - was[1] - 192) <= 7, f"{was} {moved}")
 
@@ -182,7 +182,7 @@ def test_moves(tally: Tally, one: Sheet, other: Sheet) -> None:
     clean(one, other)
     one.keys("p")
     draw(one, at(one, *[(60 + 2 * i, 230 + 30 * math.sin(i / 4)) for i in range(130)]))
-    one.page.wait(f"!wb.pen.strokes && !wb.session.waiting.size && {DRAWN} > 1")
+    one.page.until(f"!wb.pen.strokes && !wb.session.waiting.size && {DRAWN} > 1")
     tally.check("a long stroke is a chain", is_settled(other, 1) and other.page.wait(f"wb.ink.items[0].drawings.length === {one.page.value(DRAWN)}"), str(other.page.value(DRAWN)))
     before = other.page.value("wb.ink.items[0].points.map(({ x, y }) => [x, y])")
     start = other.page.value("""(() => {
@@ -218,7 +218,7 @@ def test_resizing(tally: Tally, one: Sheet, other: Sheet) -> None:
     are_settled(one, other, 2)
     before = other.page.value(EXTENTS)
     one.page.key("a", CONTROL)
-    one.page.wait("wb.hand.chosenItems().length === 2")
+    one.page.until("wb.hand.chosenItems().length === 2")
     draw(one, at(one, (181, 301), (220, 320), (281, 341)))
     # the box about both is 2.3 points wider at each side than the frame, which is 100 by 70 of them
     times = [(104.7 + 100) / 104.7, (74.7 + 40) / 74.7] * 2
@@ -237,7 +237,7 @@ def test_letters(tally: Tally, one: Sheet, other: Sheet) -> None:
     (x, y), = at(one, (80, 240))
     one.page.touch("touchStart", (x, y)) if one.hand == "finger" else one.page.press(x, y)
     lift(one, (x, y))
-    one.page.wait("document.activeElement === wb.typing.box")
+    one.page.until("document.activeElement === wb.typing.box")
     one.page.call("Input.insertText", text="Gr\u00f6\u00dfe \u2248 \u6f22 \U0001F600")
     one.page.key("Enter")
     tally.check("letters of all languages", other.page.wait("wb.ink.items[0]?.letters === 'Gr\u00f6\u00dfe \u2248 \u6f22 \U0001F600'"))
@@ -250,7 +250,7 @@ def test_letters(tally: Tally, one: Sheet, other: Sheet) -> None:
     tally.check("they are edited", other.page.wait("wb.ink.items[0]?.letters === 'anew'") and is_settled(other, 1))
     one.keys("n")
     draw(one, at(one, (80, 290), (200, 330), (300, 390)))
-    one.page.wait("document.activeElement === wb.typing.box")
+    one.page.until("document.activeElement === wb.typing.box")
     one.page.call("Input.insertText", text="For Monday: what happens at night? " * 3)
     one.page.key("Enter", CONTROL)
     tally.check("a note of several drawops is one item", other.page.wait(f"{ITEMS} === 2 && wb.ink.items[1].kind === 'n' && wb.ink.items[1].letters.length > 100"))
@@ -282,7 +282,7 @@ def test_by_keys(tally: Tally, one: Sheet, other: Sheet) -> None:
         one.page.key("z", CONTROL)
         tally.check(f"undo of {key} by keys", are_settled(one, other, 0))
     one.keys("t", "Enter")
-    one.page.wait("document.activeElement === wb.typing.box")
+    one.page.until("document.activeElement === wb.typing.box")
     one.page.write("by keys")
     one.keys("Enter")
     tally.check("letters by keys", are_settled(one, other, 1) and other.page.value("wb.ink.items[0].letters") == "by keys")
@@ -334,14 +334,14 @@ def test_follow(tally: Tally, one: Sheet, other: Sheet) -> None:
     clean(one, other)
     number = one.page.value("wb.session.hello.me")
     one.page.mouse("mouseMoved", *at(one, (300, 300))[0], pressed=False)
-    tally.check("where others point has their name", other.page.wait(f"wb.presence.of({number})"))
+    tally.check("where others point has their name", other.page.wait(f"wb.others.of({number})"))
     other.unfold("#members button")
     other.press("#members button")
     first = one.page.value("wb.session.board.page")
     draw(one, at(one, (300, 300), (330, 310)))
     is_settled(one, 1)
     one.page.value("wb.session.goToPage(null); 0")
-    one.page.wait(f"wb.session.board.page !== {json.dumps(first)}")
+    one.page.until(f"wb.session.board.page !== {json.dumps(first)}")
     one.page.mouse("mouseMoved", *at(one, (320, 320))[0], pressed=False)
     one.page.mouse("mouseMoved", *at(one, (330, 330))[0], pressed=False)
     tally.check("who follows turns pages with them", other.page.wait(f"wb.session.board.page === {json.dumps(one.page.value('wb.session.board.page'))}"))

@@ -65,7 +65,7 @@ class Teacher:
             self.sheet.page.click(*at(self.sheet, *points)[0])
         else:
             self.draw(*points)
-        self.sheet.page.wait("document.activeElement === wb.typing.box")
+        self.sheet.page.until("document.activeElement === wb.typing.box")
         self.sheet.page.call("Input.insertText", text=text)
         self.sheet.page.key("Enter", held)
 
@@ -75,7 +75,7 @@ class Teacher:
         for count in (1, 2):
             for kind in ("mousePressed", "mouseReleased"):
                 self.sheet.page.call("Input.dispatchMouseEvent", type=kind, x=x, y=y, button="left", buttons=1, clickCount=count)
-        self.sheet.page.wait("document.activeElement === wb.typing.box")
+        self.sheet.page.until("document.activeElement === wb.typing.box")
         self.sheet.page.call("Input.insertText", text=text)
         self.sheet.page.key("Enter")
 
@@ -130,7 +130,7 @@ def write_letters(anna: Teacher) -> None:
         anna.take("r", "violet", "normal")
         anna.draw((x, 850), (x + 80, 880), (x + 160, 920))
         anna.take("v")
-        anna.sheet.page.wait(f"wb.ink.items.filter(({{ kind }}) => kind === 'r').length === {n + 2} && !wb.session.waiting.size")
+        anna.sheet.page.until(f"wb.ink.items.filter(({{ kind }}) => kind === 'r').length === {n + 2} && !wb.session.waiting.size")
         anna.label(text, (x, 885))
         if n:
             anna.take("a", "violet", "normal")
@@ -142,14 +142,14 @@ def write_letters(anna: Teacher) -> None:
 def pictures(one: Sheet, other: Sheet, folder: Path) -> None:
     """Pictures of the finished page, for docs and for whoever looks at them."""
     other.page.mouse("mouseMoved", 910, 615, pressed=False)
-    one.page.wait("wb.presence.others.some(({ pointed }) => pointed.cell)")
+    one.page.until("wb.others.heard.some(({ pointed }) => pointed.cell)")
     one.page.picture(folder / "live-board.png")
     for name, width, height, scheme, panel in (("night", WIDTH, HEIGHT, "dark", "chat"), ("network", WIDTH, HEIGHT, "light", "net"), ("tablet", 820, 1180, "light", ""),
                                                ("phone", 390, 844, "light", ""), ("phone-night", 390, 844, "dark", "people")):
         one.be(width, height, scheme, "finger" if width < 1000 else "mouse")
         one.page.value(f"wb.view.sheet.focus(); wb.sight.fitAll(); {panel!r} ? wb.side.show({panel!r}) : wb.side.close(); 0")
         time.sleep(0.6)
-        one.page.wait("!wb.painter.isPlanned")
+        one.page.until("!wb.painter.isPlanned")
         one.page.picture(folder / f"page-{name}.png")
     one.be(WIDTH, HEIGHT, "light", "mouse")
     one.page.value("wb.side.close(); wb.sight.setLook(false); wb.view.fit(); wb.view.home(); 0")
@@ -204,7 +204,7 @@ def give_lesson(one: Sheet, other: Sheet) -> Lesson:
         one.page.wait("!wb.session.waiting.size && !wb.ink.waiting.length", 0.2)
         if one.page.value(PICTURE) == other.page.value(PICTURE):
             equal = time.monotonic() - ended
-    other.page.wait(f"{LOST} > 0")
+    other.page.until(f"{LOST} > 0")
     return Lesson(ended - began, equal, int(one.page.value(DRAWN)), int(other.page.value(LOST)))
 
 
@@ -220,5 +220,5 @@ def test_lesson(tally: Tally, browser: Browser, room: Path, ports: int) -> None:
         if os.environ.get("WB_PICTURES"):
             for sheet, text in ((other, "Is the leaf warm?"), (one, "Good question! Put your hand on one at noon.")):
                 sheet.page.value(f"wb.notes.say({json.dumps(text)}); 0")
-                one.page.wait(f"wb.notes.told.said.some((said) => said.text === {json.dumps(text)})")
+                one.page.until(f"wb.notes.told.said.some((said) => said.text === {json.dumps(text)})")
             pictures(one, other, Path(os.environ["WB_PICTURES"]))

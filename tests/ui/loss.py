@@ -37,7 +37,7 @@ LONGEST = 60.0
 
 # what a window knows of drawing 2: drawings that are shown, how the board is, whether it was asked for, whether it was sent again
 STATE = """(() => {
-    const { session: { board, shown }, wire: { entries } } = wb;
+    const { session: { board, shown }, traffic: { entries } } = wb;
     const of = (kind) => entries.filter((entry) => entry.kind === kind && entry.name?.endsWith(` ${board.page} 2`));
     return JSON.stringify({ shown: board.drawops.length, told: document.getElementById('state')?.textContent ?? '',
         asked: of('request').length, repaired: of('draw').filter(({ answers }) => answers != null).length });

@@ -79,7 +79,7 @@ def measure_frames(tally: Tally, one: Sheet, other: Sheet) -> None:
             print("skipped: whether that is 60 frames a second, which is judged where WB_MEASURE is set")
     page = one.page.value("wb.session.board.page")
     one.page.value("wb.session.goToPage(null); 0")
-    one.page.wait(f"wb.session.board.page !== {json.dumps(page)}")
+    one.page.until(f"wb.session.board.page !== {json.dumps(page)}")
     one.resize(1280, 800)
 
 

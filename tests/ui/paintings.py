@@ -143,7 +143,7 @@ def measure_strokes(tally: Tally, one: Sheet, other: Sheet) -> None:
     clean(one, other)
     # what is shown is not on the board: with this the page is not taken for an empty one afterwards
     one.page.value("wb.session.send('line 0 0 1 0 *').then(({ ok }) => ok)")
-    one.page.wait("wb.session.board.drawops.length === 1 && !wb.session.waiting.size")
+    one.page.until("wb.session.board.drawops.length === 1 && !wb.session.waiting.size")
     one.page.value(KIT)
     one.page.call("Performance.enable", timeDomain="threadTicks")
     one.page.value(f"figures.show(figures.strokes({MANY}))")

@@ -19,7 +19,7 @@ CATCH = """(window.saved = {}, wb.files.save = (ending, kind, content) => {
 def ask(sheet: Sheet, button: str, text: str) -> None:
     """Fills in the form that a button opens."""
     sheet.press(button)
-    sheet.page.wait("document.getElementById('asking').open && document.activeElement.id === 'asked'")
+    sheet.page.until("document.getElementById('asking').open && document.activeElement.id === 'asked'")
     sheet.page.call("Input.insertText", text=text)
     sheet.press("#asking [value=ok]")
 
@@ -28,7 +28,7 @@ def introduce(sheet: Sheet, name: str, colour: str) -> None:
     """Tells a name and a colour by the form that asks for them."""
     sheet.unfold("#my-name")
     sheet.press("#my-name")
-    sheet.page.wait("document.getElementById('welcome').open && document.activeElement.id === 'welcome-name'")
+    sheet.page.until("document.getElementById('welcome').open && document.activeElement.id === 'welcome-name'")
     sheet.page.value("document.getElementById('welcome-name').select()")
     sheet.page.call("Input.insertText", text=name)
     sheet.press(f"#welcome-colours [aria-label={colour}]")
@@ -96,13 +96,12 @@ def test_files(tally: Tally, one: Sheet, other: Sheet, name: str) -> None:
     on_a_new_page(one, other)
     one.page.value("wb.hand.pointer = null; Object.assign(wb.hand.cursor, { x: 2, y: 1, on: true }); 0")
     one.page.value(f"{PASTE}({json.dumps('frame 2 1 8 3 #' + chr(10) + 'text 3 2 ' + chr(34) + 'a<b&c' + chr(34))})")
-    one.shows(2, 1, "#######")
-    one.shows(3, 2, "a<b&c")
-    one.page.wait("wb.session.leaves().some(({ page, drawn }) => page === wb.session.board.page && drawn === 2)")
+    tally.check("what was pasted is shown", one.shows(2, 1, "#######") and one.shows(3, 2, "a<b&c"))
+    one.page.until("wb.session.leaves().some(({ page, drawn }) => page === wb.session.board.page && drawn === 2)")
     one.page.value(CATCH)
     for button in ("save-text", "save-svg", "save-png", "save-html", "save-record"):
         one.press("#file")
-        one.page.wait("document.getElementById('files').open")
+        one.page.until("document.getElementById('files').open")
         one.press(f"#{button}")
     tally.check("all are saved", one.page.wait("Object.keys(saved).length === 5"), str(one.page.value("Object.keys(saved).join()")))
     tally.check("a page as text", one.page.value("saved.txt") == "\n  #######\n  #a<b&c#\n  #######\n", repr(one.page.value("saved.txt")))
@@ -126,7 +125,7 @@ def test_glances(tally: Tally, one: Sheet, other: Sheet, name: str) -> None:
     one.press("#glances [aria-current=false]")
     tally.check("one of them is turned to", one.page.wait(f"wb.session.board.page !== {json.dumps(before)} && !document.getElementById('overview').open"))
     one.page.value(f"wb.session.goToPage({json.dumps(before)}); 0")
-    one.page.wait(f"wb.session.board.page === {json.dumps(before)}")
+    one.page.until(f"wb.session.board.page === {json.dumps(before)}")
 
 
 def test_people(tally: Tally, one: Sheet, other: Sheet) -> None:

@@ -11,7 +11,7 @@ from pathlib import Path
 from typing import Iterator
 
 from ..facts import Facts
-from ..live.browser import PATIENCE, BrowserFault, Page
+from ..live.browser import PATIENCE, BrowserFault, Missed, Page
 
 TOP = Path(__file__).resolve().parents[2]
 
@@ -69,9 +69,9 @@ class Sheet:
 
     def resize(self, width: int, height: int, mobile: bool = False) -> None:
         self.page.resize(width, height, mobile)
-        self.page.wait(f"innerWidth === {width} && wb.view.width === wb.view.sheet.clientWidth && wb.view.height === wb.view.sheet.clientHeight")
+        self.page.until(f"innerWidth === {width} && wb.view.width === wb.view.sheet.clientWidth && wb.view.height === wb.view.sheet.clientHeight")
 
-    def wish(self, scheme: str) -> bool:
+    def wish(self, scheme: str) -> bool | Missed:
         """The system asks for light or dark. Whether the page comes to be so."""
         self.page.prefer(color_scheme=scheme)
         return self.page.wait(f"document.documentElement.dataset.theme === {json.dumps(scheme)}")
@@ -152,7 +152,7 @@ class Sheet:
         if self.page.value("document.getElementById('side').hidden"):
             self.press("#fold")
         self.press("#" + self.page.value(f"document.querySelector({json.dumps(chosen)}).closest('.panel').getAttribute('aria-labelledby')"))
-        self.page.wait(f"document.querySelector({json.dumps(chosen)}).getClientRects().length > 0")
+        self.page.until(f"document.querySelector({json.dumps(chosen)}).getClientRects().length > 0")
 
     def fold(self) -> None:
         if not self.page.value("document.getElementById('side').hidden"):
@@ -163,12 +163,12 @@ class Sheet:
         """As ink, or by its cells."""
         self.page.value(f"wb.sight.setLook({json.dumps(look == 'ink')}); 0")
 
-    def shows(self, x: int, y: int, text: str, seconds: float = PATIENCE) -> bool:
+    def shows(self, x: int, y: int, text: str, seconds: float = PATIENCE) -> bool | Missed:
         """Whether a row comes to show a text from a column on. An empty place is a space."""
         row = f"(document.getElementById('text').textContent.split('\\n')[{y}] ?? '')"
         return self.page.wait(f"{row}.padEnd(300).substr({x}, {len(text)}) === {json.dumps(text)}", seconds)
 
-    def is_inked(self, x: int, y: int, seconds: float = PATIENCE) -> bool:
+    def is_inked(self, x: int, y: int, seconds: float = PATIENCE) -> bool | Missed:
         """Whether the cell comes to have a point on the canvas that is far from the paper's colour, once all is painted."""
         return self.page.wait(f"""!wb.painter.isPlanned && (() => {{
             const {{ view, painter: {{ brush, canvas }} }} = wb;
@@ -205,4 +205,6 @@ class Tally:
         self.where = ""
 
     def check(self, name: str, is_so: object, told: str = "") -> None:
-        self.facts(f"{name}{self.where}", True if is_so else told or False)
+        """A fact, what there was in its place, and what the page was waited for."""
+        waited = [is_so] if isinstance(is_so, Missed) else []
+        self.facts.holds(f"{name}{self.where}", is_so, *filter(None, [told]), *waited)

@@ -30,3 +30,10 @@ def test_types() -> None:
 
 def test_units() -> None:
     run_tests(HERE / "units.test.mjs")
+
+
+def test_names() -> None:
+    """No name of a script has two meanings: what the page has and what the member in a browser has are called differently."""
+    page, member = ({path.name for path in (TOP / folder).glob("*.js")} for folder in ("live/ui", "web/member"))
+    assert page and member
+    assert page & member == set()

@@ -6,7 +6,7 @@ import math
 import time
 from typing import Union
 
-from ..live.browser import CONTROL, SHIFT
+from ..live.browser import CONTROL, SHIFT, Missed
 
 from .sheets import Sheet, Tally
 
@@ -38,19 +38,19 @@ def on_a_new_page(one: Sheet, other: Sheet) -> None:
     new = json.dumps(one.page.value("wb.session.member.choose(null).then(({ page }) => page)"))
     other.page.value(f"wb.session.goToPage({new}); 0")
     for sheet in (one, other):
-        sheet.page.wait(f"wb.session.board.page === {new} && !wb.session.shown.size")
+        sheet.page.until(f"wb.session.board.page === {new} && !wb.session.shown.size")
 
 
 def count(sheet: Sheet) -> int:
     return int(sheet.page.value("wb.session.board.drawops.length"))
 
 
-def has(sheet: Sheet, drawn: int) -> bool:
+def has(sheet: Sheet, drawn: int) -> bool | Missed:
     """Whether the page comes to show this many drawings, and no more soon after."""
     return sheet.page.wait(f"wb.session.board.drawops.length === {drawn} && !wb.session.waiting.size")
 
 
-def both_have(one: Sheet, other: Sheet, drawn: int) -> bool:
+def both_have(one: Sheet, other: Sheet, drawn: int) -> bool | Missed:
     """The same of both: who drew last may hear of it last."""
     return has(one, drawn) and has(other, drawn)
 
@@ -63,7 +63,7 @@ def test_pen(tally: Tally, one: Sheet, other: Sheet) -> None:
     one.stroke(points)
     most = math.ceil(MOST_OF_A_SECOND * max(1.0, time.monotonic() - began))
     tally.check("a stroke of the pen appears in the other window", other.page.wait("wb.session.board.drawops.length > 3 && wb.layout.markAt(4, 4) === '#'"))
-    one.page.wait("!wb.session.waiting.size")
+    one.page.until("!wb.session.waiting.size")
     tally.check("it took few drawops", count(one) <= most, str(count(one)))
     tally.check("it ends where the hand let go", other.page.wait("wb.layout.markAt(10, 12) === '#'"))
     one.page.key("z", CONTROL)

@@ -1,8 +1,9 @@
 // The modules of the page that need no browser, with values from outside: `node --test tests/ui/units.test.mjs`.
 import test from 'node:test';
-import { boxAbout, cover, coverLine, covers, kept, orderOf, shifted, spell } from '../../live/ui/cells.js';
+import { boxAbout, cover, coverLine, kept, orderOf, shifted, spell, touches } from '../../live/ui/cells.js';
 import { shapeOf, shapesOf } from '../../live/ui/clipboard.js';
 import { colourOf } from '../../live/ui/colours.js';
+import { HttpMember } from '../../live/ui/connection.js';
 import { htmlOf, svgOf, textOf } from '../../live/ui/exports.js';
 import { clockOf, sceneAt } from '../../live/ui/film.js';
 import { readInk } from '../../live/ui/ink.js';
@@ -26,7 +27,7 @@ function testCells() {
   let sides = 0;
   cover({ ...line(0, 0, 3, 2), op: 'frame' }, () => { sides += 1; });
   check('the cells of a frame, its corners twice', sides, 14);
-  check('a text covers its cells', [covers(text(3, 1, 'ab'), { x: 4, y: 1 }), covers(text(3, 1, 'ab'), { x: 5, y: 1 })], [true, false]);
+  check('a text covers its cells', [4, 5].map((x) => touches(text(3, 1, 'ab'), { x0: x, y0: 1, x1: x, y1: 1 })), [true, false]);
   check('words of a text', spell(text(1, 2, 'a "b" \\')), 'text 1 2 "a \\"b\\" \\\\"');
   check('words of a line', spell(line(1, 2, 3, 4, '#')), 'line 1 2 3 4 #');
   check('a box about two', boxAbout([line(5, 9, 2, 3), text(7, 1, 'abc')]), { x0: 2, y0: 1, x1: 9, y1: 9 });
@@ -235,5 +236,23 @@ function testChanges() {
   check('what became of it', told, [[true, 0, 50, 50, 0], [false, 1, 0, 49, 1], [false, 0, 51, 100, 0], [false, 1, 1, 100, 0], [false, 1, 0, 99, 0]]);
 }
 
+/** A program that answers too late, or in part: nothing is thrown, so the page goes on. */
+async function testLateAnswers() {
+  const member = new HttpMember('token'), { fetch } = globalThis, late = () => Promise.reject(new Error('signal timed out')), shown = { page: '1/1', drawops: [] };
+  const answers = async (/** @type {any} */ answer) => {
+    globalThis.fetch = /** @type {any} */ (answer);
+    return [await member.read('1/1'), await member.record(), await member.draw('1/1', 'line 0 0 4 4 *')];
+  };
+  const none = { ok: false, fault: 'wb-live does not answer' };
+  try {
+    check('what comes', await answers(async () => ({ ok: true, json: async () => shown, text: async () => 'board' })), [shown, 'board', shown]);
+    check('what comes in part', await answers(async () => ({ ok: true, json: late, text: late })), [null, null, none]);
+    check('what does not come', await answers(late), [null, null, none]);
+    check('what is refused', (await answers(async () => ({ ok: false, json: async () => none }))), [null, null, none]);
+  } finally {
+    globalThis.fetch = fetch;
+  }
+}
+
 for (const each of [testSession, testChanges, testNotes, testLetters, testStretch, testState, testExports,
-  testFilm, testCells, testShapes, testTexts, testWords, testColours, testLayout, testFlood, testOrder]) test(each.name.slice('test'.length), each);
+  testFilm, testCells, testShapes, testTexts, testWords, testColours, testLayout, testFlood, testOrder, testLateAnswers]) test(each.name.slice('test'.length), each);

@@ -1,0 +1,98 @@
+"""What people do at a member: they draw, turn pages and undo; what waits, and what is refused."""
+from __future__ import annotations
+
+from concurrent.futures import Future
+from types import SimpleNamespace
+from typing import Any, Callable, List, Tuple
+
+from live.drawn import Drawn
+from live.member import Member
+from live.people import People, Refused
+from live.telling import Reported
+from live.views import Drawop, Page
+from wbhost import Block
+from ..facts import Facts
+
+PAGE = (7, 1)
+
+
+def fate_of(act: Callable[[], Any]) -> str:
+    """What becomes of what somebody draws."""
+    try:
+        act()
+    except Refused as fault:
+        return str(fault)
+    return "drawn"
+
+
+def test_room_of_words(facts: Facts) -> None:
+    """One cell in 16 is kept: of what people draw, names, titles and the chat alone have room there, and deletes and restores."""
+    drawn, drawings, others = SimpleNamespace(total=0), ("line 0 0 1 1 *", "frame 0 0 1 1 *", 'text 0 0 "a"'), ("delete 1 1", "restore 1 1")
+    draws = SimpleNamespace(cells=1_000, moment=0, draw=lambda page, time, operation: (Block([], None, None), Drawop("draw 1 7/1 1 5 line 0 0 1 1 *")))
+    judging = SimpleNamespace(fault_of_drawing=lambda: None, tails=SimpleNamespace(drew=lambda drawop, moment: None))
+    member: Any = SimpleNamespace(me=1, drawn=drawn, board=draws, judging=judging, send_all=lambda sent: None)
+    people = People(member)
+
+    def fates(total: int, page: Page, operations: Tuple[str, ...]) -> List[str]:
+        drawn.total = total
+        return [fate_of(lambda: people.draw_now(page, operation)) for operation in operations]
+
+    facts("up to them people draw", fates(937, PAGE, drawings), ["drawn"] * 3)
+    facts("no more from there on", fates(938, PAGE, drawings), ["full"] * 3)
+    facts("but for deletes and restores", fates(938, PAGE, others), ["drawn"] * 2)
+    facts("and for names, titles and the chat", fates(938, (0, 0), drawings), ["drawn"] * 3)
+
+
+def test_waiting_drawings(facts: Facts) -> None:
+    """Until the member may draw, 1,024 drawings wait."""
+    member: Any = SimpleNamespace(is_ready=False)
+    people, futures = People(member), [Future() for _ in range(1_025)]  # type: People, List[Future[Any]]
+    people.draw_now = lambda page, operation: {"words": operation}  # type: ignore[assignment]
+    for number, future in enumerate(futures):
+        people.draw_or_wait(future, PAGE, "delete 7 %d" % number)
+    facts("one more is refused at once", (len(people.draws), fate_of(lambda: futures.pop().result(0))), (1_024, "busy"))
+    people.begin()
+    facts("then all that waited are drawn", [future.result(0)["words"] for future in futures], ["delete 7 %d" % number for number in range(1_024)])
+
+
+def test_page_in_view(facts: Facts) -> None:
+    """Until somebody turns, the page in view is the first that is drawn on, but for the one of names."""
+    member: Any = SimpleNamespace(has_turned=False, page=(7, 1), drawn=Drawn(), telling=SimpleNamespace(is_changed=False, are_pages_changed=False))
+
+    def after(page: str, number: int) -> Page:
+        Member.hold(member, Drawop("draw 8 %s %d 10 line 0 1 4 1 *" % (page, number)))
+        page_in_view: Page = member.page
+        return page_in_view
+
+    facts("names are on no page to look at", after("0/0", 1), (7, 1))
+    facts("the first", after("8/2", 1), (8, 2))
+    facts("no other afterwards", after("8/3", 1), (8, 2))
+    member.has_turned, member.page = True, (7, 4)
+    facts("nor from the one that somebody has turned to", after("8/3", 2), (7, 4))
+
+
+def test_new_page(facts: Facts) -> None:
+    """A new page of ours is the first that nobody drew on or told of; one that is empty yet is new enough."""
+    drawn, reported, turned = Drawn(), Reported(), []  # type: Drawn, Reported, List[Any]
+    member: Any = SimpleNamespace(me=7, page=(1, 1), drawn=drawn, telling=SimpleNamespace(reported=reported), turn_to=turned.append)
+    for page in ((7, 1), (7, 3), (8, 2)):
+        drawn.add(Drawop("draw 7 %d/%d 1 10 line 0 1 4 1 *" % page))
+    people = People(member)
+    facts("the first that is free", people.new_page(), {"page": "7/2"})
+    reported.tell((8, (7, 2), 1))
+    facts("not one that somebody told of", people.new_page(), {"page": "7/4"})
+    member.page = (7, 1)
+    facts("another than one that is drawn on", people.new_page(), {"page": "7/4"})
+    member.page = (7, 9)
+    facts("one that is empty yet", (people.new_page(), turned), ({"page": "7/9"}, [(7, 2), (7, 4), (7, 4), (7, 9)]))
+
+
+def test_undo(facts: Facts) -> None:
+    """What we drew last is deleted, wherever its time puts it: of drawings that the host shows on the page in view."""
+    deleted: List[Any] = []
+    shown = {PAGE: [(7, PAGE, 2), (7, PAGE, 1), (8, PAGE, 4)], (7, 2): [(7, (7, 2), 5)]}
+    member: Any = SimpleNamespace(me=7, page=PAGE, board=SimpleNamespace(view=shown.__getitem__), is_ready=True)
+    people = People(member)
+    people.draw_now = lambda page, operation: deleted.append((page, operation)) or {}  # type: ignore[assignment, func-returns-value]
+    people.undo()
+    facts("the greatest number of ours that is shown", deleted, [(PAGE, "delete 7 2")])
