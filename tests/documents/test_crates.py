@@ -2,8 +2,11 @@
 
 from __future__ import annotations
 
+import ast
 import functools
+import operator
 import re
+from dataclasses import dataclass
 
 from .sources import CRATES, SPAN, TOP, crates_below, is_tests, nothing_is_wrong, rows_of, texts
 
@@ -20,8 +23,8 @@ LIMITS = {
     "script": [("wb_script/src/said.rt", "MAX_LINES", "{:,} lines"), ("wb_lines/src/line_reader.rt", "MAX_LINE_LEN", "{:,} bytes")],
 }
 
-# limits that a definition has as a number of its own, with which the source is proved
-HELD_BY_A_DEFINITION = {("wb_script", "MAX_LINES")}
+# constants that a definition has as a number of its own, with which the source is proved: `most_lines` and `row_words`
+HELD_BY_A_DEFINITION = {("wb_script", "MAX_LINES"), ("wb_codec", "ROW_WORDS")}
 
 
 def unsaid_crates() -> list[str]:
@@ -95,43 +98,81 @@ def wrong_limits() -> list[str]:
     return wrong
 
 
+OPERATIONS = {ast.Add: operator.add, ast.Sub: operator.sub, ast.Mult: operator.mul, ast.FloorDiv: operator.floordiv, ast.LShift: operator.lshift, ast.Pow: operator.pow}
+
+
 def value_of(text: str, known: dict[str, int]) -> int | None:
-    """The number that an expression of a source or of a law is, with the constants that stand before it; None where it is none."""
-    for name in re.findall(r"[A-Z]\w+", text):
-        text = text.replace(name, str(known.get(name, name)))
-    parts = re.fullmatch(r"(\d+)(?:(<<|\^)(\d+))?(-1)?", re.sub(r"\s|_", "", text))
-    if parts is None:
+    """The number that an expression of a source or of a law is, by the constants that it names; None if it is none."""
+
+    def value(it: ast.expr) -> int:
+        match it:
+            case ast.Constant(value=int(number)):
+                return number
+            case ast.Name(id=name):
+                return known[name]
+            case ast.BinOp(left=left, op=op, right=right):
+                result: int = OPERATIONS[type(op)](value(left), value(right))
+                return result
+        raise ValueError(f"no number: {ast.unparse(it)}")
+
+    plain = re.sub(r"\bas u\d+|\w+::", "", text).replace("^", "**").replace("/", "//").strip()
+    try:
+        return value(ast.parse(plain, mode="eval").body)
+    except (KeyError, SyntaxError, ValueError):
         return None
-    base, power, exponent, less = parts.groups()
-    whole: int = int(base) << int(exponent) if power == "<<" else int(base) ** int(exponent or 1)
-    return whole - 1 if less else whole
 
 
-def limits_of(sources: list[str]) -> dict[str, int | None]:
-    """The public limits of a crate, by their names. One that is another under a second name is left out."""
-    had: dict[str, int] = {}
-    limits: dict[str, int | None] = {}
-    for text in sources:
-        for name, value in re.findall(r"pub const ((?:MAX|MOST|FIRST)_\w+|\w+_LIMIT): \w+ = ([^;]+);", text):
-            number = value_of(value, had)
-            if value.strip() not in had:
-                limits[name] = number
+@dataclass
+class Numbers:
+    """The public constants of a crate that are numbers, with the values that a name has in it, and those that a law has to say: not of what is
+    another constant under a second name, or used by nothing."""
+
+    values: dict[str, set[int | None]]
+    owed: dict[str, set[int | None]]
+
+
+@functools.cache
+def numbers_in(crate: str) -> Numbers:
+    known: dict[str, int] = {}
+    for below in crates_below()[crate]:
+        if below in crates_below():
+            known |= {name: number for name, numbers in numbers_in(below).values.items() for number in numbers if number is not None}
+    found = Numbers({}, {})
+    for path in sorted((CRATES / crate / "src").rglob("*.rt")):
+        for name, value in re.findall(r"pub const (\w+): (?:u\d+|usize) = ([^;]+);", path.read_text()):
+            number = value_of(value, known)
+            found.values.setdefault(name, set()).add(number)
+            if value.strip() not in known and len(re.findall(rf"\b{name}\b", texts()[crate])) > 1:
+                found.owed.setdefault(name, set()).add(number)
             if number is not None:
-                had[name] = number
-    return limits
+                known[name] = number
+    return found
 
 
-def unpinned_limits() -> list[str]:
-    """The limits of crates whose law `limits` does not say the value that the source has, and what such a law says beside them."""
-    wrong = []
-    for crate in sorted(CRATES.iterdir()):
-        sources = {path: path.read_text() for path in sorted((crate / "src").rglob("*.rt"))}
-        law = re.search(r"pub fn limits\(\)\n((?:    ensures .*\n)*)\{\}", sources.get(crate / "src/laws.rt", ""))
-        said = {name: value_of(value, {}) for name, value in re.findall(r"(\w+) ≡ ([\d ^-]*\d)", law[1] if law else "")}
-        had = {name: number for name, number in limits_of(list(sources.values())).items() if (crate.name, name) not in HELD_BY_A_DEFINITION}
-        wrong += [f"{name} of {crate.name} is {number}, and its law `limits` says {said.get(name)}" for name, number in had.items() if number is None or said.get(name) != number]
-        wrong += [f"the law `limits` of {crate.name} says {name}, which is no public constant" for name in said if name not in had]
-    return wrong
+def numbers_said() -> dict[tuple[str, str], set[int | None]]:
+    """What the laws say of constants, by the crate of each and its name: the clauses of functions without a body."""
+    said: dict[tuple[str, str], set[int | None]] = {}
+    for path in sorted(CRATES.glob("*/src/laws.rt")):
+        text = path.read_text()
+        lists = re.findall(r"^ghost use Rattle\.(\w+)\.specs\.declared\.[\w.]+\.TheConstants\.(?:\w+\.)?\{([^}]*)\};", text, re.MULTILINE)
+        crate_of = {name: crate for crate, names in lists for name in re.findall(r"\w+", names)}
+        for law in re.findall(r"^pub fn \w+\(\)\n((?:    ensures .*\n)*)\{\}", text, re.MULTILINE):
+            for name, value in re.findall(r"\b([A-Z][A-Z_]+) ≡ ([\d ^-]*\d)", law):
+                said.setdefault((crate_of.get(name, path.parts[-3]), name), set()).add(value_of(value, {}))
+    return said
+
+
+def unpinned_numbers() -> list[str]:
+    """The constants whose value no law says, or another than the source has; and constants of laws that no source has."""
+    said, wrong = numbers_said(), []
+    for crate in crates_below():
+        numbers = numbers_in(crate)
+        for name, values in numbers.values.items():
+            told = said.pop((crate, name), set())
+            owed = set() if (crate, name) in HELD_BY_A_DEFINITION else numbers.owed.get(name, set())
+            if not owed <= told <= values:
+                wrong.append(f"{name} of {crate} is {values}, and a law says {told or 'nothing'} of it")
+    return wrong + [f"a law says {name} of {crate}, which has no such public constant" for crate, name in said]
 
 
 def test_each_crate_is_told_of() -> None:
@@ -146,5 +187,5 @@ def test_limits() -> None:
     nothing_is_wrong(wrong_limits())
 
 
-def test_laws_of_the_limits() -> None:
-    nothing_is_wrong(unpinned_limits())
+def test_laws_of_the_numbers() -> None:
+    nothing_is_wrong(unpinned_numbers())

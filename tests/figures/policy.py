@@ -24,6 +24,7 @@ CONSTANTS = "2,2,1,1"
 WAY = 20_000
 HEADERS = 28  # bytes of IP and UDP
 LONGEST = 1_200  # simulated seconds, after which a session that is not whole is given up
+RUNS = 60  # of each case
 
 
 class Case(NamedTuple):
@@ -33,7 +34,6 @@ class Case(NamedTuple):
     members: int
     lost: float
     does: Callable[["Session"], float]
-    runs: int
     way: int = WAY
 
 
@@ -124,20 +124,31 @@ def outages(stretch: int, lost: int) -> List[int]:
     return [first + more for first in (1, 1 + step, 1 + 2 * step) for more in range(stretch)]
 
 
+def at_random(count: int, most: int, session: Session) -> List[int]:
+    """So many numbers at random places, the last of which is the greatest."""
+    return [*sorted(session.random.sample(range(1, most), count - 1)), most]
+
+
+def join_of_random(count: int, most: int, session: Session) -> float:
+    """A join of these."""
+    return join_of(at_random(count, most, session), 1, session)
+
+
 CASES = [
-    Case("all draw at the start, 0.3 ms", 2, 0.3, partial(all_draw, 20, 0), 60, 300),
-    Case("all draw at the start, 0.3 ms", 3, 0.3, partial(all_draw, 20, 0), 60, 300),
-    Case("all draw at the start", 2, 0.3, partial(all_draw, 20, 0), 60),
-    Case("all draw at the start", 3, 0.3, partial(all_draw, 20, 0), 60),
-    Case("all draw at the start", 8, 0.3, partial(all_draw, 20, 0), 60),
-    Case("all draw after 30 s", 2, 0.3, partial(all_draw, 20, 30), 60),
-    Case("all draw after 30 s", 3, 0.3, partial(all_draw, 20, 30), 60),
-    Case("a join of 1,000", 2, 0.5, partial(join_of, range(1, 1_001), 1), 60),
-    Case("a join of 1,000", 3, 0.5, partial(join_of, range(1, 1_001), 1), 60),
-    *(Case("two outages of 70 held by nobody", members, 0.0, partial(join_of, outages(60, 70), 1), 60 if members < 30 else 6) for members in (2, 3, 8, 30)),
-    Case("9 of 10 held by nobody", 3, 0.3, partial(join_of, range(10, 501, 10), 1), 60),
-    Case("9 of 10 held by nobody", 8, 0.3, partial(join_of, range(10, 501, 10), 1), 60),
-    Case("69 of 70 held by nobody", 3, 0.0, partial(join_of, range(70, 1_401, 70), 1), 60),
+    Case("all draw at the start, 0.3 ms", 2, 0.3, partial(all_draw, 20, 0), 300),
+    Case("all draw at the start, 0.3 ms", 3, 0.3, partial(all_draw, 20, 0), 300),
+    Case("all draw at the start", 2, 0.3, partial(all_draw, 20, 0)),
+    Case("all draw at the start", 3, 0.3, partial(all_draw, 20, 0)),
+    Case("all draw at the start", 8, 0.3, partial(all_draw, 20, 0)),
+    Case("all draw after 30 s", 2, 0.3, partial(all_draw, 20, 30)),
+    Case("all draw after 30 s", 3, 0.3, partial(all_draw, 20, 30)),
+    Case("a join of 1,000", 2, 0.5, partial(join_of, range(1, 1_001), 1)),
+    Case("a join of 1,000", 3, 0.5, partial(join_of, range(1, 1_001), 1)),
+    *(Case("two outages of 70 held by nobody", members, 0.0, partial(join_of, outages(60, 70), 1)) for members in (2, 3, 8, 30)),
+    Case("9 of 10 held by nobody", 3, 0.3, partial(join_of, range(10, 501, 10), 1)),
+    Case("9 of 10 held by nobody", 8, 0.3, partial(join_of, range(10, 501, 10), 1)),
+    Case("50 of 500 at random places", 3, 0.3, partial(join_of_random, 50, 500)),
+    Case("69 of 70 held by nobody", 3, 0.0, partial(join_of, range(70, 1_401, 70), 1)),
 ]
 
 
@@ -153,9 +164,9 @@ def run(place: int, seed: int) -> Found:
     return found
 
 
-def requests_of_nobody(place: int, seed: int) -> List[float]:
+def requests_of_nobody(seed: int) -> List[float]:
     """Three members hear of 9 of 10 numbers that nobody holds: the requests a second of each from 10 to 20 minutes, and from two hours on for ten minutes."""
-    session = Session(seed + place, 0.0, WAY)
+    session = Session(seed, 0.0, WAY)
     for _ in range(3):
         session.join()
     session.hold(session.members, range(10, 501, 10))
@@ -167,6 +178,18 @@ def requests_of_nobody(place: int, seed: int) -> List[float]:
         rates.append((session.sent_of(datagrams.REQUEST) - before) / 600 / len(session.members))
     session.end()
     return rates
+
+
+def scattered(seed: int) -> int:
+    """Two members hold 20 numbers at random places among 1,400, and a third joins: how many it has after 20 minutes."""
+    session = Session(seed, 0.0, WAY)
+    for _ in range(3):
+        session.join()
+    session.hold(session.members[:-1], at_random(20, 1_400, session))
+    session.until(LONGEST * SECOND)
+    count = session.held[-1]
+    session.end()
+    return count
 
 
 # ---- the table
@@ -186,19 +209,22 @@ def row(case: Case, found: Sequence[Found]) -> str:
 
 def main(words: Optional[Sequence[str]] = None) -> None:
     given = argparse.ArgumentParser(description=(__doc__ or "").splitlines()[0])
-    given.add_argument("--runs", type=int, metavar="N", help="at most so many runs of each case")
+    given.add_argument("--runs", type=int, default=RUNS, metavar="N", help="so many runs of each case (%(default)s)")
     given.add_argument("--only", default="", metavar="WORD", help="the cases whose names have this")
     given.add_argument("--workers", type=int, metavar="N", help="so many sessions at once")
     options = given.parse_args(words)
     print("| | Members | Lost | Runs | Median, s | 90 in 100 | Greatest | Requests | Drawops | kB |\n|" + "---|" * 10)
+    seeds = range(1, 1 + options.runs)
     with ProcessPoolExecutor(options.workers) as workers:
         for place, case in enumerate(CASES):
             if options.only in case.name:
-                runs = min(case.runs, options.runs or case.runs)
-                print(row(case, list(workers.map(partial(run, place), range(1, 1 + runs)))), flush=True)
+                print(row(case, list(workers.map(partial(run, place), seeds))), flush=True)
         if options.only in "requests for what nobody holds":
-            rates = list(workers.map(partial(requests_of_nobody, 0), range(1, 1 + min(10, options.runs or 10))))
+            rates = list(workers.map(requests_of_nobody, seeds))
             print("requests a second of a host for what nobody holds, from 10 minutes on, and two hours later: %s" % ", ".join("%.2f" % statistics.median(each) for each in zip(*rates)))
+        if options.only in "20 of 1,400 at random places":
+            counts = sorted(workers.map(scattered, seeds))
+            print("of 20 of 1,400 at random places a newcomer has after 20 minutes: %d, and from %d to %d" % (statistics.median_low(counts), counts[0], counts[-1]))
 
 
 if __name__ == "__main__":

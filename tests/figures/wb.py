@@ -10,17 +10,22 @@ Forty sources draw 60,000 drawops on four pages in turn: lines, frames and texts
                goes on, and others ask for drawops and tell what they have; after each 1,000 a page is looked through
 
 Each script is run so often, and the least and the median are printed, in nanoseconds a line: by the clock, and of
-processors. The start of the program is in them.
+processors. The start of the program is in them. If there is a rustc, the same is done by a program in plain Rust that
+knows arrivals alone (run_plain.rs); if there is a valgrind too, the instructions of both are counted.
 """
 
 from __future__ import annotations
 
 import os
+import re
+import shutil
 import subprocess
 import sys
 import tempfile
 import time
 from collections.abc import Callable, Iterable, Iterator, Sequence
+from pathlib import Path
+from typing import Optional
 
 ROUNDS = 25
 COUNT = 60_000
@@ -127,20 +132,51 @@ def print_row(label: str, command: Sequence[str], given: bytes) -> None:
     print(f"{label:<20}{lines:>8}" + "".join(f"{cell:>10}" for cell in cells), flush=True)
 
 
+def build_plain(room: str) -> Optional[str]:
+    """The program in plain Rust, if there is a compiler."""
+    if not shutil.which("rustc"):
+        print("without a program in plain Rust beside it, for there is no rustc here (apt-get install rustc)")
+        return None
+    program = f"{room}/run_plain"
+    subprocess.run(["rustc", "--edition", "2024", "-C", "opt-level=3", "-o", program, str(Path(__file__).with_name("run_plain.rs"))], check=True)
+    return program
+
+
+def instructions(command: Sequence[str], given: bytes) -> float:
+    """The instructions of a run, in millions."""
+    tool = ["valgrind", "--tool=callgrind", "--callgrind-out-file=/dev/null"]
+    told = subprocess.run([*tool, *command], input=given, stdout=subprocess.DEVNULL, stderr=subprocess.PIPE, check=True).stderr.decode()
+    found = re.search(r"Collected : (\d+)", told)
+    assert found, told
+    return int(found.group(1)) / 1e6
+
+
+def print_beside(label: str, command: Sequence[str], plain: str, given: bytes) -> None:
+    """The same by the program in plain Rust, and the instructions of both."""
+    print_row(f"plain, {label}", [plain], given)
+    if shutil.which("valgrind"):
+        ours, other = instructions(command, given), instructions([plain], given)
+        print(f"  million instructions: {ours:.1f} by run, {other:.1f} by plain Rust, {ours / other:.2f} of these", flush=True)
+
+
 def main() -> None:
     top, words = sys.argv[1], sys.argv[2:]
     subprocess.run([f"{top}/wb", "hex"], stdin=subprocess.DEVNULL, check=True)
     where = subprocess.run([f"{top}/wb", "--where"], stdout=subprocess.PIPE, text=True, check=True)
     program = where.stdout.rstrip("\n")
     print("nanoseconds a line: by the clock, least and median, and of processors, least and median")
-    for kind in ["arrivals", "repeated", "shows", "losses"]:
-        told = script(kind)
-        given = subprocess.run([program, "hex"], input=told, stdout=subprocess.PIPE, check=True).stdout
-        print_row(f"run, {kind}", [program, "run", *words], given)
-        if kind == "arrivals":
-            print_row("check, arrivals", [program, "check"], given)
-            print_row("hex, arrivals", [program, "hex"], told)
-            print_row("words, arrivals", [program, "words"], given)
+    with tempfile.TemporaryDirectory() as room:
+        plain = build_plain(room)
+        for kind in ["arrivals", "repeated", "shows", "losses"]:
+            told = script(kind)
+            given = subprocess.run([program, "hex"], input=told, stdout=subprocess.PIPE, check=True).stdout
+            print_row(f"run, {kind}", [program, "run", *words], given)
+            if plain and kind in ("arrivals", "repeated"):
+                print_beside(kind, [program, "run", *words], plain, given)
+            if kind == "arrivals":
+                print_row("check, arrivals", [program, "check"], given)
+                print_row("hex, arrivals", [program, "hex"], told)
+                print_row("words, arrivals", [program, "words"], given)
 
 
 if __name__ == "__main__":
