@@ -11,6 +11,7 @@ import shutil
 import subprocess
 import tempfile
 import time
+from collections.abc import Iterable
 from pathlib import Path
 from types import TracebackType
 from typing import Any
@@ -154,6 +155,11 @@ class Missed:
 
     def __repr__(self) -> str:
         return self.told
+
+
+def all_came(waits: Iterable[bool | Missed]) -> bool | Missed:
+    """The first that did not come, if any."""
+    return next((it for it in waits if not it), True)
 
 
 class Page:

@@ -6,6 +6,7 @@ import os
 import statistics
 import time
 
+from ..live.browser import all_came
 from .sheets import Sheet, Tally
 
 # rounds of the latency, and milliseconds that their median may not pass, on a machine that does nothing else
@@ -104,6 +105,6 @@ def measure(tally: Tally, one: Sheet, other: Sheet) -> None:
         taken.append(int(other.page.value("window.seen")) - int(one.page.value("window.released")))
     print(f"from the mouse's release to the paint in the other window: {statistics.median(taken):.0f} ms, the median of {ROUNDS}; "
           f"the greatest {max(taken)} ms, with a load of {os.getloadavg()[0]:.1f} on {os.cpu_count()} processors")
-    tally.check("each line is shown", all(other.shows(50, row, "#" * 11) for row in range(20, 20 + ROUNDS)))
+    tally.check("each line is shown", all_came(other.shows(50, row, "#" * 11) for row in range(20, 20 + ROUNDS)))
     if is_measured():
         tally.check(f"within {MOST_LATENCY} ms", statistics.median(taken) < MOST_LATENCY, str(taken))

@@ -6,7 +6,7 @@ import subprocess
 from pathlib import Path
 from typing import Callable
 
-from ..live.browser import PATIENCE, Browser
+from ..live.browser import PATIENCE, Browser, all_came
 
 from .sheets import BY_CELLS, TOP, Member, Sheet, Tally
 
@@ -14,12 +14,13 @@ from .sheets import BY_CELLS, TOP, Member, Sheet, Tally
 def test_tabs(tally: Tally, browser: Browser, member: Member) -> None:
     """Eight tabs of one member: each hears of drawings, and each draws."""
     tabs = [Sheet(browser.open(member.address, first=BY_CELLS)) for _ in range(8)]
-    tally.check("eight tabs are told", all(tab.page.wait("typeof wb !== 'undefined' && wb.session.isLinked && wb.session.board.page") for tab in tabs))
-    tabs[0].page.value("wb.session.goToPage(null)")
-    tally.check("they show one page", all(tab.page.wait("wb.session.board.drawops.length === 0") for tab in tabs))
+    tally.check("eight tabs are told", all_came(tab.page.wait("typeof wb !== 'undefined' && wb.session.isLinked && wb.session.board.page") for tab in tabs))
+    page = f"{member.number}/4000"
+    tabs[0].page.value(f"wb.session.goToPage('{page}')")
+    tally.check("they show one page", all_came(tab.page.wait(f"wb.session.board.page === '{page}' && wb.session.board.drawops.length === 0") for tab in tabs))
     for row, tab in enumerate(tabs):
         tab.page.value(f"wb.session.send('line 0 {row} 7 {row} =')")
-    tally.check("each draws, and all show it", all(tab.shows(0, row, "=" * 8) for tab in tabs for row in range(8)))
+    tally.check("each draws, and all show it", all_came(tab.shows(0, row, "=" * 8) for tab in tabs for row in range(8)))
     for tab in tabs:
         tab.page.close()
 

@@ -6,7 +6,7 @@ import math
 import time
 from typing import Union
 
-from ..live.browser import CONTROL, SHIFT, Missed
+from ..live.browser import CONTROL, SHIFT, Missed, all_came
 
 from .sheets import Sheet, Tally
 
@@ -80,7 +80,7 @@ def test_groups(tally: Tally, one: Sheet, other: Sheet) -> None:
     on_a_new_page(one, other)
     one.keys("b")
     one.drag((4, 2), (13, 5))
-    tally.check("a filled frame", all(other.shows(4, row, "#" * 10) for row in range(2, 6)) and has(other, 4))
+    tally.check("a filled frame", all_came(other.shows(4, row, "#" * 10) for row in range(2, 6)) and has(other, 4))
     one.keys("a")
     one.drag((4, 8), (12, 8))
     tally.check("an arrow has a head", other.shows(4, 8, "########>"))
@@ -125,7 +125,7 @@ def test_selection(tally: Tally, one: Sheet, other: Sheet) -> None:
     tally.check("a selection is moved", other.shows(8, 8, "######") and other.shows(4, 2, " " * 6))
     tally.check("it stays selected", one.page.wait("wb.hand.selected().length === 1 && wb.hand.selected()[0].x0 === 8"))
     one.page.key("z", CONTROL)
-    tally.check("one undo moves it back", all(sheet.shows(4, 2, "######") and sheet.shows(8, 8, " " * 6) and has(sheet, 2) for sheet in (one, other)))
+    tally.check("one undo moves it back", all_came(sheet.shows(4, 2, "######") and sheet.shows(8, 8, " " * 6) and has(sheet, 2) for sheet in (one, other)))
     one.page.key("a", CONTROL)
     tally.check("all are selected", one.page.wait("wb.hand.selected().length === 2"))
     one.page.key("Delete")
@@ -184,12 +184,12 @@ def test_keys(tally: Tally, one: Sheet, other: Sheet) -> None:
             one.page.value("wb.hand.setGlyph('#'); wb.hand.drop(); wb.view.sheet.focus(); Object.assign(wb.hand.cursor, { x: 5, y: 5, on: true }); 0")
             for key in keys:
                 one.page.key(*key) if isinstance(key, tuple) else one.keys(key)
-            is_so = all(other.shows(5, y, row) for y, row in wanted.items())
+            is_so = all_came(other.shows(5, y, row) for y, row in wanted.items())
             tally.check(f"{name} by keys ({width} points, {scheme})", is_so, other.text_of("text"))
             one.page.key("z", CONTROL)
             rows = {y: " " * len(row) for y, row in wanted.items()}
             rows.update({int(line.split()[2]): line[-1] * 7 for line in ground})
-            tally.check(f"undo of {name} by keys ({width} points, {scheme})", all(other.shows(5, y, row) for y, row in rows.items()), other.text_of("text"))
+            tally.check(f"undo of {name} by keys ({width} points, {scheme})", all_came(other.shows(5, y, row) for y, row in rows.items()), other.text_of("text"))
     one.be(*USUAL)
 
 
