@@ -86,7 +86,8 @@ def check_names(facts: Facts, room: BrokerFiles) -> None:
     facts("what a broker keeps is not heard by who comes later", kept["m3"].wait_for(b"kept for later", 0.5), None)
     late.end()
     facts("who ends is gone", kept["m1"].wait_for(GONE + b"m3"), Origin("m3", True))
-    client._sock.shutdown(socket.SHUT_RDWR)
+    with contextlib.suppress(OSError):  # if it is cut off already, on a busy machine
+        client._sock.shutdown(socket.SHUT_RDWR)
     facts("who is cut off is gone too", kept["m1"].wait_for(GONE + b"mallory"), Origin("mallory", True))
     for carrier in carriers.values():
         carrier.end()
