@@ -46,6 +46,7 @@ impl Model for Member {
 impl Member {
     /// An empty board of `cells` cells, a keeper of the member that has heard nothing, with these
     /// constants of its timers, and the random words of a seed.
+    #[tactic(auto, unfolding(crate::specs::Random::started))]
     pub fn open(
         alloc: Global,
         member: u32,

@@ -77,6 +77,7 @@ impl Policy {
     /// Begins at a moment. The reports of all members together take `rate` bytes a second, at least
     /// 1. For `listen` microseconds, below 2^32, nothing is added. The first word of the seed says
     /// when it reports, the second when it asks for pages.
+    #[tactic(auto, unfolding(crate::specs::Words::started))]
     pub fn new(now: u64, rate: u64, listen: u64, seed: u64) -> Policy
         requires moment { IsMoment now }
         requires rate { 1 ≤ rate }
