@@ -20,7 +20,7 @@ from ..host.memory import library
 
 TOP = Path(__file__).resolve().parents[2]
 CASES = TOP / "tests/value_cases"
-CRATES = "wb_script wb_commands wb_lines wb_filters wb_words wb_codec wb_gaps wb_display wb_recovery wb_history wb_board wb_keeper wb_feed wb_member wb_policy wb_keeping wb_judge wb_judging wb_names"
+CRATES = "wb_script wb_commands wb_lines wb_filters wb_words wb_codec wb_gaps wb_display wb_recovery wb_history wb_board wb_keeper wb_feed wb_random wb_member wb_policy wb_keeping wb_judge wb_judging wb_names"
 TESTS = "wb_value_tests"
 PATIENCE = 60  # seconds of one run
 SPARED = 20  # runs that come to nothing which is refused, until no further one is tried

@@ -8,11 +8,8 @@ use std::alloc::{AllocError, Global};
 use std::collections::VecDeque;
 use std::convert::Infallible;
 use wb_judged_dialog::JudgedDialog;
-use wb_lines::{Handler, Output, Stop};
+use wb_lines::{Handler, MAX_LINE_LEN, Output, Stop};
 use wb_recovery::Tuning;
-
-/// A longer line is refused, and not read. The law of `answer` ties this to the definition.
-const MAX_LINE_LEN: usize = 65_536;
 
 /// A host, the block of its last line and the events of its calls by bytes, until these are fetched.
 #[derive(Drop)]
@@ -48,7 +45,7 @@ impl Room {
         }
     }
 
-    /// Hands a line to the dialog.
+    /// Hands a line to the dialog. One that is too long is refused, and not read.
     fn hand_in(
         &mut self,
         alloc: Global,

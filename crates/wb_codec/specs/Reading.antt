@@ -16,6 +16,7 @@ use Rattle.wb_names.specs.declared.parts.OpKind.{OpKind}
 use Rattle.wb_names.specs.declared.parts.OpKind.TheVariants as kinds
 use Rattle.wb_names.specs.declared.parts.Op.{Op}
 use Rattle.wb_names.specs.declared.parts.Op.TheVariants.{Drawn, Text, Aimed}
+use Rattle.wb_names.specs.declared.text.TheConstants.Text.{MAX_LEN}
 use Rattle.wb_codec.specs.declared.datagram.Datagram.{Datagram}
 use Rattle.wb_codec.specs.declared.datagram.Datagram.TheVariants as datagrams
 use Rattle.wb_codec.specs.declared.version.Version.{Version}
@@ -114,7 +115,7 @@ op_at version bytes = do
 -- how many bytes a text of this version has: each length is said by one version
 abbrev pub is_length_of : Version → ℕ → Bool
 is_length_of One n = nat_le 1 n && nat_le n 40
-is_length_of Two n = nat_le 41 n && nat_le n 64
+is_length_of Two n = nat_le 41 n && nat_le n MAX_LEN
 
 -- The first fault of an operation that this version tells. The length of a text stands where lengths are checked.
 abbrev pub fault_in_version : Version → NameValue → Op → Option FieldFault

@@ -6,6 +6,7 @@ use Rattle.wb_names.specs.declared.parts.OpKind.{OpKind}
 use Rattle.wb_names.specs.declared.parts.OpKind.TheVariants as kinds
 use Rattle.wb_names.specs.declared.parts.Op.{Op}
 use Rattle.wb_names.specs.declared.parts.Op.TheVariants.{Drawn, Text, Aimed}
+use Rattle.wb_names.specs.declared.text.TheConstants.Text.{MAX_LEN}
 use Rattle.wb_codec.specs.Kinds.{op_kind_of}
 
 abbrev pub high_half : ℕ → ℕ
@@ -42,7 +43,7 @@ target_in word = record { source = high_half word; seq = low_half word }
 -- the operation of a kind with this word, this target's word and these bytes of text
 abbrev pub op_of_kind : OpKind → ℕ → ℕ → List ℕ → Option Op
 op_of_kind (kinds.Drawn figure) word target bytes = Some (Drawn figure (stroke_in word))
-op_of_kind kinds.Text word target bytes = if nat_le (byte_in word) 64 then Some (Text (p_in word) (q_in word) (take (byte_in word) bytes)) else None
+op_of_kind kinds.Text word target bytes = if nat_le (byte_in word) MAX_LEN then Some (Text (p_in word) (q_in word) (take (byte_in word) bytes)) else None
 op_of_kind (kinds.Aimed change) word target bytes = Some (Aimed change (target_in target))
 
 unfoldable pub op_in : ℕ → ℕ → List ℕ → Option Op

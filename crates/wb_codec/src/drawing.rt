@@ -10,7 +10,7 @@ ghost use Rattle.wb_codec.specs.TextLengths.{has_length, fault_at_length, drawop
 use crate::fault::ReadFault;
 use crate::fields::{NameFields, name_of, u8_of, u16_of, u32_of, u64_of};
 use crate::version::{Version, has_kind, op_kind_of};
-use wb_names::{Change, Drawop, FieldFault, Figure, Name, OpKind, Shape, Stroke, Target};
+use wb_names::{Change, Drawop, FieldFault, Figure, Name, OpKind, Shape, Stroke, Target, Text};
 
 // Each reader takes an operation from the front, not yet checked, and gives the bytes
 // after it.
@@ -105,7 +105,7 @@ fn is_length_said(version: Version, shape: &Shape<'_>) -> bool
     };
     match version {
         Version::One => 1 <= bytes.len() && bytes.len() <= 40,
-        Version::Two => 41 <= bytes.len() && bytes.len() <= 64,
+        Version::Two => 41 <= bytes.len() && bytes.len() <= Text::MAX_LEN,
     }
 }
 

@@ -7,12 +7,13 @@ ghost use Rattle.wb_names.specs.Values.{DrawopValue};
 ghost use Rattle.wb_names.specs.Drawing.{IsLawful};
 ghost use Rattle.wb_names.specs.Shapes.{op_of, TextFits};
 ghost use Rattle.wb_names.specs.TextFields.{padded as padded_text};
+ghost use Rattle.wb_names.specs.declared.text.TheConstants.Text.{MAX_LEN};
 ghost use Rattle.wb_codec.specs.Ranges.{IsDrawop, HasTarget};
 ghost use Rattle.wb_codec.specs.Rows.{row, row_words, pair_word, op_word as op_word_of, op_words as op_words_of, text_word as text_word_of, text_words};
 ghost use Rattle.wb_codec.specs.RowReading.{high_half, low_half, op_in};
 
 use crate::version::{op_code, op_kind_of};
-use wb_names::{Drawop, Name, Op, OpKind, PageId, Shape, Stroke, Target};
+use wb_names::{Drawop, Name, Op, OpKind, PageId, Shape, Stroke, Target, Text};
 
 /// How many words the record of a drawop has.
 pub const ROW_WORDS: usize = 12;
@@ -45,7 +46,7 @@ fn op_word(kind: u8, byte: u8, p: u16, q: u16, r: u16, s: u16) -> u64
 /// The text, and zeros after it.
 #[inline(always)]
 fn padded(text: &[u8]) -> [u8; 64]
-    requires { length text.now ≤ 64 }
+    requires { length text.now ≤ MAX_LEN }
     ensures { result ≡ padded_text text.now }
 {
     let mut bytes = [0; 64];
@@ -76,7 +77,7 @@ fn short_words(word: u64, target: u64) -> [u64; 9]
 /// An operation's word, and a text of at most 64 bytes as eight words.
 #[inline(always)]
 fn long_words(word: u64, text: &[u8]) -> [u64; 9]
-    requires { length text.now ≤ 64 }
+    requires { length text.now ≤ MAX_LEN }
     ensures { result ≡ word ∷ text_words text.now }
 {
     let bytes = padded(text);
@@ -171,7 +172,7 @@ fn shape_in<'a>(word: u64, target: u64, bytes: &'a [u8; 64]) -> Option<Shape<'a>
     let target = Target { source, seq };
     match kind {
         OpKind::Drawn(figure) => Some(Shape::Drawn(figure, stroke)),
-        OpKind::Text if stroke.glyph <= 64 => Some(Shape::Text {
+        OpKind::Text if stroke.glyph as usize <= Text::MAX_LEN => Some(Shape::Text {
             x: stroke.x0,
             y: stroke.y0,
             bytes: &bytes[..stroke.glyph as usize],

@@ -2,6 +2,7 @@
 
 ghost use Rattle.std.specs.Prelude.{◌≡◌, ◌<◌, ◌≤◌, ◌^◌, ◌∷◌, ◌++◌, length, IfOk, OnOk};
 ghost use Rattle.wb_names.specs.Drawing.{text_of};
+ghost use Rattle.wb_names.specs.declared.text.TheConstants.Text.{MAX_LEN};
 ghost use Rattle.wb_codec.specs.declared.datagram.Datagram.{Datagram as DatagramValue};
 ghost use Rattle.wb_codec.specs.Spelling.{text_bytes, op_bytes, drawop_bytes, body, kind_code, op_version, version_code, version_of as version_of_datagram, spelling};
 
@@ -19,7 +20,7 @@ use wb_names::{Drawop, Echoes, Marks, Name, Op, PageId};
 
 #[inline(always)]
 fn put_text(out: &mut Vec<u8>, x: u16, y: u16, text: &[u8]) -> Result<(), AllocError>
-    requires { length text.now ≤ 64 }
+    requires { length text.now ≤ MAX_LEN }
     ensures { OnOk result (out.new.items ≡ out.old.items ++ 3 ∷ text_bytes x y text.now) }
 {
     out.extend_from_slice(&text_front(x, y, text.len() as u8))?;
@@ -29,7 +30,7 @@ fn put_text(out: &mut Vec<u8>, x: u16, y: u16, text: &[u8]) -> Result<(), AllocE
 
 #[inline(always)]
 fn put_op(out: &mut Vec<u8>, op: &Op) -> Result<(), AllocError>
-    requires { length (text_of op.now) ≤ 64 }
+    requires { length (text_of op.now) ≤ MAX_LEN }
     ensures { OnOk result (out.new.items ≡ out.old.items ++ op_bytes op.now) }
 {
     match op {
@@ -114,7 +115,7 @@ fn put_body(out: &mut Vec<u8>, datagram: &Datagram) -> Result<(), AllocError>
 /// How many bytes an operation has.
 #[inline(always)]
 fn op_len(op: &Op) -> usize
-    requires { length (text_of op.now) ≤ 64 }
+    requires { length (text_of op.now) ≤ MAX_LEN }
     ensures len { result ≡ length (op_bytes op.now) }
     ensures short { result < 256 }
 {

@@ -20,7 +20,7 @@ use Rattle.wb_member.specs.Random.{word_of}
 use Rattle.wb_policy.specs.Choices.{distance_in, near_names, own_echo, own_marks, told_names}
 use Rattle.wb_keeping.specs.Kept.{Doing, Line, Ticks, Arrives, Hears, Asks, Stops, SetsDistance, Tunes, Says, Transition, and_then, answers, asks_pages, draws_it, end, ends_full, hears, hears_session, hears_some, hears_state, is_begun, is_unasked, leap, leap_to, leaps_on, learned, measures, of_other, paid_for, performs, reports, reports_due, reports_rest, room_lines, state_of, still, stops_one, takes, takes_question, timed, turn, turn_if, turn_to, turns_due, turns_on, turns_past, want, want_near, want_told, hears_request, lending}
 use Rattle.wb_policy.specs.Distances.{bounded}
-use Rattle.wb_policy.specs.declared.limits.TheConstants.{UNKNOWN_DISTANCE}
+use Rattle.wb_recovery.specs.declared.limits.TheConstants.{UNKNOWN_DISTANCE}
 use Rattle.wb_keeping.specs.Performing.{Keeping, after_line, after_lines, after_saying, said, said_where, sees, sent_by_line}
 use Rattle.wb_policy.specs.Policy.{Policy, after_answer, after_beat, after_leaping, after_question, after_state, after_taking_up, after_turn, after_wanting, in_next_leaps, in_next_round}
 use Rattle.wb_keeping.specs.Views.{View, holds, is_asked, is_full, level, is_known}

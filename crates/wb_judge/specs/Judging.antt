@@ -2,6 +2,7 @@
 use Rattle.std.specs.Prelude.{ℕ, ◌+◌, ◌-◌, Bool, true, false, not, ◌&&◌, ◌||◌, [], Option, Some, None, is_some, nat_eq, nat_le, nat_lt, if◌then◌else◌}
 use Rattle.std.specs.List.{list_any}
 use Rattle.wb_names.specs.Values.{DrawopValue, NameValue}
+use Rattle.wb_names.specs.declared.name.TheConstants.{FIRST_FORGED}
 use Rattle.wb_names.specs.declared.parts.Op.{Op}
 use Rattle.wb_names.specs.declared.parts.Op.TheVariants.{Aimed, Drawn, Text}
 use Rattle.wb_codec.specs.declared.datagram.Datagram.{Datagram}
@@ -17,7 +18,7 @@ use Rattle.wb_judge.specs.Reports.{report_of}
 use Rattle.wb_judge.specs.Strange.{is_over, is_there, is_wide, without_origin}
 use Rattle.wb_judge.specs.Verdicts.{dropped, taken, warned}
 use Rattle.wb_judge.specs.declared.facts.Facts.{Facts}
-use Rattle.wb_judge.specs.declared.limits.TheConstants.{AHEAD_KNOWN, AHEAD_STRANGER, ASKED_AHEAD, ASKED_PAUSE, FETCH_AGAIN, FETCH_PAUSE, FORGED_ABOVE, FORGED_NUMBER, LACKING, NEW_AHEAD, NEW_PAUSE, REPAIRS_AHEAD, REPAIRS_OF_ONE, REPAIR_PAUSE}
+use Rattle.wb_judge.specs.declared.limits.TheConstants.{AHEAD_KNOWN, AHEAD_STRANGER, ASKED_AHEAD, ASKED_PAUSE, FETCH_AGAIN, FETCH_PAUSE, FORGED_ABOVE, LACKING, NEW_AHEAD, NEW_PAUSE, REPAIRS_AHEAD, REPAIRS_OF_ONE, REPAIR_PAUSE}
 use Rattle.wb_judge.specs.declared.origin.Origin.{Origin}
 use Rattle.wb_judge.specs.declared.others.Other.{Other}
 use Rattle.wb_judge.specs.declared.report.Report.{Report}
@@ -36,7 +37,7 @@ draws (Aimed change target) = false
 
 -- A drawop with our number is forged, unless we may have drawn it before a crash: our numbers go on above it.
 unfoldable pub is_forged_drawop : Bool → DrawopValue → Facts → Judge → Bool
-is_forged_drawop known d f j = nat_eq d.name.source j.me && (nat_le FORGED_NUMBER d.name.seq || (nat_lt (f.top + FORGED_ABOVE) d.name.seq || not (f.listens || known)))
+is_forged_drawop known d f j = nat_eq d.name.source j.me && (nat_le FIRST_FORGED d.name.seq || (nat_lt (f.top + FORGED_ABOVE) d.name.seq || not (f.listens || known)))
 
 abbrev pub ahead_of : Bool → ℕ
 ahead_of known = if known then AHEAD_KNOWN else AHEAD_STRANGER

@@ -3,6 +3,7 @@
 ghost use Rattle.std.specs.Prelude.{◌≡◌, ◌<◌, ◌^◌};
 ghost use Rattle.wb_names.specs.Moments.{IsMoment};
 ghost use Rattle.wb_judge.specs.Days.{time_of_day};
+ghost use Rattle.wb_judge.specs.declared.limits.TheConstants.{TIME_LIMIT};
 
 use std::marker::Model;
 
@@ -15,20 +16,21 @@ pub struct DayClock {
 }
 
 impl Model for DayClock {
-    ghost use Rattle.std.specs.Prelude.{◌<◌, ◌^◌};
+    ghost use Rattle.std.specs.Prelude.{◌<◌};
     ghost use Rattle.wb_judge.specs.Days.{DayClock as DayClockValue};
+    ghost use Rattle.wb_judge.specs.declared.limits.TheConstants.{TIME_LIMIT};
 
     ghost Value = { DayClockValue };
 
     ghost view = { λ c. record { wall = c.wall; at = c.at } };
 
-    ghost invariant = { λ c. c.wall < 2 ^ 62 };
+    ghost invariant = { λ c. c.wall < TIME_LIMIT };
 }
 
 impl DayClock {
     /// The driver names the time of day at a moment.
     pub(crate) fn told(now: u64, wall: u64) -> DayClock
-        requires { wall < 2 ^ 62 }
+        requires { wall < TIME_LIMIT }
         ensures { result ≡ record { wall = wall; at = now } }
     {
         DayClock { wall, at: now }

@@ -8,6 +8,7 @@ ghost use Rattle.wb_judge.specs.Days.{time_of_day};
 ghost use Rattle.wb_judge.specs.Judge.{after_leaving, after_taking, is_another, is_forged, is_full, knows, opened, owner_of};
 ghost use Rattle.wb_judge.specs.Pages.{rank_of};
 ghost use Rattle.wb_judge.specs.Strange.{with_given, without_name};
+ghost use Rattle.wb_judge.specs.declared.limits.TheConstants.{TIME_LIMIT};
 
 use crate::bucket::Bucket;
 use crate::day_clock::DayClock;
@@ -107,7 +108,7 @@ impl Model for Judge {
 impl Judge {
     /// Begins at a moment, at this time of day.
     pub fn new(alloc: Global, start: &Start, now: u64, wall: u64) -> Result<Judge, AllocError>
-        requires { wall < 2 ^ 62 }
+        requires { wall < TIME_LIMIT }
         ensures { IfOk result (λ j. j ≡ opened start.now.me start.now.cells now wall start.now.here start.now.strangers) }
     {
         let Start {
@@ -138,7 +139,7 @@ impl Judge {
 
     /// The driver names the time of day at a moment.
     pub fn tell_time(&mut self, now: u64, wall: u64)
-        requires { wall < 2 ^ 62 }
+        requires { wall < TIME_LIMIT }
         ensures { self.new ≡ record self.old { clock = record { wall = wall; at = now } } }
     {
         self.clock = DayClock::told(now, wall);

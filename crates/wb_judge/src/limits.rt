@@ -1,8 +1,5 @@
 //! The numbers of the judgement. Moments and times are in microseconds.
 
-/// A second.
-pub const SECOND: u64 = 1_000_000;
-
 /// How many moments of our own reports are remembered. Nobody knows one who did not hear that
 /// report, so whoever echoes it is a member.
 pub const MOST_OWN: usize = 256;
@@ -83,9 +80,6 @@ pub const FETCH_AGAIN: u64 = 60_000_000;
 /// A number of ours that is further above what we hold is forged, since nobody draws as many on a
 /// page.
 pub const FORGED_ABOVE: u64 = 65_536;
-
-/// A number of ours from here on is forged.
-pub const FORGED_NUMBER: u32 = 1 << 31;
 
 /// How far ahead of the time of day that of a drawop from a known origin may be.
 pub const AHEAD_KNOWN: u64 = 86_400_000_000;

@@ -16,6 +16,7 @@ use Rattle.wb_commands.specs.declared.fault.LineFault.{LineFault}
 use Rattle.wb_commands.specs.declared.fault.LineFault.TheVariants as faults
 use Rattle.wb_commands.specs.Parsing.{◌>>=◌, datagram, four_of, none_of, number, one_of, or_fault, page, two_of}
 use Rattle.wb_dialog.specs.Lines.{part_behind}
+use Rattle.wb_judge.specs.declared.limits.TheConstants.{TIME_LIMIT}
 use Rattle.wb_judge.specs.declared.origin.Origin.{Origin}
 use Rattle.wb_judging.specs.Calling.{IsWithin as IsCallWithin}
 use Rattle.wb_judging.specs.declared.call.Call.{Call}
@@ -30,7 +31,7 @@ use Rattle.wb_policy.specs.declared.limits.TheConstants.{MAX_RATE}
 
 -- a time of day, in microseconds since 1970
 abbrev pub day_time : List ℕ → Result ℕ LineFault
-day_time word = number 0 (2 ^ 62 - 1) word
+day_time word = number 0 (TIME_LIMIT - 1) word
 
 -- how many drawops of strangers are taken, or none for `-`
 abbrev pub strangers : List ℕ → Result (Option ℕ) LineFault
@@ -205,7 +206,7 @@ pub record IsJudgeLine (line : JudgeLine) : Type 0 where
   pub moment : IsMoment line.now
   pub rate : 1 ≤ line.rate
   pub listen : line.listen < 2 ^ 32
-  pub wall : line.wall < 2 ^ 62
+  pub wall : line.wall < TIME_LIMIT
 
 abbrev pub IsWithin : JudgedLine → Type 0
 IsWithin (Calls call) = IsCallWithin call

@@ -35,27 +35,27 @@ use Rattle.wb_judged_sessions.proofs.Twins.{twins_see}
 -- ---- what two members do
 
 last : last_taken numbers 10 1 answered ≡ Some first_report
-unfolding random_started word_of after_word words.started words.word_of words.after_word report_of gaps_of pages_of near_names leaps_on turns_on after_kept_line sent_by_kept_line
+unfolding random_started word_of after_word words.started report_of gaps_of pages_of near_names leaps_on turns_on after_kept_line sent_by_kept_line
     verdict_on judge_after answers is_known known_from is_bound_elsewhere spoken other_with without_origin is_admitted after_admitting is_fetched speaking after_answer after_fetching after_hearing is_elsewhere admitted_verdict after_admitted report_verdict after_report own_verdict after_own
 last = refl
 
 own : (judged_at numbers answered 0).judge.own ≡ 2000000 ∷ []
-unfolding random_started word_of after_word words.started words.word_of words.after_word report_of gaps_of pages_of near_names leaps_on turns_on after_kept_line sent_by_kept_line
+unfolding random_started word_of after_word words.started report_of gaps_of pages_of near_names leaps_on turns_on after_kept_line sent_by_kept_line
     verdict_on judge_after answers is_known known_from is_bound_elsewhere spoken other_with without_origin is_admitted after_admitting is_fetched speaking after_answer after_fetching after_hearing is_elsewhere admitted_verdict after_admitted report_verdict after_report own_verdict after_own
 own = refl
 
 owned : is_forged 11 (origin_of 1) (judged_at numbers answered 0).judge ≡ false
-unfolding random_started word_of after_word words.started words.word_of words.after_word report_of gaps_of pages_of near_names leaps_on turns_on after_kept_line sent_by_kept_line
+unfolding random_started word_of after_word words.started report_of gaps_of pages_of near_names leaps_on turns_on after_kept_line sent_by_kept_line
     verdict_on judge_after answers is_known known_from is_bound_elsewhere spoken other_with without_origin is_admitted after_admitting is_fetched speaking after_answer after_fetching after_hearing is_elsewhere admitted_verdict after_admitted report_verdict after_report own_verdict after_own
 owned = refl
 
 admitted : is_admitted (origin_of 1) 11 true 2000002 (judged_at numbers answered 0).judge ≡ true
-unfolding random_started word_of after_word words.started words.word_of words.after_word report_of gaps_of pages_of near_names leaps_on turns_on after_kept_line sent_by_kept_line
+unfolding random_started word_of after_word words.started report_of gaps_of pages_of near_names leaps_on turns_on after_kept_line sent_by_kept_line
     verdict_on judge_after answers is_known known_from is_bound_elsewhere spoken other_with without_origin is_admitted after_admitting is_fetched speaking after_answer after_fetching after_hearing is_elsewhere admitted_verdict after_admitted report_verdict after_report own_verdict after_own
 admitted = refl
 
 fine : let h = judged_at numbers answered 0 in IsFit (origin_of 1) (answer 11) (facts_of 2000002 (answer 11) h.kept) h.judge
-unfolding random_started word_of after_word words.started words.word_of words.after_word report_of gaps_of pages_of near_names leaps_on turns_on after_kept_line sent_by_kept_line
+unfolding random_started word_of after_word words.started report_of gaps_of pages_of near_names leaps_on turns_on after_kept_line sent_by_kept_line
     verdict_on judge_after answers is_known known_from is_bound_elsewhere spoken other_with without_origin is_admitted after_admitting is_fetched speaking after_answer after_fetching after_hearing is_elsewhere admitted_verdict after_admitted report_verdict after_report own_verdict after_own
 fine = refl
 
@@ -101,77 +101,77 @@ is_answered = record {
 -- ---- what twins do
 
 twin_answers : sends_in (events_of (CameFrom 2000001 (origin_of 0) (reports 10 2000000 [])) (judged_at twins (at 2000000 0 (Takes (Passed 2000000)) ∷ at 1 1 (Starts (start 2 1) []) ∷ at 1 0 (Starts (start 1 1) []) ∷ []) 1)) ≡ AskPages 10 ∷ answer 10 ∷ []
-unfolding random_started word_of after_word words.started words.word_of words.after_word report_of gaps_of pages_of near_names leaps_on turns_on after_kept_line sent_by_kept_line
+unfolding random_started word_of after_word words.started report_of gaps_of pages_of near_names leaps_on turns_on after_kept_line sent_by_kept_line
     verdict_on judge_after answers is_known known_from is_bound_elsewhere spoken other_with without_origin is_admitted after_admitting is_fetched speaking after_answer after_fetching after_hearing is_elsewhere admitted_verdict after_admitted report_verdict after_report own_verdict after_own
 twin_answers = refl
 
 one_reports : sends_in (events_of (Passed 4000000) (judged_at twins one_sees 0)) ≡ AskPages 10 ∷ second_answer ∷ []
-unfolding random_started word_of after_word words.started words.word_of words.after_word report_of gaps_of pages_of near_names leaps_on turns_on after_kept_line sent_by_kept_line
+unfolding random_started word_of after_word words.started report_of gaps_of pages_of near_names leaps_on turns_on after_kept_line sent_by_kept_line
     verdict_on judge_after answers is_known known_from is_bound_elsewhere spoken other_with without_origin is_admitted after_admitting is_fetched speaking after_answer after_fetching after_hearing is_elsewhere admitted_verdict after_admitted report_verdict after_report own_verdict after_own
 one_reports = refl
 
 remembers_one : RemembersTwin twins 1 first_report answered
-unfolding random_started word_of after_word words.started words.word_of words.after_word report_of gaps_of pages_of near_names leaps_on turns_on after_kept_line sent_by_kept_line
+unfolding random_started word_of after_word words.started report_of gaps_of pages_of near_names leaps_on turns_on after_kept_line sent_by_kept_line
     verdict_on judge_after answers is_known known_from is_bound_elsewhere spoken other_with without_origin is_admitted after_admitting is_fetched speaking after_answer after_fetching after_hearing is_elsewhere admitted_verdict after_admitted report_verdict after_report own_verdict after_own
 remembers_one = refl
 
 remembers_other : RemembersTwin twins 0 second_report one_answers
-unfolding random_started word_of after_word words.started words.word_of words.after_word report_of gaps_of pages_of near_names leaps_on turns_on after_kept_line sent_by_kept_line
+unfolding random_started word_of after_word words.started report_of gaps_of pages_of near_names leaps_on turns_on after_kept_line sent_by_kept_line
     verdict_on judge_after answers is_known known_from is_bound_elsewhere spoken other_with without_origin is_admitted after_admitting is_fetched speaking after_answer after_fetching after_hearing is_elsewhere admitted_verdict after_admitted report_verdict after_report own_verdict after_own
 remembers_other = refl
 
 own_0 : (judged_at twins answered 0).judge.own ≡ 2000000 ∷ []
-unfolding random_started word_of after_word words.started words.word_of words.after_word report_of gaps_of pages_of near_names leaps_on turns_on after_kept_line sent_by_kept_line
+unfolding random_started word_of after_word words.started report_of gaps_of pages_of near_names leaps_on turns_on after_kept_line sent_by_kept_line
     verdict_on judge_after answers is_known known_from is_bound_elsewhere spoken other_with without_origin is_admitted after_admitting is_fetched speaking after_answer after_fetching after_hearing is_elsewhere admitted_verdict after_admitted report_verdict after_report own_verdict after_own
 own_0 = refl
 
 own_1 : (judged_at twins one_answers 1).judge.own ≡ 2000001 ∷ []
-unfolding random_started word_of after_word words.started words.word_of words.after_word report_of gaps_of pages_of near_names leaps_on turns_on after_kept_line sent_by_kept_line
+unfolding random_started word_of after_word words.started report_of gaps_of pages_of near_names leaps_on turns_on after_kept_line sent_by_kept_line
     verdict_on judge_after answers is_known known_from is_bound_elsewhere spoken other_with without_origin is_admitted after_admitting is_fetched speaking after_answer after_fetching after_hearing is_elsewhere admitted_verdict after_admitted report_verdict after_report own_verdict after_own
 own_1 = refl
 
 not_own_0 : list_any (nat_eq 2000001) (judged_at twins answered 0).judge.own ≡ false
-unfolding random_started word_of after_word words.started words.word_of words.after_word report_of gaps_of pages_of near_names leaps_on turns_on after_kept_line sent_by_kept_line
+unfolding random_started word_of after_word words.started report_of gaps_of pages_of near_names leaps_on turns_on after_kept_line sent_by_kept_line
     verdict_on judge_after answers is_known known_from is_bound_elsewhere spoken other_with without_origin is_admitted after_admitting is_fetched speaking after_answer after_fetching after_hearing is_elsewhere admitted_verdict after_admitted report_verdict after_report own_verdict after_own
 not_own_0 = refl
 
 not_own_1 : list_any (nat_eq 4000000) (judged_at twins one_answers 1).judge.own ≡ false
-unfolding random_started word_of after_word words.started words.word_of words.after_word report_of gaps_of pages_of near_names leaps_on turns_on after_kept_line sent_by_kept_line
+unfolding random_started word_of after_word words.started report_of gaps_of pages_of near_names leaps_on turns_on after_kept_line sent_by_kept_line
     verdict_on judge_after answers is_known known_from is_bound_elsewhere spoken other_with without_origin is_admitted after_admitting is_fetched speaking after_answer after_fetching after_hearing is_elsewhere admitted_verdict after_admitted report_verdict after_report own_verdict after_own
 not_own_1 = refl
 
 owned_0 : let j = (judged_at twins answered 0).judge in is_forged j.me (origin_of 1) j ≡ false
-unfolding random_started word_of after_word words.started words.word_of words.after_word report_of gaps_of pages_of near_names leaps_on turns_on after_kept_line sent_by_kept_line
+unfolding random_started word_of after_word words.started report_of gaps_of pages_of near_names leaps_on turns_on after_kept_line sent_by_kept_line
     verdict_on judge_after answers is_known known_from is_bound_elsewhere spoken other_with without_origin is_admitted after_admitting is_fetched speaking after_answer after_fetching after_hearing is_elsewhere admitted_verdict after_admitted report_verdict after_report own_verdict after_own
 owned_0 = refl
 
 owned_1 : let j = (judged_at twins one_answers 1).judge in is_forged j.me (origin_of 0) j ≡ false
-unfolding random_started word_of after_word words.started words.word_of words.after_word report_of gaps_of pages_of near_names leaps_on turns_on after_kept_line sent_by_kept_line
+unfolding random_started word_of after_word words.started report_of gaps_of pages_of near_names leaps_on turns_on after_kept_line sent_by_kept_line
     verdict_on judge_after answers is_known known_from is_bound_elsewhere spoken other_with without_origin is_admitted after_admitting is_fetched speaking after_answer after_fetching after_hearing is_elsewhere admitted_verdict after_admitted report_verdict after_report own_verdict after_own
 owned_1 = refl
 
 before : (judged_at twins answered 0).judge.has_twin ≡ false
-unfolding random_started word_of after_word words.started words.word_of words.after_word report_of gaps_of pages_of near_names leaps_on turns_on after_kept_line sent_by_kept_line
+unfolding random_started word_of after_word words.started report_of gaps_of pages_of near_names leaps_on turns_on after_kept_line sent_by_kept_line
     verdict_on judge_after answers is_known known_from is_bound_elsewhere spoken other_with without_origin is_admitted after_admitting is_fetched speaking after_answer after_fetching after_hearing is_elsewhere admitted_verdict after_admitted report_verdict after_report own_verdict after_own
 before = refl
 
 now_0 : present (judged_at twins (at 1 1 (Starts (start 2 1) []) ∷ at 1 0 (Starts (start 1 1) []) ∷ []) 0).kept.host ≡ 1
-unfolding random_started word_of after_word words.started words.word_of words.after_word report_of gaps_of pages_of near_names leaps_on turns_on after_kept_line sent_by_kept_line
+unfolding random_started word_of after_word words.started report_of gaps_of pages_of near_names leaps_on turns_on after_kept_line sent_by_kept_line
     verdict_on judge_after answers is_known known_from is_bound_elsewhere spoken other_with without_origin is_admitted after_admitting is_fetched speaking after_answer after_fetching after_hearing is_elsewhere admitted_verdict after_admitted report_verdict after_report own_verdict after_own
 now_0 = refl
 
 now_1 : present (judged_at twins (at 2000000 0 (Takes (Passed 2000000)) ∷ at 1 1 (Starts (start 2 1) []) ∷ at 1 0 (Starts (start 1 1) []) ∷ []) 1).kept.host ≡ 1
-unfolding random_started word_of after_word words.started words.word_of words.after_word report_of gaps_of pages_of near_names leaps_on turns_on after_kept_line sent_by_kept_line
+unfolding random_started word_of after_word words.started report_of gaps_of pages_of near_names leaps_on turns_on after_kept_line sent_by_kept_line
     verdict_on judge_after answers is_known known_from is_bound_elsewhere spoken other_with without_origin is_admitted after_admitting is_fetched speaking after_answer after_fetching after_hearing is_elsewhere admitted_verdict after_admitted report_verdict after_report own_verdict after_own
 now_1 = refl
 
 now_2 : present (judged_at twins answered 0).kept.host ≡ 2000000
-unfolding random_started word_of after_word words.started words.word_of words.after_word report_of gaps_of pages_of near_names leaps_on turns_on after_kept_line sent_by_kept_line
+unfolding random_started word_of after_word words.started report_of gaps_of pages_of near_names leaps_on turns_on after_kept_line sent_by_kept_line
     verdict_on judge_after answers is_known known_from is_bound_elsewhere spoken other_with without_origin is_admitted after_admitting is_fetched speaking after_answer after_fetching after_hearing is_elsewhere admitted_verdict after_admitted report_verdict after_report own_verdict after_own
 now_2 = refl
 
 now_3 : present (judged_at twins one_sees 0).kept.host ≡ 2000002
-unfolding random_started word_of after_word words.started words.word_of words.after_word report_of gaps_of pages_of near_names leaps_on turns_on after_kept_line sent_by_kept_line
+unfolding random_started word_of after_word words.started report_of gaps_of pages_of near_names leaps_on turns_on after_kept_line sent_by_kept_line
     verdict_on judge_after answers is_known known_from is_bound_elsewhere spoken other_with without_origin is_admitted after_admitting is_fetched speaking after_answer after_fetching after_hearing is_elsewhere admitted_verdict after_admitted report_verdict after_report own_verdict after_own
 now_3 = refl
 

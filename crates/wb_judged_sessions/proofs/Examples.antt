@@ -35,29 +35,29 @@ is_opening seed moment = record { moments = (omega arith, tt); in_range = refl; 
 -- ---- what is held, drawn and recorded
 
 drew : drawn_at numbers drawn 0 ≡ drawing ∷ []
-unfolding random_started word_of after_word words.started words.word_of words.after_word report_of gaps_of pages_of near_names after_kept_line sent_by_kept_line
+unfolding random_started word_of after_word words.started report_of gaps_of pages_of near_names after_kept_line sent_by_kept_line
 drew = refl
 
 drew_all : drawn_at numbers again 0 ≡ drawing ∷ []
-unfolding random_started word_of after_word words.started words.word_of words.after_word report_of gaps_of pages_of near_names after_kept_line sent_by_kept_line
+unfolding random_started word_of after_word words.started report_of gaps_of pages_of near_names after_kept_line sent_by_kept_line
 drew_all = refl
 
 held_there : (judged_at numbers drawn 0).kept.host.is.held ≡ drawing ∷ []
-unfolding random_started word_of after_word words.started words.word_of words.after_word report_of gaps_of pages_of near_names after_kept_line sent_by_kept_line
+unfolding random_started word_of after_word words.started report_of gaps_of pages_of near_names after_kept_line sent_by_kept_line
 held_there = refl
 
 held_here : (judged_at numbers heard 1).kept.host.is.held ≡ drawing ∷ []
-unfolding random_started word_of after_word words.started words.word_of words.after_word report_of gaps_of pages_of near_names after_kept_line sent_by_kept_line
+unfolding random_started word_of after_word words.started report_of gaps_of pages_of near_names after_kept_line sent_by_kept_line
     verdict_on judge_after drawop_verdict is_forged_drawop is_known is_firm_beside is_bound_elsewhere is_ahead is_over is_wide with_given without_name
 held_here = refl
 
 held_again : (judged_at numbers again 1).kept.host.is.held ≡ drawing ∷ []
-unfolding random_started word_of after_word words.started words.word_of words.after_word report_of gaps_of pages_of near_names after_kept_line sent_by_kept_line
+unfolding random_started word_of after_word words.started report_of gaps_of pages_of near_names after_kept_line sent_by_kept_line
     verdict_on judge_after drawop_verdict is_forged_drawop is_known is_firm_beside is_bound_elsewhere is_ahead is_over is_wide with_given without_name
 held_again = refl
 
 told : file_at numbers heard 1 ≡ file
-unfolding random_started word_of after_word words.started words.word_of words.after_word report_of gaps_of pages_of near_names after_kept_line sent_by_kept_line
+unfolding random_started word_of after_word words.started report_of gaps_of pages_of near_names after_kept_line sent_by_kept_line
     verdict_on judge_after drawop_verdict is_forged_drawop is_known is_firm_beside is_bound_elsewhere is_ahead is_over is_wide with_given without_name
 told = refl
 
@@ -67,16 +67,16 @@ apart : AreApart numbers
 apart i j same = omega (arith, same)
 
 moment_there : present (judged_at numbers drawn 1).kept.host ≡ 1
-unfolding random_started word_of after_word words.started words.word_of words.after_word report_of gaps_of pages_of near_names after_kept_line sent_by_kept_line
+unfolding random_started word_of after_word words.started report_of gaps_of pages_of near_names after_kept_line sent_by_kept_line
 moment_there = refl
 
 all_taken : AreTaken numbers again
-unfolding random_started word_of after_word words.started words.word_of words.after_word report_of gaps_of pages_of near_names after_kept_line sent_by_kept_line
+unfolding random_started word_of after_word words.started report_of gaps_of pages_of near_names after_kept_line sent_by_kept_line
     verdict_on judge_after drawop_verdict is_forged_drawop is_known is_firm_beside is_bound_elsewhere is_ahead is_over is_wide with_given without_name
 all_taken = ((is_opening 3 7, (refl, (refl, tt))), (omega arith, (refl, ((is_opening 2 1, tt), ((is_opening 1 1, tt), tt)))))
 
 brought : brought_by (Takes (CameFrom 4 somewhere (Draw drawing))) (judged_at numbers drawn 1) ≡ drawing ∷ []
-unfolding random_started word_of after_word words.started words.word_of words.after_word report_of gaps_of pages_of near_names after_kept_line sent_by_kept_line
+unfolding random_started word_of after_word words.started report_of gaps_of pages_of near_names after_kept_line sent_by_kept_line
     verdict_on judge_after drawop_verdict is_forged_drawop is_known is_firm_beside is_bound_elsewhere is_ahead is_over is_wide with_given without_name
 brought = refl
 
@@ -84,7 +84,7 @@ first : 0 < 1
 first = omega arith
 
 was_held : (d : DrawopValue) → Contains (drawing ∷ []) d → WasHeld numbers drawn d
-unfolding random_started word_of after_word words.started words.word_of words.after_word report_of gaps_of pages_of near_names after_kept_line sent_by_kept_line
+unfolding random_started word_of after_word words.started report_of gaps_of pages_of near_names after_kept_line sent_by_kept_line
 was_held d c = subst (WasHeld numbers drawn) (one_of drawing d c) (record { newer = []; older = drawn; split = refl; place = 0; held = (0, first, refl) })
 
 held_since : (d : DrawopValue) → Contains (drawing ∷ []) d → WasHeld numbers heard d
@@ -100,7 +100,7 @@ none_brought : (calls : List JudgedCallAt) (d : DrawopValue) → Contains [] d �
 none_brought calls d c = absurd (Contains-none d c)
 
 all_held : DrawopsWereHeld numbers again
-unfolding random_started word_of after_word words.started words.word_of words.after_word report_of gaps_of pages_of near_names after_kept_line sent_by_kept_line
+unfolding random_started word_of after_word words.started report_of gaps_of pages_of near_names after_kept_line sent_by_kept_line
 all_held = (
   held_since,
   (
@@ -150,7 +150,7 @@ all_know = (
 )
 
 cells_here : 8 ≡ (judged_at numbers heard 1).kept.host.is.cells
-unfolding random_started word_of after_word words.started words.word_of words.after_word report_of gaps_of pages_of near_names after_kept_line sent_by_kept_line
+unfolding random_started word_of after_word words.started report_of gaps_of pages_of near_names after_kept_line sent_by_kept_line
     verdict_on judge_after drawop_verdict is_forged_drawop is_known is_firm_beside is_bound_elsewhere is_ahead is_over is_wide with_given without_name
 cells_here = refl
 

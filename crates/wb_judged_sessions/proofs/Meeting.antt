@@ -43,187 +43,187 @@ use Rattle.wb_judged_sessions.proofs.Staying.{known_since_earlier}
 -- ---- what they do
 
 first : sends_in (events_of (Passed 2000000) (judged_at numbers (at 1 1 (Starts (start 2 1) []) ∷ at 1 0 (Starts (start 1 1) []) ∷ []) 0)) ≡ AskPages 10 ∷ reports 10 2000000 [] ∷ []
-unfolding random_started word_of after_word words.started words.word_of words.after_word report_of gaps_of pages_of near_names leaps_on turns_on after_kept_line sent_by_kept_line
+unfolding random_started word_of after_word words.started report_of gaps_of pages_of near_names leaps_on turns_on after_kept_line sent_by_kept_line
     verdict_on judge_after answers is_known known_from is_bound_elsewhere spoken other_with without_origin is_admitted after_admitting is_fetched speaking after_answer after_fetching after_hearing is_elsewhere admitted_verdict after_admitted report_verdict after_report
 first = refl
 
 pub second : sends_in (events_of (CameFrom 2000001 (origin_of 0) (reports 10 2000000 [])) (judged_at numbers (at 2000000 0 (Takes (Passed 2000000)) ∷ at 1 1 (Starts (start 2 1) []) ∷ at 1 0 (Starts (start 1 1) []) ∷ []) 1)) ≡ AskPages 11 ∷ reports 11 2000001 (echo 10 2000000 0 ∷ []) ∷ []
-unfolding random_started word_of after_word words.started words.word_of words.after_word report_of gaps_of pages_of near_names leaps_on turns_on after_kept_line sent_by_kept_line
+unfolding random_started word_of after_word words.started report_of gaps_of pages_of near_names leaps_on turns_on after_kept_line sent_by_kept_line
     verdict_on judge_after answers is_known known_from is_bound_elsewhere spoken other_with without_origin is_admitted after_admitting is_fetched speaking after_answer after_fetching after_hearing is_elsewhere admitted_verdict after_admitted report_verdict after_report
 second = refl
 
 third : sends_in (events_of (Passed 4000000) (judged_at numbers one_knows 0)) ≡ AskPages 10 ∷ reports 10 4000000 (echo 11 2000001 1999998 ∷ []) ∷ []
-unfolding random_started word_of after_word words.started words.word_of words.after_word report_of gaps_of pages_of near_names leaps_on turns_on after_kept_line sent_by_kept_line
+unfolding random_started word_of after_word words.started report_of gaps_of pages_of near_names leaps_on turns_on after_kept_line sent_by_kept_line
     verdict_on judge_after answers is_known known_from is_bound_elsewhere spoken other_with without_origin is_admitted after_admitting is_fetched speaking after_answer after_fetching after_hearing is_elsewhere admitted_verdict after_admitted report_verdict after_report
 third = refl
 
 fourth : sends_in (events_of (Passed 5000000) (judged_at numbers both_know 1)) ≡ again ∷ []
-unfolding random_started word_of after_word words.started words.word_of words.after_word report_of gaps_of pages_of near_names leaps_on turns_on after_kept_line sent_by_kept_line
+unfolding random_started word_of after_word words.started report_of gaps_of pages_of near_names leaps_on turns_on after_kept_line sent_by_kept_line
     verdict_on judge_after answers is_known known_from is_bound_elsewhere spoken other_with without_origin is_admitted after_admitting is_fetched speaking after_answer after_fetching after_hearing is_elsewhere admitted_verdict after_admitted report_verdict after_report
 fourth = refl
 
 one_known : is_known_since (origin_of 1) 2000002 (judged_at numbers both_know 0).judge.known ≡ true
-unfolding random_started word_of after_word words.started words.word_of words.after_word report_of gaps_of pages_of near_names leaps_on turns_on after_kept_line sent_by_kept_line
+unfolding random_started word_of after_word words.started report_of gaps_of pages_of near_names leaps_on turns_on after_kept_line sent_by_kept_line
     verdict_on judge_after answers is_known known_from is_bound_elsewhere spoken other_with without_origin is_admitted after_admitting is_fetched speaking after_answer after_fetching after_hearing is_elsewhere admitted_verdict after_admitted report_verdict after_report
 one_known = refl
 
 one_heard : is_heard_since (origin_of 1) 2000002 (other_of 11 (judged_at numbers both_know 0).judge.others) ≡ true
-unfolding random_started word_of after_word words.started words.word_of words.after_word report_of gaps_of pages_of near_names leaps_on turns_on after_kept_line sent_by_kept_line
+unfolding random_started word_of after_word words.started report_of gaps_of pages_of near_names leaps_on turns_on after_kept_line sent_by_kept_line
     verdict_on judge_after answers is_known known_from is_bound_elsewhere spoken other_with without_origin is_admitted after_admitting is_fetched speaking after_answer after_fetching after_hearing is_elsewhere admitted_verdict after_admitted report_verdict after_report
 one_heard = refl
 
 other_known : is_known_since (origin_of 0) 4000001 (judged_at numbers both_know 1).judge.known ≡ true
-unfolding random_started word_of after_word words.started words.word_of words.after_word report_of gaps_of pages_of near_names leaps_on turns_on after_kept_line sent_by_kept_line
+unfolding random_started word_of after_word words.started report_of gaps_of pages_of near_names leaps_on turns_on after_kept_line sent_by_kept_line
     verdict_on judge_after answers is_known known_from is_bound_elsewhere spoken other_with without_origin is_admitted after_admitting is_fetched speaking after_answer after_fetching after_hearing is_elsewhere admitted_verdict after_admitted report_verdict after_report
 other_known = refl
 
 other_heard : is_heard_since (origin_of 0) 4000001 (other_of 10 (judged_at numbers both_know 1).judge.others) ≡ true
-unfolding random_started word_of after_word words.started words.word_of words.after_word report_of gaps_of pages_of near_names leaps_on turns_on after_kept_line sent_by_kept_line
+unfolding random_started word_of after_word words.started report_of gaps_of pages_of near_names leaps_on turns_on after_kept_line sent_by_kept_line
     verdict_on judge_after answers is_known known_from is_bound_elsewhere spoken other_with without_origin is_admitted after_admitting is_fetched speaking after_answer after_fetching after_hearing is_elsewhere admitted_verdict after_admitted report_verdict after_report
 other_heard = refl
 
 knows_7 : length (judged_at numbers both_know 1).judge.known ≡ 1
-unfolding random_started word_of after_word words.started words.word_of words.after_word report_of gaps_of pages_of near_names leaps_on turns_on after_kept_line sent_by_kept_line
+unfolding random_started word_of after_word words.started report_of gaps_of pages_of near_names leaps_on turns_on after_kept_line sent_by_kept_line
     verdict_on judge_after answers is_known known_from is_bound_elsewhere spoken other_with without_origin is_admitted after_admitting is_fetched speaking after_answer after_fetching after_hearing is_elsewhere admitted_verdict after_admitted report_verdict after_report
 knows_7 = refl
 
 heard_7 : length (filter (λ x. is_some x.answered) (judged_at numbers both_know 1).judge.others) ≡ 1
-unfolding random_started word_of after_word words.started words.word_of words.after_word report_of gaps_of pages_of near_names leaps_on turns_on after_kept_line sent_by_kept_line
+unfolding random_started word_of after_word words.started report_of gaps_of pages_of near_names leaps_on turns_on after_kept_line sent_by_kept_line
     verdict_on judge_after answers is_known known_from is_bound_elsewhere spoken other_with without_origin is_admitted after_admitting is_fetched speaking after_answer after_fetching after_hearing is_elsewhere admitted_verdict after_admitted report_verdict after_report
 heard_7 = refl
 
 knows_8 : length (judged_at numbers sent_again 0).judge.known ≡ 1
-unfolding random_started word_of after_word words.started words.word_of words.after_word report_of gaps_of pages_of near_names leaps_on turns_on after_kept_line sent_by_kept_line
+unfolding random_started word_of after_word words.started report_of gaps_of pages_of near_names leaps_on turns_on after_kept_line sent_by_kept_line
     verdict_on judge_after answers is_known known_from is_bound_elsewhere spoken other_with without_origin is_admitted after_admitting is_fetched speaking after_answer after_fetching after_hearing is_elsewhere admitted_verdict after_admitted report_verdict after_report
 knows_8 = refl
 
 heard_8 : length (filter (λ x. is_some x.answered) (judged_at numbers sent_again 0).judge.others) ≡ 1
-unfolding random_started word_of after_word words.started words.word_of words.after_word report_of gaps_of pages_of near_names leaps_on turns_on after_kept_line sent_by_kept_line
+unfolding random_started word_of after_word words.started report_of gaps_of pages_of near_names leaps_on turns_on after_kept_line sent_by_kept_line
     verdict_on judge_after answers is_known known_from is_bound_elsewhere spoken other_with without_origin is_admitted after_admitting is_fetched speaking after_answer after_fetching after_hearing is_elsewhere admitted_verdict after_admitted report_verdict after_report
 heard_8 = refl
 
 knows_9 : length (judged_at numbers came_again 1).judge.known ≡ 1
-unfolding random_started word_of after_word words.started words.word_of words.after_word report_of gaps_of pages_of near_names leaps_on turns_on after_kept_line sent_by_kept_line
+unfolding random_started word_of after_word words.started report_of gaps_of pages_of near_names leaps_on turns_on after_kept_line sent_by_kept_line
     verdict_on judge_after answers is_known known_from is_bound_elsewhere spoken other_with without_origin is_admitted after_admitting is_fetched speaking after_answer after_fetching after_hearing is_elsewhere admitted_verdict after_admitted report_verdict after_report
 knows_9 = refl
 
 heard_9 : length (filter (λ x. is_some x.answered) (judged_at numbers came_again 1).judge.others) ≡ 1
-unfolding random_started word_of after_word words.started words.word_of words.after_word report_of gaps_of pages_of near_names leaps_on turns_on after_kept_line sent_by_kept_line
+unfolding random_started word_of after_word words.started report_of gaps_of pages_of near_names leaps_on turns_on after_kept_line sent_by_kept_line
     verdict_on judge_after answers is_known known_from is_bound_elsewhere spoken other_with without_origin is_admitted after_admitting is_fetched speaking after_answer after_fetching after_hearing is_elsewhere admitted_verdict after_admitted report_verdict after_report
 heard_9 = refl
 
 now_2 : present (judged_at numbers (at 1 1 (Starts (start 2 1) []) ∷ at 1 0 (Starts (start 1 1) []) ∷ []) 0).kept.host ≡ 1
-unfolding random_started word_of after_word words.started words.word_of words.after_word report_of gaps_of pages_of near_names leaps_on turns_on after_kept_line sent_by_kept_line
+unfolding random_started word_of after_word words.started report_of gaps_of pages_of near_names leaps_on turns_on after_kept_line sent_by_kept_line
     verdict_on judge_after answers is_known known_from is_bound_elsewhere spoken other_with without_origin is_admitted after_admitting is_fetched speaking after_answer after_fetching after_hearing is_elsewhere admitted_verdict after_admitted report_verdict after_report
 now_2 = refl
 
 now_3 : present (judged_at numbers (at 2000000 0 (Takes (Passed 2000000)) ∷ at 1 1 (Starts (start 2 1) []) ∷ at 1 0 (Starts (start 1 1) []) ∷ []) 1).kept.host ≡ 1
-unfolding random_started word_of after_word words.started words.word_of words.after_word report_of gaps_of pages_of near_names leaps_on turns_on after_kept_line sent_by_kept_line
+unfolding random_started word_of after_word words.started report_of gaps_of pages_of near_names leaps_on turns_on after_kept_line sent_by_kept_line
     verdict_on judge_after answers is_known known_from is_bound_elsewhere spoken other_with without_origin is_admitted after_admitting is_fetched speaking after_answer after_fetching after_hearing is_elsewhere admitted_verdict after_admitted report_verdict after_report
 now_3 = refl
 
 now_4 : present (judged_at numbers answered 0).kept.host ≡ 2000000
-unfolding random_started word_of after_word words.started words.word_of words.after_word report_of gaps_of pages_of near_names leaps_on turns_on after_kept_line sent_by_kept_line
+unfolding random_started word_of after_word words.started report_of gaps_of pages_of near_names leaps_on turns_on after_kept_line sent_by_kept_line
     verdict_on judge_after answers is_known known_from is_bound_elsewhere spoken other_with without_origin is_admitted after_admitting is_fetched speaking after_answer after_fetching after_hearing is_elsewhere admitted_verdict after_admitted report_verdict after_report
 now_4 = refl
 
 now_5 : present (judged_at numbers one_knows 0).kept.host ≡ 2000002
-unfolding random_started word_of after_word words.started words.word_of words.after_word report_of gaps_of pages_of near_names leaps_on turns_on after_kept_line sent_by_kept_line
+unfolding random_started word_of after_word words.started report_of gaps_of pages_of near_names leaps_on turns_on after_kept_line sent_by_kept_line
     verdict_on judge_after answers is_known known_from is_bound_elsewhere spoken other_with without_origin is_admitted after_admitting is_fetched speaking after_answer after_fetching after_hearing is_elsewhere admitted_verdict after_admitted report_verdict after_report
 now_5 = refl
 
 now_6 : present (judged_at numbers (at 4000000 0 (Takes (Passed 4000000)) ∷ one_knows) 1).kept.host ≡ 2000001
-unfolding random_started word_of after_word words.started words.word_of words.after_word report_of gaps_of pages_of near_names leaps_on turns_on after_kept_line sent_by_kept_line
+unfolding random_started word_of after_word words.started report_of gaps_of pages_of near_names leaps_on turns_on after_kept_line sent_by_kept_line
     verdict_on judge_after answers is_known known_from is_bound_elsewhere spoken other_with without_origin is_admitted after_admitting is_fetched speaking after_answer after_fetching after_hearing is_elsewhere admitted_verdict after_admitted report_verdict after_report
 now_6 = refl
 
 now_7 : present (judged_at numbers both_know 1).kept.host ≡ 4000001
-unfolding random_started word_of after_word words.started words.word_of words.after_word report_of gaps_of pages_of near_names leaps_on turns_on after_kept_line sent_by_kept_line
+unfolding random_started word_of after_word words.started report_of gaps_of pages_of near_names leaps_on turns_on after_kept_line sent_by_kept_line
     verdict_on judge_after answers is_known known_from is_bound_elsewhere spoken other_with without_origin is_admitted after_admitting is_fetched speaking after_answer after_fetching after_hearing is_elsewhere admitted_verdict after_admitted report_verdict after_report
 now_7 = refl
 
 now_8 : present (judged_at numbers sent_again 0).kept.host ≡ 4000000
-unfolding random_started word_of after_word words.started words.word_of words.after_word report_of gaps_of pages_of near_names leaps_on turns_on after_kept_line sent_by_kept_line
+unfolding random_started word_of after_word words.started report_of gaps_of pages_of near_names leaps_on turns_on after_kept_line sent_by_kept_line
     verdict_on judge_after answers is_known known_from is_bound_elsewhere spoken other_with without_origin is_admitted after_admitting is_fetched speaking after_answer after_fetching after_hearing is_elsewhere admitted_verdict after_admitted report_verdict after_report
 now_8 = refl
 
 now_9 : present (judged_at numbers came_again 1).kept.host ≡ 5000000
-unfolding random_started word_of after_word words.started words.word_of words.after_word report_of gaps_of pages_of near_names leaps_on turns_on after_kept_line sent_by_kept_line
+unfolding random_started word_of after_word words.started report_of gaps_of pages_of near_names leaps_on turns_on after_kept_line sent_by_kept_line
     verdict_on judge_after answers is_known known_from is_bound_elsewhere spoken other_with without_origin is_admitted after_admitting is_fetched speaking after_answer after_fetching after_hearing is_elsewhere admitted_verdict after_admitted report_verdict after_report
 now_9 = refl
 
 due_7_0 : due (judged_at numbers both_know 0).kept ≡ 5007812
-unfolding random_started word_of after_word words.started words.word_of words.after_word report_of gaps_of pages_of near_names leaps_on turns_on after_kept_line sent_by_kept_line
+unfolding random_started word_of after_word words.started report_of gaps_of pages_of near_names leaps_on turns_on after_kept_line sent_by_kept_line
     verdict_on judge_after answers is_known known_from is_bound_elsewhere spoken other_with without_origin is_admitted after_admitting is_fetched speaking after_answer after_fetching after_hearing is_elsewhere admitted_verdict after_admitted report_verdict after_report
 due_7_0 = refl
 
 due_7_1 : due (judged_at numbers both_know 1).kept ≡ 4891718
-unfolding random_started word_of after_word words.started words.word_of words.after_word report_of gaps_of pages_of near_names leaps_on turns_on after_kept_line sent_by_kept_line
+unfolding random_started word_of after_word words.started report_of gaps_of pages_of near_names leaps_on turns_on after_kept_line sent_by_kept_line
     verdict_on judge_after answers is_known known_from is_bound_elsewhere spoken other_with without_origin is_admitted after_admitting is_fetched speaking after_answer after_fetching after_hearing is_elsewhere admitted_verdict after_admitted report_verdict after_report
 due_7_1 = refl
 
 due_8_0 : due (judged_at numbers sent_again 0).kept ≡ 5007812
-unfolding random_started word_of after_word words.started words.word_of words.after_word report_of gaps_of pages_of near_names leaps_on turns_on after_kept_line sent_by_kept_line
+unfolding random_started word_of after_word words.started report_of gaps_of pages_of near_names leaps_on turns_on after_kept_line sent_by_kept_line
     verdict_on judge_after answers is_known known_from is_bound_elsewhere spoken other_with without_origin is_admitted after_admitting is_fetched speaking after_answer after_fetching after_hearing is_elsewhere admitted_verdict after_admitted report_verdict after_report
 due_8_0 = refl
 
 due_8_1 : due (judged_at numbers sent_again 1).kept ≡ 5007813
-unfolding random_started word_of after_word words.started words.word_of words.after_word report_of gaps_of pages_of near_names leaps_on turns_on after_kept_line sent_by_kept_line
+unfolding random_started word_of after_word words.started report_of gaps_of pages_of near_names leaps_on turns_on after_kept_line sent_by_kept_line
     verdict_on judge_after answers is_known known_from is_bound_elsewhere spoken other_with without_origin is_admitted after_admitting is_fetched speaking after_answer after_fetching after_hearing is_elsewhere admitted_verdict after_admitted report_verdict after_report
 due_8_1 = refl
 
 due_9_0 : due (judged_at numbers came_again 0).kept ≡ 5007812
-unfolding random_started word_of after_word words.started words.word_of words.after_word report_of gaps_of pages_of near_names leaps_on turns_on after_kept_line sent_by_kept_line
+unfolding random_started word_of after_word words.started report_of gaps_of pages_of near_names leaps_on turns_on after_kept_line sent_by_kept_line
     verdict_on judge_after answers is_known known_from is_bound_elsewhere spoken other_with without_origin is_admitted after_admitting is_fetched speaking after_answer after_fetching after_hearing is_elsewhere admitted_verdict after_admitted report_verdict after_report
 due_9_0 = refl
 
 due_9_1 : due (judged_at numbers came_again 1).kept ≡ 5007813
-unfolding random_started word_of after_word words.started words.word_of words.after_word report_of gaps_of pages_of near_names leaps_on turns_on after_kept_line sent_by_kept_line
+unfolding random_started word_of after_word words.started report_of gaps_of pages_of near_names leaps_on turns_on after_kept_line sent_by_kept_line
     verdict_on judge_after answers is_known known_from is_bound_elsewhere spoken other_with without_origin is_admitted after_admitting is_fetched speaking after_answer after_fetching after_hearing is_elsewhere admitted_verdict after_admitted report_verdict after_report
 due_9_1 = refl
 
 free_8_0 : is_full (judged_at numbers sent_again 0).kept.host ≡ false
-unfolding random_started word_of after_word words.started words.word_of words.after_word report_of gaps_of pages_of near_names leaps_on turns_on after_kept_line sent_by_kept_line
+unfolding random_started word_of after_word words.started report_of gaps_of pages_of near_names leaps_on turns_on after_kept_line sent_by_kept_line
     verdict_on judge_after answers is_known known_from is_bound_elsewhere spoken other_with without_origin is_admitted after_admitting is_fetched speaking after_answer after_fetching after_hearing is_elsewhere admitted_verdict after_admitted report_verdict after_report
 free_8_0 = refl
 
 free_8_1 : is_full (judged_at numbers sent_again 1).kept.host ≡ false
-unfolding random_started word_of after_word words.started words.word_of words.after_word report_of gaps_of pages_of near_names leaps_on turns_on after_kept_line sent_by_kept_line
+unfolding random_started word_of after_word words.started report_of gaps_of pages_of near_names leaps_on turns_on after_kept_line sent_by_kept_line
     verdict_on judge_after answers is_known known_from is_bound_elsewhere spoken other_with without_origin is_admitted after_admitting is_fetched speaking after_answer after_fetching after_hearing is_elsewhere admitted_verdict after_admitted report_verdict after_report
 free_8_1 = refl
 
 free_9_0 : is_full (judged_at numbers came_again 0).kept.host ≡ false
-unfolding random_started word_of after_word words.started words.word_of words.after_word report_of gaps_of pages_of near_names leaps_on turns_on after_kept_line sent_by_kept_line
+unfolding random_started word_of after_word words.started report_of gaps_of pages_of near_names leaps_on turns_on after_kept_line sent_by_kept_line
     verdict_on judge_after answers is_known known_from is_bound_elsewhere spoken other_with without_origin is_admitted after_admitting is_fetched speaking after_answer after_fetching after_hearing is_elsewhere admitted_verdict after_admitted report_verdict after_report
 free_9_0 = refl
 
 free_9_1 : is_full (judged_at numbers came_again 1).kept.host ≡ false
-unfolding random_started word_of after_word words.started words.word_of words.after_word report_of gaps_of pages_of near_names leaps_on turns_on after_kept_line sent_by_kept_line
+unfolding random_started word_of after_word words.started report_of gaps_of pages_of near_names leaps_on turns_on after_kept_line sent_by_kept_line
     verdict_on judge_after answers is_known known_from is_bound_elsewhere spoken other_with without_origin is_admitted after_admitting is_fetched speaking after_answer after_fetching after_hearing is_elsewhere admitted_verdict after_admitted report_verdict after_report
 free_9_1 = refl
 
 free_10_0 : is_full (judged_at numbers told_again 0).kept.host ≡ false
-unfolding random_started word_of after_word words.started words.word_of words.after_word report_of gaps_of pages_of near_names leaps_on turns_on after_kept_line sent_by_kept_line
+unfolding random_started word_of after_word words.started report_of gaps_of pages_of near_names leaps_on turns_on after_kept_line sent_by_kept_line
     verdict_on judge_after answers is_known known_from is_bound_elsewhere spoken other_with without_origin is_admitted after_admitting is_fetched speaking after_answer after_fetching after_hearing is_elsewhere admitted_verdict after_admitted report_verdict after_report
 free_10_0 = refl
 
 free_10_1 : is_full (judged_at numbers told_again 1).kept.host ≡ false
-unfolding random_started word_of after_word words.started words.word_of words.after_word report_of gaps_of pages_of near_names leaps_on turns_on after_kept_line sent_by_kept_line
+unfolding random_started word_of after_word words.started report_of gaps_of pages_of near_names leaps_on turns_on after_kept_line sent_by_kept_line
     verdict_on judge_after answers is_known known_from is_bound_elsewhere spoken other_with without_origin is_admitted after_admitting is_fetched speaking after_answer after_fetching after_hearing is_elsewhere admitted_verdict after_admitted report_verdict after_report
 free_10_1 = refl
 
 fine : let h = judged_at numbers sent_again 0 in IsFit (origin_of 1) again (facts_of 5000001 again h.kept) h.judge
-unfolding random_started word_of after_word words.started words.word_of words.after_word report_of gaps_of pages_of near_names leaps_on turns_on after_kept_line sent_by_kept_line
+unfolding random_started word_of after_word words.started report_of gaps_of pages_of near_names leaps_on turns_on after_kept_line sent_by_kept_line
     verdict_on judge_after answers is_known known_from is_bound_elsewhere spoken other_with without_origin is_admitted after_admitting is_fetched speaking after_answer after_fetching after_hearing is_elsewhere admitted_verdict after_admitted report_verdict after_report
 fine = refl
 
 begins_0 : present (opened_host 10 (start 1 1).opening) ≡ 1
-unfolding random_started word_of after_word words.started words.word_of words.after_word report_of gaps_of pages_of near_names leaps_on turns_on after_kept_line sent_by_kept_line
+unfolding random_started word_of after_word words.started report_of gaps_of pages_of near_names leaps_on turns_on after_kept_line sent_by_kept_line
     verdict_on judge_after answers is_known known_from is_bound_elsewhere spoken other_with without_origin is_admitted after_admitting is_fetched speaking after_answer after_fetching after_hearing is_elsewhere admitted_verdict after_admitted report_verdict after_report
 begins_0 = refl
 
 begins_1 : present (opened_host 11 (start 2 1).opening) ≡ 1
-unfolding random_started word_of after_word words.started words.word_of words.after_word report_of gaps_of pages_of near_names leaps_on turns_on after_kept_line sent_by_kept_line
+unfolding random_started word_of after_word words.started report_of gaps_of pages_of near_names leaps_on turns_on after_kept_line sent_by_kept_line
     verdict_on judge_after answers is_known known_from is_bound_elsewhere spoken other_with without_origin is_admitted after_admitting is_fetched speaking after_answer after_fetching after_hearing is_elsewhere admitted_verdict after_admitted report_verdict after_report
 begins_1 = refl
 

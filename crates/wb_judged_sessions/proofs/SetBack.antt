@@ -21,11 +21,11 @@ is_opening : (wall seed moment : ℕ) → IsOpening (start_on wall seed moment).
 is_opening wall seed moment = record { moments = (omega arith, tt); in_range = refl; small = omega arith }
 
 told : file_at numbers once 0 ≡ file
-unfolding random_started word_of after_word words.started words.word_of words.after_word report_of gaps_of pages_of near_names after_kept_line sent_by_kept_line
+unfolding random_started word_of after_word words.started report_of gaps_of pages_of near_names after_kept_line sent_by_kept_line
 told = refl
 
 latest : latest_at numbers once 0 ≡ 300000000002
-unfolding random_started word_of after_word words.started words.word_of words.after_word report_of gaps_of pages_of near_names after_kept_line sent_by_kept_line
+unfolding random_started word_of after_word words.started report_of gaps_of pages_of near_names after_kept_line sent_by_kept_line
 latest = refl
 
 cells : 8 ≡ (judged_at numbers once 0).kept.host.is.cells
@@ -35,29 +35,29 @@ cells = refl
 -- ---- by less than a day
 
 taken_less : AreTaken numbers (twice 240000000000)
-unfolding random_started word_of after_word words.started words.word_of words.after_word report_of gaps_of pages_of near_names after_kept_line sent_by_kept_line
+unfolding random_started word_of after_word words.started report_of gaps_of pages_of near_names after_kept_line sent_by_kept_line
 taken_less = (refl, ((is_opening 240000000000 2 7, (refl, (refl, tt))), (refl, ((is_opening late 1 1, tt), tt))))
 
 day_less : day_of (judged_at numbers (twice 240000000000) 0) ≡ 240000000002
-unfolding random_started word_of after_word words.started words.word_of words.after_word report_of gaps_of pages_of near_names after_kept_line sent_by_kept_line
+unfolding random_started word_of after_word words.started report_of gaps_of pages_of near_names after_kept_line sent_by_kept_line
 day_less = refl
 
 drew_less : drawn_at numbers (twice 240000000000) 0 ≡ second 300000000003 ∷ first ∷ []
-unfolding random_started word_of after_word words.started words.word_of words.after_word report_of gaps_of pages_of near_names after_kept_line sent_by_kept_line
+unfolding random_started word_of after_word words.started report_of gaps_of pages_of near_names after_kept_line sent_by_kept_line
 drew_less = refl
 
 -- ---- by more than two days
 
 taken_more : AreTaken numbers (twice 100000000000)
-unfolding random_started word_of after_word words.started words.word_of words.after_word report_of gaps_of pages_of near_names after_kept_line sent_by_kept_line
+unfolding random_started word_of after_word words.started report_of gaps_of pages_of near_names after_kept_line sent_by_kept_line
 taken_more = (refl, ((is_opening 100000000000 2 7, (refl, (refl, tt))), (refl, ((is_opening late 1 1, tt), tt))))
 
 day_more : day_of (judged_at numbers (twice 100000000000) 0) ≡ 100000000002
-unfolding random_started word_of after_word words.started words.word_of words.after_word report_of gaps_of pages_of near_names after_kept_line sent_by_kept_line
+unfolding random_started word_of after_word words.started report_of gaps_of pages_of near_names after_kept_line sent_by_kept_line
 day_more = refl
 
 drew_more : drawn_at numbers (twice 100000000000) 0 ≡ second 100000000002 ∷ first ∷ []
-unfolding random_started word_of after_word words.started words.word_of words.after_word report_of gaps_of pages_of near_names after_kept_line sent_by_kept_line
+unfolding random_started word_of after_word words.started report_of gaps_of pages_of near_names after_kept_line sent_by_kept_line
 drew_more = refl
 
 -- ---- files and days
@@ -83,7 +83,7 @@ module _ (wall : ℕ) where
   before = ap (λ (told : List RecordLine). latest_before (Starts (start_on wall 2 7) file) told (latest_at numbers once 0)) told ∙ latest
 
   day : day_of (after_call (Starts (start_on wall 2 7) file) (judged_at numbers once 0)) ≡ wall
-  unfolding random_started word_of after_word words.started words.word_of words.after_word report_of gaps_of pages_of near_names after_kept_line sent_by_kept_line
+  unfolding random_started word_of after_word words.started report_of gaps_of pages_of near_names after_kept_line sent_by_kept_line
   day = omega arith
 
 back : NeverADayBack numbers (twice 240000000000)
@@ -110,15 +110,15 @@ it_is_set_back_too_far = record {
 -- ---- elsewhere
 
 given_taken : AreTaken numbers elsewhere
-unfolding random_started word_of after_word words.started words.word_of words.after_word report_of gaps_of pages_of near_names after_kept_line sent_by_kept_line
+unfolding random_started word_of after_word words.started report_of gaps_of pages_of near_names after_kept_line sent_by_kept_line
 given_taken = (refl, ((is_opening 100000000000 2 7, (refl, (refl, tt))), (refl, ((is_opening late 1 1, tt), tt))))
 
 given_held : (judged_at numbers elsewhere 1).kept.host.is.held ≡ first ∷ record { name = name_of page 11 1; time = 100000000002; op = deletes_first } ∷ []
-unfolding random_started word_of after_word words.started words.word_of words.after_word report_of gaps_of pages_of near_names after_kept_line sent_by_kept_line
+unfolding random_started word_of after_word words.started report_of gaps_of pages_of near_names after_kept_line sent_by_kept_line
 given_held = refl
 
 given_day : day_of (after_call (Starts (start_on 100000000000 2 7) file) (judged_at numbers once 1)) ≡ 100000000000
-unfolding random_started word_of after_word words.started words.word_of words.after_word report_of gaps_of pages_of near_names after_kept_line sent_by_kept_line
+unfolding random_started word_of after_word words.started report_of gaps_of pages_of near_names after_kept_line sent_by_kept_line
 given_day = refl
 
 given_files : KeepFiles numbers elsewhere

@@ -10,7 +10,7 @@ use Rattle.wb_codec.specs.declared.datagram.Datagram.TheVariants.{Draw}
 use Rattle.wb_gaps.specs.Answers.{report_of}
 use Rattle.wb_keeper.specs.Hearing.{marks_in}
 use Rattle.wb_member.specs.Opened.{becomes, gaps_at, last_number}
-use Rattle.wb_policy.specs.declared.limits.TheConstants.{FIRST_FORGED}
+use Rattle.wb_names.specs.declared.name.TheConstants.{FIRST_FORGED}
 use Rattle.wb_judge.specs.declared.origin.Origin.{Origin}
 use Rattle.wb_keeping.specs.Laws.{Came}
 use Rattle.wb_judging.specs.Handing.{handed}

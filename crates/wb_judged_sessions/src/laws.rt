@@ -2,7 +2,7 @@
 //! proofs to cite.
 
 ghost use Rattle.std.specs.Prelude.{◌≡◌, ◌^◌};
-ghost use Rattle.wb_judge.specs.declared.limits.TheConstants.{FETCH_AGAIN, FETCH_PAUSE, FORGED_ABOVE, FORGED_NUMBER, LACKING, NEW_AHEAD, NEW_PAUSE};
+ghost use Rattle.wb_judge.specs.declared.limits.TheConstants.{FETCH_AGAIN, FETCH_PAUSE, FORGED_ABOVE, LACKING, NEW_AHEAD, NEW_PAUSE};
 ghost use Rattle.wb_judged_sessions.specs.Answering.{AnswersAreHandedIn, AnswersMakeKnown, FewAreEchoed, KnownAreHandedIn, KnownGoOn, LastTakenIsEchoed, ReportsAreRemembered, TheyComeToKnow};
 ghost use Rattle.wb_judged_sessions.specs.Examples.{IsShared};
 ghost use Rattle.wb_judged_sessions.specs.Days.{HeldIsNear, OursAreInOrder, OursLieAbove};
@@ -133,12 +133,11 @@ pub fn clocks_are_set_back()
 /// The numbers of a judge that wb_judge has no law for: how many numbers a member lacks that takes a
 /// stream, and how long, in microseconds, it waits for the next one, and for the next one of the
 /// same member; how far ahead new numbers are paid for, and what one costs, in microseconds; and
-/// which numbers of our own are forged: those so far above what is held, and those from the last
-/// one on.
+/// how far above what is held our own numbers are forged.
 pub fn numbers_of_a_judge()
     ensures streams { (LACKING ≡ 500) × (FETCH_PAUSE ≡ 10000000) × (FETCH_AGAIN ≡ 60000000) }
     ensures ahead { (NEW_AHEAD ≡ 255000000) × (NEW_PAUSE ≡ 1000000) }
-    ensures forged { (FORGED_ABOVE ≡ 65536) × (FORGED_NUMBER ≡ 2 ^ 31) }
+    ensures forged { FORGED_ABOVE ≡ 65536 }
 {}
 
 /// Two members come to know each other by two reports: one takes in a report of the other, and what

@@ -2,6 +2,7 @@
 use Rattle.std.specs.Prelude.{◌≡◌, ◌<◌, ◌^◌, Bool, false, Option, Some, None, Result, Ok, Err, Vec, nat_lt}
 use Rattle.std.specs.Option.{option_map}
 use Rattle.wb_names.specs.Moments.{IsMoment}
+use Rattle.wb_judge.specs.declared.limits.TheConstants.{TIME_LIMIT}
 use Rattle.wb_member.specs.Opened.{present}
 use Rattle.wb_keeper.specs.declared.keep_fault.KeepFault.TheVariants.{Memory}
 use Rattle.wb_keeping.specs.Refusing.{back_in_time}
@@ -13,13 +14,13 @@ use Rattle.wb_judging.specs.declared.event.Event.{Event}
 use Rattle.wb_judging.specs.declared.judged_fault.JudgedFault.{JudgedFault}
 use Rattle.wb_judging.specs.declared.judged_fault.JudgedFault.TheVariants.{Kept}
 
--- its moment is below 2^48, and a time of day below 2^62
+-- its moment is below 2^48, and a time of day below its limit
 abbrev pub IsWithin : Call → Type 0
 IsWithin (CameFrom now o v) = IsMoment now
 IsWithin (Garbled now) = IsMoment now
 IsWithin (Passed now) = IsMoment now
 IsWithin (UserDrew now page op) = IsMoment now
-IsWithin (DayTold now wall) = IsMoment now × (wall < 2 ^ 62)
+IsWithin (DayTold now wall) = IsMoment now × (wall < TIME_LIMIT)
 IsWithin (GoneFrom now o) = IsMoment now
 IsWithin (Held line) = Unit {0}
 

@@ -1,5 +1,6 @@
 //! A judged member: what it is, and how it begins.
 ghost use Rattle.std.specs.Prelude.{◌≡◌, ◌≤◌, ◌<◌, ◌^◌, IfOk};
+ghost use Rattle.wb_judge.specs.declared.limits.TheConstants.{TIME_LIMIT};
 ghost use Rattle.wb_member.specs.Holding.{IsOpenAt};
 ghost use Rattle.wb_member.specs.Opened.{Opened};
 ghost use Rattle.wb_keeping.specs.Performing.{due};
@@ -64,7 +65,7 @@ impl JudgedMember {
         member: Member,
         opening: &Opening,
     ) -> Result<JudgedMember, AllocError>
-        requires wall { opening.now.wall < 2 ^ 62 }
+        requires wall { opening.now.wall < TIME_LIMIT }
         requires rate { 1 ≤ opening.now.rate }
         requires listen { opening.now.listen < 2 ^ 32 }
         ensures { IfOk result (λ m. (host : Opened) → IsOpenAt member host →

@@ -18,7 +18,7 @@ use Rattle.wb_recovery.specs.declared.missed.Missed.{Missed}
 use Rattle.wb_recovery.specs.declared.missed.Received.{Received}
 use Rattle.wb_recovery.specs.declared.tuning.Tuning.{Tuning}
 use Rattle.wb_keeper.specs.declared.keeper.Heard.{Heard}
-use Rattle.wb_keeper.specs.declared.keeper.TheConstants.Keeper.{FIRST_DELAY}
+use Rattle.wb_recovery.specs.declared.limits.TheConstants.{UNKNOWN_DISTANCE}
 
 -- An accepted call, with what it found on the desk: whether a name that was asked for was held; which of the names
 -- that arrived were held; which names with a request timer were; whether a name that is given up had a request timer.
@@ -114,7 +114,7 @@ delay_given me source call = None
 
 -- the delay to a source that was last set or heard, else a tenth of a second
 abbrev pub delay_to : ℕ → List KeeperCall → ℕ → ℕ
-delay_to me calls source = unwrap_or (newest (delay_given me source) calls) FIRST_DELAY
+delay_to me calls source = unwrap_or (newest (delay_given me source) calls) UNKNOWN_DISTANCE
 
 -- ---- the senders of session messages
 

@@ -12,7 +12,7 @@ use Rattle.wb_gaps.specs.Gaps.{AreGaps, IsMissing}
 use Rattle.wb_recovery.specs.Events.{Event, asking, names_of, timers_of}
 use Rattle.wb_recovery.specs.declared.tuning.Tuning.{Tuning}
 use Rattle.wb_recovery.specs.declared.timers.Timers.{Timers}
-use Rattle.wb_keeper.specs.declared.keeper.TheConstants.Keeper.{MOST_ASKS}
+use Rattle.wb_recovery.specs.declared.limits.TheConstants.{MOST_TIMERS}
 
 -- `count` numbers, from the first on
 abbrev pub numbers_from : ℕ → ℕ → List ℕ
@@ -32,7 +32,7 @@ is_unasked timers name = not (is_some (timers name).ask)
 
 -- of the missing names those without a request timer, as many as bring the standing ones to the most
 abbrev pub wanted : (NameValue → Timers) → ℕ → List NameValue → List NameValue
-wanted timers standing missing = take (MOST_ASKS - standing) (filter (is_unasked timers) missing)
+wanted timers standing missing = take (MOST_TIMERS - standing) (filter (is_unasked timers) missing)
 
 -- the names of the page that are missing, ascending, as far as they are wanted after these calls of the timers
 abbrev pub AreWanted : Tuning → List Event → List DrawopValue → PageId → List MarkValue → List NameValue → Type 0
@@ -62,4 +62,4 @@ pub record IsWanted (timers : NameValue → Timers) (history : List DrawopValue)
 -- The names that are wanted are the first of all these in their order, as many as bring the standing request timers to the most.
 abbrev pub FirstAreWanted : Type 0
 FirstAreWanted = (constants : Tuning) (events : List Event) (history : List DrawopValue) (page : PageId) (marks : List MarkValue)
-    → (all : List NameValue) × Lists name_cmp (IsWanted (timers_of constants events) history page marks) all × (wanted_of constants events history page marks ≡ take (MOST_ASKS - length (asking (names_of events) (timers_of constants events))) all)
+    → (all : List NameValue) × Lists name_cmp (IsWanted (timers_of constants events) history page marks) all × (wanted_of constants events history page marks ≡ take (MOST_TIMERS - length (asking (names_of events) (timers_of constants events))) all)

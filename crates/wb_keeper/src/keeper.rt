@@ -34,7 +34,7 @@ use std::alloc::Global;
 use std::collections::BTreeMap;
 use std::marker::Model;
 use wb_names::{MOMENT_LIMIT, Marks, PageId};
-use wb_recovery::{DELAY_LIMIT, Recovery, Tuning, TuningFault};
+use wb_recovery::{DELAY_LIMIT, Recovery, Tuning, TuningFault, UNKNOWN_DISTANCE};
 
 /// Of a session message: the moment of its sender's clock that it named, and the moment at which it
 /// was heard, both in microseconds.
@@ -84,12 +84,6 @@ impl Model for Keeper {
 }
 
 impl Keeper {
-    /// The delay to a source of which none was set or heard, in microseconds: a tenth of a second.
-    pub const FIRST_DELAY: u64 = 100_000;
-
-    /// The number of request timers up to which `missing` wants names.
-    pub const MOST_ASKS: usize = 64;
-
     /// The keeper of the member `me`, which has heard nothing. A constant that is not 1 to 16 is
     /// refused with `Constant`.
     pub fn new(alloc: Global, me: u32, tuning: Tuning) -> Result<Keeper, TuningFault>
@@ -113,7 +107,7 @@ impl Keeper {
     }
 
     /// Sets the delay to a source, in microseconds below 2^24, until another is set or heard. The
-    /// first delay takes no room, since each source has it that has no other.
+    /// unknown distance takes no room, since each source has it that has no other.
     ///
     /// Refused with `Range` or `Memory`, in this order.
     pub fn set_delay(&mut self, source: u32, micros: u64) -> Result<(), KeepFault>
@@ -124,7 +118,7 @@ impl Keeper {
         if micros >= DELAY_LIMIT {
             return Err(KeepFault::Range);
         }
-        if micros == Keeper::FIRST_DELAY {
+        if micros == UNKNOWN_DISTANCE {
             self.delays.remove(&source);
             return Ok(());
         }
@@ -163,13 +157,13 @@ impl Keeper {
         self.me
     }
 
-    /// The delay to a source, in microseconds.
+    /// The delay to a source, in microseconds: the unknown distance if none was set or heard.
     pub fn delay(&self, source: u32) -> u64
         ensures delay { result ≡ delay_at self.now.delays source }
         ensures near { IsDelay result }
     {
         let delay = self.delays.get(&source).copied();
-        delay.unwrap_or(Keeper::FIRST_DELAY)
+        delay.unwrap_or(UNKNOWN_DISTANCE)
     }
 
     /// The greatest numbers that others told of a page. Empty if none did.

@@ -1,5 +1,4 @@
-//! Laws of keepers, and of their limits. Each function does nothing that is seen: its contract is a law, for proofs to
-//! cite.
+//! Laws of keepers. Each function does nothing that is seen: its contract is a law, for proofs to cite.
 
 ghost use Rattle.wb_keeper.specs.Hearing.{OneSent, AnswersAreSent};
 ghost use Rattle.wb_keeper.specs.Missing.{FirstAreWanted, OneWanted, WantedOfPage};
@@ -9,7 +8,6 @@ ghost use Rattle.wb_codec.specs.Reading.{reading};
 ghost use Rattle.wb_codec.specs.Spelling.{spelling};
 ghost use Rattle.wb_keeper.specs.Dues.{NextDueIsLeast};
 ghost use Rattle.wb_keeper.specs.Known.{KnownPagesAreKnown};
-ghost use Rattle.wb_keeper.specs.declared.keeper.TheConstants.Keeper.{FIRST_DELAY, MOST_ASKS};
 ghost use Rattle.wb_keeper.specs.Sessions.{OneSession, MessageIsSession};
 ghost use Rattle.wb_keeper.specs.KeeperLaws.{AnswersWithHeld, AsksForNoneHeld, DrawopsOnlyMove, FirstSendersAreEchoed, MarksAreGreatest, MergedAreGreatest, OrderOfArrivalIsFree, OwnOnlyMoves, StoppedByCalls};
 
@@ -99,10 +97,3 @@ pub fn sent_is_read_back(sent: &[Datagram])
     }
     reading_undoes_spelling();
 }
-
-/// The first delay to a source in microseconds, and the request timers up to which names are
-/// wanted.
-pub fn limits()
-    ensures delay { FIRST_DELAY ≡ 100000 }
-    ensures asks { MOST_ASKS ≡ 64 }
-{}

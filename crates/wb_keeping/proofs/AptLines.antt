@@ -9,7 +9,7 @@ use Rattle.wb_recovery.specs.declared.tuning.Tuning.{Tuning}
 use Rattle.wb_member.specs.Opened.{Opened, opened_with}
 use Rattle.wb_keeping.specs.Bounds.{new_keeping}
 use Rattle.wb_policy.specs.Distances.{bounded, known}
-use Rattle.wb_policy.specs.declared.limits.TheConstants.{UNKNOWN_DISTANCE}
+use Rattle.wb_recovery.specs.declared.limits.TheConstants.{UNKNOWN_DISTANCE}
 use Rattle.wb_keeping.specs.Kept.{Hears, Line, Ticks}
 use Rattle.wb_keeping.specs.Laws.{AreTaken, KeptLine, expand}
 use Rattle.wb_keeping.specs.Performing.{Keeping, after_line, after_lines}

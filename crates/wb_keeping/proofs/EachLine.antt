@@ -9,7 +9,7 @@ use Rattle.wb_gaps.specs.Answers.{pages_of, report_of}
 use Rattle.wb_gaps.specs.Holes.{hole_after}
 use Rattle.wb_gaps.specs.declared.holes.Hole.{Hole}
 use Rattle.wb_policy.specs.Distances.{bounded}
-use Rattle.wb_policy.specs.declared.limits.TheConstants.{UNKNOWN_DISTANCE}
+use Rattle.wb_recovery.specs.declared.limits.TheConstants.{UNKNOWN_DISTANCE}
 use Rattle.wb_policy.specs.Choices.{distance_in, own_echo, own_marks, told_names}
 use Rattle.wb_keeping.specs.Kept.{Asks, Doing, Line, Says, SetsDistance, Stops, Transition, and_then, answers, asks_pages, end, ends_full, is_begun, is_unasked, leap, leap_to, leaps_on, learned, measures, paid_for, reports, reports_due, reports_rest, room_lines, state_of, still, stops_one, timed, turn, turn_if, turn_to, turns_due, turns_on, turns_past, want, want_near, want_told, Arrives, Hears, hears, hears_session, hears_some, hears_state, of_other, performs, takes, takes_question, lending, hears_request}
 use Rattle.wb_policy.specs.Policy.{Policy, after_answer, after_beat, after_leaping, after_question, after_turn, after_wanting, in_next_leaps, in_next_round, after_state, after_taking_up}

@@ -11,7 +11,7 @@ use Rattle.wb_recovery.specs.declared.tuning.Tuning.{Tuning}
 use Rattle.wb_member.specs.Judged.{asked_names}
 use Rattle.wb_member.specs.Opened.{Opened, events, opened_with, present}
 use Rattle.wb_keeping.specs.Bounds.{FewRequestsAtOnce, FewTimersStand, is_ask, new_keeping, timer_count}
-use Rattle.wb_policy.specs.declared.limits.TheConstants.{UNKNOWN_DISTANCE}
+use Rattle.wb_recovery.specs.declared.limits.TheConstants.{UNKNOWN_DISTANCE}
 use Rattle.wb_keeping.specs.Kept.{Asks, Line, Stops, Ticks, room_lines, still, stops_one, want, lending, SetsDistance}
 use Rattle.wb_keeping.specs.Laws.{AreTaken, KeptLine, expand}
 use Rattle.wb_keeping.specs.Performing.{Keeping, after_line, after_lines, sees, view_of}

@@ -10,7 +10,7 @@ use Rattle.wb_gaps.specs.declared.holes.Hole.{Hole}
 use Rattle.wb_policy.specs.Choices.{near_names}
 use Rattle.wb_keeping.specs.Kept.{Asks, Doing, Line, SetsDistance, Stops, and_then, end, is_begun, leap, leap_to, leaps_on, learned, measures, paid_for, performs, room_lines, still, stops_one, turn, turn_if, turn_to, turns_on, want, want_near, lending}
 use Rattle.wb_policy.specs.Distances.{bounded}
-use Rattle.wb_policy.specs.declared.limits.TheConstants.{UNKNOWN_DISTANCE}
+use Rattle.wb_recovery.specs.declared.limits.TheConstants.{UNKNOWN_DISTANCE}
 use Rattle.wb_policy.specs.Policy.{Policy, after_wanting, with_distance}
 use Rattle.wb_keeping.proofs.NearNames.{near_wanted}
 use Rattle.wb_keeping.specs.Views.{View, holds, is_asked, is_full, level, is_known}

@@ -22,7 +22,7 @@ use Rattle.wb_member.specs.Members.{Misses}
 use Rattle.wb_member.specs.Opened.{Opened, doing as doing_act, events, has_room_for, heard, may_ask, opened_with, present, word_at}
 use Rattle.wb_member.specs.Random.{word_of}
 use Rattle.wb_keeping.specs.Fairness.{OnlyHeldIsAnswered, WantedIsAsked, is_answering}
-use Rattle.wb_policy.specs.declared.limits.TheConstants.{UNKNOWN_DISTANCE}
+use Rattle.wb_recovery.specs.declared.limits.TheConstants.{UNKNOWN_DISTANCE}
 use Rattle.wb_keeping.specs.Kept.{Arrives, Asks, Doing, Hears, Line, Says, SetsDistance, Tunes, Stops, Ticks, room_lines, still, stops_one, lending}
 use Rattle.wb_keeping.specs.Performing.{after_line, after_lines, sees, view_of}
 use Rattle.wb_policy.specs.Policy.{after_wanting}

@@ -14,7 +14,8 @@ use Rattle.wb_gaps.specs.declared.holes.Hole.{Hole}
 pub use Rattle.wb_member.specs.Lines.{Line, Ticks, Arrives, Hears, Asks, Stops, SetsDistance, Tunes, Says}
 use Rattle.wb_policy.specs.Choices.{distance_in, last_heard, last_source, near_names, own_echo, own_marks, told_names, until_in}
 use Rattle.wb_policy.specs.Distances.{bounded}
-use Rattle.wb_policy.specs.declared.limits.TheConstants.{MOST_PAGES, MOST_TIMERS, UNKNOWN_DISTANCE}
+use Rattle.wb_recovery.specs.declared.limits.TheConstants.{MOST_TIMERS, UNKNOWN_DISTANCE}
+use Rattle.wb_policy.specs.declared.limits.TheConstants.{MOST_PAGES}
 use Rattle.wb_keeping.specs.Drawings.{drawing_time}
 use Rattle.wb_policy.specs.Policy.{Policy, after_answer, after_beat, after_came, after_leaping, after_question, after_report, after_state, after_taking_up, after_turn, after_wanting, in_next_leaps, in_next_round, with_distance}
 use Rattle.wb_keeping.specs.Views.{View, holds, is_asked, is_full, level, is_known}

@@ -16,7 +16,7 @@ use Rattle.wb_keeping.specs.Kept.{drawing}
 use Rattle.wb_keeping.specs.Performing.{Keeping, view_of}
 use Rattle.wb_keeping.specs.declared.kept_fault.KeptFault.{KeptFault}
 use Rattle.wb_keeping.specs.declared.kept_fault.KeptFault.TheVariants.{Host, Listening, Ours, Numbers, Operation}
-use Rattle.wb_policy.specs.declared.limits.TheConstants.{FIRST_FORGED}
+use Rattle.wb_names.specs.declared.name.TheConstants.{FIRST_FORGED}
 
 -- ---- refusals: the first fault of each call
 

@@ -5,7 +5,8 @@ use Rattle.wb_names.specs.Values.{NameValue}
 use Rattle.wb_gaps.specs.Holes.{hole_after}
 use Rattle.wb_gaps.specs.declared.holes.Hole.{Hole}
 use Rattle.wb_policy.specs.Choices.{near_names}
-use Rattle.wb_policy.specs.declared.limits.TheConstants.{REACH, UNKNOWN_DISTANCE}
+use Rattle.wb_recovery.specs.declared.limits.TheConstants.{UNKNOWN_DISTANCE}
+use Rattle.wb_policy.specs.declared.limits.TheConstants.{REACH}
 use Rattle.wb_keeping.specs.Kept.{Line, SetsDistance, Transition, leap_to, room_lines, turn_to, want, and_then, performs}
 use Rattle.wb_keeping.specs.Views.{View, holds}
 use Rattle.wb_policy.specs.Leaps.{far_name}

@@ -6,7 +6,7 @@ use Rattle.wb_names.specs.Orders.{same_name}
 use Rattle.wb_names.specs.Values.{NameValue, DrawopValue}
 use Rattle.wb_names.specs.declared.echo.Echo.{Echo}
 use Rattle.wb_names.specs.declared.name.PageId.{PageId}
-use Rattle.wb_policy.specs.declared.limits.TheConstants.{UNKNOWN_DISTANCE}
+use Rattle.wb_recovery.specs.declared.limits.TheConstants.{UNKNOWN_DISTANCE}
 use Rattle.wb_policy.specs.declared.wanting.AskedName.{AskedName}
 
 -- What it sees of a host: its number, the present moment, how many cells its board has and what it holds, the names with a

@@ -26,8 +26,7 @@ use wb_board::Reply;
 use wb_codec::Datagram;
 use wb_keeper::KeepFault;
 use wb_member::Member;
-use wb_names::{Drawop, Name, PageId, Shape};
-use wb_policy::limits::FIRST_FORGED;
+use wb_names::{Drawop, FIRST_FORGED, Name, PageId, Shape};
 use wb_policy::{Policy, sooner};
 use wb_recovery::{Tuning, TuningFault};
 

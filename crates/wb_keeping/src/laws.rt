@@ -5,8 +5,6 @@ ghost use Rattle.std.specs.Prelude.{◌≡◌};
 ghost use Rattle.wb_keeping.specs.Bounds.{FewNamesAreAsked, FewRequestsAtOnce, FewTimersStand, LittleIsSaid, NamesAreSeldomRequested};
 ghost use Rattle.wb_keeping.specs.Fairness.{OnlyHeldIsAnswered, ReportsTell, TurnsAreTaken, WantedIsAsked};
 ghost use Rattle.wb_keeping.specs.Laws.{ANumberIsLeft, DrawingIsNotLocked, KeptHostsAreHosts, NothingIsDue, TimeComesFirst, WantedIsPaid};
-ghost use Rattle.wb_keeper.specs.declared.keeper.TheConstants.Keeper.{FIRST_DELAY, MOST_ASKS};
-ghost use Rattle.wb_policy.specs.declared.limits.TheConstants.{MOST_TIMERS, UNKNOWN_DISTANCE};
 ghost use Rattle.wb_keeping.specs.declared.limits.TheConstants.{AHEAD, MINUTES, MOST_REQUESTS};
 
 /// A name that is wanted is asked for only if it is not held and there is credit, and then it costs.
@@ -83,10 +81,7 @@ pub fn limits()
     ensures { MOST_REQUESTS ≡ 15 }
 {}
 
-/// The other numbers, in microseconds. The delay of a source that told none is the distance that a
-/// policy takes for unknown, and as many timers stand as the keeper sets by itself.
+/// The other numbers, in microseconds.
 pub fn numbers()
-    ensures times { (AHEAD ≡ 172800000000) × (MINUTES ≡ 600000000) }
-    ensures unknown { UNKNOWN_DISTANCE ≡ FIRST_DELAY }
-    ensures timers { MOST_TIMERS ≡ MOST_ASKS }
+    ensures { (AHEAD ≡ 172800000000) × (MINUTES ≡ 600000000) }
 {}

@@ -21,7 +21,8 @@ use Rattle.wb_member.specs.Members.{Misses}
 use Rattle.wb_member.specs.Opened.{Opened, asks_for, doing, events, may_ask, present}
 use Rattle.wb_member.specs.Random.{word_of}
 use Rattle.wb_policy.specs.Credit.{has_credit}
-use Rattle.wb_policy.specs.declared.limits.TheConstants.{COST, UNKNOWN_DISTANCE}
+use Rattle.wb_recovery.specs.declared.limits.TheConstants.{UNKNOWN_DISTANCE}
+use Rattle.wb_policy.specs.declared.limits.TheConstants.{COST}
 use Rattle.wb_keeping.specs.Fairness.{AnswersWhatIsHeld}
 use Rattle.wb_keeping.specs.Kept.{Asks, Doing, Line, SetsDistance, Tunes, Stops, room_lines, still, stops_one, want, want_told, lending}
 use Rattle.wb_keeping.specs.Performing.{Keeping, after_doing, after_line, after_lines, asked_name, asked_with, sees, view_of}

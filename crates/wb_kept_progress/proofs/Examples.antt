@@ -9,11 +9,11 @@ use Rattle.wb_kept_progress.specs.Examples.{LivelyMeets, PatientMeets, lively, l
 use Rattle.wb_kept_progress.proofs.Lacking.{calls_pass, lines_pass, meets}
 
 lively_calls : calls_pass lively lively_lines 2600000 ≡ true
-unfolding started word_of after_word words.started words.word_of words.after_word report_of gaps_of pages_of near_names leaps_on turns_on
+unfolding started word_of after_word words.started report_of gaps_of pages_of near_names leaps_on turns_on
 lively_calls = refl
 
 lively_performs : lines_pass lively lively_lines 2600000 ≡ true
-unfolding started word_of after_word words.started words.word_of words.after_word report_of gaps_of pages_of near_names leaps_on turns_on
+unfolding started word_of after_word words.started report_of gaps_of pages_of near_names leaps_on turns_on
 lively_performs = refl
 
 pub lively_meets : LivelyMeets
@@ -25,11 +25,11 @@ lively_meets = (
 )
 
 patient_calls : calls_pass patient patient_lines 115530000 ≡ true
-unfolding started word_of after_word words.started words.word_of words.after_word report_of gaps_of pages_of near_names leaps_on turns_on
+unfolding started word_of after_word words.started report_of gaps_of pages_of near_names leaps_on turns_on
 patient_calls = refl
 
 patient_performs : lines_pass patient patient_lines 115530000 ≡ true
-unfolding started word_of after_word words.started words.word_of words.after_word report_of gaps_of pages_of near_names leaps_on turns_on
+unfolding started word_of after_word words.started report_of gaps_of pages_of near_names leaps_on turns_on
 patient_performs = refl
 
 pub patient_meets : PatientMeets

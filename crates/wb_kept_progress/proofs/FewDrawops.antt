@@ -34,7 +34,7 @@ use Rattle.wb_progress.proofs.NamesApart.{apart_of, no_longer}
 use Rattle.wb_member.specs.Members.{Misses}
 use Rattle.wb_member.specs.Opened.{Opened, accepted, asks_for, becomes, doing, events, has_room_for, heard, may_ask, opened_with, present, word_at}
 use Rattle.wb_member.specs.Random.{word_of}
-use Rattle.wb_policy.specs.declared.limits.TheConstants.{UNKNOWN_DISTANCE}
+use Rattle.wb_recovery.specs.declared.limits.TheConstants.{UNKNOWN_DISTANCE}
 use Rattle.wb_keeping.specs.Bounds.{new_keeping}
 use Rattle.wb_keeping.specs.Kept.{Arrives, Asks, Doing, Hears, Line, Says, SetsDistance, Stops, Ticks, Tunes, and_then, drawing, ends_full, hears, hears_request, still, timed}
 use Rattle.wb_keeping.specs.Laws.{Added, Came, KeptLine, Ticked, Tuned, doing_of, expand}

@@ -17,7 +17,7 @@ use Rattle.wb_keeping.specs.Performing.{Keeping, after_doing, sees}
 use Rattle.wb_policy.specs.Policy.{Policy, after_answer, after_beat, after_leaping, after_question, after_state, after_taking_up, after_turn, after_wanting, in_next_leaps, in_next_round}
 use Rattle.wb_keeping.specs.Views.{View, holds, is_asked, is_full}
 use Rattle.wb_policy.specs.Leaps.{far_name}
-use Rattle.wb_policy.specs.declared.limits.TheConstants.{MOST_TIMERS}
+use Rattle.wb_recovery.specs.declared.limits.TheConstants.{MOST_TIMERS}
 use Rattle.wb_policy.specs.Pace.{gap_within}
 use Rattle.wb_policy.specs.Questions.{is_due, is_to_answer}
 use Rattle.wb_policy.specs.Reports.{next_report, rest_after}

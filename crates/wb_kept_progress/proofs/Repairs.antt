@@ -30,7 +30,7 @@ use Rattle.wb_progress.proofs.Repairs.{answers_are_soon, asker_asks}
 use Rattle.wb_member.specs.Judged.{is_full}
 use Rattle.wb_member.specs.Opened.{Opened, asks_for, due_count, events, heard, opened_with, present, sent_by, ticked, word_at}
 use Rattle.wb_member.specs.Random.{words_of}
-use Rattle.wb_policy.specs.declared.limits.TheConstants.{UNKNOWN_DISTANCE}
+use Rattle.wb_recovery.specs.declared.limits.TheConstants.{UNKNOWN_DISTANCE}
 use Rattle.wb_keeping.specs.Kept.{Arrives, Doing, Hears, Ticks, and_then, came, hears, learned, performs, still, takes, ticks, timed, Line, SetsDistance, hears_request}
 use Rattle.wb_keeping.specs.Laws.{Came, KeptLine, Ticked, doing_of, fault_of}
 use Rattle.wb_keeping.specs.Performing.{Keeping, after_doing, after_line, after_lines, sees, sent_by_doing, view_of}

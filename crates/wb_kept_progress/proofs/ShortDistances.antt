@@ -3,7 +3,8 @@ use Rattle.std.proofs.Common.{◌≡◌, ℕ, ◌+◌, ◌≤◌, Bool, true, fa
 use Rattle.std.specs.Prelude.{max, min, nat_eq}
 use Rattle.wb_member.specs.Judged.{delay}
 use Rattle.wb_member.specs.Opened.{Opened, opened_with}
-use Rattle.wb_policy.specs.declared.limits.TheConstants.{MOST_DISTANCE, UNKNOWN_DISTANCE}
+use Rattle.wb_recovery.specs.declared.limits.TheConstants.{UNKNOWN_DISTANCE}
+use Rattle.wb_policy.specs.declared.limits.TheConstants.{MOST_DISTANCE}
 use Rattle.wb_policy.specs.Distances.{bounded, known}
 use Rattle.wb_keeping.specs.Kept.{Line}
 use Rattle.wb_keeping.specs.Laws.{KeptLine, doing_of, fault_of}

@@ -4,7 +4,8 @@ use Rattle.std.specs.Prelude.{ℕ, ◌+◌, ◌*◌, ◌≤◌, List, max}
 use Rattle.wb_names.specs.Values.{NameValue}
 use Rattle.wb_progress.specs.InTime.{known_from, repairing}
 use Rattle.wb_progress.specs.Turns.{Terms}
-use Rattle.wb_policy.specs.declared.limits.TheConstants.{COST, MOST_TIMERS, PAYS, PLACES}
+use Rattle.wb_recovery.specs.declared.limits.TheConstants.{MOST_TIMERS}
+use Rattle.wb_policy.specs.declared.limits.TheConstants.{COST, PAYS, PLACES}
 use Rattle.wb_kept_progress.specs.Rounds.{OneLacksAtMost, PlacesAreFilled}
 use Rattle.wb_kept_progress.specs.Sessions.{Opening}
 use Rattle.wb_kept_progress.specs.Timed.{AllKeptHoldBehind, TimedLine}

@@ -13,7 +13,8 @@ use Rattle.wb_codec.specs.declared.datagram.Datagram.TheVariants.{AskPages, Draw
 use Rattle.wb_progress.specs.Turns.{Terms, settled_by}
 use Rattle.wb_member.specs.Judged.{holds}
 use Rattle.wb_policy.specs.Turns.{nowhere}
-use Rattle.wb_policy.specs.declared.limits.TheConstants.{COST, MOST_TIMERS}
+use Rattle.wb_recovery.specs.declared.limits.TheConstants.{MOST_TIMERS}
+use Rattle.wb_policy.specs.declared.limits.TheConstants.{COST}
 use Rattle.wb_keeping.specs.Laws.{Added, Came, KeptLine, Ticked}
 use Rattle.wb_kept_progress.specs.Promises.{Holds}
 use Rattle.wb_kept_progress.specs.Crowded.{spent_in}

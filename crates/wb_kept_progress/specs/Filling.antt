@@ -7,7 +7,8 @@ use Rattle.wb_gaps.specs.Answers.{report_of}
 use Rattle.wb_gaps.specs.Gaps.{IsMissing}
 use Rattle.wb_progress.specs.InTime.{known_from, repairing}
 use Rattle.wb_progress.specs.Turns.{Terms, settled_by}
-use Rattle.wb_policy.specs.declared.limits.TheConstants.{COST, MOST_TIMERS}
+use Rattle.wb_recovery.specs.declared.limits.TheConstants.{MOST_TIMERS}
+use Rattle.wb_policy.specs.declared.limits.TheConstants.{COST}
 use Rattle.wb_member.specs.Judged.{holds}
 use Rattle.wb_kept_progress.specs.Crowded.{crowded_by, spent_in}
 use Rattle.wb_kept_progress.specs.Rounds.{OneLacksAtMost}

@@ -15,7 +15,8 @@ use Rattle.wb_member.specs.Opened.{Opened, asks_for, present}
 use Rattle.wb_policy.specs.Credit.{has_credit}
 use Rattle.wb_policy.specs.Fairness.{HaveAtMost, name_in_turn, slices_of, slices_on}
 use Rattle.wb_policy.specs.Turns.{windows_in}
-use Rattle.wb_policy.specs.declared.limits.TheConstants.{FIRST_FORGED, LONGEST_PAUSE, MOST_MARKS, ROUND_LIMIT, WINDOW}
+use Rattle.wb_names.specs.declared.name.TheConstants.{FIRST_FORGED}
+use Rattle.wb_policy.specs.declared.limits.TheConstants.{LONGEST_PAUSE, MOST_MARKS, ROUND_LIMIT, WINDOW}
 use Rattle.wb_keeping.specs.Fairness.{AnswersWhatIsHeld}
 use Rattle.wb_keeping.specs.Kept.{turn}
 use Rattle.wb_keeping.specs.Laws.{Came, Ticked}

@@ -10,7 +10,8 @@ use Rattle.wb_progress.specs.Bounds.{IsUnder}
 use Rattle.wb_progress.specs.Turns.{IsNowAt, Terms, longest, settled_by}
 use Rattle.wb_member.specs.Judged.{holds, is_full}
 use Rattle.wb_member.specs.Opened.{present}
-use Rattle.wb_policy.specs.declared.limits.TheConstants.{COST, MOST_DISTANCE, MOST_TIMERS}
+use Rattle.wb_recovery.specs.declared.limits.TheConstants.{MOST_TIMERS}
+use Rattle.wb_policy.specs.declared.limits.TheConstants.{COST, MOST_DISTANCE}
 use Rattle.wb_keeping.specs.Laws.{KeptLine, Added, Came, Tuned, doing_of}
 use Rattle.wb_keeping.specs.Performing.{due, sent_by_doing}
 use Rattle.wb_judging.specs.Members.{needs}

@@ -5,7 +5,7 @@ use Rattle.wb_names.specs.Values.{DrawopValue}
 use Rattle.wb_codec.specs.declared.datagram.Datagram.{Datagram}
 use Rattle.wb_member.specs.Judged.{holds}
 use Rattle.wb_member.specs.Opened.{Opened}
-use Rattle.wb_policy.specs.declared.limits.TheConstants.{FIRST_FORGED}
+use Rattle.wb_names.specs.declared.name.TheConstants.{FIRST_FORGED}
 use Rattle.wb_keeping.specs.Laws.{doing_of}
 use Rattle.wb_keeping.specs.Performing.{sent_by_doing}
 use Rattle.wb_laws_sessions.specs.Sessions.{AreApart}

@@ -8,7 +8,8 @@ use Rattle.wb_recovery.specs.declared.tuning.Tuning.{Tuning}
 use Rattle.wb_keeper.specs.Hearing.{asks_for_held}
 use Rattle.wb_member.specs.Opened.{Opened, events, present}
 use Rattle.wb_policy.specs.Policy.{Policy}
-use Rattle.wb_policy.specs.declared.limits.TheConstants.{COST, FIRST_WAIT, LEAST_DISTANCE, MOST_PAGES, MOST_TIMERS, PAYS, PLACES, QUIET, SHORTEST_PAUSE}
+use Rattle.wb_recovery.specs.declared.limits.TheConstants.{MOST_TIMERS}
+use Rattle.wb_policy.specs.declared.limits.TheConstants.{COST, FIRST_WAIT, LEAST_DISTANCE, MOST_PAGES, PAYS, PLACES, QUIET, SHORTEST_PAUSE}
 use Rattle.wb_keeping.specs.Bounds.{answer_count, is_request, new_keeping}
 use Rattle.wb_keeping.specs.Laws.{Added, AreTaken, Came, KeptLine, Ticked, Tuned, after_kept, doing_of, expand, sent_by_kept}
 use Rattle.wb_keeping.specs.Performing.{Keeping, after_doing}

@@ -16,7 +16,8 @@ use Rattle.wb_member.specs.Judged.{echoes, holds, is_full}
 use Rattle.wb_member.specs.Opened.{present}
 use Rattle.wb_policy.specs.Fairness.{slices_of, slices_on}
 use Rattle.wb_policy.specs.Reports.{mean_time, members_in}
-use Rattle.wb_policy.specs.declared.limits.TheConstants.{FIRST_FORGED, HEARD, LONGEST_GAP, LONGEST_PAUSE, MOST_DISTANCE, MOST_REPORT_BYTES, ROUND_LIMIT, SECOND}
+use Rattle.wb_names.specs.declared.name.TheConstants.{FIRST_FORGED}
+use Rattle.wb_policy.specs.declared.limits.TheConstants.{HEARD, LONGEST_GAP, LONGEST_PAUSE, MOST_DISTANCE, MOST_REPORT_BYTES, ROUND_LIMIT, SECOND}
 use Rattle.wb_keeping.specs.Kept.{Stops}
 use Rattle.wb_keeping.specs.Laws.{Added, Came, Tuned, doing_of}
 use Rattle.wb_keeping.specs.Performing.{Keeping, due, sent_by_doing}

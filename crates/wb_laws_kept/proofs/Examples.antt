@@ -24,19 +24,19 @@ is_opening : (seed moment : ℕ) → IsOpening (opening seed moment)
 is_opening seed moment = record { moments = (omega arith, tt); in_range = refl; small = omega arith }
 
 all_taken : AreTaken numbers restarted
-unfolding started word_of after_word words.started words.word_of words.after_word report_of gaps_of pages_of near_names
+unfolding started word_of after_word words.started report_of gaps_of pages_of near_names
 all_taken = (refl, ((is_opening 2 7, (refl, tt)), (refl, ((is_opening 1 1, tt), tt))))
 
 drawn_first : drawn_at numbers (steps_of numbers once) 0 ≡ first ∷ []
-unfolding started word_of after_word words.started words.word_of words.after_word report_of gaps_of pages_of near_names
+unfolding started word_of after_word words.started report_of gaps_of pages_of near_names
 drawn_first = refl
 
 held_first : (kept_at numbers once 0).host.is.held ≡ first ∷ []
-unfolding started word_of after_word words.started words.word_of words.after_word report_of gaps_of pages_of near_names
+unfolding started word_of after_word words.started report_of gaps_of pages_of near_names
 held_first = refl
 
 all_drawn : drawn_at numbers (steps_of numbers restarted) 0 ≡ second ∷ first ∷ []
-unfolding started word_of after_word words.started words.word_of words.after_word report_of gaps_of pages_of near_names
+unfolding started word_of after_word words.started report_of gaps_of pages_of near_names
 all_drawn = refl
 
 one_given : (d x : DrawopValue) → Contains (Draw d ∷ []) (Draw x) → d ≡ x
@@ -76,7 +76,7 @@ none_given : (d : DrawopValue) → Contains [] (Draw d) → WasHeld numbers [] d
 none_given d c = absurd (Contains-none (Draw d) c)
 
 first_held : (d : DrawopValue) → Contains (Draw first ∷ []) (Draw d) → WasHeld numbers (steps_of numbers once) d
-unfolding started word_of after_word words.started words.word_of words.after_word report_of gaps_of pages_of near_names
+unfolding started word_of after_word words.started report_of gaps_of pages_of near_names
 first_held d c = subst (WasHeld numbers (steps_of numbers once)) (one_given first d c) (record { newer = []; older = _; split = refl; place = 0; held = (0, first_of_one, refl) }) where
   first_of_one : 0 < 1
   first_of_one = omega arith
@@ -111,15 +111,15 @@ it_restarts = record { taken = all_taken; held = restarted_held; whole = restart
 -- ---- without a record
 
 forgotten_taken : AreTaken numbers forgotten
-unfolding started word_of after_word words.started words.word_of words.after_word report_of gaps_of pages_of near_names
+unfolding started word_of after_word words.started report_of gaps_of pages_of near_names
 forgotten_taken = (refl, ((is_opening 2 7, tt), (refl, ((is_opening 1 1, tt), tt))))
 
 forgotten_drawn : drawn_at numbers (steps_of numbers forgotten) 0 ≡ again ∷ first ∷ []
-unfolding started word_of after_word words.started words.word_of words.after_word report_of gaps_of pages_of near_names
+unfolding started word_of after_word words.started report_of gaps_of pages_of near_names
 forgotten_drawn = refl
 
 drawn_before : drawn_at numbers (steps_of numbers (at 3 (Begins (opening 2 7) []) ∷ once)) 0 ≡ first ∷ []
-unfolding started word_of after_word words.started words.word_of words.after_word report_of gaps_of pages_of near_names
+unfolding started word_of after_word words.started report_of gaps_of pages_of near_names
 drawn_before = refl
 
 knows_none : last_number page (kept_at numbers (at 3 (Begins (opening 2 7) []) ∷ once) 0).host ≡ 0
@@ -145,23 +145,23 @@ is_listening : (seed moment : ℕ) → IsOpening (listening seed moment)
 is_listening seed moment = record { moments = (omega arith, tt); in_range = refl; small = omega arith }
 
 told_taken : AreTaken numbers told
-unfolding started word_of after_word words.started words.word_of words.after_word report_of gaps_of pages_of near_names
+unfolding started word_of after_word words.started report_of gaps_of pages_of near_names
 told_taken = (refl, (refl, ((is_listening 2 7, (refl, tt)), (refl, (refl, ((is_opening 1 1, tt), tt))))))
 
 told_drawn : drawn_at numbers (steps_of numbers told) 0 ≡ third ∷ after_first ∷ first ∷ []
-unfolding started word_of after_word words.started words.word_of words.after_word report_of gaps_of pages_of near_names
+unfolding started word_of after_word words.started report_of gaps_of pages_of near_names
 told_drawn = refl
 
 cut_drawn : drawn_at numbers (steps_of numbers cut_off) 0 ≡ after_first ∷ first ∷ []
-unfolding started word_of after_word words.started words.word_of words.after_word report_of gaps_of pages_of near_names
+unfolding started word_of after_word words.started report_of gaps_of pages_of near_names
 cut_drawn = refl
 
 cut_last : last_number page (kept_at numbers cut_off 0).host ≡ 2
-unfolding started word_of after_word words.started words.word_of words.after_word report_of gaps_of pages_of near_names
+unfolding started word_of after_word words.started report_of gaps_of pages_of near_names
 cut_last = refl
 
 once_last : last_number page (kept_at numbers once 0).host ≡ 1
-unfolding started word_of after_word words.started words.word_of words.after_word report_of gaps_of pages_of near_names
+unfolding started word_of after_word words.started report_of gaps_of pages_of near_names
 once_last = refl
 
 module _ (older : List CallAt) where
@@ -216,7 +216,7 @@ came_held = record { handed = λ now d e. absurd (no_draw now d e); given = λ o
   no_start o given e = cc
 
 first_held_twice : (d : DrawopValue) → Contains (Draw first ∷ []) (Draw d) → WasHeld numbers (steps_of numbers twice) d
-unfolding started word_of after_word words.started words.word_of words.after_word report_of gaps_of pages_of near_names
+unfolding started word_of after_word words.started report_of gaps_of pages_of near_names
 first_held_twice d c = subst (WasHeld numbers (steps_of numbers twice)) (one_given first d c) (record { newer = []; older = _; split = refl; place = 0; held = (0, first_of_two, refl) }) where
   first_of_two : 0 < 2
   first_of_two = omega arith

@@ -29,7 +29,7 @@ use Rattle.wb_member.specs.Lines.{Line, Ticks, Arrives, Hears, Asks, Stops, Sets
 use Rattle.wb_member.specs.Judged.{echoes}
 use Rattle.wb_member.specs.Opened.{Opened, becomes, has_room_for, opened_with, present}
 use Rattle.wb_policy.specs.Distances.{bounded}
-use Rattle.wb_policy.specs.declared.limits.TheConstants.{UNKNOWN_DISTANCE}
+use Rattle.wb_recovery.specs.declared.limits.TheConstants.{UNKNOWN_DISTANCE}
 use Rattle.wb_policy.specs.Choices.{last_heard}
 use Rattle.wb_keeping.specs.Kept.{state_of, still, want}
 use Rattle.wb_keeping.specs.Laws.{doing_of, expand}

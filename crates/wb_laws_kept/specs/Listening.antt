@@ -8,7 +8,7 @@ use Rattle.wb_codec.specs.declared.datagram.Datagram.TheVariants.{Draw, Session,
 use Rattle.wb_keeper.specs.Hearing.{marks_in}
 use Rattle.wb_member.specs.Opened.{has_room_for, last_number, ticked}
 use Rattle.wb_policy.specs.Choices.{own_echo, own_marks}
-use Rattle.wb_policy.specs.declared.limits.TheConstants.{FIRST_FORGED}
+use Rattle.wb_names.specs.declared.name.TheConstants.{FIRST_FORGED}
 use Rattle.wb_keeping.specs.Laws.{Came}
 use Rattle.wb_keeping.specs.Performing.{Keeping}
 use Rattle.wb_laws_kept.specs.Openings.{Opening}

@@ -1,6 +1,7 @@
 -- The lines of an input.
 use Rattle.std.specs.Prelude.{◌≡◌, ℕ, List, [], ◌∷◌, ◌++◌, Bool, true, false, nat_eq, if◌then◌else◌}
 use Rattle.std.specs.Str.Lines.{strip_carriage_return}
+use Rattle.wb_lines.specs.declared.line_reader.TheConstants.{MAX_LINE_LEN}
 
 -- a line as it stands in the input: the bytes before its end, and whether a line feed ends it
 pub record InputLine : Type 0 where
@@ -24,7 +25,7 @@ content line = if line.ended then strip_carriage_return line.bytes else line.byt
 
 -- The most bytes that a line has before its line feed.
 abbrev pub most_bytes : ℕ
-most_bytes = 65536
+most_bytes = MAX_LINE_LEN
 
 -- the line feed that ends a line
 abbrev pub feed : Bool → List ℕ

@@ -14,7 +14,7 @@ use wb_names::{Sink, Source};
 const BLOCK_LEN: usize = 65_536;
 
 /// The most bytes that a line has before its line feed.
-const MAX_LINE_LEN: usize = 65_536;
+pub const MAX_LINE_LEN: usize = 65_536;
 
 /// The next byte of a source, or why there is none.
 #[derive(Clone, Copy, Debug, PartialEq, Eq)]

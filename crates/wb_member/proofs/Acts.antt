@@ -7,7 +7,7 @@ use Rattle.wb_recovery.specs.Events.{actions_of, timers_of}
 use Rattle.wb_recovery.specs.Timing.{is_standing}
 use Rattle.wb_recovery.specs.Values.{timers_in}
 use Rattle.wb_recovery.specs.Stopping.{receipts}
-use Rattle.rand_pcg.specs.Lcg.{Lcg}
+use Rattle.wb_random.specs.Words.{Lcg}
 use Rattle.wb_keeper.specs.Hearing.{marks_heard}
 use Rattle.wb_keeper.specs.GivingUp.{is_timed}
 use Rattle.wb_keeper.specs.Keeper.{KeeperCall, Miss, GoOn, received_of, delay_to, holds}

@@ -2,7 +2,7 @@
 use Rattle.std.proofs.Common.{◌≡◌, ℕ, Bool, false, cond, List, Result, Ok, Err, IfOk, OnOk, sym, ap, subst, ◌∙◌}
 use Rattle.wb_names.specs.Values.{DrawopValue}
 use Rattle.wb_codec.specs.declared.datagram.Datagram.{Datagram}
-use Rattle.rand_pcg.specs.Lcg.{Lcg}
+use Rattle.wb_random.specs.Words.{Lcg}
 use Rattle.wb_keeper.specs.Hearing.{answers_to, asks_for_held}
 use Rattle.wb_keeper.specs.Keeper.{Hear}
 use Rattle.wb_keeper.specs.Keeping.{KeeperValue, Keeps}

@@ -4,4 +4,3 @@ pub mod Acts
 pub mod HeardActs
 pub mod OneArrival
 pub mod NextNumbers
-pub mod SeedWords

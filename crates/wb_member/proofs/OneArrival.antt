@@ -8,7 +8,7 @@ use Rattle.wb_names.proofs.Arrivals.{outcome_is}
 use Rattle.wb_board.specs.Desks.{PassValue, IsSound, IsWhole, Becomes}
 use Rattle.wb_keeper.specs.Keeper.{KeeperCall, Arrive, holds}
 use Rattle.wb_keeper.specs.Keeping.{KeeperValue, StandsFor, Keeps}
-use Rattle.rand_pcg.specs.Lcg.{Lcg}
+use Rattle.wb_random.specs.Words.{Lcg}
 use Rattle.wb_member.specs.Board.{Held, held_of}
 use Rattle.wb_member.specs.Holding.{IsOpenAt, board_after}
 use Rattle.wb_member.specs.Members.{names_of}

@@ -4,7 +4,7 @@ use Rattle.wb_names.specs.Values.{DrawopValue}
 use Rattle.wb_names.specs.Arrivals.{Outcome, Left, history_after}
 use Rattle.wb_names.specs.History.{IsHeld}
 use Rattle.wb_names.specs.declared.name.PageId.{PageId}
-use Rattle.rand_pcg.specs.Lcg.{Lcg}
+use Rattle.wb_random.specs.Words.{Lcg}
 use Rattle.wb_board.specs.declared.reply.Reply.{Reply}
 use Rattle.wb_keeper.specs.Keeping.{KeeperValue, StandsFor}
 use Rattle.wb_keeper.specs.KeeperLaws.{IsReported}

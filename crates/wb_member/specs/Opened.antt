@@ -10,7 +10,6 @@ use Rattle.wb_recovery.specs.Events.{Event, due_asks, timers_of, names_of as tim
 use Rattle.wb_recovery.specs.declared.tuning.Tuning.{Tuning}
 use Rattle.wb_gaps.specs.Answers.{gaps_of}
 use Rattle.wb_names.specs.declared.gap.Gap.{Gap}
-use Rattle.rand_pcg.specs.Lcg.{Lcg}
 use Rattle.wb_keeper.specs.declared.keep_fault.KeepFault.{KeepFault}
 use Rattle.wb_keeper.specs.declared.keep_fault.KeepFault.TheVariants.{TooMany}
 use Rattle.wb_keeper.specs.Dues.{next_due_of}
@@ -25,7 +24,7 @@ use Rattle.wb_keeper.specs.Ticks.{sent_by_tick}
 use Rattle.wb_member.specs.Board.{Held}
 use Rattle.wb_member.specs.Members.{Member, Act, Takes, Hears, SetsDelay, SetsConstants, Misses, GivesUp, Ticks, Reports, after}
 use Rattle.wb_member.specs.Queries.{view_of}
-use Rattle.wb_member.specs.Random.{started, word_of, words_of, after_words}
+use Rattle.wb_member.specs.Random.{Lcg, started, word_of, words_of, after_words}
 
 -- the member, and the generator of its random words
 pub record Opened : Type 0 where

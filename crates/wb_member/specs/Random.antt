@@ -1,38 +1,10 @@
--- The random words of a member: one generator gives them all, and each is two of its words of 32 bits, the low half first.
-use Rattle.std.specs.Prelude.{◌≡◌, ℕ, zero, suc, ◌+◌, ◌<◌, ◌^◌, List, [], ◌∷◌, ◌++◌}
-use Rattle.rand_core.specs.Steps.{u64_via_u32}
-use Rattle.rand_pcg.specs.Lcg.{Lcg, started as started_as, increment_of}
-use Rattle.rand_pcg.specs.Pcg.{multiplier_64, pcg32}
+-- The random words of a member: those of its seed on a stream of its own.
+use Rattle.std.specs.Prelude.{ℕ}
+use Rattle.wb_random.specs.Words.{started as words_started}
+pub use Rattle.wb_random.specs.Words.{Lcg, after_words, words_of}
+unfoldable pub use Rattle.wb_random.specs.Words.{after_word, word_of}
+use Rattle.wb_member.specs.declared.member.TheConstants.{STREAM}
 
--- the generator of a seed: PCG with 64 bits of state and words of 32 bits, on stream 54
+-- the generator of a seed
 unfoldable pub started : ℕ → Lcg
-started seed = started_as 64 multiplier_64 seed (increment_of 64 54)
-
--- the next word, and the generator after it
-unfoldable pub word_of : Lcg → ℕ
-word_of g = (u64_via_u32 pcg32 g).0
-
-unfoldable pub after_word : Lcg → Lcg
-after_word g = (u64_via_u32 pcg32 g).1
-
--- the next `count` words, and the generator after them
-abbrev pub words_of : Lcg → ℕ → List ℕ
-words_of g zero = []
-words_of g (suc count) = word_of g ∷ words_of (after_word g) count
-
-abbrev pub after_words : Lcg → ℕ → Lcg
-after_words g zero = g
-after_words g (suc count) = after_words (after_word g) count
-
--- ---- laws
-
--- Words that are taken in two parts are those that are taken at once, so the words of a member are the first of its generator, however they are taken.
-abbrev pub WordsFollowWords : Type 0
-WordsFollowWords = (g : Lcg) (a b : ℕ) → words_of g (a + b) ≡ words_of g a ++ words_of (after_words g a) b
-
-abbrev pub StepsFollowSteps : Type 0
-StepsFollowSteps = (g : Lcg) (a b : ℕ) → after_words g (a + b) ≡ after_words (after_words g a) b
-
--- each word has 64 bits
-abbrev pub WordsFit : Type 0
-WordsFit = (g : Lcg) → word_of g < 2 ^ 64
+started seed = words_started STREAM seed

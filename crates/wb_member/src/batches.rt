@@ -8,13 +8,13 @@ ghost use Rattle.wb_member.specs.Opened.{Opened, batched};
 
 use crate::member::Member;
 use crate::own_board::OwnBoard;
-use crate::random::RandomWords;
 use std::alloc::{AllocError, Global};
 use std::marker::Model;
 use std::snapshot::Snapshot;
 use wb_board::{Board, Desk};
 use wb_keeper::Keeper;
 use wb_names::{Drawop, Name};
+use wb_random::RandomWords;
 
 /// A member whose board is handed out, for a batch to be taken there. It is a member again once its
 /// keeper knows of the batch, and no sooner.

@@ -7,8 +7,8 @@
 //!
 //! In reading order: `member` opens a member and hands it what comes in and time; `questions` has
 //! what it is asked; `batches` has others take a batch at its board; `own_board` is the board with
-//! its only desk, and `random` has the words. `specs/Members.antt` says what a member is, and
-//! `specs/Opened.antt` what each call does.
+//! its only desk. `specs/Members.antt` says what a member is, and `specs/Opened.antt` what each call
+//! does.
 #![tactic(auto)]
 
 mod batches;
@@ -16,8 +16,7 @@ pub mod laws;
 mod member;
 mod own_board;
 mod questions;
-mod random;
 
 pub use batches::AwaitsBatch;
-pub use member::Member;
+pub use member::{Member, STREAM};
 pub use questions::{Answer, Query};

@@ -12,14 +12,17 @@ mod judged;
 mod telling;
 
 use crate::own_board::OwnBoard;
-use crate::random::RandomWords;
 use std::alloc::{AllocError, Global};
 use std::marker::Model;
 use wb_board::Reply;
 use wb_codec::Datagram;
 use wb_keeper::{KeepFault, Keeper};
 use wb_names::{Drawop, PageId};
+use wb_random::RandomWords;
 use wb_recovery::{Tuning, TuningFault};
+
+/// The stream that a member takes its random words from. Its policy has another.
+pub const STREAM: u64 = 54;
 
 /// A board, what its member keeps of the session, and the random words that were not taken yet.
 ///
@@ -43,6 +46,7 @@ impl Model for Member {
 impl Member {
     /// An empty board of `cells` cells, a keeper of the member that has heard nothing, with these
     /// constants of its timers, and the random words of a seed.
+    #[tactic(auto, unfolding(crate::specs::Random::started))]
     pub fn open(
         alloc: Global,
         member: u32,
@@ -59,7 +63,7 @@ impl Member {
             Ok(keeper) => Ok(Member {
                 board,
                 keeper,
-                words: RandomWords::new(seed),
+                words: RandomWords::new(STREAM, seed),
             }),
             Err(_) => unreachable!(),
         }

@@ -1,12 +1,13 @@
--- How a text lies in a buffer of 64 bytes.
+-- How a text lies in its buffer.
 use Rattle.std.specs.Prelude.{◌≡◌, ℕ, ◌≤◌, ◌-◌, List, ◌++◌, take, length, replicate}
+use Rattle.wb_names.specs.declared.text.TheConstants.Text.{MAX_LEN}
 use Rattle.wb_names.specs.declared.text.Text.TheInside.{Inside}
 use Rattle.std.proofs.Common.{sym}
 use Rattle.std.proofs.lemmas.List.{length-take-le}
 
--- the bytes, and zeros up to 64
+-- the bytes, and zeros up to the most that a text can have
 abbrev pub padded : List ℕ → List ℕ
-padded bytes = bytes ++ replicate (64 - length bytes) 0
+padded bytes = bytes ++ replicate (MAX_LEN - length bytes) 0
 
 -- the text fits, and the buffer's bytes from its end on are 0
 pub record IsTextFields (n : ℕ) (bytes : List ℕ) : Type 0 where

@@ -11,6 +11,7 @@ ghost use Rattle.wb_names.specs.Orders.{page_cmp, name_cmp};
 ghost use Rattle.wb_names.specs.declared.name.PageId.{PageId as PageValue};
 ghost use Rattle.wb_names.specs.declared.entries.TheConstants.{MAX_ENTRIES};
 ghost use Rattle.wb_names.specs.declared.moment.TheConstants.{MOMENT_LIMIT, MAX_MOMENT};
+ghost use Rattle.wb_names.specs.declared.name.TheConstants.{FIRST_FORGED};
 ghost use Rattle.wb_names.specs.declared.shape.TheConstants.{MAX_COORDINATE};
 ghost use Rattle.wb_names.specs.declared.text.TheConstants.Text.{MAX_LEN};
 
@@ -44,11 +45,12 @@ pub fn arrivals_have_one_answer()
         (n ≡ counts_of (outcomes_of cells history arrivals)) }
 {}
 
-/// The limits: of entries in a list, of moments in microseconds, of coordinates, and of the bytes of
-/// a text.
+/// The limits: of entries in a list, of moments in microseconds, of coordinates, of the bytes of a
+/// text, and of numbers that are not forged.
 pub fn limits()
     ensures entries { MAX_ENTRIES ≡ 65535 }
     ensures moments { (MOMENT_LIMIT ≡ 2 ^ 48) × (MAX_MOMENT ≡ 2 ^ 48 - 1) }
     ensures coordinates { MAX_COORDINATE ≡ 4095 }
     ensures text { MAX_LEN ≡ 64 }
+    ensures forged { FIRST_FORGED ≡ 2 ^ 31 }
 {}

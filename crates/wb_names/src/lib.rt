@@ -33,7 +33,7 @@ pub use fault::{FieldFault, ListFault};
 pub use gap::Gap;
 pub use mark::Mark;
 pub use moment::{MAX_MOMENT, MOMENT_LIMIT};
-pub use name::{Name, PageId};
+pub use name::{FIRST_FORGED, Name, PageId};
 pub use order::{before, display_order};
 pub use parts::{Change, Figure, Op, OpKind, Stroke, Target};
 pub use shape::{MAX_COORDINATE, Shape, shape_of};

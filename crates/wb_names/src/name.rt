@@ -7,6 +7,9 @@ ghost use Rattle.wb_names.specs.Drawing.{seq_fault};
 use crate::fault::FieldFault;
 use std::marker::Model;
 
+/// A member takes numbers of its own from this one on for forged, if it does not hold them.
+pub const FIRST_FORGED: u32 = 1 << 31;
+
 /// A page, named by the source of its creator and a number that is the creator's own. Pages are
 /// ordered by creator, then by number.
 #[derive(Clone, Copy, Debug, PartialEq, Eq, PartialOrd, Ord, Hash)]

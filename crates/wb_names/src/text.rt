@@ -1,6 +1,7 @@
 //! Texts, kept in place.
 
 ghost use Rattle.std.specs.Prelude.{◌≡◌, ◌≤◌, length, take, ◌++◌, replicate};
+ghost use Rattle.wb_names.specs.declared.text.TheConstants.Text.{MAX_LEN};
 
 use std::marker::Model;
 
@@ -33,7 +34,7 @@ impl Text {
     /// The text with these bytes.
     #[inline(always)]
     pub fn new(bytes: &[u8]) -> Text
-        requires { length bytes.now ≤ 64 }
+        requires { length bytes.now ≤ MAX_LEN }
         ensures { result ≡ bytes.now }
     {
         let mut buffer = [0; 64];

@@ -7,7 +7,8 @@ use Rattle.wb_names.specs.Values.{MarkValue, NameValue}
 use Rattle.wb_names.specs.declared.echo.Echo.{Echo}
 use Rattle.wb_names.specs.declared.name.PageId.{PageId}
 use Rattle.wb_recovery.specs.Distance.{distance_of}
-use Rattle.wb_policy.specs.declared.limits.TheConstants.{FIRST_FORGED, MOST_ECHOES, REACH}
+use Rattle.wb_names.specs.declared.name.TheConstants.{FIRST_FORGED}
+use Rattle.wb_policy.specs.declared.limits.TheConstants.{MOST_ECHOES, REACH}
 
 -- the marks of this member that are believed: while it listens, below 2^31
 abbrev pub own_marks : ℕ → Bool → List MarkValue → List MarkValue

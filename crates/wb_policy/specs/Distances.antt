@@ -1,6 +1,7 @@
 -- Which distances a host believes, and which it takes for one that it does not know.
 use Rattle.std.specs.Prelude.{ℕ, ◌+◌, ◌*◌, ◌/◌, max, min, nat_eq, if◌then◌else◌}
-use Rattle.wb_policy.specs.declared.limits.TheConstants.{LEAST_DISTANCE, MOST_DISTANCE, UNKNOWN_DISTANCE}
+use Rattle.wb_recovery.specs.declared.limits.TheConstants.{UNKNOWN_DISTANCE}
+use Rattle.wb_policy.specs.declared.limits.TheConstants.{LEAST_DISTANCE, MOST_DISTANCE}
 
 -- A source that told a distance is known: its distance is never the unknown one.
 abbrev pub known : ℕ → ℕ

@@ -1,6 +1,5 @@
 -- The state of a policy, and what it sees of its host.
 use Rattle.std.specs.Prelude.{ℕ, ◌+◌, Option, Some, None, min}
-use Rattle.rand_pcg.specs.Lcg.{Lcg}
 use Rattle.wb_names.specs.declared.name.PageId.{PageId}
 use Rattle.wb_gaps.specs.declared.holes.Hole.{Hole}
 use Rattle.wb_policy.specs.Credit.{repaid, spent}
@@ -10,7 +9,7 @@ use Rattle.wb_policy.specs.Pace.{begun_pace, hurried, next_pace}
 use Rattle.wb_policy.specs.Questions.{answered_at, asked_at, heard_at, opened_at, to_answer}
 use Rattle.wb_policy.specs.Reports.{mean_time, next_report}
 use Rattle.wb_policy.specs.Turns.{after_hole, next_round, nowhere}
-use Rattle.wb_policy.specs.Words.{after_word, drawn, started}
+use Rattle.wb_policy.specs.Words.{Lcg, after_word, drawn, started}
 use Rattle.wb_policy.specs.declared.leaps.Leaps.{Leaps}
 use Rattle.wb_policy.specs.declared.limits.TheConstants.{ANSWER, FIRST_DISTANCE, FIRST_QUESTION, FIRST_REPORT}
 use Rattle.wb_policy.specs.declared.pace.Pace.{Pace}

@@ -2,7 +2,8 @@
 use Rattle.std.specs.Prelude.{ℕ, Bool, true, false, not, ◌&&◌, ◌||◌, List, [], ◌∷◌, Option, Some, None, length, nat_le, nat_lt, if◌then◌else◌}
 use Rattle.std.specs.List.{fold}
 use Rattle.wb_policy.specs.Credit.{has_credit, leaves_some}
-use Rattle.wb_policy.specs.declared.limits.TheConstants.{MOST_TIMERS, OLD_LEVEL, TIMERS_BEFORE_TURNS}
+use Rattle.wb_recovery.specs.declared.limits.TheConstants.{MOST_TIMERS}
+use Rattle.wb_policy.specs.declared.limits.TheConstants.{OLD_LEVEL, TIMERS_BEFORE_TURNS}
 use Rattle.wb_policy.specs.declared.wanting.AskedName.{AskedName}
 
 -- A timer is old once it was backed off four times.

@@ -4,15 +4,16 @@ ghost use Rattle.wb_names.specs.History.{name_of};
 ghost use Rattle.std.specs.List.{count_by};
 ghost use Rattle.std.specs.Ordering.{is_lt};
 ghost use Rattle.wb_policy.specs.Choices.{distance_in, heard_later, if_below, last_heard, last_source, near_names, own_echo, own_marks, told_names, until_in};
-ghost use Rattle.wb_policy.specs.declared.limits.TheConstants.{FIRST_FORGED, MOST_ECHOES};
+ghost use Rattle.wb_names.specs.declared.name.TheConstants.{FIRST_FORGED};
+ghost use Rattle.wb_policy.specs.declared.limits.TheConstants.{MOST_ECHOES};
 ghost use Rattle.wb_policy.specs.Reports.{slice_after};
 ghost use Rattle.std.specs.Prelude.{None};
 
-use crate::limits::{FIRST_FORGED, MOST_ECHOES, REACH};
+use crate::limits::{MOST_ECHOES, REACH};
 use crate::reports::slice_after;
 use std::alloc::{AllocError, Global};
 use std::cmp::Ordering;
-use wb_names::{Echo, Echoes, Mark, Marks, Name, PageId};
+use wb_names::{Echo, Echoes, FIRST_FORGED, Mark, Marks, Name, PageId};
 use wb_recovery::distance;
 
 /// The marks of this member that are believed: while it listens, those below 2^31.

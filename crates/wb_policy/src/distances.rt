@@ -4,8 +4,9 @@ ghost use Rattle.std.specs.Prelude.{◌≡◌, ◌≤◌};
 ghost use Rattle.wb_policy.specs.declared.limits.TheConstants.{FIRST_DISTANCE, MOST_DISTANCE};
 ghost use Rattle.wb_policy.specs.Distances.{bounded, known, usual_with};
 
-use crate::limits::{FIRST_DISTANCE, LEAST_DISTANCE, MOST_DISTANCE, UNKNOWN_DISTANCE};
+use crate::limits::{FIRST_DISTANCE, LEAST_DISTANCE, MOST_DISTANCE};
 use std::marker::Model;
+use wb_recovery::UNKNOWN_DISTANCE;
 
 /// What is kept of the distances that echoes gave, in microseconds: the usual one, which is lent to
 /// a source whose distance is not known.

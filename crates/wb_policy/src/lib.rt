@@ -7,10 +7,10 @@
 //! board and no timers: moments, which are in microseconds, and what a member holds and heard are
 //! handed in. Who performs what is decided is the crate wb_keeping.
 //!
-//! In reading order: `limits` has the numbers; `words` are its random words; `credit` says how much
-//! may be asked for, `wanting` which names, `turns` which hole
-//! comes next, `pace` when, and `leaps` which beside what came; `questions`
-//! asks for pages and answers others; `reports` says when a report is due, and which marks it has;
+//! In reading order: `limits` has the numbers; `credit` says how much may be asked for, `wanting`
+//! which names, `turns` which hole comes next, `pace` when, and `leaps` which beside what came;
+//! `questions` asks for pages and answers others; `reports` says when a report is due, and which
+//! marks it has;
 //! `distances` bounds what echoes give; `choices` takes parts of what was heard and is held;
 //! `policy` joins what is remembered. `laws` says what follows.
 #![tactic(auto)]
@@ -27,7 +27,6 @@ mod questions;
 mod reports;
 mod turns;
 mod wanting;
-mod words;
 
 pub use choices::{
     distance_in, last_heard, last_source, near_names, own_echo, own_marks, slice_of, told_names,
@@ -42,4 +41,3 @@ pub use questions::Questions;
 pub use reports::{Reports, is_telling, members, page_after, report_bytes, slice_after};
 pub use turns::Turns;
 pub use wanting::{AskedName, Candidate, giving_way, oldest};
-pub use words::PolicyWords;

@@ -20,9 +20,6 @@ pub const PLACES: u64 = 64;
 /// How many of these places what comes last may take.
 pub const PLACES_OF_LAST: u64 = 48;
 
-/// The most request timers that stand.
-pub const MOST_TIMERS: usize = 64;
-
 /// Turns pass over what is asked for while fewer request timers than this stand. So they give up
 /// old timers alone.
 pub const TIMERS_BEFORE_TURNS: usize = 56;
@@ -55,12 +52,6 @@ pub const LONGEST_GAP: u64 = 16 * SECOND;
 pub const STEADINESS: u64 = 128;
 
 // ---- what is believed
-
-/// A number of this member is forged from this one on, if the member does not hold it.
-pub const FIRST_FORGED: u32 = 1 << 31;
-
-/// The distance to a source while it is not known.
-pub const UNKNOWN_DISTANCE: u64 = 100_000;
 
 /// The usual distance at first. If it is too small, that costs some more requests; if it is too
 /// great, it costs seconds.
@@ -144,5 +135,5 @@ pub const QUIET: u64 = 1_000_000;
 /// A member listens for less than this before it adds anything.
 pub const LISTEN_LIMIT: u64 = 1 << 32;
 
-/// The stream of the generator that a policy takes its words from. Timers have stream 54.
+/// The stream that a policy takes its words from. The timers of its member have another.
 pub const STREAM: u64 = 55;

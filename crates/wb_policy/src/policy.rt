@@ -15,16 +15,16 @@ ghost use Rattle.wb_policy.specs.Wanting.{is_wanted, passes_on};
 use crate::credit::Credit;
 use crate::distances::Distances;
 use crate::leaps::Leaps;
-use crate::limits::{ANSWER, FIRST_QUESTION, FIRST_REPORT, TIMERS_BEFORE_TURNS};
+use crate::limits::{ANSWER, FIRST_QUESTION, FIRST_REPORT, STREAM, TIMERS_BEFORE_TURNS};
 use crate::pace::Pace;
 use crate::questions::Questions;
 use crate::reports::{Reports, is_telling};
 use crate::turns::Turns;
 use crate::wanting::Candidate;
-use crate::words::PolicyWords;
 use std::marker::Model;
 use wb_gaps::Hole;
 use wb_names::{Name, PageId};
+use wb_random::RandomWords;
 
 /// What a self-managing host remembers: a fixed number of integers, whatever comes in. Moments are
 /// in microseconds, below 2^48.
@@ -45,7 +45,7 @@ pub struct Policy {
     until: u32,
     credit: Credit,
     distances: Distances,
-    words: PolicyWords,
+    words: RandomWords,
 }
 
 impl Model for Policy {
@@ -77,13 +77,14 @@ impl Policy {
     /// Begins at a moment. The reports of all members together take `rate` bytes a second, at least
     /// 1. For `listen` microseconds, below 2^32, nothing is added. The first word of the seed says
     /// when it reports, the second when it asks for pages.
+    #[tactic(auto, unfolding(crate::specs::Words::started))]
     pub fn new(now: u64, rate: u64, listen: u64, seed: u64) -> Policy
         requires moment { IsMoment now }
         requires rate { 1 ≤ rate }
         requires listen { listen < LISTEN_LIMIT }
         ensures { result ≡ begun now rate listen seed }
     {
-        let mut words = PolicyWords::new(seed);
+        let mut words = RandomWords::new(STREAM, seed);
         let report = words.up_to(FIRST_REPORT);
         let question = words.up_to(FIRST_QUESTION);
         Policy {

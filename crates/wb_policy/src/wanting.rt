@@ -4,8 +4,9 @@ ghost use Rattle.std.specs.Prelude.{◌≡◌};
 ghost use Rattle.wb_policy.specs.Wanting.{gives_way, giving_way, goes_on, is_old, is_wanted, older, oldest};
 
 use crate::credit::Credit;
-use crate::limits::{MOST_TIMERS, OLD_LEVEL};
+use crate::limits::OLD_LEVEL;
 use wb_names::Name;
+use wb_recovery::MOST_TIMERS;
 
 /// What a member shows of a name that it might ask for.
 #[derive(Clone, Copy, Debug, PartialEq, Eq)]

@@ -21,6 +21,7 @@ mod expiry;
 mod fault;
 mod firing;
 pub mod laws;
+mod limits;
 mod missed;
 mod plan;
 mod records;
@@ -30,6 +31,7 @@ mod timers;
 mod tuning;
 
 pub use fault::{DELAY_LIMIT, MAX_DELAY, RecoveryFault, TuningFault};
+pub use limits::{MOST_TIMERS, UNKNOWN_DISTANCE};
 pub use missed::{Missed, Received};
 pub use plan::{Action, Plan};
 pub use recovery::Recovery;

@@ -6,10 +6,10 @@ ghost use Rattle.wb_judge.specs.Judging.{ahead_of, draws, drawop_verdict, is_ahe
 
 use super::Judge;
 use crate::facts::Facts;
-use crate::limits::{AHEAD_KNOWN, AHEAD_STRANGER, FORGED_ABOVE, FORGED_NUMBER};
+use crate::limits::{AHEAD_KNOWN, AHEAD_STRANGER, FORGED_ABOVE};
 use crate::origin::Origin;
 use crate::verdict::{Verdict, Warning, Why};
-use wb_names::{Drawop, Op};
+use wb_names::{Drawop, FIRST_FORGED, Op};
 
 impl Judge {
     /// What becomes of a drawop.
@@ -59,7 +59,7 @@ impl Judge {
         let name = drawop.name();
         let top = facts.top as u64 + FORGED_ABOVE;
         name.source() == self.me
-            && (FORGED_NUMBER <= name.seq() || top < name.seq() as u64 || !(facts.listens || known))
+            && (FIRST_FORGED <= name.seq() || top < name.seq() as u64 || !(facts.listens || known))
     }
 
     /// Whether a time is too far ahead of the time of day.

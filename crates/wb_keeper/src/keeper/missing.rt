@@ -16,6 +16,7 @@ use std::alloc::{AllocError, Global};
 use wb_board::{Board, Desk};
 use wb_gaps::Missing;
 use wb_names::{Gap, Name, PageId};
+use wb_recovery::MOST_TIMERS;
 
 impl Keeper {
     /// The names of a page that are missing and for which no request timer stands, ascending, at
@@ -41,7 +42,7 @@ impl Keeper {
             (events_of me calls) desk.new.seen page (marks_heard me calls page)) }
     {
         board.refresh(desk)?;
-        let room = Keeper::MOST_ASKS.saturating_sub(self.recovery.asks());
+        let room = MOST_TIMERS.saturating_sub(self.recovery.asks());
         if room == 0 {
             return Ok(Vec::new(alloc));
         }

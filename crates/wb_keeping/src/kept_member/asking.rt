@@ -13,8 +13,9 @@ use crate::kept_member::KeptMember;
 use std::alloc::{AllocError, Global};
 use wb_gaps::Hole;
 use wb_names::Name;
-use wb_policy::limits::{MOST_TIMERS, REACH, UNKNOWN_DISTANCE};
+use wb_policy::limits::REACH;
 use wb_policy::{AskedName, Candidate, Turns, giving_way, near_names};
+use wb_recovery::{MOST_TIMERS, UNKNOWN_DISTANCE};
 
 impl KeptMember {
     /// A name is wanted. Its timer may start anew if somebody says that they hold it, or if it has

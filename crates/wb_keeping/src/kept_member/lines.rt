@@ -16,7 +16,7 @@ use wb_board::Reply;
 use wb_codec::Datagram;
 use wb_keeper::KeepFault;
 use wb_names::{Drawop, Name};
-use wb_policy::limits::UNKNOWN_DISTANCE;
+use wb_recovery::UNKNOWN_DISTANCE;
 
 impl KeptMember {
     /// Time goes on to a moment that is not before the present one, so that only a failed

@@ -1,18 +1,15 @@
-//! The random words of a member.
-ghost use Rattle.std.specs.Prelude.{◌≡◌, length, IfOk, OnOk, OnErr};
-ghost use Rattle.wb_member.specs.Random.{started, word_of, after_word, words_of, after_words};
+//! The random words that were not taken yet.
+ghost use Rattle.std.specs.Prelude.{◌≡◌, ◌≤◌, length, IfOk, OnOk, OnErr};
+ghost use Rattle.wb_random.specs.Words.{after_word, after_words, drawn, started, word_of, words_of};
 
 use rand_core::utils::next_u64_via_u32;
 use rand_pcg::Lcg64Xsh32;
 use std::alloc::{AllocError, Global};
 use std::marker::Model;
 
-/// The stream of the generator that a member takes its words from.
-const STREAM: u64 = 54;
-
-/// The words that a member has not taken yet. They are those of one generator, from its seed on.
+/// The words that were not taken yet. They are those of one generator, from its seed on.
 #[derive(Clone, Drop)]
-pub(crate) struct RandomWords {
+pub struct RandomWords {
     generator: Lcg64Xsh32,
 }
 
@@ -25,22 +22,22 @@ impl Model for RandomWords {
 }
 
 impl RandomWords {
-    /// All words of a seed.
-    #[tactic(auto, unfolding(crate::specs::Random::started))]
-    pub fn new(seed: u64) -> Self
-        ensures { result ≡ started seed }
+    /// All words of a seed on a stream.
+    pub fn new(stream: u64, seed: u64) -> Self
+        ensures { result ≡ started stream seed }
     {
         RandomWords {
-            generator: Lcg64Xsh32::new(seed, STREAM),
+            generator: Lcg64Xsh32::new(seed, stream),
         }
     }
 
-    /// Takes the next word.
-    fn next(&mut self) -> u64
-        ensures word { result ≡ word_of self.old }
+    /// Takes the next word, and makes of it a number from 0 to `most`.
+    pub fn up_to(&mut self, most: u32) -> u64
+        ensures drawn { result ≡ drawn most self.old }
         ensures rest { self.new ≡ after_word self.old }
+        ensures within { result ≤ most }
     {
-        next_u64_via_u32(&mut self.generator)
+        self.next() % (u64::from(most) + 1)
     }
 
     /// The next word, and the words after it.
@@ -74,5 +71,13 @@ impl RandomWords {
             words.push_reserved(self.next());
         }
         Ok(words)
+    }
+
+    /// Takes the next word.
+    fn next(&mut self) -> u64
+        ensures word { result ≡ word_of self.old }
+        ensures rest { self.new ≡ after_word self.old }
+    {
+        next_u64_via_u32(&mut self.generator)
     }
 }

@@ -1,5 +1,5 @@
-use Rattle.wb_member.proofs.SeedWords.{words_of-add, after_words-add, word_of-fits}
-use Rattle.wb_member.proofs.laws.words_follow_words.Goals as goal
+use Rattle.wb_random.proofs.SeedWords.{words_of-add, after_words-add, word_of-fits}
+use Rattle.wb_random.proofs.laws.words_follow_words.Goals as goal
 
 pub returns-clause-words : goal.returns-clause-words
 returns-clause-words c = words_of-add

@@ -1,6 +1,6 @@
 use Rattle.std.proofs.Common.{arith}
-use Rattle.wb_member.proofs.SeedWords.{one_more}
-use Rattle.wb_member.proofs.random.RandomWords.take.Goals as goal
+use Rattle.wb_random.proofs.SeedWords.{one_more}
+use Rattle.wb_random.proofs.words.RandomWords.take.Goals as goal
 
 pub loop-preserved : goal.loop-preserved
 loop-preserved c =

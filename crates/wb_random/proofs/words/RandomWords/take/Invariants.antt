@@ -1,6 +1,6 @@
 use Rattle.std.proofs.Common.{◌≡◌, ◌≤◌, vec_len, vec_capacity}
-use Rattle.wb_member.specs.Random.{words_of, after_words}
-use Rattle.wb_member.proofs.random.RandomWords.take.Given as goal
+use Rattle.wb_random.specs.Words.{words_of, after_words}
+use Rattle.wb_random.proofs.words.RandomWords.take.Given as goal
 
 abbrev pub invariant-loop : goal.invariant-loop
 invariant-loop l = record {

@@ -1,7 +1,7 @@
 use Rattle.std.proofs.Common.{ap, ◌∙◌, ℕ}
 use Rattle.rand_pcg.specs.Lcg.{Lcg}
-use Rattle.wb_member.specs.Random.{word_of, after_word}
-use Rattle.wb_member.proofs.random.RandomWords.next.Goals as goal
+use Rattle.wb_random.specs.Words.{word_of, after_word}
+use Rattle.wb_random.proofs.words.RandomWords.next.Goals as goal
 
 pub returns-clause-word : goal.returns-clause-word
 unfolding word_of

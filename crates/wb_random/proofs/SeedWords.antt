@@ -1,10 +1,10 @@
--- The random words of a member, in parts.
+-- The random words, in parts.
 use Rattle.std.proofs.Common.{◌≡◌, ℕ, zero, suc, ◌+◌, ◌*◌, ◌/◌, ◌%◌, ◌-◌, ◌<◌, ◌≤◌, ◌^◌, List, [], ◌∷◌, ◌++◌, refl, ap, ◌∙◌, zero-add, arith, bit_xor, div-le_self}
 use Rattle.std.specs.Int.{w32, rotate_right}
 use Rattle.std.proofs.lemmas.Nat.{or_lt}
 use Rattle.rand_pcg.specs.Lcg.{Lcg}
 use Rattle.rand_pcg.specs.Pcg.{pcg32, output_xsh_rr}
-use Rattle.wb_member.specs.Random.{word_of, after_word, words_of, after_words, WordsFollowWords, StepsFollowSteps, WordsFit}
+use Rattle.wb_random.specs.Words.{word_of, after_word, words_of, after_words, WordsFollowWords, StepsFollowSteps, WordsFit}
 
 pub words_of-add : WordsFollowWords
 words_of-add g zero b = rw zero-add refl
