@@ -19,3 +19,6 @@ pub mod HeldRanges
 pub mod PageRanges
 pub mod PageSteps
 pub mod FirstHoles
+pub mod SourceSteps
+pub mod ListParts
+pub mod NextMarks

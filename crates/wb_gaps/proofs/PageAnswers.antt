@@ -16,7 +16,7 @@ use Rattle.wb_names.specs.History.{IsHeld, highest}
 use Rattle.wb_names.specs.Marks.{mark_of}
 use Rattle.wb_names.specs.declared.name.PageId.{PageId}
 use Rattle.wb_names.proofs.Listings.{Contains-cases, Contains-none, Contains-filter, Contains-map, Any-from_map, lists_same, one_list}
-use Rattle.wb_names.proofs.MarkLists.{one_marks}
+use Rattle.wb_names.proofs.MarkLists.{Positive, Rises, same_marks}
 use Rattle.wb_names.proofs.Orders.{nat_ties, page_total, page_ties, same_page-is}
 use Rattle.wb_gaps.specs.Answers.{sources_of, report_of, pages_of}
 use Rattle.wb_gaps.specs.Laws.{ReportOfPage, OnlyReport, PagesOfHistory, OnlyPages}
@@ -81,20 +81,35 @@ has_source history page source n held =
 few_sources : (history : List DrawopValue) (page : PageId) → length (sources_of history page) ≤ length history
 few_sources history page = grind (arith, common_steps, length-map, length-filter, count_by-le-length, is_on, length-sorted-le)
 
-pub report_of_page : ReportOfPage
+-- the marks of a report ascend, and each has the greatest number of its source
+pub report_rises : (history : List DrawopValue) (page : PageId) → Rises (report_of history page)
 unfolding report_of
-report_of_page history page few =
-    let high : ℕ → ℕ = λ source. highest page source history in
-    let sources : List ℕ = sources_of history page in (
-      record {
-        ascending = marks_at-ascend high sources (sorted_rises nat_cmp_total (map source_of (filter (is_on page) history)));
-        positive = marks_at-positive high sources;
-        few = omega (arith, marks_at-length-le high (sources_of history page), few_sources history page);
-      },
-      λ source. mark_of-marks_at high sources source (⊎_elim (λ (e : highest page source history ≡ 0). inl e) (λ (h : IsHeld history page source (highest page source history)). inr (has_source history page source _ h)) (greatest_held history page source).reached),
-    )
+report_rises history page = marks_at-ascend (λ source. highest page source history) (sources_of history page) (sorted_rises nat_cmp_total (map source_of (filter (is_on page) history)))
+
+pub report_positive : (history : List DrawopValue) (page : PageId) → Positive (report_of history page)
+unfolding report_of
+report_positive history page = marks_at-positive (λ source. highest page source history) (sources_of history page)
+
+pub report_marks : (history : List DrawopValue) (page : PageId) (source : ℕ) → mark_of (report_of history page) source ≡ highest page source history
+unfolding report_of
+report_marks history page source =
+    mark_of-marks_at (λ s. highest page s history) (sources_of history page) source
+    (⊎_elim (λ (e : highest page source history ≡ 0). inl e) (λ (h : IsHeld history page source (highest page source history)). inr (has_source history page source _ h)) (greatest_held history page source).reached)
+
+-- so ascending marks with these numbers are the report, however many there are
+pub are_report : (history : List DrawopValue) (page : PageId) (marks : List MarkValue) → Rises marks → Positive marks → ((source : ℕ) → mark_of marks source ≡ highest page source history) → marks ≡ report_of history page
+are_report history page marks rises positive high =
+    same_marks marks (report_of history page) rises (report_rises history page) positive (report_positive history page) (λ s. high s ∙ sym (report_marks history page s))
+
+few_marks : (history : List DrawopValue) (page : PageId) → length (report_of history page) ≤ length history
+unfolding report_of
+few_marks history page = omega (arith, marks_at-length-le (λ source. highest page source history) (sources_of history page), few_sources history page)
+
+pub report_of_page : ReportOfPage
+report_of_page history page few = (
+  record { ascending = report_rises history page; positive = report_positive history page; few = omega (arith, few_marks history page) },
+  report_marks history page,
+)
 
 pub only_report : OnlyReport
-only_report history page marks few report =
-    let own = report_of_page history page few in
-    one_marks marks (report_of history page) report.0 own.0 (λ source. report.1 source ∙ sym (own.1 source))
+only_report history page marks few report = are_report history page marks report.0.ascending report.0.positive report.1

@@ -152,7 +152,7 @@ module _ (m : BTreeMap Start ℕ) (ordered : IsOrdered start_cmp m) (ranges : Ar
 
   -- ---- what the runs of a page hold
 
-  to_cover : (page : PageId) (source n : ℕ) → InRuns (runs_on page m.entries) source n → Covers (last_at m.entries page source) n
+  pub to_cover : (page : PageId) (source n : ℕ) → InRuns (runs_on page m.entries) source n → Covers (last_at m.entries page source) n
   to_cover page source n h =
       let r : Run = h.0 in
       let a = Any-from_map run_of (filter (is_on page) m.entries) r h.1 in
@@ -169,7 +169,7 @@ module _ (m : BTreeMap Start ℕ) (ordered : IsOrdered start_cmp m) (ranges : Ar
         subst (λ (v : Run). n ≤ v.last) (sym is) h.4,
       )
 
-  from_cover : (page : PageId) (source n : ℕ) → Covers (last_at m.entries page source) n → InRuns (runs_on page m.entries) source n
+  pub from_cover : (page : PageId) (source n : ℕ) → Covers (last_at m.entries page source) n → InRuns (runs_on page m.entries) source n
   from_cover page source n c =
       let e : Start × ℕ = (start page source c.0, c.1) in
       let at = Contains-filter (is_on page) m.entries e (Contains-from_lookup start_is (start page source c.0) c.1 m.entries c.2) (same_page-here page page refl) in
@@ -191,14 +191,21 @@ module _ (m : BTreeMap Start ℕ) (ordered : IsOrdered start_cmp m) (ranges : Ar
 
     -- ---- pages
 
-    pub pages_are : (pages : List PageId) → Lists page_cmp (HasPage m.entries) pages → ArePages history pages
-    pages_are pages = lists_same page_total (HasPage m.entries) (λ page. Any (λ (d : DrawopValue). d.name.page ≡ page) history) pages
-        (λ page h.
+    held_page : (page : PageId) → HasPage m.entries page → Any (λ (d : DrawopValue). d.name.page ≡ page) history
+    held_page page h =
         let is_held = cover_held page h.0 h.1 (h.1, h.2, h.3, omega arith, (ranges.apart page h.0).filled h.1 h.2 h.3) in
-        (is_held.0, is_held.1, is_held.2, is_held.3, ap (λ (v : NameValue). v.page) is_held.4))
-        (λ page h.
+        (is_held.0, is_held.1, is_held.2, is_held.3, ap (λ (v : NameValue). v.page) is_held.4)
+
+    page_held : (page : PageId) → Any (λ (d : DrawopValue). d.name.page ≡ page) history → HasPage m.entries page
+    page_held page h =
         let d : DrawopValue = h.1 in
         let c = held_cover page d.name.source d.name.seq (h.0, d, h.2, h.3, name_on d.name page h.4) in
-        (d.name.source, c.0, c.1, c.2)) where
+        (d.name.source, c.0, c.1, c.2) where
           name_on : (n : NameValue) (page : PageId) → n.page ≡ page → n ≡ name_of page n.source n.seq
           name_on n page e = name_parts n.source n.source n.page page n.seq n.seq refl e refl
+
+    pub pages_are : (pages : List PageId) → Lists page_cmp (HasPage m.entries) pages → ArePages history pages
+    pages_are pages = lists_same page_total (HasPage m.entries) (λ page. Any (λ (d : DrawopValue). d.name.page ≡ page) history) pages held_page page_held
+
+    pub pages_held : (pages : List PageId) → ArePages history pages → Lists page_cmp (HasPage m.entries) pages
+    pages_held pages = lists_same page_total (λ page. Any (λ (d : DrawopValue). d.name.page ≡ page) history) (HasPage m.entries) pages page_held held_page

@@ -6,6 +6,7 @@ pub mod Merging
 pub mod MergeFaults
 pub mod Sorting
 pub mod Answers
+pub mod Telling
 pub mod Laws
 pub mod LastNumbers
 pub mod Joining

@@ -1,12 +1,13 @@
 -- The ranges of numbers that are kept, by page, source and first number.
-use Rattle.std.specs.Prelude.{◌≡◌, ℕ, ◌+◌, ◌<◌, ◌≤◌, Bool, false, List, Option, Some, None, filter, map}
+use Rattle.std.specs.Prelude.{◌≡◌, ℕ, ◌+◌, ◌<◌, ◌≤◌, Bool, false, true, List, Option, Some, None, filter, map}
 use Rattle.std.specs.Map.{lookup}
 use Rattle.std.specs.BTreeMap.{is_at}
 use Rattle.std.specs.Ordering.{is_lt, nat_cmp, ordering_then}
 use Rattle.std.specs.declared.cmp.Ordering.{Ordering}
 use Rattle.std.specs.declared.cmp.Ordering.TheVariants.{Less}
 use Rattle.std.specs.declared.ops.Bound.{Bound}
-use Rattle.std.specs.declared.ops.Bound.TheVariants.{Excluded, Unbounded}
+use Rattle.std.specs.declared.ops.Bound.TheVariants.{Excluded, Included, Unbounded}
+use Rattle.wb_names.specs.Ascending.{is_above}
 use Rattle.wb_names.specs.Orders.{page_cmp, same_page}
 use Rattle.wb_names.specs.Values.{greatest_number}
 use Rattle.wb_names.specs.declared.name.PageId.{PageId}
@@ -55,10 +56,33 @@ abbrev pub IsPast : Option PageId → PageId → Type 0
 IsPast None page = Unit {0}
 IsPast (Some last) page = page_cmp last page ≡ Less
 
+abbrev pub is_past : Option PageId → PageId → Bool
+is_past None page = true
+is_past (Some last) page = is_lt (page_cmp last page)
+
 -- the first page after the last one that has a range, or none has
 abbrev pub IsNextPage : List (Start × ℕ) → Option PageId → Option PageId → Type 0
 IsNextPage entries last None = (page : PageId) → HasPage entries page → ¬ IsPast last page
 IsNextPage entries last (Some next) = HasPage entries next × IsPast last next × ((page : PageId) → HasPage entries page → IsPast last page → is_lt (page_cmp page next) ≡ false)
+
+-- all places of a page after a source, or all of the page and later ones
+abbrev pub past_source : PageId → Option ℕ → Bound Start
+past_source page None = Included (start page 0 0)
+past_source page (Some last) = Excluded (start page last greatest_number)
+
+-- the source has a range on the page
+abbrev pub HasSource : List (Start × ℕ) → PageId → ℕ → Type 0
+HasSource entries page source = (first : ℕ) × (last : ℕ) × (last_at entries page source first ≡ Some last)
+
+-- the first source above the last one that has a range on the page, or none has
+abbrev pub IsNextSource : List (Start × ℕ) → PageId → Option ℕ → Option ℕ → Type 0
+IsNextSource entries page last None = (source : ℕ) → HasSource entries page source → is_above last source ≡ false
+IsNextSource entries page last (Some next) = HasSource entries page next × (is_above last next ≡ true) × ((source : ℕ) → HasSource entries page source → is_above last source ≡ true → next ≤ source)
+
+-- the greatest source that has a range on the page, or none has
+abbrev pub IsLastSource : List (Start × ℕ) → PageId → Option ℕ → Type 0
+IsLastSource entries page None = (source : ℕ) → ¬ HasSource entries page source
+IsLastSource entries page (Some last) = HasSource entries page last × ((source : ℕ) → HasSource entries page source → source ≤ last)
 
 -- Of one page and source, by first number: ranges are not empty, begin at 1 or later and end in 32 bits; one ends two or
 -- more below the next

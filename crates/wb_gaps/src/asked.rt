@@ -2,24 +2,22 @@
 
 ghost use Rattle.std.specs.Prelude.{◌≡◌, ◌≤◌, List, IfOk, length};
 ghost use Rattle.std.specs.BTreeMap.{IsOrdered};
-ghost use Rattle.wb_names.specs.Listing.{Lists};
 ghost use Rattle.wb_names.specs.Marks.{IsReport};
-ghost use Rattle.wb_names.specs.Orders.{page_cmp};
 ghost use Rattle.wb_names.specs.Values.{DrawopValue};
 ghost use Rattle.wb_names.specs.declared.entries.TheConstants.{MAX_ENTRIES};
 ghost use Rattle.wb_gaps.specs.Gaps.{AreGaps};
 ghost use Rattle.wb_gaps.specs.Holdings.{HoldNamesOf};
 ghost use Rattle.wb_gaps.specs.Pages.{ArePages};
 ghost use Rattle.wb_gaps.specs.Runs.{runs_left};
-ghost use Rattle.wb_gaps.specs.Starts.{AreRanges, HasPage, IsNextPage, past_page, runs_on, start_cmp};
+ghost use Rattle.wb_gaps.specs.Starts.{AreRanges, runs_on, start_cmp};
 
 use crate::highest::highs;
 use crate::holdings::{Holdings, Start};
 use crate::missing::Missing;
 use crate::run::Runs;
+use crate::telling::pages_past;
 use std::alloc::{AllocError, Global};
 use std::collections::BTreeMap;
-use std::ops::Bound;
 use wb_names::{Gap, Marks, PageId};
 
 impl Holdings {
@@ -67,7 +65,7 @@ impl Holdings {
         ensures { (history : List DrawopValue) → HoldNamesOf history self.now →
             IfOk result (λ pages. ArePages history pages.items) }
     {
-        let pages = pages_of(alloc, &self.ranges)?;
+        let pages = pages_past(alloc, &self.ranges, None, self.ranges.len())?;
         Ok(pages)
     }
 }
@@ -90,46 +88,5 @@ pub(crate) fn runs_of(ranges: &BTreeMap<Start, u32>, page: PageId) -> Runs<'_>
     };
     Runs {
         ranges: ranges.range(from..=to),
-    }
-}
-
-/// The pages of the ranges, ascending, each once.
-fn pages_of(alloc: Global, ranges: &BTreeMap<Start, u32>) -> Result<Vec<PageId>, AllocError>
-    requires { AreRanges ranges.now.entries }
-    ensures ordered { IsOrdered start_cmp ranges.now }
-    ensures pages { IfOk result (λ pages. Lists page_cmp (HasPage ranges.now.entries) pages.items) }
-{
-    let mut pages = Vec::new(alloc);
-    let mut last = None;
-    while let Some(page) = next_page(ranges, last) {
-        pages.push(page)?;
-        last = Some(page);
-    }
-    Ok(pages)
-}
-
-/// The first page after the last one, or the first of all.
-fn next_page(ranges: &BTreeMap<Start, u32>, last: Option<PageId>) -> Option<PageId>
-    requires { AreRanges ranges.now.entries }
-    ensures ordered { IsOrdered start_cmp ranges.now }
-    ensures next { IsNextPage ranges.now.entries last result }
-{
-    let Some((start, _)) = ranges.range((past_page(last), Bound::Unbounded)).next() else {
-        return None;
-    };
-    Some(start.page)
-}
-
-/// Where the ranges of later pages begin.
-fn past_page(last: Option<PageId>) -> Bound<Start>
-    ensures { result ≡ past_page last }
-{
-    match last {
-        Some(page) => Bound::Excluded(Start {
-            page,
-            source: u32::MAX,
-            first: u32::MAX,
-        }),
-        None => Bound::Unbounded,
     }
 }

@@ -131,7 +131,7 @@ fn begin(ranges: &BTreeMap<Start, u32>, at: Start) -> Option<Start>
 }
 
 /// The greatest number of a source on a page: the end of its last range.
-fn highest_in(ranges: &BTreeMap<Start, u32>, page: PageId, source: u32) -> u32
+pub(crate) fn highest_in(ranges: &BTreeMap<Start, u32>, page: PageId, source: u32) -> u32
     requires { AreRanges ranges.now.entries }
     ensures { IsHighest (ranges_of ranges.now.entries) page source result }
 {

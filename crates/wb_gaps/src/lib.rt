@@ -24,6 +24,7 @@ mod merged;
 mod missing;
 mod page_reports;
 mod run;
+mod telling;
 mod walk;
 
 pub use holdings::Holdings;

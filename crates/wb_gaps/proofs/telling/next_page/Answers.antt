@@ -3,7 +3,7 @@ use Rattle.std.specs.BTreeMap.Range.{IsRangeOf}
 use Rattle.std.specs.declared.ops.Bound.TheVariants.{Unbounded}
 use Rattle.wb_gaps.specs.Starts.{start_cmp}
 use Rattle.wb_gaps.proofs.PageSteps.{forward, next_none, next_some}
-use Rattle.wb_gaps.proofs.asked.next_page.Goals as goal
+use Rattle.wb_gaps.proofs.telling.next_page.Goals as goal
 
 pub range-requires : goal.range-requires
 range-requires c = forward _ _ _
