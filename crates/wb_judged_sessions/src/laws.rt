@@ -1,7 +1,7 @@
 //! Laws of sessions of judged members. Each function does nothing: its contract is a law, for
 //! proofs to cite.
 
-ghost use Rattle.std.specs.Prelude.{◌≡◌, ◌^◌};
+ghost use Rattle.std.specs.Prelude.{◌≡◌};
 ghost use Rattle.wb_judge.specs.declared.limits.TheConstants.{FETCH_AGAIN, FETCH_PAUSE, FORGED_ABOVE, LACKING, NEW_AHEAD, NEW_PAUSE};
 ghost use Rattle.wb_judged_sessions.specs.Answering.{AnswersAreHandedIn, AnswersMakeKnown, FewAreEchoed, KnownAreHandedIn, KnownGoOn, LastTakenIsEchoed, ReportsAreRemembered, TheyComeToKnow};
 ghost use Rattle.wb_judged_sessions.specs.Examples.{IsShared};

@@ -1,5 +1,5 @@
 -- Which calls a judged member takes, and what it answers.
-use Rattle.std.specs.Prelude.{◌≡◌, ◌<◌, ◌^◌, Bool, false, Option, Some, None, Result, Ok, Err, Vec, nat_lt}
+use Rattle.std.specs.Prelude.{◌≡◌, ◌<◌, Bool, false, Option, Some, None, Result, Ok, Err, Vec, nat_lt}
 use Rattle.std.specs.Option.{option_map}
 use Rattle.wb_names.specs.Moments.{IsMoment}
 use Rattle.wb_judge.specs.declared.limits.TheConstants.{TIME_LIMIT}
