@@ -1,7 +1,7 @@
 -- A live host tells the last numbers that it holds in time, whatever comes meanwhile: each report brings one nearer to its turn, of the board that the host
 -- has at the end.
 use Rattle.std.proofs.Common.{◌≡◌, ℕ, zero, suc, ◌+◌, ◌*◌, ◌<◌, ◌≤◌, List, [], ◌∷◌, ◌++◌, ◌∙◌, ap, append-nil, append_assoc, arith, eqb-true, inl, inr, refl, subst, sym, ⊎_elim}
-use Rattle.std.specs.Prelude.{◌⊎◌, Contains, nat_eq}
+use Rattle.std.specs.Prelude.{◌⊎◌, Contains}
 use Rattle.wb_names.specs.History.{highest}
 use Rattle.wb_names.specs.Values.{DrawopValue, MarkValue, NameValue}
 use Rattle.wb_names.specs.declared.name.PageId.{PageId}
@@ -13,7 +13,7 @@ use Rattle.wb_policy.specs.Fairness.{Told, after_telling, marks_in_turn, page_in
 use Rattle.wb_keeping.specs.Laws.{doing_of}
 use Rattle.wb_keeping.specs.Performing.{Keeping, after_doing, sent_by_doing}
 use Rattle.wb_kept_progress.specs.Sessions.{Opening}
-use Rattle.wb_kept_progress.specs.Telling.{EndsAtMark, HasMark, HaveSlices, IsTold, LastNumbersAreTold}
+use Rattle.wb_kept_progress.specs.Telling.{EndsAtMark, HasMark, IsTold, LastNumbersAreTold}
 use Rattle.wb_kept_progress.specs.Timed.{TimedLine, called_at, lines_of}
 use Rattle.wb_kept_progress.specs.Whole.{AreCalledInOrder, IsTimelySession, ReportWithin, sends_then, there}
 use Rattle.wb_kept_progress.proofs.CallParts.{calls_end}
@@ -22,7 +22,7 @@ use Rattle.wb_kept_progress.proofs.Leaving.{told_of}
 use Rattle.wb_kept_progress.proofs.NextDue.{ordered, quiet_behind, there_here}
 use Rattle.wb_kept_progress.proofs.Repairs.{of_opening}
 use Rattle.wb_kept_progress.proofs.TellingCalls.{FirstReport, calls_grow, next_report, ends_there_at}
-use Rattle.wb_kept_progress.proofs.TellingGrows.{GrowsTo, TellsMark, comes_nearer, few_left_at_first, left, mark_stays, one_left, ends_later}
+use Rattle.wb_kept_progress.proofs.TellingGrows.{GrowsTo, TellsMark, comes_nearer, few_left_at_first, left, one_left, ends_later}
 
 module _ (hosts : ℕ → Opening) (terms : Terms) (trace newest window base : List TimedLine) (since pause j : ℕ) (d : DrawopValue)
     (s : IsTimelySession hosts terms trace) (within : ReportWithin hosts terms trace since pause) (split_all : trace ≡ newest ++ (window ++ base)) (live : Contains terms.live j)
