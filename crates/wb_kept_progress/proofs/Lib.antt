@@ -45,10 +45,15 @@ pub mod AskedStays
 pub mod Awake
 pub mod Waking
 pub mod SameReports
+pub mod PagesInTurn
+pub mod Slices
 pub mod LackWanted
 pub mod Young
 pub mod StopCauses
 pub mod ToldHeld
+pub mod TellingGrows
+pub mod TellingCalls
+pub mod LastNumbers
 pub mod AskedInCalls
 pub mod Courses
 pub mod Causes

@@ -7,6 +7,7 @@ pub mod Promises
 pub mod Rounds
 pub mod Crowded
 pub mod Filling
+pub mod Telling
 pub mod LeadsOn
 pub mod Agreement
 pub mod Since

@@ -13,6 +13,7 @@ ghost use Rattle.wb_kept_progress.specs.Repairs.{AskedCanCome, MarksComeToBeTold
 ghost use Rattle.wb_kept_progress.specs.Rounds.{SessionsBecomeWholeByRounds};
 ghost use Rattle.wb_kept_progress.specs.Since.{RestartedBecomeWhole, RestartedBecomeWholeByRounds, RestartedBecomeWholeInCrowds, RestartedFillHoles, SinceIsSame, SinceIsTimely};
 ghost use Rattle.wb_kept_progress.specs.Starts.{NoStateIsADeadEnd};
+ghost use Rattle.wb_kept_progress.specs.Telling.{EachMarkIsToldOfGrowing, HeldNumbersAreTold, LastNumbersAreTold};
 ghost use Rattle.wb_kept_progress.specs.Timed.{KeptGoByShort, KeptIsPerformed, KeptKeepsMoments, KeptRequestIsAnswered, KeptTimerLeadsOrIsGivenUp, RequestIsAnswered, TimerLeadsOrIsGivenUp};
 ghost use Rattle.wb_kept_progress.specs.Traffic.{DrawopsAreCalledFor, FewRequestsAreSent, LittleIsSent, NoAnswerStands};
 ghost use Rattle.wb_kept_progress.specs.Whole.{AllAreSoon, AllAreSoonByRates, LiveHostsAreCounted, ReportsAreDue, ReportsGoByRates, SessionsBecomeWhole};
@@ -135,6 +136,16 @@ pub fn reports_follow_one_another()
     ensures always { ReportsAreDue }
     ensures counted { LiveHostsAreCounted }
     ensures by_rates { ReportsGoByRates }
+{}
+
+/// Reports while boards grow. Twice as many reports as a board has slices by then tell each mark
+/// that it had at first, whatever has come meanwhile: the telling of a page ends at the source that
+/// was its last when it began. So what a live host holds it tells in time, or a greater number of
+/// its source; and that number, if it stays the last.
+pub fn last_numbers_are_told()
+    ensures growing { EachMarkIsToldOfGrowing }
+    ensures held { HeldNumbersAreTold }
+    ensures told { LastNumbersAreTold }
 {}
 
 /// Whatever comes in, a self-managing host sends few reports, page states and questions, by the
