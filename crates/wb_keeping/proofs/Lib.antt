@@ -24,3 +24,4 @@ pub mod SpacedLines
 pub mod KeptDistances
 pub mod AptLines
 pub mod SeldomRequested
+pub mod ToldParts

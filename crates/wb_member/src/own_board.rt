@@ -12,6 +12,7 @@ ghost use Rattle.wb_member.specs.Queries.{view_of};
 
 mod judged;
 mod keeping;
+mod telling;
 
 use std::alloc::{AllocError, Global};
 use std::marker::Model;

@@ -1,5 +1,5 @@
 -- The times from one turn to the next, while turns bring nothing.
-use Rattle.std.proofs.Common.{◌≡◌, ℕ, zero, suc, ◌+◌, ◌-◌, ◌*◌, ◌/◌, ◌≤◌, List, [], ◌∷◌, ◌∙◌, ap, arith, length, max, refl, subst, sym}
+use Rattle.std.proofs.Common.{◌≡◌, ℕ, zero, suc, ◌+◌, ◌-◌, ◌*◌, ◌/◌, ◌≤◌, List, [], ◌∷◌, ◌∙◌, ap, arith, length, refl, subst, sym}
 use Rattle.std.specs.Prelude.{min}
 use Rattle.wb_policy.specs.Laws.{IdleTurnsAreRare, SuccessHurries, TurnsArePaced, pace_after}
 use Rattle.wb_policy.specs.Pace.{gap_within}

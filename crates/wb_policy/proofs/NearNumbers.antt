@@ -1,6 +1,6 @@
 -- The numbers near one are at most so far away, and all that are so far away are among them.
-use Rattle.std.proofs.Common.{◌≡◌, ℕ, zero, suc, ◌+◌, ◌-◌, ◌≤◌, ◌<◌, Bool, true, false, cond, List, [], ◌∷◌, ◌++◌, ◌∙◌, ap, arith, inl, inr, refl, subst, sym, true≢false, ⊎_elim}
-use Rattle.std.specs.Prelude.{◌≢◌, ◌⊎◌, ◌&&◌, All, Contains, nat_eq, nat_le, nat_lt}
+use Rattle.std.proofs.Common.{◌≡◌, ℕ, zero, suc, ◌+◌, ◌-◌, ◌≤◌, ◌<◌, Bool, true, false, cond, List, [], ◌∷◌, ◌++◌, arith, refl, subst, sym, true≢false}
+use Rattle.std.specs.Prelude.{◌&&◌, All, Contains, nat_le, nat_lt}
 use Rattle.std.proofs.lemmas.Bool.{and_parts, le-leb, leb-false, leb-true}
 use Rattle.std.proofs.lemmas.List.Elements.{All-append, All-cons, All-map, All-nil, Contains-append_left, Contains-append_right}
 use Rattle.wb_names.specs.History.{name_of}

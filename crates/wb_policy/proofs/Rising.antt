@@ -1,6 +1,6 @@
 -- While the telling of a page goes on, each report tells sources above those before.
 use Rattle.std.proofs.Common.{◌≡◌, ℕ, zero, suc, ◌≤◌, Bool, true, false, cond, List, [], ◌∷◌, ◌∙◌, None, ap, arith, filter, inl, inr, length, refl, subst, sym, ⊎_elim}
-use Rattle.std.specs.Prelude.{◌⊎◌, Contains, min, take}
+use Rattle.std.specs.Prelude.{Contains, min, take}
 use Rattle.std.proofs.lemmas.Bool.Decides.{leb_tells}
 use Rattle.std.proofs.lemmas.List.{length-take, take_all}
 use Rattle.wb_names.specs.Values.{DrawopValue, MarkValue}

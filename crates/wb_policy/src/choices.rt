@@ -3,14 +3,12 @@ ghost use Rattle.std.specs.Prelude.{◌≡◌, ◌≤◌, ◌<◌, ◌++◌, IfO
 ghost use Rattle.wb_names.specs.History.{name_of};
 ghost use Rattle.std.specs.List.{count_by};
 ghost use Rattle.std.specs.Ordering.{is_lt};
-ghost use Rattle.wb_policy.specs.Choices.{distance_in, heard_later, if_below, last_heard, last_source, near_names, own_echo, own_marks, told_names, until_in};
+ghost use Rattle.wb_policy.specs.Choices.{distance_in, heard_later, if_below, last_heard, last_source, near_names, own_echo, own_marks, told_names};
 ghost use Rattle.wb_names.specs.declared.name.TheConstants.{FIRST_FORGED};
 ghost use Rattle.wb_policy.specs.declared.limits.TheConstants.{MOST_ECHOES};
-ghost use Rattle.wb_policy.specs.Reports.{slice_after};
 ghost use Rattle.std.specs.Prelude.{None};
 
 use crate::limits::{MOST_ECHOES, REACH};
-use crate::reports::slice_after;
 use std::alloc::{AllocError, Global};
 use std::cmp::Ordering;
 use wb_names::{Echo, Echoes, FIRST_FORGED, Mark, Marks, Name, PageId};
@@ -119,14 +117,6 @@ fn by_hearing(one: Echo, other: Echo) -> Ordering
     (one.held, one.source).cmp(&(other.held, other.source))
 }
 
-/// The next marks of a page, at most 64: those of sources above `told`, or the first ones.
-pub fn slice_of(alloc: Global, told: Option<u32>, report: &Marks) -> Result<Marks, AllocError>
-    ensures { IfOk result (λ slice. slice ≡ slice_after told report.now) }
-{
-    let slice = slice_after(alloc, told, report.as_slice())?;
-    Ok(Marks::from_ascending(slice))
-}
-
 /// The last source of some marks.
 pub fn last_source(marks: &[Mark]) -> Option<u32>
     ensures { result ≡ last_source None marks.now }
@@ -136,13 +126,6 @@ pub fn last_source(marks: &[Mark]) -> Option<u32>
         last = Some(mark.source());
     }
     last
-}
-
-/// Where the telling of a page with these marks ends: at its last source, or at 0.
-pub fn until_in(marks: &[Mark]) -> u32
-    ensures { result ≡ until_in marks.now }
-{
-    last_source(marks).unwrap_or(0)
 }
 
 /// The names of the marks of a page, except for numbers of this member from 2^31 on, which only a

@@ -29,8 +29,7 @@ mod turns;
 mod wanting;
 
 pub use choices::{
-    distance_in, last_heard, last_source, near_names, own_echo, own_marks, slice_of, told_names,
-    until_in,
+    distance_in, last_heard, last_source, near_names, own_echo, own_marks, told_names,
 };
 pub use credit::Credit;
 pub use distances::Distances;
@@ -38,6 +37,6 @@ pub use leaps::Leaps;
 pub use pace::Pace;
 pub use policy::{Policy, sooner};
 pub use questions::Questions;
-pub use reports::{Reports, is_telling, members, page_after, report_bytes, slice_after};
+pub use reports::{Reports, is_telling, members, page_after, report_bytes};
 pub use turns::Turns;
 pub use wanting::{AskedName, Candidate, giving_way, oldest};

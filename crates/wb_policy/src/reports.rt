@@ -1,16 +1,16 @@
 //! Reports: when one is due, and which marks it has.
 
-ghost use Rattle.std.specs.Prelude.{◌≡◌, ◌≤◌, ◌<◌, ◌^◌, ◌+◌, ◌*◌, IfOk, filter, length, nat_le, nat_lt};
-ghost use Rattle.std.specs.List.{find};
+ghost use Rattle.std.specs.Prelude.{◌≡◌, ◌≤◌, ◌<◌, ◌^◌, ◌+◌, ◌*◌, List, filter, length, nat_le, nat_lt, take};
 ghost use Rattle.wb_names.specs.Moments.{IsMoment};
+ghost use Rattle.wb_names.specs.declared.name.PageId.{PageId};
 ghost use Rattle.wb_policy.specs.declared.limits.TheConstants.{HEARD, LONGEST_MEAN, LONGEST_PAUSE, MEMBERS, MOST_BYTES, SHORTEST_MEAN, SHORTEST_PAUSE};
-ghost use Rattle.wb_policy.specs.Reports.{is_after, is_telling, is_untold, mean_time, members_in, next_report, page_after, report_bytes, slice_after};
+ghost use Rattle.wb_policy.specs.Reports.{first_of_pages, is_after, is_telling, mean_time, members_in, next_report, page_after, report_bytes};
 
 use crate::limits::{
-    ECHO_BYTES, HEAD_BYTES, HEARD, LONGEST_MEAN, MARK_BYTES, MOST_MARKS, SECOND, SHORTEST_MEAN,
+    ECHO_BYTES, HEAD_BYTES, HEARD, LONGEST_MEAN, MARK_BYTES, SECOND, SHORTEST_MEAN,
 };
-use std::alloc::{AllocError, Global};
-use wb_names::{Echo, Echoes, MAX_ENTRIES, Mark, Marks, PageId};
+use crate::turns::Turns;
+use wb_names::{Echo, Echoes, MAX_ENTRIES, Marks, PageId};
 
 /// When a member reports, in microseconds.
 #[derive(Clone, Copy, Debug, PartialEq, Eq)]
@@ -85,28 +85,6 @@ pub fn report_bytes(marks: &Marks, echoes: &Echoes) -> u64
     HEAD_BYTES + MARK_BYTES * marks as u64 + ECHO_BYTES * echoes as u64
 }
 
-/// The next marks of a page, at most 64: those of sources above `told`, or the first ones.
-pub fn slice_after(
-    alloc: Global,
-    told: Option<u32>,
-    marks: &[Mark],
-) -> Result<Vec<Mark>, AllocError>
-    ensures { IfOk result (λ slice. slice.items ≡ slice_after told marks.now) }
-{
-    let untold = marks.iter().filter(|mark| is_untold(told, mark.source()));
-    untold.take(MOST_MARKS).copied().collect(alloc)
-}
-
-/// Whether a source is above `told`, or `told` is None.
-fn is_untold(told: Option<u32>, source: u32) -> bool
-    ensures { result ≡ is_untold told source }
-{
-    match told {
-        Some(told) => told < source,
-        None => true,
-    }
-}
-
 /// Whether the telling of a page goes on: it has not reached the source that was the last when it
 /// began. What has come since waits for the next telling, so that it holds no page up.
 pub fn is_telling(until: u32, told: Option<u32>) -> bool
@@ -118,37 +96,23 @@ pub fn is_telling(until: u32, told: Option<u32>) -> bool
     }
 }
 
-/// The next page in the cycle of the pages, which ascend, or page 0/0 if there is none.
-pub fn page_after(last: PageId, pages: &[PageId]) -> PageId
-    ensures { result ≡ page_after last pages.now }
+/// The next page in the cycle of the pages, or page 0/0 if there is none: the first of those after
+/// the last one, `later`, or else of all, `pages`. Each is cut to one page.
+#[tactic(auto, using(crate::proofs::NextPages::in_turn))]
+pub fn page_after(later: &[PageId], pages: &[PageId]) -> PageId
+    ensures { (last : PageId) (all : List PageId) → later.now ≡ take 1 (filter (is_after last) all) →
+        pages.now ≡ take 1 all → result ≡ page_after last all }
 {
-    if let Some(page) = first_after(last, pages) {
-        return page;
-    }
+    let page = first_of(later).or(first_of(pages));
+    page.unwrap_or(Turns::START.page)
+}
+
+/// The first of some pages.
+fn first_of(pages: &[PageId]) -> Option<PageId>
+    ensures { result ≡ first_of_pages pages.now }
+{
     match pages {
-        [first, ..] => *first,
-        [] => PageId {
-            creator: 0,
-            number: 0,
-        },
+        [page, ..] => Some(*page),
+        [] => None,
     }
-}
-
-/// The first page after another.
-fn first_after(last: PageId, pages: &[PageId]) -> Option<PageId>
-    ensures { result ≡ find (is_after last) pages.now }
-{
-    for page in pages {
-        if is_after(last, *page) {
-            return Some(*page);
-        }
-    }
-    None
-}
-
-/// Whether a page comes after another.
-fn is_after(last: PageId, page: PageId) -> bool
-    ensures { result ≡ is_after last page }
-{
-    last < page
 }

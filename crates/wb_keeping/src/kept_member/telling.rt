@@ -1,9 +1,9 @@
 //! What a self-managing member sends others as time goes on.
-ghost use Rattle.std.specs.Prelude.{◌≡◌, ◌≤◌, ◌<◌, ◌++◌, ◌∷◌, [], IfOk, OnErr, OnOk, map, take};
+ghost use Rattle.std.specs.Prelude.{◌≡◌, ◌≤◌, ◌<◌, ◌++◌, ◌∷◌, [], IfOk, OnErr, OnOk, map};
 ghost use Rattle.wb_gaps.specs.Answers.{pages_of, report_of};
 ghost use Rattle.wb_keeping.specs.Kept.{answers, asks_pages, reports, reports_due, reports_next, reports_page, state_of, still, timed};
-ghost use Rattle.wb_policy.specs.declared.limits.TheConstants.{MOST_PAGES};
 ghost use Rattle.wb_keeping.specs.Performing.{Does, DoesQuietly, IsKeptAt, Keeping, LeavesSome, view_of};
+ghost use Rattle.wb_policy.specs.Choices.{until_in};
 ghost use Rattle.wb_policy.specs.Reports.{page_after, rest_after, slice_after};
 
 use crate::kept_member::KeptMember;
@@ -11,8 +11,8 @@ use crate::kept_member::lines::send;
 use std::alloc::{AllocError, Global};
 use wb_codec::Datagram;
 use wb_names::{Echoes, Marks, PageId};
-use wb_policy::limits::MOST_PAGES;
-use wb_policy::{last_heard, last_source, members, page_after, report_bytes, slice_of, until_in};
+use wb_policy::limits::{MOST_MARKS, MOST_PAGES};
+use wb_policy::{last_heard, last_source, members, page_after, report_bytes};
 
 impl KeptMember {
     /// What is due is sent: an answer, then a question, then a report; and then a hole has its turn,
@@ -40,8 +40,7 @@ impl KeptMember {
         if !self.policy.answers(self.member.moment()) {
             return Ok(());
         }
-        let pages = self.member.pages(alloc)?;
-        let first = first_pages(alloc, &pages)?;
+        let first = self.member.pages_after(alloc, None, MOST_PAGES)?;
         self.tells_pages(alloc, sent, &first)?;
         Ok(())
     }
@@ -75,8 +74,8 @@ impl KeptMember {
         ensures slice { IfOk result (λ slice. (k : Keeping) → IsKeptAt self.old k →
             slice ≡ slice_after told (report_of k.host.is.held page)) }
     {
-        let report = self.member.report(alloc, page)?;
-        slice_of(alloc, told, &report)
+        let slice = self.member.marks_after(alloc, page, told, MOST_MARKS)?;
+        Ok(slice)
     }
 
     /// It asks for pages, if that is due.
@@ -143,20 +142,20 @@ impl KeptMember {
         ensures left { OnErr result (LeavesSome reports_next self.old self.new) }
     {
         let page = self.next_page(alloc)?;
-        let report = self.report(alloc, page)?;
-        let until = until_in(report.as_slice());
-        let first = slice_of(alloc, None, &report)?;
+        let until = self.until(page)?;
+        let first = self.slice(alloc, page, None)?;
         self.reports_page(alloc, sent, page, until, first)?;
         Ok(())
     }
 
-    /// The greatest number of each source that is held of a page.
-    fn report(&mut self, alloc: Global, page: PageId) -> Result<Marks, AllocError>
+    /// Where the telling of a page ends: at its last source, or at 0.
+    fn until(&mut self, page: PageId) -> Result<u32, AllocError>
         ensures same { self.new ≡ self.old }
-        ensures report { IfOk result (λ marks. (k : Keeping) → IsKeptAt self.old k →
-            marks ≡ report_of k.host.is.held page) }
+        ensures until { IfOk result (λ until. (k : Keeping) → IsKeptAt self.old k →
+            until ≡ until_in (report_of k.host.is.held page)) }
     {
-        self.member.report(alloc, page)
+        let last = self.member.last_source(page)?;
+        Ok(last.unwrap_or(0))
     }
 
     /// The next page in the cycle of the pages.
@@ -166,8 +165,9 @@ impl KeptMember {
             page ≡ page_after k.policy.told_page (pages_of k.host.is.held)) }
     {
         let told = self.policy.told();
-        let pages = self.member.pages(alloc)?;
-        Ok(page_after(told.0, &pages))
+        let later = self.member.pages_after(alloc, Some(told.0), 1)?;
+        let first = self.member.pages_after(alloc, None, 1)?;
+        Ok(page_after(&later, &first))
     }
 
     /// It reports these marks of a page, whose telling ends at a source.
@@ -211,11 +211,4 @@ impl KeptMember {
     {
         self.member.echoes(alloc)
     }
-}
-
-/// The first 64 of some pages.
-fn first_pages(alloc: Global, pages: &[PageId]) -> Result<Vec<PageId>, AllocError>
-    ensures { IfOk result (λ first. first.items ≡ take MOST_PAGES pages.now) }
-{
-    pages.iter().take(MOST_PAGES).copied().collect(alloc)
 }

@@ -1,4 +1,4 @@
-use Rattle.std.proofs.Common.{◌≡◌, ◌≤◌, ℕ, ◌∙◌, ap, arith, map}
+use Rattle.std.proofs.Common.{◌≡◌, ℕ, ◌∙◌, ap, arith, map}
 use Rattle.wb_names.specs.History.{name_of}
 use Rattle.wb_policy.specs.Choices.{near_names, numbers_near}
 use Rattle.wb_policy.proofs.choices.near_names.Goals as goal

@@ -11,6 +11,7 @@ use Rattle.wb_keeping.proofs.Performed.{at_inside, does_seen}
 use Rattle.wb_keeping.proofs.LeftSome.{on_err, left_none}
 use Rattle.wb_gaps.specs.Answers.{pages_of}
 use Rattle.wb_policy.specs.Questions.{is_due}
+use Rattle.wb_keeping.proofs.ToldParts.{first_told}
 use Rattle.wb_keeping.proofs.Saying.{says, says_after, says_sent}
 use Rattle.wb_keeping.proofs.kept_member.KeptMember.answers.Goals as goal
 
@@ -23,9 +24,9 @@ returns-clause-does c = does_seen answers (λ k at.
     let policy : c.answers.new.self ≡ after_answer v.now k.policy = c.if-not-answers.ensures.after ∙ ap (λ (m : ℕ). after_answer m c.self.inside.policy) now ∙ ap (after_answer v.now) inside.policy in
     let d : Doing = record { policy = after_answer v.now k.policy; lines = says v (take 64 (pages_of v.held)) } in
     let there : Keeping = record { host = k.host; policy = after_answer v.now k.policy } in
-    let answered : KeptValue = record { member = c.pages.new.self; policy = c.answers.new.self } in
-    let kept_at : IsKeptAt answered there = record { member = subst (λ (m : MemberValue). IsOpenAt m k.host) (sym c.pages.ensures.same) inside.member; policy = policy } in
-    let first : c.deref-2.result.now ≡ take 64 (pages_of v.held) = c.deref-2.ensures.value ∙ c.in_ok-first.ensures ∙ ap (take 64) (c.deref.ensures.value ∙ c.in_ok-pages.ensures.pages k.host inside.member) in (
+    let answered : KeptValue = record { member = c.pages_after.new.self; policy = c.answers.new.self } in
+    let kept_at : IsKeptAt answered there = record { member = subst (λ (m : MemberValue). IsOpenAt m k.host) (sym c.pages_after.ensures.same) inside.member; policy = policy } in
+    let first : c.deref.result.now ≡ take 64 (pages_of v.held) = c.deref.ensures.value ∙ c.in_ok-first.ensures.pages k.host inside.member ∙ first_told v.held 64 in (
       d,
       ap (λ (b : Bool). cond b d (still (sees k.host) k.policy)) due,
       c.in_ok-tells_pages.ensures.sent there kept_at ∙ ap (λ (ps : List PageId). c.args.sent.now.items ++ map (state_of v) ps) first ∙ ap (λ (ds : List Datagram). c.args.sent.now.items ++ ds) (sym (says_sent v (take 64 (pages_of v.held)) k.host)),
@@ -34,4 +35,4 @@ returns-clause-does c = does_seen answers (λ k at.
 
 pub returns-in_err-tells_pages-clause-left : goal.returns-in_err-tells_pages-clause-left
 returns-in_err-tells_pages-clause-left c = on_err _ (
-    left_none answers (ap (λ (v : KeptValue). v.member) c.tells_pages.ensures.same ∙ c.pages.ensures.same ∙ ap (λ (v : KeptValue). v.member) c.self.view_is))
+    left_none answers (ap (λ (v : KeptValue). v.member) c.tells_pages.ensures.same ∙ c.pages_after.ensures.same ∙ ap (λ (v : KeptValue). v.member) c.self.view_is))

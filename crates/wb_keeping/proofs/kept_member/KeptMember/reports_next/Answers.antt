@@ -13,16 +13,17 @@ use Rattle.wb_keeping.proofs.kept_member.KeptMember.reports_next.Goals as goal
 pub returns-clause-does : goal.returns-clause-does
 returns-clause-does c =
     let page = c.in_ok-page.page in
-    let same : c.report.new.self ≡ c.args.self.now = c.report.ensures.same ∙ c.next_page.ensures.same in
-    does_as reports_next (reports_page page c.until_in-until.result c.in_ok-first.first) (λ k at.
-    let again : IsKeptAt c.next_page.new.self k = at_inside k c.next_page.ensures.same at in
+    let until = c.in_ok-until.until in
+    let first = c.in_ok-first.first in
+    let before : c.until.new.self ≡ c.args.self.now = c.until.ensures.same ∙ c.next_page.ensures.same in
+    let same : c.slice.new.self ≡ c.args.self.now = c.slice.ensures.same ∙ before in
+    does_as reports_next (reports_page page until first) (λ k at.
     let next : page ≡ page_after k.policy.told_page (pages_of k.host.is.held) = c.in_ok-page.ensures.next k at in
-    let report = c.in_ok-report.ensures.report k again in
-    let until : c.until_in-until.result ≡ until_in (report_of k.host.is.held page) = c.until_in-until.ensures ∙ ap until_in (c.as_slice.ensures.entries ∙ report) in
-    let first : c.in_ok-first.first ≡ slice_after None (report_of k.host.is.held page) = c.in_ok-first.ensures ∙ ap (slice_after None) report in
+    let ends : until ≡ until_in (report_of k.host.is.held page) = c.in_ok-until.ensures.until k (at_inside k c.next_page.ensures.same at) in
+    let begins : first ≡ slice_after None (report_of k.host.is.held page) = c.in_ok-first.ensures.slice k (at_inside k before at) in
     ap (λ (q : PageId). reports_page q (until_in (report_of k.host.is.held q)) (slice_after None (report_of k.host.is.held q)) (sees k.host) k.policy) (sym next)
-    ∙ (λ i. reports_page page (sym until i) (sym first i) (sees k.host) k.policy))
-    (subst (λ (v : KeptValue). Does (reports_page page c.until_in-until.result c.in_ok-first.first) v c.reports_page.new.self c.args.sent.now.items c.reports_page.new.sent.items) same c.in_ok-reports_page.ensures.does)
+    ∙ (λ i. reports_page page (sym ends i) (sym begins i) (sees k.host) k.policy))
+    (subst (λ (v : KeptValue). Does (reports_page page until first) v c.reports_page.new.self c.args.sent.now.items c.reports_page.new.sent.items) same c.in_ok-reports_page.ensures.does)
 
 pub returns-in_err-first-clause-left : goal.returns-in_err-first-clause-left
-returns-in_err-first-clause-left c = on_err _ (left_none reports_next (ap (λ (v : KeptValue). v.member) (c.report.ensures.same ∙ c.next_page.ensures.same)))
+returns-in_err-first-clause-left c = on_err _ (left_none reports_next (ap (λ (v : KeptValue). v.member) (c.slice.ensures.same ∙ c.until.ensures.same ∙ c.next_page.ensures.same)))
