@@ -30,3 +30,9 @@ pub mod Remembered
 pub mod TakenIn
 pub mod FewEchoed
 pub mod Spaced
+pub mod FirmAnswers
+pub mod FirmRequests
+pub mod FirmCauses
+pub mod FirmTurns
+pub mod Unhushed
+pub mod Hushing

@@ -11,3 +11,5 @@ pub mod Meeting
 pub mod Answering
 pub mod Twins
 pub mod Acquainted
+pub mod Unhushed
+pub mod Hushing

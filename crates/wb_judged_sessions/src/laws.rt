@@ -15,6 +15,8 @@ ghost use Rattle.wb_judged_sessions.specs.Sessions.{DrawsAsKept, JudgedIsKept, P
 ghost use Rattle.wb_judged_sessions.specs.SetBack.{IsGivenAhead, IsSetBack, IsSetBackTooFar};
 ghost use Rattle.wb_judged_sessions.specs.Timely.{JudgedAgree, JudgedBecomeWhole, JudgedBecomeWholeByRounds, JudgedBecomeWholeInCrowds, JudgedFillHoles, JudgedIsTimely};
 ghost use Rattle.wb_judged_sessions.specs.Twins.{AnswersShowTwins, TwinsAreRemembered, TwinsSee, TwinsStay};
+ghost use Rattle.wb_judged_sessions.specs.Hushing.{RepairsAllTheSame, RequestsAllTheSame};
+ghost use Rattle.wb_judged_sessions.specs.Unhushed.{FirmForItsTurn, RepairsAreSent, RequestsAreSent, TurnsAreFirm};
 
 /// A session of judged members is one of self-managing members, in which the network lost what the
 /// judges dropped. Each judged member is the self-managing one at its place, and draws the same. It
@@ -173,4 +175,25 @@ pub fn judged_twins_see()
 pub fn two_judged_members_answer()
     ensures members { IsAnswered }
     ensures twins { TwinsHaveMet }
+{}
+
+/// What is firm is not hushed, whatever others send. If a member holds a drawop, and its timer stands
+/// to repair it, it sends the drawop at the first call at the moment of the timer or later, if all
+/// that comes until then comes while the name is firm. If it lacks one, and its timer stands to
+/// request it, it sends the request so, unless the drawop comes before, or it gives the name up
+/// itself. Each name is firm in its turn, for two seconds and to the end of it, while the number of
+/// others stays.
+pub fn what_is_firm_is_not_hushed()
+    ensures repair { RepairsAreSent }
+    ensures request { RequestsAreSent }
+    ensures turns { TurnsAreFirm }
+    ensures turn { FirmForItsTurn }
+{}
+
+/// Examples: one of the two members that meet sends a copy of what the other is to repair, and a
+/// request for what the other is to request. Each meets all that `what_is_firm_is_not_hushed` asks,
+/// and the other repairs and requests all the same.
+pub fn nobody_hushes_two_judged_members()
+    ensures repair { RepairsAllTheSame }
+    ensures request { RequestsAllTheSame }
 {}

@@ -6,9 +6,10 @@
 //! `specs/Known.antt` that members who know each other go on to do so, as `specs/Knowing.antt` says
 //! it of a judge; `specs/Days.antt` that what a user draws lies above what its page held.
 //! `specs/Answering.antt` says how members come to know each other, and `specs/Twins.antt` how two
-//! of one number see each other. `specs/Examples.antt`, `specs/Meeting.antt`,
-//! `specs/Acquainted.antt` and `specs/SetBack.antt` have sessions, which compute. `laws` carries the
-//! laws, for other crates to cite.
+//! of one number see each other; `specs/Unhushed.antt` that what is firm is not hushed.
+//! `specs/Examples.antt`, `specs/Meeting.antt`, `specs/Acquainted.antt`, `specs/Hushing.antt` and
+//! `specs/SetBack.antt` have sessions, which compute. `laws` carries the laws, for other crates to
+//! cite.
 #![tactic(auto)]
 
 pub mod laws;

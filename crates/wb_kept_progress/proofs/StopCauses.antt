@@ -44,15 +44,15 @@ room_before lines host next is room =
 
 -- ---- why it gives a name up
 
-abbrev HasStopCause : Opened → NameValue → Type 0
+abbrev pub HasStopCause : Opened → NameValue → Type 0
 HasStopCause host n = ((ask : AskTimer) × ((timers_of host.is.constants (events host) n).ask ≡ Some ask) × (4 ≤ ask.level))
     ⊎ ((64 ≤ length (view_of host).asked) × (a : AskedName) × (oldest (view_of host).asked ≡ Some a) × (a.name ≡ n))
 
-abbrev IsCaused : Line → Opened → Type 0
+abbrev pub IsCaused : Line → Opened → Type 0
 IsCaused (Stops n) host = HasStopCause host n
 IsCaused line host = Unit {0}
 
-abbrev AreCaused : List Line → Opened → Type 0
+abbrev pub AreCaused : List Line → Opened → Type 0
 AreCaused [] host = Unit {0}
 AreCaused (line ∷ lines) host = IsCaused line host × AreCaused lines (after_line line host)
 
@@ -60,7 +60,7 @@ caused_both : (one other : List Line) (host : Opened) → AreCaused one host →
 caused_both [] other host a b = b
 caused_both (line ∷ one) other host a b = (a.0, caused_both one other (after_line line host) a.1 b)
 
-caused_at : (one other : List Line) (line : Line) (host : Opened) → AreCaused (one ++ line ∷ other) host → IsCaused line (after_lines one host)
+pub caused_at : (one other : List Line) (line : Line) (host : Opened) → AreCaused (one ++ line ∷ other) host → IsCaused line (after_lines one host)
 caused_at [] other line host caused = caused.0
 caused_at (first ∷ one) other line host caused = caused_at one other line (after_line first host) caused.1
 
@@ -160,9 +160,9 @@ wanted_caused name anew k = by (is_wanted (holds v name) (shows_full v) anew (is
 -- ---- all that a kept host does
 
 -- It gives names up for such causes, where there is room on the board behind all.
-record GivesUpFor (k : Keeping) (lines : List Line) (m : Keeping) : Type 0 where
-  at : m.host ≡ after_lines lines k.host
-  caused : is_full m.host ≡ false → AreCaused lines k.host
+pub record GivesUpFor (k : Keeping) (lines : List Line) (m : Keeping) : Type 0 where
+  pub at : m.host ≡ after_lines lines k.host
+  pub caused : is_full m.host ≡ false → AreCaused lines k.host
 
 quietly : (k : Keeping) (lines : List Line) (p : Policy) → StopNothing lines → GivesUpFor k lines (record { host = after_lines lines k.host; policy = p })
 quietly k lines p none = record { at = refl; caused = λ room. unstopped lines k.host none }
@@ -175,7 +175,7 @@ both_give_up k m n one other a b = record {
       caused_both one other k.host first (subst (AreCaused other) a.at (b.caused room));
 }
 
-steps_give_up : HoldsOfSteps GivesUpFor
+pub steps_give_up : HoldsOfSteps GivesUpFor
 steps_give_up = record {
   due = record {
     nothing = λ k. quietly k [] k.policy tt;
