@@ -88,12 +88,7 @@ IsKept line = ⊥
 kept_carries : (P : Datagram → Type 0) (line : DriverLine) → IsKept line → Carries P line
 kept_carries P (Keep rate listen) is = tt
 kept_carries P (Came now v) is = is
-kept_carries P (Script line) is = absurd is
-kept_carries P (Say v) is = absurd is
-kept_carries P (Ask name) is = absurd is
-kept_carries P (Stop name) is = absurd is
-kept_carries P (Add adding) is = absurd is
-kept_carries P Version is = absurd is
+kept_carries P line is = absurd is
 
 moment_fits : (arguments : List (List ℕ)) → IfOk (moment_of arguments) (λ now. now < 2 ^ 48)
 unfolding moment_of
@@ -171,10 +166,7 @@ says_fits m line e = subst (λ (r : Result DriverLine Refusal). IfOk r Fits) e (
 -- the property that a line hands in
 pub handed_has : (P : Datagram → Type 0) (v : Datagram) → Carries P (Script (handed_in v)) → P v
 handed_has P (datagrams.Draw d) has = has
-handed_has P (datagrams.Session sender sent page marks echoes) has = has
-handed_has P (datagrams.Request asker name) has = has
-handed_has P (datagrams.AskPages asker) has = has
-handed_has P (datagrams.PageState sender page marks) has = has
+handed_has P v has = has
 
 pub lines_carry_bytes : LinesCarryBytes
 lines_carry_bytes line v e = handed_has (SaysDatagram line) v (subst (λ (r : Result DriverLine Refusal). IfOk r (Carries (SaysDatagram line))) e (text_fits (SaysDatagram line) line asked)) where
