@@ -12,7 +12,7 @@ use Rattle.wb_commands.specs.declared.command.Command.{Command}
 use Rattle.wb_commands.specs.declared.command.Command.TheVariants as lines
 use Rattle.wb_dialog.specs.declared.fault.Refusal.{Refusal}
 use Rattle.wb_dialog.specs.declared.line.DriverLine.{DriverLine}
-use Rattle.wb_dialog.specs.declared.line.DriverLine.TheVariants.{Script, Say, Ask, Stop, Keep, Came, Add, Version}
+use Rattle.wb_dialog.specs.declared.line.DriverLine.TheVariants.{Script, Say, Call as Calls, Came, Add}
 use Rattle.wb_dialog.specs.Dialog.{says_line}
 use Rattle.wb_dialog.specs.Doing.{text_in}
 use Rattle.wb_dialog.specs.Hosting.{Host, Driven, Kept, Reply, prints, denies, came_text, hosting_from, reply_of, unopened, unsent_text}
@@ -42,6 +42,7 @@ module _ (host : Opened) (held : AreOneLine host.is.held) where
   driven : (line : DriverLine) → IsNoShow (Ok line) → Plain (told_driven line host)
   driven (Script line) shows = in_script line shows
   driven (Say v) shows = saying v
+  driven (Calls call) shows = texts.called call host
   driven line shows = search plain_rules depth 20
 
 module _ (k : Keeping) (held : AreOneLine k.host.is.held) where

@@ -18,7 +18,8 @@ use Rattle.wb_commands.specs.declared.command.Command.TheVariants as lines
 use Rattle.wb_dialog.specs.declared.fault.Refusal.{Refusal}
 use Rattle.wb_dialog.specs.declared.fault.Refusal.TheVariants as refusals
 use Rattle.wb_dialog.specs.declared.line.DriverLine.{DriverLine}
-use Rattle.wb_dialog.specs.declared.line.DriverLine.TheVariants.{Script, Say, Ask, Stop, Keep, Came, Add, Version}
+use Rattle.wb_dialog.specs.declared.line.DriverLine.TheVariants.{Script, Say, Call as Calls, Keep, Came, Add}
+use Rattle.wb_dialog.specs.declared.line.Call.TheVariants.{Ask}
 use Rattle.wb_dialog.specs.Dialog.{goes_out, refuses, says_line}
 use Rattle.wb_dialog.specs.Hosting.{Host, Driven, Kept, Reply, prints, denies, as_driven, kept_does, kept_reply, reply, reply_to, seed_after}
 use Rattle.wb_laws_sessions.specs.Drawn.{AreHonest, IsAbove, WasHeld, drawn_at}
@@ -102,6 +103,7 @@ module _ (numbers : ℕ → ℕ) (place : ℕ) (older : List Step) (honest : Are
       driven : (said : DriverLine) → line ≡ said → Does said
       driven (Script said) is = script said is
       driven (Say (datagrams.Draw d)) is = drawing d is
+      driven (Calls (Ask name)) is = plainly (Calls (Ask name)) tt
       driven said is = plainly said tt
 
     -- ---- at a self-managing host

@@ -6,7 +6,7 @@ use Rattle.wb_names.specs.Values.{DrawopValue}
 use Rattle.wb_codec.specs.declared.datagram.Datagram.{Datagram}
 use Rattle.wb_codec.specs.declared.datagram.Datagram.TheVariants as datagrams
 use Rattle.wb_recovery.specs.declared.tuning.Tuning.{Tuning}
-use Rattle.wb_member.specs.Lines.{Line, Tunes, said_where}
+use Rattle.wb_member.specs.Lines.{Line, Tunes, said_where, sent_by_line}
 use Rattle.wb_member.specs.Opened.{Opened, answered as answers, becomes, has_room_for, heard, message, present, sent_by, ticked}
 use Rattle.wb_member.specs.Questions.{answer_to}
 use Rattle.wb_keeping.specs.Kept.{Transition, adds, came, performs, ticks}
@@ -21,9 +21,10 @@ use Rattle.wb_commands.specs.declared.command.Command.TheVariants as lines
 use Rattle.wb_commands.specs.declared.fault.LineFault.TheVariants as faults
 use Rattle.wb_dialog.specs.declared.fault.Refusal.{Refusal}
 use Rattle.wb_dialog.specs.declared.fault.Refusal.TheVariants as refusals
+use Rattle.wb_dialog.specs.declared.line.Call.{Call}
 use Rattle.wb_dialog.specs.declared.line.DriverLine.{DriverLine}
-use Rattle.wb_dialog.specs.declared.line.DriverLine.TheVariants.{Script, Say, Ask, Stop, Keep, Came, Add, Version}
-use Rattle.wb_dialog.specs.Dialog.{Answer, answer_at, answered, goes_out, refuses, said_text, speaker}
+use Rattle.wb_dialog.specs.declared.line.DriverLine.TheVariants.{Script, Say, Call as Calls, Keep, Came, Add, Version}
+use Rattle.wb_dialog.specs.Dialog.{Answer, answer_at, answered, goes_out, line_of_call, refuses, said_text, speaker, told_by_call}
 use Rattle.wb_dialog.specs.Hosting.{Host, Driven, Kept, Reply, prints, denies, as_driven, begins, came_text, host_after, kept_does, kept_reply, kept_shows, reply, reply_to, seed_after, unsent_text}
 use Rattle.wb_laws_sessions.specs.Sessions.{Deed, Opens, after_deeds, sent_by_deeds}
 use Rattle.wb_laws_sessions.proofs.Several.{after_performed, sent_performed}
@@ -96,13 +97,15 @@ module _ (host : Opened) (seed : Option ℕ) where
     from true = goes_led v
     from false = tt
 
+  call_led : (call : Call) → Leads (answer_at (Calls call) host) (deeds_driven (Calls call)) (told_driven (Calls call) host)
+  call_led call = (refl, ap (λ (sent : List Datagram). sends_text sent ++ told_by_call call host) (sym (append-nil (sent_by_line (line_of_call call) host))))
+
   driven_led : (line : DriverLine) → Leads (answer_at line host) (deeds_driven line) (told_driven line host)
   driven_led (Script line) = script_led line
   driven_led (Say v) = says_led v
-  driven_led (Keep rate listen) = tt
-  driven_led (Came now v) = tt
-  driven_led (Add adding) = tt
-  driven_led line = (refl, refl)
+  driven_led (Calls call) = call_led call
+  driven_led Version = (refl, refl)
+  driven_led line = tt
 
 -- ---- at a self-managing host
 

@@ -25,7 +25,8 @@ use Rattle.wb_commands.specs.declared.command.Command.TheVariants as lines
 use Rattle.wb_words.specs.declared.adding.Adding.{Adding}
 use Rattle.wb_dialog.specs.declared.fault.Refusal.{Refusal}
 use Rattle.wb_dialog.specs.declared.line.DriverLine.{DriverLine}
-use Rattle.wb_dialog.specs.declared.line.DriverLine.TheVariants.{Script, Say, Ask, Stop, Keep, Came, Add, Version}
+use Rattle.wb_dialog.specs.declared.line.DriverLine.TheVariants.{Script, Say, Call as Calls, Keep, Came, Add}
+use Rattle.wb_dialog.specs.declared.line.Call.TheVariants.{Ask}
 use Rattle.wb_dialog.specs.Dialog.{says_line}
 use Rattle.wb_dialog.specs.Hosting.{Host, Driven, Kept, Hosting, Reply, prints, denies, host_after, hosting_after, hosting_from, kept_does, kept_reply, reply, reply_of, reply_to, unopened}
 use Rattle.wb_laws_sessions.specs.Drawn.{drawn_by}
@@ -100,8 +101,8 @@ driven_brings (Say v) fit = (says v fit, tt) where
   says : (v : Datagram) → IsDatagram v → BringsSaying v
   says (datagrams.Draw d) fit = fit
   says v fit = tt
-driven_brings (Ask name) fit = (tt, tt)
-driven_brings (Stop name) fit = (tt, tt)
+driven_brings (Calls (Ask name)) fit = (tt, tt)
+driven_brings (Calls call) fit = (tt, tt)
 driven_brings line fit = tt
 
 -- ---- lines of a policy

@@ -12,7 +12,7 @@ use Rattle.wb_member.specs.Opened.{Opened}
 use Rattle.wb_commands.specs.declared.command.Command.TheVariants as lines
 use Rattle.wb_dialog.specs.declared.fault.Refusal.{Refusal}
 use Rattle.wb_dialog.specs.declared.line.DriverLine.{DriverLine}
-use Rattle.wb_dialog.specs.declared.line.DriverLine.TheVariants.{Script, Say, Ask, Stop, Keep, Came, Add, Version}
+use Rattle.wb_dialog.specs.declared.line.DriverLine.TheVariants.{Script}
 use Rattle.wb_dialog.specs.Dialog.{says_line}
 use Rattle.wb_dialog.specs.Hosting.{Host, Driven, Kept, Hosting, reply}
 use Rattle.wb_laws_sessions.specs.Drawn.{WasDrawn, drawn_at}
