@@ -25,12 +25,13 @@ use Rattle.wb_lines.specs.Taking.{met}
 use Rattle.wb_commands.specs.Acts.{does, fails, tells}
 use Rattle.wb_commands.specs.Answers.{answer_text}
 use Rattle.wb_commands.specs.SentLines.{sends_text}
+use Rattle.wb_commands.specs.declared.command.Command.{Command}
 use Rattle.wb_commands.specs.declared.command.Command.TheVariants as lines
 use Rattle.wb_commands.specs.declared.fault.LineFault.TheVariants as faults
 use Rattle.wb_dialog.specs.declared.fault.Refusal.{Refusal}
 use Rattle.wb_dialog.specs.declared.fault.Refusal.TheVariants as refusals
 use Rattle.wb_dialog.specs.declared.line.DriverLine.{DriverLine}
-use Rattle.wb_dialog.specs.declared.line.DriverLine.TheVariants.{Script, Keep, Came, Add, Version}
+use Rattle.wb_dialog.specs.declared.line.DriverLine.TheVariants.{Script, Say, Call as Calls, Keep, Came, Add}
 use Rattle.wb_dialog.specs.Dialog.{Answer, answer_at, answered, gives, refuses, says_line}
 use Rattle.wb_dialog.specs.Hosting.{Driven, Host, Hosting, Kept, Reply, as_driven, denies, host_after, hosting_after, hosting_from, is_acting, keep_reply, kept_does, kept_reply, kept_shows, reply, reply_of, reply_to, seed_after, taken_reply, unopened}
 use Rattle.wb_dialog.specs.KeptLaws.{AddIsNotTooMany}
@@ -110,16 +111,20 @@ either_seed : (b : Bool) (seed : Option ℕ) → cond b seed seed ≡ seed
 either_seed true seed = refl
 either_seed false seed = refl
 
+script_counts : (line : Command) (host : Opened) (seed : ℕ) → MayCount host → Counts (host_after (Some (Driven host (Some seed))) (as_driven (seed_after (Script line) (Some seed)) (answer_at (Script line) host)))
+script_counts (lines.Tick now) host seed counts = ticks_count now seed host counts
+script_counts (lines.Question query) host seed counts = asks_count seed host (answer_text (answer_to query host)) counts
+script_counts lines.Skip host seed counts = counts
+script_counts (lines.Board member cells workers s) host seed counts = counts
+script_counts line host seed counts = acted host (Some seed) (answer_at (Script line) host) counts
+
 driven_counts : (line : DriverLine) (host : Opened) (seed : Option ℕ) → Counts (Some (Driven host seed)) → Counts (host_after (Some (Driven host seed)) (as_driven (seed_after line seed) (answer_at line host)))
 driven_counts line host None counts = subst (λ (s : Option ℕ). Counts (host_after (Some (Driven host None)) (as_driven s (answer_at line host)))) (sym (either_seed (is_acting line) None)) (unseeded host (answer_at line host))
-driven_counts (Script (lines.Tick now)) host (Some seed) counts = ticks_count now seed host counts
-driven_counts (Script (lines.Question query)) host (Some seed) counts = asks_count seed host (answer_text (answer_to query host)) counts
-driven_counts (Script lines.Skip) host (Some seed) counts = counts
-driven_counts (Script (lines.Board member cells workers s)) host (Some seed) counts = counts
-driven_counts (Came now v) host (Some seed) counts = counts
-driven_counts (Add adding) host (Some seed) counts = counts
-driven_counts Version host (Some seed) counts = counts
-driven_counts line host (Some seed) counts = acted host (Some seed) (answer_at line host) counts
+driven_counts (Script line) host (Some seed) counts = script_counts line host seed counts
+driven_counts (Say v) host (Some seed) counts = acted host (Some seed) (answer_at (Say v) host) counts
+driven_counts (Calls call) host (Some seed) counts = acted host (Some seed) (answer_at (Calls call) host) counts
+driven_counts (Keep rate listen) host (Some seed) counts = acted host (Some seed) (answer_at (Keep rate listen) host) counts
+driven_counts line host (Some seed) counts = counts
 
 -- ---- the first line
 

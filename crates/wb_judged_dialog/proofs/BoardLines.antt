@@ -122,8 +122,7 @@ shut tuning line read none is = tt
 
 shut_by : (tuning : Tuning) (said : Result DriverLine Refusal) (read : Result Command LineFault) → opens read ≡ None → IsRead read said → IsClosed (reply tuning None said)
 shut_by tuning (Ok (Script line)) read none is = shut tuning line read none is
-shut_by tuning (Ok Version) read none is = refl
-shut_by tuning said read none is = tt
+shut_by tuning said read none is = search
 
 -- A line that opens no board leaves a closed host closed.
 pub stays_closed : (tuning : Tuning) (line : List ℕ) (host : Option Host) (text : List ℕ) → board_in line ≡ None → reply tuning None (line_of line) ≡ prints host text → host ≡ None

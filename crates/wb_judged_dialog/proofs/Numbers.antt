@@ -10,7 +10,7 @@ use Rattle.wb_commands.specs.declared.command.Command.{Command}
 use Rattle.wb_commands.specs.declared.command.Command.TheVariants as lines
 use Rattle.wb_dialog.specs.declared.fault.Refusal.{Refusal}
 use Rattle.wb_dialog.specs.declared.line.DriverLine.{DriverLine}
-use Rattle.wb_dialog.specs.declared.line.DriverLine.TheVariants.{Script, Came, Add, Version}
+use Rattle.wb_dialog.specs.declared.line.DriverLine.TheVariants.{Script, Came, Add}
 use Rattle.wb_dialog.specs.Dialog.{Answer, gives, refuses, answer_at}
 use Rattle.wb_dialog.specs.Hosting.{Driven, Kept, Reply, prints, denies, came_text, kept_does, kept_shows, kept_reply, reply, unsent_text}
 
@@ -42,5 +42,4 @@ pub stays_kept : (tuning : Tuning) (said : Result DriverLine Refusal) (k : Keepi
 stays_kept tuning (Ok (Script line)) k = scripted line k
 stays_kept tuning (Ok (Came now v)) k = done (came_fault now v k) (came now v) (came_text v (came_as v k.host)) k
 stays_kept tuning (Ok (Add a)) k = done (add_fault a.moment a.page a.time a.op k) (adds a.moment a.page a.time a.op) (unsent_text (drawn_as a.page a.time a.op k.host)) k
-stays_kept tuning (Ok Version) k = shown (answer_at Version k.host) k
-stays_kept tuning said k = tt
+stays_kept tuning said k = search

@@ -23,7 +23,7 @@ use Rattle.wb_dialog.specs.declared.fault.Refusal.{Refusal}
 use Rattle.wb_dialog.specs.declared.fault.Refusal.TheVariants as refusals
 use Rattle.wb_dialog.specs.declared.line.Call.{Call}
 use Rattle.wb_dialog.specs.declared.line.DriverLine.{DriverLine}
-use Rattle.wb_dialog.specs.declared.line.DriverLine.TheVariants.{Script, Say, Call as Calls, Keep, Came, Add, Version}
+use Rattle.wb_dialog.specs.declared.line.DriverLine.TheVariants.{Script, Say, Call as Calls, Keep, Came, Add}
 use Rattle.wb_dialog.specs.Dialog.{Answer, answer_at, answered, goes_out, line_of_call, refuses, said_text, speaker, told_by_call}
 use Rattle.wb_dialog.specs.Hosting.{Host, Driven, Kept, Reply, prints, denies, as_driven, begins, came_text, host_after, kept_does, kept_reply, kept_shows, reply, reply_to, seed_after, unsent_text}
 use Rattle.wb_laws_sessions.specs.Sessions.{Deed, Opens, after_deeds, sent_by_deeds}
@@ -104,8 +104,7 @@ module _ (host : Opened) (seed : Option ℕ) where
   driven_led (Script line) = script_led line
   driven_led (Say v) = says_led v
   driven_led (Calls call) = call_led call
-  driven_led Version = (refl, refl)
-  driven_led line = tt
+  driven_led line = search
 
 -- ---- at a self-managing host
 
@@ -131,8 +130,7 @@ module _ (k : Keeping) where
   kept_led (Script line) = kept_script_led line
   kept_led (Came now v) = does_led (came_fault now v k) (came now v) (came_text v (came_as v k.host))
   kept_led (Add a) = does_led (add_fault a.moment a.page a.time a.op k) (adds a.moment a.page a.time a.op) (unsent_text (drawn_as a.page a.time a.op k.host))
-  kept_led Version = (refl, refl)
-  kept_led line = tt
+  kept_led line = search
 
 -- ---- at a host of either kind
 
@@ -152,8 +150,7 @@ first_led tuning member (Script (lines.Board number cells workers seed)) is = (a
   opened_as : ℕ → Opened
   opened_as n = after_deeds (Opens tuning cells seed ∷ []) (record { is = record member.is { number = n }; random = member.random })
 first_led tuning member (Script lines.Skip) is = (tt, refl)
-first_led tuning member Version is = (tt, refl)
-first_led tuning member line is = tt
+first_led tuning member line is = search
 
 pub said_led_at : (tuning : Tuning) (h : Host) (said : Result DriverLine Refusal) → Led (member_in h) (reply tuning (Some h) said) (deeds_said tuning (Some h) said) (told_said (Some h) said)
 said_led_at tuning h (Ok line) = open_led tuning h line
