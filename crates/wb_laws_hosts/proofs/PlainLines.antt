@@ -148,7 +148,7 @@ whole x p = subst (λ (t : List ℕ). All IsPlain (input_lines t)) (append-nil x
 
 -- ---- texts of words and numbers, which the rules below walk byte by byte
 
--- the rest of a line, and plain lines behind it
+-- the rest of a line, and plain lines after it
 pub record Rest (x : List ℕ) : Type 0 where
   pub line : List ℕ
   pub more : List ℕ
