@@ -10,7 +10,7 @@ use Rattle.wb_lines.specs.Input.{InputLine, input_lines}
 use Rattle.wb_lines.specs.Taking.{met, is_taken}
 use Rattle.wb_dialog.specs.declared.fault.Refusal.{Refusal}
 use Rattle.wb_dialog.specs.declared.line.DriverLine.{DriverLine}
-use Rattle.wb_dialog.specs.declared.line.DriverLine.TheVariants.{Script, Say, Ask, Stop, Keep, Came, Add, Version}
+use Rattle.wb_dialog.specs.declared.line.DriverLine.TheVariants.{Keep}
 use Rattle.wb_dialog.specs.Dialog as plain
 use Rattle.wb_dialog.specs.Dialog.{Answer, gives, refuses, answer, answer_at, answer_first, answer_of, block, says_line, answered_lines}
 use Rattle.wb_dialog.specs.Hosting as hosting
@@ -28,22 +28,9 @@ abbrev AnswersAs : plain.State → Option ℕ → Result DriverLine Refusal → 
 AnswersAs s seed said = (later : Option ℕ) × (reply s.tuning (driven_host seed s.host) said ≡ as_driven later (answer s.tuning s.host said))
 
 by_line : (tuning : Tuning) (host : Option Opened) (seed : Option ℕ) (line : DriverLine) → BeginsNoKeep (Ok line) → AnswersAs (record { tuning = tuning; host = host }) seed (Ok line)
-by_line tuning None seed (Script line) plainly = (seed_in (Script line), refl)
-by_line tuning None seed (Say v) plainly = (None, refl)
-by_line tuning None seed (Ask name) plainly = (None, refl)
-by_line tuning None seed (Stop name) plainly = (None, refl)
-by_line tuning None seed (Keep rate listen) plainly = absurd plainly
-by_line tuning None seed (Came now v) plainly = (None, refl)
-by_line tuning None seed (Add adding) plainly = (None, refl)
-by_line tuning None seed Version plainly = (None, refl)
-by_line tuning (Some host) seed (Script line) plainly = (seed_after (Script line) seed, refl)
-by_line tuning (Some host) seed (Say v) plainly = (None, refl)
-by_line tuning (Some host) seed (Ask name) plainly = (None, refl)
-by_line tuning (Some host) seed (Stop name) plainly = (None, refl)
-by_line tuning (Some host) seed (Keep rate listen) plainly = absurd plainly
-by_line tuning (Some host) seed (Came now v) plainly = (seed, refl)
-by_line tuning (Some host) seed (Add adding) plainly = (seed, refl)
-by_line tuning (Some host) seed Version plainly = (seed, refl)
+by_line tuning host seed (Keep rate listen) plainly = absurd plainly
+by_line tuning None seed line plainly = (seed_in line, refl)
+by_line tuning (Some host) seed line plainly = (seed_after line seed, refl)
 
 answers_as : (s : plain.State) (seed : Option ℕ) (said : Result DriverLine Refusal) → BeginsNoKeep said → AnswersAs s seed said
 answers_as s seed (Ok line) plainly = by_line s.tuning s.host seed line plainly
@@ -94,18 +81,11 @@ AreGiven s (line ∷ lines) = ((host : Option Opened) × (text : List ℕ) × (a
 
 -- `keep` is refused at a host that its driver drives.
 no_keep : (s : plain.State) (said : Result DriverLine Refusal) (host : Option Opened) (text : List ℕ) → answer s.tuning s.host said ≡ gives host text → BeginsNoKeep said
-no_keep s (Err e) host text given = tt
-no_keep s (Ok (Script line)) host text given = tt
-no_keep s (Ok (Say v)) host text given = tt
-no_keep s (Ok (Ask name)) host text given = tt
-no_keep s (Ok (Stop name)) host text given = tt
 no_keep s (Ok (Keep rate listen)) host text given = at s.host given where
   at : (h : Option Opened) → answer s.tuning h (Ok (Keep rate listen)) ≡ gives host text → ⊥
   at None given = absurd cc
   at (Some h) given = absurd cc
-no_keep s (Ok (Came now v)) host text given = tt
-no_keep s (Ok (Add adding)) host text given = tt
-no_keep s (Ok Version) host text given = tt
+no_keep s said host text given = tt
 
 none_begins : (s : plain.State) (lines : List InputLine) → AreGiven s lines → NoneBegins lines
 none_begins s [] given = tt

@@ -45,11 +45,9 @@ pub record IsUnknown (word : List ℕ) : Type 0 where
   pub script : (arguments : List (List ℕ)) → line_of_words (word ∷ arguments) ≡ Err faults.Unknown
   pub kind : is_kind word ≡ false
 
--- the words that begin a line of a driver alone
+-- the words of a line of a driver that are looked for before those of a script
 pub record AreUnknown : Type 0 where
   pub say : IsUnknown (codes "say")
-  pub ask : IsUnknown (codes "ask")
-  pub stop : IsUnknown (codes "stop")
   pub keep : IsUnknown (codes "keep")
   pub came : IsUnknown (codes "came")
   pub add : IsUnknown (codes "add")
@@ -59,8 +57,6 @@ pub unknown : AreUnknown
 unfolding command page_line question is_kind
 unknown = record {
   say = record { script = λ arguments. refl; kind = refl };
-  ask = record { script = λ arguments. refl; kind = refl };
-  stop = record { script = λ arguments. refl; kind = refl };
   keep = record { script = λ arguments. refl; kind = refl };
   came = record { script = λ arguments. refl; kind = refl };
   add = record { script = λ arguments. refl; kind = refl };

@@ -25,12 +25,13 @@ use Rattle.wb_lines.specs.Taking.{met}
 use Rattle.wb_commands.specs.Acts.{does, fails, tells}
 use Rattle.wb_commands.specs.Answers.{answer_text}
 use Rattle.wb_commands.specs.SentLines.{sends_text}
+use Rattle.wb_commands.specs.declared.command.Command.{Command}
 use Rattle.wb_commands.specs.declared.command.Command.TheVariants as lines
 use Rattle.wb_commands.specs.declared.fault.LineFault.TheVariants as faults
 use Rattle.wb_dialog.specs.declared.fault.Refusal.{Refusal}
 use Rattle.wb_dialog.specs.declared.fault.Refusal.TheVariants as refusals
 use Rattle.wb_dialog.specs.declared.line.DriverLine.{DriverLine}
-use Rattle.wb_dialog.specs.declared.line.DriverLine.TheVariants.{Script, Say, Ask, Stop, Keep, Came, Add, Version}
+use Rattle.wb_dialog.specs.declared.line.DriverLine.TheVariants.{Script, Say, Call as Calls, Keep, Came, Add}
 use Rattle.wb_dialog.specs.Dialog.{Answer, answer_at, answered, gives, refuses, says_line}
 use Rattle.wb_dialog.specs.Hosting.{Driven, Host, Hosting, Kept, Reply, as_driven, denies, host_after, hosting_after, hosting_from, is_acting, keep_reply, kept_does, kept_reply, kept_shows, reply, reply_of, reply_to, seed_after, taken_reply, unopened}
 use Rattle.wb_dialog.specs.KeptLaws.{AddIsNotTooMany}
@@ -49,8 +50,6 @@ Counts (Some (Kept k)) = MayCount k.host
 -- ---- cells stay
 
 cells_line : (line : Line) (host : Opened) → (after_line line host).is.cells ≡ host.is.cells
-cells_line (Ticks now) host = refl
-cells_line (Arrives d) host = refl
 cells_line (Hears v) host = by (has_room_for v host) where
   by : (b : Bool) → (cond b (heard v host) host).is.cells ≡ host.is.cells
   by true = refl
@@ -59,14 +58,8 @@ cells_line (Asks name) host = by (may_ask name host) where
   by : (b : Bool) → (cond b (doing (Misses (present host) (name ∷ []) (word_of host.random ∷ [])) 1 host) host).is.cells ≡ host.is.cells
   by true = refl
   by false = refl
-cells_line (Stops name) host = refl
-cells_line (SetsDistance source micros) host = refl
-cells_line (Tunes constants) host = refl
 cells_line (Says (datagrams.Draw d)) host = refl
-cells_line (Says (datagrams.Session sender sent page marks echoes)) host = refl
-cells_line (Says (datagrams.Request asker name)) host = refl
-cells_line (Says (datagrams.AskPages asker)) host = refl
-cells_line (Says (datagrams.PageState sender page marks)) host = refl
+cells_line line host = refl
 
 cells_lines : (ls : List Line) (host : Opened) → (after_lines ls host).is.cells ≡ host.is.cells
 cells_lines [] host = refl
@@ -88,19 +81,8 @@ kept_counts (Script (lines.Tick now)) k counts = does_count (Ticked now) [] k _ 
 kept_counts (Script (lines.Tune constants)) k counts = λ few. bounded_line (Tunes constants) k.host (counts few) tt
 kept_counts (Came now v) k counts = does_count (CameIn now v) _ k _ refl counts
 kept_counts (Add a) k counts = does_count (Added a.moment a.page a.time a.op) _ k _ refl counts
-kept_counts (Script lines.Skip) k counts = counts
-kept_counts (Script (lines.Board member cells workers seed)) k counts = counts
-kept_counts (Script (lines.Arrive d)) k counts = counts
-kept_counts (Script (lines.Hear v)) k counts = counts
-kept_counts (Script (lines.Distance source micros)) k counts = counts
-kept_counts (Script (lines.Look page)) k counts = counts
-kept_counts (Script (lines.Session page)) k counts = counts
 kept_counts (Script (lines.Question query)) k counts = shows_count k (answer_at (Script (lines.Question query)) k.host) counts
-kept_counts (Say v) k counts = counts
-kept_counts (Ask name) k counts = counts
-kept_counts (Stop name) k counts = counts
-kept_counts (Keep rate listen) k counts = counts
-kept_counts Version k counts = counts
+kept_counts line k counts = counts
 
 -- ---- a host that its driver drives
 
@@ -129,46 +111,26 @@ either_seed : (b : Bool) (seed : Option ℕ) → cond b seed seed ≡ seed
 either_seed true seed = refl
 either_seed false seed = refl
 
+script_counts : (line : Command) (host : Opened) (seed : ℕ) → MayCount host → Counts (host_after (Some (Driven host (Some seed))) (as_driven (seed_after (Script line) (Some seed)) (answer_at (Script line) host)))
+script_counts (lines.Tick now) host seed counts = ticks_count now seed host counts
+script_counts (lines.Question query) host seed counts = asks_count seed host (answer_text (answer_to query host)) counts
+script_counts lines.Skip host seed counts = counts
+script_counts (lines.Board member cells workers s) host seed counts = counts
+script_counts line host seed counts = acted host (Some seed) (answer_at (Script line) host) counts
+
 driven_counts : (line : DriverLine) (host : Opened) (seed : Option ℕ) → Counts (Some (Driven host seed)) → Counts (host_after (Some (Driven host seed)) (as_driven (seed_after line seed) (answer_at line host)))
 driven_counts line host None counts = subst (λ (s : Option ℕ). Counts (host_after (Some (Driven host None)) (as_driven s (answer_at line host)))) (sym (either_seed (is_acting line) None)) (unseeded host (answer_at line host))
-driven_counts (Script (lines.Tick now)) host (Some seed) counts = ticks_count now seed host counts
-driven_counts (Script lines.Skip) host (Some seed) counts = counts
-driven_counts (Script (lines.Board member cells workers s)) host (Some seed) counts = counts
-driven_counts (Script (lines.Arrive d)) host (Some seed) counts = acted host (Some seed) (answer_at (Script (lines.Arrive d)) host) counts
-driven_counts (Script (lines.Hear v)) host (Some seed) counts = acted host (Some seed) (answer_at (Script (lines.Hear v)) host) counts
-driven_counts (Script (lines.Distance source micros)) host (Some seed) counts = acted host (Some seed) (answer_at (Script (lines.Distance source micros)) host) counts
-driven_counts (Script (lines.Tune constants)) host (Some seed) counts = acted host (Some seed) (answer_at (Script (lines.Tune constants)) host) counts
-driven_counts (Script (lines.Look page)) host (Some seed) counts = acted host (Some seed) (answer_at (Script (lines.Look page)) host) counts
-driven_counts (Script (lines.Session page)) host (Some seed) counts = acted host (Some seed) (answer_at (Script (lines.Session page)) host) counts
-driven_counts (Script (lines.Question query)) host (Some seed) counts = asks_count seed host (answer_text (answer_to query host)) counts
+driven_counts (Script line) host (Some seed) counts = script_counts line host seed counts
 driven_counts (Say v) host (Some seed) counts = acted host (Some seed) (answer_at (Say v) host) counts
-driven_counts (Ask name) host (Some seed) counts = acted host (Some seed) (answer_at (Ask name) host) counts
-driven_counts (Stop name) host (Some seed) counts = acted host (Some seed) (answer_at (Stop name) host) counts
+driven_counts (Calls call) host (Some seed) counts = acted host (Some seed) (answer_at (Calls call) host) counts
 driven_counts (Keep rate listen) host (Some seed) counts = acted host (Some seed) (answer_at (Keep rate listen) host) counts
-driven_counts (Came now v) host (Some seed) counts = counts
-driven_counts (Add adding) host (Some seed) counts = counts
-driven_counts Version host (Some seed) counts = counts
+driven_counts line host (Some seed) counts = counts
 
 -- ---- the first line
 
 opened_counts : (tuning : Tuning) (line : DriverLine) → Counts (host_after None (taken_reply tuning None line))
 opened_counts tuning (Script (lines.Board member cells workers seed)) = λ few. bounded_open tuning member cells seed few
-opened_counts tuning (Script lines.Skip) = tt
-opened_counts tuning (Script (lines.Arrive d)) = tt
-opened_counts tuning (Script (lines.Hear v)) = tt
-opened_counts tuning (Script (lines.Distance source micros)) = tt
-opened_counts tuning (Script (lines.Tick now)) = tt
-opened_counts tuning (Script (lines.Tune constants)) = tt
-opened_counts tuning (Script (lines.Look page)) = tt
-opened_counts tuning (Script (lines.Session page)) = tt
-opened_counts tuning (Script (lines.Question query)) = tt
-opened_counts tuning (Say v) = tt
-opened_counts tuning (Ask name) = tt
-opened_counts tuning (Stop name) = tt
-opened_counts tuning (Keep rate listen) = tt
-opened_counts tuning (Came now v) = tt
-opened_counts tuning (Add adding) = tt
-opened_counts tuning Version = tt
+opened_counts tuning line = tt
 
 -- ---- lines
 
@@ -185,13 +147,7 @@ taken_counts tuning (Some (Kept k)) line counts = kept_counts line k counts
 
 line_counts : (tuning : Tuning) (h : Option Host) (line : DriverLine) → Counts h → Counts (host_after h (reply_to tuning h line))
 line_counts tuning h (Keep rate listen) counts = keeps_counting rate listen h counts
-line_counts tuning h (Script line) counts = taken_counts tuning h (Script line) counts
-line_counts tuning h (Say v) counts = taken_counts tuning h (Say v) counts
-line_counts tuning h (Ask name) counts = taken_counts tuning h (Ask name) counts
-line_counts tuning h (Stop name) counts = taken_counts tuning h (Stop name) counts
-line_counts tuning h (Came now v) counts = taken_counts tuning h (Came now v) counts
-line_counts tuning h (Add adding) counts = taken_counts tuning h (Add adding) counts
-line_counts tuning h Version counts = taken_counts tuning h Version counts
+line_counts tuning h line counts = taken_counts tuning h line counts
 
 said_counts : (tuning : Tuning) (h : Option Host) (said : Result DriverLine Refusal) → Counts h → Counts (host_after h (reply tuning h said))
 said_counts tuning h (Ok line) counts = line_counts tuning h line counts

@@ -7,7 +7,7 @@ use Rattle.wb_words.specs.Words.{split_once}
 use Rattle.wb_commands.specs.declared.command.Command.{Command}
 use Rattle.wb_commands.specs.Parsing.{line_of as script_line_of}
 use Rattle.wb_dialog.specs.declared.line.DriverLine.TheVariants.{Script}
-use Rattle.wb_dialog.specs.Lines.{by_words, said_part, added_part, command, question, script_or, line_of_words, line_behind}
+use Rattle.wb_dialog.specs.Lines.{by_words, said_part, added_part, call, command, question, script_or, line_of_words, line_behind}
 use Rattle.wb_dialog.specs.Laws.{ScriptLinesAreRead}
 use Rattle.wb_dialog.proofs.FirstWords.{IsUnknown, unknown, begins_other, first_and, words_split, opens_other}
 
@@ -18,13 +18,11 @@ as_script line word arguments l e is =
     let other : (opener : List ℕ) → IsUnknown opener → bytes_eq word opener ≡ false = λ opener none. begins_other opener line word arguments l none is e in
     rw (
       other (codes "say") unknown.say,
-      other (codes "ask") unknown.ask,
-      other (codes "stop") unknown.stop,
       other (codes "keep") unknown.keep,
       other (codes "came") unknown.came,
       other (codes "add") unknown.add,
       other (codes "version") unknown.version,
-    ) (ap (script_or (question word arguments)) e)
+    ) (ap (script_or (question word arguments) (call word arguments)) e)
 
 by_its_words : (line : List ℕ) (l : Command) → script_line_of line ≡ Ok l → line_of_words line (words line) ≡ Ok (Script l)
 by_its_words line l e = at (words line) refl where

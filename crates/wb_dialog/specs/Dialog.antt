@@ -14,12 +14,15 @@ use Rattle.wb_commands.specs.declared.command.Command.{Command}
 use Rattle.wb_commands.specs.declared.command.Command.TheVariants as lines
 use Rattle.wb_commands.specs.declared.fault.LineFault.TheVariants as faults
 use Rattle.wb_commands.specs.Answers.{batch_line}
-use Rattle.wb_commands.specs.SentLines.{send_line}
+use Rattle.wb_commands.specs.SentLines.{send_line, sends_text}
 use Rattle.wb_commands.specs.Acts.{Act, does, fails, act}
-use Rattle.wb_member.specs.Opened.{Opened, opened_with, becomes, accepted, next_due, may_ask, with_asked, asks_for, with_stopped, by_host}
+use Rattle.wb_member.specs.Lines.{Line, Asks, Stops, after_line, sent_by_line}
+use Rattle.wb_member.specs.Opened.{Opened, opened_with, becomes, accepted, next_due, may_ask, asks_for, by_host}
 use Rattle.wb_dialog.specs.declared.line.TheConstants.{LINES_VERSION}
+use Rattle.wb_dialog.specs.declared.line.Call.{Call}
+use Rattle.wb_dialog.specs.declared.line.Call.TheVariants.{Ask, Stop}
 use Rattle.wb_dialog.specs.declared.line.DriverLine.{DriverLine}
-use Rattle.wb_dialog.specs.declared.line.DriverLine.TheVariants.{Script, Say, Ask, Stop, Keep, Came, Add, Version}
+use Rattle.wb_dialog.specs.declared.line.DriverLine.TheVariants.{Script, Say, Call as Calls, Keep, Came, Add, Version}
 use Rattle.wb_dialog.specs.declared.fault.Refusal.{Refusal}
 use Rattle.wb_dialog.specs.declared.fault.Refusal.TheVariants as refusals
 use Rattle.wb_dialog.specs.Refusals.{refusal_text}
@@ -86,6 +89,19 @@ ask_line begun = if begun then codes "ask 1\n" else codes "ask 0\n"
 abbrev pub stop_line : Bool → List ℕ
 stop_line asked = if asked then codes "stop 1\n" else codes "stop 0\n"
 
+-- which line of a member a call is
+abbrev pub line_of_call : Call → Line
+line_of_call (Ask name) = Asks name
+line_of_call (Stop name) = Stops name
+
+-- what it prints beside the datagrams that the member sends
+abbrev pub told_by_call : Call → Opened → List ℕ
+told_by_call (Ask name) host = ask_line (may_ask name host)
+told_by_call (Stop name) host = stop_line (asks_for name host)
+
+abbrev pub call_answer : Call → Opened → Answer
+call_answer call host = gives (Some (after_line (line_of_call call) host)) (sends_text (sent_by_line (line_of_call call) host) ++ told_by_call call host)
+
 -- the number of the lines
 abbrev pub version_line : List ℕ
 version_line = codes "version " ++ (decimal LINES_VERSION ++ codes "\n")
@@ -96,8 +112,7 @@ version_line = codes "version " ++ (decimal LINES_VERSION ++ codes "\n")
 abbrev pub answer_at : DriverLine → Opened → Answer
 answer_at (Script line) host = script_answer line host
 answer_at (Say v) host = says v host
-answer_at (Ask name) host = gives (Some (with_asked name host)) (ask_line (may_ask name host))
-answer_at (Stop name) host = gives (Some (with_stopped name host)) (stop_line (asks_for name host))
+answer_at (Calls call) host = call_answer call host
 answer_at (Keep rate listen) host = refuses refusals.TooLate
 answer_at (Came now v) host = refuses refusals.NotKept
 answer_at (Add adding) host = refuses refusals.NotKept

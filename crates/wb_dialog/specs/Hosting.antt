@@ -29,7 +29,7 @@ use Rattle.wb_commands.specs.declared.fault.LineFault.TheVariants as faults
 use Rattle.wb_dialog.specs.declared.fault.Refusal.{Refusal}
 use Rattle.wb_dialog.specs.declared.fault.Refusal.TheVariants as refusals
 use Rattle.wb_dialog.specs.declared.line.DriverLine.{DriverLine}
-use Rattle.wb_dialog.specs.declared.line.DriverLine.TheVariants.{Script, Say, Ask, Stop, Keep, Came, Add}
+use Rattle.wb_dialog.specs.declared.line.DriverLine.TheVariants.{Script, Say, Call as Calls, Keep, Came, Add}
 use Rattle.wb_dialog.specs.Dialog.{Answer, gives, refuses, answer_at, answer_first, batch_of, ok_line, refused_line, says_line, answered_lines}
 
 -- A host, once its board is open. If its driver judges, it may become self-managing, with the seed of its board, until a line
@@ -58,8 +58,7 @@ acts_in_script line = false
 abbrev pub is_acting : DriverLine → Bool
 is_acting (Script line) = acts_in_script line
 is_acting (Say v) = true
-is_acting (Ask name) = true
-is_acting (Stop name) = true
+is_acting (Calls call) = true
 is_acting (Keep rate listen) = true
 is_acting line = false
 

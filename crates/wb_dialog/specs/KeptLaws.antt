@@ -17,7 +17,8 @@ use Rattle.wb_lines.specs.Input.{InputLine}
 use Rattle.wb_words.specs.declared.adding.Adding.{Adding}
 use Rattle.wb_recovery.specs.declared.tuning.Tuning.{Tuning}
 use Rattle.wb_dialog.specs.declared.fault.Refusal.TheVariants as refusals
-use Rattle.wb_dialog.specs.declared.line.DriverLine.TheVariants.{Script, Say, Ask, Stop, Add}
+use Rattle.wb_dialog.specs.declared.line.DriverLine.TheVariants.{Script, Say, Call as Calls, Add}
+use Rattle.wb_dialog.specs.declared.line.Call.TheVariants.{Ask, Stop}
 use Rattle.wb_dialog.specs.Dialog.{after, answer_at, ask_line, batch_of, stop_line}
 use Rattle.wb_dialog.specs.Doing.{text_of}
 use Rattle.wb_dialog.specs.Hosting.{Kept, denies, hosting_from, kept_reply, unopened, unsent_text}
@@ -27,8 +28,8 @@ abbrev pub driver_line : Line → DriverLine
 driver_line (Ticks now) = Script (lines.Tick now)
 driver_line (Arrives d) = Script (lines.Arrive d)
 driver_line (Hears v) = Script (lines.Hear v)
-driver_line (Asks name) = Ask name
-driver_line (Stops name) = Stop name
+driver_line (Asks name) = Calls (Ask name)
+driver_line (Stops name) = Calls (Stop name)
 driver_line (SetsDistance source micros) = Script (lines.Distance source micros)
 driver_line (Tunes constants) = Script (lines.Tune constants)
 driver_line (Says v) = Say v

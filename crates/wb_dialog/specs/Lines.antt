@@ -22,8 +22,10 @@ use Rattle.wb_commands.specs.declared.fault.LineFault.TheVariants as faults
 use Rattle.wb_commands.specs.declared.fault.Untaken.{Untaken}
 use Rattle.wb_commands.specs.declared.fault.Untaken.TheVariants as untaken
 use Rattle.wb_commands.specs.Parsing.{or_fault, number, none_of, two_of, four_of, page, datagram, ◌>>=◌, line_of as script_line_of, IsWithin as IsScriptWithin}
+use Rattle.wb_dialog.specs.declared.line.Call.{Call}
+use Rattle.wb_dialog.specs.declared.line.Call.TheVariants.{Ask, Stop}
 use Rattle.wb_dialog.specs.declared.line.DriverLine.{DriverLine}
-use Rattle.wb_dialog.specs.declared.line.DriverLine.TheVariants.{Script, Say, Ask, Stop, Keep, Came, Add, Version}
+use Rattle.wb_dialog.specs.declared.line.DriverLine.TheVariants.{Script, Say, Call as Calls, Keep, Came, Add, Version}
 use Rattle.wb_dialog.specs.declared.fault.Refusal.{Refusal}
 use Rattle.wb_dialog.specs.declared.fault.Refusal.TheVariants as refusals
 use Rattle.wb_dialog.specs.declared.fault.Unanswered.{Unanswered}
@@ -67,11 +69,24 @@ question word arguments =
 abbrev pub asks : Query → DriverLine
 asks query = Script (lines.Question query)
 
--- a line of a script; if no script has such a line, a question
-abbrev pub script_or : Result Query LineFault → Result Command LineFault → Result DriverLine Refusal
-script_or query (Ok line) = Ok (Script line)
-script_or query (Err faults.Unknown) = by_words asks query
-script_or query (Err e) = Err (refusals.Line e)
+-- what the member is to do, by this first word
+unfoldable pub call : List ℕ → List (List ℕ) → Result Call LineFault
+call word arguments =
+    if bytes_eq word (codes "ask") then name arguments >>= (λ n. Ok (Ask n))
+    else (if bytes_eq word (codes "stop") then name arguments >>= (λ n. Ok (Stop n))
+    else Err faults.Unknown)
+
+-- a call; if none has this word, a question
+abbrev pub call_or : Result Query LineFault → Result Call LineFault → Result DriverLine Refusal
+call_or query (Ok call) = Ok (Calls call)
+call_or query (Err faults.Unknown) = by_words asks query
+call_or query (Err e) = Err (refusals.Line e)
+
+-- a line of a script; if no script has such a line, a call or a question
+abbrev pub script_or : Result Query LineFault → Result Call LineFault → Result Command LineFault → Result DriverLine Refusal
+script_or query call (Ok line) = Ok (Script line)
+script_or query call (Err faults.Unknown) = call_or query call
+script_or query call (Err e) = Err (refusals.Line e)
 
 -- the rate of reports, and for how long nothing is added
 unfoldable pub keep_line : List (List ℕ) → Result DriverLine LineFault
@@ -97,18 +112,16 @@ came_line arguments = do
   v ← datagram (words_behind arguments)
   Ok (Came now v)
 
--- The line with this first word and these further ones. One that is not a driver's own is a script's, or a question. What follows
+-- The line with this first word and these further ones. One that is none of these is a script's, a call or a question. What follows
 -- `say` or `add` begins one space after it, so if it does not, it is wrong.
 unfoldable pub command : List ℕ → List ℕ → List (List ℕ) → Result DriverLine Refusal
 command line word arguments =
     if bytes_eq word (codes "say") then Err (refusals.Line faults.Words)
-    else (if bytes_eq word (codes "ask") then by_words Ask (name arguments)
-    else (if bytes_eq word (codes "stop") then by_words Stop (name arguments)
     else (if bytes_eq word (codes "keep") then by_words (λ line. line) (keep_line arguments)
     else (if bytes_eq word (codes "came") then by_words (λ line. line) (came_line arguments)
     else (if bytes_eq word (codes "add") then Err (refusals.Line faults.Words)
     else (if bytes_eq word (codes "version") then by_words (λ nothing. Version) (or_fault faults.Words (none_of arguments))
-    else script_or (question word arguments) (script_line_of line)))))))
+    else script_or (question word arguments) (call word arguments) (script_line_of line)))))
 
 abbrev pub line_of_words : List ℕ → List (List ℕ) → Result DriverLine Refusal
 line_of_words line [] = by_words Script (script_line_of line)
@@ -140,13 +153,10 @@ line_of line = line_behind line (said_part (split_once 32 line)) (added_part (sp
 -- what a line of a script carries is in its range
 abbrev pub IsWithin : DriverLine → Type 0
 IsWithin (Script line) = IsScriptWithin line
-IsWithin (Say v) = Unit {0}
-IsWithin (Ask n) = Unit {0}
-IsWithin (Stop n) = Unit {0}
 IsWithin (Keep rate listen) = (1 ≤ rate) × (listen < 2 ^ 32)
 IsWithin (Came now v) = IsMoment now
 IsWithin (Add adding) = IsMoment adding.moment
-IsWithin Version = Unit {0}
+IsWithin line = Unit {0}
 
 -- why a line of a script was not parsed
 abbrev pub unanswered_by : Untaken → Unanswered

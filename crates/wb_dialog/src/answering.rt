@@ -5,12 +5,12 @@ ghost use Rattle.wb_commands.specs.Acts.{act};
 ghost use Rattle.wb_commands.specs.Parsing.{IsWithin as IsScriptWithin};
 ghost use Rattle.wb_dialog.specs.Lines.{IsWithin};
 ghost use Rattle.wb_commands.specs.SentLines.{send_line};
-ghost use Rattle.wb_dialog.specs.Dialog.{answered, arrives, batch_of, goes_out, speaker, says, script_answer, answer_at};
+ghost use Rattle.wb_dialog.specs.Dialog.{answered, arrives, batch_of, goes_out, speaker, says, script_answer, call_answer, answer_at};
 ghost use Rattle.wb_dialog.specs.Doing.{DoesAt, Adds};
 
 use crate::blocks::{ask_line, print_version, stop_line};
 use crate::fault::{Refusal, Unanswered};
-use crate::line::DriverLine;
+use crate::line::{Call, DriverLine};
 use std::alloc::{AllocError, Global};
 use wb_board::Reply;
 use wb_codec::Datagram;
@@ -149,7 +149,7 @@ fn say(
     go_out(alloc, member, datagram, output)
 }
 
-/// It begins to ask for a name.
+/// The member begins to ask for a name.
 fn ask(
     alloc: Global,
     member: &mut Member,
@@ -157,7 +157,7 @@ fn ask(
     output: &mut Output,
 ) -> Result<(), Unanswered>
     ensures text { Adds output.old output.new (λ written.
-        DoesAt member.old member.new written result (answer_at (DriverLine.Ask name.now))) }
+        DoesAt member.old member.new written result (call_answer (Call.Ask name.now))) }
 {
     let begun = member.ask(alloc, name)?;
     output.add(ask_line(begun))?;
@@ -167,11 +167,27 @@ fn ask(
 /// It gives up asking for a name.
 fn stop(member: &mut Member, name: &Name, output: &mut Output) -> Result<(), Unanswered>
     ensures text { Adds output.old output.new (λ written.
-        DoesAt member.old member.new written result (answer_at (DriverLine.Stop name.now))) }
+        DoesAt member.old member.new written result (call_answer (Call.Stop name.now))) }
 {
     let asked = member.stop(name);
     output.add(stop_line(asked))?;
     Ok(())
+}
+
+/// The member does what it is called to do.
+fn perform(
+    alloc: Global,
+    member: &mut Member,
+    call: &Call,
+    output: &mut Output,
+) -> Result<(), Unanswered>
+    ensures text { Adds output.old output.new (λ written.
+        DoesAt member.old member.new written result (call_answer call.now)) }
+{
+    match call {
+        Call::Ask(name) => ask(alloc, member, name, output),
+        Call::Stop(name) => stop(member, name, output),
+    }
 }
 
 /// It says the number of the lines.
@@ -198,8 +214,7 @@ pub(crate) fn answer(
     match line {
         DriverLine::Script(line) => script(alloc, member, line, output),
         DriverLine::Say(datagram) => say(alloc, member, datagram, output),
-        DriverLine::Ask(name) => ask(alloc, member, name, output),
-        DriverLine::Stop(name) => stop(member, name, output),
+        DriverLine::Call(call) => perform(alloc, member, call, output),
         DriverLine::Version => version(member, output),
         DriverLine::Keep { .. } => Err(Unanswered::Refused(Refusal::TooLate)),
         DriverLine::Came { .. } => Err(Unanswered::Refused(Refusal::NotKept)),

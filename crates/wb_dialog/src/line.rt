@@ -8,6 +8,15 @@ use wb_words::Adding;
 /// a driver of the number before would no longer write, or read, as it did.
 pub const LINES_VERSION: u32 = 1;
 
+/// What a driver has a member do that no script does. It is never refused.
+#[derive(Debug, Drop)]
+pub enum Call {
+    /// `ask C N SOURCE NUMBER` begins to miss a drawop.
+    Ask(Name),
+    /// `stop C N SOURCE NUMBER` gives up asking for a drawop.
+    Stop(Name),
+}
+
 /// A line of a driver, with its words as fields.
 #[derive(Debug, Drop)]
 pub enum DriverLine {
@@ -17,10 +26,8 @@ pub enum DriverLine {
     Script(Command),
     /// `say WORDS`: a datagram of ours is to go out.
     Say(Datagram),
-    /// `ask C N SOURCE NUMBER` begins to miss a drawop.
-    Ask(Name),
-    /// `stop C N SOURCE NUMBER` gives up asking for a drawop.
-    Stop(Name),
+    /// A driven host has its member do this.
+    Call(Call),
     /// `keep RATE LISTEN`: from now on the host is self-managing. The reports of all members
     /// together take RATE bytes a second, and for LISTEN microseconds nothing is added.
     Keep { rate: u32, listen: u32 },

@@ -53,8 +53,7 @@ pub(crate) fn is_acting(line: &DriverLine) -> bool
     match line {
         DriverLine::Script(line) => acts_in_script(line),
         DriverLine::Say(_) => true,
-        DriverLine::Ask(_) => true,
-        DriverLine::Stop(_) => true,
+        DriverLine::Call(_) => true,
         DriverLine::Keep { .. } => true,
         _ => false,
     }

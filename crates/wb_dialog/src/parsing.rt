@@ -9,10 +9,10 @@ ghost use Rattle.wb_words.specs.Reading.{reading as reading_words};
 ghost use Rattle.wb_lines.specs.Words.{words};
 ghost use Rattle.wb_member.specs.Questions.{IsAnswerable};
 ghost use Rattle.wb_commands.specs.Parsing.{line_of as script_line_of};
-ghost use Rattle.wb_dialog.specs.Lines.{Parses, IsWithin, by_words, unanswered_by, unanswered_words, part_behind, said_by, added_by, name, command, keep_line, question, script_or, moment_of, came_line, line_of_words, line_of};
+ghost use Rattle.wb_dialog.specs.Lines.{Parses, IsWithin, by_words, unanswered_by, unanswered_words, part_behind, said_by, added_by, name, call, command, keep_line, question, call_or, script_or, moment_of, came_line, line_of_words, line_of};
 
 use crate::fault::{Refusal, Unanswered};
-use crate::line::DriverLine;
+use crate::line::{Call, DriverLine};
 use std::alloc::Global;
 use wb_commands::{
     Command, LineFault, Untaken, datagram, four_words, no_words, number_word, page, parse_line,
@@ -122,12 +122,6 @@ fn command(alloc: Global, line: &[u8], word: &[u8], rest: &[u8]) -> Result<Drive
     if is_word(word, b"say") {
         return Err(Unanswered::Refused(Refusal::Line(LineFault::Words)));
     }
-    if is_word(word, b"ask") {
-        return Ok(DriverLine::Ask(name(rest)?));
-    }
-    if is_word(word, b"stop") {
-        return Ok(DriverLine::Stop(name(rest)?));
-    }
     if is_word(word, b"keep") {
         return Ok(keep_line(rest)?);
     }
@@ -141,7 +135,21 @@ fn command(alloc: Global, line: &[u8], word: &[u8], rest: &[u8]) -> Result<Drive
         no_words(rest).ok_or(LineFault::Words)?;
         return Ok(DriverLine::Version);
     }
-    script_or_question(alloc, line, word, rest)
+    script_or_own(alloc, line, word, rest)
+}
+
+/// What the member is to do, by this first word.
+#[tactic(auto, unfolding(crate::specs::Lines::call))]
+fn call(word: &[u8], rest: &[u8]) -> Result<Call, LineFault>
+    ensures { result ≡ call word.now (words rest.now) }
+{
+    if is_word(word, b"ask") {
+        return Ok(Call::Ask(name(rest)?));
+    }
+    if is_word(word, b"stop") {
+        return Ok(Call::Stop(name(rest)?));
+    }
+    Err(LineFault::Unknown)
 }
 
 /// The question with this first word that no script asks.
@@ -163,23 +171,37 @@ fn question(word: &[u8], rest: &[u8]) -> Result<Query, LineFault>
     Err(LineFault::Unknown)
 }
 
-/// A line of a script, or, if no script has such a line, a question.
-fn script_or_question(
+/// What the member is to do, or, if no call has this word, a question.
+fn call_or_question(word: &[u8], rest: &[u8]) -> Result<DriverLine, Unanswered>
+    ensures line { Parses result
+        (call_or (question word.now (words rest.now)) (call word.now (words rest.now))) }
+    ensures within { IfOk result IsWithin }
+{
+    match call(word, rest) {
+        Ok(call) => Ok(DriverLine::Call(call)),
+        Err(LineFault::Unknown) => {
+            let query = question(word, rest)?;
+            Ok(DriverLine::Script(Command::Question(query)))
+        }
+        Err(fault) => Err(Unanswered::Refused(Refusal::Line(fault))),
+    }
+}
+
+/// A line of a script, or, if no script has such a line, a call or a question.
+fn script_or_own(
     alloc: Global,
     line: &[u8],
     word: &[u8],
     rest: &[u8],
 ) -> Result<DriverLine, Unanswered>
     ensures line { Parses result
-        (script_or (question word.now (words rest.now)) (script_line_of line.now)) }
+        (script_or (question word.now (words rest.now)) (call word.now (words rest.now))
+        (script_line_of line.now)) }
     ensures within { IfOk result IsWithin }
 {
     match parse_line(alloc, line) {
         Ok(line) => Ok(DriverLine::Script(line)),
-        Err(Untaken::Line(LineFault::Unknown)) => {
-            let query = question(word, rest)?;
-            Ok(DriverLine::Script(Command::Question(query)))
-        }
+        Err(Untaken::Line(LineFault::Unknown)) => call_or_question(word, rest),
         Err(fault) => Err(refused(fault)),
     }
 }

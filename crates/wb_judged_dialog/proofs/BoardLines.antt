@@ -15,11 +15,12 @@ use Rattle.wb_commands.specs.declared.fault.LineFault.{LineFault}
 use Rattle.wb_commands.specs.declared.fault.LineFault.TheVariants as faults
 use Rattle.wb_commands.specs.Parsing as script
 use Rattle.wb_commands.specs.Parsing.{line_of as script_line_of, datagram, number, or_fault, ◌>>=◌}
+use Rattle.wb_dialog.specs.declared.line.Call.{Call}
 use Rattle.wb_dialog.specs.declared.line.DriverLine.{DriverLine}
-use Rattle.wb_dialog.specs.declared.line.DriverLine.TheVariants.{Script, Say, Ask, Stop, Keep, Came, Add, Version}
+use Rattle.wb_dialog.specs.declared.line.DriverLine.TheVariants.{Script, Say, Keep, Came, Add, Version}
 use Rattle.wb_dialog.specs.declared.fault.Refusal.{Refusal}
 use Rattle.wb_dialog.specs.Hosting.{Host, Reply, prints, denies, reply}
-use Rattle.wb_dialog.specs.Lines.{added_part, by_words, command, in_words, keep_line, came_line, moment_of, words_behind, line_behind, line_of, line_of_words, name, question, said_part, script_or}
+use Rattle.wb_dialog.specs.Lines.{added_part, by_words, call, call_or, command, in_words, keep_line, came_line, moment_of, words_behind, line_behind, line_of, line_of_words, question, said_part, script_or}
 use Rattle.wb_dialog.proofs.ScriptLines.{script_lines_are_read}
 use Rattle.wb_judged_dialog.specs.declared.beginning.Board.{Board}
 use Rattle.wb_judged_dialog.specs.Dialog.{board_in, opens}
@@ -46,33 +47,22 @@ step (Ok a) f h = h a
 step (Err e) f h = tt
 
 script_read : (line : Command) → IsRead (Ok line) (Ok (Script line))
-script_read lines.Skip = refl
-script_read (lines.Board member cells workers seed) = refl
-script_read (lines.Arrive d) = refl
-script_read (lines.Hear v) = refl
-script_read (lines.Distance source micros) = refl
-script_read (lines.Tune constants) = refl
-script_read (lines.Tick now) = refl
-script_read (lines.Look page) = refl
-script_read (lines.Session page) = refl
 script_read (lines.Question query) = tt
+script_read line = refl
 
 by_read : (r : Result Command LineFault) → IsRead r (by_words Script r)
 by_read (Ok line) = script_read line
 by_read (Err e) = tt
 
-or_read : (query : Result Query LineFault) (r : Result Command LineFault) → IsRead r (script_or query r)
-or_read query (Ok line) = script_read line
-or_read (Ok query) (Err faults.Unknown) = tt
-or_read (Err e) (Err faults.Unknown) = tt
-or_read query (Err faults.Words) = tt
-or_read query (Err faults.Number) = tt
-or_read query (Err (faults.Digits fault)) = tt
-or_read query (Err faults.NoBoard) = tt
-or_read query (Err faults.SecondBoard) = tt
-or_read query (Err faults.BackInTime) = tt
-or_read query (Err faults.TooMany) = tt
-or_read query (Err (faults.Word wrong)) = tt
+call_read : (query : Result Query LineFault) (call : Result Call LineFault) → IsRead (Err faults.Unknown) (call_or query call)
+call_read query (Ok call) = tt
+call_read (Ok query) (Err faults.Unknown) = tt
+call_read query call = tt
+
+or_read : (query : Result Query LineFault) (call : Result Call LineFault) (r : Result Command LineFault) → IsRead r (script_or query call r)
+or_read query call (Ok line) = script_read line
+or_read query call (Err faults.Unknown) = call_read query call
+or_read query call (Err e) = tt
 
 own_read : {A : Type 0} (read : Result Command LineFault) (line : A → DriverLine) (r : Result A LineFault) → ((a : A) → IsRead read (Ok (line a))) → IsRead read (by_words line r)
 own_read read line (Ok a) h = h a
@@ -84,14 +74,7 @@ words_read read line (Err e) h = tt
 
 itself_read : (read : Result Command LineFault) (r : Result DriverLine LineFault) → IsOwn r → IsRead read (by_words (λ line. line) r)
 itself_read read (Ok (Script line)) own = absurd own
-itself_read read (Ok (Say v)) own = tt
-itself_read read (Ok (Ask name)) own = tt
-itself_read read (Ok (Stop name)) own = tt
-itself_read read (Ok (Keep rate listen)) own = tt
-itself_read read (Ok (Came now v)) own = tt
-itself_read read (Ok (Add adding)) own = tt
-itself_read read (Ok Version) own = tt
-itself_read read (Err e) own = tt
+itself_read read r own = tt
 
 keep_read : (arguments : List (List ℕ)) → IsOwn (keep_line arguments)
 unfolding keep_line
@@ -109,13 +92,11 @@ unfolding command
 command_read line word arguments =
     let P = IsRead (script_line_of line) in
     either P (bytes_eq word (codes "say")) _ _ tt
-    (either P (bytes_eq word (codes "ask")) _ _ (own_read (script_line_of line) Ask (name arguments) (λ n. tt))
-    (either P (bytes_eq word (codes "stop")) _ _ (own_read (script_line_of line) Stop (name arguments) (λ n. tt))
     (either P (bytes_eq word (codes "keep")) _ _ (itself_read (script_line_of line) (keep_line arguments) (keep_read arguments))
     (either P (bytes_eq word (codes "came")) _ _ (itself_read (script_line_of line) (came_line arguments) (came_read arguments))
     (either P (bytes_eq word (codes "add")) _ _ tt
     (either P (bytes_eq word (codes "version")) _ _ (own_read (script_line_of line) (λ nothing. Version) (or_fault faults.Words (script.none_of arguments)) (λ nothing. tt))
-    (or_read (question word arguments) (script_line_of line))))))))
+    (or_read (question word arguments) (call word arguments) (script_line_of line))))))
 
 line_read : (line : List ℕ) → IsRead (script_line_of line) (line_of line)
 line_read line = of (said_part (split_once 32 line)) (added_part (split_once 32 line)) where
@@ -137,25 +118,11 @@ IsClosed (denies e) = Unit {0}
 shut : (tuning : Tuning) (line : Command) (read : Result Command LineFault) → opens read ≡ None → IsRead read (Ok (Script line)) → IsClosed (reply tuning None (Ok (Script line)))
 shut tuning lines.Skip read none is = refl
 shut tuning (lines.Board member cells workers seed) read none is = absurd (let e = sym (ap opens is) ∙ none in cc)
-shut tuning (lines.Arrive d) read none is = tt
-shut tuning (lines.Hear v) read none is = tt
-shut tuning (lines.Distance source micros) read none is = tt
-shut tuning (lines.Tune constants) read none is = tt
-shut tuning (lines.Tick now) read none is = tt
-shut tuning (lines.Look page) read none is = tt
-shut tuning (lines.Session page) read none is = tt
-shut tuning (lines.Question query) read none is = tt
+shut tuning line read none is = tt
 
 shut_by : (tuning : Tuning) (said : Result DriverLine Refusal) (read : Result Command LineFault) → opens read ≡ None → IsRead read said → IsClosed (reply tuning None said)
 shut_by tuning (Ok (Script line)) read none is = shut tuning line read none is
-shut_by tuning (Ok (Say v)) read none is = tt
-shut_by tuning (Ok (Ask name)) read none is = tt
-shut_by tuning (Ok (Stop name)) read none is = tt
-shut_by tuning (Ok (Keep rate listen)) read none is = tt
-shut_by tuning (Ok (Came now v)) read none is = tt
-shut_by tuning (Ok (Add adding)) read none is = tt
-shut_by tuning (Ok Version) read none is = refl
-shut_by tuning (Err e) read none is = tt
+shut_by tuning said read none is = search
 
 -- A line that opens no board leaves a closed host closed.
 pub stays_closed : (tuning : Tuning) (line : List ℕ) (host : Option Host) (text : List ℕ) → board_in line ≡ None → reply tuning None (line_of line) ≡ prints host text → host ≡ None
@@ -169,13 +136,4 @@ is_opened tuning line b e some is = of (script_line_of line) refl some where
 
   of : (r : Result Command LineFault) → script_line_of line ≡ r → opens r ≡ Some b → ⊥
   of (Ok (lines.Board member cells workers seed)) read some = at member cells workers seed read
-  of (Ok lines.Skip) read some = absurd cc
-  of (Ok (lines.Arrive d)) read some = absurd cc
-  of (Ok (lines.Hear v)) read some = absurd cc
-  of (Ok (lines.Distance source micros)) read some = absurd cc
-  of (Ok (lines.Tune constants)) read some = absurd cc
-  of (Ok (lines.Tick now)) read some = absurd cc
-  of (Ok (lines.Look page)) read some = absurd cc
-  of (Ok (lines.Session page)) read some = absurd cc
-  of (Ok (lines.Question query)) read some = absurd cc
-  of (Err e) read some = absurd cc
+  of r read some = absurd cc

@@ -10,7 +10,7 @@ use Rattle.wb_commands.specs.declared.command.Command.{Command}
 use Rattle.wb_commands.specs.declared.command.Command.TheVariants as lines
 use Rattle.wb_dialog.specs.declared.fault.Refusal.{Refusal}
 use Rattle.wb_dialog.specs.declared.line.DriverLine.{DriverLine}
-use Rattle.wb_dialog.specs.declared.line.DriverLine.TheVariants.{Script, Say, Ask, Stop, Keep, Came, Add, Version}
+use Rattle.wb_dialog.specs.declared.line.DriverLine.TheVariants.{Script, Came, Add}
 use Rattle.wb_dialog.specs.Dialog.{Answer, gives, refuses, answer_at}
 use Rattle.wb_dialog.specs.Hosting.{Driven, Kept, Reply, prints, denies, came_text, kept_does, kept_shows, kept_reply, reply, unsent_text}
 
@@ -32,23 +32,14 @@ shown (refuses e) k = tt
 scripted : (line : Command) (k : Keeping) → IsKept k.host.is.number (kept_reply (Script line) k)
 scripted lines.Skip k = shown (answer_at (Script lines.Skip) k.host) k
 scripted (lines.Board member cells workers seed) k = shown (answer_at (Script (lines.Board member cells workers seed)) k.host) k
-scripted (lines.Arrive d) k = tt
-scripted (lines.Hear v) k = tt
-scripted (lines.Distance source micros) k = tt
 scripted (lines.Tune constants) k = done None (performs (Tunes constants)) [] k
 scripted (lines.Tick now) k = done (tick_fault now k) (ticks now) [] k
-scripted (lines.Look page) k = tt
-scripted (lines.Session page) k = tt
 scripted (lines.Question query) k = shown (answer_at (Script (lines.Question query)) k.host) k
+scripted line k = tt
 
 -- whatever a line says
 pub stays_kept : (tuning : Tuning) (said : Result DriverLine Refusal) (k : Keeping) → IsKept k.host.is.number (reply tuning (Some (Kept k)) said)
 stays_kept tuning (Ok (Script line)) k = scripted line k
-stays_kept tuning (Ok (Say v)) k = tt
-stays_kept tuning (Ok (Ask name)) k = tt
-stays_kept tuning (Ok (Stop name)) k = tt
-stays_kept tuning (Ok (Keep rate listen)) k = tt
 stays_kept tuning (Ok (Came now v)) k = done (came_fault now v k) (came now v) (came_text v (came_as v k.host)) k
 stays_kept tuning (Ok (Add a)) k = done (add_fault a.moment a.page a.time a.op k) (adds a.moment a.page a.time a.op) (unsent_text (drawn_as a.page a.time a.op k.host)) k
-stays_kept tuning (Ok Version) k = shown (answer_at Version k.host) k
-stays_kept tuning (Err e) k = tt
+stays_kept tuning said k = search

@@ -23,8 +23,9 @@ use Rattle.wb_recovery.specs.declared.fault.TheConstants.{MAX_DELAY}
 use Rattle.wb_recovery.specs.declared.tuning.TheConstants.{MAX_CONSTANT}
 use Rattle.wb_commands.specs.Parsing.{line_of as script_line_of, four_of, number, or_fault, two_of, ◌>>=◌}
 use Rattle.wb_judging.specs.declared.record.RecordLine.{RecordLine}
+use Rattle.wb_dialog.specs.declared.line.Call.{Call}
 use Rattle.wb_dialog.specs.declared.line.DriverLine.{DriverLine}
-use Rattle.wb_dialog.specs.declared.line.DriverLine.TheVariants.{Script, Say, Ask, Stop, Came, Add, Version}
+use Rattle.wb_dialog.specs.declared.line.DriverLine.TheVariants.{Script, Say, Came, Add, Version}
 use Rattle.wb_dialog.specs.declared.fault.Refusal.{Refusal}
 use Rattle.wb_dialog.specs.Lines as today
 use Rattle.wb_dialog.specs.Lines.{part_behind}
@@ -81,24 +82,15 @@ board_none arguments =
 
 arrived_none : (v : Datagram) → IsNoTick (script.arrived v)
 arrived_none (Draw d) = tt
-arrived_none (Session sender sent page marks echoes) = tt
-arrived_none (Request asker name) = tt
-arrived_none (AskPages asker) = tt
-arrived_none (PageState sender page marks) = tt
+arrived_none v = tt
 
 heard_none : (v : Datagram) → IsNoTick (script.heard v)
 heard_none (Draw d) = tt
-heard_none (Session sender sent page marks echoes) = tt
-heard_none (Request asker name) = tt
-heard_none (AskPages asker) = tt
-heard_none (PageState sender page marks) = tt
+heard_none v = tt
 
 handed_none : (v : Datagram) → IsNoTick (Ok (script.handed_in v))
 handed_none (Draw d) = tt
-handed_none (Session sender sent page marks echoes) = tt
-handed_none (Request asker name) = tt
-handed_none (AskPages asker) = tt
-handed_none (PageState sender page marks) = tt
+handed_none v = tt
 
 distance_none : (arguments : List (List ℕ)) → IsNoTick (script.distance arguments)
 unfolding script.distance
@@ -154,21 +146,18 @@ in_none line (Ok a) h = h a
 in_none line (Err e) h = tt
 
 script_tells : (l : Command) → IsNoTick (Ok l) → TellsNone (Ok (Script l))
-script_tells lines.Skip none = tt
-script_tells (lines.Board member cells workers seed) none = tt
-script_tells (lines.Arrive d) none = tt
-script_tells (lines.Hear v) none = tt
-script_tells (lines.Distance source micros) none = tt
-script_tells (lines.Tune constants) none = tt
 script_tells (lines.Tick now) none = absurd none
-script_tells (lines.Look page) none = tt
-script_tells (lines.Session page) none = tt
-script_tells (lines.Question query) none = tt
+script_tells line none = tt
 
-script_or_none : (query : Result Query LineFault) (r : Result Command LineFault) → IsNoTick r → TellsNone (today.script_or query r)
-script_or_none query (Ok l) none = script_tells l none
-script_or_none query (Err faults.Unknown) none = by_none today.asks query (λ q. tt)
-script_or_none query (Err e) none = tt
+call_or_none : (query : Result Query LineFault) (call : Result Call LineFault) → TellsNone (today.call_or query call)
+call_or_none query (Ok call) = tt
+call_or_none query (Err faults.Unknown) = by_none today.asks query (λ q. tt)
+call_or_none query (Err e) = tt
+
+script_or_none : (query : Result Query LineFault) (call : Result Call LineFault) (r : Result Command LineFault) → IsNoTick r → TellsNone (today.script_or query call r)
+script_or_none query call (Ok l) none = script_tells l none
+script_or_none query call (Err faults.Unknown) none = call_or_none query call
+script_or_none query call (Err e) none = tt
 
 script_by_none : (r : Result Command LineFault) → IsNoTick r → TellsNone (today.by_words Script r)
 script_by_none (Ok l) none = script_tells l none
@@ -186,13 +175,11 @@ command_tells : (line word : List ℕ) (arguments : List (List ℕ)) → bytes_e
 unfolding today.command
 command_tells line word arguments other none =
     either TellsNone (bytes_eq word (codes "say")) _ _ tt
-    (either TellsNone (bytes_eq word (codes "ask")) _ _ (by_none Ask (today.name arguments) (λ n. tt))
-    (either TellsNone (bytes_eq word (codes "stop")) _ _ (by_none Stop (today.name arguments) (λ n. tt))
     (either TellsNone (bytes_eq word (codes "keep")) _ _ (keep_none arguments)
     (second TellsNone (bytes_eq word (codes "came")) _ _ other
     (either TellsNone (bytes_eq word (codes "add")) _ _ tt
     (either TellsNone (bytes_eq word (codes "version")) _ _ (by_none (λ nothing. Version) (or_fault faults.Words (script.none_of arguments)) (λ nothing. tt))
-    (script_or_none (today.question word arguments) (script_line_of line) none)))))))
+    (script_or_none (today.question word arguments) (today.call word arguments) (script_line_of line) none)))))
 
 -- ---- lines that a judged host has for itself
 

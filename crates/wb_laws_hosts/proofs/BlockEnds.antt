@@ -12,95 +12,57 @@ use Rattle.wb_commands.specs.declared.command.Command.{Command}
 use Rattle.wb_commands.specs.declared.command.Command.TheVariants as lines
 use Rattle.wb_dialog.specs.declared.fault.Refusal.{Refusal}
 use Rattle.wb_dialog.specs.declared.line.DriverLine.{DriverLine}
-use Rattle.wb_dialog.specs.declared.line.DriverLine.TheVariants.{Script, Say, Ask, Stop, Keep, Came, Add, Version}
+use Rattle.wb_dialog.specs.declared.line.DriverLine.TheVariants.{Script, Say, Call as Calls, Came, Add}
 use Rattle.wb_dialog.specs.Dialog.{says_line}
 use Rattle.wb_dialog.specs.Doing.{text_in}
 use Rattle.wb_dialog.specs.Hosting.{Host, Driven, Kept, Reply, prints, denies, came_text, hosting_from, reply_of, unopened, unsent_text}
 use Rattle.wb_laws_hosts.specs.Closings.{AreOneLine, IsNoShow, HoldsLines, BlocksCloseOnce, InputsCloseOnce, SessionsCloseOnce}
 use Rattle.wb_laws_hosts.specs.Telling.{told_at, told_by, told_driven, told_first, told_in_script, told_kept, told_of, told_said, told_saying}
 use Rattle.wb_laws_hosts.specs.Texts.{hosting_at, sent_at}
-use Rattle.wb_laws_hosts.proofs.PlainLines.{Plain, none, both, whole}
+use Rattle.wb_laws_hosts.proofs.PlainLines.{Plain, none, both, plain_rules, whole}
 use Rattle.wb_laws_hosts.proofs.PlainTexts as texts
 use Rattle.wb_laws_hosts.proofs.Ranges.{hosts_hold_lines, sessions_hold_lines}
 use Rattle.wb_laws_hosts.proofs.Telling.{texts_tell_sends}
 
 -- ---- what is answered
 
-module _ (host : Opened) (held : AreOneLine host.is.held) where
-  unsent : (o : Outcome) → Plain (unsent_text o)
-  unsent (Fresh place) = none
-  unsent (KnownDrawop place) = none
-  unsent (Clashed place) = texts.outcome (Clashed place)
-  unsent Left = texts.outcome Left
+unsent : (o : Outcome) → Plain (unsent_text o)
+unsent (Fresh place) = none
+unsent o = search plain_rules depth 20
 
+module _ (host : Opened) (held : AreOneLine host.is.held) where
   saying : (v : Datagram) → Plain (told_saying v host)
   saying (datagrams.Draw d) = unsent (becomes d host)
-  saying (datagrams.Session sender sent page marks echoes) = none
-  saying (datagrams.Request asker name) = none
-  saying (datagrams.AskPages asker) = none
-  saying (datagrams.PageState sender page marks) = none
+  saying v = none
 
   in_script : (line : Command) → IsNoShow (Ok (Script line)) → Plain (told_in_script line host)
-  in_script (lines.Arrive d) shows = texts.outcome (becomes d host)
-  in_script (lines.Look page) shows = texts.look _
   in_script (lines.Question query) shows = texts.answer query host held shows
-  in_script (lines.Board member cells workers seed) shows = none
-  in_script (lines.Hear v) shows = none
-  in_script (lines.Distance source micros) shows = none
-  in_script (lines.Tune constants) shows = none
-  in_script (lines.Tick moment) shows = none
-  in_script (lines.Session page) shows = none
-  in_script lines.Skip shows = none
+  in_script line shows = search plain_rules depth 20
 
   driven : (line : DriverLine) → IsNoShow (Ok line) → Plain (told_driven line host)
   driven (Script line) shows = in_script line shows
   driven (Say v) shows = saying v
-  driven (Ask name) shows = texts.asks (may_ask name host)
-  driven (Stop name) shows = texts.stops (asks_for name host)
-  driven (Keep rate listen) shows = none
-  driven (Came now v) shows = none
-  driven (Add adding) shows = none
-  driven Version shows = texts.version
+  driven (Calls call) shows = texts.called call host
+  driven line shows = search plain_rules depth 20
 
 module _ (k : Keeping) (held : AreOneLine k.host.is.held) where
   came_plain : (v : Datagram) (o : Outcome) → Plain (came_text v o)
-  came_plain (datagrams.Draw d) o = texts.outcome o
-  came_plain (datagrams.Session sender sent page marks echoes) o = none
-  came_plain (datagrams.Request asker name) o = none
-  came_plain (datagrams.AskPages asker) o = none
-  came_plain (datagrams.PageState sender page marks) o = none
+  came_plain (datagrams.Draw d) o = search plain_rules depth 20
+  came_plain v o = none
 
   kept_script : (line : Command) → IsNoShow (Ok (Script line)) → Plain (told_kept (Script line) k)
   kept_script (lines.Question query) shows = texts.answer query k.host held shows
-  kept_script (lines.Arrive d) shows = none
-  kept_script (lines.Look page) shows = none
-  kept_script (lines.Board member cells workers seed) shows = none
-  kept_script (lines.Hear v) shows = none
-  kept_script (lines.Distance source micros) shows = none
-  kept_script (lines.Tune constants) shows = none
-  kept_script (lines.Tick moment) shows = none
-  kept_script (lines.Session page) shows = none
-  kept_script lines.Skip shows = none
+  kept_script line shows = none
 
   kept : (line : DriverLine) → IsNoShow (Ok line) → Plain (told_kept line k)
   kept (Script line) shows = kept_script line shows
   kept (Came now v) shows = came_plain v (came_as v k.host)
-  kept (Add a) shows = unsent k.host held (drawn_as a.page a.time a.op k.host)
-  kept (Say v) shows = none
-  kept (Ask name) shows = none
-  kept (Stop name) shows = none
-  kept (Keep rate listen) shows = none
-  kept Version shows = texts.version
+  kept (Add a) shows = unsent (drawn_as a.page a.time a.op k.host)
+  kept line shows = search plain_rules depth 20
 
 first : (line : DriverLine) → Plain (told_first line)
-first Version = texts.version
 first (Script line) = none
-first (Say v) = none
-first (Ask name) = none
-first (Stop name) = none
-first (Keep rate listen) = none
-first (Came now v) = none
-first (Add adding) = none
+first line = search plain_rules depth 20
 
 told_plain : (s : Option Host) (line : DriverLine) → HoldsLines s → IsNoShow (Ok line) → Plain (told_of s line)
 told_plain None line held shows = first line

@@ -2,7 +2,7 @@
 use Rattle.std.proofs.Common.{◌≡◌, ◌-◌, ◌^◌, ◌<◌, ℕ, Bool, true, false, List, [], ◌∷◌, Option, Some, None, Result, Ok, Err, refl, ap, ◌∙◌, subst, arith, inl, inr}
 use Rattle.std.specs.Prelude.{IfOk, codes, if◌then◌else◌}
 use Rattle.std.specs.Str.{bytes_eq}
-use Rattle.wb_codec.specs.Ranges.{IsName, IsDatagram}
+use Rattle.wb_codec.specs.Ranges.{IsDatagram}
 use Rattle.wb_codec.specs.declared.datagram.Datagram.{Datagram}
 use Rattle.wb_codec.specs.declared.datagram.Datagram.TheVariants as datagrams
 use Rattle.wb_lines.specs.Handling.{Met, whole, too_long}
@@ -22,10 +22,11 @@ use Rattle.wb_member.specs.declared.questions.Query.{Query}
 use Rattle.wb_commands.specs.declared.fault.LineFault.{LineFault}
 use Rattle.wb_commands.specs.declared.fault.LineFault.TheVariants as faults
 use Rattle.wb_dialog.specs.Dialog.{says_line}
-use Rattle.wb_dialog.specs.Lines.{asks as asks_line, name, by_words, command, question, script_or, line_of_words, keep_line, came_line, moment_of, words_behind, said_by, said_part, added_by, added_part, line_behind, line_of}
+use Rattle.wb_dialog.specs.Lines.{asks as asks_line, by_words, call, call_or, command, question, script_or, line_of_words, keep_line, came_line, moment_of, words_behind, said_by, said_part, added_by, added_part, line_behind, line_of}
 use Rattle.wb_dialog.specs.declared.fault.Refusal.{Refusal}
+use Rattle.wb_dialog.specs.declared.line.Call.{Call}
 use Rattle.wb_dialog.specs.declared.line.DriverLine.{DriverLine}
-use Rattle.wb_dialog.specs.declared.line.DriverLine.TheVariants.{Script, Say, Ask, Stop, Keep, Came, Add, Version}
+use Rattle.wb_dialog.specs.declared.line.DriverLine.TheVariants.{Script, Say, Keep, Came, Add, Version}
 use Rattle.wb_laws_hosts.proofs.AddedLines.{IsAdding, adding_fits}
 use Rattle.wb_laws_hosts.proofs.ScriptLines as scripts
 use Rattle.wb_laws_hosts.proofs.ScriptLines.{Asks, IsWithin, IsDigitsOf, bound, behind, number_fits, datagram_fits, datagram_digits, line_fits}
@@ -36,7 +37,6 @@ use Rattle.wb_policy.specs.declared.limits.TheConstants.{MAX_RATE}
 abbrev pub Carries : (Datagram → Type 0) → DriverLine → Type 0
 Carries P (Script line) = scripts.Carries P line
 Carries P (Say v) = IsDatagram v
-Carries P (Ask name) = IsName name
 Carries P (Came now v) = (now < 2 ^ 48) × IsDatagram v
 Carries P (Add a) = IsAdding a
 Carries P line = Unit {0}
@@ -44,19 +44,6 @@ Carries P line = Unit {0}
 -- what it carries is in range
 abbrev pub Fits : DriverLine → Type 0
 Fits line = Carries IsDatagram line
-
-name_fits : (arguments : List (List ℕ)) → IfOk (name arguments) IsName
-unfolding name
-name_fits arguments = behind IsName (or_fault faults.Words (four_of arguments)) _ (λ ws.
-    bound (IsWithin 0 (2 ^ 32 - 1)) IsName (number 0 (2 ^ 32 - 1) ws.0) _ (number_fits 0 (2 ^ 32 - 1) ws.0) (λ creator c.
-    bound (IsWithin 0 (2 ^ 32 - 1)) IsName (number 0 (2 ^ 32 - 1) ws.1) _ (number_fits 0 (2 ^ 32 - 1) ws.1) (λ n d.
-    bound (IsWithin 0 (2 ^ 32 - 1)) IsName (number 0 (2 ^ 32 - 1) ws.2) _ (number_fits 0 (2 ^ 32 - 1) ws.2) (λ source s.
-    bound (IsWithin 1 (2 ^ 32 - 1)) IsName (number 1 (2 ^ 32 - 1) ws.3) _ (number_fits 1 (2 ^ 32 - 1) ws.3) (λ seq q.
-    let a = c.1 in
-    let b = d.1 in
-    let e = s.1 in
-    let f = q.1 in
-    record { source = omega arith; page = record { creator = omega arith; number = omega arith }; positive = q.0; seq = omega arith })))))
 
 by_words_fits : {A : Type 0} (P : A → Type 0) (Q : DriverLine → Type 0) (line : A → DriverLine) (r : Result A LineFault) → IfOk r P → ((x : A) → P x → Q (line x)) → IfOk (by_words line r) Q
 by_words_fits P Q line (Ok x) p q = q x p
@@ -88,12 +75,7 @@ IsKept line = ⊥
 kept_carries : (P : Datagram → Type 0) (line : DriverLine) → IsKept line → Carries P line
 kept_carries P (Keep rate listen) is = tt
 kept_carries P (Came now v) is = is
-kept_carries P (Script line) is = absurd is
-kept_carries P (Say v) is = absurd is
-kept_carries P (Ask name) is = absurd is
-kept_carries P (Stop name) is = absurd is
-kept_carries P (Add adding) is = absurd is
-kept_carries P Version is = absurd is
+kept_carries P line is = absurd is
 
 moment_fits : (arguments : List (List ℕ)) → IfOk (moment_of arguments) (λ now. now < 2 ^ 48)
 unfolding moment_of
@@ -120,10 +102,15 @@ module _ (P : Datagram → Type 0) where
   either true x y p q = p
   either false x y p q = q
 
-  script_or_fits : (query : Result Query LineFault) (said : Result Command LineFault) → IfOk said (scripts.Carries P) → IfOk (script_or query said) Has
-  script_or_fits query (Ok line) has = has
-  script_or_fits query (Err faults.Unknown) has = free Has asks_line query (λ q. tt)
-  script_or_fits query (Err e) has = tt
+  call_or_fits : (query : Result Query LineFault) (call : Result Call LineFault) → IfOk (call_or query call) Has
+  call_or_fits query (Ok call) = tt
+  call_or_fits query (Err faults.Unknown) = free Has asks_line query (λ q. tt)
+  call_or_fits query (Err e) = tt
+
+  script_or_fits : (query : Result Query LineFault) (call : Result Call LineFault) (said : Result Command LineFault) → IfOk said (scripts.Carries P) → IfOk (script_or query call said) Has
+  script_or_fits query call (Ok line) has = has
+  script_or_fits query call (Err faults.Unknown) has = call_or_fits query call
+  script_or_fits query call (Err e) has = tt
 
   module _ (line : List ℕ) (asks : Asks P line) where
     script_fits : IfOk (by_words Script (script_line_of line)) Has
@@ -133,13 +120,11 @@ module _ (P : Datagram → Type 0) where
     unfolding command
     command_fits word arguments =
         either (bytes_eq word (codes "say")) _ _ tt
-        (either (bytes_eq word (codes "ask")) _ _ (by_words_fits IsName Has Ask (name arguments) (name_fits arguments) (λ n fit. fit))
-        (either (bytes_eq word (codes "stop")) _ _ (free Has Stop (name arguments) (λ n. tt))
         (either (bytes_eq word (codes "keep")) _ _ (by_words_fits IsKept Has (λ l. l) (keep_line arguments) (keep_fits arguments) (kept_carries P))
         (either (bytes_eq word (codes "came")) _ _ (by_words_fits IsKept Has (λ l. l) (came_line arguments) (came_line_fits arguments) (kept_carries P))
         (either (bytes_eq word (codes "add")) _ _ tt
         (either (bytes_eq word (codes "version")) _ _ (free Has (λ nothing. Version) (or_fault faults.Words (none_of arguments)) (λ nothing. tt))
-        (script_or_fits (question word arguments) (script_line_of line) (line_fits P line asks))))))))
+        (script_or_fits (question word arguments) (call word arguments) (script_line_of line) (line_fits P line asks))))))
 
     words_fit : (ws : List (List ℕ)) → IfOk (line_of_words line ws) Has
     words_fit [] = script_fits
@@ -171,10 +156,7 @@ says_fits m line e = subst (λ (r : Result DriverLine Refusal). IfOk r Fits) e (
 -- the property that a line hands in
 pub handed_has : (P : Datagram → Type 0) (v : Datagram) → Carries P (Script (handed_in v)) → P v
 handed_has P (datagrams.Draw d) has = has
-handed_has P (datagrams.Session sender sent page marks echoes) has = has
-handed_has P (datagrams.Request asker name) has = has
-handed_has P (datagrams.AskPages asker) has = has
-handed_has P (datagrams.PageState sender page marks) has = has
+handed_has P v has = has
 
 pub lines_carry_bytes : LinesCarryBytes
 lines_carry_bytes line v e = handed_has (SaysDatagram line) v (subst (λ (r : Result DriverLine Refusal). IfOk r (Carries (SaysDatagram line))) e (text_fits (SaysDatagram line) line asked)) where

@@ -18,7 +18,8 @@ use Rattle.wb_commands.specs.declared.command.Command.TheVariants as lines
 use Rattle.wb_dialog.specs.declared.fault.Refusal.{Refusal}
 use Rattle.wb_dialog.specs.declared.fault.Refusal.TheVariants as refusals
 use Rattle.wb_dialog.specs.declared.line.DriverLine.{DriverLine}
-use Rattle.wb_dialog.specs.declared.line.DriverLine.TheVariants.{Script, Say, Ask, Stop, Keep, Came, Add, Version}
+use Rattle.wb_dialog.specs.declared.line.DriverLine.TheVariants.{Script, Say, Call as Calls, Keep, Came, Add}
+use Rattle.wb_dialog.specs.declared.line.Call.TheVariants.{Ask}
 use Rattle.wb_dialog.specs.Dialog.{goes_out, refuses, says_line}
 use Rattle.wb_dialog.specs.Hosting.{Host, Driven, Kept, Reply, prints, denies, as_driven, kept_does, kept_reply, reply, reply_to, seed_after}
 use Rattle.wb_laws_sessions.specs.Drawn.{AreHonest, IsAbove, WasHeld, drawn_at}
@@ -48,31 +49,22 @@ module _ (numbers : ℕ → ℕ) (place : ℕ) (older : List Step) (honest : Are
   by_reply (prints next text) deeds goes = goes
   by_reply (denies e) deeds goes = honest
 
-  plain : (deed : Deed) → IsPlain deed → Goes (deed ∷ [])
-  plain deed is = (plain_is_honest numbers older (at deed) is, honest)
+  -- no deed, or one on which no term is laid
+  abbrev ArePlain : List Deed → Type 0
+  ArePlain [] = Unit {0}
+  ArePlain (deed ∷ []) = IsPlain deed
+  ArePlain deeds = ⊥
+
+  plain : (deeds : List Deed) → ArePlain deeds → Goes deeds
+  plain [] are = honest
+  plain (deed ∷ []) are = (plain_is_honest numbers older (at deed) are, honest)
+  plain (deed ∷ more ∷ deeds) are = absurd are
 
   -- ---- before a board is open
 
   opens : (tuning : Tuning) (line : DriverLine) → drivers.Fits line → Goes (deeds_first tuning line)
-  opens tuning (Script line) fit = script line fit where
-    script : (line : Command) → drivers.Fits (Script line) → Goes (deeds_first tuning (Script line))
-    script (lines.Board member cells workers seed) fit = (opening_is_honest numbers older 0 place tuning cells seed fit.1, honest)
-    script lines.Skip fit = honest
-    script (lines.Arrive d) fit = honest
-    script (lines.Hear v) fit = honest
-    script (lines.Distance source micros) fit = honest
-    script (lines.Tune constants) fit = honest
-    script (lines.Tick now) fit = honest
-    script (lines.Look page) fit = honest
-    script (lines.Session page) fit = honest
-    script (lines.Question query) fit = honest
-  opens tuning (Say v) fit = honest
-  opens tuning (Ask name) fit = honest
-  opens tuning (Stop name) fit = honest
-  opens tuning (Keep rate listen) fit = honest
-  opens tuning (Came now v) fit = honest
-  opens tuning (Add a) fit = honest
-  opens tuning Version fit = honest
+  opens tuning (Script (lines.Board member cells workers seed)) fit = (opening_is_honest numbers older 0 place tuning cells seed fit.1, honest)
+  opens tuning line fit = honest
 
   module _ (line : DriverLine) (fit : drivers.Fits line) (comes : (d : DrawopValue) → HandsInBy line d → WasHeld numbers older d) where
     -- ---- at a host that its driver drives
@@ -84,17 +76,12 @@ module _ (numbers : ℕ → ℕ) (place : ℕ) (older : List Step) (honest : Are
       one : (said : DriverLine) → Goes (deeds_driven said) → Does said
       one said goes = by_reply (reply_to tuning (Some (Driven host seed)) said) (deeds_driven said) goes
 
+      plainly : (said : DriverLine) → ArePlain (deeds_driven said) → Does said
+      plainly said are = one said (plain (deeds_driven said) are)
+
       script : (said : Command) → line ≡ Script said → Does (Script said)
       script (lines.Arrive d) is = one (Script (lines.Arrive d)) (arrival_is_honest numbers older 0 place d (comes d (inl is)), honest)
-      script (lines.Hear v) is = one (Script (lines.Hear v)) (plain (Performs (Hears v)) tt)
-      script (lines.Distance source micros) is = one (Script (lines.Distance source micros)) (plain (Performs (SetsDistance source micros)) tt)
-      script (lines.Tune constants) is = one (Script (lines.Tune constants)) (plain (Performs (Tunes constants)) tt)
-      script (lines.Tick now) is = one (Script (lines.Tick now)) (plain (Performs (Ticks now)) tt)
-      script (lines.Look page) is = one (Script (lines.Look page)) (plain (Looks page) tt)
-      script (lines.Session page) is = one (Script (lines.Session page)) (plain (Reports page) tt)
-      script (lines.Board member cells workers cell_seed) is = one (Script (lines.Board member cells workers cell_seed)) honest
-      script (lines.Question query) is = one (Script (lines.Question query)) honest
-      script lines.Skip is = one (Script lines.Skip) honest
+      script said is = plainly (Script said) tt
 
       drawing : (d : DrawopValue) → line ≡ Say (datagrams.Draw d) → Does (Say (datagrams.Draw d))
       drawing d is = by (nat_eq d.name.source host.is.number) refl where
@@ -116,16 +103,8 @@ module _ (numbers : ℕ → ℕ) (place : ℕ) (older : List Step) (honest : Are
       driven : (said : DriverLine) → line ≡ said → Does said
       driven (Script said) is = script said is
       driven (Say (datagrams.Draw d)) is = drawing d is
-      driven (Say (datagrams.Session sender sent page marks echoes)) is = one (Say (datagrams.Session sender sent page marks echoes)) (plain (Performs (Says (datagrams.Session sender sent page marks echoes))) tt)
-      driven (Say (datagrams.Request asker name)) is = one (Say (datagrams.Request asker name)) (plain (Performs (Says (datagrams.Request asker name))) tt)
-      driven (Say (datagrams.AskPages asker)) is = one (Say (datagrams.AskPages asker)) (plain (Performs (Says (datagrams.AskPages asker))) tt)
-      driven (Say (datagrams.PageState sender page marks)) is = one (Say (datagrams.PageState sender page marks)) (plain (Performs (Says (datagrams.PageState sender page marks))) tt)
-      driven (Ask name) is = one (Ask name) (plain (Performs (Asks name)) tt)
-      driven (Stop name) is = one (Stop name) (plain (Performs (Stops name)) tt)
-      driven (Keep rate listen) is = one (Keep rate listen) honest
-      driven (Came now v) is = one (Came now v) honest
-      driven (Add a) is = one (Add a) honest
-      driven Version is = one Version honest
+      driven (Calls (Ask name)) is = plainly (Calls (Ask name)) tt
+      driven said is = plainly said tt
 
     -- ---- at a self-managing host
 
@@ -140,15 +119,9 @@ module _ (numbers : ℕ → ℕ) (place : ℕ) (older : List Step) (honest : Are
       kept_script : (said : Command) → Goes (deeds_by (kept_reply (Script said) k) (deeds_kept (Script said) k))
       kept_script (lines.Tick now) = unless_denied (tick_fault now k) (ticks now) []
           (lines_honest numbers 0 place (λ d. ⊥) (ticks now (sees k.host) k.policy).lines older honest (λ d is. absurd is) (ticks_given (λ d. ⊥) now (sees k.host) k.policy))
-      kept_script (lines.Tune constants) = plain (Performs (Tunes constants)) tt
+      kept_script (lines.Tune constants) = plain (Performs (Tunes constants) ∷ []) tt
       kept_script (lines.Question query) = asked (kept_reply (Script (lines.Question query)) k)
-      kept_script lines.Skip = honest
-      kept_script (lines.Arrive d) = honest
-      kept_script (lines.Board member cells workers seed) = honest
-      kept_script (lines.Hear v) = honest
-      kept_script (lines.Distance source micros) = honest
-      kept_script (lines.Look page) = honest
-      kept_script (lines.Session page) = honest
+      kept_script said = honest
 
       kept : (said : DriverLine) → line ≡ said → Goes (deeds_by (kept_reply said k) (deeds_kept said k))
       kept (Script said) is = kept_script said
@@ -157,11 +130,7 @@ module _ (numbers : ℕ → ℕ) (place : ℕ) (older : List Step) (honest : Are
           (λ d same. comes d (inr (now, is ∙ ap (Came now) same))) (came_given (λ d. v ≡ datagrams.Draw d) now v (λ d same. same) (sees k.host) k.policy))
       kept (Add a) is = unless_denied (add_fault a.moment a.page a.time a.op k) (adds a.moment a.page a.time a.op) _
           (adds_honest numbers 0 place older honest k there a.page (knows a is) a.moment a.time a.op k.policy)
-      kept (Say v) is = honest
-      kept (Ask name) is = honest
-      kept (Stop name) is = honest
-      kept (Keep rate listen) is = honest
-      kept Version is = honest
+      kept said is = honest
 
   -- ---- one line
 
@@ -184,13 +153,7 @@ module _ (numbers : ℕ → ℕ) (place : ℕ) (older : List Step) (honest : Are
 
       kept_line : (line : DriverLine) → said ≡ Ok line → drivers.Fits line → Goes (deeds_by (reply tuning (Some (Kept k)) (Ok line)) (deeds_said tuning (Some (Kept k)) (Ok line)))
       kept_line (Keep rate listen) same fits = honest
-      kept_line (Script l) same fits = kept (Script l) fits (λ d hands. comes (Script l) d same hands) k (sym is) (λ a e. knows a (same ∙ ap ok e)) (Script l) refl
-      kept_line (Say v) same fits = honest
-      kept_line (Ask name) same fits = honest
-      kept_line (Stop name) same fits = honest
-      kept_line Version same fits = honest
-      kept_line (Came now v) same fits = kept (Came now v) fits (λ d hands. comes (Came now v) d same hands) k (sym is) (λ a e. knows a (same ∙ ap ok e)) (Came now v) refl
-      kept_line (Add a) same fits = kept (Add a) fits (λ d hands. comes (Add a) d same hands) k (sym is) (λ x e. knows x (same ∙ ap ok e)) (Add a) refl
+      kept_line line same fits = kept line fits (λ d hands. comes line d same hands) k (sym is) (λ a e. knows a (same ∙ ap ok e)) line refl
 
 event_goes : (numbers : ℕ → ℕ) (older : List EventAt) (place : ℕ) → HaveNumbers numbers older → AreHonest numbers (steps_of_texts older) → (event : Event)
     → ((line : InputLine) → event ≡ Takes line → IsHonestLine numbers older place line) → AreHonest numbers (steps_then 0 place (deeds_of_event event (hosting_at older place)) (steps_of_texts older))

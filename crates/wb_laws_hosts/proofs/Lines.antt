@@ -6,7 +6,7 @@ use Rattle.wb_names.specs.Values.{DrawopValue}
 use Rattle.wb_codec.specs.declared.datagram.Datagram.{Datagram}
 use Rattle.wb_codec.specs.declared.datagram.Datagram.TheVariants as datagrams
 use Rattle.wb_recovery.specs.declared.tuning.Tuning.{Tuning}
-use Rattle.wb_member.specs.Lines.{Line, Tunes, said_where}
+use Rattle.wb_member.specs.Lines.{Line, Tunes, said_where, sent_by_line}
 use Rattle.wb_member.specs.Opened.{Opened, answered as answers, becomes, has_room_for, heard, message, present, sent_by, ticked}
 use Rattle.wb_member.specs.Questions.{answer_to}
 use Rattle.wb_keeping.specs.Kept.{Transition, adds, came, performs, ticks}
@@ -21,9 +21,10 @@ use Rattle.wb_commands.specs.declared.command.Command.TheVariants as lines
 use Rattle.wb_commands.specs.declared.fault.LineFault.TheVariants as faults
 use Rattle.wb_dialog.specs.declared.fault.Refusal.{Refusal}
 use Rattle.wb_dialog.specs.declared.fault.Refusal.TheVariants as refusals
+use Rattle.wb_dialog.specs.declared.line.Call.{Call}
 use Rattle.wb_dialog.specs.declared.line.DriverLine.{DriverLine}
-use Rattle.wb_dialog.specs.declared.line.DriverLine.TheVariants.{Script, Say, Ask, Stop, Keep, Came, Add, Version}
-use Rattle.wb_dialog.specs.Dialog.{Answer, answer_at, answered, goes_out, refuses, said_text, speaker}
+use Rattle.wb_dialog.specs.declared.line.DriverLine.TheVariants.{Script, Say, Call as Calls, Keep, Came, Add}
+use Rattle.wb_dialog.specs.Dialog.{Answer, answer_at, answered, goes_out, line_of_call, refuses, said_text, speaker, told_by_call}
 use Rattle.wb_dialog.specs.Hosting.{Host, Driven, Kept, Reply, prints, denies, as_driven, begins, came_text, host_after, kept_does, kept_reply, kept_shows, reply, reply_to, seed_after, unsent_text}
 use Rattle.wb_laws_sessions.specs.Sessions.{Deed, Opens, after_deeds, sent_by_deeds}
 use Rattle.wb_laws_sessions.proofs.Several.{after_performed, sent_performed}
@@ -73,16 +74,12 @@ module _ (host : Opened) (seed : Option ℕ) where
   tells_it None = tt
 
   script_led : (line : Command) → Leads (answer_at (Script line) host) (deeds_driven (Script line)) (told_driven (Script line) host)
-  script_led (lines.Arrive d) = (refl, refl)
   script_led (lines.Board member cells workers seed) = tt
   script_led (lines.Hear v) = hears v
-  script_led (lines.Distance source micros) = (refl, refl)
-  script_led (lines.Tune constants) = (refl, refl)
   script_led (lines.Tick now) = ticks_on now
-  script_led (lines.Look page) = (refl, refl)
   script_led (lines.Session page) = (refl, alone (message page host ∷ []))
   script_led (lines.Question query) = tells_it (answer_text (answer_to query host))
-  script_led lines.Skip = (refl, refl)
+  script_led line = (refl, refl)
 
   said_led : (d : DrawopValue) (o : Outcome) → said_text d o ≡ sends_text (said_where d o ++ []) ++ unsent_text o
   said_led d (Fresh place) = one (datagrams.Draw d)
@@ -92,10 +89,7 @@ module _ (host : Opened) (seed : Option ℕ) where
 
   goes_led : (v : Datagram) → Leads (goes_out v host) (deeds_driven (Say v)) (told_saying v host)
   goes_led (datagrams.Draw d) = (refl, said_led d (becomes d host))
-  goes_led (datagrams.Session sender sent page marks echoes) = (refl, one (datagrams.Session sender sent page marks echoes))
-  goes_led (datagrams.Request asker name) = (refl, one (datagrams.Request asker name))
-  goes_led (datagrams.AskPages asker) = (refl, one (datagrams.AskPages asker))
-  goes_led (datagrams.PageState sender page marks) = (refl, one (datagrams.PageState sender page marks))
+  goes_led v = (refl, one v)
 
   says_led : (v : Datagram) → Leads (answer_at (Say v) host) (deeds_driven (Say v)) (told_driven (Say v) host)
   says_led v = from (nat_eq (speaker v) host.is.number) where
@@ -103,15 +97,14 @@ module _ (host : Opened) (seed : Option ℕ) where
     from true = goes_led v
     from false = tt
 
+  call_led : (call : Call) → Leads (answer_at (Calls call) host) (deeds_driven (Calls call)) (told_driven (Calls call) host)
+  call_led call = (refl, ap (λ (sent : List Datagram). sends_text sent ++ told_by_call call host) (sym (append-nil (sent_by_line (line_of_call call) host))))
+
   driven_led : (line : DriverLine) → Leads (answer_at line host) (deeds_driven line) (told_driven line host)
   driven_led (Script line) = script_led line
   driven_led (Say v) = says_led v
-  driven_led (Ask name) = (refl, refl)
-  driven_led (Stop name) = (refl, refl)
-  driven_led (Keep rate listen) = tt
-  driven_led (Came now v) = tt
-  driven_led (Add adding) = tt
-  driven_led Version = (refl, refl)
+  driven_led (Calls call) = call_led call
+  driven_led line = search
 
 -- ---- at a self-managing host
 
@@ -131,22 +124,13 @@ module _ (k : Keeping) where
   kept_script_led (lines.Tune constants) = does_led None (performs (Tunes constants)) []
   kept_script_led (lines.Question query) = shows_led (answer_text (answer_to query k.host))
   kept_script_led lines.Skip = (refl, refl)
-  kept_script_led (lines.Arrive d) = tt
-  kept_script_led (lines.Board member cells workers seed) = tt
-  kept_script_led (lines.Hear v) = tt
-  kept_script_led (lines.Distance source micros) = tt
-  kept_script_led (lines.Look page) = tt
-  kept_script_led (lines.Session page) = tt
+  kept_script_led line = tt
 
   kept_led : (line : DriverLine) → Led k.host (kept_reply line k) (deeds_kept line k) (told_kept line k)
   kept_led (Script line) = kept_script_led line
   kept_led (Came now v) = does_led (came_fault now v k) (came now v) (came_text v (came_as v k.host))
   kept_led (Add a) = does_led (add_fault a.moment a.page a.time a.op k) (adds a.moment a.page a.time a.op) (unsent_text (drawn_as a.page a.time a.op k.host))
-  kept_led (Say v) = tt
-  kept_led (Ask name) = tt
-  kept_led (Stop name) = tt
-  kept_led (Keep rate listen) = tt
-  kept_led Version = (refl, refl)
+  kept_led line = search
 
 -- ---- at a host of either kind
 
@@ -156,21 +140,9 @@ begins_led rate listen host (Some seed) = (refl, refl)
 
 open_led : (tuning : Tuning) (h : Host) (line : DriverLine) → Led (member_in h) (reply_to tuning (Some h) line) (deeds_of tuning (Some h) line) (told_of (Some h) line)
 open_led tuning (Driven host seed) (Keep rate listen) = begins_led rate listen host seed
-open_led tuning (Driven host seed) (Script line) = driven_led host (seed_after (Script line) seed) (Script line)
-open_led tuning (Driven host seed) (Say v) = driven_led host (seed_after (Say v) seed) (Say v)
-open_led tuning (Driven host seed) (Ask name) = driven_led host (seed_after (Ask name) seed) (Ask name)
-open_led tuning (Driven host seed) (Stop name) = driven_led host (seed_after (Stop name) seed) (Stop name)
-open_led tuning (Driven host seed) (Came now v) = tt
-open_led tuning (Driven host seed) (Add adding) = tt
-open_led tuning (Driven host seed) Version = driven_led host (seed_after Version seed) Version
+open_led tuning (Driven host seed) line = driven_led host (seed_after line seed) line
 open_led tuning (Kept k) (Keep rate listen) = tt
-open_led tuning (Kept k) (Script line) = kept_led k (Script line)
-open_led tuning (Kept k) (Say v) = kept_led k (Say v)
-open_led tuning (Kept k) (Ask name) = kept_led k (Ask name)
-open_led tuning (Kept k) (Stop name) = kept_led k (Stop name)
-open_led tuning (Kept k) (Came now v) = kept_led k (Came now v)
-open_led tuning (Kept k) (Add adding) = kept_led k (Add adding)
-open_led tuning (Kept k) Version = kept_led k Version
+open_led tuning (Kept k) line = kept_led k line
 
 -- before a board is open: it is of the member whose number it has
 first_led : (tuning : Tuning) (member : Opened) (line : DriverLine) → IsOf member.is.number None (Ok line) → Led member (reply_to tuning None line) (deeds_of tuning None line) (told_first line)
@@ -178,21 +150,7 @@ first_led tuning member (Script (lines.Board number cells workers seed)) is = (a
   opened_as : ℕ → Opened
   opened_as n = after_deeds (Opens tuning cells seed ∷ []) (record { is = record member.is { number = n }; random = member.random })
 first_led tuning member (Script lines.Skip) is = (tt, refl)
-first_led tuning member (Script (lines.Arrive d)) is = tt
-first_led tuning member (Script (lines.Hear v)) is = tt
-first_led tuning member (Script (lines.Distance source micros)) is = tt
-first_led tuning member (Script (lines.Tune constants)) is = tt
-first_led tuning member (Script (lines.Tick now)) is = tt
-first_led tuning member (Script (lines.Look page)) is = tt
-first_led tuning member (Script (lines.Session page)) is = tt
-first_led tuning member (Script (lines.Question query)) is = tt
-first_led tuning member (Say v) is = tt
-first_led tuning member (Ask name) is = tt
-first_led tuning member (Stop name) is = tt
-first_led tuning member (Keep rate listen) is = tt
-first_led tuning member (Came now v) is = tt
-first_led tuning member (Add adding) is = tt
-first_led tuning member Version is = (tt, refl)
+first_led tuning member line is = search
 
 pub said_led_at : (tuning : Tuning) (h : Host) (said : Result DriverLine Refusal) → Led (member_in h) (reply tuning (Some h) said) (deeds_said tuning (Some h) said) (told_said (Some h) said)
 said_led_at tuning h (Ok line) = open_led tuning h line

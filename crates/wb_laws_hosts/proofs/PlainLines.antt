@@ -1,6 +1,7 @@
 -- Texts of whole lines, none of which begins as a line does that closes a block.
 use Rattle.std.proofs.Common.{◌≡◌, ◌≢◌, ◌≤◌, ◌<◌, ℕ, zero, suc, ◌/◌, ◌%◌, Bool, true, false, List, [], ◌∷◌, ◌++◌, refl, sym, ap, subst, ◌∙◌, arith, slice_index, flat_map, append_assoc, codes, decimal, All, if◌then◌else◌, ⊎_elim}
-use Rattle.std.specs.Prelude.{◌&&◌, ◌||◌, nat_eq, not}
+use Rattle.std.specs.Prelude.{◌&&◌, ◌||◌, Option, Some, None, nat_eq, not, unwrap_or}
+use Rattle.std.specs.Option.{option_map}
 use Rattle.std.specs.Fmt.{digits, digits_onto, digit_glyph}
 use Rattle.std.proofs.lemmas.Bool.Decides.{nat_tests}
 use Rattle.std.proofs.lemmas.List.{append-nil}
@@ -68,10 +69,7 @@ pub record Line (x : List ℕ) : Type 0 where
   pub free : NoLineFeed bytes
   pub is : x ≡ bytes ++ 10 ∷ []
 
-pub ends : Line (codes "\n")
-ends = record { bytes = []; free = tt; is = refl }
-
-pub behind : (w x : List ℕ) → NoLineFeed w → Line x → Line (w ++ x)
+behind : (w x : List ℕ) → NoLineFeed w → Line x → Line (w ++ x)
 behind w x free line = record {
   bytes = w ++ line.bytes;
   free = NoLineFeed-append w line.bytes free line.free;
@@ -79,7 +77,7 @@ behind w x free line = record {
 }
 
 -- a text that does not begin as a line does that closes a block
-abbrev pub OpensPlain : List ℕ → Type 0
+abbrev OpensPlain : List ℕ → Type 0
 OpensPlain x = ((rest : List ℕ) → x ≢ 111 ∷ rest) × ((rest : List ℕ) → x ≢ 114 ∷ 101 ∷ 102 ∷ rest)
 
 begins_longer : (line bytes more : List ℕ) → BeginsWith line bytes → BeginsWith (line ++ more) bytes
@@ -92,7 +90,7 @@ looks_plain line plain looks = ⊎_elim
     (λ (b : BeginsWith line (codes "refused ")). plain.1 (117 ∷ 115 ∷ 101 ∷ 100 ∷ 32 ∷ (b.0 ++ 10 ∷ [])) (begins_longer line (codes "refused ") (10 ∷ []) b).1)
     looks
 
-pub number_opens : (n b : ℕ) (rest : List ℕ) → b ≢ 111 → b ≢ 114 → OpensPlain (decimal n ++ b ∷ rest)
+number_opens : (n b : ℕ) (rest : List ℕ) → b ≢ 111 → b ≢ 114 → OpensPlain (decimal n ++ b ∷ rest)
 number_opens n b rest first second = from (decimal n) (are_digits n) where
   from : (w : List ℕ) → AreDigits w → OpensPlain (w ++ b ∷ rest)
   from [] h = (λ (more : List ℕ) (e : b ∷ rest ≡ 111 ∷ more). first cc, λ (more : List ℕ) (e : b ∷ rest ≡ 114 ∷ 101 ∷ 102 ∷ more). second cc)
@@ -132,7 +130,7 @@ both x y p q = record {
   before = λ (z : List ℕ) (r : All IsPlain (input_lines z)). subst (λ (t : List ℕ). All IsPlain (input_lines t)) (sym (append_assoc x y z)) (p.before (y ++ z) (q.before z r));
 }
 
-pub one : (x : List ℕ) → Line x → OpensPlain x → Plain x
+one : (x : List ℕ) → Line x → OpensPlain x → Plain x
 one x line plain = subst Plain (sym line.is) (record {
   before = λ (y : List ℕ) (p : All IsPlain (input_lines y)).
       subst (λ (t : List ℕ). All IsPlain (input_lines t)) (sym (append_assoc line.bytes (10 ∷ []) y))
@@ -141,13 +139,73 @@ one x line plain = subst Plain (sym line.is) (record {
       (record { ended = refl; plain = looks_plain line.bytes (subst OpensPlain line.is plain) }) p));
 })
 
--- a line whose first bytes are known
-pub opening : (x : List ℕ) → Line x → opens_plain x ≡ true → Plain x
-opening x line plain = one x line (opens x plain)
-
 pub each : {X : Type 0} (line : X → List ℕ) (xs : List X) → ((x : X) → Plain (line x)) → Plain (flat_map line xs)
 each line [] p = none
 each line (x ∷ xs) p = both (line x) (flat_map line xs) (p x) (each line xs p)
 
 pub whole : (x : List ℕ) → Plain x → All IsPlain (input_lines x)
 whole x p = subst (λ (t : List ℕ). All IsPlain (input_lines t)) (append-nil x) (p.before [] (All-nil IsPlain))
+
+-- ---- texts of words and numbers, which the rules below walk byte by byte
+
+-- the rest of a line, and plain lines after it
+pub record Rest (x : List ℕ) : Type 0 where
+  pub line : List ℕ
+  pub more : List ℕ
+  pub is_line : Line line
+  pub plain : Plain more
+  pub is : x ≡ line ++ more
+
+pub ended : (y : List ℕ) → Plain y → Rest (10 ∷ y)
+ended y plain = record { line = 10 ∷ []; more = y; is_line = record { bytes = []; free = tt; is = refl }; plain = plain; is = refl }
+
+pub further : (w x : List ℕ) → NoLineFeed w → Rest x → Rest (w ++ x)
+further w x free rest = record {
+  line = w ++ rest.line;
+  more = rest.more;
+  is_line = behind w rest.line free rest.is_line;
+  plain = rest.plain;
+  is = ap (λ (y : List ℕ). w ++ y) rest.is ∙ sym (append_assoc w rest.line rest.more);
+}
+
+pub byte : (b : ℕ) (x : List ℕ) → nat_eq b 10 ≡ false → Rest x → Rest (b ∷ x)
+byte b x other rest = further (b ∷ []) x (grind (arith, nat_tests), tt) rest
+
+pub number : (n : ℕ) (x : List ℕ) → Rest x → Rest (decimal n ++ x)
+number n x rest = further (decimal n) x (number_free n) rest
+
+pub hex : (bytes x : List ℕ) → Rest x → Rest (encode_lower bytes ++ x)
+hex bytes x rest = further (encode_lower bytes) x (hex_free bytes) rest
+
+-- how many there are, and their lines
+pub counted : (n : ℕ) (y : List ℕ) → Plain y → Rest ((decimal n ++ codes "\n") ++ y)
+counted n y plain = subst Rest (sym (append_assoc (decimal n) (codes "\n") y)) (number n (10 ∷ y) (ended y plain))
+
+opens_shorter : (x y : List ℕ) → OpensPlain (x ++ y) → OpensPlain x
+opens_shorter x y plain = (
+  λ (rest : List ℕ) (e : x ≡ 111 ∷ rest). plain.0 (rest ++ y) (ap (λ (t : List ℕ). t ++ y) e),
+  λ (rest : List ℕ) (e : x ≡ 114 ∷ 101 ∷ 102 ∷ rest). plain.1 (rest ++ y) (ap (λ (t : List ℕ). t ++ y) e),
+)
+
+begun : (x : List ℕ) → OpensPlain x → Rest x → Plain x
+begun x plain rest = subst Plain (sym rest.is) (both rest.line rest.more (one rest.line rest.is_line (opens_shorter rest.line rest.more (subst OpensPlain rest.is plain))) rest.plain)
+
+-- a text that begins with a word
+pub worded : (x : List ℕ) → opens_plain x ≡ true → Rest x → Plain x
+worded x plain rest = begun x (opens x plain) rest
+
+-- or with a number, and a byte after it
+pub numbered : (n b : ℕ) (x : List ℕ) → nat_eq b 111 ≡ false → nat_eq b 114 ≡ false → Rest (b ∷ x) → Plain (decimal n ++ b ∷ x)
+numbered n b x first second rest = begun (decimal n ++ b ∷ x) (number_opens n b x (grind (arith, nat_tests)) (grind (arith, nat_tests))) (number n (b ∷ x) rest)
+
+pub either : (b : Bool) (x y : List ℕ) → Plain x → Plain y → Plain (if b then x else y)
+either true x y p q = p
+either false x y p q = q
+
+-- a line, if there is one
+pub perhaps : {X : Type 0} (line : X → List ℕ) (o : Option X) → ((x : X) → Plain (line x)) → Plain (unwrap_or (option_map line o) [])
+perhaps line None p = none
+perhaps line (Some x) p = p x
+
+-- A text of words, numbers and lists of such lines is plain by these, if its words are.
+pub ruleset plain_rules = (none, each, ended, byte, number, hex, counted, worded, numbered, either, perhaps)

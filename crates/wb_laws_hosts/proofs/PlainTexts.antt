@@ -29,13 +29,15 @@ use Rattle.wb_member.specs.Opened.{Opened, next_number, shown}
 use Rattle.wb_member.specs.declared.questions.Query.{Query}
 use Rattle.wb_member.specs.declared.questions.Query.TheVariants.{Canvas, Gaps, Report, Pages, View, Known, Next}
 use Rattle.wb_commands.specs.declared.command.Command.TheVariants.{Question}
+use Rattle.wb_dialog.specs.declared.line.Call.{Call}
+use Rattle.wb_dialog.specs.declared.line.Call.TheVariants.{Ask}
 use Rattle.wb_dialog.specs.declared.line.DriverLine.TheVariants.{Script}
 use Rattle.wb_commands.specs.Answers.{batch_line, pair_line, gap_line, mark_line, page_line, gaps_text, known_text, next_line, pages_text, report_text, view_text, words_line}
 use Rattle.wb_commands.specs.SentLines.{digits_of, send_line, sends_text, look_line}
-use Rattle.wb_dialog.specs.Dialog.{ask_line, batch_of, stop_line, version_line}
+use Rattle.wb_dialog.specs.Dialog.{told_by_call}
 use Rattle.wb_laws_hosts.specs.Closings.{IsOneLine, AreOneLine, IsNoShow}
 use Rattle.wb_laws_hosts.specs.Telling.{answered}
-use Rattle.wb_laws_hosts.proofs.PlainLines.{Line, ends, behind, number_free, number_opens, hex_free, Plain, none, both, one, opening, each}
+use Rattle.wb_laws_hosts.proofs.PlainLines.{Plain, both, ended, further, none, number_free, plain_rules, worded}
 use Rattle.wb_laws_sessions.proofs.Holding.{all_from}
 
 -- ---- words
@@ -48,72 +50,12 @@ free_of (b ∷ word) e =
       feed : (b : ℕ) → not (nat_eq b 10) ≡ true → b ≢ 10
       feed b e = λ (is : b ≡ 10). let bad : not (nat_eq 10 10) ≡ true = subst (λ (c : ℕ). not (nat_eq c 10) ≡ true) is e in absurd cc
 
--- a word and a line after it
-said : (word x : List ℕ) → list_all (λ (b : ℕ). not (nat_eq b 10)) word ≡ true → Line x → Line (word ++ x)
-said word x free line = behind word x (free_of word free) line
-
-number : (n : ℕ) (x : List ℕ) → Line x → Line (decimal n ++ x)
-number n x line = behind (decimal n) x (number_free n) line
-
-last : (n : ℕ) → Line (decimal n ++ codes "\n")
-last n = number n (codes "\n") ends
-
-next : (n : ℕ) (x : List ℕ) → Line x → Line (decimal n ++ (codes " " ++ x))
-next n x line = number n (codes " " ++ x) (said (codes " ") x refl line)
-
--- ---- lines
-
-pub batch : (n : Counts) → Plain (batch_line n)
-batch n = opening (batch_line n) (said (codes "batch ") _ refl (next n.fresh _ (next n.again _ (next n.clash _ (last n.left))))) refl
-
-pub outcome : (o : Outcome) → Plain (batch_of o)
-outcome o = batch (counts_of (o ∷ []))
-
-pair : (a b : ℕ) → Plain (pair_line a b)
-pair a b = one (pair_line a b) (next a _ (last b)) (number_opens a 32 (decimal b ++ codes "\n") (λ (e : 32 ≡ 111). absurd cc) (λ (e : 32 ≡ 114). absurd cc))
-
-gap : (g : Gap) → Plain (gap_line g)
-gap g = one (gap_line g) (next g.source _ (next g.first _ (last g.last))) (number_opens g.source 32 (decimal g.first ++ (codes " " ++ (decimal g.last ++ codes "\n"))) (λ (e : 32 ≡ 111). absurd cc) (λ (e : 32 ≡ 114). absurd cc))
-
-pub send : (v : Datagram) → Plain (send_line v)
-send v = opening (send_line v) (said (codes "send ") _ refl (behind (digits_of v) (codes "\n") (hex_free (spelling v)) ends)) refl
-
 pub sends : (vs : List Datagram) → Plain (sends_text vs)
-sends vs = each send_line vs send
+sends vs = search plain_rules depth 20
 
-pub look : (n : ℕ) → Plain (look_line n)
-look n = opening (look_line n) (said (codes "look ") _ refl (last n)) refl
-
-numbered : (n : ℕ) → Plain (next_line n)
-numbered n = opening (next_line n) (said (codes "next ") _ refl (last n)) refl
-
-pub asks : (begun : Bool) → Plain (ask_line begun)
-asks true = opening (codes "ask 1\n") (said (codes "ask 1") (codes "\n") refl ends) refl
-asks false = opening (codes "ask 0\n") (said (codes "ask 0") (codes "\n") refl ends) refl
-
-pub stops : (asked : Bool) → Plain (stop_line asked)
-stops true = opening (codes "stop 1\n") (said (codes "stop 1") (codes "\n") refl ends) refl
-stops false = opening (codes "stop 0\n") (said (codes "stop 0") (codes "\n") refl ends) refl
-
-pub version : Plain version_line
-version = opening version_line (said (codes "version ") _ refl (last _)) refl
-
--- ---- lists
-
-gaps : (gs : List Gap) → Plain (gaps_text gs)
-gaps gs = both _ (flat_map gap_line gs) (opening _ (said (codes "gaps ") _ refl (last (length gs))) refl) (each gap_line gs gap)
-
-report : (marks : List MarkValue) → Plain (report_text marks)
-report marks = both _ (flat_map mark_line marks) (opening _ (said (codes "report ") _ refl (last (length marks))) refl) (each mark_line marks (λ (m : MarkValue). pair m.source m.high))
-
-pages_lines : (pages : List PageId) → Plain (flat_map page_line pages)
-pages_lines pages = each page_line pages (λ (p : PageId). pair p.creator p.number)
-
-pages : (ps : List PageId) → Plain (pages_text ps)
-pages ps = both _ (flat_map page_line ps) (opening _ (said (codes "pages ") _ refl (last (length ps))) refl) (pages_lines ps)
-
-known : (ps : List PageId) → Plain (known_text ps)
-known ps = both _ (flat_map page_line ps) (opening _ (said (codes "known ") _ refl (last (length ps))) refl) (pages_lines ps)
+pub called : (call : Call) (host : Opened) → Plain (told_by_call call host)
+called (Ask name) host = search plain_rules depth 20
+called call host = search plain_rules depth 20
 
 -- ---- drawops in words
 
@@ -166,7 +108,7 @@ behind_free d h = before (decimal d.name.source ∷ page_word d.name.page ∷ de
 
 in_words : (d : DrawopValue) → IsOneLine d.op → Plain (words_line d)
 in_words d h = subst (λ (line : List ℕ). Plain (line ++ codes "\n")) (sym (joined_tailed (codes "draw") (behind_draw d)))
-    (opening _ (behind (codes "draw" ++ tailed (behind_draw d)) (codes "\n") (NoLineFeed-append (codes "draw") (tailed (behind_draw d)) (free_of (codes "draw") refl) (behind_free d h)) ends) refl)
+    (worded _ refl (further (codes "draw" ++ tailed (behind_draw d)) (codes "\n") (NoLineFeed-append (codes "draw") (tailed (behind_draw d)) (free_of (codes "draw") refl) (behind_free d h)) (ended [] none)))
 
 in_lines : (ds : List DrawopValue) → AreOneLine ds → Plain (flat_map words_line ds)
 in_lines [] h = none
@@ -177,20 +119,12 @@ unfolding view_of
 seen host page held d c = All-contains (λ (e : DrawopValue). IsOneLine e.op) host.is.held d held (Contains-from_filter (is_shown host.is.held page) host.is.held d (Contains-from_sorted display_cmp (filter (is_shown host.is.held page) host.is.held) d c)).0
 
 view : (host : Opened) (page : PageId) → AreOneLine host.is.held → Plain (view_text (shown page host))
-view host page held = both _ (flat_map words_line (shown page host)) (opening _ (said (codes "view ") _ refl (last (length (shown page host)))) refl)
-    (in_lines (shown page host) (all_from (λ (e : DrawopValue). IsOneLine e.op) (shown page host) (seen host page held)))
+view host page held = search (in_lines (shown page host) (all_from (λ (e : DrawopValue). IsOneLine e.op) (shown page host) (seen host page held)), plain_rules) depth 20
 
 -- ---- answers
 
 -- each but that of a canvas
 pub answer : (query : Query) (host : Opened) → AreOneLine host.is.held → IsNoShow (Ok (Script (Question query))) → Plain (answered query host)
 answer (Canvas page width height) host held shows = absurd shows
-answer (Gaps page) host held shows = gaps _
-answer (Report page) host held shows = report _
-answer Pages host held shows = pages _
 answer (View page) host held shows = view host page held
-answer Known host held shows = known _
-answer (Next page) host held shows = from (next_number page host) where
-  from : (o : Option ℕ) → Plain (unwrap_or (option_map next_line o) [])
-  from None = none
-  from (Some n) = numbered n
+answer query host held shows = search plain_rules depth 20

@@ -25,7 +25,8 @@ use Rattle.wb_commands.specs.declared.command.Command.TheVariants as lines
 use Rattle.wb_words.specs.declared.adding.Adding.{Adding}
 use Rattle.wb_dialog.specs.declared.fault.Refusal.{Refusal}
 use Rattle.wb_dialog.specs.declared.line.DriverLine.{DriverLine}
-use Rattle.wb_dialog.specs.declared.line.DriverLine.TheVariants.{Script, Say, Ask, Stop, Keep, Came, Add, Version}
+use Rattle.wb_dialog.specs.declared.line.DriverLine.TheVariants.{Script, Say, Call as Calls, Keep, Came, Add}
+use Rattle.wb_dialog.specs.declared.line.Call.TheVariants.{Ask}
 use Rattle.wb_dialog.specs.Dialog.{says_line}
 use Rattle.wb_dialog.specs.Hosting.{Host, Driven, Kept, Hosting, Reply, prints, denies, host_after, hosting_after, hosting_from, kept_does, kept_reply, reply, reply_of, reply_to, unopened}
 use Rattle.wb_laws_sessions.specs.Drawn.{drawn_by}
@@ -46,26 +47,16 @@ use Rattle.wb_laws_sessions.proofs.Holding.{all_from}
 
 abbrev BringsSaying : Datagram → Type 0
 BringsSaying (datagrams.Draw d) = IsDrawop d
-BringsSaying (datagrams.Session sender sent page marks echoes) = Unit {0}
-BringsSaying (datagrams.Request asker name) = Unit {0}
-BringsSaying (datagrams.AskPages asker) = Unit {0}
-BringsSaying (datagrams.PageState sender page marks) = Unit {0}
+BringsSaying v = Unit {0}
 
 abbrev pub Brings : Line → Type 0
-Brings (Ticks now) = Unit {0}
 Brings (Arrives d) = IsDrawop d
-Brings (Hears v) = Unit {0}
-Brings (Asks name) = Unit {0}
-Brings (Stops name) = Unit {0}
-Brings (SetsDistance source micros) = Unit {0}
-Brings (Tunes constants) = Unit {0}
 Brings (Says v) = BringsSaying v
+Brings line = Unit {0}
 
 abbrev pub BringsBy : Deed → Type 0
 BringsBy (Performs line) = Brings line
-BringsBy (Looks page) = Unit {0}
-BringsBy (Reports page) = Unit {0}
-BringsBy (Opens constants cells seed) = Unit {0}
+BringsBy deed = Unit {0}
 
 -- its number and what it holds are in range
 pub record InRange (host : Opened) : Type 0 where
@@ -101,29 +92,18 @@ performed_bring (line ∷ performed) each = (each.0, performed_bring performed e
 driven_brings : (line : DriverLine) → drivers.Fits line → EachBrings (deeds_driven line)
 driven_brings (Script line) fit = script line fit where
   script : (line : Command) → drivers.Fits (Script line) → EachBrings (deeds_driven (Script line))
-  script (lines.Arrive d) fit = (fit, tt)
-  script (lines.Hear v) fit = (tt, tt)
-  script (lines.Distance source micros) fit = (tt, tt)
-  script (lines.Tune constants) fit = (tt, tt)
-  script (lines.Tick now) fit = (tt, tt)
-  script (lines.Look page) fit = (tt, tt)
-  script (lines.Session page) fit = (tt, tt)
   script (lines.Board member cells workers seed) fit = tt
+  script (lines.Arrive d) fit = (fit, tt)
   script (lines.Question query) fit = tt
   script lines.Skip fit = tt
+  script line fit = (tt, tt)
 driven_brings (Say v) fit = (says v fit, tt) where
   says : (v : Datagram) → IsDatagram v → BringsSaying v
   says (datagrams.Draw d) fit = fit
-  says (datagrams.Session sender sent page marks echoes) fit = tt
-  says (datagrams.Request asker name) fit = tt
-  says (datagrams.AskPages asker) fit = tt
-  says (datagrams.PageState sender page marks) fit = tt
-driven_brings (Ask name) fit = (tt, tt)
-driven_brings (Stop name) fit = (tt, tt)
-driven_brings (Keep rate listen) fit = tt
-driven_brings (Came now v) fit = tt
-driven_brings (Add a) fit = tt
-driven_brings Version fit = tt
+  says v fit = tt
+driven_brings (Calls (Ask name)) fit = (tt, tt)
+driven_brings (Calls call) fit = (tt, tt)
+driven_brings line fit = tt
 
 -- ---- lines of a policy
 
@@ -199,23 +179,13 @@ module _ (k : Keeping) (f : InRange k.host) where
   kept_script_brings (lines.Tick now) = unless_denied (tick_fault now k) (ticks now) [] (λ none. ticks_bring now (sees k.host) k.policy)
   kept_script_brings (lines.Tune constants) = (tt, tt)
   kept_script_brings (lines.Question query) = no_deeds (kept_reply (Script (lines.Question query)) k)
-  kept_script_brings lines.Skip = tt
-  kept_script_brings (lines.Arrive d) = tt
-  kept_script_brings (lines.Board member cells workers seed) = tt
-  kept_script_brings (lines.Hear v) = tt
-  kept_script_brings (lines.Distance source micros) = tt
-  kept_script_brings (lines.Look page) = tt
-  kept_script_brings (lines.Session page) = tt
+  kept_script_brings line = tt
 
   kept_brings : (line : DriverLine) → drivers.Fits line → EachBrings (deeds_by (kept_reply line k) (deeds_kept line k))
   kept_brings (Script line) fit = kept_script_brings line
   kept_brings (Came now v) fit = unless_denied (came_fault now v k) (came now v) _ (λ none. came_brings now v fit.1 (sees k.host) k.policy)
   kept_brings (Add a) fit = unless_denied (add_fault a.moment a.page a.time a.op k) (adds a.moment a.page a.time a.op) _ (adds_bring a fit)
-  kept_brings (Say v) fit = tt
-  kept_brings (Ask name) fit = tt
-  kept_brings (Stop name) fit = tt
-  kept_brings (Keep rate listen) fit = tt
-  kept_brings Version fit = tt
+  kept_brings line fit = tt
 
 -- ---- a line of either kind
 
@@ -225,14 +195,8 @@ by_reply (denies e) deeds brings = tt
 
 open_brings : (tuning : Tuning) (h : Host) (line : DriverLine) → InRange (member_in h) → drivers.Fits line → EachBrings (deeds_by (reply_to tuning (Some h) line) (deeds_of tuning (Some h) line))
 open_brings tuning (Driven host seed) line f fit = by_reply (reply_to tuning (Some (Driven host seed)) line) (deeds_driven line) (driven_brings line fit)
-open_brings tuning (Kept k) (Script line) f fit = kept_brings k f (Script line) fit
-open_brings tuning (Kept k) (Say v) f fit = tt
-open_brings tuning (Kept k) (Ask name) f fit = tt
-open_brings tuning (Kept k) (Stop name) f fit = tt
 open_brings tuning (Kept k) (Keep rate listen) f fit = tt
-open_brings tuning (Kept k) Version f fit = tt
-open_brings tuning (Kept k) (Came now v) f fit = kept_brings k f (Came now v) fit
-open_brings tuning (Kept k) (Add a) f fit = kept_brings k f (Add a) fit
+open_brings tuning (Kept k) line f fit = kept_brings k f line fit
 
 -- ---- hosts after lines
 
@@ -248,25 +212,8 @@ is_held (Some (Kept k)) member is f = subst InRange (sym is) f
 
 -- a board that was just opened
 first_holds : (tuning : Tuning) (line : DriverLine) → drivers.Fits line → Holds (host_after None (reply_to tuning None line))
-first_holds tuning (Script line) fit = script line fit where
-  script : (line : Command) → drivers.Fits (Script line) → Holds (host_after None (reply_to tuning None (Script line)))
-  script (lines.Board member cells workers seed) fit = record { me = fit.0; board = All-nil IsDrawop }
-  script lines.Skip fit = tt
-  script (lines.Arrive d) fit = tt
-  script (lines.Hear v) fit = tt
-  script (lines.Distance source micros) fit = tt
-  script (lines.Tune constants) fit = tt
-  script (lines.Tick now) fit = tt
-  script (lines.Look page) fit = tt
-  script (lines.Session page) fit = tt
-  script (lines.Question query) fit = tt
-first_holds tuning (Say v) fit = tt
-first_holds tuning (Ask name) fit = tt
-first_holds tuning (Stop name) fit = tt
-first_holds tuning (Keep rate listen) fit = tt
-first_holds tuning (Came now v) fit = tt
-first_holds tuning (Add a) fit = tt
-first_holds tuning Version fit = tt
+first_holds tuning (Script (lines.Board member cells workers seed)) fit = record { me = fit.0; board = All-nil IsDrawop }
+first_holds tuning line fit = tt
 
 module _ (tuning : Tuning) where
   led_holds : (h : Host) (said : Result DriverLine Refusal) → InRange (member_in h) → EachBrings (deeds_by (reply tuning (Some h) said) (deeds_said tuning (Some h) said)) → IsMemberAt (member_in h) (Some h) → Holds (host_after (Some h) (reply tuning (Some h) said))
@@ -293,25 +240,8 @@ line_brings s line h = by s.host h where
   first_brings (Err e) = tt
   first_brings (Ok line) = by_reply (reply s.tuning None (Ok line)) (deeds_of s.tuning None line) (opening line) where
     opening : (line : DriverLine) → EachBrings (deeds_first s.tuning line)
-    opening (Script line) = script line where
-      script : (line : Command) → EachBrings (deeds_first s.tuning (Script line))
-      script (lines.Board member cells workers seed) = (tt, tt)
-      script lines.Skip = tt
-      script (lines.Arrive d) = tt
-      script (lines.Hear v) = tt
-      script (lines.Distance source micros) = tt
-      script (lines.Tune constants) = tt
-      script (lines.Tick now) = tt
-      script (lines.Look page) = tt
-      script (lines.Session page) = tt
-      script (lines.Question query) = tt
-    opening (Say v) = tt
-    opening (Ask name) = tt
-    opening (Stop name) = tt
-    opening (Keep rate listen) = tt
-    opening (Came now v) = tt
-    opening (Add a) = tt
-    opening Version = tt
+    opening (Script (lines.Board member cells workers seed)) = (tt, tt)
+    opening line = tt
 
   by : (o : Option Host) → Holds o → EachBrings (deeds_by (reply s.tuning o (says_line (met line))) (deeds_said s.tuning o (says_line (met line))))
   by None h = first_brings (says_line (met line))

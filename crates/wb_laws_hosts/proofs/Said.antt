@@ -12,7 +12,7 @@ use Rattle.wb_member.specs.Opened.{Opened}
 use Rattle.wb_commands.specs.declared.command.Command.TheVariants as lines
 use Rattle.wb_dialog.specs.declared.fault.Refusal.{Refusal}
 use Rattle.wb_dialog.specs.declared.line.DriverLine.{DriverLine}
-use Rattle.wb_dialog.specs.declared.line.DriverLine.TheVariants.{Script, Say, Ask, Stop, Keep, Came, Add, Version}
+use Rattle.wb_dialog.specs.declared.line.DriverLine.TheVariants.{Script}
 use Rattle.wb_dialog.specs.Dialog.{says_line}
 use Rattle.wb_dialog.specs.Hosting.{Host, Driven, Kept, Hosting, reply}
 use Rattle.wb_laws_sessions.specs.Drawn.{WasDrawn, drawn_at}
@@ -54,26 +54,10 @@ module _ (numbers : ℕ → ℕ) where
 
   -- before a board is open nothing is performed
   first_none : (tuning : Tuning) (said : Result DriverLine Refusal) (line : Line) → Contains (deeds_by (reply tuning None said) (deeds_said tuning None said)) (Performs line) → ⊥
-  first_none tuning (Err e) line c = Contains-none (Performs line) c
   first_none tuning (Ok (Script (lines.Board member cells workers seed))) line c = ⊎_elim (λ (e : Opens tuning cells seed ≡ Performs line). other e) (λ (none : Contains [] (Performs line)). Contains-none (Performs line) none) (Contains-cases (Opens tuning cells seed) (Performs line) [] c) where
     other : Opens tuning cells seed ≡ Performs line → ⊥
     other e = cc
-  first_none tuning (Ok (Script lines.Skip)) line c = Contains-none (Performs line) c
-  first_none tuning (Ok (Script (lines.Arrive d))) line c = Contains-none (Performs line) c
-  first_none tuning (Ok (Script (lines.Hear v))) line c = Contains-none (Performs line) c
-  first_none tuning (Ok (Script (lines.Distance source micros))) line c = Contains-none (Performs line) c
-  first_none tuning (Ok (Script (lines.Tune constants))) line c = Contains-none (Performs line) c
-  first_none tuning (Ok (Script (lines.Tick now))) line c = Contains-none (Performs line) c
-  first_none tuning (Ok (Script (lines.Look page))) line c = Contains-none (Performs line) c
-  first_none tuning (Ok (Script (lines.Session page))) line c = Contains-none (Performs line) c
-  first_none tuning (Ok (Script (lines.Question query))) line c = Contains-none (Performs line) c
-  first_none tuning (Ok (Say v)) line c = Contains-none (Performs line) c
-  first_none tuning (Ok (Ask name)) line c = Contains-none (Performs line) c
-  first_none tuning (Ok (Stop name)) line c = Contains-none (Performs line) c
-  first_none tuning (Ok (Keep rate listen)) line c = Contains-none (Performs line) c
-  first_none tuning (Ok (Came now v)) line c = Contains-none (Performs line) c
-  first_none tuning (Ok (Add a)) line c = Contains-none (Performs line) c
-  first_none tuning (Ok Version) line c = Contains-none (Performs line) c
+  first_none tuning said line c = Contains-none (Performs line) c
 
   sent_here : (tuning : Tuning) (s : Option Host) (said : Result DriverLine Refusal) (member : Opened) (line : Line) (v : Datagram) → IsMemberAt member s
       → let deeds = deeds_by (reply tuning s said) (deeds_said tuning s said) in Contains deeds (Performs line) → Contains (sent_by_deeds deeds member) v → Contains (sent_at_host s deeds) v

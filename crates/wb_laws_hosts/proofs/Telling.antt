@@ -8,7 +8,7 @@ use Rattle.wb_member.specs.Opened.{Opened}
 use Rattle.wb_recovery.specs.declared.tuning.Tuning.{Tuning}
 use Rattle.wb_dialog.specs.declared.fault.Refusal.{Refusal}
 use Rattle.wb_dialog.specs.declared.line.DriverLine.{DriverLine}
-use Rattle.wb_dialog.specs.declared.line.DriverLine.TheVariants.{Script, Say, Ask, Stop, Keep, Came, Add, Version}
+use Rattle.wb_dialog.specs.declared.line.DriverLine.TheVariants.{Script}
 use Rattle.wb_dialog.specs.Dialog.{says_line}
 use Rattle.wb_dialog.specs.Doing.{text_in}
 use Rattle.wb_dialog.specs.Hosting.{Host, Driven, Kept, Reply, prints, denies, reply, reply_to}
@@ -23,26 +23,8 @@ by_led host (denies e) deeds told led = refl
 
 -- before a board is open nothing is sent
 first : (tuning : Tuning) (said : Result DriverLine Refusal) → text_in (reply tuning None said) ≡ told_by (reply tuning None said) (told_said None said)
-first tuning (Err e) = refl
-first tuning (Ok (Script line)) = script line where
-  script : (line : Command) → text_in (reply_to tuning None (Script line)) ≡ told_by (reply_to tuning None (Script line)) []
-  script (lines.Board member cells workers seed) = refl
-  script lines.Skip = refl
-  script (lines.Arrive d) = refl
-  script (lines.Hear v) = refl
-  script (lines.Distance source micros) = refl
-  script (lines.Tune constants) = refl
-  script (lines.Tick now) = refl
-  script (lines.Look page) = refl
-  script (lines.Session page) = refl
-  script (lines.Question query) = refl
-first tuning (Ok (Say v)) = refl
-first tuning (Ok (Ask name)) = refl
-first tuning (Ok (Stop name)) = refl
-first tuning (Ok (Keep rate listen)) = refl
-first tuning (Ok (Came now v)) = refl
-first tuning (Ok (Add adding)) = refl
-first tuning (Ok Version) = refl
+first tuning (Ok (Script lines.Skip)) = refl
+first tuning said = refl
 
 told_at_host : (tuning : Tuning) (s : Option Host) (said : Result DriverLine Refusal) → let r = reply tuning s said in
     text_in r ≡ sends_text (sent_at_host s (deeds_by r (deeds_said tuning s said))) ++ told_by r (told_said s said)

@@ -9,15 +9,15 @@ use Rattle.wb_commands.specs.Answers.{answer_text}
 use Rattle.wb_commands.specs.SentLines.{look_line, sends_text}
 use Rattle.wb_commands.specs.declared.command.Command.{Command}
 use Rattle.wb_commands.specs.declared.command.Command.TheVariants as lines
-use Rattle.wb_member.specs.Opened.{Opened, asks_for, becomes, may_ask, wanted_of}
+use Rattle.wb_member.specs.Opened.{Opened, becomes, wanted_of}
 use Rattle.wb_member.specs.Questions.{answer_to}
 use Rattle.wb_member.specs.declared.questions.Query.{Query}
 use Rattle.wb_keeping.specs.Performing.{Keeping}
 use Rattle.wb_keeping.specs.Refusing.{came_as, drawn_as}
 use Rattle.wb_dialog.specs.declared.fault.Refusal.{Refusal}
 use Rattle.wb_dialog.specs.declared.line.DriverLine.{DriverLine}
-use Rattle.wb_dialog.specs.declared.line.DriverLine.TheVariants.{Script, Say, Ask, Stop, Came, Add, Version}
-use Rattle.wb_dialog.specs.Dialog.{ask_line, batch_of, says_line, stop_line, version_line}
+use Rattle.wb_dialog.specs.declared.line.DriverLine.TheVariants.{Script, Say, Call as Calls, Came, Add, Version}
+use Rattle.wb_dialog.specs.Dialog.{batch_of, says_line, told_by_call, version_line}
 use Rattle.wb_dialog.specs.Doing.{text_in}
 use Rattle.wb_dialog.specs.Hosting.{Host, Driven, Kept, Hosting, Reply, prints, denies, came_text, reply_of, unsent_text}
 use Rattle.wb_laws_hosts.specs.Texts.{sent_at}
@@ -41,8 +41,7 @@ told_saying v host = []
 abbrev pub told_driven : DriverLine → Opened → List ℕ
 told_driven (Script line) host = told_in_script line host
 told_driven (Say v) host = told_saying v host
-told_driven (Ask name) host = ask_line (may_ask name host)
-told_driven (Stop name) host = stop_line (asks_for name host)
+told_driven (Calls call) host = told_by_call call host
 told_driven Version host = version_line
 told_driven line host = []
 

@@ -8,14 +8,14 @@ use Rattle.wb_lines.specs.Taking.{met}
 use Rattle.wb_commands.specs.declared.command.Command.{Command}
 use Rattle.wb_commands.specs.declared.command.Command.TheVariants as lines
 use Rattle.wb_commands.specs.SentLines.{send_line}
-use Rattle.wb_member.specs.Lines.{Ticks, Arrives, Hears, Asks, Stops, SetsDistance, Tunes, Says}
+use Rattle.wb_member.specs.Lines.{Ticks, Arrives, Hears, SetsDistance, Tunes, Says}
 use Rattle.wb_member.specs.Opened.{Opened}
 use Rattle.wb_keeping.specs.Kept.{Transition, adds, came, performs, ticks}
 use Rattle.wb_keeping.specs.Performing.{Keeping, sees}
 use Rattle.wb_dialog.specs.declared.fault.Refusal.{Refusal}
 use Rattle.wb_dialog.specs.declared.line.DriverLine.{DriverLine}
 use Rattle.wb_dialog.specs.declared.line.DriverLine.TheVariants as driver
-use Rattle.wb_dialog.specs.Dialog.{says_line}
+use Rattle.wb_dialog.specs.Dialog.{line_of_call, says_line}
 use Rattle.wb_dialog.specs.Hosting.{Host, Driven, Kept, Hosting, Reply, prints, denies, hosting_after, reply_of, unopened}
 use Rattle.wb_laws_sessions.specs.Sessions.{Deed, Performs, Looks, Reports, Opens, Step, host_at, sent_by_deeds, steps_then}
 
@@ -63,8 +63,7 @@ deeds_in_script line = []
 abbrev pub deeds_driven : DriverLine → List Deed
 deeds_driven (driver.Script line) = deeds_in_script line
 deeds_driven (driver.Say v) = Performs (Says v) ∷ []
-deeds_driven (driver.Ask name) = Performs (Asks name) ∷ []
-deeds_driven (driver.Stop name) = Performs (Stops name) ∷ []
+deeds_driven (driver.Call call) = Performs (line_of_call call) ∷ []
 deeds_driven line = []
 
 -- at a self-managing host: the lines of its policy

@@ -1,11 +1,10 @@
 -- Two histories with the same drawops: what a script's lines read off them is the same.
-use Rattle.std.proofs.Common.{◌≡◌, ℕ, Bool, List, [], Option, refl, sym, ap, ◌∙◌, ⊎_elim, eqb-true, Contains, Any, IsPermutation, ◌++◌, max, map, filter, nat_lt, option_map, is_eq, nat_cmp}
+use Rattle.std.proofs.Common.{◌≡◌, ℕ, Bool, List, [], Option, refl, sym, ap, ◌∙◌, ⊎_elim, eqb-true, Contains, Any, IsPermutation, ◌++◌, map, filter, nat_lt, option_map, is_eq, nat_cmp}
 use Rattle.std.specs.Cmp.{nat_cmp_total}
 use Rattle.std.specs.declared.cmp.Ordering.TheVariants.{Equal}
 use Rattle.std.proofs.Math.Path.{fun_ext}
 use Rattle.std.proofs.lemmas.List.Sorted.{Contains-permutation, IsPermutation-sym, list_any-IsPermutation}
 use Rattle.wb_names.specs.Values.{NameValue, DrawopValue, MarkValue}
-use Rattle.wb_names.specs.Marks.{mark_of}
 use Rattle.wb_names.specs.Orders.{same_name, same_page, page_cmp}
 use Rattle.wb_names.specs.Arrivals.{history_after}
 use Rattle.wb_names.specs.History.{IsHeld, HoldsName, highest}
@@ -15,7 +14,6 @@ use Rattle.wb_names.proofs.Listings.{Contains-filter, Contains-from_filter, Any-
 use Rattle.wb_names.proofs.Orders.{nat_ties, page_total}
 use Rattle.wb_codec.specs.declared.datagram.Datagram.{Datagram}
 use Rattle.wb_codec.specs.declared.datagram.Datagram.TheVariants.{Draw, Request}
-use Rattle.wb_display.specs.Canvas.{canvas_text}
 use Rattle.wb_display.proofs.Convergence.{converges}
 use Rattle.wb_gaps.specs.Answers.{sources_of, top_mark, gaps_of, report_of, pages_of, reports_of}
 use Rattle.wb_gaps.specs.declared.page_reports.PageReport.{PageReport}
@@ -33,11 +31,9 @@ use Rattle.wb_keeper.specs.Hearing.{asks_for_held}
 use Rattle.wb_keeper.specs.Ticks.{drawop_of, sent_for}
 use Rattle.wb_keeper.proofs.FoundDrawops.{found_member, found_none}
 use Rattle.wb_commands.specs.Answers.{answer_text}
-use Rattle.wb_member.specs.Opened.{number_after}
 use Rattle.wb_member.specs.Questions.{answer_by}
-use Rattle.wb_member.specs.Questions as told
 use Rattle.wb_member.specs.declared.questions.Query.{Query}
-use Rattle.wb_member.specs.declared.questions.Query.TheVariants.{Canvas, Gaps, Report, Pages, View, Known, Next}
+use Rattle.wb_member.specs.declared.questions.Query.TheVariants.{Pages}
 use Rattle.wb_member.specs.Queries.{view_of}
 use Rattle.wb_member.proofs.Queries.{view_of_page}
 use Rattle.wb_script.specs.Laws.{AnswersAreFree, PrintsAreFree}
@@ -145,14 +141,12 @@ module _ (one other : List DrawopValue) (a : AreAlike one other) where
       (among_both (map page_of one) (map page_of other) heard heard (mapped_among one other a.moved) (λ page c. c))
       (among_both (map page_of other) (map page_of one) heard heard (mapped_among other one back) (λ page c. c))
 
+  -- what is read off a history for an answer
+  ruleset same_readings = (same_view, same_gaps, same_report, same_pages, same_known, same_highest)
+
   pub same_answer : (number : ℕ) (marks : PageId → List MarkValue) (heard : List PageId) (query : Query) → answer_by number marks heard one query ≡ answer_by number marks heard other query
-  same_answer number marks heard (Canvas page width height) = ap (λ (shown : List DrawopValue). told.canvas (canvas_text shown width height)) (same_view page)
-  same_answer number marks heard (Gaps page) = ap told.gaps (same_gaps page (marks page))
-  same_answer number marks heard (Report page) = ap told.report (same_report page)
-  same_answer number marks heard Pages = ap told.pages same_pages
-  same_answer number marks heard (View page) = ap told.view (same_view page)
-  same_answer number marks heard Known = ap told.known (same_known heard)
-  same_answer number marks heard (Next page) = ap (λ (high : ℕ). told.next (number_after (max high (mark_of (marks page) number)))) (same_highest page number)
+  same_answer number marks heard Pages = simp same_readings
+  same_answer number marks heard query = simp same_readings
 
 -- ---- laws of what is printed
 
