@@ -71,7 +71,7 @@ some_ask n lines c = asks_at_least (n ∷ []) lines ((λ none. absurd (Contains-
 
 wants_owe : (name : NameValue) (anew : Bool) (k : Keeping) → Owes k (want name anew (sees k.host) k.policy).lines (after_doing (want name anew) k)
 wants_owe name anew k = by (is_wanted_here name anew (sees k.host) k.policy) now where
-  abbrev wanted : Bool → Doing
+  wanted : Bool → Doing
   wanted b = cond b (record { policy = after_wanting (present k.host) k.policy; lines = lines_wanted name anew (sees k.host) k.policy }) (still (sees k.host) k.policy)
 
   now : present (after_doing (want name anew) k).host ≡ present k.host
@@ -139,7 +139,7 @@ module _ (hosts : ℕ → Opening) (i : ℕ) where
     k : Keeping
     k = there hosts base i
 
-    abbrev rest : ℕ
+    rest : ℕ
     rest = asks_since hosts since i base
 
     by : (a : Bool) → a ≡ true → (b : Bool) → nat_eq e.at.place i ≡ b

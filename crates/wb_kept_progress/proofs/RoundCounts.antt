@@ -83,13 +83,13 @@ older_part [] e y part rest same = ([], tails e y part rest same)
 older_part (z ∷ front) e y part rest same = (front ++ y ∷ [], tails e z part (front ++ y ∷ rest) same ∙ sym (append_assoc front (y ∷ []) rest))
 
 -- what comes before the newest call
-before_newest : (front : List TimedLine) (e y : TimedLine) (part rest : List TimedLine) → e ∷ part ≡ front ++ y ∷ rest → y.time < e.time → (more : List TimedLine) × (part ≡ more ++ y ∷ rest)
+pub before_newest : (front : List TimedLine) (e y : TimedLine) (part rest : List TimedLine) → e ∷ part ≡ front ++ y ∷ rest → y.time < e.time → (more : List TimedLine) × (part ≡ more ++ y ∷ rest)
 before_newest [] e y part rest same lt = let is : e.time ≡ y.time = ap called_at same in absurd (omega (arith, is, lt))
 before_newest (z ∷ front) e y part rest same lt = (front, tails e z part (front ++ y ∷ rest) same)
 
 module _ (hosts : ℕ → Opening) where
   -- what is performed after the lines of some calls is performed in the next call, or later
-  since_next : (newer part : List TimedLine) (next : TimedLine) (front between : List Performed) (x : Performed) → AreCalledInOrder (newer ++ next ∷ part) → AreInOrder (performed hosts (newer ++ next ∷ part))
+  pub since_next : (newer part : List TimedLine) (next : TimedLine) (front between : List Performed) (x : Performed) → AreCalledInOrder (newer ++ next ∷ part) → AreInOrder (performed hosts (newer ++ next ∷ part))
       → performed hosts (newer ++ next ∷ part) ≡ front ++ x ∷ (between ++ performed hosts part) → next.time ≤ x.time
   since_next newer part next front between x order in_order split = ⊎_elim (λ no. no.1) (λ yes. absurd (earlier yes.1)) (leb_tells next.time x.time) where
     back : List Performed

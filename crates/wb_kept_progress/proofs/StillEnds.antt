@@ -155,25 +155,25 @@ module _ (hosts : ℕ → Opening) (terms : Terms) (trace : List TimedLine) (wai
         let d = ends_x in
         omega (arith, n, first_time, a, b, d, after)
 
-    w : (w : List TimedLine) × (part ≡ w ++ p.next ∷ p.part)
-    w = before_newest (x.front ++ p.front) y p.next part p.part (x.split ∙ ap (λ (t : List TimedLine). x.front ++ t) p.split ∙ sym (append_assoc x.front p.front (p.next ∷ p.part))) earlier
+    two : (w : List TimedLine) × (part ≡ w ++ p.next ∷ p.part)
+    two = before_newest (x.front ++ p.front) y p.next part p.part (x.split ∙ ap (λ (t : List TimedLine). x.front ++ t) p.split ∙ sym (append_assoc x.front p.front (p.next ∷ p.part))) earlier
 
-    whole : part ≡ (w.0 ++ p.next ∷ []) ++ p.part
-    whole = w.1 ∙ sym (append_assoc w.0 (p.next ∷ []) p.part)
+    two_are : part ≡ (two.0 ++ p.next ∷ []) ++ p.part
+    two_are = two.1 ∙ sym (append_assoc two.0 (p.next ∷ []) p.part)
 
-    crowd_in : 64 ≤ ask_count (performs_in hosts i (w.0 ++ p.next ∷ []) p.part)
+    crowd_in : 64 ≤ ask_count (performs_in hosts i (two.0 ++ p.next ∷ []) p.part)
     crowd_in =
         let c = crowd_then in
-        crowd_asks hosts terms trace (newer ++ newest) (w.0 ++ p.next ∷ []) p.part y i c.0 session.order
-        (split ∙ ap (λ (t : List TimedLine). newer ++ t) same_calls ∙ sym (append_assoc newer newest (y ∷ part)) ∙ ap (λ (t : List TimedLine). (newer ++ newest) ++ y ∷ t) whole)
+        crowd_asks hosts terms trace (newer ++ newest) (two.0 ++ p.next ∷ []) p.part y i c.0 session.order
+        (split ∙ ap (λ (t : List TimedLine). newer ++ t) same_calls ∙ sym (append_assoc newer newest (y ∷ part)) ∙ ap (λ (t : List TimedLine). (newer ++ newest) ++ y ∷ t) two_are)
         (let by = p.by in let a = c.1 in let b = x.after in omega (arith, by, a, b)) (let a = c.1 in let b = x.after in omega (arith, a, b, known))
         (let n = next in let b = c.2 in let d = ends_x in omega (arith, n, b, d, after)) c.3
 
     counts : 64 * j ≤ asks_since hosts from i p.part → 64 * suc j ≤ asks_since hosts from i part
     counts rest =
         let crowd = crowd_in in
-        let both = asked_since hosts i w.0 p.next p.part from (subst AreCalledInOrder w.1 order_y.1) (let a = p.after in omega (arith, a)) in
-        let is = ap (asks_since hosts from i) w.1 in
+        let both = asked_since hosts i two.0 p.next p.part from (subst AreCalledInOrder two.1 order_y.1) (let a = p.after in omega (arith, a)) in
+        let is = ap (asks_since hosts from i) two.1 in
         omega (arith, crowd, rest, both, is)
 
   many : (j : ℕ) (newest part : List TimedLine) (y : TimedLine) → e ∷ (window ++ base) ≡ newest ++ y ∷ part → at j < y.time → at j + coming terms < e.time → 64 * j ≤ asks_since hosts from i part

@@ -47,10 +47,10 @@ use Rattle.wb_kept_progress.proofs.WholeParts.{HasTurn, does}
 -- some line asks for a name
 pub an_ask : (lines : List Line) → 1 ≤ ask_count lines → HasAsk lines
 an_ask [] some = absurd (omega (arith, some))
-an_ask (line ∷ lines) some = by (is_ask line) refl some where
-  by : (b : Bool) → is_ask line ≡ b → 1 ≤ length (cond b (line ∷ filter is_ask lines) (filter is_ask lines)) → HasAsk (line ∷ lines)
-  by true e some = let x = asks_of line e in (x.0, subst (λ (l : Line). Contains (line ∷ lines) l) x.1 (Contains-here line lines))
-  by false e some = let rest = an_ask lines some in (rest.0, Contains-there line (Asks rest.0) lines rest.1)
+an_ask (line ∷ lines) some = by (an_ask lines) (is_ask line) refl some where
+  by : (1 ≤ ask_count lines → HasAsk lines) → (b : Bool) → is_ask line ≡ b → 1 ≤ length (cond b (line ∷ filter is_ask lines) (filter is_ask lines)) → HasAsk (line ∷ lines)
+  by later true e some = let x = asks_of line e in (x.0, subst (λ (l : Line). Contains (line ∷ lines) l) x.1 (Contains-here line lines))
+  by later false e some = let rest = later some in (rest.0, Contains-there line (Asks rest.0) lines rest.1)
 
 -- ---- one call, by which nothing new comes
 
@@ -176,7 +176,7 @@ module _ (hosts : ℕ → Opening) (terms : Terms) (trace : List TimedLine) (i :
   pub awake_by : (front part : List TimedLine) (m : NameValue) → window ≡ front ++ part → Contains (performs_in hosts i part base) (Asks m) → IsAwake (part ++ base)
   awake_by front [] m is c = absurd (Contains-none (Asks m) c)
   awake_by front (e ∷ part) m is c = by (awake_by (front ++ e ∷ []) part m later) (nat_eq e.at.place i) refl c where
-    abbrev first : Keeping
+    first : Keeping
     first = there hosts base i
 
     later : window ≡ (front ++ e ∷ []) ++ part

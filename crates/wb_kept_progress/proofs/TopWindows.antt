@@ -45,7 +45,7 @@ use Rattle.wb_kept_progress.proofs.OwedAndDue.{beat_there, near_there, now_there
 use Rattle.wb_kept_progress.proofs.Owing.{asked_since, without_credit}
 use Rattle.wb_kept_progress.proofs.Repairs.{of_opening}
 use Rattle.wb_kept_progress.proofs.ReportsCome.{reports_come}
-use Rattle.wb_kept_progress.proofs.RoundCounts.{IsThen, before_newest, held_before, older_part, then_at}
+use Rattle.wb_kept_progress.proofs.RoundCounts.{IsThen, before_newest, held_before, then_at}
 use Rattle.wb_kept_progress.proofs.SameReports.{still_held}
 use Rattle.wb_kept_progress.proofs.StillCalls.{came_now}
 use Rattle.wb_kept_progress.proofs.StillEnds.{not_still}
@@ -137,7 +137,7 @@ module _ (told : LastNumbersAreTold) (hosts : ℕ → Opening) (terms : Terms) (
     later_then : credited + turn_span terms + telling + terms.delivery + (request_span terms + repairing terms) < e.time
     later_then = let r = in_time in omega (arith, r, goes_on)
 
-    q : IsThen (e ∷ part) credited
+    pub q : IsThen (e ∷ part) credited
     q = then_at (e ∷ part) credited (let l = later_then in omega (arith, l))
 
     pub p : IsThen (q.next ∷ q.part) (at_window k)
@@ -179,7 +179,7 @@ module _ (told : LastNumbersAreTold) (hosts : ℕ → Opening) (terms : Terms) (
         omega (arith, soon, turn, beat, by, first)
 
     -- the calls of the window
-    more : (w : List TimedLine) × (part ≡ w ++ p.next ∷ p.part)
+    pub more : (w : List TimedLine) × (part ≡ w ++ p.next ∷ p.part)
     more = before_newest (q.front ++ p.front) e p.next part p.part
         (q.split ∙ ap (λ (l : List TimedLine). q.front ++ l) p.split ∙ sym (append_assoc q.front p.front (p.next ∷ p.part)))
         (let end = first_time in let b = begins in let l = later_then in omega (arith, end, b, l)) where
@@ -204,7 +204,7 @@ module _ (told : LastNumbersAreTold) (hosts : ℕ → Opening) (terms : Terms) (
     lacks_base : holds (there hosts base i).host n ≡ false
     lacks_base = lacked_before hosts q.front base i n (subst (λ (l : List TimedLine). holds (there hosts l i).host n ≡ false) q.split lacks)
 
-    pub lacks_part : holds (there hosts part i).host n ≡ false
+    lacks_part : holds (there hosts part i).host n ≡ false
     lacks_part = lacked_before hosts (e ∷ []) part i n lacks
 
     -- ---- it is told
@@ -212,7 +212,7 @@ module _ (told : LastNumbersAreTold) (hosts : ℕ → Opening) (terms : Terms) (
     settled : settled_by terms < q.next.time
     settled = let after = q.after in let known = known_start in omega (arith, after, known)
 
-    holds_it : holds (there hosts base j).host.is.held n ≡ true
+    holds_it : holds (there hosts base j).host n ≡ true
     holds_it = still_held hosts terms trace (newer ++ q.front) base session split_q settled n held
 
     within_q : trace ≡ newer ++ (q.front ++ base)
@@ -254,7 +254,7 @@ module _ (told : LastNumbersAreTold) (hosts : ℕ → Opening) (terms : Terms) (
         ∙ sym (append_assoc newer t.later (t.e ∷ older_t))
 
     differ : j ≡ i → ⊥
-    differ same = true≢false (sym holds_it ∙ ap (λ (x : ℕ). holds (there hosts base x).host.is.held n) same ∙ lacks_base)
+    differ same = true≢false (sym holds_it ∙ ap (λ (x : ℕ). holds (there hosts base x).host n) same ∙ lacks_base)
 
     told_by : t.e.time + terms.delivery + (request_span terms + repairing terms) < e.time
     told_by = let soon = t.soon in let b = begins in let l = later_then in omega (arith, soon, b, l)
@@ -352,7 +352,7 @@ module _ (told : LastNumbersAreTold) (hosts : ℕ → Opening) (terms : Terms) (
     now_is = subst (IsNowAt terms h.call.time i) (sym (ap (λ (x : Keeping). present x.host) m_is ∙ came_now h.now report k_then))
         (subst (SaysNow terms h.call.time i) h.is (told_there hosts terms trace session h.later older_h h.call i whole_h live here))
 
-    pub short_upto : LacksCredit (after_doing (came h.now report) k_then) → 64 ≤ ask_count (performs_in hosts i upto.0 p.part)
+    short_upto : LacksCredit (after_doing (came h.now report) k_then) → 64 ≤ ask_count (performs_in hosts i upto.0 p.part)
     short_upto without = without_credit hosts i upto.0 p.part
         (subst (λ (l : List TimedLine). AreTaken hosts (lines_of l)) upto.1 (taken_of hosts h.later (h.call ∷ older_h) (subst (λ (l : List TimedLine). AreTaken hosts (lines_of l)) whole_h session.taken)))
         (subst (λ (l : List TimedLine). LacksCredit (there hosts l i)) upto.1 (subst LacksCredit (sym m_is) without))

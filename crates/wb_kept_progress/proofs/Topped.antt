@@ -87,11 +87,11 @@ module _ (hosts : ℕ → Opening) (terms : Terms) (trace newer older : List Tim
   g : IsGreatest terms.live most_at
   g = greatest terms.live most_at some.0 some.1
 
-  abbrev pub top : NameValue
+  abbrev top : NameValue
   top = name_of n.page n.source (most_at g.place)
 
   -- it is held
-  pub top_some : IsHeldBySome hosts terms trace top
+  top_some : IsHeldBySome hosts terms trace top
   top_some = held_was_held hosts terms trace newer older g.place top session split g.among (held-from (held_at g.place) n.page n.source (most_at g.place) reached) where
     first : n.seq ≤ most_at g.place
     first = let a = under n some refl refl counted in let b = g.most some.0 some.1 in omega (arith, a, b)
@@ -103,7 +103,7 @@ module _ (hosts : ℕ → Opening) (terms : Terms) (trace newer older : List Tim
       by (inr is) = is
 
   -- and it is the last
-  pub top_last : ((m : NameValue) → IsHeldBySome hosts terms trace m → 1 ≤ m.seq) → (m : NameValue) → IsHeldBySome hosts terms trace m → m.page ≡ top.page → m.source ≡ top.source → m.seq ≤ top.seq
+  top_last : ((m : NameValue) → IsHeldBySome hosts terms trace m → 1 ≤ m.seq) → (m : NameValue) → IsHeldBySome hosts terms trace m → m.page ≡ top.page → m.source ≡ top.source → m.seq ≤ top.seq
   top_last numbered m s page source = let a = under m s page source (numbered m s) in let b = g.most s.0 s.1 in omega (arith, a, b)
 
 -- ---- the laws
