@@ -1,5 +1,5 @@
 -- The 64 names of a crowd are asked for in the calls of a window, if it begins a request before the crowd and goes on to it.
-use Rattle.std.proofs.Common.{◌≡◌, ℕ, ◌+◌, ◌<◌, ◌≤◌, List, ◌∷◌, ◌++◌, ◌∙◌, [], append_assoc, arith, subst, sym}
+use Rattle.std.proofs.Common.{◌≡◌, ℕ, ◌+◌, ◌<◌, ◌≤◌, List, [], ◌∷◌, ◌++◌, ◌∙◌, ap, append_assoc, arith, subst, sym}
 use Rattle.std.specs.Prelude.{Contains}
 use Rattle.std.proofs.lemmas.List.Elements.{Contains-append_right}
 use Rattle.wb_names.specs.Values.{NameValue}
@@ -14,9 +14,14 @@ use Rattle.wb_kept_progress.proofs.CallLines.{lines_have_calls}
 use Rattle.wb_kept_progress.proofs.CallParts.{calls_order}
 use Rattle.wb_kept_progress.proofs.Crowds.{IsAskedFor, IsCrowd}
 use Rattle.wb_kept_progress.proofs.Handed.{asks_at_least, performs_in, stands_in}
-use Rattle.wb_kept_progress.proofs.RoundCounts.{before_newest}
+use Rattle.wb_progress.proofs.Parts.{tails}
 use Rattle.wb_kept_progress.proofs.WholeParts.{IsOfCall, does}
 use Rattle.wb_kept_progress.proofs.WindowParts.{calls_past, in_window}
+
+-- what comes before the newest call
+pub before_newest : (front : List TimedLine) (e y : TimedLine) (part rest : List TimedLine) → e ∷ part ≡ front ++ y ∷ rest → y.time < e.time → (more : List TimedLine) × (part ≡ more ++ y ∷ rest)
+before_newest [] e y part rest same lt = let is : e.time ≡ y.time = ap called_at same in absurd (omega (arith, is, lt))
+before_newest (z ∷ front) e y part rest same lt = (front, tails e z part (front ++ y ∷ rest) same)
 
 module _ (hosts : ℕ → Opening) (terms : Terms) (trace newer window base : List TimedLine) (e : TimedLine) (i time : ℕ) (order : AreCalledInOrder trace) (split : trace ≡ newer ++ e ∷ (window ++ base)) (begins : called_at base + request_span terms < time)
     (quiet : terms.quiet + request_span terms < time) (ends : time < e.time) where

@@ -52,10 +52,15 @@ pub mod StillEnds
 pub mod TopWindows
 pub mod TopGains
 pub mod Topped
+pub mod PagesInTurn
+pub mod Slices
 pub mod LackWanted
 pub mod Young
 pub mod StopCauses
 pub mod ToldHeld
+pub mod TellingGrows
+pub mod TellingCalls
+pub mod LastNumbers
 pub mod AskedInCalls
 pub mod Courses
 pub mod Causes

@@ -29,7 +29,8 @@ use Rattle.wb_kept_progress.proofs.Becoming.{held_on, lacked_before}
 use Rattle.wb_kept_progress.proofs.CallLines.{call_ends, line_stands, lines_have_calls}
 use Rattle.wb_kept_progress.proofs.CallParts.{calls_end, calls_order, host_is}
 use Rattle.wb_kept_progress.proofs.CallsInTime.{performed_is_timely}
-use Rattle.wb_kept_progress.proofs.Crowds.{IsAskedFor, IsCrowd, crowd}
+use Rattle.wb_kept_progress.proofs.CrowdAsks.{crowd_asks}
+use Rattle.wb_kept_progress.proofs.Crowds.{IsCrowd, crowd}
 use Rattle.wb_kept_progress.proofs.Handed.{asked_both, asks_at_least, performs_in, stands_in}
 use Rattle.wb_kept_progress.proofs.KeptInTime.{at_place, front_of, time_is}
 use Rattle.wb_kept_progress.proofs.Timely.{in_past}
@@ -81,11 +82,6 @@ then_at (e ∷ older) s lt = ⊎_elim
 older_part : (front : List TimedLine) (e y : TimedLine) (part rest : List TimedLine) → e ∷ part ≡ front ++ y ∷ rest → (more : List TimedLine) × (part ≡ more ++ rest)
 older_part [] e y part rest same = ([], tails e y part rest same)
 older_part (z ∷ front) e y part rest same = (front ++ y ∷ [], tails e z part (front ++ y ∷ rest) same ∙ sym (append_assoc front (y ∷ []) rest))
-
--- what comes before the newest call
-pub before_newest : (front : List TimedLine) (e y : TimedLine) (part rest : List TimedLine) → e ∷ part ≡ front ++ y ∷ rest → y.time < e.time → (more : List TimedLine) × (part ≡ more ++ y ∷ rest)
-before_newest [] e y part rest same lt = let is : e.time ≡ y.time = ap called_at same in absurd (omega (arith, is, lt))
-before_newest (z ∷ front) e y part rest same lt = (front, tails e z part (front ++ y ∷ rest) same)
 
 module _ (hosts : ℕ → Opening) where
   -- what is performed after the lines of some calls is performed in the next call, or later
@@ -289,33 +285,10 @@ module _ (hosts : ℕ → Opening) (terms : Terms) (trace : List TimedLine) (sin
       abbrev Crowd : Type 0
       Crowd = 64 ≤ ask_count (performs_in hosts i (a.0 ++ b.0) p.part)
 
-      asks_in : (m : NameValue) (now : ℕ) → q.next.time ≤ now → now ≤ time + request_span terms → IsAskedFor hosts terms trace i now m → Contains (performs_in hosts i (a.0 ++ b.0) p.part) (Asks m)
-      asks_in m now from by_end x = of_call (lines_have_calls hosts trace x.newer x.y x.older x.split) where
-        after : at_round k < x.y.time
-        after = let s = x.since in let t = q.after in let f = settled in let z = since_start in omega (arith, s, t, from, f, z)
-
-        before : x.y.time < e.time
-        before = let le = x.before in let r = in_round in omega (arith, le, by_end, r, goes_on)
-
-        of_call : IsOfCall hosts trace x.y x.older → Contains (performs_in hosts i (a.0 ++ b.0) p.part) (Asks m)
-        of_call d =
-            let is = d.time in
-            let w = calls_past newer (e ∷ part) d.newer (d.e ∷ d.older) (sym split ∙ d.split) (subst AreCalledInOrder split session.order) (omega (arith, is, before)) in
-            let z = before_newest w.0 e d.e part d.older w.1 (omega (arith, is, before)) in
-            let same : (a.0 ++ b.0) ++ p.part ≡ z.0 ++ d.e ∷ d.older = sym whole ∙ z.1 in
-            let order : AreCalledInOrder ((a.0 ++ b.0) ++ p.part) = subst AreCalledInOrder whole (ordered (newer ++ e ∷ []) part (split ∙ sym (append_assoc newer (e ∷ []) part))) in
-            let v = in_window (a.0 ++ b.0) p.part z.0 d.older d.e same order (let le = p.by in let t = after in omega (arith, le, t, is)) in
-            let asks : Contains (does hosts d.e d.older) (Asks m) =
-            subst (λ (ls : List Line). Contains ls (Asks m)) (sym d.lines)
-            (subst (λ (line : Line). Contains (d.before ++ line ∷ d.later) (Asks m)) (sym x.line) (Contains-append_right d.before (Asks m ∷ d.later) (Asks m) (Contains-here (Asks m) d.later))) in
-            subst (λ (l : List TimedLine). Contains (performs_in hosts i l p.part) (Asks m)) (sym v.window_is)
-            (stands_in hosts i z.0 v.part p.part d.e (Asks m) (sym d.place ∙ x.place) (subst (λ (l : List TimedLine). Contains (does hosts d.e l) (Asks m)) v.older_is asks))
-
       is_crowd : (now : ℕ) → q.next.time ≤ now → now ≤ time + request_span terms → IsCrowd hosts terms trace i now → Crowd
-      is_crowd now from by_end x =
-          let least = asks_at_least x.names (performs_in hosts i (a.0 ++ b.0) p.part) x.apart (λ m d. asks_in m now from by_end (x.asked m d)) in
-          let many = x.many in
-          omega (arith, least, many)
+      is_crowd now from by_end x = crowd_asks hosts terms trace newer (a.0 ++ b.0) p.part e i now session.order (split ∙ ap (λ (l : List TimedLine). newer ++ e ∷ l) whole)
+          (let by = p.by in let after = q.after in omega (arith, by, after, from)) (let s = settled in let z = since_start in let after = q.after in omega (arith, s, z, after, from))
+          (let r = in_round in omega (arith, by_end, r, goes_on)) x
 
       -- what is asked for comes by the end of the round, or a crowd is
       fate : (m : NameValue) → IsHeldBySome hosts terms trace m → asks_for m (there hosts q.part i).host ≡ true → (holds (there hosts part i).host m ≡ true) ⊎ Crowd

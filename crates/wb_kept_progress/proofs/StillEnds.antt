@@ -26,12 +26,12 @@ use Rattle.wb_kept_progress.specs.Whole.{AreCalledInOrder, HolesAreHeld, IsHeldB
 use Rattle.wb_kept_progress.proofs.AskedStays.{AsksOne}
 use Rattle.wb_kept_progress.proofs.CallParts.{calls_end, calls_order, due_by_turn}
 use Rattle.wb_kept_progress.proofs.ComeOnce.{HaveCome, have_come}
-use Rattle.wb_kept_progress.proofs.CrowdAsks.{crowd_asks}
+use Rattle.wb_kept_progress.proofs.CrowdAsks.{before_newest, crowd_asks}
 use Rattle.wb_kept_progress.proofs.Crowds.{IsCrowd}
 use Rattle.wb_kept_progress.proofs.Handed.{after_handed, handed, performs_in, taken_handed}
 use Rattle.wb_kept_progress.proofs.OwedAndDue.{near_there, now_there, taken_of}
 use Rattle.wb_kept_progress.proofs.Owing.{asked_since}
-use Rattle.wb_kept_progress.proofs.RoundCounts.{IsThen, before_newest, then_at}
+use Rattle.wb_kept_progress.proofs.RoundCounts.{IsThen, then_at}
 use Rattle.wb_kept_progress.proofs.StillOne.{IsAwake, awake_on, gives_up, same_then}
 use Rattle.wb_kept_progress.proofs.WindowParts.{calls_past}
 

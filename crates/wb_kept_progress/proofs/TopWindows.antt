@@ -36,7 +36,7 @@ use Rattle.wb_kept_progress.proofs.AskedStays.{stood_or_asks}
 use Rattle.wb_kept_progress.proofs.Becoming.{lacked_before}
 use Rattle.wb_kept_progress.proofs.CallParts.{calls_end, calls_order, due_by_turn}
 use Rattle.wb_kept_progress.proofs.CallsInTime.{performed_is_timely}
-use Rattle.wb_kept_progress.proofs.CrowdAsks.{crowd_asks}
+use Rattle.wb_kept_progress.proofs.CrowdAsks.{before_newest, crowd_asks}
 use Rattle.wb_kept_progress.proofs.Crowds.{crowd}
 use Rattle.wb_kept_progress.proofs.Handed.{asked_both, performs_in}
 use Rattle.wb_kept_progress.proofs.NextDue.{there_here, told_there}
@@ -45,7 +45,7 @@ use Rattle.wb_kept_progress.proofs.OwedAndDue.{beat_there, near_there, now_there
 use Rattle.wb_kept_progress.proofs.Owing.{asked_since, without_credit}
 use Rattle.wb_kept_progress.proofs.Repairs.{of_opening}
 use Rattle.wb_kept_progress.proofs.ReportsCome.{reports_come}
-use Rattle.wb_kept_progress.proofs.RoundCounts.{IsThen, before_newest, held_before, then_at}
+use Rattle.wb_kept_progress.proofs.RoundCounts.{IsThen, held_before, then_at}
 use Rattle.wb_kept_progress.proofs.SameReports.{still_held}
 use Rattle.wb_kept_progress.proofs.StillCalls.{came_now}
 use Rattle.wb_kept_progress.proofs.StillEnds.{not_still}

@@ -1,20 +1,53 @@
--- By when a live host tells a number that it holds as the last of its source, whatever comes to it meanwhile.
-use Rattle.std.specs.Prelude.{◌≡◌, ℕ, ◌+◌, ◌*◌, ◌<◌, ◌≤◌, true, List, ◌∷◌, ◌++◌, Contains, nat_eq}
+-- By when a host tells a number that it holds as the last of its source, whatever comes to it meanwhile.
+use Rattle.std.specs.Prelude.{◌≡◌, ℕ, zero, suc, ◌+◌, ◌*◌, ◌<◌, ◌≤◌, true, List, ◌∷◌, ◌++◌, Contains, nat_eq}
 use Rattle.wb_names.specs.Values.{DrawopValue, MarkValue}
 use Rattle.wb_names.specs.declared.echo.Echo.{Echo}
 use Rattle.wb_names.specs.declared.name.PageId.{PageId}
 use Rattle.wb_codec.specs.declared.datagram.Datagram.TheVariants.{Session}
+use Rattle.wb_gaps.specs.Answers.{top_mark}
 use Rattle.wb_progress.specs.Turns.{Terms}
-use Rattle.wb_policy.specs.Fairness.{slices_of}
+use Rattle.wb_policy.specs.Fairness.{Told, after_telling, marks_in_turn, page_in_turn, slices_of}
+use Rattle.wb_policy.specs.Reports.{is_telling}
 use Rattle.wb_kept_progress.specs.Sessions.{Opening}
 use Rattle.wb_kept_progress.specs.Timed.{TimedLine, called_at}
 use Rattle.wb_kept_progress.specs.Whole.{IsTimelySession, ReportWithin, sends_then, there}
 
--- the board of a live host has at most so many slices from `quiet` on
+-- ---- boards that grow
+
+-- each has what the one before has
+abbrev pub AreGrowing : (ℕ → List DrawopValue) → Type 0
+AreGrowing boards = (count : ℕ) (d : DrawopValue) → Contains (boards count) d → Contains (boards (suc count)) d
+
+-- where tellings stand after `count` reports, each of its own board
+abbrev pub after_growing : (ℕ → List DrawopValue) → ℕ → Told → Told
+after_growing boards zero t = t
+after_growing boards (suc count) t = after_telling (boards count) (after_growing boards count t)
+
+-- a page has a mark of a source: a drawop of both is held whose number is not 0
+pub record HasMark (held : List DrawopValue) (page : PageId) (source : ℕ) : Type 0 where
+  pub d : DrawopValue
+  pub there : Contains held d
+  pub on : d.name.page ≡ page
+  pub by : d.name.source ≡ source
+  pub counted : 1 ≤ d.name.seq
+
+-- a telling that goes on ends at a source that its page has
+abbrev pub EndsAtMark : List DrawopValue → Told → Type 0
+EndsAtMark held t = is_telling t.until t.last ≡ true → HasMark held t.page t.until
+
+-- While boards grow, one of twice as many reports as the last of them has slices tells a mark of the first, as it is by then: the telling of a page ends at
+-- the source that was the last when it began, so no page waits for another for ever.
+abbrev pub EachMarkIsToldOfGrowing : Type 0
+EachMarkIsToldOfGrowing = (boards : ℕ → List DrawopValue) (t : Told) (page : PageId) (source last : ℕ) → AreGrowing boards → EndsAtMark (boards 0) t → HasMark (boards 0) page source → 2 * slices_of (boards last) ≤ last
+    → (count : ℕ) × (count < 2 * slices_of (boards last)) × (page_in_turn (boards count) (after_growing boards count t) ≡ page) × Contains (marks_in_turn (boards count) (after_growing boards count t)) (top_mark (boards count) page source)
+
+-- ---- live hosts
+
+-- From `quiet` on the board of a live host has at most this many slices.
 abbrev pub HaveSlices : (ℕ → Opening) → Terms → List TimedLine → ℕ → Type 0
 HaveSlices hosts terms trace slices = (newer older : List TimedLine) (i : ℕ) → trace ≡ newer ++ older → Contains terms.live i → terms.quiet < called_at older → slices_of (there hosts older i).host.is.held ≤ slices
 
--- in a window a call of a host sends a report of a page with a mark, by a time
+-- by a call of a window, and by a time, a host reports a page with a mark
 pub record IsTold (hosts : ℕ → Opening) (window base : List TimedLine) (j by : ℕ) (page : PageId) (mark : MarkValue) : Type 0 where
   pub later : List TimedLine
   pub e : TimedLine
@@ -29,8 +62,8 @@ pub record IsTold (hosts : ℕ → Opening) (window base : List TimedLine) (j by
   pub report : Contains (sends_then hosts (between ++ base) e) (Session (hosts j).number sent page marks echoes)
   pub among : Contains marks mark
 
--- What a live host holds as the last number of a source is told within twice as many reports as its board has slices, if it stays the last, whatever comes meanwhile:
--- a page's telling ends at the source that was last when it began, so no page waits for another for ever.
+-- So what a live host holds as the last number of a source it tells within twice as many reports as its board has slices, if it stays the last, whatever else
+-- comes meanwhile.
 abbrev pub LastNumbersAreTold : Type 0
 LastNumbersAreTold = (hosts : ℕ → Opening) (terms : Terms) (trace newest window base : List TimedLine) (slices since pause j : ℕ) (d : DrawopValue)
     → IsTimelySession hosts terms trace → ReportWithin hosts terms trace since pause → HaveSlices hosts terms trace slices

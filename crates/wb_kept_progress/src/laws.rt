@@ -14,8 +14,8 @@ ghost use Rattle.wb_kept_progress.specs.Rounds.{SessionsBecomeWholeByRounds};
 ghost use Rattle.wb_kept_progress.specs.Since.{RestartedBecomeWhole, RestartedBecomeWholeByRounds, RestartedBecomeWholeInCrowds, RestartedFillHoles, SinceIsSame, SinceIsTimely};
 ghost use Rattle.wb_kept_progress.specs.SoonSince.{RestartedBecomeWholeAnyway, RestartedBecomeWholeSoon};
 ghost use Rattle.wb_kept_progress.specs.Starts.{NoStateIsADeadEnd};
+ghost use Rattle.wb_kept_progress.specs.Telling.{EachMarkIsToldOfGrowing, LastNumbersAreTold};
 ghost use Rattle.wb_kept_progress.specs.Timed.{KeptGoByShort, KeptIsPerformed, KeptKeepsMoments, KeptRequestIsAnswered, KeptTimerLeadsOrIsGivenUp, RequestIsAnswered, TimerLeadsOrIsGivenUp};
-ghost use Rattle.wb_kept_progress.specs.Telling.{LastNumbersAreTold};
 ghost use Rattle.wb_kept_progress.specs.Topped.{SessionsBecomeWholeAnyway, SessionsBecomeWholeSoon, TopsAreHeldAnyway, TopsAreHeldSoon};
 ghost use Rattle.wb_kept_progress.specs.Traffic.{DrawopsAreCalledFor, FewRequestsAreSent, LittleIsSent, NoAnswerStands};
 ghost use Rattle.wb_kept_progress.specs.Whole.{AllAreSoon, AllAreSoonByRates, LiveHostsAreCounted, ReportsAreDue, ReportsGoByRates, SessionsBecomeWhole};
@@ -118,12 +118,12 @@ pub fn holes_are_filled()
 /// whole as `holes_are_filled` says. The time goes by how often a host asks for a name. There is
 /// another for whatever hosts ask for, if one of them holds each missing number.
 pub fn sessions_become_whole_soon()
-    ensures tops { LastNumbersAreTold → TopsAreHeldSoon }
-    ensures whole { LastNumbersAreTold → SessionsBecomeWholeSoon }
-    ensures tops_anyway { LastNumbersAreTold → TopsAreHeldAnyway }
-    ensures whole_anyway { LastNumbersAreTold → SessionsBecomeWholeAnyway }
-    ensures restarted { LastNumbersAreTold → RestartedBecomeWholeSoon }
-    ensures restarted_anyway { LastNumbersAreTold → RestartedBecomeWholeAnyway }
+    ensures tops { TopsAreHeldSoon }
+    ensures whole { SessionsBecomeWholeSoon }
+    ensures tops_anyway { TopsAreHeldAnyway }
+    ensures whole_anyway { SessionsBecomeWholeAnyway }
+    ensures restarted { RestartedBecomeWholeSoon }
+    ensures restarted_anyway { RestartedBecomeWholeAnyway }
 {}
 
 /// What `sessions_become_whole` takes of the policy of self-managing hosts. They promise that, while nothing
@@ -150,6 +150,15 @@ pub fn reports_follow_one_another()
     ensures always { ReportsAreDue }
     ensures counted { LiveHostsAreCounted }
     ensures by_rates { ReportsGoByRates }
+{}
+
+/// Reports while boards grow. Twice as many reports as a board has slices by then tell each mark
+/// that it had at first, whatever has come meanwhile: the telling of a page ends at the source that
+/// was its last when it began. So what a live host holds as the last number of a source it tells in
+/// time, if it stays the last.
+pub fn last_numbers_are_told()
+    ensures growing { EachMarkIsToldOfGrowing }
+    ensures told { LastNumbersAreTold }
 {}
 
 /// Whatever comes in, a self-managing host sends few reports, page states and questions, by the

@@ -1,0 +1,205 @@
+-- A live host tells the last numbers that it holds in time, whatever comes meanwhile: each report brings one nearer to its turn, of the board that the host
+-- has at the end.
+use Rattle.std.proofs.Common.{◌≡◌, ℕ, zero, suc, ◌+◌, ◌*◌, ◌<◌, ◌≤◌, List, [], ◌∷◌, ◌++◌, ◌∙◌, ap, append-nil, append_assoc, arith, eqb-true, inl, inr, refl, subst, sym, ⊎_elim}
+use Rattle.std.specs.Prelude.{◌⊎◌, Contains, nat_eq}
+use Rattle.wb_names.specs.History.{highest}
+use Rattle.wb_names.specs.Values.{DrawopValue, MarkValue, NameValue}
+use Rattle.wb_names.specs.declared.name.PageId.{PageId}
+use Rattle.wb_codec.specs.declared.datagram.Datagram.{Datagram}
+use Rattle.wb_codec.specs.declared.datagram.Datagram.TheVariants.{Session}
+use Rattle.wb_gaps.specs.Answers.{top_mark}
+use Rattle.wb_progress.specs.Turns.{Terms}
+use Rattle.wb_policy.specs.Fairness.{Told, after_telling, marks_in_turn, page_in_turn, slices_of}
+use Rattle.wb_keeping.specs.Laws.{doing_of}
+use Rattle.wb_keeping.specs.Performing.{Keeping, after_doing, sent_by_doing}
+use Rattle.wb_kept_progress.specs.Sessions.{Opening}
+use Rattle.wb_kept_progress.specs.Telling.{EndsAtMark, HasMark, HaveSlices, IsTold, LastNumbersAreTold}
+use Rattle.wb_kept_progress.specs.Timed.{TimedLine, called_at, lines_of}
+use Rattle.wb_kept_progress.specs.Whole.{AreCalledInOrder, IsTimelySession, ReportWithin, sends_then, there}
+use Rattle.wb_kept_progress.proofs.CallParts.{calls_end}
+use Rattle.wb_kept_progress.proofs.Coming.{below_top, top_held}
+use Rattle.wb_kept_progress.proofs.Leaving.{told_of}
+use Rattle.wb_kept_progress.proofs.NextDue.{ordered, quiet_behind, there_here}
+use Rattle.wb_kept_progress.proofs.Repairs.{of_opening}
+use Rattle.wb_kept_progress.proofs.TellingCalls.{FirstReport, calls_grow, next_report, ends_there_at}
+use Rattle.wb_kept_progress.proofs.TellingGrows.{GrowsTo, TellsMark, comes_nearer, few_left_at_first, left, mark_stays, one_left, ends_later}
+
+module _ (hosts : ℕ → Opening) (terms : Terms) (trace newest window base : List TimedLine) (since pause j : ℕ) (d : DrawopValue)
+    (s : IsTimelySession hosts terms trace) (within : ReportWithin hosts terms trace since pause) (split_all : trace ≡ newest ++ (window ++ base)) (live : Contains terms.live j)
+    (late : terms.quiet < called_at base) (behind_since : since ≤ called_at base) (there_d : Contains (there hosts base j).host.is.held d) (counted : 1 ≤ d.name.seq)
+    (last : (newer older : List TimedLine) (x : DrawopValue) → window ++ base ≡ newer ++ older → Contains (there hosts older j).host.is.held x → x.name.page ≡ d.name.page → x.name.source ≡ d.name.source → x.name.seq ≤ d.name.seq)
+    (by : ℕ) (before_end : by < called_at (window ++ base)) where
+  abbrev page : PageId
+  page = d.name.page
+
+  abbrev source : ℕ
+  source = d.name.source
+
+  abbrev mark : MarkValue
+  mark = record { source = source; high = d.name.seq }
+
+  -- what the host holds at the end
+  abbrev whole : List DrawopValue
+  whole = (there hosts (window ++ base) j).host.is.held
+
+  abbrev span : ℕ
+  span = pause + terms.late
+
+  abbrev told_at : List TimedLine → Told
+  told_at calls = told_of (there hosts calls j).policy
+
+  has : (more : List TimedLine) → HasMark (there hosts (more ++ base) j).host.is.held page source
+  has more = record { d = d; there = calls_grow hosts more base j d there_d; on = refl; by = refl; counted = counted }
+
+  -- its mark, as long as it is the last
+  module _ (newer older : List TimedLine) (split : window ++ base ≡ newer ++ older) (holds_d : Contains (there hosts older j).host.is.held d) where
+    abbrev held : List DrawopValue
+    held = (there hosts older j).host.is.held
+
+    is_mark : top_mark held page source ≡ mark
+    is_mark = ap (λ (n : ℕ). let m : MarkValue = record { source = source; high = n } in m) top where
+      top : highest page source held ≡ d.name.seq
+      top =
+          let at_top = top_held held d holds_d counted in
+          let most = last newer older at_top.1 split (at_top.0, at_top.2, at_top.3) (ap (λ (n : NameValue). n.page) at_top.4) (ap (λ (n : NameValue). n.source) at_top.4) in
+          let number : at_top.1.name.seq ≡ highest page source held = ap (λ (n : NameValue). n.seq) at_top.4 in
+          let least = below_top held d holds_d counted in
+          omega (arith, most, number, least)
+
+  -- a part of the window, with a report that comes next
+  module _ (front grown part : List TimedLine) (is : part ≡ grown ++ base) (split : window ≡ front ++ grown) (r : FirstReport hosts j front part) (soon : r.e.time ≤ by) where
+    abbrev older : List TimedLine
+    older = r.between ++ part
+
+    abbrev now : List TimedLine
+    now = r.e ∷ older
+
+    abbrev k : Keeping
+    k = there hosts older j
+
+    abbrev held_now : List DrawopValue
+    held_now = (there hosts now j).host.is.held
+
+    abbrev told_before : Told
+    told_before = told_at part
+
+    now_is : there hosts now j ≡ after_doing (doing_of r.e.at.line) k
+    now_is = there_here hosts r.e older j r.place
+
+    between_is : older ≡ (r.between ++ grown) ++ base
+    between_is = ap (λ (t : List TimedLine). r.between ++ t) is ∙ sym (append_assoc r.between grown base)
+
+    pub window_is : window ≡ r.later ++ r.e ∷ (r.between ++ grown)
+    window_is = split ∙ ap (λ (t : List TimedLine). t ++ grown) r.split ∙ append_assoc r.later (r.e ∷ r.between) grown
+
+    pub base_is : now ≡ (r.e ∷ (r.between ++ grown)) ++ base
+    base_is = ap (λ (t : List TimedLine). r.e ∷ t) between_is
+
+    pub end_is : window ++ base ≡ r.later ++ now
+    end_is = ap (λ (t : List TimedLine). t ++ base) window_is ∙ append_assoc r.later (r.e ∷ (r.between ++ grown)) base ∙ ap (λ (t : List TimedLine). r.later ++ t) (sym base_is)
+
+    pub trace_is : trace ≡ (newest ++ r.later) ++ now
+    trace_is = split_all ∙ ap (λ (t : List TimedLine). newest ++ t) end_is ∙ sym (append_assoc newest r.later now)
+
+    pub not_before : called_at base ≤ r.e.time
+    not_before = subst (λ (t : List TimedLine). called_at base ≤ called_at t) (sym base_is) (calls_end (r.e ∷ (r.between ++ grown)) base (subst (λ (t : List TimedLine). AreCalledInOrder t) base_is (ordered hosts terms trace s (newest ++ r.later) now trace_is)))
+
+    grows_now : GrowsTo held_now whole
+    grows_now x c = subst (λ (t : List TimedLine). Contains (there hosts t j).host.is.held x) (sym end_is) (calls_grow hosts r.later now j x c)
+
+    has_now : HasMark held_now page source
+    has_now = subst (λ (t : List TimedLine). HasMark (there hosts t j).host.is.held page source) (sym base_is) (has (r.e ∷ (r.between ++ grown)))
+
+    ends_now : EndsAtMark held_now told_before
+    ends_now = ends_later k.host.is.held held_now told_before (calls_grow hosts (r.e ∷ []) older j) (subst (EndsAtMark k.host.is.held) r.told (ends_there_at hosts older j))
+
+    pub told_now : told_at now ≡ after_telling held_now told_before
+    told_now =
+        ap (λ (x : Keeping). told_of x.policy) now_is ∙ r.reports.told
+        ∙ ap (λ (x : Keeping). after_telling x.host.is.held (told_of k.policy)) (sym now_is)
+        ∙ ap (after_telling held_now) r.told
+
+    -- it tells the number, or fewer are left
+    tells : TellsMark whole page source held_now told_before → IsTold hosts window base j by page mark
+    tells tells_it = record {
+      later = r.later;
+      e = r.e;
+      between = r.between ++ grown;
+      split = window_is;
+      place = r.place;
+      after = not_before;
+      soon = soon;
+      sent = r.reports.moment;
+      marks = marks_in_turn held_now told_before;
+      echoes = r.reports.echoes;
+      report = subst (λ (t : List TimedLine). Contains (sends_then hosts t r.e) report) between_is report_there;
+      among = subst (λ (m : MarkValue). Contains (marks_in_turn held_now told_before) m) (is_mark r.later now end_is d_now) tells_it.1;
+    } where
+      report : Datagram
+      report = Session (hosts j).number r.reports.moment page (marks_in_turn held_now told_before) r.reports.echoes
+
+      d_now : Contains held_now d
+      d_now = subst (λ (t : List TimedLine). Contains (there hosts t j).host.is.held d) (sym base_is) (calls_grow hosts (r.e ∷ (r.between ++ grown)) base j d there_d)
+
+      same : Session k.host.is.number r.reports.moment (page_in_turn (after_doing (doing_of r.e.at.line) k).host.is.held (told_of k.policy)) (marks_in_turn (after_doing (doing_of r.e.at.line) k).host.is.held (told_of k.policy)) r.reports.echoes ≡ report
+      same =
+          ap (λ (x : Keeping). Session k.host.is.number r.reports.moment (page_in_turn x.host.is.held (told_of k.policy)) (marks_in_turn x.host.is.held (told_of k.policy)) r.reports.echoes) (sym now_is)
+          ∙ ap (λ (t : Told). Session k.host.is.number r.reports.moment (page_in_turn held_now t) (marks_in_turn held_now t) r.reports.echoes) r.told
+          ∙ ap (λ (p : PageId). Session k.host.is.number r.reports.moment p (marks_in_turn held_now told_before) r.reports.echoes) tells_it.0
+          ∙ ap (λ (me : ℕ). Session me r.reports.moment page (marks_in_turn held_now told_before) r.reports.echoes) (of_opening hosts (lines_of older) j).number
+
+      report_there : Contains (sends_then hosts older r.e) report
+      report_there =
+          subst (λ (p : ℕ). Contains (sent_by_doing (doing_of r.e.at.line) (there hosts older p)) report) (sym (eqb-true r.e.at.place j r.place))
+          (subst (λ (v : Datagram). Contains (sent_by_doing (doing_of r.e.at.line) k) v) same r.reports.sends)
+
+    pub tells_or_nearer : IsTold hosts window base j by page mark ⊎ (left whole page source (told_at now) + 1 ≤ left whole page source told_before)
+    tells_or_nearer = ⊎_elim
+        (λ (told : TellsMark whole page source held_now told_before). inl (tells told))
+        (λ (fewer : left whole page source (after_telling held_now told_before) + 1 ≤ left whole page source told_before). inr (subst (λ (t : Told). left whole page source t + 1 ≤ left whole page source told_before) (sym told_now) fewer))
+        (comes_nearer whole page source held_now grows_now has_now told_before ends_now)
+
+  -- ---- one after the other
+
+  -- from a part on, in which the next report is due in time, one of `count` tells it
+  abbrev Goes : ℕ → Type 0
+  Goes count = (front grown part : List TimedLine) (x : ℕ) → part ≡ grown ++ base → window ≡ front ++ grown → called_at base ≤ called_at part → called_at part ≤ x
+      → (there hosts part j).policy.reports.due + terms.lag j ≤ x + pause → left whole page source (told_at part) ≤ count → x + count * span ≤ by → IsTold hosts window base j by page mark
+
+  goes : (count : ℕ) → Goes count
+  goes zero front grown part x is split after from due_by few fits = absurd (let one = one_left whole page source (told_at part) (has window) in omega (arith, one, few))
+  goes (suc count) front grown part x is split after from due_by few fits =
+      next (goes count) (next_report hosts j terms trace s live newest front part x pause trace_here (omega (arith, late, after)) from due_by (omega (arith, fits, before_end, end_time))) where
+        end_here : window ++ base ≡ front ++ part
+        end_here = ap (λ (t : List TimedLine). t ++ base) split ∙ append_assoc front grown base ∙ ap (λ (t : List TimedLine). front ++ t) (sym is)
+
+        end_time : called_at (window ++ base) ≡ called_at (front ++ part)
+        end_time = ap called_at end_here
+
+        trace_here : trace ≡ newest ++ (front ++ part)
+        trace_here = split_all ∙ ap (λ (t : List TimedLine). newest ++ t) end_here
+
+        next : Goes count → (r : FirstReport hosts j front part) × (r.e.time ≤ x + span) → IsTold hosts window base j by page mark
+        next rest found =
+            let r = found.0 in
+            let soon = found.1 in
+            let behind = not_before front grown part is split r (omega (arith, soon, fits)) in
+            let due = within (newest ++ r.later) (r.e ∷ (r.between ++ part)) j (trace_is front grown part is split r (omega (arith, soon, fits))) live in
+            ⊎_elim
+            (λ (told : IsTold hosts window base j by page mark). told)
+            (λ (fewer : left whole page source (told_at (r.e ∷ (r.between ++ part))) + 1 ≤ left whole page source (told_at part)).
+            rest r.later (r.e ∷ (r.between ++ grown)) (r.e ∷ (r.between ++ part)) (x + span) (base_is front grown part is split r (omega (arith, soon, fits))) (window_is front grown part is split r (omega (arith, soon, fits)))
+            behind soon (omega (arith, due, soon, behind, behind_since)) (omega (arith, fewer, few)) (omega (arith, fits)))
+            (tells_or_nearer front grown part is split r (omega (arith, soon, fits)))
+
+  pub goes_all : (slices : ℕ) → slices_of whole ≤ slices → called_at base + 2 * slices * span ≤ by → IsTold hosts window base j by page mark
+  goes_all slices few fits =
+      let due = within (newest ++ window) base j (split_all ∙ sym (append_assoc newest window base)) live in
+      let most = few_left_at_first whole page source (told_at base) (has window) in
+      goes (2 * slices) window [] base (called_at base) refl (sym (append-nil window)) (omega arith) (omega arith) (omega (arith, due, behind_since)) (omega (arith, most, few)) fits
+
+pub last_numbers_are_told : LastNumbersAreTold
+last_numbers_are_told hosts terms trace newest window base slices since pause j d s within have split live late behind_since there_d counted last before_end =
+    goes_all hosts terms trace newest window base since pause j d s within split live late behind_since there_d counted last
+    (called_at base + 2 * slices * (pause + terms.late)) before_end slices
+    (have newest (window ++ base) j split live (quiet_behind hosts terms trace s newest window base split late)) (omega arith)
