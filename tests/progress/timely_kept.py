@@ -159,8 +159,8 @@ def topped_by(wait: int, asks: int, slices: int, soon: Soon, far: int) -> int:
 
 
 def gained_by(wait: int, most: int, slices: int, soon: Soon, far: int) -> int:
-    """The time at which they do, whatever they ask for, if each missing number is held: each window brings a name, since credit does not pay for so many
-    crowds of 64 names."""
+    """The time at which they do, whatever they ask for, if each missing number is held: each window brings a name, since credit does not pay for crowd after
+    crowd of 64 names."""
     asking, answering, known = spans(far)
     crowds = (PLACES * COST + LONGEST_GAP + LATE) // (PLACES * COST - 2 * asking) + 1
     gaining = window_span(slices, soon, far) + crowds * 2 * asking + asking + answering

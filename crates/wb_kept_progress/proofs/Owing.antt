@@ -161,7 +161,7 @@ module _ (hosts : ℕ → Opening) (i : ℕ) where
       let whole : (window ++ next ∷ []) ++ base ≡ window ++ next ∷ base = append_one window in
       let here = one_call e (window ++ next ∷ base) since (omega (arith, late, end, first)) in
       let two = asked_both hosts i (e ∷ []) (window ++ next ∷ []) base
-          ∙ ap (λ (l : List TimedLine). ask_count (performs_in hosts i (window ++ next ∷ []) base) + ask_count (performs_in hosts i (e ∷ []) l)) whole in
+      ∙ ap (λ (l : List TimedLine). ask_count (performs_in hosts i (window ++ next ∷ []) base) + ask_count (performs_in hosts i (e ∷ []) l)) whole in
       omega (arith, rest, here, two) where
         append_one : (window : List TimedLine) → (window ++ next ∷ []) ++ base ≡ window ++ next ∷ base
         append_one [] = refl

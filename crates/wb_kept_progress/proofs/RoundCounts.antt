@@ -2,7 +2,7 @@
 use Rattle.std.proofs.Common.{◌≡◌, ℕ, zero, suc, ◌+◌, ◌*◌, ◌<◌, ◌≤◌, Bool, true, false, cond, List, [], ◌∷◌, ◌++◌, ◌∙◌, Some, ap, append_assoc, arith, inl, inr, length, length-append, max, refl, subst, sym, true≢false, ⊎_elim}
 use Rattle.std.specs.Prelude.{◌⊎◌, Contains, nat_eq}
 use Rattle.std.proofs.lemmas.Bool.Decides.{leb_tells}
-use Rattle.std.proofs.lemmas.List.Elements.{Contains-append_cases, Contains-append_right}
+use Rattle.std.proofs.lemmas.List.Elements.{Contains-append_cases}
 use Rattle.wb_names.specs.Values.{NameValue}
 use Rattle.wb_names.proofs.Listings.{Contains-cases, Contains-here, Contains-none, Contains-there}
 use Rattle.wb_recovery.specs.declared.timers.AskTimer.{AskTimer}
@@ -13,7 +13,7 @@ use Rattle.wb_progress.proofs.Parts.{tails}
 use Rattle.wb_member.specs.Judged.{holds}
 use Rattle.wb_member.specs.Opened.{Opened, asks_for}
 use Rattle.wb_keeping.specs.Bounds.{ask_count}
-use Rattle.wb_keeping.specs.Kept.{Asks, Line, Ticks, Tunes}
+use Rattle.wb_keeping.specs.Kept.{Line, Ticks, Tunes}
 use Rattle.wb_keeping.specs.Laws.{Added, Came, KeptLine, Ticked, Tuned, doing_of}
 use Rattle.wb_keeping.specs.Performing.{Keeping, after_line, sees}
 use Rattle.wb_keeping.specs.Views.{View}
@@ -31,11 +31,11 @@ use Rattle.wb_kept_progress.proofs.CallParts.{calls_end, calls_order, host_is}
 use Rattle.wb_kept_progress.proofs.CallsInTime.{performed_is_timely}
 use Rattle.wb_kept_progress.proofs.CrowdAsks.{crowd_asks}
 use Rattle.wb_kept_progress.proofs.Crowds.{IsCrowd, crowd}
-use Rattle.wb_kept_progress.proofs.Handed.{asked_both, asks_at_least, performs_in, stands_in}
+use Rattle.wb_kept_progress.proofs.Handed.{asked_both, performs_in}
 use Rattle.wb_kept_progress.proofs.KeptInTime.{at_place, front_of, time_is}
 use Rattle.wb_kept_progress.proofs.Timely.{in_past}
-use Rattle.wb_kept_progress.proofs.WholeParts.{IsOfCall, does}
-use Rattle.wb_kept_progress.proofs.WindowParts.{calls_past, in_window}
+use Rattle.wb_kept_progress.proofs.WholeParts.{IsOfCall}
+use Rattle.wb_kept_progress.proofs.WindowParts.{calls_past}
 
 -- ---- lists
 

@@ -11,12 +11,9 @@ use Rattle.wb_progress.specs.InTime.{known_from, repairing}
 use Rattle.wb_progress.specs.Turns.{Terms, settled_by}
 use Rattle.wb_keeper.specs.Keeper.{holds}
 use Rattle.wb_member.specs.Judged.{is_full}
-use Rattle.wb_member.specs.Opened.{asks_for}
-use Rattle.wb_policy.specs.Fairness.{name_in_turn}
 use Rattle.wb_keeping.specs.Bounds.{ask_count, is_ask}
-use Rattle.wb_keeping.specs.Fairness.{AnswersWhatIsHeld}
 use Rattle.wb_keeping.specs.Kept.{Asks, Line}
-use Rattle.wb_keeping.specs.Laws.{KeptLine, after_kept, doing_of, expand, fault_of}
+use Rattle.wb_keeping.specs.Laws.{after_kept, doing_of, expand, fault_of}
 use Rattle.wb_keeping.specs.Performing.{Keeping, after_doing, sees}
 use Rattle.wb_kept_progress.specs.Promises.{timer_then}
 use Rattle.wb_kept_progress.specs.Rounds.{coming}
@@ -27,7 +24,7 @@ use Rattle.wb_kept_progress.proofs.AskedComes.{comes_or_is_given_up, the_ask, ti
 use Rattle.wb_kept_progress.proofs.AskedInCalls.{HasAsk, IsMore, asks_as, more_differs}
 use Rattle.wb_kept_progress.proofs.AskedStays.{AsksOne, MayStay, StaysAsked, asks_of, stays_asked}
 use Rattle.wb_kept_progress.proofs.Becoming.{Appends, appends, nothing_more}
-use Rattle.wb_kept_progress.proofs.CallParts.{calls_end, calls_order}
+use Rattle.wb_kept_progress.proofs.CallParts.{calls_order}
 use Rattle.wb_kept_progress.proofs.CallsInTime.{performed_is_timely}
 use Rattle.wb_kept_progress.proofs.Causes.{goes}
 use Rattle.wb_kept_progress.proofs.Courses.{IsCourse}
@@ -35,7 +32,7 @@ use Rattle.wb_kept_progress.proofs.Crowds.{IsCrowd, crowd}
 use Rattle.wb_kept_progress.proofs.Handed.{after_handed, expand_both, handed, performs_in}
 use Rattle.wb_kept_progress.proofs.KeptInTime.{front_of, time_is}
 use Rattle.wb_kept_progress.proofs.Moments.{moment_of}
-use Rattle.wb_kept_progress.proofs.NextDue.{there_here, there_other}
+use Rattle.wb_kept_progress.proofs.NextDue.{there_other}
 use Rattle.wb_kept_progress.proofs.NothingNew.{held_was_held}
 use Rattle.wb_kept_progress.proofs.OwedAndDue.{taken_of}
 use Rattle.wb_kept_progress.proofs.Repairs.{moved}
@@ -52,7 +49,7 @@ an_ask (line ∷ lines) some = by (an_ask lines) (is_ask line) refl some where
   by later true e some = let x = asks_of line e in (x.0, subst (λ (l : Line). Contains (line ∷ lines) l) x.1 (Contains-here line lines))
   by later false e some = let rest = later some in (rest.0, Contains-there line (Asks rest.0) lines rest.1)
 
--- ---- one call, by which nothing new comes
+-- ---- one call that brings nothing new
 
 module _ (hosts : ℕ → Opening) (terms : Terms) (trace : List TimedLine) (session : IsTimelySession hosts terms trace) (holes_held : HolesAreHeld hosts terms trace) (newer older : List TimedLine) (e : TimedLine)
     (split : trace ≡ newer ++ e ∷ older) (live : Contains terms.live e.at.place) (settled : settled_by terms < e.time)
@@ -185,12 +182,14 @@ module _ (hosts : ℕ → Opening) (terms : Terms) (trace : List TimedLine) (i :
     of_call : nat_eq e.at.place i ≡ true → Contains (expand (e.at.line ∷ []) (after_kept (handed i part) first)) (Asks m) → HasAsk (does hosts e (part ++ base))
     of_call here d =
         let k = there hosts (part ++ base) i in
-        let there_k = subst (λ (x : Keeping). Contains ((doing_of e.at.line (sees x.host) x.policy).lines ++ []) (Asks m)) (after_handed hosts i part base) d in
-        (m, subst (λ (p : ℕ). Contains (let x = there hosts (part ++ base) p in (doing_of e.at.line (sees x.host) x.policy).lines) (Asks m)) (sym (eqb-true e.at.place i here))
-        (⊎_elim
-        (λ (c : Contains (doing_of e.at.line (sees k.host) k.policy).lines (Asks m)). c)
-        (λ (none : Contains [] (Asks m)). absurd (Contains-none (Asks m) none))
-        (Contains-append_cases (doing_of e.at.line (sees k.host) k.policy).lines [] (Asks m) there_k)))
+        let there_k = subst (λ (x : Keeping). Contains ((doing_of e.at.line (sees x.host) x.policy).lines ++ []) (Asks m)) (after_handed hosts i part base) d in (
+          m,
+          subst (λ (p : ℕ). Contains (let x = there hosts (part ++ base) p in (doing_of e.at.line (sees x.host) x.policy).lines) (Asks m)) (sym (eqb-true e.at.place i here))
+              (⊎_elim
+              (λ (c : Contains (doing_of e.at.line (sees k.host) k.policy).lines (Asks m)). c)
+              (λ (none : Contains [] (Asks m)). absurd (Contains-none (Asks m) none))
+              (Contains-append_cases (doing_of e.at.line (sees k.host) k.policy).lines [] (Asks m) there_k)),
+        )
 
     by : (Contains (expand (handed i part) first) (Asks m) → IsAwake (part ++ base)) → (b : Bool) → nat_eq e.at.place i ≡ b → Contains (expand (cond b (handed i part ++ e.at.line ∷ []) (handed i part)) first) (Asks m) → IsAwake (e ∷ (part ++ base))
     by rest false other c = one_on front part e is (rest c)
@@ -244,8 +243,12 @@ module _ (hosts : ℕ → Opening) (terms : Terms) (trace : List TimedLine) (wai
           given_up : (ask : AskTimer) → timer_then hosts (performed hosts calls) i one.name ≡ Some ask → ask.level ≡ 0
               → IsGivenUp starts (performed hosts trace) (performed hosts calls) i one.name ask (max (time_of (performed hosts calls)) (time_of (performed hosts calls) + terms.asking * terms.far) + terms.late)
               → (time : ℕ) × (y.time ≤ time) × (time ≤ called_at calls + request_span terms) × IsCrowd hosts terms trace i time
-          given_up ask stands new g = (g.e.time, behind, by_end,
-            crowd hosts terms trace i session timely live g.front (g.between ++ performed hosts calls) g.e g.split late one.name ask g.place g.line g.stands new) where
+          given_up ask stands new g = (
+            g.e.time,
+            behind,
+            by_end,
+            crowd hosts terms trace i session timely live g.front (g.between ++ performed hosts calls) g.e g.split late one.name ask g.place g.line g.stands new,
+          ) where
             behind : y.time ≤ g.e.time
             behind = since_next hosts (newer ++ rest) calls y g.front g.between g.e (subst AreCalledInOrder split_y session.order)
                 (subst (λ (l : List TimedLine). AreInOrder (performed hosts l)) split_y timely.order) (sym (ap (performed hosts) split_y) ∙ g.split)

@@ -1,7 +1,7 @@
 -- Window by window something new comes to a live host that lacks the last number of a source.
-use Rattle.std.proofs.Common.{◌≡◌, ℕ, zero, suc, ◌+◌, ◌*◌, ◌<◌, ◌≤◌, Bool, true, false, List, [], ◌∷◌, ◌++◌, ◌∙◌, ap, append_assoc, arith, inl, inr, length, refl, subst, sym, true≢false, ⊎_elim}
+use Rattle.std.proofs.Common.{◌≡◌, ℕ, zero, suc, ◌+◌, ◌*◌, ◌<◌, ◌≤◌, true, false, List, [], ◌∷◌, ◌++◌, ◌∙◌, ap, append_assoc, arith, inl, inr, length, refl, subst, sym, true≢false, ⊎_elim}
 use Rattle.std.specs.Prelude.{◌⊎◌, Contains}
-use Rattle.wb_names.specs.Values.{DrawopValue, NameValue}
+use Rattle.wb_names.specs.Values.{NameValue}
 use Rattle.wb_names.proofs.Listings.{Contains-cases, Contains-none}
 use Rattle.wb_keeper.specs.Keeper.{holds}
 use Rattle.wb_progress.specs.InTime.{AreApart}
@@ -96,9 +96,10 @@ module _ (told : LastNumbersAreTold) (hosts : ℕ → Opening) (terms : Terms) (
       apart = (not_twice, c.apart);
       count = let count = c.count in omega (arith, count);
       first = λ y d. ⊎_elim
-          (λ (same : x ≡ y). subst (λ (z : NameValue). IsHeldBySome hosts terms trace z × (holds (there hosts base i).host.is.held z ≡ false)) same
-          (held_was_held hosts terms trace (newer ++ e ∷ []) part i x session upto live comes_part,
-          lacked_before hosts c.window base i x (subst (λ (l : List TimedLine). holds (there hosts l i).host.is.held x ≡ false) c.is lacked_x)))
+          (λ (same : x ≡ y). subst (λ (z : NameValue). IsHeldBySome hosts terms trace z × (holds (there hosts base i).host.is.held z ≡ false)) same (
+            held_was_held hosts terms trace (newer ++ e ∷ []) part i x session upto live comes_part,
+            lacked_before hosts c.window base i x (subst (λ (l : List TimedLine). holds (there hosts l i).host.is.held x ≡ false) c.is lacked_x),
+          ))
           (λ (old : Contains c.names y). c.first y old)
           (Contains-cases x y c.names d);
       then = λ y d. ⊎_elim

@@ -18,7 +18,6 @@ use Rattle.wb_progress.proofs.Parts.{heads, nil_ends, tails}
 use Rattle.wb_member.specs.Judged.{holds}
 use Rattle.wb_member.specs.Opened.{asks_for, present}
 use Rattle.wb_policy.specs.Choices.{told_names}
-use Rattle.wb_policy.specs.Credit.{has_credit}
 use Rattle.wb_keeping.specs.Bounds.{ask_count}
 use Rattle.wb_keeping.specs.Kept.{Asks, Line, came}
 use Rattle.wb_keeping.specs.Laws.{KeptLine, doing_of}
@@ -60,7 +59,7 @@ use Rattle.wb_kept_progress.proofs.WindowParts.{IsInWindow, calls_past, in_windo
 
 -- ---- a mark of a report
 
--- what a mark tells is among the names that are told, if it is no forged number
+-- what a mark tells is among the names of its report, if it is no forged number
 named_in : (me : ℕ) (n : NameValue) (marks : List MarkValue) → n.seq < 2147483648 → Contains marks (record { source = n.source; high = n.seq }) → Contains (told_names me n.page marks) n
 named_in me n marks small among = in_map (λ (m : MarkValue). name_of n.page m.source m.high) (filter p marks) mark (Contains-filter p marks mark among passes) where
   p : MarkValue → Bool
@@ -207,7 +206,7 @@ module _ (told : LastNumbersAreTold) (hosts : ℕ → Opening) (terms : Terms) (
     lacks_part : holds (there hosts part i).host n ≡ false
     lacks_part = lacked_before hosts (e ∷ []) part i n lacks
 
-    -- ---- it is told
+    -- ---- another one reports it
 
     settled : settled_by terms < q.next.time
     settled = let after = q.after in let known = known_start in omega (arith, after, known)
@@ -222,8 +221,8 @@ module _ (told : LastNumbersAreTold) (hosts : ℕ → Opening) (terms : Terms) (
         → x.name.page ≡ d.name.page → x.name.source ≡ d.name.source → x.name.seq ≤ d.name.seq
     in_row d is front older x same there_x page source =
         let some = held_was_held hosts terms trace (newer ++ front) older j x.name session
-            (within_q ∙ ap (λ (l : List TimedLine). newer ++ l) same ∙ sym (append_assoc newer front older)) held.1
-            (holds_from (there hosts older j).host.is.held x.name x there_x refl) in
+        (within_q ∙ ap (λ (l : List TimedLine). newer ++ l) same ∙ sym (append_assoc newer front older)) held.1
+        (holds_from (there hosts older j).host.is.held x.name x there_x refl) in
         subst (λ (m : NameValue). x.name.seq ≤ m.seq) (sym is)
         (last x.name some (page ∙ ap (λ (m : NameValue). m.page) is) (source ∙ ap (λ (m : NameValue). m.source) is))
 
@@ -238,9 +237,9 @@ module _ (told : LastNumbersAreTold) (hosts : ℕ → Opening) (terms : Terms) (
           (let after = q.after in let first = quiet_start in omega (arith, after, first))
           (let after = q.after in let first = since_start in omega (arith, after, first))
           x.1 (subst (λ (m : NameValue). 1 ≤ m.seq) (sym x.2) counted) (in_row x.0 x.2) (before_end_of begins))
-          where
-            before_end_of : q.next.time ≤ credited + turn_span terms → q.next.time + telling < called_at (q.front ++ base)
-            before_end_of b = subst (λ (l : List TimedLine). q.next.time + telling < called_at l) q.split (let l = later_then in omega (arith, b, l))
+        where
+          before_end_of : q.next.time ≤ credited + turn_span terms → q.next.time + telling < called_at (q.front ++ base)
+          before_end_of b = subst (λ (l : List TimedLine). q.next.time + telling < called_at l) q.split (let l = later_then in omega (arith, b, l))
 
     abbrev report : Datagram
     report = Session (hosts j).number t.sent n.page t.marks t.echoes
@@ -405,7 +404,7 @@ module _ (told : LastNumbersAreTold) (hosts : ℕ → Opening) (terms : Terms) (
     pub window_asks : Many
     window_asks = ⊎_elim asked short wants
 
-    -- so many more than before it
+    -- 64 more than before it
     window_counts : asks_since hosts from i p.part + 64 ≤ asks_since hosts from i part
     window_counts =
         let many = window_asks in
@@ -445,10 +444,12 @@ module _ (told : LastNumbersAreTold) (hosts : ℕ → Opening) (terms : Terms) (
           (λ (stood : asks_for n k_then.host ≡ true).
           one_on hosts terms trace i session holes_held live (newer ++ e ∷ []) window p.part upto_part settled_in same z.0 v.part h.call v.window_is
           (subst Awake v.older_is (record { name = n; is = held; lacks = lacks_then; asked = stood })))
-          (λ (x : HasAsk (a.first ∷ a.before)). awake_by_asking (subst (λ (l : List TimedLine). HasAsk (does hosts h.call l)) v.older_is (x.0,
-          subst (λ (q : ℕ). Contains (let m = there hosts older_h q in (doing_of h.call.at.line (sees m.host) m.policy).lines) (Asks x.0)) (sym (eqb-true h.call.at.place i here))
-          (subst (λ (line : KeptLine). Contains (doing_of line (sees k_then.host) k_then.policy).lines (Asks x.0)) (sym h.is)
-          (subst (λ (ls : List Line). Contains ls (Asks x.0)) (sym a.lines) (Contains-append_left (a.first ∷ a.before) a.later (Asks x.0) x.1))))))
+          (λ (x : HasAsk (a.first ∷ a.before)). awake_by_asking (subst (λ (l : List TimedLine). HasAsk (does hosts h.call l)) v.older_is (
+            x.0,
+            subst (λ (q : ℕ). Contains (let m = there hosts older_h q in (doing_of h.call.at.line (sees m.host) m.policy).lines) (Asks x.0)) (sym (eqb-true h.call.at.place i here))
+                (subst (λ (line : KeptLine). Contains (doing_of line (sees k_then.host) k_then.policy).lines (Asks x.0)) (sym h.is)
+                (subst (λ (ls : List Line). Contains ls (Asks x.0)) (sym a.lines) (Contains-append_left (a.first ∷ a.before) a.later (Asks x.0) x.1))),
+          )))
           (stood_or_asks n (a.first ∷ a.before) k_then.host a.stands)
 
       awake_short : LacksCredit (after_doing (came h.now report) k_then) → Awake (upto.0 ++ p.part)

@@ -1,6 +1,6 @@
 -- By when each live host holds the last number of each source, whatever else comes to it, and whatever it gives up: then it lacks nothing but numbers below one
 -- that it holds. Until then it hears of that number in each window of time. It asks for it, or has no credit: then it asked for 64 names in the window.
-use Rattle.std.specs.Prelude.{◌≡◌, ℕ, ◌+◌, ◌*◌, ◌<◌, ◌≤◌, ◌&&◌, List, [], ◌∷◌, Contains, if◌then◌else◌, max, nat_eq, nat_lt}
+use Rattle.std.specs.Prelude.{ℕ, ◌+◌, ◌*◌, ◌<◌, ◌≤◌, ◌&&◌, List, [], ◌∷◌, Contains, if◌then◌else◌, max, nat_eq, nat_lt}
 use Rattle.wb_names.specs.Values.{NameValue}
 use Rattle.wb_progress.specs.InTime.{known_from, repairing}
 use Rattle.wb_progress.specs.Turns.{Terms}
@@ -33,7 +33,7 @@ AskAtMost hosts terms trace since asks = (i : ℕ) → Contains terms.live i →
 
 -- ---- spans, in microseconds
 
--- Of a window: until the credit is that of the window, until the last number of a source is told and handed in, and until it comes.
+-- Of a window: until the credit is that of the window, until a report of the last number of a source is handed in, and until the number comes.
 abbrev pub window_span : Terms → (slices pause : ℕ) → ℕ
 window_span terms slices pause = PLACES * COST + terms.drift + turn_span terms + 2 * slices * (pause + terms.late) + terms.delivery + round_span terms
 
@@ -44,8 +44,8 @@ windows_from terms since wait = max (known_from terms + wait + repairing terms) 
 abbrev pub topped_by : Terms → (since wait slices pause windows : ℕ) → ℕ
 topped_by terms since wait slices pause windows = windows_from terms since wait + windows * window_span terms slices pause + 1
 
--- Of a window in which something new comes to a host that lacks such a number, whatever hosts ask for: so many crowds of 64 names are more than credit pays for,
--- and what is asked for last comes.
+-- Of a window in which something new comes to a host that lacks such a number, whatever hosts ask for: credit does not pay for
+-- `crowds` crowds of 64 names, and what is asked for last comes.
 abbrev pub gaining_span : Terms → (slices pause crowds : ℕ) → ℕ
 gaining_span terms slices pause crowds = window_span terms slices pause + crowds * (2 * request_span terms) + coming terms
 
