@@ -16,7 +16,7 @@ use Rattle.wb_names.proofs.Listings.{Contains-cases, Contains-here, Contains-non
 use Rattle.wb_names.proofs.Orders.{page_total}
 use Rattle.wb_gaps.proofs.FirstHoles.{is_less}
 use Rattle.wb_gaps.proofs.Starts.{page_is, page_itself}
-use Rattle.wb_policy.specs.Reports.{first_of_pages, is_after, page_after}
+use Rattle.wb_policy.specs.Reports.{is_after, page_after}
 use Rattle.wb_policy.specs.Turns.{nowhere}
 
 -- ---- sums over the elements that pass a test

@@ -9,17 +9,16 @@ use Rattle.wb_codec.specs.declared.datagram.Datagram.{Datagram}
 use Rattle.wb_codec.specs.declared.datagram.Datagram.TheVariants.{Session}
 use Rattle.wb_progress.specs.Turns.{Terms}
 use Rattle.wb_member.specs.Opened.{present}
-use Rattle.wb_policy.specs.Fairness.{Told, after_telling, marks_in_turn, page_in_turn}
+use Rattle.wb_policy.specs.Fairness.{after_telling, marks_in_turn, page_in_turn}
 use Rattle.wb_policy.specs.Policy.{Policy}
-use Rattle.wb_policy.specs.Reports.{is_telling}
 use Rattle.wb_keeping.specs.Kept.{Doing, Line, Ticks, Transition, and_then, draws_it, end, ends_full, hears, performs, still, timed}
 use Rattle.wb_keeping.specs.Laws.{KeptLine, Came, Ticked, Added, Tuned, doing_of}
 use Rattle.wb_keeping.specs.Performing.{Keeping, after_doing, sees, sent_by_doing}
 use Rattle.wb_keeping.specs.Views.{View, is_full}
 use Rattle.wb_keeping.proofs.EachLine.{timed_each}
 use Rattle.wb_keeping.proofs.Performed.{then_after, then_sent}
-use Rattle.wb_kept_progress.specs.Sessions.{Opening, opened}
-use Rattle.wb_kept_progress.specs.Telling.{EndsAtMark, HasMark}
+use Rattle.wb_kept_progress.specs.Sessions.{Opening}
+use Rattle.wb_kept_progress.specs.Telling.{EndsAtMark}
 use Rattle.wb_kept_progress.specs.Timed.{TimedLine, called_at}
 use Rattle.wb_kept_progress.specs.Whole.{IsTimelySession, there}
 use Rattle.wb_kept_progress.proofs.Beats.{ByReport}

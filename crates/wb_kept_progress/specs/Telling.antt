@@ -62,8 +62,16 @@ pub record IsTold (hosts : ℕ → Opening) (window base : List TimedLine) (j by
   pub report : Contains (sends_then hosts (between ++ base) e) (Session (hosts j).number sent page marks echoes)
   pub among : Contains marks mark
 
--- So what a live host holds as the last number of a source it tells within twice as many reports as its board has slices, if it stays the last, whatever else
--- comes meanwhile.
+-- So what a live host holds it tells within twice as many reports as its board has slices, or a greater number of that source, whatever comes meanwhile.
+abbrev pub HeldNumbersAreTold : Type 0
+HeldNumbersAreTold = (hosts : ℕ → Opening) (terms : Terms) (trace newest window base : List TimedLine) (slices since pause j : ℕ) (d : DrawopValue)
+    → IsTimelySession hosts terms trace → ReportWithin hosts terms trace since pause → HaveSlices hosts terms trace slices
+    → trace ≡ newest ++ (window ++ base) → Contains terms.live j → terms.quiet < called_at base → since ≤ called_at base
+    → Contains (there hosts base j).host.is.held d → 1 ≤ d.name.seq
+    → called_at base + 2 * slices * (pause + terms.late) < called_at (window ++ base)
+    → (high : ℕ) × (d.name.seq ≤ high) × IsTold hosts window base j (called_at base + 2 * slices * (pause + terms.late)) d.name.page (record { source = d.name.source; high = high })
+
+-- And it tells that number, if it stays the last of its source.
 abbrev pub LastNumbersAreTold : Type 0
 LastNumbersAreTold = (hosts : ℕ → Opening) (terms : Terms) (trace newest window base : List TimedLine) (slices since pause j : ℕ) (d : DrawopValue)
     → IsTimelySession hosts terms trace → ReportWithin hosts terms trace since pause → HaveSlices hosts terms trace slices

@@ -14,7 +14,7 @@ ghost use Rattle.wb_kept_progress.specs.Rounds.{SessionsBecomeWholeByRounds};
 ghost use Rattle.wb_kept_progress.specs.Since.{RestartedBecomeWhole, RestartedBecomeWholeByRounds, RestartedBecomeWholeInCrowds, RestartedFillHoles, SinceIsSame, SinceIsTimely};
 ghost use Rattle.wb_kept_progress.specs.SoonSince.{RestartedBecomeWholeAnyway, RestartedBecomeWholeSoon};
 ghost use Rattle.wb_kept_progress.specs.Starts.{NoStateIsADeadEnd};
-ghost use Rattle.wb_kept_progress.specs.Telling.{EachMarkIsToldOfGrowing, LastNumbersAreTold};
+ghost use Rattle.wb_kept_progress.specs.Telling.{EachMarkIsToldOfGrowing, HeldNumbersAreTold, LastNumbersAreTold};
 ghost use Rattle.wb_kept_progress.specs.Timed.{KeptGoByShort, KeptIsPerformed, KeptKeepsMoments, KeptRequestIsAnswered, KeptTimerLeadsOrIsGivenUp, RequestIsAnswered, TimerLeadsOrIsGivenUp};
 ghost use Rattle.wb_kept_progress.specs.Topped.{SessionsBecomeWholeAnyway, SessionsBecomeWholeSoon, TopsAreHeldAnyway, TopsAreHeldSoon};
 ghost use Rattle.wb_kept_progress.specs.Traffic.{DrawopsAreCalledFor, FewRequestsAreSent, LittleIsSent, NoAnswerStands};
@@ -154,10 +154,11 @@ pub fn reports_follow_one_another()
 
 /// Reports while boards grow. Twice as many reports as a board has slices by then tell each mark
 /// that it had at first, whatever has come meanwhile: the telling of a page ends at the source that
-/// was its last when it began. So what a live host holds as the last number of a source it tells in
-/// time, if it stays the last.
+/// was its last when it began. So what a live host holds it tells in time, or a greater number of
+/// its source; and that number, if it stays the last.
 pub fn last_numbers_are_told()
     ensures growing { EachMarkIsToldOfGrowing }
+    ensures held { HeldNumbersAreTold }
     ensures told { LastNumbersAreTold }
 {}
 
