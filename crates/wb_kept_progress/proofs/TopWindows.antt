@@ -33,14 +33,14 @@ use Rattle.wb_kept_progress.proofs.AskedComes.{comes_or_is_given_up}
 use Rattle.wb_kept_progress.proofs.AskedInCalls.{HasAsk}
 use Rattle.wb_kept_progress.proofs.AskedStays.{stood_or_asks}
 use Rattle.wb_kept_progress.proofs.Becoming.{lacked_before}
-use Rattle.wb_kept_progress.proofs.CallParts.{calls_end, calls_order, due_by_turn}
+use Rattle.wb_kept_progress.proofs.CallParts.{calls_end, calls_order}
 use Rattle.wb_kept_progress.proofs.CallsInTime.{performed_is_timely}
 use Rattle.wb_kept_progress.proofs.CrowdAsks.{before_newest, crowd_asks}
 use Rattle.wb_kept_progress.proofs.Crowds.{crowd}
 use Rattle.wb_kept_progress.proofs.Handed.{asked_both, performs_in}
 use Rattle.wb_kept_progress.proofs.NextDue.{there_here, told_there}
 use Rattle.wb_kept_progress.proofs.NothingNew.{held_was_held}
-use Rattle.wb_kept_progress.proofs.OwedAndDue.{beat_there, near_there, now_there, taken_of}
+use Rattle.wb_kept_progress.proofs.OwedAndDue.{near_there, next_by_turn, now_there, taken_of}
 use Rattle.wb_kept_progress.proofs.Owing.{asked_since, without_credit}
 use Rattle.wb_kept_progress.proofs.Repairs.{of_opening}
 use Rattle.wb_kept_progress.proofs.ReportsCome.{reports_come}
@@ -151,9 +151,6 @@ module _ (told : LastNumbersAreTold) (hosts : ℕ → Opening) (terms : Terms) (
     pub split_p : trace ≡ ((newer ++ q.front) ++ p.front) ++ p.next ∷ p.part
     split_p = split_q ∙ ap (λ (l : List TimedLine). (newer ++ q.front) ++ l) p.split ∙ sym (append_assoc (newer ++ q.front) p.front (p.next ∷ p.part))
 
-    upto_q : trace ≡ ((newer ++ q.front) ++ q.next ∷ []) ++ q.part
-    upto_q = split_q ∙ sym (append_assoc (newer ++ q.front) (q.next ∷ []) q.part)
-
     upto_p : trace ≡ (((newer ++ q.front) ++ p.front) ++ p.next ∷ []) ++ p.part
     upto_p = split_p ∙ sym (append_assoc ((newer ++ q.front) ++ p.front) (p.next ∷ []) p.part)
 
@@ -172,10 +169,8 @@ module _ (told : LastNumbersAreTold) (hosts : ℕ → Opening) (terms : Terms) (
         let after = q.after in
         let by = q.by in
         let first = quiet_start in
-        let soon = session.soon (newer ++ q.front) q.part q.next i split_q live (omega (arith, after, first)) in
-        let turn = due_by_turn (there hosts q.part i) in
-        let beat = beat_there hosts terms trace ((newer ++ q.front) ++ q.next ∷ []) q.part i session upto_q live in
-        omega (arith, soon, turn, beat, by, first)
+        let soon = next_by_turn hosts terms trace (newer ++ q.front) q.part q.next i session split_q live (omega (arith, after, first)) in
+        omega (arith, soon, by, first)
 
     -- the calls of the window
     pub more : (w : List TimedLine) × (part ≡ w ++ p.next ∷ p.part)

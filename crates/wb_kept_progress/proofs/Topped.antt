@@ -19,11 +19,10 @@ use Rattle.wb_kept_progress.specs.Timed.{TimedLine, called_at}
 use Rattle.wb_kept_progress.specs.Topped.{AreNumbered, AskAtMost, SessionsBecomeWholeAnyway, SessionsBecomeWholeSoon, TopsAreHeldAnyway, TopsAreHeldSoon, asks_since, gained_by, gaining_span, topped_by, window_span, windows_from}
 use Rattle.wb_kept_progress.specs.Whole.{HolesAreHeld, IsHeldBySome, IsTimelySession, ReportWithin, WaitAtMost, request_span, there, turn_span}
 use Rattle.wb_kept_progress.proofs.Becoming.{lacked_before}
-use Rattle.wb_kept_progress.proofs.CallParts.{due_by_turn}
 use Rattle.wb_kept_progress.proofs.Coming.{below_top, missing_below}
 use Rattle.wb_kept_progress.proofs.InCrowds.{few_lacked}
 use Rattle.wb_kept_progress.proofs.NothingNew.{held_was_held}
-use Rattle.wb_kept_progress.proofs.OwedAndDue.{beat_there}
+use Rattle.wb_kept_progress.proofs.OwedAndDue.{next_by_turn}
 use Rattle.wb_kept_progress.proofs.RoundCounts.{IsThen, then_at}
 use Rattle.wb_kept_progress.proofs.SameReports.{still_held}
 use Rattle.wb_kept_progress.proofs.TopGains.{Gained, gained}
@@ -183,18 +182,13 @@ module _ (told : LastNumbersAreTold) (hosts : ℕ → Opening) (terms : Terms) (
       split_base : trace ≡ (newer ++ b.front) ++ base
       split_base = split ∙ ap (λ (l : List TimedLine). newer ++ l) b.split ∙ sym (append_assoc newer b.front base)
 
-      upto_part : trace ≡ ((newer ++ b.front) ++ b.next ∷ []) ++ b.part
-      upto_part = split_base ∙ sym (append_assoc (newer ++ b.front) (b.next ∷ []) b.part)
-
       -- the first call after the start comes soon
       begins : b.next.time ≤ start + turn_span terms
       begins =
           let after = b.after in
           let by = b.by in
-          let soon = session.soon (newer ++ b.front) b.part b.next i split_base live (omega (arith, after)) in
-          let turn = due_by_turn (there hosts b.part i) in
-          let beat = beat_there hosts terms trace ((newer ++ b.front) ++ b.next ∷ []) b.part i session upto_part live in
-          omega (arith, soon, turn, beat, by)
+          let soon = next_by_turn hosts terms trace (newer ++ b.front) b.part b.next i session split_base live (omega (arith, after)) in
+          omega (arith, soon, by)
 
       after_start : start ≤ b.next.time
       after_start = let after = b.after in omega (arith, after)

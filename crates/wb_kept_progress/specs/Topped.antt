@@ -1,5 +1,5 @@
 -- By when each live host holds the last number of each source, whatever else comes to it, and whatever it gives up: then it lacks nothing but numbers below one
--- that it holds. Until then it hears of that number in each window of time. It asks for it, or has no credit: then it asked for 64 names in the window.
+-- that it holds. Until it does, it hears of such a number in each window of time, and gets it or asks for 64 names in that window.
 use Rattle.std.specs.Prelude.{ℕ, ◌+◌, ◌*◌, ◌<◌, ◌≤◌, ◌&&◌, List, [], ◌∷◌, Contains, if◌then◌else◌, max, nat_eq, nat_lt}
 use Rattle.wb_names.specs.Values.{NameValue}
 use Rattle.wb_progress.specs.InTime.{known_from, repairing}
@@ -27,7 +27,7 @@ abbrev pub asks_since : (ℕ → Opening) → (since i : ℕ) → List TimedLine
 asks_since hosts since i [] = 0
 asks_since hosts since i (e ∷ older) = (if nat_lt since e.time && nat_eq e.at.place i then asks_then hosts older e else 0) + asks_since hosts since i older
 
--- From a time on a live host asks for a name at most `asks` times.
+-- From a time on a live host asks at most `asks` times, for all names together, and also for one that it gave up.
 abbrev pub AskAtMost : (ℕ → Opening) → Terms → List TimedLine → (since asks : ℕ) → Type 0
 AskAtMost hosts terms trace since asks = (i : ℕ) → Contains terms.live i → asks_since hosts since i trace ≤ asks
 
