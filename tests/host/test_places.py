@@ -56,9 +56,14 @@ class Seen:
 
 @dataclass
 class Watched(Model):
-    """A host that tells how many names it gives up before their timers were backed off."""
+    """A host that tells how often it asks for a name, and how many it gives up before their timers were backed off."""
 
     early: int = 0
+    asks: int = 0
+
+    def ask(self, name: Name) -> str:
+        self.asks += 1
+        return super().ask(name)
 
     def stop(self, name: Name) -> str:
         ask = self.timers_of(name).ask
@@ -159,8 +164,9 @@ def test_places() -> None:
     names are not kept."""
     sessions = [joined(row(900, 300), 50_000, seed) for seed in (1, 2)] + [joined(row(900, 150) + row(901, 150), 50_000, 3)]
     for session in sessions:
-        print(f"whole after {session.now / SECOND:.1f} s, {session.seen.least} names or more, {session.models[2].early} given up early")
+        print(f"whole after {session.now / SECOND:.1f} s, {session.seen.least} names or more, asked {session.models[2].asks} times, {session.models[2].early} given up early")
     assert all(session.is_whole() for session in sessions)
+    assert max(session.models[2].asks for session in sessions) <= 450, "at most one and a half times as often as it lacks names"
     assert [session.seen.idle + session.seen.alone for session in sessions] == [[], [], []]
     assert min(session.seen.least for session in sessions) >= STRANGERS
     assert [session.seen.unfilled for session in sessions[:2]] == [[], []]
@@ -176,3 +182,4 @@ def test_two_places() -> None:
         sessions.append(joined(names, 50_000, seed, frozenset(names) - lost, 2))
         print(f"whole after {sessions[-1].now / SECOND:.1f} s, {sessions[-1].models[2].early} given up early")
     assert [(session.is_whole(), session.seen.unfilled, session.models[2].early) for session in sessions] == [(True, [], 0)] * 2
+    assert max(session.models[2].asks for session in sessions) <= 60, "at most one and a half times as often as it lacks names"

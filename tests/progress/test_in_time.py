@@ -9,7 +9,7 @@ import pytest
 
 from ..host import datagrams
 from . import timely_kept
-from .timely_kept import DRAWOP, Loses, TimelyKept, by_rate, crowded_by, filled_by, holes_of, kind, name, rounds_by, rows_of, slowest, soonest, whole_by
+from .timely_kept import DRAWOP, Loses, TimelyKept, by_rate, crowded_by, filled_by, gained_by, holes_of, kind, name, rounds_by, rows_of, slowest, soonest, topped_by, whole_by
 
 TWO_PAGES = [(7, 1), (7, 2)]
 STRANGER = 9  # of this number there is no member
@@ -146,13 +146,20 @@ def test_rounds() -> None:
     crowded = crowded_by(wait, len(every), timely_kept.FAR)
     assert max(every) in session.held[3], "the newcomer holds the last number by now, so it lacks nothing but numbers below that"
     filled = filled_by(wait, len(every), timely_kept.FAR)
-    bounds = f"by the law at {by / 1e6:,.0f} s, in crowds at {crowded / 1e6:,.0f} s, of holes alone at {filled / 1e6:,.0f} s"
+    topped = topped_by(wait, 2 * len(every), session.sizes.slices, by_rate(session.sizes, 1_000, 3), timely_kept.FAR)
+    soon = filled_by(wait, len(every), timely_kept.FAR, topped)
+    bounds = f"by the law at {by / 1e6:,.0f} s, in crowds at {crowded / 1e6:,.0f} s, of holes alone at {filled / 1e6:,.0f} s, from T on at {soon / 1e6:,.0f} s"
     print(f"rounds, 1,000 lacked, all held by all at {session.now / 1e6:.1f} s, {bounds}")
     assert (session.refused, session.latest <= timely_kept.LATE) == ([], True), "no line was refused, and no host called late"
-    assert (session.now < min(by, crowded, filled), list(session.held.values())) == (True, [every] * 3), "all hold all by then"
+    assert (session.now < min(by, crowded, filled, soon), list(session.held.values())) == (True, [every] * 3), "all hold all by then"
     assert crowded < timely_kept.QUIET + 1_800_000_000, "half an hour, though distances may be a second"
     assert crowded_by(timely_kept.ASKING * 100_000, 1_000, 100_000) < timely_kept.QUIET + 90_000_000, "a minute and a half where they are a tenth"
-    assert filled_by(timely_kept.ASKING * 100_000, 1_000, 100_000) < timely_kept.QUIET + 1_380_000_000, "and 23 minutes, whatever hosts ask for"
+    waits = timely_kept.ASKING * 100_000
+    assert filled_by(waits, 1_000, 100_000) < timely_kept.QUIET + 1_380_000_000, "and 23 minutes, whatever hosts ask for"
+    topped = topped_by(waits, 2_000, 1, soonest(3), 100_000)
+    gained = gained_by(waits, 1_000, 1, soonest(3), 100_000)
+    assert filled_by(waits, 1_000, 100_000, topped) < timely_kept.QUIET + 2_880_000_000, "and 48 minutes if one asks 2,000 times, though hosts report what they like"
+    assert filled_by(waits, 1_000, 100_000, gained) < timely_kept.QUIET + 13 * 3_600_000_000, "and 13 hours, however often they ask"
 
 
 def check_reports(session: TimelyKept) -> None:

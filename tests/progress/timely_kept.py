@@ -123,21 +123,48 @@ def rounds_by(soon: Soon, wait: int, rounds: int) -> int:
     return max(KNOWN + wait + REPAIRING, soon.since) + rounds * (soon.pause + LATE + request_span() + REPAIRING)
 
 
-def crowded_by(wait: int, most: int, far: int, places: int = PLACES_OF_LAST) -> int:
+def spans(far: int) -> tuple[int, int, int]:
+    """From where a name is asked for to its first request, from a request to where all hold the name, and when requests are answered, if no distance is
+    above `far`."""
+    return ASKING * far + LATE, ANSWERING * far + 2 * DELIVERY + 2 * LATE, SETTLED + DELIVERY + 3 * far + DRIFT + 1
+
+
+def crowded_by(wait: int, most: int, far: int, places: int = PLACES_OF_LAST, since: int = 0) -> int:
     """The time at which all hold all if each host that lacks something always asks for all that it lacks, or for `places` names, though it gives names up
     early, and uses no distance above `far`. In a round as many names come, or 64 are asked for, and credit pays for few such rounds."""
-    asking, answering = ASKING * far + LATE, ANSWERING * far + 2 * DELIVERY + 2 * LATE
+    asking, answering, known = spans(far)
     span = 2 * asking + answering
     bringing = -(-most // places)
     owed = (PLACES + PAYS * most) * COST + LONGEST_GAP + LATE + bringing * span
     crowded = -(-owed // (PLACES * COST - span))
-    return SETTLED + DELIVERY + 3 * far + DRIFT + 1 + wait + answering + LONGEST_GAP + LATE + (bringing + crowded) * span
+    return max(known + wait + answering, since) + LONGEST_GAP + LATE + (bringing + crowded) * span
 
 
-def filled_by(wait: int, most: int, far: int) -> int:
-    """The time at which all hold all if each lacks nothing but numbers below one that it holds, and each of these is held by one of them: a round brings
-    one name, and each host asks for one within three turns."""
-    return crowded_by(wait, most, far, 1) + 3 * (LONGEST_GAP + LATE)
+def filled_by(wait: int, most: int, far: int, since: int = 0) -> int:
+    """The time at which all hold all if from `since` on each lacks nothing but numbers below one that it holds, and each of these is held by one of them:
+    a round brings one name, and each host asks for one within three turns."""
+    return crowded_by(wait, most, far, 1, since) + 3 * (LONGEST_GAP + LATE)
+
+
+def window_span(slices: int, soon: Soon, far: int) -> int:
+    """In so long a window a host that lacks the last number of a source hears of it, and gets it or asks for 64 names."""
+    asking, answering, _ = spans(far)
+    return PLACES * COST + DRIFT + LONGEST_GAP + LATE + 2 * slices * (soon.pause + LATE) + DELIVERY + 2 * asking + answering
+
+
+def topped_by(wait: int, asks: int, slices: int, soon: Soon, far: int) -> int:
+    """The time at which each holds the last number of each source, if none asks for a name more than `asks` times."""
+    _, answering, known = spans(far)
+    return max(known + wait + answering, soon.since) + (asks // PLACES + 1) * window_span(slices, soon, far) + 1
+
+
+def gained_by(wait: int, most: int, slices: int, soon: Soon, far: int) -> int:
+    """The time at which they do, whatever they ask for, if each missing number is held: each window brings a name, since credit does not pay for crowd after
+    crowd of 64 names."""
+    asking, answering, known = spans(far)
+    crowds = (PLACES * COST + LONGEST_GAP + LATE) // (PLACES * COST - 2 * asking) + 1
+    gaining = window_span(slices, soon, far) + crowds * 2 * asking + asking + answering
+    return max(known + wait + answering, soon.since) + LONGEST_GAP + LATE + most * gaining + 1
 
 
 def rows_of(held: set[str]) -> dict[str, list[int]]:

@@ -14,6 +14,7 @@ pub mod SetBack
 pub mod Timely
 pub mod InTime
 pub mod Whole
+pub mod Soon
 pub mod Origins
 pub mod Numbers
 pub mod Staying

@@ -22,13 +22,13 @@ use Rattle.wb_judged_sessions.proofs.Timely.{called_kept, takes_is}
 use Rattle.wb_judged_sessions.proofs.True.{held_was_drawn, names_mean_one}
 
 module _ (numbers : ℕ → ℕ) (calls newer later : List JudgedCallAt) (split : calls ≡ newer ++ later) where
-  kept_split : kept_calls numbers calls ≡ (calls_split numbers newer later).0 ++ kept_calls numbers later
+  pub kept_split : kept_calls numbers calls ≡ (calls_split numbers newer later).0 ++ kept_calls numbers later
   kept_split = ap (kept_calls numbers) split ∙ (calls_split numbers newer later).1
 
-  holds_there : (i : ℕ) (n : NameValue) → holds (kept_at numbers (kept_calls numbers later) i).host n ≡ true → holds (judged_at numbers later i).kept.host n ≡ true
+  pub holds_there : (i : ℕ) (n : NameValue) → holds (kept_at numbers (kept_calls numbers later) i).host n ≡ true → holds (judged_at numbers later i).kept.host n ≡ true
   holds_there i n held = subst (λ (k : Keeping). holds k.host n ≡ true) (sym (judged_is_kept numbers later i)) held
 
-  later_than_kept : (time : ℕ) → time < called_at later → time < kept_called_at (kept_calls numbers later)
+  pub later_than_kept : (time : ℕ) → time < called_at later → time < kept_called_at (kept_calls numbers later)
   later_than_kept time late = let same = called_kept numbers later in omega (arith, late, same)
 
 pub judged_become_whole : JudgedBecomeWhole

@@ -5,6 +5,7 @@ pub mod Days
 pub mod Examples
 pub mod SetBack
 pub mod Timely
+pub mod Soon
 pub mod Knowing
 pub mod Known
 pub mod Meeting

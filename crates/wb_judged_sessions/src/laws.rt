@@ -13,6 +13,7 @@ ghost use Rattle.wb_judged_sessions.specs.Meeting.{HaveMet};
 ghost use Rattle.wb_judged_sessions.specs.Acquainted.{IsAnswered, TwinsHaveMet};
 ghost use Rattle.wb_judged_sessions.specs.Sessions.{DrawsAsKept, JudgedIsKept, PlainIsTheSame};
 ghost use Rattle.wb_judged_sessions.specs.SetBack.{IsGivenAhead, IsSetBack, IsSetBackTooFar};
+ghost use Rattle.wb_judged_sessions.specs.Soon.{JudgedBecomeWholeAnyway, JudgedBecomeWholeSoon};
 ghost use Rattle.wb_judged_sessions.specs.Timely.{JudgedAgree, JudgedBecomeWhole, JudgedBecomeWholeByRounds, JudgedBecomeWholeInCrowds, JudgedFillHoles, JudgedIsTimely};
 ghost use Rattle.wb_judged_sessions.specs.Twins.{AnswersShowTwins, TwinsAreRemembered, TwinsSee, TwinsStay};
 ghost use Rattle.wb_judged_sessions.specs.Hushing.{RepairsAllTheSame, RequestsAllTheSame};
@@ -92,6 +93,8 @@ pub fn judged_sessions_become_whole()
     ensures rounds { JudgedBecomeWholeByRounds }
     ensures crowded { JudgedBecomeWholeInCrowds }
     ensures holes { JudgedFillHoles }
+    ensures soon { JudgedBecomeWholeSoon }
+    ensures anyway { JudgedBecomeWholeAnyway }
     ensures agree { JudgedAgree }
 {}
 

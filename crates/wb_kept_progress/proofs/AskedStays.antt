@@ -274,7 +274,7 @@ module _ (P : NameValue → Type 0) where
 
 -- ---- a timer within a call
 
-asks_of : (line : Line) → is_ask line ≡ true → (n : NameValue) × (line ≡ Asks n)
+pub asks_of : (line : Line) → is_ask line ≡ true → (n : NameValue) × (line ≡ Asks n)
 asks_of (Asks name) e = (name, refl)
 asks_of (Ticks now) e = absurd (true≢false (sym e))
 asks_of (Arrives d) e = absurd (true≢false (sym e))

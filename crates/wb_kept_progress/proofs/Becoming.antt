@@ -37,9 +37,9 @@ use Rattle.wb_kept_progress.proofs.WholeParts.{HeldWasHeld, StillnessEnds}
 
 -- ---- what is held is followed by what comes
 
-record Appends (old new : List DrawopValue) : Type 0 where
-  more : List DrawopValue
-  is : new ≡ old ++ more
+pub record Appends (old new : List DrawopValue) : Type 0 where
+  pub more : List DrawopValue
+  pub is : new ≡ old ++ more
 
 nothing : (held : List DrawopValue) → Appends held held
 nothing held = record { more = []; is = sym (append-nil held) }
@@ -81,7 +81,7 @@ lines_append [] host = nothing host.is.held
 lines_append (line ∷ lines) host = joined host.is.held (after_line line host).is.held (after_lines lines (after_line line host)).is.held (line_appends line host) (lines_append lines (after_line line host))
 
 -- nothing follows where the end is the beginning
-nothing_more : (a b c : List DrawopValue) (one : Appends a b) (two : Appends b c) → c ≡ a → b ≡ a
+pub nothing_more : (a b c : List DrawopValue) (one : Appends a b) (two : Appends b c) → c ≡ a → b ≡ a
 nothing_more a b c one two same = one.is ∙ ap (λ (m : List DrawopValue). a ++ m) (first one.more two.more none) ∙ append-nil a where
   none : one.more ++ two.more ≡ []
   none = append_cancel_left a (one.more ++ two.more) [] (sym (append_assoc a one.more two.more) ∙ ap (λ (h : List DrawopValue). h ++ two.more) (sym one.is) ∙ sym two.is ∙ same ∙ sym (append-nil a))
@@ -123,7 +123,7 @@ module _ (hosts : ℕ → Opening) where
     by true = lines_append (doing_of e.at.line (sees k.host) k.policy).lines k.host
     by false = nothing (held_at older i)
 
-  appends : (front part : List TimedLine) (i : ℕ) → Appends (held_at part i) (held_at (front ++ part) i)
+  pub appends : (front part : List TimedLine) (i : ℕ) → Appends (held_at part i) (held_at (front ++ part) i)
   appends [] part i = nothing (held_at part i)
   appends (e ∷ front) part i = joined (held_at part i) (held_at (front ++ part) i) (held_at (e ∷ (front ++ part)) i) (appends front part i) (call_appends e (front ++ part) i)
 
@@ -153,7 +153,7 @@ module _ (hosts : ℕ → Opening) where
   abbrev AreSame : List ℕ → List TimedLine → List TimedLine → Type 0
   AreSame live window base = (i : ℕ) → Contains live i → held_at (window ++ base) i ≡ held_at base i
 
-  one_gains : (window base : List TimedLine) (i : ℕ) → IsHistory (held_at (window ++ base) i)
+  pub one_gains : (window base : List TimedLine) (i : ℕ) → IsHistory (held_at (window ++ base) i)
       → (held_at (window ++ base) i ≡ held_at base i) ⊎ ((n : NameValue) × (holds (there hosts (window ++ base) i).host n ≡ true) × (holds (there hosts base i).host n ≡ false))
   one_gains window base i once = by (appends window base i) where
     by : Appends (held_at base i) (held_at (window ++ base) i)

@@ -25,7 +25,7 @@ use Rattle.wb_kept_progress.proofs.CallParts.{calls_end, calls_order, due_by_tur
 use Rattle.wb_kept_progress.proofs.ComeOnce.{HaveCome, have_come}
 use Rattle.wb_kept_progress.proofs.Handed.{after_handed, handed, performs_in, taken_handed}
 use Rattle.wb_kept_progress.proofs.NothingNew.{held_was_held}
-use Rattle.wb_kept_progress.proofs.OwedAndDue.{beat_there, near_there, now_there, taken_of}
+use Rattle.wb_kept_progress.proofs.OwedAndDue.{near_there, next_by_turn, now_there, taken_of}
 use Rattle.wb_kept_progress.proofs.RoundCounts.{Counted, FilledFor, IsThen, counted, then_at}
 
 module _ (hosts : ℕ → Opening) (terms : Terms) (trace : List TimedLine) (most i : ℕ) (session : IsTimelySession hosts terms trace) (lacks_most : OneLacksAtMost hosts terms trace most) (live : Contains terms.live i) where
@@ -147,18 +147,13 @@ module _ (hosts : ℕ → Opening) (terms : Terms) (trace : List TimedLine) (sin
   split_base : trace ≡ (newer ++ v.front) ++ base
   split_base = split ∙ ap (λ (l : List TimedLine). newer ++ l) v.split ∙ sym (append_assoc newer v.front base)
 
-  upto_part : trace ≡ ((newer ++ v.front) ++ v.next ∷ []) ++ v.part
-  upto_part = split_base ∙ sym (append_assoc (newer ++ v.front) (v.next ∷ []) v.part)
-
   -- the first call after the start comes soon
   begins : v.next.time ≤ start + (16000000 + terms.late)
   begins =
       let after = v.after in
       let by = v.by in
-      let soon = session.soon (newer ++ v.front) v.part v.next i split_base live (omega (arith, after)) in
-      let turn = due_by_turn (there hosts v.part i) in
-      let beat = beat_there hosts terms trace ((newer ++ v.front) ++ v.next ∷ []) v.part i session upto_part live in
-      omega (arith, soon, turn, beat, by)
+      let soon = next_by_turn hosts terms trace (newer ++ v.front) v.part v.next i session split_base live (omega (arith, after)) in
+      omega (arith, soon, by)
 
   w : IsThen later (v.next.time + all_rounds)
   w = then_at later (v.next.time + all_rounds) (let l = late_so in let b = begins in omega (arith, l, b))

@@ -45,6 +45,13 @@ pub mod AskedStays
 pub mod Awake
 pub mod Waking
 pub mod SameReports
+pub mod Owing
+pub mod CrowdAsks
+pub mod StillOne
+pub mod StillEnds
+pub mod TopWindows
+pub mod TopGains
+pub mod Topped
 pub mod PagesInTurn
 pub mod Slices
 pub mod LackWanted
@@ -76,6 +83,7 @@ pub mod NothingNew
 pub mod Bringing
 pub mod Agreeing
 pub mod Since
+pub mod SoonSince
 pub mod Counted
 pub mod Named
 pub mod SentKinds

@@ -1,5 +1,5 @@
 -- What is owed is at most 16 seconds ahead of the present moment, the next report is due within 96 seconds of it, and the next turn within 16.
-use Rattle.std.proofs.Common.{◌≡◌, ℕ, ◌+◌, ◌-◌, ◌*◌, ◌≤◌, Bool, true, false, cond, List, [], ◌∷◌, ◌++◌, ap, arith, eqb-true, map, max, refl, subst, ⊎_elim}
+use Rattle.std.proofs.Common.{◌≡◌, ℕ, ◌+◌, ◌-◌, ◌*◌, ◌<◌, ◌≤◌, Bool, true, false, cond, List, [], ◌∷◌, ◌++◌, ◌∙◌, ap, append_assoc, arith, eqb-true, map, max, refl, subst, sym, ⊎_elim}
 use Rattle.std.specs.Prelude.{◌%◌, Contains, None, nat_eq, not, take, ◌||◌}
 use Rattle.std.proofs.lemmas.Bool.{and_parts, leb-true}
 use Rattle.wb_names.specs.Values.{NameValue}
@@ -24,7 +24,7 @@ use Rattle.wb_kept_progress.specs.Sessions.{AreTaken, LineAt, Opening, kept_at, 
 use Rattle.wb_kept_progress.specs.Timed.{SaysNow, TellTimes, TimedLine, called_at, lines_of}
 use Rattle.wb_kept_progress.proofs.Moments.{IsTuned, moment_of, told_itself, told_or_tuned}
 use Rattle.wb_kept_progress.specs.Whole.{AreCalledInOrder, IsTimelySession, ReportsAreDue, there}
-use Rattle.wb_kept_progress.proofs.CallParts.{calls_order}
+use Rattle.wb_kept_progress.proofs.CallParts.{calls_order, due_by_turn}
 use Rattle.wb_kept_progress.proofs.Lines.{IsSmall, are_small, does_rest}
 use Rattle.wb_kept_progress.proofs.StillCalls.{IsTuning, call_now, tuned_only}
 use Rattle.wb_keeping.proofs.EachLine.{want_each}
@@ -188,6 +188,15 @@ module _ (hosts : ℕ → Opening) (terms : Terms) (trace newer older : List Tim
   -- and the next turn, within 16 seconds
   pub beat_there : (there hosts older i).policy.pace.due + terms.lag i ≤ max (called_at older) terms.quiet + 16000000
   beat_there = let n = near_there in let b = n.beat in let now = now_there in omega (arith, b, now)
+
+-- a call comes at most so late behind the one before it
+pub next_by_turn : (hosts : ℕ → Opening) (terms : Terms) (trace newer older : List TimedLine) (e : TimedLine) (i : ℕ) → IsTimelySession hosts terms trace → trace ≡ newer ++ e ∷ older → Contains terms.live i → terms.quiet < e.time
+    → e.time ≤ max (called_at older) terms.quiet + (16000000 + terms.late)
+next_by_turn hosts terms trace newer older e i s split live late =
+    let soon = s.soon newer older e i split live late in
+    let turn = due_by_turn (there hosts older i) in
+    let beat = beat_there hosts terms trace (newer ++ e ∷ []) older i s (split ∙ sym (append_assoc newer (e ∷ []) older)) live in
+    omega (arith, soon, turn, beat)
 
 pub reports_are_due : ReportsAreDue
 reports_are_due hosts terms trace s newer older i split live = due_there hosts terms trace newer older i s split live

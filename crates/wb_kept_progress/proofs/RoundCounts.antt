@@ -2,7 +2,7 @@
 use Rattle.std.proofs.Common.{◌≡◌, ℕ, zero, suc, ◌+◌, ◌*◌, ◌<◌, ◌≤◌, Bool, true, false, cond, List, [], ◌∷◌, ◌++◌, ◌∙◌, Some, ap, append_assoc, arith, inl, inr, length, length-append, max, refl, subst, sym, true≢false, ⊎_elim}
 use Rattle.std.specs.Prelude.{◌⊎◌, Contains, nat_eq}
 use Rattle.std.proofs.lemmas.Bool.Decides.{leb_tells}
-use Rattle.std.proofs.lemmas.List.Elements.{Contains-append_cases, Contains-append_right}
+use Rattle.std.proofs.lemmas.List.Elements.{Contains-append_cases}
 use Rattle.wb_names.specs.Values.{NameValue}
 use Rattle.wb_names.proofs.Listings.{Contains-cases, Contains-here, Contains-none, Contains-there}
 use Rattle.wb_recovery.specs.declared.timers.AskTimer.{AskTimer}
@@ -13,7 +13,7 @@ use Rattle.wb_progress.proofs.Parts.{tails}
 use Rattle.wb_member.specs.Judged.{holds}
 use Rattle.wb_member.specs.Opened.{Opened, asks_for}
 use Rattle.wb_keeping.specs.Bounds.{ask_count}
-use Rattle.wb_keeping.specs.Kept.{Asks, Line, Ticks, Tunes}
+use Rattle.wb_keeping.specs.Kept.{Line, Ticks, Tunes}
 use Rattle.wb_keeping.specs.Laws.{Added, Came, KeptLine, Ticked, Tuned, doing_of}
 use Rattle.wb_keeping.specs.Performing.{Keeping, after_line, sees}
 use Rattle.wb_keeping.specs.Views.{View}
@@ -29,12 +29,13 @@ use Rattle.wb_kept_progress.proofs.Becoming.{held_on, lacked_before}
 use Rattle.wb_kept_progress.proofs.CallLines.{call_ends, line_stands, lines_have_calls}
 use Rattle.wb_kept_progress.proofs.CallParts.{calls_end, calls_order, host_is}
 use Rattle.wb_kept_progress.proofs.CallsInTime.{performed_is_timely}
-use Rattle.wb_kept_progress.proofs.Crowds.{IsAskedFor, IsCrowd, crowd}
-use Rattle.wb_kept_progress.proofs.Handed.{asked_both, asks_at_least, performs_in, stands_in}
+use Rattle.wb_kept_progress.proofs.CrowdAsks.{crowd_asks}
+use Rattle.wb_kept_progress.proofs.Crowds.{IsCrowd, crowd}
+use Rattle.wb_kept_progress.proofs.Handed.{asked_both, performs_in}
 use Rattle.wb_kept_progress.proofs.KeptInTime.{at_place, front_of, time_is}
 use Rattle.wb_kept_progress.proofs.Timely.{in_past}
-use Rattle.wb_kept_progress.proofs.WholeParts.{IsOfCall, does}
-use Rattle.wb_kept_progress.proofs.WindowParts.{calls_past, in_window}
+use Rattle.wb_kept_progress.proofs.WholeParts.{IsOfCall}
+use Rattle.wb_kept_progress.proofs.WindowParts.{calls_past}
 
 -- ---- lists
 
@@ -82,14 +83,9 @@ older_part : (front : List TimedLine) (e y : TimedLine) (part rest : List TimedL
 older_part [] e y part rest same = ([], tails e y part rest same)
 older_part (z ∷ front) e y part rest same = (front ++ y ∷ [], tails e z part (front ++ y ∷ rest) same ∙ sym (append_assoc front (y ∷ []) rest))
 
--- what comes before the newest call
-before_newest : (front : List TimedLine) (e y : TimedLine) (part rest : List TimedLine) → e ∷ part ≡ front ++ y ∷ rest → y.time < e.time → (more : List TimedLine) × (part ≡ more ++ y ∷ rest)
-before_newest [] e y part rest same lt = let is : e.time ≡ y.time = ap called_at same in absurd (omega (arith, is, lt))
-before_newest (z ∷ front) e y part rest same lt = (front, tails e z part (front ++ y ∷ rest) same)
-
 module _ (hosts : ℕ → Opening) where
   -- what is performed after the lines of some calls is performed in the next call, or later
-  since_next : (newer part : List TimedLine) (next : TimedLine) (front between : List Performed) (x : Performed) → AreCalledInOrder (newer ++ next ∷ part) → AreInOrder (performed hosts (newer ++ next ∷ part))
+  pub since_next : (newer part : List TimedLine) (next : TimedLine) (front between : List Performed) (x : Performed) → AreCalledInOrder (newer ++ next ∷ part) → AreInOrder (performed hosts (newer ++ next ∷ part))
       → performed hosts (newer ++ next ∷ part) ≡ front ++ x ∷ (between ++ performed hosts part) → next.time ≤ x.time
   since_next newer part next front between x order in_order split = ⊎_elim (λ no. no.1) (λ yes. absurd (earlier yes.1)) (leb_tells next.time x.time) where
     back : List Performed
@@ -289,33 +285,10 @@ module _ (hosts : ℕ → Opening) (terms : Terms) (trace : List TimedLine) (sin
       abbrev Crowd : Type 0
       Crowd = 64 ≤ ask_count (performs_in hosts i (a.0 ++ b.0) p.part)
 
-      asks_in : (m : NameValue) (now : ℕ) → q.next.time ≤ now → now ≤ time + request_span terms → IsAskedFor hosts terms trace i now m → Contains (performs_in hosts i (a.0 ++ b.0) p.part) (Asks m)
-      asks_in m now from by_end x = of_call (lines_have_calls hosts trace x.newer x.y x.older x.split) where
-        after : at_round k < x.y.time
-        after = let s = x.since in let t = q.after in let f = settled in let z = since_start in omega (arith, s, t, from, f, z)
-
-        before : x.y.time < e.time
-        before = let le = x.before in let r = in_round in omega (arith, le, by_end, r, goes_on)
-
-        of_call : IsOfCall hosts trace x.y x.older → Contains (performs_in hosts i (a.0 ++ b.0) p.part) (Asks m)
-        of_call d =
-            let is = d.time in
-            let w = calls_past newer (e ∷ part) d.newer (d.e ∷ d.older) (sym split ∙ d.split) (subst AreCalledInOrder split session.order) (omega (arith, is, before)) in
-            let z = before_newest w.0 e d.e part d.older w.1 (omega (arith, is, before)) in
-            let same : (a.0 ++ b.0) ++ p.part ≡ z.0 ++ d.e ∷ d.older = sym whole ∙ z.1 in
-            let order : AreCalledInOrder ((a.0 ++ b.0) ++ p.part) = subst AreCalledInOrder whole (ordered (newer ++ e ∷ []) part (split ∙ sym (append_assoc newer (e ∷ []) part))) in
-            let v = in_window (a.0 ++ b.0) p.part z.0 d.older d.e same order (let le = p.by in let t = after in omega (arith, le, t, is)) in
-            let asks : Contains (does hosts d.e d.older) (Asks m) =
-            subst (λ (ls : List Line). Contains ls (Asks m)) (sym d.lines)
-            (subst (λ (line : Line). Contains (d.before ++ line ∷ d.later) (Asks m)) (sym x.line) (Contains-append_right d.before (Asks m ∷ d.later) (Asks m) (Contains-here (Asks m) d.later))) in
-            subst (λ (l : List TimedLine). Contains (performs_in hosts i l p.part) (Asks m)) (sym v.window_is)
-            (stands_in hosts i z.0 v.part p.part d.e (Asks m) (sym d.place ∙ x.place) (subst (λ (l : List TimedLine). Contains (does hosts d.e l) (Asks m)) v.older_is asks))
-
       is_crowd : (now : ℕ) → q.next.time ≤ now → now ≤ time + request_span terms → IsCrowd hosts terms trace i now → Crowd
-      is_crowd now from by_end x =
-          let least = asks_at_least x.names (performs_in hosts i (a.0 ++ b.0) p.part) x.apart (λ m d. asks_in m now from by_end (x.asked m d)) in
-          let many = x.many in
-          omega (arith, least, many)
+      is_crowd now from by_end x = crowd_asks hosts terms trace newer (a.0 ++ b.0) p.part e i now session.order (split ∙ ap (λ (l : List TimedLine). newer ++ e ∷ l) whole)
+          (let by = p.by in let after = q.after in omega (arith, by, after, from)) (let s = settled in let z = since_start in let after = q.after in omega (arith, s, z, after, from))
+          (let r = in_round in omega (arith, by_end, r, goes_on)) x
 
       -- what is asked for comes by the end of the round, or a crowd is
       fate : (m : NameValue) → IsHeldBySome hosts terms trace m → asks_for m (there hosts q.part i).host ≡ true → (holds (there hosts part i).host m ≡ true) ⊎ Crowd

@@ -23,7 +23,7 @@ use Rattle.wb_kept_progress.proofs.WindowParts.{calls_past}
 
 module _ (hosts : ℕ → Opening) (terms : Terms) (trace newer calls : List TimedLine) (session : IsTimelySession hosts terms trace) (split : trace ≡ newer ++ calls) (settled : settled_by terms < called_at calls) where
   -- what some live host held at first it holds then
-  still_held : (n : NameValue) (some : IsHeldBySome hosts terms trace n) → holds (there hosts calls some.0).host.is.held n ≡ true
+  pub still_held : (n : NameValue) (some : IsHeldBySome hosts terms trace n) → holds (there hosts calls some.0).host.is.held n ≡ true
   still_held n some = by (holds (there hosts calls some.0).host.is.held n) refl where
     by : (b : Bool) → holds (there hosts calls some.0).host.is.held n ≡ b → b ≡ true
     by true e = refl

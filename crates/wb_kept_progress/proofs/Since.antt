@@ -500,7 +500,7 @@ pub since_is_same : SinceIsSame
 since_is_same numbers calls i = since_same numbers calls i
 
 -- what the hosts since the last starts hold, the members do
-holding_since : (numbers : ℕ → ℕ) (terms : Terms) (calls newer later : List CallAt) (time i : ℕ) (n : NameValue) → IsTimelyWithStarts numbers terms calls → timed.AllKeptHoldBehind (hosts_of numbers calls) terms (since numbers calls) time n
+pub holding_since : (numbers : ℕ → ℕ) (terms : Terms) (calls newer later : List CallAt) (time i : ℕ) (n : NameValue) → IsTimelyWithStarts numbers terms calls → timed.AllKeptHoldBehind (hosts_of numbers calls) terms (since numbers calls) time n
     → terms.quiet ≤ time → calls ≡ newer ++ later → time < called_at later → Contains terms.live i → holds (kept_at numbers later i).host n ≡ true
 holding_since numbers terms calls newer [] time i n s comes after split late live = absurd (none time late) where
   none : (time : ℕ) → time < 0 → ⊥

@@ -19,6 +19,7 @@ use Rattle.wb_policy.specs.declared.turns.Turns.{Turns}
 use Rattle.wb_policy.proofs.Cycle.{found_at}
 use Rattle.wb_policy.proofs.FilledHoles.{hole_filled}
 use Rattle.wb_policy.proofs.HolesRise.{Rise, found_first, holes_rise}
+use Rattle.std.proofs.lemmas.Option.{none-some, same_Some}
 use Rattle.wb_kept_progress.specs.Repairs.{TurnsAsk}
 use Rattle.wb_kept_progress.proofs.Turning.{from_flat, from_map, missing_is_lacked}
 use Rattle.wb_kept_progress.proofs.WantedIn.{MayBeWanted, turn_asks_it}
@@ -75,6 +76,17 @@ module _ (held : List DrawopValue) (t : Turns) where
         named nowhere 0 0 (next_round t) h f
         (ap (λ (o : Option Hole). named_by o (hole_after held nowhere 0 0)) e ∙ ap (named_by None) f)
     by None e None f = absurd (some_first hole (holes_of held) there (holes_rise held) f)
+
+  -- the name in turn is such a number
+  pub turn_missing : (n : NameValue) → name_in_turn held t ≡ Some n → IsMissing held n.page [] n.source n.seq
+  turn_missing n is = by (hole_after held t.page t.source t.number) refl (hole_after held nowhere 0 0) refl where
+    of_names : Names → IsMissing held n.page [] n.source n.seq
+    of_names x = subst (λ (m : NameValue). IsMissing held m.page [] m.source m.seq) (same_Some x.0 n (sym x.1 ∙ is)) x.2
+
+    by : (next : Option Hole) → hole_after held t.page t.source t.number ≡ next → (first : Option Hole) → hole_after held nowhere 0 0 ≡ first → IsMissing held n.page [] n.source n.seq
+    by (Some h) e first f = of_names (named t.page t.source t.number t h e (ap (λ (o : Option Hole). named_by o (hole_after held nowhere 0 0)) e))
+    by None e (Some h) f = of_names (named nowhere 0 0 (next_round t) h f (ap (λ (o : Option Hole). named_by o (hole_after held nowhere 0 0)) e ∙ ap (named_by None) f))
+    by None e None f = absurd (none-some n (sym (ap (λ (o : Option Hole). named_by o (hole_after held nowhere 0 0)) e ∙ ap (named_by None) f) ∙ is))
 
 -- each turn asks for such a number, where a place of the credit is left
 pub turns_ask : TurnsAsk

@@ -26,7 +26,7 @@ use Rattle.wb_kept_progress.proofs.InCrowds.{none_lacks}
 use Rattle.wb_kept_progress.proofs.Moments.{moment_of}
 use Rattle.wb_kept_progress.proofs.NextDue.{there_here, there_other}
 use Rattle.wb_kept_progress.proofs.Onward.{call_later}
-use Rattle.wb_kept_progress.proofs.OwedAndDue.{beat_there, near_there, now_there, taken_of}
+use Rattle.wb_kept_progress.proofs.OwedAndDue.{beat_there, near_there, next_by_turn, now_there, taken_of}
 use Rattle.wb_kept_progress.proofs.RoundCounts.{FilledFor, IsThen, then_at}
 
 -- a turn that comes a second after what is owed at most then finds credit
@@ -218,18 +218,13 @@ module _ (hosts : ℕ → Opening) (terms : Terms) (trace : List TimedLine) (sin
     split_base : trace ≡ (newer ++ v.front) ++ base
     split_base = split ∙ ap (λ (l : List TimedLine). newer ++ l) v.split ∙ sym (append_assoc newer v.front base)
 
-    upto_part : trace ≡ ((newer ++ v.front) ++ v.next ∷ []) ++ v.part
-    upto_part = split_base ∙ sym (append_assoc (newer ++ v.front) (v.next ∷ []) v.part)
-
     -- the first call after the start comes soon
     begins : v.next.time ≤ start + turn_span terms
     begins =
         let after = v.after in
         let by = v.by in
-        let soon = session.soon (newer ++ v.front) v.part v.next i split_base live (omega (arith, after)) in
-        let turn = due_by_turn (there hosts v.part i) in
-        let beat = beat_there hosts terms trace ((newer ++ v.front) ++ v.next ∷ []) v.part i session upto_part live in
-        omega (arith, soon, turn, beat, by)
+        let soon = next_by_turn hosts terms trace (newer ++ v.front) v.part v.next i session split_base live (omega (arith, after)) in
+        omega (arith, soon, by)
 
     settled : settled_by terms < v.next.time
     settled = let after = v.after in omega (arith, after)

@@ -20,13 +20,19 @@ use Rattle.wb_kept_progress.proofs.Performed.{after_all}
 use Rattle.wb_kept_progress.proofs.WantedIn.{IsAskedInCall, LacksCredit}
 use Rattle.wb_kept_progress.proofs.WholeParts.{HasNoCredit, IsAsking, IsWanting, does, timer_then}
 
-module _ (hosts : ℕ → Opening) (terms : Terms) (trace : List TimedLine) (i : ℕ) (n : NameValue)
-    (held : IsHeldBySome hosts terms trace n) where
-  -- behind lines of a call the timer stands
-  pub asking_in_call : (window base front grown : List TimedLine) (e : TimedLine) → window ≡ front ++ e ∷ grown → nat_eq e.at.place i ≡ true
+-- behind some lines that were performed a timer of the name stands
+pub record HasTimer (hosts : ℕ → Opening) (calls : List TimedLine) (i : ℕ) (n : NameValue) (back : List Performed) : Type 0 where
+  pub front : List Performed
+  pub split : performed hosts calls ≡ front ++ back
+  pub ask : AskTimer
+  pub stands : timer_then hosts back i n ≡ Some ask
+
+module _ (hosts : ℕ → Opening) (i : ℕ) (n : NameValue) where
+  -- so it is behind lines of a call
+  pub timer_in_call : (window base front grown : List TimedLine) (e : TimedLine) → window ≡ front ++ e ∷ grown → nat_eq e.at.place i ≡ true
       → IsAskedInCall n (doing_of e.at.line) (there hosts (grown ++ base) i)
-      → (back : List Performed) × IsAsking hosts terms trace (window ++ base) i back × (time_of back ≡ e.time)
-  asking_in_call window base front grown e split same a = (back, record { front = f.0 ++ g.0; split = whole; name = n; ask = timer.0; stands = timer.1; held = held }, then_time e.time e.at.place a.before a.first (performed hosts older)) where
+      → (back : List Performed) × HasTimer hosts (window ++ base) i n back × (time_of back ≡ e.time)
+  timer_in_call window base front grown e split same a = (back, record { front = f.0 ++ g.0; split = whole; ask = timer.0; stands = timer.1 }, then_time e.time e.at.place a.before a.first (performed hosts older)) where
     older : List TimedLine
     older = grown ++ base
 
@@ -65,6 +71,15 @@ module _ (hosts : ℕ → Opening) (terms : Terms) (trace : List TimedLine) (i :
 
     timer : (ask : AskTimer) × (timer_then hosts back i n ≡ Some ask)
     timer = the_ask (timer_then hosts back i n) (ap (asks_for n) there_is ∙ a.stands)
+
+module _ (hosts : ℕ → Opening) (terms : Terms) (trace : List TimedLine) (i : ℕ) (n : NameValue)
+    (held : IsHeldBySome hosts terms trace n) where
+  pub asking_in_call : (window base front grown : List TimedLine) (e : TimedLine) → window ≡ front ++ e ∷ grown → nat_eq e.at.place i ≡ true
+      → IsAskedInCall n (doing_of e.at.line) (there hosts (grown ++ base) i)
+      → (back : List Performed) × IsAsking hosts terms trace (window ++ base) i back × (time_of back ≡ e.time)
+  asking_in_call window base front grown e split same a =
+      let t = timer_in_call hosts i n window base front grown e split same a in
+      (t.0, record { front = t.1.front; split = t.1.split; name = n; ask = t.1.ask; stands = t.1.stands; held = held }, t.2)
 
   -- so a name that is wanted in a call is asked for, or there is no credit
   pub wanting_in_call : (window base front grown older : List TimedLine) (e : TimedLine) (from by : ℕ) → window ≡ front ++ e ∷ grown → older ≡ grown ++ base

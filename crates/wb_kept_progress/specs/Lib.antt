@@ -8,9 +8,11 @@ pub mod Rounds
 pub mod Crowded
 pub mod Filling
 pub mod Telling
+pub mod Topped
 pub mod LeadsOn
 pub mod Agreement
 pub mod Since
+pub mod SoonSince
 pub mod Traffic
 pub mod Bytes
 pub mod Judged

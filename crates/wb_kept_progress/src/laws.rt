@@ -12,9 +12,11 @@ ghost use Rattle.wb_kept_progress.specs.Promises.{Promises, PromisesSuffice};
 ghost use Rattle.wb_kept_progress.specs.Repairs.{AskedCanCome, MarksComeToBeTold, MissingCanCome, MissingIsAsked, MissingIsAskedInTurn, MissingIsAskedSoon, TurnsAsk};
 ghost use Rattle.wb_kept_progress.specs.Rounds.{SessionsBecomeWholeByRounds};
 ghost use Rattle.wb_kept_progress.specs.Since.{RestartedBecomeWhole, RestartedBecomeWholeByRounds, RestartedBecomeWholeInCrowds, RestartedFillHoles, SinceIsSame, SinceIsTimely};
+ghost use Rattle.wb_kept_progress.specs.SoonSince.{RestartedBecomeWholeAnyway, RestartedBecomeWholeSoon};
 ghost use Rattle.wb_kept_progress.specs.Starts.{NoStateIsADeadEnd};
 ghost use Rattle.wb_kept_progress.specs.Telling.{EachMarkIsToldOfGrowing, HeldNumbersAreTold, LastNumbersAreTold};
 ghost use Rattle.wb_kept_progress.specs.Timed.{KeptGoByShort, KeptIsPerformed, KeptKeepsMoments, KeptRequestIsAnswered, KeptTimerLeadsOrIsGivenUp, RequestIsAnswered, TimerLeadsOrIsGivenUp};
+ghost use Rattle.wb_kept_progress.specs.Topped.{SessionsBecomeWholeAnyway, SessionsBecomeWholeSoon, TopsAreHeldAnyway, TopsAreHeldSoon};
 ghost use Rattle.wb_kept_progress.specs.Traffic.{DrawopsAreCalledFor, FewRequestsAreSent, LittleIsSent, NoAnswerStands};
 ghost use Rattle.wb_kept_progress.specs.Whole.{AllAreSoon, AllAreSoonByRates, LiveHostsAreCounted, ReportsAreDue, ReportsGoByRates, SessionsBecomeWhole};
 
@@ -110,6 +112,18 @@ pub fn filled_places_bring_rounds()
 pub fn holes_are_filled()
     ensures whole { HolesAreFilled }
     ensures reports { SameReportsLeaveHoles }
+{}
+
+/// Each live host holds the last number of each source by a stated time, and then the session becomes
+/// whole as `holes_are_filled` says. The time goes by how often a host asks for a name. There is
+/// another for whatever hosts ask for, if one of them holds each missing number.
+pub fn sessions_become_whole_soon()
+    ensures tops { TopsAreHeldSoon }
+    ensures whole { SessionsBecomeWholeSoon }
+    ensures tops_anyway { TopsAreHeldAnyway }
+    ensures whole_anyway { SessionsBecomeWholeAnyway }
+    ensures restarted { RestartedBecomeWholeSoon }
+    ensures restarted_anyway { RestartedBecomeWholeAnyway }
 {}
 
 /// What `sessions_become_whole` takes of the policy of self-managing hosts. They promise that, while nothing
