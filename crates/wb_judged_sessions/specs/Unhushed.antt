@@ -13,7 +13,8 @@ use Rattle.wb_judge.specs.Judge.{is_firm}
 use Rattle.wb_judge.specs.declared.limits.TheConstants.{FIRM_TIME}
 use Rattle.wb_member.specs.Judged.{holds, is_full}
 use Rattle.wb_member.specs.Opened.{events, present}
-use Rattle.wb_policy.specs.declared.limits.TheConstants.{MOST_TIMERS, OLD_LEVEL}
+use Rattle.wb_recovery.specs.declared.limits.TheConstants.{MOST_TIMERS}
+use Rattle.wb_policy.specs.declared.limits.TheConstants.{OLD_LEVEL}
 use Rattle.wb_keeping.specs.Bounds.{timer_count}
 use Rattle.wb_keeping.specs.Kept.{Line, Stops}
 use Rattle.wb_keeping.specs.Laws.{doing_of}

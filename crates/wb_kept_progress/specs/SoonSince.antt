@@ -3,7 +3,8 @@ use Rattle.std.specs.Prelude.{◌≡◌, ℕ, ◌+◌, ◌*◌, ◌<◌, ◌≤�
 use Rattle.wb_names.specs.Values.{NameValue}
 use Rattle.wb_progress.specs.Turns.{Terms}
 use Rattle.wb_member.specs.Judged.{holds}
-use Rattle.wb_policy.specs.declared.limits.TheConstants.{COST, MOST_TIMERS, PLACES}
+use Rattle.wb_recovery.specs.declared.limits.TheConstants.{MOST_TIMERS}
+use Rattle.wb_policy.specs.declared.limits.TheConstants.{COST, PLACES}
 use Rattle.wb_laws_kept.specs.Sessions.{CallAt, kept_at}
 use Rattle.wb_kept_progress.specs.Crowded.{spent_in}
 use Rattle.wb_kept_progress.specs.Filling.{filled_by}

@@ -4,7 +4,9 @@ use Rattle.std.specs.Prelude.{ℕ, ◌+◌, ◌*◌, ◌<◌, ◌≤◌, ◌&&�
 use Rattle.wb_names.specs.Values.{NameValue}
 use Rattle.wb_progress.specs.InTime.{known_from, repairing}
 use Rattle.wb_progress.specs.Turns.{Terms}
-use Rattle.wb_policy.specs.declared.limits.TheConstants.{COST, FIRST_FORGED, MOST_TIMERS, PLACES}
+use Rattle.wb_names.specs.declared.name.TheConstants.{FIRST_FORGED}
+use Rattle.wb_recovery.specs.declared.limits.TheConstants.{MOST_TIMERS}
+use Rattle.wb_policy.specs.declared.limits.TheConstants.{COST, PLACES}
 use Rattle.wb_keeping.specs.Bounds.{ask_count}
 use Rattle.wb_keeping.specs.Laws.{doing_of}
 use Rattle.wb_keeping.specs.Performing.{sees}
