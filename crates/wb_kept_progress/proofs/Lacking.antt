@@ -136,7 +136,7 @@ module _ (terms : Terms) (trace : List TimedLine) where
   calls_pass since =
       passes hosts terms trace && (parts (all_fit hosts terms (sizes_in terms)) trace && (parts (asks_for_it since) trace && holds (there hosts trace 1).host drawn))
 
-two_live : (i : ℕ) → Contains (0 ∷ (1 ∷ [])) i → (i ≡ 0) ⊎ (i ≡ 1)
+pub two_live : (i : ℕ) → Contains (0 ∷ (1 ∷ [])) i → (i ≡ 0) ⊎ (i ≡ 1)
 two_live i c = ⊎_elim
     (λ (zero : 0 ≡ i). inl (sym zero))
     (λ (rest : Contains (1 ∷ []) i).
@@ -169,7 +169,6 @@ module _ (quiet late drift since : ℕ) (lag : ℕ → ℕ) (trace : List TimedL
     distinct = λ i j same. omega (arith, same);
     waits = λ i live. (omega arith, omega arith);
     covered = small.covered;
-    far = omega arith;
   }
 
   -- the tests, taken apart
@@ -196,7 +195,7 @@ module _ (quiet late drift since : ℕ) (lag : ℕ → ℕ) (trace : List TimedL
       let g = and_parts (each (waits_for_it T trace) T.live) _ f.1 in
       let h = and_parts (holds (then_host T trace 0) drawn) _ g.1 in
       record {
-        session = session_of hosts T trace begins a.0;
+        session = session_of hosts T trace begins (inl (omega arith)) a.0;
         within = within_of hosts T (sizes_in T) trace b.0;
         filled = c.0;
         comes = c.1;

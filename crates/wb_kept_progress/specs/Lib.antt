@@ -14,3 +14,4 @@ pub mod Traffic
 pub mod Bytes
 pub mod Judged
 pub mod Examples
+pub mod Holed
