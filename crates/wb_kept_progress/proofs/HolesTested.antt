@@ -1,7 +1,7 @@
 -- Tests of what a session lacks that compute, and what they tell. All that was held is given as a list of names.
-use Rattle.std.proofs.Common.{◌≡◌, ◌⊎◌, ℕ, suc, ◌+◌, ◌<◌, ◌≤◌, Bool, true, false, not, ◌&&◌, ◌||◌, List, [], ◌∷◌, ◌++◌, ap, arith, eqb-true, inl, inr, length, max, nat_eq, nat_le, nat_lt, refl, subst, sym, true≢false, ⊎_elim}
-use Rattle.std.specs.Prelude.{Contains, Option, None, Some, filter}
-use Rattle.std.proofs.lemmas.Bool.{and_parts, leb-false, leb-true, ltb-true, not-true, not_from_false, or_cases}
+use Rattle.std.proofs.Common.{◌≡◌, ◌⊎◌, ℕ, suc, ◌+◌, ◌<◌, ◌≤◌, Bool, true, false, not, ◌&&◌, ◌||◌, List, [], ◌∷◌, ◌++◌, arith, eqb-true, inl, inr, length, max, nat_le, nat_lt, refl, subst, sym, true≢false, ⊎_elim}
+use Rattle.std.specs.Prelude.{zero, Contains, Option, None, Some, filter}
+use Rattle.std.proofs.lemmas.Bool.{and_from, and_parts, leb-false, leb-true, ltb-true, not-true, not_from_false, or_cases}
 use Rattle.wb_names.specs.History.{IsHeld, highest, is_of, name_of}
 use Rattle.wb_names.specs.Orders.{same_name, same_page}
 use Rattle.wb_names.specs.Values.{DrawopValue, NameValue}
@@ -25,17 +25,17 @@ use Rattle.wb_kept_progress.specs.Sessions.{Opening}
 use Rattle.wb_kept_progress.specs.Timed.{TimedLine, called_at, host_after, performed, start_of, timers_after, until}
 use Rattle.wb_kept_progress.specs.Whole.{HolesAreHeld, IsHeldBySome, IsLackedAt, WaitAtMost, there}
 use Rattle.wb_kept_progress.proofs.Coming.{missing_below}
-use Rattle.wb_kept_progress.proofs.Tested.{in_middle}
-use Rattle.wb_kept_progress.proofs.Testing.{each, each-at, parts, parts-at, some, some-at}
+use Rattle.wb_kept_progress.proofs.Tested.{delivers, has_room, in_middle, in_order, in_time, is_fresh, lines_keep, passes, taken}
+use Rattle.wb_kept_progress.proofs.Testing.{both, both-parts, both-splits, each, each-at, parts, parts-and, parts-at, some, some-at, splits}
 
 -- ---- numbers up to one
 
 abbrev pub each_up_to : (ℕ → Bool) → ℕ → Bool
-each_up_to test 0 = true
+each_up_to test zero = true
 each_up_to test (suc n) = test (suc n) && each_up_to test n
 
 each_up_to-at : (test : ℕ → Bool) (top n : ℕ) → each_up_to test top ≡ true → 1 ≤ n → n ≤ top → test n ≡ true
-each_up_to-at test 0 n all counted le = absurd (omega (arith, counted, le))
+each_up_to-at test zero n all counted le = absurd (omega (arith, counted, le))
 each_up_to-at test (suc top) n all counted le =
     let p = and_parts (test (suc top)) (each_up_to test top) all in
     ⊎_elim
@@ -62,7 +62,8 @@ below_so held n so lacks =
     let p = and_parts (nat_le 1 n.seq) _ so in
     let q = some-at (λ (d : DrawopValue). is_of n.page n.source d && nat_le n.seq d.name.seq) held p.1 in
     let r = and_parts (is_of n.page n.source q.x) _ q.passes in
-    missing_below held n q.x.name.seq (leb-true _ _ p.0) (leb-true _ _ r.1) lacks (q.front, q.x, q.back, q.split, named q.x r.0) where
+    let c = in_middle held q.front q.x q.back q.split in
+    missing_below held n q.x.name.seq (leb-true _ _ p.0) (leb-true _ _ r.1) lacks (c.0, q.x, c.1, c.2, named q.x r.0) where
       named : (d : DrawopValue) → is_of n.page n.source d ≡ true → d.name ≡ name_of n.page n.source d.name.seq
       named d is =
           let p = and_parts (same_page d.name.page n.page) _ is in
@@ -100,8 +101,11 @@ module _ (hosts : ℕ → Opening) (terms : Terms) (trace : List TimedLine) (nam
   abbrev pub are_held : Bool
   are_held = each some_holds names && each holds_these terms.live
 
+  abbrev is_lacked : ℕ → NameValue → Bool
+  is_lacked i n = not (holds (settled_host i) n)
+
   abbrev lacks_few : ℕ → ℕ → Bool
-  lacks_few most i = nat_le (length (filter (λ n. not (holds (settled_host i) n)) names)) most
+  lacks_few most i = nat_le (length (filter (is_lacked i) names)) most
 
   abbrev pub all_lack_few : ℕ → Bool
   all_lack_few most = each (lacks_few most) terms.live
@@ -128,6 +132,44 @@ module _ (hosts : ℕ → Opening) (terms : Terms) (trace : List TimedLine) (nam
   abbrev pub only_holes : ℕ → List TimedLine → Bool
   only_holes since part = nat_lt (called_at part) since || each (lacks_holes part) terms.live
 
+  -- ---- tests of each line
+
+  abbrev lacks_right : ℕ → List TimedLine → Bool
+  lacks_right since part = holes_held part && only_holes since part
+
+  abbrev is_right : ℕ → List TimedLine → Bool
+  is_right since part = is_fresh hosts terms part && lacks_right since part
+
+  abbrev has_right : ℕ → List TimedLine → Bool
+  has_right since part = has_room hosts terms part && is_right since part
+
+  abbrev pub part_passes : ℕ → List TimedLine → Bool
+  part_passes since part = in_time hosts terms part && has_right since part
+
+  abbrev pub line_passes : ℕ → List TimedLine → TimedLine → List TimedLine → Bool
+  line_passes since = both (part_passes since) (delivers hosts terms (called_at trace))
+
+  -- all that is tested of lines
+  pub record LinesPass (since : ℕ) : Type 0 where
+    pub session : passes hosts terms trace ≡ true
+    pub held : parts holes_held trace ≡ true
+    pub only : parts (only_holes since) trace ≡ true
+
+  pub lines_pass : (since : ℕ) → (lines_keep hosts terms trace && (in_order hosts terms trace && taken hosts terms trace)) ≡ true → part_passes since [] ≡ true → splits (line_passes since) [] trace ≡ true → LinesPass since
+  lines_pass since lines none all =
+      let a = and_parts (lines_keep hosts terms trace) _ lines in
+      let b = and_parts (in_order hosts terms trace) _ a.1 in
+      let c = parts-and (in_time hosts terms) (has_right since) trace (both-parts (part_passes since) (delivers hosts terms (called_at trace)) [] trace all none) in
+      let d = parts-and (has_room hosts terms) (is_right since) trace c.1 in
+      let e = parts-and (is_fresh hosts terms) (lacks_right since) trace d.1 in
+      let f = parts-and holes_held (only_holes since) trace e.1 in
+      let sent = both-splits (part_passes since) (delivers hosts terms (called_at trace)) [] trace all in
+      record {
+        session = and_from _ _ a.0 (and_from _ _ b.0 (and_from _ _ b.1 (and_from _ _ c.0 (and_from _ _ d.0 (and_from _ _ sent e.0)))));
+        held = f.0;
+        only = f.1;
+      }
+
   -- ---- what they tell
 
   module _ (all : are_held ≡ true) where
@@ -144,20 +186,13 @@ module _ (hosts : ℕ → Opening) (terms : Terms) (trace : List TimedLine) (nam
         subst (Contains names) d.2 (one_so d.0.name (each-at (λ (x : DrawopValue). is_one x.name) (settled_host held.0).is.held d.0 these d.1))
 
     pub one_lacks : (most : ℕ) → all_lack_few most ≡ true → OneLacksAtMost hosts terms trace most
-    one_lacks most few i lacks apart lacked = by (each-at (lacks_few most) terms.live i few) lacks apart lacked where
-      test : NameValue → Bool
-      test n = not (holds (settled_host i) n)
-
-      lacked_of : List NameValue
-      lacked_of = filter test names
-
-      by : (Contains terms.live i → lacks_few most i ≡ true) → (lacks : List NameValue) → AreApart lacks
-          → ((n : NameValue) → Contains lacks n → IsLackedAt hosts terms trace (until (settled_by terms) (performed hosts trace)) (record { place = i; name = n })) → length lacks ≤ most
-      by few [] apart lacked = omega arith
-      by few (n ∷ lacks) apart lacked =
-          let le = leb-true _ _ (few (lacked n (Contains-here n lacks)).0) in
-          let within = no_longer (n ∷ lacks) lacked_of apart (λ m c. Contains-filter test names m (is_named m (lacked m c).1) (not_from_false (holds (settled_host i) m) (lacked m c).2)) in
-          omega (arith, le, within)
+    one_lacks most few i [] apart lacked = omega arith
+    one_lacks most few i (n ∷ lacks) apart lacked =
+        under (length (n ∷ lacks)) (length (filter (is_lacked i) names)) most
+        (no_longer (n ∷ lacks) (filter (is_lacked i) names) apart (λ m c. Contains-filter (is_lacked i) names m (is_named m (lacked m c).1) (not_from_false (holds (settled_host i) m) (lacked m c).2)))
+        (leb-true _ _ (each-at (lacks_few most) terms.live i few (lacked n (Contains-here n lacks)).0)) where
+          under : (a b c : ℕ) → a ≤ b → b ≤ c → a ≤ c
+          under a b c p q = omega (arith, p, q)
 
     pub waits_for : (wait : ℕ) → all_wait_short wait ≡ true → WaitAtMost hosts terms trace wait
     waits_for wait short i n ask live held stands =
@@ -178,7 +213,9 @@ module _ (hosts : ℕ → Opening) (terms : Terms) (trace : List TimedLine) (nam
       counted = missing.counted
 
       under : n.seq ≤ top
-      under = let le = missing.below in omega (arith, le)
+      under = by_top n.seq top missing.below where
+        by_top : (a b : ℕ) → a ≤ max b 0 → a ≤ b
+        by_top a b le = omega (arith, le)
 
       all_live : each (has_held_holes older) terms.live ≡ true
       all_live = ⊎_elim
@@ -187,7 +224,9 @@ module _ (hosts : ℕ → Opening) (terms : Terms) (trace : List TimedLine) (nam
           (or_cases (nat_le (called_at older) (settled_by terms)) _ (parts-at holes_held trace newer older so split))
 
       by : (top ≡ 0) ⊎ IsHeld held n.page n.source top → Contains names n
-      by (inl none) = let a = counted in let b = under in absurd (omega (arith, none, a, b))
+      by (inl none) = absurd (none_below n.seq top none counted under) where
+        none_below : (a b : ℕ) → b ≡ 0 → 1 ≤ a → a ≤ b → ⊥
+        none_below a b e p q = omega (arith, e, p, q)
       by (inr h) =
           let d = held_as held (name_of n.page n.source top) (held-from held n.page n.source top h) in
           let test = each-at (λ (x : DrawopValue). each_up_to (λ m. is_one (name_of x.name.page x.name.source m)) x.name.seq) held d.0 (each-at (has_held_holes older) terms.live i all_live live) d.1 in

@@ -1,17 +1,15 @@
 -- A test of the distances of a session that computes, and what it tells: none is above a bound of its own.
 use Rattle.std.proofs.Common.{◌≡◌, ℕ, ◌≤◌, Bool, true, false, ◌&&◌, cond, List, [], ◌∷◌, ◌++◌, eqb-true, nat_eq, nat_le, refl, subst, sym}
-use Rattle.std.specs.Prelude.{Contains, Option, None, Some, unwrap_or}
+use Rattle.std.specs.Prelude.{Option, None, Some, unwrap_or}
 use Rattle.std.specs.List.{find}
 use Rattle.std.specs.Option.{option_or}
 use Rattle.std.proofs.lemmas.Bool.{and_parts, leb-true}
-use Rattle.wb_names.specs.declared.echo.Echo.{Echo}
 use Rattle.wb_codec.specs.declared.datagram.Datagram.{Datagram}
 use Rattle.wb_codec.specs.declared.datagram.Datagram.TheVariants.{Draw, Session, Request, AskPages, PageState}
 use Rattle.wb_progress.specs.Turns.{Terms}
 use Rattle.wb_keeper.specs.Keeper.{delay_given, distance_by, is_own, newest}
 use Rattle.wb_member.specs.Judged.{delay}
 use Rattle.wb_member.specs.Opened.{Opened, has_room_for, heard, may_ask, opened_with, present}
-use Rattle.wb_policy.specs.declared.limits.TheConstants.{UNKNOWN_DISTANCE}
 use Rattle.wb_keeping.specs.Kept.{Line, Arrives, Asks, Hears, Says, SetsDistance, Stops, Ticks, Tunes}
 use Rattle.wb_keeping.specs.Performing.{after_line}
 use Rattle.wb_keeping.proofs.KeptDistances.{AreSo, ticks_so}
@@ -68,14 +66,21 @@ module _ (hosts : ℕ → Opening) (terms : Terms) where
   none_of true o near = refl
   none_of false o near = near
 
+  -- what tells none leaves each distance as it was
+  none_near : (b : Bool) (host : Opened) (source : ℕ) → IsNear (delay host source) → IsNear (unwrap_or (option_or (cond b None None) (told_last source host)) 100000)
+  none_near true host source so = so
+  none_near false host source so = so
+
   heard_near : (v : Datagram) (host : Opened) → tells_near host.is.number (present host) v ≡ true → AreSo IsNear host → AreSo IsNear (heard v host)
   heard_near (Session sender sent page marks echoes) host near so source =
+      let own = is_own host.is.number (Session sender sent page marks echoes) in
       let told = distance_by (present host) (find (λ e. nat_eq e.source host.is.number) echoes) in
-      option_near _ (none_of (is_own host.is.number (Session sender sent page marks echoes)) _ (one_of (nat_eq sender source) told near)) host source (so source)
-  heard_near (Draw d) host near so source = option_near _ (none_of (is_own host.is.number (Draw d)) None refl) host source (so source)
-  heard_near (Request asker name) host near so source = option_near _ (none_of (is_own host.is.number (Request asker name)) None refl) host source (so source)
-  heard_near (AskPages asker) host near so source = option_near _ (none_of (is_own host.is.number (AskPages asker)) None refl) host source (so source)
-  heard_near (PageState sender page marks) host near so source = option_near _ (none_of (is_own host.is.number (PageState sender page marks)) None refl) host source (so source)
+      let given = cond (nat_eq sender source) told None in
+      option_near (cond own None given) (none_of own given (one_of (nat_eq sender source) told near)) host source (so source)
+  heard_near (Draw d) host near so source = none_near (is_own host.is.number (Draw d)) host source (so source)
+  heard_near (Request asker name) host near so source = none_near (is_own host.is.number (Request asker name)) host source (so source)
+  heard_near (AskPages asker) host near so source = none_near (is_own host.is.number (AskPages asker)) host source (so source)
+  heard_near (PageState sender page marks) host near so source = none_near (is_own host.is.number (PageState sender page marks)) host source (so source)
 
   after_near : (line : Line) (host : Opened) → line_near host line ≡ true → AreSo IsNear host → AreSo IsNear (after_line line host)
   after_near (Ticks now) host near so = λ source. so source
@@ -83,7 +88,7 @@ module _ (hosts : ℕ → Opening) (terms : Terms) where
   after_near (Hears v) host near so = either_host (AreSo IsNear) (has_room_for v host) (heard v host) host (heard_near v host near so) so
   after_near (Asks name) host near so = either_host (AreSo IsNear) (may_ask name host) (missing name host) host (λ source. so source) so
   after_near (Stops name) host near so = λ source. so source
-  after_near (SetsDistance source micros) host near so = λ other. option_near _ (one_of (nat_eq source other) (Some micros) near) host other (so other)
+  after_near (SetsDistance source micros) host near so = λ other. option_near (cond (nat_eq source other) (Some micros) None) (one_of (nat_eq source other) (Some micros) near) host other (so other)
   after_near (Tunes constants) host near so = λ source. so source
   after_near (Says (Draw d)) host near so = λ source. so source
   after_near (Says (Session sender sent page marks echoes)) host near so = so
@@ -91,7 +96,7 @@ module _ (hosts : ℕ → Opening) (terms : Terms) where
   after_near (Says (AskPages asker)) host near so = so
   after_near (Says (PageState sender page marks)) host near so = so
 
-  module _ (unknown : UNKNOWN_DISTANCE ≤ terms.far) where
+  module _ (unknown : 100000 ≤ terms.far) where
     are_near : (back : List Performed) → lines_near back ≡ true → (i : ℕ) → AreSo IsNear (host_after (λ j. start_of (hosts j)) back i)
     are_near [] near i = ticks_so IsNear (hosts i).moments (opened_with (hosts i).constants (hosts i).number (hosts i).cells (hosts i).seed) (λ source. unknown)
     are_near (e ∷ older) near i = by (nat_eq e.place i) refl (are_near older p.1 i) where
