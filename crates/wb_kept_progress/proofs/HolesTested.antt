@@ -1,5 +1,5 @@
 -- Tests of what a session lacks that compute, and what they tell. All that was held is given as a list of names.
-use Rattle.std.proofs.Common.{◌≡◌, ◌⊎◌, ℕ, suc, ◌+◌, ◌<◌, ◌≤◌, Bool, true, false, not, ◌&&◌, ◌||◌, List, [], ◌∷◌, ◌++◌, arith, eqb-true, inl, inr, length, max, nat_le, nat_lt, refl, subst, sym, true≢false, ⊎_elim}
+use Rattle.std.proofs.Common.{◌≡◌, ◌⊎◌, ℕ, suc, ◌+◌, ◌≤◌, Bool, true, false, not, ◌&&◌, ◌||◌, List, [], ◌∷◌, arith, eqb-true, inl, inr, length, max, nat_le, nat_lt, refl, subst, sym, true≢false, ⊎_elim}
 use Rattle.std.specs.Prelude.{zero, Contains, Option, None, Some, filter}
 use Rattle.std.proofs.lemmas.Bool.{and_from, and_parts, leb-false, leb-true, ltb-true, not-true, not_from_false, or_cases}
 use Rattle.wb_names.specs.History.{IsHeld, highest, is_of, name_of}
@@ -12,7 +12,7 @@ use Rattle.wb_recovery.specs.declared.timers.AskTimer.{AskTimer}
 use Rattle.wb_gaps.specs.Gaps.{IsMissing}
 use Rattle.wb_gaps.proofs.HeldNames.{held-from}
 use Rattle.wb_gaps.proofs.Reports.{greatest_held}
-use Rattle.wb_progress.specs.InTime.{AreApart, known_from}
+use Rattle.wb_progress.specs.InTime.{known_from}
 use Rattle.wb_progress.specs.Turns.{Terms, settled_by}
 use Rattle.wb_progress.proofs.Giving.{held_as}
 use Rattle.wb_progress.proofs.NamesApart.{no_longer}
@@ -23,7 +23,7 @@ use Rattle.wb_kept_progress.specs.Filling.{OnlyHolesAreLacked}
 use Rattle.wb_kept_progress.specs.Rounds.{OneLacksAtMost}
 use Rattle.wb_kept_progress.specs.Sessions.{Opening}
 use Rattle.wb_kept_progress.specs.Timed.{TimedLine, called_at, host_after, performed, start_of, timers_after, until}
-use Rattle.wb_kept_progress.specs.Whole.{HolesAreHeld, IsHeldBySome, IsLackedAt, WaitAtMost, there}
+use Rattle.wb_kept_progress.specs.Whole.{HolesAreHeld, IsHeldBySome, WaitAtMost, there}
 use Rattle.wb_kept_progress.proofs.Coming.{missing_below}
 use Rattle.wb_kept_progress.proofs.Tested.{delivers, has_room, in_middle, in_order, in_time, is_fresh, lines_keep, passes, taken}
 use Rattle.wb_kept_progress.proofs.Testing.{both, both-parts, both-splits, each, each-at, parts, parts-and, parts-at, some, some-at, splits}
