@@ -1,4 +1,4 @@
-"""The two sessions of `terms_can_be_kept`: the program is handed their lines, and prints what the other host is handed by them."""
+"""The sessions of `terms_can_be_kept`: the program is handed their lines, and prints what the other host is handed by them."""
 
 from __future__ import annotations
 
@@ -10,13 +10,30 @@ import pytest
 from ..host import datagrams
 from ..host.program import TOP, Dialog
 
-EXAMPLES = TOP / "crates/wb_kept_progress/specs/Examples.antt"
+SPECS = TOP / "crates/wb_kept_progress/specs"
 PAGE, NOWHERE = (10, 1), (0, 0)
 FRAME = "frame 0 0 4 2 *"
-DRAWN = (10, PAGE, 1)
 DELIVERY = 50_000
-QUIET = {"lively": 2_000_000, "patient": 70_000_000}
 LINE = re.compile(r"    call (\d+) ([01]) \((\w+) (\d+)(?: (.*))?\) ∷")
+
+
+class Example(NamedTuple):
+    """The file and the lists that have the lines of a session, the newer list first; from when on nothing is lost, and the rate of reports. There are so
+    many drawings, and the second host has these gaps until then."""
+
+    file: str
+    lists: tuple[str, ...]
+    quiet: int
+    rate: int
+    drawings: int
+    gaps: list[str]
+
+
+EXAMPLES = {
+    "lively": Example("Examples.antt", ("lively_lines",), 2_000_000, 4_000, 1, ["gaps 0"]),
+    "patient": Example("Examples.antt", ("patient_lines",), 70_000_000, 4_000, 1, ["gaps 0"]),
+    "holed": Example("Holed.antt", ("filling_lines", "unfilled_lines"), 2_000_000, 1, 3, ["gaps 1", "10 1 2"]),
+}
 
 
 class Called(NamedTuple):
@@ -28,64 +45,81 @@ class Called(NamedTuple):
     rest: str
 
 
-def digits(term: str) -> str:
-    """The bytes of a datagram that stands there as a term."""
+def digits(term: str, drawings: int) -> str:
+    """The bytes of a datagram that stands there as a term. Marks are those of all drawings, and without a number the first drawing is meant."""
     kind, *words = term.replace("(", "").replace(")", "").split()
-    marks = [(10, 1)] if "marks" in words else []
+    marks = [(10, drawings)] if {"marks", "tops"} & {*words} else []
     numbers = [int(word) for word in words if word.isdigit()]
     if kind == "Draw":
-        return datagrams.drawop(*DRAWN, 5, datagrams.frame(0, 0, 4, 2, "*"))
+        drawn = numbers[0] if numbers else 1
+        return datagrams.drawop(10, PAGE, drawn, 4 + drawn, datagrams.frame(0, 0, 4, 2, "*"))
     if kind == "Session":
         sender, sent, *heard = numbers
         echoes = [(heard[0], heard[1], heard[2])] if heard else []
         return datagrams.session(sender, sent, PAGE if "page" in words else NOWHERE, marks, echoes)
     if kind == "Request":
-        return datagrams.request(numbers[0], *DRAWN)
+        return datagrams.request(numbers[0], 10, PAGE, numbers[1] if "numbered" in words else 1)
     if kind == "PageState":
         return datagrams.page_state(numbers[0], PAGE, marks)
     assert kind == "AskPages"
     return datagrams.ask_pages(numbers[0])
 
 
-def lines_of(name: str) -> list[Called]:
+def lines_of(example: Example) -> list[Called]:
     """The lines of a session, the oldest first."""
-    _, _, text = EXAMPLES.read_text().partition(f"\n{name}_lines =\n")
     called = []
-    for line in text.partition("    []\n")[0].splitlines():
-        found = LINE.fullmatch(line)
-        assert found, line
-        time, place, kind, moment, rest = found.groups()
-        word = {"Ticked": "tick", "Added": "add", "Came": "came"}[kind]
-        more = {"tick": "", "add": f" 5 10/1 {FRAME}"}
-        called.append(Called(int(time), int(place), word, moment + (more[word] if word in more else f" {digits(rest)}")))
+    for name in example.lists:
+        _, _, text = (SPECS / example.file).read_text().partition(f"\n{name} =\n")
+        for line in text.partition("    []\n")[0].splitlines():
+            found = LINE.fullmatch(line)
+            assert found, line
+            time, place, kind, moment, rest = found.groups()
+            if kind == "Ticked":
+                word, more = "tick", ""
+            elif kind == "Added":
+                page, at, figure = rest.split()
+                assert (page, figure) == ("page", "frame")
+                word, more = "add", f" {at} 10/1 {FRAME}"
+            else:
+                word, more = "came", f" {digits(rest, example.drawings)}"
+            called.append(Called(int(time), int(place), word, moment + more))
     return called[::-1]
 
 
-def opened(place: int) -> Dialog:
+def opened(place: int, rate: int) -> Dialog:
     host = Dialog()
-    for line in f"board {10 + place} 8 1 {100 + place}", "tick 1", "keep 4000 0":
+    for line in f"board {10 + place} 8 1 {100 + place}", "tick 1", f"keep {rate} 0":
         host.ask(line)
     return host
 
 
-@pytest.mark.parametrize("name", QUIET)
+def shown(host: Dialog, question: str) -> list[str]:
+    return host.ask(f"{question} 10 1").splitlines()[:-1]
+
+
+@pytest.mark.parametrize("name", EXAMPLES)
 def test_lines(name: str) -> None:
-    """What is handed in was printed by the other host shortly before, and what is printed from T on is handed in; the drawing is lost, and comes."""
-    hosts = [opened(0), opened(1)]
+    """What is handed in was printed by the other host shortly before, and what is printed from T on is handed in; drawings are lost, and come."""
+    example = EXAMPLES[name]
+    hosts = [opened(place, example.rate) for place in (0, 1)]
     way: list[tuple[int, int, str]] = []  # what was printed and is not handed in yet, from when, and for whom
-    lines = lines_of(name)
-    assert [line.word for line in lines].count("add") == 1
+    lines = lines_of(example)
+    gaps: list[str] = []
+    assert [line.word for line in lines].count("add") == example.drawings
     for line in lines:
         *block, closing = hosts[line.place].ask(f"{line.word} {line.rest}").splitlines()
         assert closing.startswith("ok "), f"{line}: {closing}"
         if line.word == "came":
-            found = next(sent for sent in way if sent[1:] == (line.place, line.rest.split()[1]))
-            assert line.time <= found[0] + DELIVERY
-            way.remove(found)
+            found = [sent for sent in way if sent[1:] == (line.place, line.rest.split()[1]) and line.time <= sent[0] + DELIVERY]
+            assert found, f"{line}: nobody printed it shortly before"
+            way.remove(found[0])
         printed = [told.removeprefix("send ") for told in block if told.startswith("send ")]
-        way += [(line.time, 1 - line.place, told) for told in printed if line.time > QUIET[name]]
-        if line.time <= QUIET[name]:
-            assert hosts[1].ask("report 10 1").startswith("report 0\n"), "it lacks the drawing"
-    assert [sent for sent in way if sent[0] + DELIVERY < lines[-1].time] == []
-    shown = [[host.ask(f"{question} 10 1").splitlines()[:-1] for question in ("report", "gaps", "view")] for host in hosts]
-    assert shown == [[["report 1", "10 1"], ["gaps 0"], ["view 1", f"draw 10 10/1 1 5 {FRAME}"]]] * 2
+        way += [(line.time, 1 - line.place, told) for told in printed]
+        if line.time <= example.quiet:
+            gaps = shown(hosts[1], "gaps")
+            assert shown(hosts[1], "view")[0] != f"view {example.drawings}", "it lacks a drawing"
+    assert gaps == example.gaps
+    assert [sent for sent in way if example.quiet < sent[0] and sent[0] + DELIVERY < lines[-1].time] == []
+    view = [f"view {example.drawings}", *(f"draw 10 10/1 {number} {4 + number} {FRAME}" for number in range(1, example.drawings + 1))]
+    shows = [[shown(host, question) for question in ("report", "gaps", "view")] for host in hosts]
+    assert shows == [[["report 1", f"10 {example.drawings}"], ["gaps 0"], view]] * 2

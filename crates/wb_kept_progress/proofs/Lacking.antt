@@ -1,11 +1,11 @@
 -- Sessions of the example hosts in which one drawing is held, and one of two hosts lacks it.
-use Rattle.std.proofs.Common.{◌≡◌, ◌⊎◌, ℕ, ◌+◌, ◌≤◌, Bool, true, false, not, ◌&&◌, ◌||◌, List, [], ◌∷◌, ◌∙◌, arith, eqb-true, inl, inr, is_none, length, max, nat_eq, nat_le, nat_lt, refl, subst, sym, true≢false, ⊎_elim}
+use Rattle.std.proofs.Common.{◌≡◌, ℕ, ◌+◌, ◌≤◌, Bool, true, false, not, ◌&&◌, ◌||◌, List, [], ◌∷◌, ◌∙◌, arith, eqb-true, inl, is_none, length, max, nat_eq, nat_le, nat_lt, refl, subst, sym, true≢false, ⊎_elim}
 use Rattle.std.specs.Prelude.{Contains, Option, None, Some}
 use Rattle.std.proofs.lemmas.Bool.{and_parts, leb-true, ltb-true, or_cases}
 use Rattle.wb_names.specs.Orders.{same_name}
 use Rattle.wb_names.specs.Values.{DrawopValue, NameValue}
 use Rattle.wb_names.proofs.Orders.{same_name-is}
-use Rattle.wb_names.proofs.Listings.{Contains-cases, Contains-here, Contains-none, Contains-there}
+use Rattle.wb_names.proofs.Listings.{Contains-here, Contains-there}
 use Rattle.wb_recovery.specs.declared.timers.AskTimer.{AskTimer}
 use Rattle.wb_progress.specs.InTime.{AreApart, known_from}
 use Rattle.wb_progress.specs.Turns.{Terms, settled_by}
@@ -20,7 +20,7 @@ use Rattle.wb_kept_progress.specs.Whole.{AreWithin, IsHeldBySome, IsLackedAt, Is
 use Rattle.wb_kept_progress.proofs.OwedAndDue.{reports_are_due}
 use Rattle.wb_kept_progress.proofs.Promised.{all_are_soon}
 use Rattle.wb_kept_progress.proofs.Tested.{Begins, all_fit, in_middle, none_so, passes, session_of, within_of}
-use Rattle.wb_kept_progress.proofs.Testing.{each, each-at, parts, parts-at}
+use Rattle.wb_kept_progress.proofs.Testing.{each, each-at, parts, parts-at, two_live}
 
 -- ---- lists of one thing
 
@@ -136,13 +136,6 @@ module _ (terms : Terms) (trace : List TimedLine) where
   calls_pass since =
       passes hosts terms trace && (parts (all_fit hosts terms (sizes_in terms)) trace && (parts (asks_for_it since) trace && holds (there hosts trace 1).host drawn))
 
-two_live : (i : ℕ) → Contains (0 ∷ (1 ∷ [])) i → (i ≡ 0) ⊎ (i ≡ 1)
-two_live i c = ⊎_elim
-    (λ (zero : 0 ≡ i). inl (sym zero))
-    (λ (rest : Contains (1 ∷ []) i).
-    ⊎_elim (λ (one : 1 ≡ i). inr (sym one)) (λ (none : Contains [] i). absurd (Contains-none i none)) (Contains-cases 1 i [] rest))
-    (Contains-cases 0 i (1 ∷ []) c)
-
 not_false : (b : Bool) → not b ≡ true → b ≡ false
 not_false true so = absurd (true≢false (sym so))
 not_false false so = refl
@@ -169,7 +162,6 @@ module _ (quiet late drift since : ℕ) (lag : ℕ → ℕ) (trace : List TimedL
     distinct = λ i j same. omega (arith, same);
     waits = λ i live. (omega arith, omega arith);
     covered = small.covered;
-    far = omega arith;
   }
 
   -- the tests, taken apart
@@ -196,7 +188,7 @@ module _ (quiet late drift since : ℕ) (lag : ℕ → ℕ) (trace : List TimedL
       let g = and_parts (each (waits_for_it T trace) T.live) _ f.1 in
       let h = and_parts (holds (then_host T trace 0) drawn) _ g.1 in
       record {
-        session = session_of hosts T trace begins a.0;
+        session = session_of hosts T trace begins (inl (omega arith)) a.0;
         within = within_of hosts T (sizes_in T) trace b.0;
         filled = c.0;
         comes = c.1;

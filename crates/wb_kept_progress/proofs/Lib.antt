@@ -100,3 +100,6 @@ pub mod Testing
 pub mod Tested
 pub mod Lacking
 pub mod Examples
+pub mod HolesTested
+pub mod ShortTested
+pub mod Holed

@@ -1,5 +1,5 @@
 -- Tests of a session that compute, and what they tell: it keeps to the terms, and how much its boards have.
-use Rattle.std.proofs.Common.{◌≡◌, ◌≢◌, ℕ, ◌+◌, ◌*◌, ◌-◌, ◌^◌, ◌<◌, ◌≤◌, Bool, true, false, not, ◌&&◌, ◌||◌, List, [], ◌∷◌, ◌++◌, ap, arith, eqb-true, inl, is_none, length, nat_eq, nat_le, nat_lt, refl, subst, sym, true≢false, ⊎_elim}
+use Rattle.std.proofs.Common.{◌≡◌, ◌≢◌, ◌⊎◌, ℕ, ◌+◌, ◌*◌, ◌-◌, ◌^◌, ◌<◌, ◌≤◌, Bool, true, false, not, ◌&&◌, ◌||◌, List, [], ◌∷◌, ◌++◌, ap, arith, eqb-true, inl, is_none, length, nat_eq, nat_le, nat_lt, refl, subst, sym, true≢false, ⊎_elim}
 use Rattle.std.specs.Prelude.{Contains, Option, None, Some}
 use Rattle.std.proofs.lemmas.Bool.{and_parts, leb-true, ltb-true, or_cases}
 use Rattle.std.proofs.lemmas.List.Elements.{Contains-append_right}
@@ -20,7 +20,7 @@ use Rattle.wb_policy.specs.declared.limits.TheConstants.{MOST_DISTANCE}
 use Rattle.wb_keeping.specs.Laws.{KeptLine, Came, Ticked, Added, Tuned, fault_of}
 use Rattle.wb_keeping.specs.Performing.{due}
 use Rattle.wb_kept_progress.specs.Sessions.{AreTaken, DoNotGoBack, Opening, opened_host}
-use Rattle.wb_kept_progress.specs.Timed.{SaysNow, TellTimes, TimedLine, called_at, lines_of}
+use Rattle.wb_kept_progress.specs.Timed.{GoByShort, SaysNow, TellTimes, TimedLine, called_at, lines_of, performed, start_of}
 use Rattle.wb_kept_progress.specs.Whole.{AreCalledInOrder, AreWithin, IsHandedIn, IsTimelySession, Sizes, WasSentBy, sends_then, there}
 use Rattle.wb_kept_progress.proofs.SameDatagrams.{same_datagram, same_datagram-is}
 use Rattle.wb_kept_progress.proofs.Testing.{each, each-at, parts, parts-at, some, some-at, splits, splits-at}
@@ -258,10 +258,9 @@ module _ (hosts : ℕ → Opening) (terms : Terms) where
     pub distinct : (i j : ℕ) → (hosts i).number ≡ (hosts j).number → i ≡ j
     pub waits : (i : ℕ) → Contains terms.live i → IsUnder (longest terms) (hosts i).constants
     pub covered : terms.drift ≤ terms.late
-    pub far : MOST_DISTANCE ≤ terms.far
 
-  pub session_of : (trace : List TimedLine) → Begins → passes trace ≡ true → IsTimelySession hosts terms trace
-  session_of trace b so = record {
+  pub session_of : (trace : List TimedLine) → Begins → (MOST_DISTANCE ≤ terms.far) ⊎ GoByShort (λ j. start_of (hosts j)) terms (performed hosts trace) → passes trace ≡ true → IsTimelySession hosts terms trace
+  session_of trace b delays so = record {
     moments = b.moments;
     begun = b.begun;
     distinct = b.distinct;
@@ -272,7 +271,7 @@ module _ (hosts : ℕ → Opening) (terms : Terms) where
     times = tell_times trace p.lines;
     covered = b.covered;
     soon = λ newer older e i split live late. leb-true _ _ (each-at (is_due older e.time) terms.live i (then_so e.time _ (parts-at in_time trace newer (e ∷ older) p.soon split) late) live);
-    delays = inl b.far;
+    delays = delays;
     alone = λ newer older e split late. some_is e.at.place terms.live (then_so e.time _ (line newer older e split).live late);
     drawn = λ newer older e now page time op split late is. not_drawn e.at.line (then_so e.time _ (line newer older e split).undrawn late) now page time op is;
     room = λ newer older i split live late. not_so _ (each-at (is_free older) terms.live i (then_so (called_at older) _ (parts-at has_room trace newer older p.room split) late) live);

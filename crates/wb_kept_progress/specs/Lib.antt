@@ -17,3 +17,4 @@ pub mod Traffic
 pub mod Bytes
 pub mod Judged
 pub mod Examples
+pub mod Holed

@@ -6,6 +6,7 @@ ghost use Rattle.wb_kept_progress.specs.Bytes.{DrawopsAreShort, FewBytesAreSent,
 ghost use Rattle.wb_kept_progress.specs.Crowded.{SessionsBecomeWholeInCrowds};
 ghost use Rattle.wb_kept_progress.specs.Examples.{LivelyMeets, PatientMeets};
 ghost use Rattle.wb_kept_progress.specs.Filling.{HolesAreFilled, SameReportsLeaveHoles};
+ghost use Rattle.wb_kept_progress.specs.Holed.{HoledMeets};
 ghost use Rattle.wb_kept_progress.specs.Judged.{JudgedDrawopsAreShort, JudgedMembersSendFewBytes, JudgedMembersSendFewDrawops};
 ghost use Rattle.wb_kept_progress.specs.LeadsOn.{AskedLeadsOn, NeighboursAreAskedFor};
 ghost use Rattle.wb_kept_progress.specs.Promises.{Promises, PromisesSuffice};
@@ -134,13 +135,15 @@ pub fn policies_keep_promises()
     ensures suffice { PromisesSuffice }
 {}
 
-/// Two examples of such a session, line by line. Two hosts keep to the terms, and meet all premises
-/// of both laws: a drawing is lost, asked for, and repaired. In one each host is called within 10
-/// milliseconds. In the other within 55 seconds, and it goes on until after the laws say that it is
-/// whole.
+/// Three examples of such a session, line by line. Two hosts keep to the terms, and meet all
+/// premises of the laws: what is lost is asked for, and repaired. In one each host is called within
+/// 10 milliseconds. In another within 55 seconds, and it goes on until after two laws say that it
+/// is whole. In the third one of them holds the last of three drawings alone, and it goes on until
+/// after the law of holes says that both hold all.
 pub fn terms_can_be_kept()
     ensures lively { LivelyMeets }
     ensures patient { PatientMeets }
+    ensures holed { HoledMeets }
 {}
 
 /// How often live hosts report. The next report of each is due within 96 seconds, whatever comes
