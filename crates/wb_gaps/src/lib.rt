@@ -5,9 +5,10 @@
 //! it (`asked`) which pages there are, the greatest number of each source on a page, and which
 //! numbers of a page are missing (`missing`), found one by one (`walk`); which hole comes after a
 //! place (`holes`); the reports of all pages (`page_reports`); and it merges what two members
-//! reported (`merged`). Each answer is a walk over ascending runs of numbers (`run`): a report
+//! reported (`merged`). Each of these is a walk over ascending runs of numbers (`run`): a report
 //! wants the last of each source (`highest`), and a merge two lists of marks taken as one
-//! (`joined`). It costs what the page has of ranges.
+//! (`joined`). It costs what the page has of ranges. A part of a report or of the pages costs
+//! look-ups for that part alone (`telling`).
 //!
 //! It knows no board, no clock and no datagram, and it asks for nothing that is missing. The
 //! definitions speak of the list of drawops that came, in any order, in which a name may stand

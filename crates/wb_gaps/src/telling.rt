@@ -1,5 +1,4 @@
-//! What is told of holdings part by part: the next marks of a page, its last source, and the next
-//! pages.
+//! A part of what a member reports: the next marks of a page, its last source, and the next pages.
 
 ghost use Rattle.std.specs.Prelude.{◌≡◌, ◌≤◌, List, IfOk, filter, length, take};
 ghost use Rattle.std.specs.BTreeMap.{IsOrdered};
