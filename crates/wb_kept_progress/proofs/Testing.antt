@@ -77,7 +77,7 @@ module _ {X : Type 0} where
   abbrev pub uncut : List X → Cut X
   uncut xs = record { front = []; back = xs }
 
-  -- so many elements further
+  -- k elements further
   abbrev pub further : ℕ → Cut X → Cut X
   further k c = record { front = c.front ++ take k c.back; back = drop k c.back }
 
