@@ -20,7 +20,7 @@ use Rattle.wb_dialog.specs.declared.line.DriverLine.{DriverLine}
 use Rattle.wb_dialog.specs.declared.line.DriverLine.TheVariants.{Script, Say, Keep, Came, Add, Version}
 use Rattle.wb_dialog.specs.declared.fault.Refusal.{Refusal}
 use Rattle.wb_dialog.specs.Hosting.{Host, Reply, prints, denies, reply}
-use Rattle.wb_dialog.specs.Lines.{added_part, by_words, call, call_or, command, in_words, keep_line, came_line, moment_of, words_behind, line_behind, line_of, line_of_words, question, said_part, script_or}
+use Rattle.wb_dialog.specs.Lines.{added_part, asks, by_words, call, call_or, command, in_words, keep_line, came_line, moment_of, words_behind, line_behind, line_of, line_of_words, question, said_part, script_or}
 use Rattle.wb_dialog.proofs.ScriptLines.{script_lines_are_read}
 use Rattle.wb_judged_dialog.specs.declared.beginning.Board.{Board}
 use Rattle.wb_judged_dialog.specs.Dialog.{board_in, opens}
@@ -54,15 +54,19 @@ by_read : (r : Result Command LineFault) → IsRead r (by_words Script r)
 by_read (Ok line) = script_read line
 by_read (Err e) = tt
 
-call_read : (query : Result Query LineFault) (call : Result Call LineFault) → IsRead (Err faults.Unknown) (call_or query call)
-call_read query (Ok call) = tt
-call_read (Ok query) (Err faults.Unknown) = tt
-call_read query call = tt
+asks_read : (query : Result Query LineFault) → IsRead (Err faults.Unknown) (by_words asks query)
+asks_read (Ok query) = tt
+asks_read (Err e) = tt
 
-or_read : (query : Result Query LineFault) (call : Result Call LineFault) (r : Result Command LineFault) → IsRead r (script_or query call r)
-or_read query call (Ok line) = script_read line
-or_read query call (Err faults.Unknown) = call_read query call
-or_read query call (Err e) = tt
+call_read : (query : Result Query LineFault) (said : Result Call LineFault) → IsRead (Err faults.Unknown) (call_or query said)
+call_read query (Ok said) = tt
+call_read query (Err faults.Unknown) = asks_read query
+call_read query (Err e) = tt
+
+or_read : (query : Result Query LineFault) (said : Result Call LineFault) (r : Result Command LineFault) → IsRead r (script_or query said r)
+or_read query said (Ok line) = script_read line
+or_read query said (Err faults.Unknown) = call_read query said
+or_read query said (Err e) = tt
 
 own_read : {A : Type 0} (read : Result Command LineFault) (line : A → DriverLine) (r : Result A LineFault) → ((a : A) → IsRead read (Ok (line a))) → IsRead read (by_words line r)
 own_read read line (Ok a) h = h a
