@@ -46,7 +46,7 @@ class Joining:
 
 @dataclass(frozen=True)
 class Arrival:
-    """A datagram comes. The member learns by it that it lacks these drawops; `is_looked` tells whether a driver of today's lines looks.
+    """A datagram comes. The member learns by it that it lacks these drawops; `is_looked` tells whether a driver that judges looks.
     `can_wait` tells that a member that keeps itself does nothing by it: a report of what it has, when it lacks nothing."""
 
     datagram: Datagram
@@ -191,7 +191,7 @@ class HostMember:
 
 
 class BareMember(HostMember):
-    """A member whose driver judges, by today's lines: it looks when it learns that it lacks something, and tells distances that it
+    """A member whose driver judges: it looks when it learns that it lacks something, and tells distances that it
     knows, if it knows them. `distance` gives that to another member."""
 
     def __init__(

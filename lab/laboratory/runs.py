@@ -35,7 +35,7 @@ class Settings:
 
     `who` is what the members are: `hosts`, or `timers` that are reckoned here. Their constants are those of `tuning` and `fixed`, or `adapt`
     from these on: by the number of `members`, or as `published`. `judge` says who judges for hosts: the members themselves (`keep`, whose
-    reports have `rate` bytes a second together), or the laboratory by today's lines (`looks`). The first drawing is at `start`. `late`
+    reports have `rate` bytes a second together), or the laboratory as their driver (`looks`). The first drawing is at `start`. `late`
     members come at `join`, or when half is drawn; `leaving` members go then; `coming` members go and come, for `gone` seconds at a time.
     `fast` lets each member's clock gain or lose at most as many microseconds in a million. Links carry `bandwidth` bytes a second, if it
     is not 0, and queue `queue` bytes. The run goes on to `lasts`, also if all is well.

@@ -1,4 +1,4 @@
-"""Members that are timers alone, reckoned here: what `wb host` does with requests and repairs by today's lines, without the host.
+"""Members that are timers alone, reckoned here: what `wb host` does with requests and repairs if its driver judges, without the host.
 
 With the same seeds they send what hosts send, at the same moments, also where constants follow the session, which `tests/lab` holds them
 to. They take a tenth of the time, and are for groups of hundreds.

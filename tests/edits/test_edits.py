@@ -17,7 +17,7 @@ from .. import refusals
 
 TOP = Path(__file__).resolve().parents[2]
 EDITS = sorted(TOP.glob("crates/*/must-fail/*.edit"))
-MOST = 168
+MOST = 169
 REFUSED = "refused, as it must be"
 
 

@@ -1,5 +1,5 @@
 """A self-managing host, in plain Python, from docs/KEEPING.md: what each of its lines prints. It stands on the host of
-`model`, which performs today's lines."""
+`model`, whose driver judges."""
 
 from __future__ import annotations
 

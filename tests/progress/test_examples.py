@@ -18,11 +18,10 @@ LINE = re.compile(r"    call (\d+) ([01]) \((\w+) (\d+)(?: (.*))?\) ∷")
 
 
 class Example(NamedTuple):
-    """The file and the lists that have the lines of a session, the newer list first; from when on nothing is lost, and the rate of reports. There are so
-    many drawings, and the second host has these gaps until then."""
+    """The file that has the lines of a session; from when on nothing is lost; the rate of reports; how many drawings there are; and which gaps the second
+    host has until then."""
 
     file: str
-    lists: tuple[str, ...]
     quiet: int
     rate: int
     drawings: int
@@ -30,9 +29,9 @@ class Example(NamedTuple):
 
 
 EXAMPLES = {
-    "lively": Example("Examples.antt", ("lively_lines",), 2_000_000, 4_000, 1, ["gaps 0"]),
-    "patient": Example("Examples.antt", ("patient_lines",), 70_000_000, 4_000, 1, ["gaps 0"]),
-    "holed": Example("Holed.antt", ("filling_lines", "unfilled_lines"), 2_000_000, 1, 3, ["gaps 1", "10 1 2"]),
+    "lively": Example("Examples.antt", 2_000_000, 4_000, 1, ["gaps 0"]),
+    "patient": Example("Examples.antt", 70_000_000, 4_000, 1, ["gaps 0"]),
+    "holed": Example("Holed.antt", 2_000_000, 1, 3, ["gaps 1", "10 1 2"]),
 }
 
 
@@ -65,24 +64,24 @@ def digits(term: str, drawings: int) -> str:
     return datagrams.ask_pages(numbers[0])
 
 
-def lines_of(example: Example) -> list[Called]:
+def lines_of(name: str) -> list[Called]:
     """The lines of a session, the oldest first."""
+    example = EXAMPLES[name]
+    _, _, text = (SPECS / example.file).read_text().partition(f"\n{name}_lines =\n")
     called = []
-    for name in example.lists:
-        _, _, text = (SPECS / example.file).read_text().partition(f"\n{name} =\n")
-        for line in text.partition("    []\n")[0].splitlines():
-            found = LINE.fullmatch(line)
-            assert found, line
-            time, place, kind, moment, rest = found.groups()
-            if kind == "Ticked":
-                word, more = "tick", ""
-            elif kind == "Added":
-                page, at, figure = rest.split()
-                assert (page, figure) == ("page", "frame")
-                word, more = "add", f" {at} 10/1 {FRAME}"
-            else:
-                word, more = "came", f" {digits(rest, example.drawings)}"
-            called.append(Called(int(time), int(place), word, moment + more))
+    for line in text.partition("    []\n")[0].splitlines():
+        found = LINE.fullmatch(line)
+        assert found, line
+        time, place, kind, moment, rest = found.groups()
+        if kind == "Ticked":
+            word, more = "tick", ""
+        elif kind == "Added":
+            page, at, figure = rest.split()
+            assert (page, figure) == ("page", "frame")
+            word, more = "add", f" {at} 10/1 {FRAME}"
+        else:
+            word, more = "came", f" {digits(rest, example.drawings)}"
+        called.append(Called(int(time), int(place), word, moment + more))
     return called[::-1]
 
 
@@ -103,7 +102,7 @@ def test_lines(name: str) -> None:
     example = EXAMPLES[name]
     hosts = [opened(place, example.rate) for place in (0, 1)]
     way: list[tuple[int, int, str]] = []  # what was printed and is not handed in yet, from when, and for whom
-    lines = lines_of(example)
+    lines = lines_of(name)
     gaps: list[str] = []
     assert [line.word for line in lines].count("add") == example.drawings
     for line in lines:

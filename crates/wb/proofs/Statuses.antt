@@ -19,10 +19,6 @@ use Rattle.wb.specs.declared.command.Task.{Task}
 use Rattle.wb.specs.declared.serving.Failure.{Failure}
 use Rattle.wb.specs.declared.serving.Failure.TheVariants as failures
 
-pub unwritten : (taken : Option (List ℕ)) → Appends taken taken []
-unwritten None = tt
-unwritten (Some bytes) = sym (append-nil bytes)
-
 pub kept_appends : (before after : Option (List ℕ)) → Keeps before after → Appends before after []
 kept_appends None after same = tt
 kept_appends (Some bytes) None same = absurd same

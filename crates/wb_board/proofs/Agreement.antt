@@ -74,11 +74,11 @@ pub canvases_converge : CanvasesConverge
 canvases_converge one other moved page shown again w h a b = paints_alike one other page shown again w h moved a b
 
 -- what a test finds, where all that passes it is in both lists
-either_way : (b c : Bool) → (b ≡ false → c ≡ false) → (c ≡ false → b ≡ false) → b ≡ c
-either_way true true f g = refl
-either_way false false f g = refl
-either_way true false f g = g refl
-either_way false true f g = sym (f refl)
+same_test : (b c : Bool) → (b ≡ false → c ≡ false) → (c ≡ false → b ≡ false) → b ≡ c
+same_test true true f g = refl
+same_test false false f g = refl
+same_test true false f g = g refl
+same_test false true f g = sym (f refl)
 
 not_here : (p : DrawopValue → Bool) (x : DrawopValue) (b : Bool) → p x ≡ b → (p x ≡ true → p x ≡ false) → b ≡ false
 not_here p x false e f = refl
@@ -88,12 +88,12 @@ found_nowhere : (p : DrawopValue → Bool) (one other : List DrawopValue) → ((
 found_nowhere p one other over none = list_any_nowhere p other (λ x h. not_here p x (p x) refl (λ e. nowhere_from p one none x (over x e h)))
 
 found_alike : (p : DrawopValue → Bool) (one other : List DrawopValue) → ((x : DrawopValue) → p x ≡ true → Contains one x → Contains other x) → ((x : DrawopValue) → p x ≡ true → Contains other x → Contains one x) → list_any p one ≡ list_any p other
-found_alike p one other over back = either_way (list_any p one) (list_any p other) (found_nowhere p one other back) (found_nowhere p other one over)
+found_alike p one other over back = same_test (list_any p one) (list_any p other) (found_nowhere p one other back) (found_nowhere p other one over)
 
 -- the drawops of the page are in both
-record ShareAPage (one other : List DrawopValue) (page : PageId) : Type 0 where
-  over : (x : DrawopValue) → x.name.page ≡ page → Contains one x → Contains other x
-  back : (x : DrawopValue) → x.name.page ≡ page → Contains other x → Contains one x
+pub record ShareAPage (one other : List DrawopValue) (page : PageId) : Type 0 where
+  pub over : (x : DrawopValue) → x.name.page ≡ page → Contains one x → Contains other x
+  pub back : (x : DrawopValue) → x.name.page ≡ page → Contains other x → Contains one x
 
 aimed_here : (page : PageId) (d f : DrawopValue) → d.name.page ≡ page → is_aimed_at f d ≡ true → f.name.page ≡ page
 aimed_here page d f here e = same_page-is f.name.page d.name.page (and_both (same_page f.name.page d.name.page) (has_target f.op d.name.source d.name.seq) e).0 ∙ here
@@ -112,7 +112,7 @@ hidden_alike one other page d share here =
     ∙ found_alike p one other (λ x h. share.over x (on x h)) (λ x h. share.back x (on x h))
 
 -- what is shown of the page is shown by both
-carried : (one other : List DrawopValue) (page : PageId) (shown again : List DrawopValue) → ShareAPage one other page → IsView one page shown → IsView other page again → (d : DrawopValue) → Contains shown d → Contains again d
+pub carried : (one other : List DrawopValue) (page : PageId) (shown again : List DrawopValue) → ShareAPage one other page → IsView one page shown → IsView other page again → (d : DrawopValue) → Contains shown d → Contains again d
 carried one other page shown again share a b d h =
     let m = (a.members d).0 h in
     let here = same_page-is d.name.page page (and_both (same_page d.name.page page) (is_drawing d.op) (and_both (same_page d.name.page page && is_drawing d.op) (not (is_hidden_in one d)) m.1).0).0 in

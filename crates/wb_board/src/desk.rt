@@ -1,14 +1,10 @@
 //! A desk: what one caller knows of a board and owns in it.
-ghost use Rattle.std.specs.Prelude.{◌≡◌, ◌↔◌, IsTrue, IfOk, MatchOption, Contains};
+ghost use Rattle.std.specs.Prelude.{◌≡◌, ◌≤◌, ◌↔◌, IsTrue, IfOk, MatchOption, Contains, length};
 ghost use Rattle.std.specs.Borrow.{sem};
 ghost use Rattle.wb_names.specs.History.{HoldsName, highest};
-ghost use Rattle.wb_names.specs.Marks.{IsReport};
-ghost use Rattle.wb_gaps.specs.Gaps.{AreGaps};
 ghost use Rattle.wb_gaps.specs.Holdings.{HoldNamesOf};
-ghost use Rattle.wb_gaps.specs.Holes.{hole_after};
-ghost use Rattle.wb_gaps.specs.PageReports.{AreReports};
-ghost use Rattle.wb_gaps.specs.Pages.{ArePages};
 ghost use Rattle.wb_history.specs.Passes.{IsPassOf, IsSound, IsWhole, IsCaughtUp};
+ghost use Rattle.wb_board.specs.Counts.{MAX_CELLS};
 
 use crate::board::Board;
 use crate::held::Held;
@@ -16,9 +12,9 @@ use crate::layers::{Layers, bring_up, shown_on};
 use indexmap::IndexMap;
 use std::alloc::{AllocError, Global};
 use std::marker::Model;
-use wb_gaps::{Holdings, Hole, PageReport};
+use wb_gaps::Holdings;
 use wb_history::Pass;
-use wb_names::{Drawop, Gap, Marks, Name, PageId};
+use wb_names::{Drawop, Name, PageId};
 
 /// What one caller knows of a board and owns in it: the drawops that it has seen, the places of
 /// those that it added, and rows for more. It changes only when it is lent to a call of the board
@@ -80,75 +76,15 @@ impl Desk {
         Ok(shown_on(&self.layers, page))
     }
 
-    /// Which numbers of a page are missing, of what it has seen.
-    pub(crate) fn gaps(
-        &mut self,
-        alloc: Global,
-        page: PageId,
-        marks: &Marks,
-    ) -> Result<Vec<Gap>, AllocError>
-        ensures same { self.new ≡ self.old }
-        ensures gaps { IfOk result (λ gaps. AreGaps self.old.seen page marks.now gaps.items) }
-    {
-        self.held.catch_up(&self.pass)?;
-        let gaps = self.held.holdings.gaps(alloc, page, marks)?;
-        Ok(gaps)
-    }
-
     /// The numbers that it has seen, lent from the desk, once it took in what came since. After a
     /// fault it has seen the same.
     pub fn holdings(&mut self) -> Result<&Holdings, AllocError>
         ensures* desk { sem 𝓛 (EndsAs self.entry.ghost_name (λ d. d ≡ self.old)) }
         ensures holds { IfOk result (λ holdings. HoldNamesOf self.old.seen holdings.now) }
+        ensures few { IfOk result (λ holdings. length holdings.now ≤ MAX_CELLS) }
     {
         self.held.catch_up(&self.pass)?;
         Ok(&self.held.holdings)
-    }
-
-    /// The report of a page, of what it has seen.
-    pub(crate) fn report(&mut self, alloc: Global, page: PageId) -> Result<Marks, AllocError>
-        ensures same { self.new ≡ self.old }
-        ensures report { IfOk result (λ marks. IsReport self.old.seen page marks) }
-    {
-        self.held.catch_up(&self.pass)?;
-        let marks = self.held.holdings.report(alloc, page)?;
-        Ok(marks)
-    }
-
-    /// Each page with its report, of what it has seen.
-    pub fn reports(&mut self, alloc: Global) -> Result<Vec<PageReport>, AllocError>
-        ensures same { self.new ≡ self.old }
-        ensures reports { IfOk result (λ reports. AreReports self.old.seen reports.items) }
-    {
-        self.held.catch_up(&self.pass)?;
-        let reports = self.held.holdings.reports(alloc)?;
-        Ok(reports)
-    }
-
-    /// The first hole after a place, of what it has seen.
-    pub(crate) fn hole_after(
-        &mut self,
-        alloc: Global,
-        page: PageId,
-        source: u32,
-        number: u32,
-    ) -> Result<Option<Hole>, AllocError>
-        ensures same { self.new ≡ self.old }
-        ensures hole { IfOk result (λ found. found ≡ hole_after self.old.seen page source number) }
-    {
-        self.held.catch_up(&self.pass)?;
-        let hole = self.held.holdings.hole_after(alloc, page, source, number)?;
-        Ok(hole)
-    }
-
-    /// The greatest number of a source on a page, of what it has seen.
-    pub(crate) fn highest(&mut self, page: PageId, source: u32) -> Result<u32, AllocError>
-        ensures same { self.new ≡ self.old }
-        ensures number { IfOk result (λ number. number ≡ highest page source self.old.seen) }
-    {
-        self.held.catch_up(&self.pass)?;
-        let number = self.held.holdings.highest(page, source);
-        Ok(number)
     }
 
     /// The greatest number of a source on a page, of what it has seen. It takes in nothing, and so
@@ -157,16 +93,6 @@ impl Desk {
         ensures { result ≡ highest page source self.now.seen }
     {
         self.held.highest(self.list(), page, source)
-    }
-
-    /// The pages of what it has seen.
-    pub(crate) fn pages(&mut self, alloc: Global) -> Result<Vec<PageId>, AllocError>
-        ensures same { self.new ≡ self.old }
-        ensures pages { IfOk result (λ pages. ArePages self.old.seen pages.items) }
-    {
-        self.held.catch_up(&self.pass)?;
-        let pages = self.held.holdings.pages(alloc)?;
-        Ok(pages)
     }
 
     /// The drawops that it has seen, in order of place.

@@ -1,6 +1,7 @@
 -- What a host does by bytes, by what its member did.
 use Rattle.std.proofs.Common.{◌≡◌, ℕ, ◌<◌, ◌≤◌, List, Bool, true, false, Option, Some, None, Result, Ok, Err, IfOk, refl, sym, ap, subst, ◌∙◌, arith}
 use Rattle.std.proofs.lemmas.Bool.Decides.{nat_tests}
+use Rattle.std.proofs.lemmas.Bool.{le-ltb, lt-ltb}
 use Rattle.std.specs.Prelude.{is_some, nat_lt}
 use Rattle.wb_names.specs.declared.moment.TheConstants.{MOMENT_LIMIT}
 use Rattle.wb_keeping.specs.Performing.{KeptValue}
@@ -108,14 +109,8 @@ all_in_time does old new now (Err e) low did = tt
 -- ---- a time of day
 
 module _ (does : Room → Room → ℕ → Type 0) (old new : Room) where
-  is_early : (wall limit : ℕ) → wall < limit → nat_lt wall limit ≡ true
-  is_early wall limit low = grind (arith, nat_tests)
-
-  is_late : (wall limit : ℕ) → limit ≤ wall → nat_lt wall limit ≡ false
-  is_late wall limit high = grind (arith, nat_tests)
-
   pub not_of_day : (wall limit status : ℕ) → limit ≤ wall → Refuses 19 old new status → OfDay (nat_lt wall limit) does old new status
-  not_of_day wall limit status high refuses = subst (λ (b : Bool). OfDay b does old new status) (sym (is_late wall limit high)) refuses
+  not_of_day wall limit status high refuses = subst (λ (b : Bool). OfDay b does old new status) (sym (le-ltb wall limit high)) refuses
 
   pub all_of_day : {E : Type 0} (r : Result ℕ E) (wall limit : ℕ) → wall < limit → IfOk r (does old new) → IfOk r (OfDay (nat_lt wall limit) does old new)
-  all_of_day r wall limit low did = subst (λ (b : Bool). IfOk r (OfDay b does old new)) (sym (is_early wall limit low)) did
+  all_of_day r wall limit low did = subst (λ (b : Bool). IfOk r (OfDay b does old new)) (sym (lt-ltb wall limit low)) did

@@ -1,7 +1,8 @@
 -- What follows from a call by bytes: events, and the kind and the bytes of each.
 use Rattle.std.specs.Prelude.{ℕ, List, [], ◌∷◌, ◌++◌, Some, None, map}
 use Rattle.std.specs.Int.{w32, to_be_bytes}
-use Rattle.wb_names.specs.Arrivals.{Outcome, Fresh, Known as KnownDrawop, Clashed, Left as NoCell}
+use Rattle.wb_names.specs.Arrivals.{Outcome}
+use Rattle.wb_names.specs.Arrivals as became
 use Rattle.wb_names.specs.declared.gap.Gap.{Gap}
 use Rattle.wb_codec.specs.Spelling.{mark_bytes, page_bytes, spelling}
 use Rattle.wb_codec.specs.declared.datagram.Datagram.{Datagram}
@@ -15,10 +16,10 @@ use Rattle.wb_c.specs.declared.event.Event.TheVariants.{Judged, Sent, New, Again
 -- ---- what became of a drawop
 
 abbrev pub outcome_event : Outcome → Event
-outcome_event (Fresh place) = New
-outcome_event (KnownDrawop place) = Again
-outcome_event (Clashed place) = Clash
-outcome_event NoCell = Left
+outcome_event (became.New place) = New
+outcome_event (became.Again place) = Again
+outcome_event (became.Clash place) = Clash
+outcome_event became.Left = Left
 
 -- of the one that came in, if the datagram is one
 abbrev pub came_events : Datagram → Outcome → List Event

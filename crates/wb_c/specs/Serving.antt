@@ -164,4 +164,4 @@ never = 2 ^ 64 - 1
 -- the next moment at which a tick is due, or never
 abbrev pub IsDue : Option Room → ℕ → Type 0
 IsDue None due = due ≡ never
-IsDue (Some room) due = (s : JudgedHosting) → IsAt room.dialog s → due ≡ unwrap_or (due_at s.today.host) never
+IsDue (Some room) due = (s : JudgedHosting) → IsAt room.dialog s → due ≡ unwrap_or (due_at s.dialog.host) never

@@ -1,4 +1,4 @@
-//! Two threads relay on desks of one board, whose desks then meet.
+//! Two threads relay on desks of one board. One of these is asked what it lacks, and both meet.
 
 ghost use Rattle.std.specs.Prelude.{IfSome};
 ghost use Rattle.wb_board.specs.Desks.{IsPassOf, IsSamePass};
@@ -7,7 +7,7 @@ use std::alloc::Global;
 use std::thread::{self, Threads};
 use wb_board::{Board, Desk};
 use wb_feed::relay;
-use wb_names::{Drawop, Name, PageId, Shape};
+use wb_names::{Drawop, Mark, Marks, Name, PageId, Shape};
 
 const PAGE: PageId = PageId {
     creator: 7,
@@ -106,6 +106,17 @@ fn relay_on_threads<R: Threads + Sync>(
     (well && other_well, one, two)
 }
 
+/// Whether a desk has all that these marks tell of the page.
+fn lacks_nothing(board: &Board, alloc: Global, desk: &mut Desk, marks: &Marks) -> bool
+    requires { IsPassOf board.now desk.old }
+    ensures { IsPassOf board.now desk.new }
+{
+    match board.gaps(alloc, desk, PAGE, marks) {
+        Ok(gaps) => gaps.is_empty(),
+        Err(_) => false,
+    }
+}
+
 /// Whether two desks that meet have one list, of `count` drawops.
 fn meet(board: &Board, one: &mut Desk, two: &mut Desk, count: usize) -> bool
     requires { IsPassOf board.now one.old × IsPassOf board.now two.old }
@@ -119,7 +130,9 @@ fn all_goes_well<R: Threads + Sync>(rt: &R, alloc: Global) -> Option<bool> {
     let (board, mut root) = open(alloc)?;
     let other = split(&board, alloc, &mut root, 4)?;
     let (well, mut one, mut two) = relay_on_threads(rt, alloc, &board, root, other, &drawops);
-    Some(well && meet(&board, &mut one, &mut two, 2))
+    let marks = Marks::new([Mark::new(8, 1).ok()?].to_vec(alloc).ok()?).ok()?;
+    let knows = lacks_nothing(&board, alloc, &mut one, &marks);
+    Some(well && knows && meet(&board, &mut one, &mut two, 2))
 }
 
 #[test]

@@ -1,8 +1,8 @@
 -- The lines of a policy are lines that a driver may hand in: it says only what is its own, and time goes on first.
 use Rattle.std.proofs.Common.{◌≡◌, ℕ, zero, suc, Bool, true, false, List, [], ◌∷◌, ◌++◌, Option, Some, None, refl, sym, ◌∙◌, append-nil, arith}
-use Rattle.std.specs.Prelude.{nat_eq, nat_le, nat_lt, map, take, filter, length, not, ◌||◌, if◌then◌else◌}
+use Rattle.std.specs.Prelude.{nat_eq, nat_le, nat_lt, map, take, length, not, ◌||◌, if◌then◌else◌}
 use Rattle.std.proofs.lemmas.Bool.Decides.{nat_tests}
-use Rattle.wb_names.specs.Arrivals.{Outcome, Fresh, Known as KnownDrawop, Clashed, Left}
+use Rattle.wb_names.specs.Arrivals.{Outcome, New, Again, Clash, Left}
 use Rattle.wb_names.specs.Values.{DrawopValue, NameValue, MarkValue}
 use Rattle.wb_names.specs.Faults.{fault_unless, first_of}
 use Rattle.wb_names.specs.History.{highest}
@@ -312,9 +312,9 @@ one_send : (v : Datagram) → send_line v ≡ sends_text (v ∷ []) ++ []
 one_send v = sym (append-nil (sends_text (v ∷ [])) ∙ append-nil (send_line v))
 
 said_drives : (d : DrawopValue) (o : Outcome) → said_text d o ≡ sends_text (said_where d o) ++ unsent_text o
-said_drives d (Fresh place) = one_send (datagrams.Draw d)
-said_drives d (KnownDrawop place) = one_send (datagrams.Draw d)
-said_drives d (Clashed place) = refl
+said_drives d (New place) = one_send (datagrams.Draw d)
+said_drives d (Again place) = one_send (datagrams.Draw d)
+said_drives d (Clash place) = refl
 said_drives d Left = refl
 
 -- what it says goes out

@@ -2,7 +2,7 @@
 use Rattle.std.specs.Prelude.{ℕ, List, [], ◌∷◌, ◌++◌, Bool, nat_eq, Option, Some, None, Result, Ok, Err, if◌then◌else◌, codes, decimal}
 use Rattle.std.specs.List.{concat}
 use Rattle.wb_names.specs.Values.{DrawopValue}
-use Rattle.wb_names.specs.Arrivals.{Outcome, Fresh, Known as KnownDrawop, Clashed, Left, counts_of}
+use Rattle.wb_names.specs.Arrivals.{Outcome, New, Again, Clash, Left, counts_of}
 use Rattle.wb_recovery.specs.declared.tuning.Tuning.{Tuning}
 use Rattle.wb_codec.specs.declared.datagram.Datagram.{Datagram as DatagramValue}
 use Rattle.wb_codec.specs.declared.datagram.Datagram.TheVariants as datagrams
@@ -58,9 +58,9 @@ speaker (datagrams.PageState sender page marks) = sender
 
 -- A drawop of ours is sent if it is new or held already. Else it is not, and its batch says why.
 abbrev pub said_text : DrawopValue → Outcome → List ℕ
-said_text d (Fresh place) = send_line (datagrams.Draw d)
-said_text d (KnownDrawop place) = send_line (datagrams.Draw d)
-said_text d (Clashed place) = batch_of (Clashed place)
+said_text d (New place) = send_line (datagrams.Draw d)
+said_text d (Again place) = send_line (datagrams.Draw d)
+said_text d (Clash place) = batch_of (Clash place)
 said_text d Left = batch_of Left
 
 -- A drawop is accepted before it is sent, and any other datagram is only sent.

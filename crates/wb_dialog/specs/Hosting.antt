@@ -2,7 +2,7 @@
 use Rattle.std.specs.Prelude.{ℕ, ◌<◌, ◌≤◌, ◌⊎◌, List, [], ◌∷◌, ◌++◌, length, Contains, Bool, true, false, nat_lt, Option, Some, None, Result, Ok, Err, if◌then◌else◌}
 use Rattle.std.specs.List.{concat}
 use Rattle.std.specs.declared.convert.Infallible.{Infallible}
-use Rattle.wb_names.specs.Arrivals.{Outcome, Fresh, Known as KnownDrawop, Clashed, Left}
+use Rattle.wb_names.specs.Arrivals.{Outcome, New, Again, Clash, Left}
 use Rattle.wb_names.specs.declared.fault.FieldFault.{FieldFault}
 use Rattle.wb_names.specs.declared.moment.TheConstants.{MOMENT_LIMIT}
 use Rattle.wb_names.specs.declared.name.PageId.{PageId}
@@ -108,9 +108,9 @@ came_text (datagrams.PageState sender page marks) outcome = []
 
 -- why a drawing was not sent
 abbrev pub unsent_text : Outcome → List ℕ
-unsent_text (Fresh place) = []
-unsent_text (KnownDrawop place) = []
-unsent_text (Clashed place) = batch_of (Clashed place)
+unsent_text (New place) = []
+unsent_text (Again place) = []
+unsent_text (Clash place) = batch_of (Clash place)
 unsent_text Left = batch_of Left
 
 abbrev pub kept_ticks : ℕ → Keeping → Reply

@@ -5,7 +5,7 @@ ghost use Rattle.wb_commands.specs.Acts.{act};
 ghost use Rattle.wb_commands.specs.Parsing.{IsWithin as IsScriptWithin};
 ghost use Rattle.wb_dialog.specs.Lines.{IsWithin};
 ghost use Rattle.wb_commands.specs.SentLines.{send_line};
-ghost use Rattle.wb_dialog.specs.Dialog.{answered, arrives, batch_of, goes_out, speaker, says, script_answer, call_answer, answer_at};
+ghost use Rattle.wb_dialog.specs.Dialog.{answered, batch_of, goes_out, speaker, says, call_answer, answer_at};
 ghost use Rattle.wb_dialog.specs.Doing.{DoesAt, Adds};
 
 use crate::blocks::{ask_line, print_version, stop_line};
@@ -19,7 +19,7 @@ use wb_lines::Output;
 use wb_member::Member;
 use wb_names::{Drawop, Name};
 
-/// What a line of a script does here, but for arrivals and boards.
+/// What any other line of a script does here.
 fn act(
     alloc: Global,
     member: &mut Member,
@@ -34,35 +34,6 @@ fn act(
         Ok(()) => Ok(()),
         Err(Untaken::Line(fault)) => Err(Unanswered::Refused(Refusal::Line(fault))),
         Err(Untaken::Memory) => Err(Unanswered::Memory),
-    }
-}
-
-/// A drawop comes in.
-fn arrive(member: &mut Member, drawop: &Drawop, output: &mut Output) -> Result<(), Unanswered>
-    ensures text { Adds output.old output.new (λ written.
-        DoesAt member.old member.new written result (arrives drawop.now)) }
-{
-    let became = member.accept(drawop)?;
-    count(became, output)?;
-    Ok(())
-}
-
-/// What a line of a script does here.
-fn script(
-    alloc: Global,
-    member: &mut Member,
-    command: &Command,
-    output: &mut Output,
-) -> Result<(), Unanswered>
-    requires { IsScriptWithin command.now }
-    ensures text { Adds output.old output.new (λ written.
-        DoesAt member.old member.new written result (script_answer command.now)) }
-{
-    match command {
-        Command::Skip => Ok(()),
-        Command::Arrive(drawop) => arrive(member, drawop, output),
-        Command::Board { .. } => Err(Unanswered::Refused(Refusal::Line(LineFault::SecondBoard))),
-        _ => act(alloc, member, command, output),
     }
 }
 
@@ -212,7 +183,16 @@ pub(crate) fn answer(
         DoesAt member.old member.new written result (answer_at line.now)) }
 {
     match line {
-        DriverLine::Script(line) => script(alloc, member, line, output),
+        DriverLine::Script(Command::Skip) => Ok(()),
+        DriverLine::Script(Command::Arrive(drawop)) => {
+            let became = member.accept(drawop)?;
+            count(became, output)?;
+            Ok(())
+        }
+        DriverLine::Script(Command::Board { .. }) => {
+            Err(Unanswered::Refused(Refusal::Line(LineFault::SecondBoard)))
+        }
+        DriverLine::Script(command) => act(alloc, member, command, output),
         DriverLine::Say(datagram) => say(alloc, member, datagram, output),
         DriverLine::Call(call) => perform(alloc, member, call, output),
         DriverLine::Version => version(member, output),

@@ -2,9 +2,8 @@
 ghost use Rattle.std.specs.Prelude.{◌≡◌, ◌≤◌, [], None, Option, Err, true};
 ghost use Rattle.wb_recovery.specs.Timing.{are_constants};
 ghost use Rattle.wb_dialog.specs.Lines.{IsWithin, line_of};
-ghost use Rattle.wb_dialog.specs.Dialog.{ok_line};
 ghost use Rattle.wb_dialog.specs.Hosting.{Host as HostState, due_at, keep_reply, reply, reply_to, taken_reply};
-ghost use Rattle.wb_dialog.specs.Doing.{DoesReply, MayBeAt, Prints, Adds, DoesHost, BlocksAt, host_of, kept_in};
+ghost use Rattle.wb_dialog.specs.Doing.{Adds, BlocksAt, DoesHost, DoesReply, MayBeAt, host_of, kept_in};
 
 use crate::blocks::{print_ok, print_version, refused_line};
 use crate::fault::{Refusal, Unanswered};
@@ -120,25 +119,6 @@ impl Dialog {
         }
     }
 
-    /// What a line does that does not make the host self-managing.
-    fn take(
-        &mut self,
-        alloc: Global,
-        line: &DriverLine,
-        output: &mut Output,
-    ) -> Result<(), Unanswered>
-        requires { IsWithin line.now }
-        ensures text { Adds output.old output.new (λ written.
-            DoesHost self.old.host self.new.host written result
-            (λ s. taken_reply self.old.tuning s line.now)) }
-        ensures tuning { self.new.tuning ≡ self.old.tuning }
-    {
-        match &mut self.host {
-            Some(host) => host.take(alloc, line, output),
-            None => self.begin(alloc, line, output),
-        }
-    }
-
     /// From now on the host is self-managing, if it may be.
     fn keep(&mut self, rate: u32, listen: u32) -> Result<(), Unanswered>
         requires rate { 1 ≤ rate }
@@ -154,7 +134,7 @@ impl Dialog {
     }
 
     /// What a line does.
-    fn act(
+    fn take(
         &mut self,
         alloc: Global,
         line: &DriverLine,
@@ -166,32 +146,13 @@ impl Dialog {
             (λ s. reply_to self.old.tuning s line.now)) }
         ensures tuning { self.new.tuning ≡ self.old.tuning }
     {
-        match line {
-            DriverLine::Keep { rate, listen } => self.keep(*rate, *listen),
-            _ => self.take(alloc, line, output),
+        if let DriverLine::Keep { rate, listen } = line {
+            return self.keep(*rate, *listen);
         }
-    }
-
-    /// Reads a line, which stands without its end, and does what it says.
-    fn read(&mut self, alloc: Global, content: &[u8], output: &mut Output) -> Result<(), Unanswered>
-        ensures text { Adds output.old output.new (λ written.
-            DoesHost self.old.host self.new.host written result
-            (λ s. reply self.old.tuning s (line_of content.now))) }
-        ensures tuning { self.new.tuning ≡ self.old.tuning }
-    {
-        match &read_line(alloc, content) {
-            Ok(line) => self.act(alloc, line, output),
-            Err(unanswered) => Err(*unanswered),
+        match &mut self.host {
+            Some(host) => host.take(alloc, line, output),
+            None => self.begin(alloc, line, output),
         }
-    }
-
-    /// Closes the block of a line that was taken.
-    fn close(&self, output: &mut Output) -> Result<(), AllocError>
-        ensures { Adds output.old output.new (λ written.
-            (s : Option HostState) → MayBeAt self.now.host s →
-            Prints written result (ok_line (due_at s))) }
-    {
-        print_ok(self.next_due(), output)
     }
 
     /// Prints the block of a line, which stands without its end: what it prints, and `ok DUE`; or,
@@ -208,8 +169,13 @@ impl Dialog {
             (λ s. reply self.old.tuning s (line_of content.now))) }
         ensures tuning { self.new.tuning ≡ self.old.tuning }
     {
-        match self.read(alloc, content, output) {
-            Ok(()) => self.close(output),
+        let line = match read_line(alloc, content) {
+            Ok(line) => line,
+            Err(Unanswered::Refused(refusal)) => return self.refuse(alloc, refusal, output),
+            Err(Unanswered::Memory) => return Err(AllocError),
+        };
+        match self.take(alloc, &line, output) {
+            Ok(()) => print_ok(self.next_due(), output),
             Err(Unanswered::Refused(refusal)) => self.refuse(alloc, refusal, output),
             Err(Unanswered::Memory) => Err(AllocError),
         }

@@ -4,7 +4,6 @@ ghost use Rattle.wb_names.specs.Moments.{IsMoment};
 ghost use Rattle.wb_names.specs.Shapes.{op_of};
 ghost use Rattle.wb_member.specs.Holding.{outcome_in};
 ghost use Rattle.wb_member.specs.Questions.{IsAnswerable};
-ghost use Rattle.wb_commands.specs.Parsing.{IsWithin as IsScriptWithin};
 ghost use Rattle.wb_commands.specs.SentLines.{sends_text};
 ghost use Rattle.wb_dialog.specs.Doing.{DoesKept, Tells, unanswered_of, Adds};
 ghost use Rattle.wb_recovery.specs.Timing.{are_constants};
@@ -202,29 +201,8 @@ fn version(kept: &mut KeptMember, output: &mut Output) -> Result<(), Unanswered>
     Ok(())
 }
 
-/// What a line of a script does. Some are no longer its driver's to judge.
-fn script(
-    alloc: Global,
-    kept: &mut KeptMember,
-    command: &Command,
-    output: &mut Output,
-) -> Result<(), Unanswered>
-    requires { IsScriptWithin command.now }
-    ensures text { Adds output.old output.new (λ written.
-        DoesKept kept.old kept.new written result (kept_reply (DriverLine.Script command.now))) }
-{
-    match command {
-        Command::Skip => Ok(()),
-        Command::Board { .. } => Err(Unanswered::Refused(Refusal::Line(LineFault::SecondBoard))),
-        Command::Tick { moment } => tick(alloc, kept, *moment, output),
-        Command::Tune(constants) => tune(kept, *constants),
-        Command::Question(query) => ask(alloc, kept, *query, output),
-        _ => Err(Unanswered::Refused(Refusal::Kept)),
-    }
-}
-
 /// What a line does at a self-managing host: it prints, or it is refused, and then the host stays
-/// as it is.
+/// as it is. Some lines are no longer its driver's to judge.
 pub(crate) fn answer_kept(
     alloc: Global,
     kept: &mut KeptMember,
@@ -236,7 +214,13 @@ pub(crate) fn answer_kept(
         DoesKept kept.old kept.new written result (kept_reply line.now)) }
 {
     match line {
-        DriverLine::Script(line) => script(alloc, kept, line, output),
+        DriverLine::Script(Command::Skip) => Ok(()),
+        DriverLine::Script(Command::Board { .. }) => {
+            Err(Unanswered::Refused(Refusal::Line(LineFault::SecondBoard)))
+        }
+        DriverLine::Script(Command::Tick { moment }) => tick(alloc, kept, *moment, output),
+        DriverLine::Script(Command::Tune(constants)) => tune(kept, *constants),
+        DriverLine::Script(Command::Question(query)) => ask(alloc, kept, *query, output),
         DriverLine::Came { now, datagram } => came(alloc, kept, *now, datagram, output),
         DriverLine::Add(adding) => add(alloc, kept, adding, output),
         DriverLine::Version => version(kept, output),

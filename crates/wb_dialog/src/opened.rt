@@ -3,9 +3,8 @@ ghost use Rattle.std.specs.Prelude.{◌≡◌, ◌≤◌, ◌<◌, [], None, Som
 ghost use Rattle.wb_board.specs.Counts.{IsCellCount};
 ghost use Rattle.wb_recovery.specs.Timing.{are_constants};
 ghost use Rattle.wb_member.specs.Opened.{opened_with};
-ghost use Rattle.wb_dialog.specs.Dialog.{answer_at};
-ghost use Rattle.wb_dialog.specs.Doing.{DoesAt, IsHostAt, seed_by, Adds, DoesOpen};
-ghost use Rattle.wb_dialog.specs.Hosting.{Driven, Host as HostState, acts_in_script, due_at, in_time, is_acting, keep_reply, seed_after, taken_by};
+ghost use Rattle.wb_dialog.specs.Doing.{Adds, DoesOpen, IsHostAt};
+ghost use Rattle.wb_dialog.specs.Hosting.{Driven, Host as HostState, acts_in_script, due_at, in_time, is_acting, keep_reply, taken_by};
 ghost use Rattle.wb_dialog.specs.Lines.{IsWithin};
 ghost use Rattle.wb_dialog.specs.declared.opened.Host.TheVariants as values;
 
@@ -57,26 +56,6 @@ pub(crate) fn is_acting(line: &DriverLine) -> bool
         DriverLine::Keep { .. } => true,
         _ => false,
     }
-}
-
-/// What a line does at a host that its driver drives. One that acts takes the seed from it.
-fn drive(
-    alloc: Global,
-    member: &mut Member,
-    seed: &mut Option<u64>,
-    line: &DriverLine,
-    output: &mut Output,
-) -> Result<(), Unanswered>
-    requires { IsWithin line.now }
-    ensures text { Adds output.old output.new (λ written.
-        DoesAt member.old member.new written result (answer_at line.now)) }
-    ensures seed { seed.new ≡ seed_by result seed.old (seed_after line.now seed.old) }
-{
-    answer(alloc, member, line, output)?;
-    if is_acting(line) {
-        *seed = None;
-    }
-    Ok(())
 }
 
 /// From now on a driven host is self-managing, if it still has the seed of its board.
@@ -148,7 +127,7 @@ impl Host {
     }
 
     /// What a line does that does not make it self-managing: it prints, or it is refused, and then
-    /// the host stays as it is.
+    /// the host stays as it is. One that acts takes the seed from a driven host.
     #[tactic(auto, using(crate::proofs::KeptReplies::taken_driven, crate::proofs::KeptReplies::taken_kept))]
     pub fn take(
         &mut self,
@@ -161,7 +140,13 @@ impl Host {
             DoesOpen self.old self.new written result (taken_by line.now)) }
     {
         match self {
-            Host::Driven { member, seed } => drive(alloc, member, seed, line, output),
+            Host::Driven { member, seed } => {
+                answer(alloc, member, line, output)?;
+                if is_acting(line) {
+                    *seed = None;
+                }
+                Ok(())
+            }
             Host::Kept(kept) => answer_kept(alloc, kept, line, output),
         }
     }

@@ -9,7 +9,7 @@ use Rattle.std.proofs.lemmas.List.Sorted.{IsPermutation-trans, IsPermutation-app
 use mathlib.Core.List.{IsPrefix}
 use Rattle.wb_names.specs.Values.{DrawopValue}
 use Rattle.wb_names.specs.History.{HoldsName}
-use Rattle.wb_names.specs.Arrivals.{Fresh, Known, Clashed, Left, Counts, counts, counts_of}
+use Rattle.wb_names.specs.Arrivals.{New, Again, Clash, Left, Counts, counts, counts_of}
 use Rattle.wb_board.specs.Desks.{PassValue, IsSound}
 use Rattle.wb_feed.specs.declared.channel.ChannelView.{ChannelView}
 use Rattle.wb_board.specs.declared.reply.Reply.{Reply}
@@ -34,25 +34,25 @@ use Rattle.wb_feed.proofs.WholeDesks.{left_lacks, stays_whole}
 
 told_places : (log : List Spot) → told_at (told_of log) ≡ accepted_at log
 told_places [] = refl
-told_places ((p, (d, Fresh i)) ∷ ss) = ap (λ l. p ∷ l) (told_places ss)
-told_places ((p, (d, Known i)) ∷ ss) = ap (λ l. p ∷ l) (told_places ss)
-told_places ((p, (d, Clashed i)) ∷ ss) = ap (λ l. p ∷ l) (told_places ss)
+told_places ((p, (d, New i)) ∷ ss) = ap (λ l. p ∷ l) (told_places ss)
+told_places ((p, (d, Again i)) ∷ ss) = ap (λ l. p ∷ l) (told_places ss)
+told_places ((p, (d, Clash i)) ∷ ss) = ap (λ l. p ∷ l) (told_places ss)
 told_places ((p, (d, Left)) ∷ ss) = told_places ss
 
 told_counts : (log : List Spot) → counts_of (told_outcomes (told_of log)) ≡ counts (tally (entries log)).fresh (tally (entries log)).again (tally (entries log)).clash 0
 told_counts [] = refl
-told_counts ((p, (d, Fresh i)) ∷ ss) = ap (λ (k : Counts). record k { fresh = k.fresh + 1 }) (told_counts ss)
-told_counts ((p, (d, Known i)) ∷ ss) = ap (λ (k : Counts). record k { again = k.again + 1 }) (told_counts ss)
-told_counts ((p, (d, Clashed i)) ∷ ss) = ap (λ (k : Counts). record k { clash = k.clash + 1 }) (told_counts ss)
+told_counts ((p, (d, New i)) ∷ ss) = ap (λ (k : Counts). record k { fresh = k.fresh + 1 }) (told_counts ss)
+told_counts ((p, (d, Again i)) ∷ ss) = ap (λ (k : Counts). record k { again = k.again + 1 }) (told_counts ss)
+told_counts ((p, (d, Clash i)) ∷ ss) = ap (λ (k : Counts). record k { clash = k.clash + 1 }) (told_counts ss)
 told_counts ((p, (d, Left)) ∷ ss) = told_counts ss
 
 -- the names of what was taken are held
 taken_names : (h : List DrawopValue) (log : List Entry) → AreAnswered h log → All (λ d. HoldsName h d.name) (drawops (chosen is_taken log))
 taken_names h [] t = All-nil (λ (d : DrawopValue). HoldsName h d.name)
 taken_names h ((d, Left) ∷ es) t = taken_names h es t.1
-taken_names h ((d, Fresh i) ∷ es) t = All-cons (λ (d : DrawopValue). HoldsName h d.name) d (drawops (chosen is_taken es)) (at_named h i d d t.0 refl) (taken_names h es t.1)
-taken_names h ((d, Known i) ∷ es) t = All-cons (λ (d : DrawopValue). HoldsName h d.name) d (drawops (chosen is_taken es)) (at_named h i d d t.0 refl) (taken_names h es t.1)
-taken_names h ((d, Clashed i) ∷ es) t = All-cons (λ (d : DrawopValue). HoldsName h d.name) d (drawops (chosen is_taken es)) (at_named h i t.0.0 d t.0.1 t.0.2) (taken_names h es t.1)
+taken_names h ((d, New i) ∷ es) t = All-cons (λ (d : DrawopValue). HoldsName h d.name) d (drawops (chosen is_taken es)) (at_named h i d d t.0 refl) (taken_names h es t.1)
+taken_names h ((d, Again i) ∷ es) t = All-cons (λ (d : DrawopValue). HoldsName h d.name) d (drawops (chosen is_taken es)) (at_named h i d d t.0 refl) (taken_names h es t.1)
+taken_names h ((d, Clash i) ∷ es) t = All-cons (λ (d : DrawopValue). HoldsName h d.name) d (drawops (chosen is_taken es)) (at_named h i t.0.0 d t.0.1 t.0.2) (taken_names h es t.1)
 
 once_rises : (i m n : ℕ) → m ≤ n → once_below i m ≤ once_below i n
 once_rises i m n h = grind (arith, nat_tests)

@@ -11,6 +11,8 @@ use Rattle.wb_board.specs.declared.reply.Reply.{Reply}
 use Rattle.wb_feed.specs.Accepts.{LosesAtMost, Accepts, Entry}
 use Rattle.wb_feed.specs.declared.batch.Batch.{Batch}
 use Rattle.std.proofs.lemmas.Bool.{cases_eq}
+use Rattle.std.proofs.Math.Bool.{or-false, or-true}
+use Rattle.std.proofs.Math.Nat.{add_comm, add_left_comm}
 use Rattle.wb_feed.proofs.Numbers.{test_apart, test_same, times-append, has_false, once_past, once_under}
 use Rattle.wb_feed.proofs.OneThread.{plus, same_counts, counts_of-append}
 use Rattle.wb_feed.proofs.Log.{one_kind, runs_more, runs_leave, leaves_lose, tally-append}
@@ -104,14 +106,6 @@ rest_keeps p q fs ds i b h = leaves_lose p q h.settled.log (runs_leave p q h.set
 
 -- ---- filing
 
-or_false : (b : Bool) → (b || false) ≡ b
-or_false true = refl
-or_false false = refl
-
-or_true : (b : Bool) → (b || true) ≡ true
-or_true true = refl
-or_true false = refl
-
 marks_none : (n : ℕ) (ms : List Bool) → length ms ≡ n → ((p : ℕ) → get_or ms p false ≡ false) → Marks [] n ms
 marks_none n ms e h = record { long = e; each = λ p lt. h p }
 
@@ -119,7 +113,7 @@ marks_none n ms e h = record { long = e; each = λ p lt. h p }
 marks_past : (ps : List ℕ) (q n : ℕ) (ms : List Bool) → n ≤ q → Marks ps n ms → Marks (ps ++ q ∷ []) n ms
 marks_past ps q n ms past h = record {
   long = h.long;
-  each = λ p small. h.each p small ∙ sym (has-append p ps (q ∷ []) ∙ (ap (λ b. has p ps || (b || false)) (test_apart q p (λ e. absurd (omega (arith, e, past, small)))) ∙ or_false (has p ps)));
+  each = λ p small. h.each p small ∙ sym (has-append p ps (q ∷ []) ∙ (ap (λ b. has p ps || (b || false)) (test_apart q p (λ e. absurd (omega (arith, e, past, small)))) ∙ or-false (has p ps)));
 }
 
 marks_more : (ps : List ℕ) (q n : ℕ) (ms : List Bool) → q < n → Marks ps n ms → Marks (ps ++ q ∷ []) n (set ms q true)
@@ -129,9 +123,9 @@ marks_more ps q n ms small h =
       long = length-set ms q true ∙ h.long;
       each = λ p under. ⊎_elim
           (λ (e : p ≡ q). ap (λ k. get_or (set ms q true) k false) e ∙ (get_or-set_same ms q true false room
-          ∙ sym (has-append p ps (q ∷ []) ∙ (ap (λ b. has p ps || (b || false)) (test_same q p (sym e)) ∙ or_true (has p ps)))))
+          ∙ sym (has-append p ps (q ∷ []) ∙ (ap (λ b. has p ps || (b || false)) (test_same q p (sym e)) ∙ or-true (has p ps)))))
           (λ (d : p ≢ q). get_or-set_other ms q p true false d ∙ (h.each p under
-          ∙ sym (has-append p ps (q ∷ []) ∙ (ap (λ b. has p ps || (b || false)) (test_apart q p (λ e. d (sym e))) ∙ or_false (has p ps))))) (cases_eq p q);
+          ∙ sym (has-append p ps (q ∷ []) ∙ (ap (λ b. has p ps || (b || false)) (test_apart q p (λ e. d (sym e))) ∙ or-false (has p ps))))) (cases_eq p q);
     }
 
 not_filled : (fs : List (Option Reply)) (q : ℕ) → get_or (filled fs) q false ≡ false → get_or fs q None ≡ None
@@ -141,17 +135,11 @@ not_filled (Some s ∷ fs) zero e = absurd (cc (e))
 not_filled (None ∷ fs) (suc q) e = not_filled fs q e
 not_filled (Some s ∷ fs) (suc q) e = not_filled fs q e
 
-swapped : (a b : ℕ) (c : ℕ) → a + (b + c) ≡ b + (a + c)
-swapped a b c = omega arith
-
 plus-swap : (a b c : Counts) → plus a (plus b c) ≡ plus b (plus a c)
-plus-swap a b c = same_counts (swapped a.fresh b.fresh c.fresh) (swapped a.again b.again c.again) (swapped a.clash b.clash c.clash) (swapped a.left b.left c.left)
-
-turned : (a b : ℕ) → a + b ≡ b + a
-turned a b = omega arith
+plus-swap a b c = same_counts (add_left_comm a.fresh b.fresh c.fresh) (add_left_comm a.again b.again c.again) (add_left_comm a.clash b.clash c.clash) (add_left_comm a.left b.left c.left)
 
 plus_turned : (a b : Counts) → plus a b ≡ plus b a
-plus_turned a b = same_counts (turned a.fresh b.fresh) (turned a.again b.again) (turned a.clash b.clash) (turned a.left b.left)
+plus_turned a b = same_counts (add_comm a.fresh b.fresh) (add_comm a.again b.again) (add_comm a.clash b.clash) (add_comm a.left b.left)
 
 -- a reply that is filed at a free place is counted with the others
 filed-set : (fs : List (Option Reply)) (q : ℕ) (r : Reply) → q < length fs → get_or fs q None ≡ None → counts_of (filed_outcomes (set fs q (Some r))) ≡ plus (counts_of (outcome r ∷ [])) (counts_of (filed_outcomes fs))

@@ -2,7 +2,7 @@
 use Rattle.std.proofs.Common.{◌≡◌, List, [], ◌∷◌, ◌++◌, length, ap, subst, arith, length-append}
 use Rattle.wb_names.specs.Values.{DrawopValue}
 use Rattle.wb_names.specs.History.{IsHistory}
-use Rattle.wb_names.specs.Arrivals.{Outcome, Fresh, Known, Clashed, Left, IsTaken, history_with, AreTaken}
+use Rattle.wb_names.specs.Arrivals.{Outcome, New, Again, Clash, Left, IsTaken, history_with, AreTaken}
 use Rattle.wb_board.specs.Desks.{PassValue, IsSound, IsWhole}
 use Rattle.wb_feed.specs.Accepts.{Entry, Accepts, drawops, outcomes, Runs}
 use Rattle.wb_feed.proofs.Members.{history_mid}
@@ -13,13 +13,13 @@ stays_taken : (p q : PassValue) (d : DrawopValue) (o : Outcome) → q.seen ≡ p
 stays_taken p q d o e t = subst (λ (l : List DrawopValue). IsTaken p.cells l d o) e t
 
 one_in_order : (p q : PassValue) (d : DrawopValue) (o : Outcome) → IsSound p → IsWhole p → Accepts p d o q → IsTaken p.cells p.seen d o × (q.seen ≡ history_with p.seen d o)
-one_in_order p q d (Fresh i) s w a =
+one_in_order p q d (New i) s w a =
     let b = a.becomes in
     let is : q.seen ≡ p.seen ++ d ∷ [] = b.alone w in
     let here : i ≡ length p.seen = omega (arith, b.last, ap length is, length-append p.seen (d ∷ [])) in
     (((here, history_mid p.seen [] d (subst IsHistory is a.sound.history)), omega (arith, s.room, b.row)), is)
-one_in_order p q d (Known i) s w a = let e = a.becomes.1.1 w in (stays_taken p q d (Known i) e a.becomes.0, e)
-one_in_order p q d (Clashed i) s w a = let e = a.becomes.1.1 w in (stays_taken p q d (Clashed i) e a.becomes.0, e)
+one_in_order p q d (Again i) s w a = let e = a.becomes.1.1 w in (stays_taken p q d (Again i) e a.becomes.0, e)
+one_in_order p q d (Clash i) s w a = let e = a.becomes.1.1 w in (stays_taken p q d (Clash i) e a.becomes.0, e)
 one_in_order p q d Left s w a =
     let b = a.becomes in
     let e = b.kept.1 w in

@@ -7,7 +7,7 @@ use Rattle.std.proofs.lemmas.List.Sorted.{IsPermutation-map, IsPermutation-filte
 use mathlib.Core.List.{IsPrefix}
 use Rattle.wb_names.specs.Values.{DrawopValue}
 use Rattle.wb_names.specs.History.{IsAgainAt, IsClashAt}
-use Rattle.wb_names.specs.Arrivals.{Outcome, Fresh, Known, Clashed, Left, Counts, counts, counts_of}
+use Rattle.wb_names.specs.Arrivals.{Outcome, New, Again, Clash, Left, Counts, counts, counts_of}
 use Rattle.wb_board.specs.Desks.{PassValue, KeepsRows, AddsNothing, IsSound, IsWhole, IsSplit}
 use Rattle.wb_feed.specs.Accepts.{Keeps, Loses, LosesAtMost, Accepts, Entry, drawops, outcomes, tally, Runs}
 use Rattle.wb_feed.proofs.Prefixes.{prefix_self, prefix_is, prefix_trans, prefix_get}
@@ -27,9 +27,9 @@ chosen p es = filter (λ e. p e.1) es
 
 -- the places that were gained
 abbrev pub place : Outcome → List ℕ
-place (Fresh i) = i ∷ []
-place (Known i) = []
-place (Clashed i) = []
+place (New i) = i ∷ []
+place (Again i) = []
+place (Clash i) = []
 place Left = []
 
 abbrev pub places : List Entry → List ℕ
@@ -38,9 +38,9 @@ places (e ∷ es) = place e.1 ++ places es
 
 -- what an outcome says of a list, and so of each longer one
 abbrev pub Says : List DrawopValue → DrawopValue → Outcome → Type 0
-Says h d (Fresh i) = IsAgainAt h d i
-Says h d (Known i) = IsAgainAt h d i
-Says h d (Clashed i) = IsClashAt h d i
+Says h d (New i) = IsAgainAt h d i
+Says h d (Again i) = IsAgainAt h d i
+Says h d (Clash i) = IsClashAt h d i
 Says h d Left = Unit {0}
 
 abbrev pub AreAnswered : List DrawopValue → List Entry → Type 0
@@ -55,9 +55,9 @@ pub record Sum (m n s : Counts) : Type 0 where
 
 pub tally-append : (xs ys : List Entry) → Sum (tally xs) (tally ys) (tally (xs ++ ys))
 tally-append [] ys = record { fresh = omega arith; again = omega arith; clash = omega arith; left = omega arith }
-tally-append ((d, Fresh i) ∷ xs) ys = let s = tally-append xs ys in record { fresh = omega arith; again = s.again; clash = s.clash; left = s.left }
-tally-append ((d, Known i) ∷ xs) ys = let s = tally-append xs ys in record { fresh = s.fresh; again = omega arith; clash = s.clash; left = s.left }
-tally-append ((d, Clashed i) ∷ xs) ys = let s = tally-append xs ys in record { fresh = s.fresh; again = s.again; clash = omega arith; left = s.left }
+tally-append ((d, New i) ∷ xs) ys = let s = tally-append xs ys in record { fresh = omega arith; again = s.again; clash = s.clash; left = s.left }
+tally-append ((d, Again i) ∷ xs) ys = let s = tally-append xs ys in record { fresh = s.fresh; again = omega arith; clash = s.clash; left = s.left }
+tally-append ((d, Clash i) ∷ xs) ys = let s = tally-append xs ys in record { fresh = s.fresh; again = s.again; clash = omega arith; left = s.left }
 tally-append ((d, Left) ∷ xs) ys = let s = tally-append xs ys in record { fresh = s.fresh; again = s.again; clash = s.clash; left = omega arith }
 
 tally_sum : (pick : Counts → ℕ) → pick (counts 0 0 0 0) ≡ 0 → ((m n : Counts) → pick (plus m n) ≡ pick m + pick n) → (es : List Entry) → pick (tally es) ≡ sum_by (λ e. pick (tally (e ∷ []))) es
@@ -73,15 +73,15 @@ tally_moved xs ys moved = same_counts (one (λ c. c.fresh) refl (λ m n. refl)) 
 
 pub taken_tally : (es : List Entry) → tally (chosen is_taken es) ≡ counts (tally es).fresh (tally es).again (tally es).clash 0
 taken_tally [] = refl
-taken_tally ((d, Fresh i) ∷ es) = ap (λ (k : Counts). record k { fresh = k.fresh + 1 }) (taken_tally es)
-taken_tally ((d, Known i) ∷ es) = ap (λ (k : Counts). record k { again = k.again + 1 }) (taken_tally es)
-taken_tally ((d, Clashed i) ∷ es) = ap (λ (k : Counts). record k { clash = k.clash + 1 }) (taken_tally es)
+taken_tally ((d, New i) ∷ es) = ap (λ (k : Counts). record k { fresh = k.fresh + 1 }) (taken_tally es)
+taken_tally ((d, Again i) ∷ es) = ap (λ (k : Counts). record k { again = k.again + 1 }) (taken_tally es)
+taken_tally ((d, Clash i) ∷ es) = ap (λ (k : Counts). record k { clash = k.clash + 1 }) (taken_tally es)
 taken_tally ((d, Left) ∷ es) = taken_tally es
 
 pub one_kind : (o : Outcome) → (counts_of (o ∷ [])).fresh + (counts_of (o ∷ [])).again + (counts_of (o ∷ [])).clash + (counts_of (o ∷ [])).left ≡ 1
-one_kind (Fresh i) = omega arith
-one_kind (Known i) = omega arith
-one_kind (Clashed i) = omega arith
+one_kind (New i) = omega arith
+one_kind (Again i) = omega arith
+one_kind (Clash i) = omega arith
 one_kind Left = omega arith
 
 drawops-map : (es : List Entry) → map (λ e. e.0) es ≡ drawops es
@@ -107,22 +107,22 @@ places-append (x ∷ xs) ys = ap (λ l. place x.1 ++ l) (places-append xs ys) �
 
 pub places_many : (es : List Entry) → length (places es) ≡ (tally es).fresh
 places_many [] = refl
-places_many ((d, Fresh i) ∷ es) = omega (arith, places_many es)
-places_many ((d, Known i) ∷ es) = places_many es
-places_many ((d, Clashed i) ∷ es) = places_many es
+places_many ((d, New i) ∷ es) = omega (arith, places_many es)
+places_many ((d, Again i) ∷ es) = places_many es
+places_many ((d, Clash i) ∷ es) = places_many es
 places_many ((d, Left) ∷ es) = places_many es
 
 pub left_many : (es : List Entry) → (tally es).left ≡ length (drawops (chosen is_left es))
 left_many [] = refl
-left_many ((d, Fresh i) ∷ es) = left_many es
-left_many ((d, Known i) ∷ es) = left_many es
-left_many ((d, Clashed i) ∷ es) = left_many es
+left_many ((d, New i) ∷ es) = left_many es
+left_many ((d, Again i) ∷ es) = left_many es
+left_many ((d, Clash i) ∷ es) = left_many es
 left_many ((d, Left) ∷ es) = omega (arith, left_many es)
 
 says_longer : (g h : List DrawopValue) (d : DrawopValue) (o : Outcome) → IsPrefix g h → Says g d o → Says h d o
-says_longer g h d (Fresh i) p s = prefix_get g h i d p s
-says_longer g h d (Known i) p s = prefix_get g h i d p s
-says_longer g h d (Clashed i) p s = (s.0, prefix_get g h i s.0 p s.1, s.2, s.3)
+says_longer g h d (New i) p s = prefix_get g h i d p s
+says_longer g h d (Again i) p s = prefix_get g h i d p s
+says_longer g h d (Clash i) p s = (s.0, prefix_get g h i s.0 p s.1, s.2, s.3)
 says_longer g h d Left p s = tt
 
 pub answered_longer : (g h : List DrawopValue) (es : List Entry) → IsPrefix g h → AreAnswered g es → AreAnswered h es
@@ -155,9 +155,9 @@ leaves_rows p q d o none zero k a says = record {
 }
 
 pub accept_leaves : (p q : PassValue) (d : DrawopValue) (o : Outcome) → Accepts p d o q → Leaves p ((d, o) ∷ []) q
-accept_leaves p q d (Fresh i) a = record { kept = a.kept; mine = a.becomes.gains; free = a.becomes.row; answered = (a.becomes.member, tt) }
-accept_leaves p q d (Known i) a = leaves_rows p q d (Known i) refl refl a.kept a.becomes.1 a.becomes.0
-accept_leaves p q d (Clashed i) a = leaves_rows p q d (Clashed i) refl refl a.kept a.becomes.1 a.becomes.0
+accept_leaves p q d (New i) a = record { kept = a.kept; mine = a.becomes.gains; free = a.becomes.row; answered = (a.becomes.member, tt) }
+accept_leaves p q d (Again i) a = leaves_rows p q d (Again i) refl refl a.kept a.becomes.1 a.becomes.0
+accept_leaves p q d (Clash i) a = leaves_rows p q d (Clash i) refl refl a.kept a.becomes.1 a.becomes.0
 accept_leaves p q d Left a = leaves_rows p q d Left refl refl a.kept a.becomes.kept tt
 
 pub keeps_self : (p : PassValue) → Keeps p p
@@ -277,9 +277,9 @@ gathers_run p q r log es g run =
 pub runs_empty : (p q : PassValue) (es : List Entry) → Runs p es q → 0 < (tally es).left → q.free ≡ 0
 runs_empty p q [] r some = absurd (omega arith)
 runs_empty p q ((d, Left) ∷ es) r some = omega (arith, (runs_leave r.0 q es r.2).free, r.1.becomes.none_left)
-runs_empty p q ((d, Fresh i) ∷ es) r some = runs_empty r.0 q es r.2 some
-runs_empty p q ((d, Known i) ∷ es) r some = runs_empty r.0 q es r.2 some
-runs_empty p q ((d, Clashed i) ∷ es) r some = runs_empty r.0 q es r.2 some
+runs_empty p q ((d, New i) ∷ es) r some = runs_empty r.0 q es r.2 some
+runs_empty p q ((d, Again i) ∷ es) r some = runs_empty r.0 q es r.2 some
+runs_empty p q ((d, Clash i) ∷ es) r some = runs_empty r.0 q es r.2 some
 
 -- the own places of a desk, each once
 pub sound_once : (p : PassValue) → IsSound p → (i : ℕ) → times i p.mine ≤ once_below i (length p.seen)

@@ -1,6 +1,6 @@
 -- Lists of numbers, each once.
-use Rattle.std.proofs.Common.{◌≡◌, ◌≢◌, ◌⊎◌, ℕ, zero, suc, ◌+◌, ◌≤◌, ◌<◌, ◌==◌, ◌||◌, Bool, true, false, cond, List, [], ◌∷◌, ◌++◌, length, sym, refl, ap, ap₂, ◌∙◌, subst, inl, inr, arith, add-zero, ⊎_elim}
-use Rattle.std.proofs.lemmas.Bool.{cases_eq}
+use Rattle.std.proofs.Common.{◌≡◌, ◌≢◌, ℕ, zero, suc, ◌+◌, ◌≤◌, ◌<◌, ◌==◌, ◌||◌, Bool, true, false, cond, List, [], ◌∷◌, ◌++◌, length, sym, refl, ap, ap₂, ◌∙◌, subst, arith, add-zero, ⊎_elim}
+use Rattle.std.proofs.lemmas.Bool.{cases_Bool, cases_eq}
 use Rattle.std.proofs.lemmas.Bool.Decides.{nat_tests}
 use Rattle.std.specs.List.{range_with_len}
 use Rattle.std.specs.List.Sorted.{IsPermutation}
@@ -21,10 +21,6 @@ test_apart m n e = grind (arith, nat_tests)
 pub test_same : (m n : ℕ) → m ≡ n → (m == n) ≡ true
 test_same m n e = grind (arith, nat_tests)
 
-pub bool_cases : (b : Bool) → (b ≡ true) ⊎ (b ≡ false)
-bool_cases true = inl refl
-bool_cases false = inr refl
-
 one_here : (p q : ℕ) (ps : List ℕ) → (q == p) ≡ true → times p (q ∷ ps) ≡ 0 → ⊥
 one_here p q ps e h = let t : times p (q ∷ ps) ≡ 1 + times p ps = ap (λ b. cond b 1 0 + times p ps) e in absurd (omega (arith, t, h))
 
@@ -32,7 +28,7 @@ pub has_false : (p : ℕ) (ps : List ℕ) → times p ps ≡ 0 → has p ps ≡ 
 has_false p [] h = refl
 has_false p (q ∷ ps) h =
     ⊎_elim (λ (e : (q == p) ≡ true). absurd (one_here p q ps e h))
-    (λ (e : (q == p) ≡ false). ap₂ (λ a b. a || b) e (has_false p ps (omega (arith, h, ap (λ b. cond b 1 0 + times p ps) e)))) (bool_cases (q == p))
+    (λ (e : (q == p) ≡ false). ap₂ (λ a b. a || b) e (has_false p ps (omega (arith, h, ap (λ b. cond b 1 0 + times p ps) e)))) (cases_Bool (q == p))
 
 pub once_under : (p n : ℕ) → p < n → once_below p n ≡ 1
 once_under p n h = grind (arith, nat_tests)

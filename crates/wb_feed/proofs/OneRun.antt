@@ -10,10 +10,10 @@ use Rattle.std.proofs.lemmas.List.Sorted.{IsPermutation-refl, IsPermutation-sym,
 use mathlib.Core.List.{IsPrefix}
 use Rattle.wb_names.specs.Values.{DrawopValue}
 use Rattle.wb_names.specs.History.{IsNewAt, IsAgainAt, IsClashAt}
-use Rattle.wb_names.specs.Arrivals.{Outcome, Fresh, Known, Clashed, Left, counts, AreTaken, IsBatch}
+use Rattle.wb_names.specs.Arrivals.{Outcome, New, Again, Clash, Left, counts, AreTaken, IsBatch}
 use Rattle.wb_board.specs.Desks.{PassValue, IsSound, IsWhole}
 use Rattle.wb_board.specs.declared.reply.Reply.{Reply}
-use Rattle.wb_board.specs.declared.reply.Reply.TheVariants.{New, Again, Clash}
+use Rattle.wb_board.specs.declared.reply.Reply.TheVariants as replies
 use Rattle.wb_board.specs.Replies.{IsReply}
 use Rattle.wb_board.specs.Board.{Call, Accept, Answer, Replied, Step, IsAnswer, after_call, IsLegalFrom}
 use Rattle.wb_board.specs.Replies.{outcome}
@@ -51,21 +51,21 @@ take_within : (g h : List DrawopValue) (i : ℕ) → IsPrefix g h → i ≤ leng
 take_within g h i p le = ap (λ (l : List DrawopValue). take i l) (sym p.1) ∙ take-append-le i g p.0 le
 
 one_answered : (h : List DrawopValue) (k caller : ℕ) (e : Entry) (p r : PassValue) → Accepts p e.0 e.1 r → k ≤ length p.seen → IsPrefix r.seen h → All (IsOne h k (λ c. c ≡ caller)) (answered_of caller e (length r.seen))
-one_answered h k caller (d, Fresh i) p r a le g =
+one_answered h k caller (d, New i) p r a le g =
     let b = a.becomes in
     let answer = subst (λ (l : List DrawopValue). IsNewAt l d i) (sym (take_within r.seen h i g (omega (arith, b.last)))) b.new in
-    let since : IsAnsweredSince h k (answered caller d (New i) i) = record { since = omega (arith, le, b.later); within = omega (arith, b.last, prefix_length r.seen h g); answer = answer; member = prefix_get r.seen h i d g b.member } in
-    single (IsOne h k (λ c. c ≡ caller)) (answered caller d (New i) i) (record { since = since; by = refl; drawop = d; reply = New i; call = refl; answer = refl })
-one_answered h k caller (d, Known i) p r a le g =
+    let since : IsAnsweredSince h k (answered caller d (replies.New i) i) = record { since = omega (arith, le, b.later); within = omega (arith, b.last, prefix_length r.seen h g); answer = answer; member = prefix_get r.seen h i d g b.member } in
+    single (IsOne h k (λ c. c ≡ caller)) (answered caller d (replies.New i) i) (record { since = since; by = refl; drawop = d; reply = replies.New i; call = refl; answer = refl })
+one_answered h k caller (d, Again i) p r a le g =
     let n = length r.seen in
     let answer = subst (λ (l : List DrawopValue). IsAgainAt l d i) (sym (prefix_take r.seen h g)) a.becomes.0 in
-    let since : IsAnsweredSince h k (answered caller d (Again i) n) = record { since = omega (arith, le, prefix_length p.seen r.seen a.kept.seen); within = prefix_length r.seen h g; answer = answer; member = tt } in
-    single (IsOne h k (λ c. c ≡ caller)) (answered caller d (Again i) n) (record { since = since; by = refl; drawop = d; reply = Again i; call = refl; answer = refl })
-one_answered h k caller (d, Clashed i) p r a le g =
+    let since : IsAnsweredSince h k (answered caller d (replies.Again i) n) = record { since = omega (arith, le, prefix_length p.seen r.seen a.kept.seen); within = prefix_length r.seen h g; answer = answer; member = tt } in
+    single (IsOne h k (λ c. c ≡ caller)) (answered caller d (replies.Again i) n) (record { since = since; by = refl; drawop = d; reply = replies.Again i; call = refl; answer = refl })
+one_answered h k caller (d, Clash i) p r a le g =
     let n = length r.seen in
     let answer = subst (λ (l : List DrawopValue). IsClashAt l d i) (sym (prefix_take r.seen h g)) a.becomes.0 in
-    let since : IsAnsweredSince h k (answered caller d (Clash i) n) = record { since = omega (arith, le, prefix_length p.seen r.seen a.kept.seen); within = prefix_length r.seen h g; answer = answer; member = tt } in
-    single (IsOne h k (λ c. c ≡ caller)) (answered caller d (Clash i) n) (record { since = since; by = refl; drawop = d; reply = Clash i; call = refl; answer = refl })
+    let since : IsAnsweredSince h k (answered caller d (replies.Clash i) n) = record { since = omega (arith, le, prefix_length p.seen r.seen a.kept.seen); within = prefix_length r.seen h g; answer = answer; member = tt } in
+    single (IsOne h k (λ c. c ≡ caller)) (answered caller d (replies.Clash i) n) (record { since = since; by = refl; drawop = d; reply = replies.Clash i; call = refl; answer = refl })
 one_answered h k caller (d, Left) p r a le g = All-nil (IsOne h k (λ c. c ≡ caller))
 
 desk_answered : (h : List DrawopValue) (k caller : ℕ) (p : PassValue) (es : List Entry) (q : PassValue) (run : Runs p es q) → k ≤ length p.seen → IsPrefix q.seen h → All (IsOne h k (λ c. c ≡ caller)) (answered_by caller p es q run)
@@ -108,10 +108,10 @@ append_pairs (x ∷ xs) ys first second across =
 -- one accept before those that were answered later
 one_in_turn : (h : List DrawopValue) (caller : ℕ) (e : Entry) (p r : PassValue) (ts : List Answered) → Accepts p e.0 e.1 r → All (IsOne h (length r.seen) (λ c. c ≡ caller)) ts → AllPairs InTurn ts
     → AllPairs InTurn (answered_of caller e (length r.seen) ++ ts)
-one_in_turn h caller (d, Fresh i) p r ts a later pairs =
+one_in_turn h caller (d, New i) p r ts a later pairs =
     AllPairs-cons InTurn _ ts (λ k x below same. let since = (later k x below).since.since in (omega (arith, since, a.becomes.last), λ new. omega (arith, since, a.becomes.last))) pairs
-one_in_turn h caller (d, Known i) p r ts a later pairs = AllPairs-cons InTurn _ ts (λ k x below same. ((later k x below).since.since, λ new. absurd (cc new))) pairs
-one_in_turn h caller (d, Clashed i) p r ts a later pairs = AllPairs-cons InTurn _ ts (λ k x below same. ((later k x below).since.since, λ new. absurd (cc new))) pairs
+one_in_turn h caller (d, Again i) p r ts a later pairs = AllPairs-cons InTurn _ ts (λ k x below same. ((later k x below).since.since, λ new. absurd (cc new))) pairs
+one_in_turn h caller (d, Clash i) p r ts a later pairs = AllPairs-cons InTurn _ ts (λ k x below same. ((later k x below).since.since, λ new. absurd (cc new))) pairs
 one_in_turn h caller (d, Left) p r ts a later pairs = pairs
 
 desk_in_turn : (caller : ℕ) (p : PassValue) (es : List Entry) (q : PassValue) (run : Runs p es q) → AllPairs InTurn (answered_by caller p es q run)
@@ -138,9 +138,9 @@ many_append : (i : ℕ) (xs ys : List Answered) → length (filter (is_new_at i)
 many_append i xs ys = ap length (filter-append (is_new_at i) xs ys) ∙ length-append (filter (is_new_at i) xs) (filter (is_new_at i) ys)
 
 one_many : (i caller : ℕ) (e : Entry) (seen : ℕ) → length (filter (is_new_at i) (answered_of caller e seen)) ≡ times i (place e.1)
-one_many i caller (d, Fresh j) seen = elim (j == i) as (λ b. length (cond b (answered_of caller (d, Fresh j) seen) []) ≡ cond b 1 0 + 0) [ true ↦ refl | false ↦ refl ]
-one_many i caller (d, Known j) seen = refl
-one_many i caller (d, Clashed j) seen = refl
+one_many i caller (d, New j) seen = elim (j == i) as (λ b. length (cond b (answered_of caller (d, New j) seen) []) ≡ cond b 1 0 + 0) [ true ↦ refl | false ↦ refl ]
+one_many i caller (d, Again j) seen = refl
+one_many i caller (d, Clash j) seen = refl
 one_many i caller (d, Left) seen = refl
 
 abbrev drawop_in : Call → DrawopValue
@@ -166,9 +166,9 @@ answers_append es fs ts us a b = record {
 }
 
 one_answers : (caller : ℕ) (e : Entry) (seen : ℕ) → Answers (e ∷ []) (answered_of caller e seen)
-one_answers caller (d, Fresh j) seen = record { many = λ i. omega (arith, one_many i caller (d, Fresh j) seen); taken = refl }
-one_answers caller (d, Known j) seen = record { many = λ i. refl; taken = refl }
-one_answers caller (d, Clashed j) seen = record { many = λ i. refl; taken = refl }
+one_answers caller (d, New j) seen = record { many = λ i. omega (arith, one_many i caller (d, New j) seen); taken = refl }
+one_answers caller (d, Again j) seen = record { many = λ i. refl; taken = refl }
+one_answers caller (d, Clash j) seen = record { many = λ i. refl; taken = refl }
 one_answers caller (d, Left) seen = record { many = λ i. refl; taken = refl }
 
 desk_answers : (caller : ℕ) (p : PassValue) (es : List Entry) (q : PassValue) (run : Runs p es q) → Answers es (answered_by caller p es q run)
@@ -236,7 +236,7 @@ batch_is_one_run law n p given q sp wp sq s =
 -- ---- one thread takes the drawops in the order of the run
 
 one_longer : (h : List DrawopValue) (call : Call) (answer : Answer) → length h ≤ length (after_call h call answer)
-one_longer h (Accept d) (Replied (New i)) = omega (arith, length-append h (d ∷ []))
+one_longer h (Accept d) (Replied (replies.New i)) = omega (arith, length-append h (d ∷ []))
 one_longer h call answer = omega arith
 
 longer : (h : List DrawopValue) (steps : List Step) → length h ≤ length (end_of h steps)
@@ -245,9 +245,9 @@ longer h (s ∷ ss) = omega (arith, one_longer h s.call s.answer, longer (after_
 
 one_taken : (cells : ℕ) (h end : List DrawopValue) (d : DrawopValue) (reply : Reply) (es : List Entry) → IsReply h d reply → length (after_call h (Accept d) (Replied reply)) ≤ cells → AreTaken cells (after_call h (Accept d) (Replied reply)) (drawops es) (outcomes es) end
     → AreTaken cells h (d ∷ drawops es) (outcome reply ∷ outcomes es) end
-one_taken cells h end d (New i) es a le rest = ((a, omega (arith, le, length-append h (d ∷ []))), rest)
-one_taken cells h end d (Again i) es a le rest = (a, rest)
-one_taken cells h end d (Clash i) es a le rest = (a, rest)
+one_taken cells h end d (replies.New i) es a le rest = ((a, omega (arith, le, length-append h (d ∷ []))), rest)
+one_taken cells h end d (replies.Again i) es a le rest = (a, rest)
+one_taken cells h end d (replies.Clash i) es a le rest = (a, rest)
 
 legal_taken : (cells : ℕ) (h : List DrawopValue) (k : ℕ) (By : ℕ → Type 0) (g : List DrawopValue) (ts : List Answered) → All (IsOne g k By) ts → IsLegalFrom h (map (λ t. t.step) ts) → length (end_of h (map (λ t. t.step) ts)) ≤ cells
     → AreTaken cells h (drawops (map entry ts)) (outcomes (map entry ts)) (end_of h (map (λ t. t.step) ts))

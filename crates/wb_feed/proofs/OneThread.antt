@@ -2,7 +2,7 @@
 use Rattle.std.proofs.Common.{◌≡◌, ℕ, ◌+◌, ◌≤◌, ◌<◌, List, [], ◌∷◌, ◌++◌, length, refl, ap, ◌∙◌, subst, arith}
 use Rattle.wb_names.specs.Values.{DrawopValue}
 use Rattle.wb_names.specs.History.{HoldsName}
-use Rattle.wb_names.specs.Arrivals.{Outcome, Fresh, Known, Clashed, Left, Counts, counts, counts_of, history_with, AreTaken, IsBatch}
+use Rattle.wb_names.specs.Arrivals.{Outcome, New, Again, Clash, Left, Counts, counts, counts_of, history_with, AreTaken, IsBatch}
 
 pub same_counts : {f f' g g' c c' l l' : ℕ} → f ≡ f' → g ≡ g' → c ≡ c' → l ≡ l' → counts f g c l ≡ counts f' g' c' l'
 same_counts p q r s = λ i. counts (p i) (q i) (r i) (s i)
@@ -41,9 +41,9 @@ one_more m n = omega arith
 
 pub counts_of-append : (os ps : List Outcome) → counts_of (os ++ ps) ≡ plus (counts_of os) (counts_of ps)
 counts_of-append [] ps = let n = counts_of ps in same_counts (none_more n.fresh) (none_more n.again) (none_more n.clash) (none_more n.left)
-counts_of-append (Fresh i ∷ os) ps = let m = counts_of os in let n = counts_of ps in ap (λ (k : Counts). record k { fresh = k.fresh + 1 }) (counts_of-append os ps) ∙ same_counts (one_more m.fresh n.fresh) refl refl refl
-counts_of-append (Known i ∷ os) ps = let m = counts_of os in let n = counts_of ps in ap (λ (k : Counts). record k { again = k.again + 1 }) (counts_of-append os ps) ∙ same_counts refl (one_more m.again n.again) refl refl
-counts_of-append (Clashed i ∷ os) ps = let m = counts_of os in let n = counts_of ps in ap (λ (k : Counts). record k { clash = k.clash + 1 }) (counts_of-append os ps) ∙ same_counts refl refl (one_more m.clash n.clash) refl
+counts_of-append (New i ∷ os) ps = let m = counts_of os in let n = counts_of ps in ap (λ (k : Counts). record k { fresh = k.fresh + 1 }) (counts_of-append os ps) ∙ same_counts (one_more m.fresh n.fresh) refl refl refl
+counts_of-append (Again i ∷ os) ps = let m = counts_of os in let n = counts_of ps in ap (λ (k : Counts). record k { again = k.again + 1 }) (counts_of-append os ps) ∙ same_counts refl (one_more m.again n.again) refl refl
+counts_of-append (Clash i ∷ os) ps = let m = counts_of os in let n = counts_of ps in ap (λ (k : Counts). record k { clash = k.clash + 1 }) (counts_of-append os ps) ∙ same_counts refl refl (one_more m.clash n.clash) refl
 counts_of-append (Left ∷ os) ps = let m = counts_of os in let n = counts_of ps in ap (λ (k : Counts). record k { left = k.left + 1 }) (counts_of-append os ps) ∙ same_counts refl refl refl (one_more m.left n.left)
 
 -- one batch after another

@@ -3,7 +3,7 @@ use Rattle.std.proofs.Common.{◌≡◌, ◌≢◌, ℕ, zero, suc, ◌+◌, ◌
 use Rattle.std.proofs.lemmas.Bool.{cases_lt}
 use mathlib.Core.List.{IsPrefix}
 use Rattle.wb_names.specs.Values.{DrawopValue}
-use Rattle.wb_names.specs.Arrivals.{Outcome, Fresh, Known, Clashed, Left, counts, AreTaken, IsBatch}
+use Rattle.wb_names.specs.Arrivals.{Outcome, New, Again, Clash, Left, counts, AreTaken, IsBatch}
 use Rattle.wb_board.specs.Desks.{PassValue, IsSound, IsWhole}
 use Rattle.wb_feed.specs.Accepts.{Entry, drawops, outcomes, tally, Runs}
 use Rattle.wb_feed.proofs.Prefixes.{prefix_whole, prefix_trans, prefix_length}
@@ -144,19 +144,19 @@ record AllLeft (es : List Entry) : Type 0 where
 all_left : (h : List DrawopValue) (es : List Entry) → AreAnswered h es → Lacks h (drawops es) → AllLeft es
 all_left h [] t k = record { left = refl; fresh = refl; again = refl; clash = refl }
 all_left h ((d, Left) ∷ es) t k = let r = all_left h es t.1 k.1 in record { left = omega (arith, r.left); fresh = r.fresh; again = r.again; clash = r.clash }
-all_left h ((d, Fresh i) ∷ es) t k = absurd (k.0 (at_named h i d d t.0 refl))
-all_left h ((d, Known i) ∷ es) t k = absurd (k.0 (at_named h i d d t.0 refl))
-all_left h ((d, Clashed i) ∷ es) t k = absurd (k.0 (at_named h i t.0.0 d t.0.1 t.0.2))
+all_left h ((d, New i) ∷ es) t k = absurd (k.0 (at_named h i d d t.0 refl))
+all_left h ((d, Again i) ∷ es) t k = absurd (k.0 (at_named h i d d t.0 refl))
+all_left h ((d, Clash i) ∷ es) t k = absurd (k.0 (at_named h i t.0.0 d t.0.1 t.0.2))
 
 -- What the worker left is refused again, since no row is left anywhere
-record Again (w y : PassValue) (es a : List Entry) : Type 0 where
+record TakenAgain (w y : PassValue) (es a : List Entry) : Type 0 where
   seen : w.seen ≡ y.seen
   fresh : (tally a).fresh ≡ 0
   again : (tally a).again ≡ 0
   clash : (tally a).clash ≡ 0
   left : (tally a).left ≡ (tally es).left
 
-first_part : (w y z : PassValue) (es a b : List Entry) → drawops a ≡ drawops (chosen is_left es) → Runs w a y → Runs y b z → Lacks w.seen (drawops (chosen is_left es)) → (0 < (tally es).left → w.seen ≡ z.seen) → Again w y es a
+first_part : (w y z : PassValue) (es a b : List Entry) → drawops a ≡ drawops (chosen is_left es) → Runs w a y → Runs y b z → Lacks w.seen (drawops (chosen is_left es)) → (0 < (tally es).left → w.seen ≡ z.seen) → TakenAgain w y es a
 first_part w y z es [] b e r q lack full =
     record { seen = sym (ap (λ (x : PassValue). x.seen) r); fresh = refl; again = refl; clash = refl; left = sym (left_many es ∙ sym (ap length e)) }
 first_part w y z es (h ∷ a) b e r q lack full =

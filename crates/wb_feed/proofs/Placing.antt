@@ -2,17 +2,17 @@
 use Rattle.std.proofs.Common.{◌≡◌, ℕ, zero, suc, ◌+◌, ◌≤◌, ◌<◌, ◌==◌, ◌||◌, Bool, true, false, true≢false, cond, List, [], ◌∷◌, ◌++◌, length, map, get_or, refl, ap, ap₂, sym, subst, ◌∙◌, arith, ⊎_elim, append_assoc, length-append}
 use Rattle.std.proofs.lemmas.List.{map-append}
 use Rattle.std.proofs.lemmas.Option.{get_or_from_slice_get}
-use Rattle.std.proofs.lemmas.Bool.{cases_lt}
+use Rattle.std.proofs.lemmas.Bool.{cases_Bool, cases_lt}
 use Rattle.std.specs.List.{range_with_len}
 use Rattle.std.specs.List.Sorted.{IsPermutation}
 use Rattle.std.proofs.lemmas.List.Sorted.{IsPermutation-map}
 use mathlib.Core.List.{IsPrefix}
 use Rattle.wb_names.specs.Values.{DrawopValue}
-use Rattle.wb_names.specs.Arrivals.{Fresh, Known, Clashed, Left}
+use Rattle.wb_names.specs.Arrivals.{New, Again, Clash, Left}
 use Rattle.wb_board.specs.Desks.{PassValue}
 use Rattle.wb_feed.specs.Accepts.{drawops}
 use Rattle.wb_feed.proofs.Prefixes.{prefix_get}
-use Rattle.wb_feed.proofs.Numbers.{times, times-append, times_apart, test_same, bool_cases, once_under, once_past, IsPermutation-times, times-range}
+use Rattle.wb_feed.proofs.Numbers.{times, times-append, times_apart, test_same, once_under, once_past, IsPermutation-times, times-range}
 use Rattle.std.proofs.Math.Seq.{get_or-append_seam}
 use Rattle.wb_feed.proofs.Members.{nothing, map_range}
 use Rattle.wb_feed.proofs.Log.{is_taken, chosen, Gathers, gathers_none, gathers_level}
@@ -90,7 +90,7 @@ each_once ps n ms p m most = ⊎_elim
     let mark = m.each p lt in
     ⊎_elim
     (λ (e : has p ps ≡ true). omega (arith, free ∙ ap (λ b. cond b 0 1) (mark ∙ e), has_some p ps e, most, once_under p n lt))
-    (λ (e : has p ps ≡ false). omega (arith, free ∙ ap (λ b. cond b 0 1) (mark ∙ e), has_not p ps e, once_under p n lt)) (bool_cases (has p ps)))
+    (λ (e : has p ps ≡ false). omega (arith, free ∙ ap (λ b. cond b 0 1) (mark ∙ e), has_not p ps e, once_under p n lt)) (cases_Bool (has p ps)))
     (λ (le : n ≤ p). omega (arith, free_high p 0 ms (omega (arith, le, m.long)), most, once_past p n le)) (cases_lt p n)
 
 -- what stands at the places, and what is not marked, is the whole list
@@ -136,9 +136,9 @@ offered_append p (x ∷ xs) ys = omega (arith, offered_append p xs ys)
 pub accepted_few : (p : ℕ) (log : List Spot) → times p (accepted_at log) ≤ times_offered p (offered log)
 accepted_few p [] = omega arith
 accepted_few p ((q, (d, Left)) ∷ ss) = omega (arith, accepted_few p ss)
-accepted_few p ((q, (d, Fresh i)) ∷ ss) = omega (arith, accepted_few p ss)
-accepted_few p ((q, (d, Known i)) ∷ ss) = omega (arith, accepted_few p ss)
-accepted_few p ((q, (d, Clashed i)) ∷ ss) = omega (arith, accepted_few p ss)
+accepted_few p ((q, (d, New i)) ∷ ss) = omega (arith, accepted_few p ss)
+accepted_few p ((q, (d, Again i)) ∷ ss) = omega (arith, accepted_few p ss)
+accepted_few p ((q, (d, Clash i)) ∷ ss) = omega (arith, accepted_few p ss)
 
 pub takes_spots : (p : ℕ) (ms : List Message) → times_offered p (takes ms) ≡ spots p ms
 takes_spots p [] = refl
@@ -162,6 +162,6 @@ workers_gather {rows = rows} (worker {p = v} {rest = x} {back = y} {q = w} {desk
 pub taken_at : (ds : List DrawopValue) (log : List Spot) → OffersRight ds (offered log) → drawops (chosen is_taken (entries log)) ≡ map (λ i. get_or ds i nothing) (accepted_at log)
 taken_at ds [] o = refl
 taken_at ds ((q, (d, Left)) ∷ ss) o = taken_at ds ss o.1
-taken_at ds ((q, (d, Fresh i)) ∷ ss) o = ap₂ (λ x xs. x ∷ xs) (sym (get_or_from_slice_get ds q d nothing o.0)) (taken_at ds ss o.1)
-taken_at ds ((q, (d, Known i)) ∷ ss) o = ap₂ (λ x xs. x ∷ xs) (sym (get_or_from_slice_get ds q d nothing o.0)) (taken_at ds ss o.1)
-taken_at ds ((q, (d, Clashed i)) ∷ ss) o = ap₂ (λ x xs. x ∷ xs) (sym (get_or_from_slice_get ds q d nothing o.0)) (taken_at ds ss o.1)
+taken_at ds ((q, (d, New i)) ∷ ss) o = ap₂ (λ x xs. x ∷ xs) (sym (get_or_from_slice_get ds q d nothing o.0)) (taken_at ds ss o.1)
+taken_at ds ((q, (d, Again i)) ∷ ss) o = ap₂ (λ x xs. x ∷ xs) (sym (get_or_from_slice_get ds q d nothing o.0)) (taken_at ds ss o.1)
+taken_at ds ((q, (d, Clash i)) ∷ ss) o = ap₂ (λ x xs. x ∷ xs) (sym (get_or_from_slice_get ds q d nothing o.0)) (taken_at ds ss o.1)

@@ -2,7 +2,7 @@
 use Rattle.std.proofs.Common.{◌≡◌, ℕ, ◌+◌, ◌≤◌, List, [], ◌∷◌, length, ap, ◌∙◌, subst, arith, length-append}
 use Rattle.wb_names.specs.Values.{DrawopValue}
 use Rattle.wb_names.specs.History.{HoldsName}
-use Rattle.wb_names.specs.Arrivals.{Fresh, Known, Clashed, Left}
+use Rattle.wb_names.specs.Arrivals.{New, Again, Clash, Left}
 use Rattle.wb_board.specs.Desks.{PassValue, IsSound, IsWhole}
 use Rattle.wb_feed.specs.Accepts.{Entry, drawops, Runs}
 use Rattle.wb_feed.specs.Channel.{once_below}
@@ -35,6 +35,6 @@ left_lacks p q ((d, Left) ∷ es) s w r =
     let many : length q.mine ≡ length b.mine + length (places es) = ap length l.mine ∙ length-append b.mine (places es) in
     let all : length q.seen ≤ length b.seen = omega (arith, some, many, places_many es, l.free, r.1.becomes.none_left, s.room, w) in
     (subst (λ (k : List DrawopValue). HoldsName k d.name → ⊥) (prefix_whole b.seen q.seen l.kept.seen all) r.1.becomes.absent, left_lacks b q es s w r.2)
-left_lacks p q ((d, Fresh i) ∷ es) s w r = left_lacks r.0 q es s w r.2
-left_lacks p q ((d, Known i) ∷ es) s w r = left_lacks r.0 q es s w r.2
-left_lacks p q ((d, Clashed i) ∷ es) s w r = left_lacks r.0 q es s w r.2
+left_lacks p q ((d, New i) ∷ es) s w r = left_lacks r.0 q es s w r.2
+left_lacks p q ((d, Again i) ∷ es) s w r = left_lacks r.0 q es s w r.2
+left_lacks p q ((d, Clash i) ∷ es) s w r = left_lacks r.0 q es s w r.2

@@ -2,10 +2,10 @@
 use Rattle.std.specs.Prelude.{ℕ, List, [], ◌∷◌, ◌++◌, length}
 use mathlib.Core.Logic.{inl, inr}
 use Rattle.wb_names.specs.Values.{DrawopValue}
-use Rattle.wb_names.specs.Arrivals.{Fresh, Known, Clashed, Left}
+use Rattle.wb_names.specs.Arrivals.{New, Again, Clash, Left}
 use Rattle.wb_board.specs.Desks.{PassValue, IsSound, IsWhole}
 use Rattle.wb_board.specs.declared.reply.Reply.{Reply}
-use Rattle.wb_board.specs.declared.reply.Reply.TheVariants.{New, Again, Clash}
+use Rattle.wb_board.specs.declared.reply.Reply.TheVariants as replies
 use Rattle.wb_board.specs.Board.{Accept, Replied}
 use Rattle.wb_board.specs.Runs.{Answered, AreAnsweredSince, IsOneRun, run_of}
 use Rattle.wb_feed.specs.declared.channel.Message.{Message}
@@ -20,9 +20,9 @@ answered caller d reply point = record { step = record { caller = caller; call =
 
 -- one accept: a new drawop is answered at its place, another at the `seen` members of the desk, and what was left not at all
 abbrev pub answered_of : ℕ → Entry → ℕ → List Answered
-answered_of caller (d, Fresh i) seen = answered caller d (New i) i ∷ []
-answered_of caller (d, Known i) seen = answered caller d (Again i) seen ∷ []
-answered_of caller (d, Clashed i) seen = answered caller d (Clash i) seen ∷ []
+answered_of caller (d, New i) seen = answered caller d (replies.New i) i ∷ []
+answered_of caller (d, Again i) seen = answered caller d (replies.Again i) seen ∷ []
+answered_of caller (d, Clash i) seen = answered caller d (replies.Clash i) seen ∷ []
 answered_of caller (d, Left) seen = []
 
 -- the accepts of one desk, in their order

@@ -2,10 +2,10 @@
 use Rattle.std.specs.Prelude.{◌≡◌, ℕ, ◌+◌, ◌≤◌, ◌==◌, Bool, true, false, cond, List, [], ◌∷◌, ◌++◌, slice_get, Some, map}
 use Rattle.std.specs.List.{flat_map}
 use Rattle.wb_names.specs.Values.{DrawopValue}
-use Rattle.wb_names.specs.Arrivals.{Outcome, Fresh, Known, Clashed, Left}
+use Rattle.wb_names.specs.Arrivals.{Outcome, New, Again, Clash, Left}
 use Rattle.wb_board.specs.Desks.{PassValue}
 use Rattle.wb_board.specs.declared.reply.Reply.{Reply}
-use Rattle.wb_board.specs.declared.reply.Reply.TheVariants.{New, Again, Clash}
+use Rattle.wb_board.specs.declared.reply.Reply.TheVariants as replies
 use Rattle.wb_feed.specs.Accepts.{Accepts, Entry, LosesAtMost, Runs}
 use Rattle.wb_feed.specs.declared.channel.Message.{Message}
 use Rattle.wb_feed.specs.declared.channel.Message.TheVariants.{Take, End}
@@ -13,9 +13,9 @@ use Rattle.wb_feed.specs.declared.channel.ChannelView.{ChannelView}
 use Rattle.wb_feed.specs.Channel.{channel_view}
 
 abbrev pub is_left : Outcome → Bool
-is_left (Fresh i) = false
-is_left (Known i) = false
-is_left (Clashed i) = false
+is_left (New i) = false
+is_left (Again i) = false
+is_left (Clash i) = false
 is_left Left = true
 
 -- a position, its drawop and the outcome
@@ -56,9 +56,9 @@ Rises low (x ∷ xs) = (low ≤ x.0) × Rises (x.0 + 1) xs
 
 -- what a worker notes of an outcome at a position: the reply, and nothing if the drawop was left
 abbrev pub noted : ℕ → Outcome → List (ℕ × Reply)
-noted p (Fresh i) = (p, New i) ∷ []
-noted p (Known i) = (p, Again i) ∷ []
-noted p (Clashed i) = (p, Clash i) ∷ []
+noted p (New i) = (p, replies.New i) ∷ []
+noted p (Again i) = (p, replies.Again i) ∷ []
+noted p (Clash i) = (p, replies.Clash i) ∷ []
 noted p Left = []
 
 -- the desk p accepted the drawop of this position and is q, and what was noted of it comes after what was noted before

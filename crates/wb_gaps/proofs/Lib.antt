@@ -18,7 +18,9 @@ pub mod Adding
 pub mod HeldRanges
 pub mod PageRanges
 pub mod PageSteps
-pub mod FirstHoles
+pub mod HoleParts
+pub mod NextHoles
+pub mod Behind
 pub mod SourceSteps
 pub mod ListParts
 pub mod NextMarks

@@ -176,10 +176,10 @@ module _ (m : BTreeMap Start ℕ) (ordered : IsOrdered start_cmp m) (ranges : Ar
       (run_of e, Contains-map run_of (filter (is_on page) m.entries) (run_of e) (at.0, e, at.1, at.2, refl), refl, c.3, c.4)
 
   module _ (history : List DrawopValue) (held : HoldNamesOf history (ranges_of m.entries)) where
-    cover_held : (page : PageId) (source n : ℕ) → Covers (last_at m.entries page source) n → IsHeld history page source n
+    pub cover_held : (page : PageId) (source n : ℕ) → Covers (last_at m.entries page source) n → IsHeld history page source n
     cover_held page source n c = held-by history page source n (sym (held (name_of page source n)) ∙ name_covered (name_of page source n) m c)
 
-    held_cover : (page : PageId) (source n : ℕ) → IsHeld history page source n → Covers (last_at m.entries page source) n
+    pub held_cover : (page : PageId) (source n : ℕ) → IsHeld history page source n → Covers (last_at m.entries page source) n
     held_cover page source n h = covers_name (name_of page source n) m ordered (held (name_of page source n) ∙ held-from history page source n h)
 
     -- the runs of a page hold exactly the numbers that the drawops have there
@@ -191,12 +191,12 @@ module _ (m : BTreeMap Start ℕ) (ordered : IsOrdered start_cmp m) (ranges : Ar
 
     -- ---- pages
 
-    held_page : (page : PageId) → HasPage m.entries page → Any (λ (d : DrawopValue). d.name.page ≡ page) history
+    pub held_page : (page : PageId) → HasPage m.entries page → Any (λ (d : DrawopValue). d.name.page ≡ page) history
     held_page page h =
         let is_held = cover_held page h.0 h.1 (h.1, h.2, h.3, omega arith, (ranges.apart page h.0).filled h.1 h.2 h.3) in
         (is_held.0, is_held.1, is_held.2, is_held.3, ap (λ (v : NameValue). v.page) is_held.4)
 
-    page_held : (page : PageId) → Any (λ (d : DrawopValue). d.name.page ≡ page) history → HasPage m.entries page
+    pub page_held : (page : PageId) → Any (λ (d : DrawopValue). d.name.page ≡ page) history → HasPage m.entries page
     page_held page h =
         let d : DrawopValue = h.1 in
         let c = held_cover page d.name.source d.name.seq (h.0, d, h.2, h.3, name_on d.name page h.4) in

@@ -26,7 +26,7 @@ use Rattle.wb_gaps.proofs.Adding.{none_some}
 use Rattle.wb_gaps.proofs.ListParts.{Rising, first_left, none_left}
 use Rattle.wb_gaps.proofs.PageRanges.{kept, up_to_most}
 use Rattle.wb_gaps.proofs.Sorting.{length-sorted-le, lists_sorted}
-use Rattle.wb_gaps.proofs.Starts.{not_gt_first, page_is, page_itself, start_is, start_total}
+use Rattle.wb_gaps.proofs.Starts.{not_gt_first, page_is, page_itself, start_is, start_total, is_less}
 
 -- ---- the first place past a page
 
@@ -82,11 +82,7 @@ past_is (Some p) page less = ap is_lt less
 
 is_past-is : (last : Option PageId) (page : PageId) → is_past last page ≡ true → IsPast last page
 is_past-is None page h = tt
-is_past-is (Some p) page h = at (page_cmp p page) h where
-  at : (o : Ordering) → is_lt o ≡ true → o ≡ Less
-  at Less h = refl
-  at Equal h = absurd (true≢false (sym h))
-  at Greater h = absurd (true≢false (sym h))
+is_past-is (Some p) page h = is_less (page_cmp p page) h
 
 past_on : (last : Option PageId) (next page : PageId) → IsPast last next → page_cmp next page ≡ Less → IsPast last page
 past_on None next page past less = tt

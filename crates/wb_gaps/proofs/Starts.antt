@@ -53,6 +53,11 @@ up_to_is p s a b h = grind (arith, common_steps, nat_tests, by_number)
 pub from_is : (p : PageId) (s a b : ℕ) → is_lt (start_cmp (start p s a) (start p s b)) ≡ false → b ≤ a
 from_is p s a b h = grind (arith, common_steps, nat_tests, by_number)
 
+pub is_less : (r : Ordering) → is_lt r ≡ true → r ≡ Less
+is_less Less e = refl
+is_less Equal e = cc
+is_less Greater e = cc
+
 pub not_gt_first : (r s : Ordering) → is_gt (ordering_then r s) ≡ false → is_gt r ≡ false
 not_gt_first Less s h = refl
 not_gt_first Equal s h = refl

@@ -1,6 +1,8 @@
 -- The ranges of numbers that are kept, by page, source and first number.
-use Rattle.std.specs.Prelude.{◌≡◌, ℕ, ◌+◌, ◌<◌, ◌≤◌, Bool, false, true, List, Option, Some, None, filter, map}
-use Rattle.std.specs.Map.{lookup}
+use Rattle.std.specs.Prelude.{◌≡◌, ℕ, ◌+◌, ◌-◌, ◌<◌, ◌≤◌, ◌⊎◌, Bool, false, true, ◌&&◌, List, Option, Some, None, filter, is_some, map, nat_lt, if◌then◌else◌}
+use Rattle.std.specs.List.{list_any}
+use Rattle.std.specs.List.Sorted.{IsStrictlySortedBy}
+use Rattle.std.specs.Map.{keys_of, lookup}
 use Rattle.std.specs.BTreeMap.{is_at}
 use Rattle.std.specs.Ordering.{is_lt, nat_cmp, ordering_then}
 use Rattle.std.specs.declared.cmp.Ordering.{Ordering}
@@ -97,6 +99,27 @@ pub record AreRanges (entries : List (Start × ℕ)) : Type 0 where
   pub apart : (page : PageId) (source : ℕ) → AreApart (last_at entries page source)
   pub sources : (page : PageId) (source first last : ℕ) → last_at entries page source first ≡ Some last → source ≤ greatest_number
 
+-- a range begins there
+abbrev pub begins_at : List (Start × ℕ) → Start → Bool
+begins_at entries s = is_some (lookup (is_at (start_cmp s)) entries)
+
+abbrev pub is_among : List Start → Start → Bool
+is_among starts s = list_any (is_at (start_cmp s)) starts
+
+-- ranges in order, and where those of them begin that do not begin at 1
+pub record AreKept (entries : List (Start × ℕ)) (starts : List Start) : Type 0 where
+  pub ordered : IsStrictlySortedBy start_cmp (keys_of entries)
+  pub ranges : AreRanges entries
+  pub behind : (s : Start) → is_among starts s ≡ (begins_at entries s && nat_lt 1 s.first)
+
+-- one begins at `start` now, none at `next`, if there is one, and the others where they did
+abbrev pub is_next : Option Start → Start → Bool
+is_next None s = false
+is_next (Some next) s = is_at (start_cmp next) s
+
+abbrev pub BeginAsBefore : List (Start × ℕ) → List (Start × ℕ) → Start → Option Start → Type 0
+BeginAsBefore old new start next = (s : Start) → begins_at new s ≡ (if is_next next s then false else (if is_at (start_cmp start) s then true else begins_at old s))
+
 -- the number lies in a range
 abbrev pub Covers : (ℕ → Option ℕ) → ℕ → Type 0
 Covers lasts n = (first : ℕ) × (last : ℕ) × (lasts first ≡ Some last) × (first ≤ n) × (n ≤ last)
@@ -115,3 +138,12 @@ pub record Begins (lasts : ℕ → Option ℕ) (n first : ℕ) : Type 0 where
 pub record Ends (lasts : ℕ → Option ℕ) (n last : ℕ) : Type 0 where
   pub joined : (end : ℕ) → lasts (n + 1) ≡ Some end → last ≡ end
   pub alone : lasts (n + 1) ≡ None → last ≡ n
+
+-- the numbers from first to last lie in no range, but the one right above them does, and the one right below them,
+-- unless they begin at 1
+pub record IsHole (lasts : ℕ → Option ℕ) (first last : ℕ) : Type 0 where
+  pub counted : 1 ≤ first
+  pub filled : first ≤ last
+  pub free : (n : ℕ) → first ≤ n → n ≤ last → ¬ Covers lasts n
+  pub below : (first ≡ 1) ⊎ Covers lasts (first - 1)
+  pub above : Covers lasts (last + 1)

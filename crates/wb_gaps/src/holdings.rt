@@ -1,15 +1,15 @@
 //! What is held, kept as drawops come: the ranges of numbers of each page and source.
 
-ghost use Rattle.std.specs.Prelude.{◌≡◌, ◌+◌, ◌<◌, ◌≤◌, [], ◌∷◌, ◌++◌, List, OnOk, OnErr, IsOk, IsTrue, Some as some, None as none, MatchOption, ℕ, length};
-ghost use Rattle.std.specs.BTreeMap.{IsOrdered};
+ghost use Rattle.std.specs.Prelude.{◌≡◌, ◌+◌, ◌<◌, ◌≤◌, [], ◌∷◌, ◌++◌, List, OnOk, OnErr, IfOk, IsOk, IsTrue, Some as some, None as none, MatchOption, ℕ, false, true, ◌&&◌, if◌then◌else◌, length, nat_lt};
+ghost use Rattle.std.specs.BTreeMap.{IsOrdered, is_at};
 ghost use Rattle.wb_names.specs.Values.{DrawopValue};
 ghost use Rattle.wb_names.specs.History.{IsHeld, highest, name_of};
 ghost use Rattle.wb_gaps.specs.Holdings.{HoldNamesOf, HoldsToo, IsHighest, holds};
 ghost use Rattle.wb_gaps.specs.Greatest.{IsWholeFrom};
-ghost use Rattle.wb_gaps.specs.Starts.{AreRanges, Begins, Covers, last_at, ranges_of, start_cmp};
+ghost use Rattle.wb_gaps.specs.Starts.{AreKept, AreRanges, Begins, BeginAsBefore, Covers, begins_at, is_among, last_at, ranges_of, start_cmp};
 
 use std::alloc::{AllocError, Global};
-use std::collections::BTreeMap;
+use std::collections::{BTreeMap, BTreeSet};
 use std::marker::Model;
 use wb_names::{Drawop, PageId};
 
@@ -28,6 +28,9 @@ pub(crate) struct Start {
 #[derive(Drop)]
 pub struct Holdings {
     pub(crate) ranges: BTreeMap<Start, u32>,
+    /// Where those of them begin that do not begin at 1: right below each a hole ends. If nothing is
+    /// missing, it is empty.
+    pub(crate) behind: BTreeSet<Start>,
 }
 
 impl Model for Holdings {
@@ -36,11 +39,11 @@ impl Model for Holdings {
 
     ghost Value = { List HeldRange };
 
-    ghost use Rattle.wb_gaps.specs.Starts.{ranges_of, AreRanges};
+    ghost use Rattle.wb_gaps.specs.Starts.{ranges_of, AreKept};
 
     ghost view = { λ h. ranges_of h.ranges.entries };
 
-    ghost invariant = { λ h. AreRanges h.ranges.entries };
+    ghost invariant = { λ h. AreKept h.ranges.entries h.behind.keys };
 }
 
 impl Holdings {
@@ -51,6 +54,7 @@ impl Holdings {
     {
         Holdings {
             ranges: BTreeMap::new(alloc),
+            behind: BTreeSet::new(alloc),
         }
     }
 
@@ -70,7 +74,7 @@ impl Holdings {
             source: name.source(),
             first: name.seq(),
         };
-        add(&mut self.ranges, at)
+        add(&mut self.ranges, &mut self.behind, at)
     }
 
     /// The greatest number of a source that is held on a page, or 0.
@@ -92,7 +96,7 @@ impl Holdings {
 }
 
 /// The range of this page and source that begins last of those that begin at this number or below.
-fn before(ranges: &BTreeMap<Start, u32>, at: Start) -> Option<(Start, u32)>
+pub(crate) fn before(ranges: &BTreeMap<Start, u32>, at: Start) -> Option<(Start, u32)>
     ensures ordered { IsOrdered start_cmp ranges.now }
     ensures found { MatchOption result ((first last : ℕ) →
         last_at ranges.now.entries at.page at.source first ≡ some last → at.first < first)
@@ -182,12 +186,15 @@ fn after(ranges: &BTreeMap<Start, u32>, at: Start) -> Option<(Start, u32)>
     Some((start, *last))
 }
 
-/// Adds a number: the range below it, which it extends, itself and the range above it, which is
-/// taken in, are one.
-fn add(ranges: &mut BTreeMap<Start, u32>, at: Start) -> Result<(), AllocError>
-    requires ranges { AreRanges ranges.old.entries }
+/// Adds a number, and notes where its range begins now.
+fn add(
+    ranges: &mut BTreeMap<Start, u32>,
+    behind: &mut BTreeSet<Start>,
+    at: Start,
+) -> Result<(), AllocError>
+    requires kept { AreKept ranges.old.entries behind.old.keys }
     requires positive { 1 ≤ at.first }
-    ensures ranges { AreRanges ranges.new.entries }
+    ensures kept { AreKept ranges.new.entries behind.new.keys }
     ensures ok { OnOk result (HoldsToo (ranges_of ranges.old.entries)
         (name_of at.page at.source at.first) (ranges_of ranges.new.entries)) }
     ensures again { IsTrue
@@ -199,14 +206,64 @@ fn add(ranges: &mut BTreeMap<Start, u32>, at: Start) -> Result<(), AllocError>
     let Some(start) = begin(ranges, at) else {
         return Ok(());
     };
+    note(behind, start)?;
+    match join(ranges, start, at) {
+        Ok(Some(next)) => {
+            behind.remove(&next);
+            Ok(())
+        }
+        Ok(None) => Ok(()),
+        Err(error) => {
+            behind.remove(&start);
+            Err(error)
+        }
+    }
+}
+
+/// Notes where a range begins, unless it begins at 1.
+fn note(behind: &mut BTreeSet<Start>, start: Start) -> Result<(), AllocError>
+    ensures ok { OnOk result ((s : Start) → is_among behind.new.keys s ≡
+        (if nat_lt 1 start.first && is_at (start_cmp start) s then true
+        else is_among behind.old.keys s)) }
+    ensures err { OnErr result (behind.new.keys ≡ behind.old.keys) }
+{
+    if start.first <= 1 {
+        return Ok(());
+    }
+    behind.insert(start)?;
+    Ok(())
+}
+
+/// Adds a number to the range that begins at `start`, or begins one there. The range right above the
+/// number, if there is one, is taken in, and the answer is where that one began. An allocation can
+/// fail only for a new range.
+fn join(
+    ranges: &mut BTreeMap<Start, u32>,
+    start: Start,
+    at: Start,
+) -> Result<Option<Start>, AllocError>
+    requires ranges { AreRanges ranges.old.entries }
+    requires begins { (start.page ≡ at.page) × (start.source ≡ at.source) ×
+        Begins (last_at ranges.old.entries at.page at.source) at.first start.first }
+    ensures ordered { IsOrdered start_cmp ranges.new }
+    ensures ranges { AreRanges ranges.new.entries }
+    ensures ok { OnOk result (HoldsToo (ranges_of ranges.old.entries)
+        (name_of at.page at.source at.first) (ranges_of ranges.new.entries)) }
+    ensures begin { IfOk result (λ next.
+        BeginAsBefore ranges.old.entries ranges.new.entries start next) }
+    ensures few { length ranges.new.entries ≤ length ranges.old.entries + 1 }
+    ensures err { OnErr result (ranges.new.entries ≡ ranges.old.entries) }
+    ensures new { OnErr result (begins_at ranges.old.entries start ≡ false) }
+{
     match after(ranges, at) {
         Some((next, last)) => {
             ranges.insert(start, last)?;
             ranges.remove(&next);
+            Ok(Some(next))
         }
         None => {
             ranges.insert(start, at.first)?;
+            Ok(None)
         }
     }
-    Ok(())
 }

@@ -1,19 +1,18 @@
 //! The holes of what is held: the numbers that a page lacks below the greatest that it has of their
 //! source.
 
-ghost use Rattle.std.specs.Prelude.{◌≡◌, [], List, IfOk};
-ghost use Rattle.std.specs.List.{find};
-ghost use Rattle.std.specs.Ordering.{is_lt};
-ghost use Rattle.wb_names.specs.Orders.{page_cmp};
+ghost use Rattle.std.specs.Prelude.{◌≡◌, ◌+◌, ◌<◌, List, IsTrue, MatchOption, false};
+ghost use Rattle.std.specs.BTreeSet.{IsOrdered};
+ghost use Rattle.std.specs.Ordering.{is_gt};
+ghost use Rattle.std.specs.declared.cmp.Ordering.TheVariants.{Less};
 ghost use Rattle.wb_names.specs.Values.{DrawopValue};
-ghost use Rattle.wb_gaps.specs.Answers.{gaps_of};
 ghost use Rattle.wb_gaps.specs.Holdings.{HoldNamesOf};
-ghost use Rattle.wb_gaps.specs.Holes.{begins_after, hole_after, holes_on};
+ghost use Rattle.wb_gaps.specs.Holes.{begins_after, hole_after};
+ghost use Rattle.wb_gaps.specs.Starts.{AreRanges, IsHole, begins_at, is_among, last_at, start_cmp};
 
-use crate::asked::runs_of;
-use crate::holdings::{Holdings, Start};
-use crate::missing::Missing;
-use std::alloc::{AllocError, Global};
+use crate::holdings::{Holdings, Start, before};
+use std::collections::{BTreeMap, BTreeSet};
+use std::ops::Bound;
 use wb_names::{Gap, PageId};
 
 /// A greatest range of numbers that a page lacks, below one that it has of their source.
@@ -27,65 +26,69 @@ pub struct Hole {
 
 impl Holdings {
     /// The first hole that begins after this number of a source on a page, where holes ascend by
-    /// page, source and number. None if there is none. It costs the pages, and of this page and the
-    /// later ones the ranges up to the hole.
-    pub fn hole_after(
-        &self,
-        alloc: Global,
-        page: PageId,
-        source: u32,
-        number: u32,
-    ) -> Result<Option<Hole>, AllocError>
-        ensures { IfOk result (λ found. (history : List DrawopValue) →
-            HoldNamesOf history self.now → found ≡ hole_after history page source number) }
+    /// page, source and number. None if there is none. It costs four look-ups, whatever is held.
+    pub fn hole_after(&self, page: PageId, source: u32, number: u32) -> Option<Hole>
+        ensures { (history : List DrawopValue) → HoldNamesOf history self.now →
+            result ≡ hole_after history page source number }
     {
         let place = Start {
             page,
             source,
             first: number,
         };
-        let pages = self.pages(alloc)?;
-        for on in &pages {
-            let found = self.hole_on(*on, place);
-            if found.is_some() {
-                return Ok(found);
-            }
+        let start = next_behind(&self.behind, place)?;
+        let hole = hole_below(&self.ranges, start);
+        if begins_after(place, hole) {
+            return Some(hole);
         }
-        Ok(None)
-    }
-
-    /// The first hole of a page that begins after a place. An earlier page has none.
-    fn hole_on(&self, page: PageId, place: Start) -> Option<Hole>
-        ensures { (history : List DrawopValue) → HoldNamesOf history self.now →
-            result ≡ find (begins_after place) (holes_on history page) }
-    {
-        if is_before(page, place.page) {
-            return None;
-        }
-        let mut gaps = self.gaps_on(page);
-        while let Some(gap) = gaps.next() {
-            let hole = Hole { page, gap };
-            if begins_after(place, hole) {
-                return Some(hole);
-            }
-        }
-        None
-    }
-
-    /// The gaps of a page below what it has, found one by one.
-    fn gaps_on(&self, page: PageId) -> Missing<'_>
-        ensures { (history : List DrawopValue) → HoldNamesOf history self.now →
-            result ≡ gaps_of history page [] }
-    {
-        Missing::new(runs_of(&self.ranges, page), &[])
+        // the place lies in that hole, so the next one begins after it
+        let later = next_behind(&self.behind, start)?;
+        Some(hole_below(&self.ranges, later))
     }
 }
 
-/// Whether a page comes before another.
-fn is_before(page: PageId, other: PageId) -> bool
-    ensures { result ≡ is_lt (page_cmp page other) }
+/// The first of these starts after a place.
+fn next_behind(behind: &BTreeSet<Start>, place: Start) -> Option<Start>
+    ensures ordered { IsOrdered start_cmp behind.now }
+    ensures next { MatchOption result
+        ((s : Start) → start_cmp place s ≡ Less → is_among behind.now.keys s ≡ false)
+        (λ next. IsTrue (is_among behind.now.keys next) × (start_cmp place next ≡ Less) ×
+        ((s : Start) → IsTrue (is_among behind.now.keys s) → start_cmp place s ≡ Less →
+        is_gt (start_cmp next s) ≡ false)) }
 {
-    page < other
+    let (from, to) = (Bound::Excluded(place), Bound::Unbounded);
+    let start = behind.range((from, to)).next()?;
+    Some(*start)
+}
+
+/// The hole that ends right below where a range begins.
+fn hole_below(ranges: &BTreeMap<Start, u32>, start: Start) -> Hole
+    requires ranges { AreRanges ranges.now.entries }
+    requires behind { 1 < start.first }
+    requires there { IsTrue (begins_at ranges.now.entries start) }
+    ensures place { (result.page ≡ start.page) × (result.gap.source ≡ start.source) }
+    ensures last { result.gap.last + 1 ≡ start.first }
+    ensures hole { IsHole (last_at ranges.now.entries start.page start.source)
+        result.gap.first result.gap.last }
+{
+    let last = start.first - 1;
+    let below = Start {
+        first: last,
+        ..start
+    };
+    let first = match before(ranges, below) {
+        Some((_, end)) => end + 1,
+        None => 1,
+    };
+    let gap = Gap {
+        source: start.source,
+        first,
+        last,
+    };
+    Hole {
+        page: start.page,
+        gap,
+    }
 }
 
 /// Whether a hole begins after a place.

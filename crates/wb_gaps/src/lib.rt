@@ -8,7 +8,7 @@
 //! reported (`merged`). Each of these is a walk over ascending runs of numbers (`run`): a report
 //! wants the last of each source (`highest`), and a merge two lists of marks taken as one
 //! (`joined`). It costs what the page has of ranges. A part of a report or of the pages costs
-//! look-ups for that part alone (`telling`).
+//! look-ups for that part alone (`telling`), and the next hole four look-ups (`holes`).
 //!
 //! It knows no board, no clock and no datagram, and it asks for nothing that is missing. The
 //! definitions speak of the list of drawops that came, in any order, in which a name may stand

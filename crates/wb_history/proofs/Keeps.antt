@@ -16,7 +16,7 @@ use Rattle.wb_names.specs.Values.{DrawopValue}
 use mathlib.Core.List.{IsPrefix}
 use Rattle.wb_history.specs.Lists.{Once}
 use Rattle.wb_names.specs.History.{HoldsName}
-use Rattle.wb_names.specs.Arrivals.{Fresh}
+use Rattle.wb_names.specs.Arrivals.{New}
 use Rattle.wb_names.proofs.Arrivals.{history_with-is}
 use Rattle.std.specs.Prelude.{Contains}
 use Rattle.std.proofs.lemmas.List.Elements.{All-push, Contains-append_left, Contains-push}
@@ -401,7 +401,7 @@ wins cells slots id m d q unspent inside last stored_is valid_d lacks s r at fou
             (λ t. subst (λ b. get_or s.words (address cells b l) 0 ≡ n) c.1 (known.stores l n q (subst (λ b. get_elem? b l ≡ some n) (ap row (sym t.1) ∙ sym stored_is) z) last).1) (at_end r.log d p e y))
             (at_end r.rows q p a x);
         valid = All-push IsDrawop r.log d r.valid valid_d;
-        names_once = history_with-is (length r.log + 1) r.log d (Fresh (length r.log)) r.names_once ((refl, subst (λ (l : List DrawopValue). HoldsName l d.name → ⊥) (sym all_seen) lacks), omega arith);
+        names_once = history_with-is (length r.log + 1) r.log d (New (length r.log)) r.names_once ((refl, subst (λ (l : List DrawopValue). HoldsName l d.name → ⊥) (sym all_seen) lacks), omega arith);
       };
       seated = λ a. let b = r.seated a in omega (arith, length-set s.views id w);
       each_pass = seats (Knows cells words' log' rows' r.owner) s.views id w knows (λ j u other e. others_after_win cells s r id q d mine.1 mine.0 mine.2 inside' j u other (seen_under j u e) (r.each_pass j u e));

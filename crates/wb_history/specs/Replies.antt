@@ -2,11 +2,12 @@
 use Rattle.std.specs.Prelude.{◌≡◌, ℕ, ◌+◌, ◌-◌, ◌*◌, ◌≤◌, [], ◌∷◌, ◌++◌, length, take, slice_get, Some}
 use Rattle.wb_names.specs.Values.{DrawopValue}
 use Rattle.wb_names.specs.History.{HoldsName, IsNewAt, IsAgainAt, IsClashAt}
-use Rattle.wb_names.specs.Arrivals.{Outcome, Fresh, Known, Clashed, Left}
+use Rattle.wb_names.specs.Arrivals.{Outcome, New, Again, Clash, Left}
 use Rattle.wb_history.specs.Sizes.{row_words, member_steps}
 use Rattle.wb_history.specs.Passes.{PassValue, IsWhole, AddsNothing, IsCaughtUp, brought}
 use Rattle.wb_history.specs.declared.claim.Claim.{Claim}
-use Rattle.wb_history.specs.declared.claim.Claim.TheVariants.{Added, Present, Clash}
+use Rattle.wb_history.specs.declared.claim.Claim.TheVariants.{Added, Present}
+use Rattle.wb_history.specs.declared.claim.Claim.TheVariants as claims
 use Rattle.wb_history.specs.declared.claim.ClaimFault.{ClaimFault}
 use Rattle.wb_history.specs.declared.claim.ClaimFault.TheVariants.{NoRow, Memory}
 
@@ -29,9 +30,9 @@ pub record HasNoRow (p : PassValue) (d : DrawopValue) (q : PassValue) : Type 0 w
 
 -- what taking d makes of the pass, by what became of d
 abbrev pub Becomes : PassValue → DrawopValue → Outcome → PassValue → Type 0
-Becomes p d (Fresh i) q = IsAdded p d i q
-Becomes p d (Known i) q = IsAgainAt q.seen d i × AddsNothing p q
-Becomes p d (Clashed i) q = IsClashAt q.seen d i × AddsNothing p q
+Becomes p d (New i) q = IsAdded p d i q
+Becomes p d (Again i) q = IsAgainAt q.seen d i × AddsNothing p q
+Becomes p d (Clash i) q = IsClashAt q.seen d i × AddsNothing p q
 Becomes p d Left q = HasNoRow p d q
 
 -- A member of others is read by one load of its cell, or a lost exchange, and a load of each word of its row. A drawop is added by a
@@ -41,17 +42,17 @@ most_steps others = member_steps * others + row_words + 2
 
 -- how many steps on words it took, by what became of d
 abbrev pub OutcomeSteps : PassValue → PassValue → Outcome → Type 0
-OutcomeSteps p q (Fresh i) = q.steps ≤ most_steps (i - length p.seen)
-OutcomeSteps p q (Known i) = q.steps ≤ most_steps (brought p q)
-OutcomeSteps p q (Clashed i) = q.steps ≤ most_steps (brought p q)
+OutcomeSteps p q (New i) = q.steps ≤ most_steps (i - length p.seen)
+OutcomeSteps p q (Again i) = q.steps ≤ most_steps (brought p q)
+OutcomeSteps p q (Clash i) = q.steps ≤ most_steps (brought p q)
 OutcomeSteps p q Left = q.steps ≤ member_steps * brought p q + 1
 
 -- ---- a claim
 
 abbrev pub claimed : Claim → Outcome
-claimed (Added i) = Fresh i
-claimed (Present i) = Known i
-claimed (Clash i) = Clashed i
+claimed (Added i) = New i
+claimed (Present i) = Again i
+claimed (claims.Clash i) = Clash i
 
 abbrev pub Claimed : PassValue → DrawopValue → PassValue → Claim → Type 0
 Claimed p d q claim = Becomes p d (claimed claim) q

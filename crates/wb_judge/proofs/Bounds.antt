@@ -1,7 +1,8 @@
 -- All that a judge remembers is bounded.
-use Rattle.std.proofs.Common.{◌≡◌, ◌⊎◌, ◌∙◌, ◌≤◌, ◌<◌, ◌+◌, ℕ, Bool, true, false, cond, List, [], ◌∷◌, ◌++◌, None, ap, arith, drop, inl, inr, length, refl, subst, suc, sym, take}
+use Rattle.std.proofs.Common.{◌≡◌, ◌⊎◌, ◌∙◌, ◌≤◌, ◌<◌, ℕ, Bool, true, false, cond, List, [], ◌∷◌, ◌++◌, None, ap, arith, inl, inr, length, refl, subst, sym}
 use Rattle.std.proofs.lemmas.Bool.Decides.{nat_tests}
-use Rattle.std.proofs.lemmas.List.{length-append, length-drop, length-take}
+use Rattle.std.proofs.lemmas.List.Edits.{length-remove}
+use Rattle.std.proofs.lemmas.List.{length-append}
 use Rattle.std.specs.List.{position, position_or_len, remove}
 use Rattle.std.specs.Prelude.{Option, Some, is_none, nat_eq, nat_lt, not, unwrap_or}
 use Rattle.wb_names.specs.Values.{DrawopValue}
@@ -26,7 +27,7 @@ use Rattle.wb_judge.proofs.Sizes.{filter_length, joined_length}
 
 -- ---- origins that are known
 
-few_from : (o : Origin) (now : ℕ) (known : List KnownOrigin) → length known ≤ MOST_KNOWN → length (known_from o now known) ≤ MOST_KNOWN
+pub few_from : (o : Origin) (now : ℕ) (known : List KnownOrigin) → length known ≤ MOST_KNOWN → length (known_from o now known) ≤ MOST_KNOWN
 unfolding known_from
 few_from o now known few = joined_length MOST_KNOWN (record { origin = o; at = now }) (left o known) (omega arith) (omega (arith, filter_length (λ (k : KnownOrigin). not (same_origin k.origin o)) known))
 
@@ -42,11 +43,6 @@ within {X} p xs some = by (nat_lt (position_or_len p xs) (length xs)) refl where
   by true is = grind (arith, nat_tests)
   by false is = some
 
-one_gone : {X : Type 0} (xs : List X) (i : ℕ) → i < length xs → length (remove xs i) + 1 ≡ length xs
-one_gone xs i inside =
-    let parts : length (remove xs i) ≡ length (take i xs) + length (drop (suc i) xs) = length-append (take i xs) (drop (suc i) xs) in
-    omega (arith, parts, length-take i xs, length-drop (suc i) xs)
-
 few_with : (x : Other) (others : List Other) → length others ≤ MOST_OTHERS → length (other_with x others) ≤ MOST_OTHERS
 unfolding other_with
 few_with x others few = by (without x.number others) (omega (arith, filter_length (λ (y : Other). not (nat_eq y.number x.number)) others)) where
@@ -54,7 +50,7 @@ few_with x others few = by (without x.number others) (omega (arith, filter_lengt
   choose true ys is fewer = let room : length ys < MOST_OTHERS = grind (arith, nat_tests) in omega (arith, room, length-append ys (x ∷ []))
   choose false ys is fewer =
       let full : MOST_OTHERS ≤ length ys = grind (arith, nat_tests) in
-      let gone = one_gone ys (first_to_go ys) (within (λ (y : Other). is_none y.answered) ys (omega (arith, full))) in
+      let gone = length-remove ys (first_to_go ys) (within (λ (y : Other). is_none y.answered) ys (omega (arith, full))) in
       omega (arith, gone, length-append (remove ys (first_to_go ys)) (x ∷ []))
 
   by : (ys : List Other) → length ys ≤ MOST_OTHERS → length (with_place_for ys ++ x ∷ []) ≤ MOST_OTHERS

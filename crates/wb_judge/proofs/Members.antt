@@ -1,6 +1,6 @@
 -- Who is known, and what becomes of what a member gives.
 use Rattle.std.proofs.Common.{◌≡◌, ◌⊎◌, ◌∙◌, ◌≤◌, ◌+◌, ◌-◌, ℕ, Bool, true, false, cond, List, None, ap, arith, inl, inr, refl, subst, sym, true≢false}
-use Rattle.std.proofs.lemmas.Bool.{and_parts, eqb-true}
+use Rattle.std.proofs.lemmas.Bool.{and_from, and_parts, eqb-true}
 use Rattle.std.proofs.lemmas.Bool.Decides.{nat_tests}
 use Rattle.std.specs.Prelude.{◌&&◌, ◌||◌, nat_eq, nat_le, nat_lt, not}
 use Rattle.wb_names.specs.Values.{DrawopValue}
@@ -50,11 +50,7 @@ known_at_once : (o : Origin) (at : ℕ) (known : List KnownOrigin) → is_known 
 unfolding is_known known_from
 known_at_once o at known =
     any_last (λ (k : KnownOrigin). same_origin k.origin o && nat_le (at - k.at) SILENCE) MOST_KNOWN (record { origin = o; at = at }) (left o known)
-    (both (same_origin o o) (nat_le (at - at) SILENCE) (same_itself o) (grind (arith, nat_tests))) where
-      both : (a b : Bool) → a ≡ true → b ≡ true → (a && b) ≡ true
-      both true true e f = refl
-      both true false e f = f
-      both false b e f = e
+    (and_from (same_origin o o) (nat_le (at - at) SILENCE) (same_itself o) (grind (arith, nat_tests)))
 
 pub stays_known : (o : Origin) (at : ℕ) (known : List KnownOrigin) → is_known o at known ≡ true → is_known o at (renewed o at known) ≡ true
 stays_known o at known e = by (is_known o at known) e where
@@ -117,10 +113,6 @@ let_in false firm true ahead full d e g h = absurd (true≢false e)
 let_in false firm false true full d e g h = absurd (true≢false g)
 let_in false firm false false true d e g h = absurd (true≢false h)
 let_in false firm false false false d e g h = refl
-
-or_false : (b : Bool) → (b || false) ≡ b
-or_false true = refl
-or_false false = refl
 
 member_at : (o : Origin) (d : DrawopValue) (f : Facts) (j : Judge) → knows o f.at j ≡ true
     → drawop_verdict o d f j ≡ ruled f.holds (is_firm d.name f.at j) (is_forged_drawop true d f j) (is_ahead true d.time f.at j) (is_full f.held j && (draws d.op || false))

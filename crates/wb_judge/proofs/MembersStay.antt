@@ -2,7 +2,7 @@
 use Rattle.std.proofs.Common.{◌≡◌, ◌∙◌, ◌≤◌, ◌<◌, ◌+◌, ◌-◌, ℕ, Bool, true, false, cond, List, [], ◌∷◌, ◌++◌, ap, arith, drop, filter, length, refl, sym, true≢false, ⊎_elim}
 use Rattle.std.specs.Prelude.{◌&&◌, ◌||◌, nat_le, nat_lt, not}
 use Rattle.std.specs.List.{list_any}
-use Rattle.std.proofs.lemmas.Bool.{and_parts}
+use Rattle.std.proofs.lemmas.Bool.{and_from, and_parts}
 use Rattle.std.proofs.lemmas.Bool.Decides.{nat_tests}
 use Rattle.std.proofs.lemmas.List.Folds.{list_any-append}
 use Rattle.std.proofs.lemmas.Map.Views.{any-filter_same}
@@ -16,9 +16,10 @@ use Rattle.wb_judge.specs.declared.known.KnownOrigin.{KnownOrigin}
 use Rattle.wb_judge.specs.declared.limits.TheConstants.{MOST_KNOWN, SILENCE}
 use Rattle.wb_judge.specs.declared.origin.Origin.{Origin}
 use Rattle.wb_judge.proofs.Anywhere.{any_last}
+use Rattle.wb_judge.proofs.Bounds.{few_from}
 use Rattle.wb_judge.proofs.Outcome.{Heard, Same, outcome}
 use Rattle.wb_judge.proofs.Sameness.{same_itself, same_origins}
-use Rattle.wb_judge.proofs.Sizes.{filter_length, joined_length}
+use Rattle.wb_judge.proofs.Sizes.{filter_length}
 
 -- ---- entries that stay
 
@@ -41,11 +42,7 @@ again_at : (o : Origin) (at now : ℕ) (known : List KnownOrigin) → now ≤ at
 unfolding is_known known_from
 again_at o at now known soon =
     any_last (λ (k : KnownOrigin). same_origin k.origin o && nat_le (now - k.at) SILENCE) MOST_KNOWN (record { origin = o; at = at }) (left o known)
-    (both (same_origin o o) (nat_le (now - at) SILENCE) (same_itself o) (grind (arith, nat_tests))) where
-      both : (a b : Bool) → a ≡ true → b ≡ true → (a && b) ≡ true
-      both true true e f = refl
-      both true false e f = f
-      both false b e f = e
+    (and_from (same_origin o o) (nat_le (now - at) SILENCE) (same_itself o) (grind (arith, nat_tests)))
 
 again_renewed : (o : Origin) (at now : ℕ) (known : List KnownOrigin) → is_known o at known ≡ true → now ≤ at + SILENCE → is_known o now (renewed o at known) ≡ true
 again_renewed o at now known e soon = ap (λ (b : Bool). is_known o now (cond b (known_from o at known) known)) e ∙ again_at o at now known soon
@@ -93,10 +90,6 @@ beside_from o p at now known few e other is =
 
       stays : list_any (is_of p now) (left o known) ≡ true
       stays = any-filter_same (is_of p now) (λ (k : KnownOrigin). not (same_origin k.origin o)) true apart known ∙ is
-
-few_from : (o : Origin) (at : ℕ) (known : List KnownOrigin) → length known ≤ MOST_KNOWN → length (known_from o at known) ≤ MOST_KNOWN
-unfolding known_from
-few_from o at known few = joined_length MOST_KNOWN (record { origin = o; at = at }) (left o known) (omega arith) (omega (arith, filter_length (λ (k : KnownOrigin). not (same_origin k.origin o)) known, few))
 
 beside_heard : (answer : Bool) (o p : Origin) (at now : ℕ) (known : List KnownOrigin) → length known ≤ MOST_KNOWN → is_known o at known ≡ true → same_origin o p ≡ false → is_known p now known ≡ true
     → is_known p now (cond answer (known_from o at (cond (is_known o at known) (known_from o at known) known)) (cond (is_known o at known) (known_from o at known) known)) ≡ true

@@ -25,7 +25,7 @@ abbrev has : ℕ → Other → Bool
 has n x = nat_eq x.number n
 
 -- who is looked for stays, if others go
-find_kept : {X : Type 0} (q p : X → Bool) → ((x : X) → q x ≡ true → p x ≡ true) → (xs : List X) → find q (filter p xs) ≡ find q xs
+pub find_kept : {X : Type 0} (q p : X → Bool) → ((x : X) → q x ≡ true → p x ≡ true) → (xs : List X) → find q (filter p xs) ≡ find q xs
 find_kept q p so [] = refl
 find_kept {X} q p so (x ∷ xs) = by (p x) refl (q x) refl (find_kept q p so xs) where
   by : (b : Bool) → p x ≡ b → (c : Bool) → q x ≡ c → find q (filter p xs) ≡ find q xs → find q (cond b (x ∷ filter p xs) (filter p xs)) ≡ cond c (Some x) (find q xs)

@@ -119,9 +119,9 @@ speaks_there o number answer fetch now j = fetched fetch _ (answered_so answer _
     by true is = is
     by false is = same_itself o
 
-says_it : (o : Origin) (number : ℕ) (answer fetch : Bool) (now : ℕ) (j : Judge) → Some number ≡ Some (fetching_at fetch now (speaking o number answer now j)).number
-unfolding speaking spoken
-says_it o number answer fetch now j = ap Some (sym (fetched fetch _ ∙ answered_so answer _ ∙ again (other_of number j.others) (found_by number j.others))) where
+pub said_number : (fetch : Bool) (o : Origin) (number : ℕ) (answer : Bool) (now : ℕ) (others : List Other) → (fetching_at fetch now (answering_at answer now (spoken number o now others))).number ≡ number
+unfolding spoken
+said_number fetch o number answer now others = fetched fetch _ ∙ answered_so answer _ ∙ again (other_of number others) (found_by number others) where
   fetched : (b : Bool) (x : Other) → (fetching_at b now x).number ≡ x.number
   fetched true x = refl
   fetched false x = refl
@@ -136,6 +136,10 @@ says_it o number answer fetch now j = ap Some (sym (fetched fetch _ ∙ answered
     by : (b : Bool) → (cond b (record x { at = now }) (heard_first number o now)).number ≡ number
     by true = is
     by false = refl
+
+says_it : (o : Origin) (number : ℕ) (answer fetch : Bool) (now : ℕ) (j : Judge) → Some number ≡ Some (fetching_at fetch now (speaking o number answer now j)).number
+unfolding speaking
+says_it o number answer fetch now j = ap Some (sym (said_number fetch o number answer now j.others))
 
 hearing : (o : Origin) (number : ℕ) (answer : Bool) (lacking now : ℕ) (j : Judge) → Heard o (Some number) answer now j (after_hearing o number answer lacking now j)
 unfolding after_hearing

@@ -250,7 +250,7 @@ rises start end (now ∷ moments) from = let later = rises now end moments from.
 abbrev Within : (ahead pause count paid start end : ℕ) → Type 0
 Within ahead pause count paid start end = (count ≡ 0) ⊎ (count * pause + max paid start ≤ ahead + pause + end)
 
-one_more : (count pause : ℕ) → (1 + count) * pause ≡ count * pause + pause
+pub one_more : (count pause : ℕ) → (1 + count) * pause ≡ count * pause + pause
 one_more count pause = grind arith
 
 moved : (ahead pause before after now start end count : ℕ) (some : Bool) → start ≤ now → now ≤ end

@@ -1,6 +1,7 @@
 -- Where a member's request has room.
 use Rattle.std.proofs.Common.{◌≡◌, ◌≤◌, ◌+◌, ◌*◌, ℕ, Bool, true, false, cond, List, [], ◌∷◌, arith, inl, inr}
 use Rattle.std.proofs.lemmas.Bool.Decides.{nat_tests}
+use Rattle.std.proofs.Math.Nat.{add-mul}
 use Rattle.wb_judge.specs.Buckets.{has_room}
 use Rattle.wb_judge.specs.Judge.{Judge}
 use Rattle.wb_judge.specs.Judging.{is_repaired}
@@ -11,9 +12,6 @@ use Rattle.wb_judge.specs.declared.limits.TheConstants.{REPAIRS_AHEAD, REPAIRS_O
 use Rattle.wb_judge.proofs.Repairing.{MovesRepairs, came_repairs, rises}
 
 -- ---- what one step pays
-
-one_more : (a b pause : ℕ) → (a + b) * pause ≡ a * pause + b * pause
-one_more a b pause = grind arith
 
 none_more : {paid : ℕ} (m count : ℕ) → paid ≤ m + count * REPAIR_PAUSE → paid ≤ m + (0 + count) * REPAIR_PAUSE
 none_more m count few = omega (arith, few)
@@ -38,7 +36,7 @@ grows m start end (Comes o v f ∷ steps) j from few late =
     let r = rises f.at end (moments_of steps) from.1 in
     let here = pays m f.at (is_repaired_in (Comes o v f) j) j k (came_repairs o v f j) few (omega (arith, r, late)) in
     let rest = grows (m + some * REPAIR_PAUSE) f.at end steps k from.1 here (omega (arith, late)) in
-    let sum = one_more some (how_many is_repaired_in steps k) REPAIR_PAUSE in
+    let sum = add-mul some (how_many is_repaired_in steps k) REPAIR_PAUSE in
     omega (arith, rest, sum)
 grows m start end (Reports sent ∷ steps) j from few late = none_more m (how_many is_repaired_in steps (after_step (Reports sent) j)) (grows m start end steps (after_step (Reports sent) j) from few late)
 grows m start end (Tells clock ∷ steps) j from few late = none_more m (how_many is_repaired_in steps (after_step (Tells clock) j)) (grows m start end steps (after_step (Tells clock) j) from few late)

@@ -1,6 +1,6 @@
 -- What the steps of a judge leave.
 use Rattle.std.proofs.Common.{◌≡◌, ◌⊎◌, ◌∙◌, ◌≤◌, ◌<◌, ◌+◌, ◌-◌, ℕ, Bool, true, false, cond, List, [], ◌∷◌, Option, None, ap, arith, inl, inr, length, refl, sym, true≢false}
-use Rattle.std.proofs.lemmas.Bool.{and_parts, leb-false}
+use Rattle.std.proofs.lemmas.Bool.{and_from, and_parts, leb-false, not-true, or_parts}
 use Rattle.std.proofs.lemmas.List.{length-append}
 use Rattle.std.specs.List.{count_by}
 use Rattle.std.specs.Prelude.{Some, ◌&&◌, ◌||◌, is_none, nat_le, nat_lt, not}
@@ -31,22 +31,18 @@ use Rattle.wb_judge.proofs.Shared.{count_grows, count_of, few_count, one_more_co
 
 -- ---- who is known
 
-both : (a b : Bool) → a ≡ true → b ≡ true → (a && b) ≡ true
-both true b e f = f
-both false b e f = e
-
 strange_after : (some : Origin → Bool) (o : Origin) (v : Datagram) (f : Facts) (j : Judge) → AreStrange some j → (some o && is_answer v f.at j) ≡ false → AreStrange some (after_judging o v f j)
 strange_after some o v f j unknown silent p now one = by (knows p now (after_judging o v f j)) refl where
   never : (knows p now j ≡ true) ⊎ (knows p f.at j ≡ true) ⊎ ((o ≡ p) × (is_answer v f.at j ≡ true)) → ⊥
   never (inl g) = true≢false (sym g ∙ unknown p now one)
   never (inr (inl g)) = true≢false (sym g ∙ unknown p f.at one)
-  never (inr (inr g)) = true≢false (sym (both (some o) (is_answer v f.at j) (ap some g.0 ∙ one) g.1) ∙ silent)
+  never (inr (inr g)) = true≢false (sym (and_from (some o) (is_answer v f.at j) (ap some g.0 ∙ one) g.1) ∙ silent)
 
   by : (b : Bool) → knows p now (after_judging o v f j) ≡ b → b ≡ false
   by true is = absurd (never (only_answers_make_known o p v f j now is))
   by false is = refl
 
-taking_known : (g : Given) (o : Origin) (now : ℕ) (j : Judge) → (after_taking g o now j).known ≡ j.known
+pub taking_known : (g : Given) (o : Origin) (now : ℕ) (j : Judge) → (after_taking g o now j).known ≡ j.known
 taking_known g o now j = by (knows o now j) where
   by : (b : Bool) → (cond b j (record j { strange = with_given g j.strange })).known ≡ j.known
   by true = refl
@@ -97,21 +93,13 @@ room_for : (o : Origin) (d : DrawopValue) (f : Facts) (j : Judge) → knows o f.
 unfolding drawop_verdict is_over is_forged_drawop
 room_for o d f j unknown new why =
     let over = let_in (is_forged_drawop false d f j) (is_bound_elsewhere d.name.source o f.at j.others) (is_ahead false d.time f.at j) (is_full f.held j && (draws d.op || true)) (is_over o j.strange) (nat_lt 0 j.strange.most) (is_wide d.name j.strange) (ruled why) in
-    leb-false j.strange.most (length j.strange.given) (none (nat_le j.strange.most (length j.strange.given)) (nat_le j.strange.most_of_origin (count_by (is_given_by o) j.strange.given)) over) where
-      none : (a b : Bool) → (a || b) ≡ false → a ≡ false
-      none true b e = absurd (true≢false e)
-      none false b e = refl
-
+    leb-false j.strange.most (length j.strange.given) (or_parts (nat_le j.strange.most (length j.strange.given)) (nat_le j.strange.most_of_origin (count_by (is_given_by o) j.strange.given)) over).0 where
       ruled : (drawop_verdict o d f j).why ≡ None → (cond (is_forged_drawop false d f j) (dropped Own) (cond (is_bound_elsewhere d.name.source o f.at j.others) (dropped Speaks) (cond (is_ahead false d.time f.at j) (dropped Ahead) (cond (is_full f.held j && (draws d.op || true)) (warned Full NoCell) (cond (is_over o j.strange) (cond (nat_lt 0 j.strange.most) (warned Share NoShare) (dropped Share)) (cond (is_wide d.name j.strange) (dropped Pages) taken)))))).why ≡ None
       ruled e = rw (new, unknown) at e
 
-none_of : {X : Type 0} (o : Option X) → is_none o ≡ true → o ≡ None
+pub none_of : {X : Type 0} (o : Option X) → is_none o ≡ true → o ≡ None
 none_of None e = refl
 none_of (Some x) e = cc
-
-unheld : (b : Bool) → not b ≡ true → b ≡ false
-unheld true e = absurd (true≢false (sym e))
-unheld false e = refl
 
 abbrev given_by : Origin → DrawopValue → Given
 given_by o d = record { name = d.name; origin = Some o }
@@ -121,7 +109,7 @@ counted_stranger : (some : Origin → Bool) (o : Origin) (d : DrawopValue) (f : 
     → count_of some j.strange + length (cond ((b && true) && not c) (d.name ∷ []) []) ≤ count_of some (with_given (given_by o d) j.strange)
 counted_stranger some o d f j is e true false one new =
     let parts = and_parts (is_none (verdict o (Draw d) f j).why) (not f.holds) is in
-    let room = room_for o d f (after_coming o f.at j) (stays_unknown o f.at j.known e) (unheld f.holds parts.1) (none_of (verdict o (Draw d) f j).why parts.0) in
+    let room = room_for o d f (after_coming o f.at j) (stays_unknown o f.at j.known e) (not-true f.holds parts.1) (none_of (verdict o (Draw d) f j).why parts.0) in
     omega (arith, one_more_counts some (given_by o d) j.strange one new room)
 counted_stranger some o d f j is e true true one new = omega (arith, count_grows some (given_by o d) j.strange)
 counted_stranger some o d f j is e false c one new = omega (arith, count_grows some (given_by o d) j.strange)

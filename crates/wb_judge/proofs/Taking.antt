@@ -3,13 +3,7 @@ use Rattle.std.proofs.Common.{◌≡◌, ◌⊎◌, ◌≤◌, ◌+◌, ◌-◌,
 use Rattle.std.proofs.lemmas.Bool.Decides.{nat_tests}
 use Rattle.wb_judge.specs.Buckets.{has_room, paid_after}
 use Rattle.wb_judge.specs.Laws.{AreFrom, FewAreTaken, taken_at}
-
-rises : (start end : ℕ) (moments : List ℕ) → AreFrom start end moments → start ≤ end
-rises start end [] from = from
-rises start end (now ∷ moments) from = let later = rises now end moments from.1 in omega (arith, from.0, later)
-
-one_more : (count pause : ℕ) → (1 + count) * pause ≡ count * pause + pause
-one_more count pause = grind arith
+use Rattle.wb_judge.proofs.Repairing.{one_more, rises}
 
 -- what was taken is paid for after the start, and at most so far ahead of the end
 taken : (ahead pause paid start end : ℕ) (moments : List ℕ) → AreFrom start end moments

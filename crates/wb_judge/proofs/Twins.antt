@@ -97,7 +97,7 @@ chosen : (b : Bool) (i j k : Judge) → j.others ≡ i.others → k.others ≡ i
 chosen true i j k one other = one
 chosen false i j k one other = other
 
-own_others : (sent : ℕ) (r : Report) (now : ℕ) (j : Judge) → (after_own sent r now j).others ≡ j.others
+pub own_others : (sent : ℕ) (r : Report) (now : ℕ) (j : Judge) → (after_own sent r now j).others ≡ j.others
 unfolding after_own
 own_others sent r now j = chosen (list_any (nat_eq sent) j.own) j j (record j { alien = Some (record { sent = sent; at = now }); has_twin = j.has_twin || is_twin sent r now j }) refl refl
 

@@ -28,12 +28,12 @@ same_some a b e = ap (some_in a) e
 
 -- the parts of the member that a host has
 pub record HasMember (s : JudgedHosting) (h : Judged) : Type 0 where
-  pub host : s.today.host ≡ Some (Kept h.kept)
+  pub host : s.dialog.host ≡ Some (Kept h.kept)
   pub judge : s.judge ≡ Some h.judge
 
 pub has_member : (s : JudgedHosting) (h : Judged) → judged_in s ≡ Some h → HasMember s h
-has_member s h is = of s.judge s.today.host refl refl is where
-  of : (judge : Option Judge) (host : Option HostState) → s.judge ≡ judge → s.today.host ≡ host → judged_by judge host ≡ Some h → HasMember s h
+has_member s h is = of s.judge s.dialog.host refl refl is where
+  of : (judge : Option Judge) (host : Option HostState) → s.judge ≡ judge → s.dialog.host ≡ host → judged_by judge host ≡ Some h → HasMember s h
   of None host j at is = absurd cc
   of (Some judge) None j at is = absurd cc
   of (Some judge) (Some (Driven host seed)) j at is = absurd cc
@@ -76,7 +76,7 @@ is_back m new d s h at has now = record {
 -- a text, and what closes the block
 behind : {U E : Type 0} (new : JudgedDialogValue) (t : JudgedHosting) (text closing : List ℕ) (result : Result U E) → Blocks new closing result t (answers t []) → Blocks new (text ++ closing) result t (answers t text)
 behind new t text closing (Ok u) b = (b.0, ap (λ (x : List ℕ). text ++ x) b.1)
-behind new t text closing (Err e) b = begins_behind text (ok_line (due_at t.today.host)) closing b
+behind new t text closing (Err e) b = begins_behind text (ok_line (due_at t.dialog.host)) closing b
 
 module _ (m new : JudgedValue) (d last : JudgedDialogValue) (h : Judged) where
   pub acted : {U V E : Type 0} (a : Act) (v : V) (text closing : List ℕ) (result : Result U E) → DoesAct {U = V} h new text (Ok v) a → BlocksAt (with_member new d) last closing result (λ t. answers t [])

@@ -10,9 +10,9 @@ use Rattle.wb_dialog.specs.Dialog.{answered_lines, ok_line}
 use Rattle.wb_dialog.specs.Hosting as hosting
 use Rattle.wb_dialog.specs.Hosting.{Hosting, Reply, denies, prints}
 use Rattle.wb_judged_dialog.specs.declared.beginning.Board.{Board}
-use Rattle.wb_judged_dialog.specs.Dialog.{JudgedHosting, JudgedReply, answers, as_today, board_after, line_reply, refuses, taken_reply, today_reply}
+use Rattle.wb_judged_dialog.specs.Dialog.{JudgedHosting, JudgedReply, answers, as_common, board_after, line_reply, refuses, taken_reply, common_reply}
 use Rattle.wb_judged_dialog.specs.Hosting.{after, block_of, blocks_from, reply_of, unopened}
-use Rattle.wb_judged_dialog.specs.Laws.{BeginsNoJudge, EachIsAnswered, IsBlock, RefusedStays, UnjudgedAsToday}
+use Rattle.wb_judged_dialog.specs.Laws.{BeginsNoJudge, EachIsAnswered, IsBlock, RefusedStays, UnjudgedAsDialog}
 use Rattle.wb_judged_dialog.specs.Refusals.{refused_line}
 
 -- ---- a refused line
@@ -26,7 +26,7 @@ refused_stays s (first ∷ front) rest line e is =
 -- ---- blocks
 
 is_block : (r : JudgedReply) → IsBlock (block_of r)
-is_block (answers t text) = record { text = text; line = ok_line (hosting.due_at t.today.host); closing = inl (hosting.due_at t.today.host, refl); is = refl }
+is_block (answers t text) = record { text = text; line = ok_line (hosting.due_at t.dialog.host); closing = inl (hosting.due_at t.dialog.host, refl); is = refl }
 is_block (refuses e) = record { text = []; line = refused_line e; closing = inr (e, refl); is = refl }
 
 pub each_is_answered : EachIsAnswered
@@ -41,34 +41,34 @@ each_is_answered s (line ∷ lines) =
 -- what is written for a reply of a host that is not judged, and the host that it leads to
 record IsAlike (s : JudgedHosting) (r : JudgedReply) (t : Reply) : Type 0 where
   block : block_of r ≡ hosting.block_of t
-  host : (after s r).today ≡ hosting.hosting_after s.today t
+  host : (after s r).dialog ≡ hosting.hosting_after s.dialog t
   judge : (after s r).judge ≡ s.judge
 
-as_today_alike : (board : Option Board) (s : JudgedHosting) (t : Reply) → IsAlike s (as_today board s t) t
-as_today_alike board s (prints next text) = record { block = refl; host = refl; judge = refl }
-as_today_alike board s (denies e) = record { block = refl; host = refl; judge = refl }
+as_common_alike : (board : Option Board) (s : JudgedHosting) (t : Reply) → IsAlike s (as_common board s t) t
+as_common_alike board s (prints next text) = record { block = refl; host = refl; judge = refl }
+as_common_alike board s (denies e) = record { block = refl; host = refl; judge = refl }
 
-unjudged_reply : (s : JudgedHosting) (line : List ℕ) → s.judge ≡ None → taken_reply s line s.judge ≡ today_reply s line
+unjudged_reply : (s : JudgedHosting) (line : List ℕ) → s.judge ≡ None → taken_reply s line s.judge ≡ common_reply s line
 unjudged_reply s line none = ap (taken_reply s line) none
 
-alike : (s : JudgedHosting) (m : Met) → s.judge ≡ None → BeginsNoJudge m → IsAlike s (reply_of s m) (hosting.reply_of s.today m)
+alike : (s : JudgedHosting) (m : Met) → s.judge ≡ None → BeginsNoJudge m → IsAlike s (reply_of s m) (hosting.reply_of s.dialog m)
 alike s (whole line) none plainly =
-    let one : reply_of s (whole line) ≡ today_reply s (content line) = ap (line_reply s (content line)) plainly ∙ unjudged_reply s (content line) none in
-    subst (λ (r : JudgedReply). IsAlike s r (hosting.reply_of s.today (whole line))) (sym one) (as_today_alike (board_after s.board (content line)) s (hosting.reply_of s.today (whole line)))
+    let one : reply_of s (whole line) ≡ common_reply s (content line) = ap (line_reply s (content line)) plainly ∙ unjudged_reply s (content line) none in
+    subst (λ (r : JudgedReply). IsAlike s r (hosting.reply_of s.dialog (whole line))) (sym one) (as_common_alike (board_after s.board (content line)) s (hosting.reply_of s.dialog (whole line)))
 alike s too_long none plainly = record { block = refl; host = refl; judge = refl }
 
 abbrev NoneBegins : List InputLine → Type 0
 NoneBegins [] = Unit {0}
 NoneBegins (line ∷ lines) = BeginsNoJudge (met line) × NoneBegins lines
 
-blocks_same : (s : JudgedHosting) (lines : List InputLine) → s.judge ≡ None → NoneBegins lines → blocks_from s lines ≡ hosting.blocks_from s.today lines
+blocks_same : (s : JudgedHosting) (lines : List InputLine) → s.judge ≡ None → NoneBegins lines → blocks_from s lines ≡ hosting.blocks_from s.dialog lines
 blocks_same s [] none plainly = refl
 blocks_same s (line ∷ lines) none plainly =
     let r = reply_of s (met line) in
     let it = alike s (met line) none plainly.0 in
     let rest = blocks_same (after s r) lines (it.judge ∙ none) plainly.1 in
     ap (λ (b : List ℕ). b ∷ blocks_from (after s r) lines) it.block
-    ∙ ap (λ (blocks : List (List ℕ)). hosting.block_of (hosting.reply_of s.today (met line)) ∷ blocks) (rest ∙ ap (λ (t : Hosting). hosting.blocks_from t lines) it.host)
+    ∙ ap (λ (blocks : List (List ℕ)). hosting.block_of (hosting.reply_of s.dialog (met line)) ∷ blocks) (rest ∙ ap (λ (t : Hosting). hosting.blocks_from t lines) it.host)
 
 abbrev Plainly : InputLine → Type 0
 Plainly line = BeginsNoJudge (met line)
@@ -84,6 +84,6 @@ answered_none cut (line ∷ lines) plainly = at (answered_none cut lines plainly
   at rest true = (plainly.0, rest)
   at rest false = tt
 
-pub unjudged_as_today : UnjudgedAsToday
-unjudged_as_today tuning cut input plainly =
+pub unjudged_as_dialog : UnjudgedAsDialog
+unjudged_as_dialog tuning cut input plainly =
     ap concat (blocks_same (unopened tuning) (answered_lines cut (input_lines input)) refl (answered_none cut (input_lines input) (each_none (input_lines input) plainly)))

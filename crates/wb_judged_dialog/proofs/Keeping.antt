@@ -11,8 +11,8 @@ use Rattle.wb_dialog.specs.declared.fault.Refusal.{Refusal}
 use Rattle.wb_dialog.specs.declared.fault.Refusal.TheVariants as refusals
 use Rattle.wb_dialog.specs.declared.opened.Host.{Host as HostValue}
 use Rattle.wb_dialog.specs.declared.opened.Host.TheVariants as values
-use Rattle.wb_dialog.specs.Doing.{MayBeAt, BlocksAt as TodayBlocksAt, kept_in}
-use Rattle.wb_dialog.specs.Hosting.{Host as HostState, Driven, Kept, Reply, denies, host_after, keep_reply, reply as reply_today}
+use Rattle.wb_dialog.specs.Doing.{MayBeAt, BlocksAt as DialogBlocksAt, kept_in}
+use Rattle.wb_dialog.specs.Hosting.{Host as HostState, Driven, Kept, Reply, denies, host_after, keep_reply, reply as dialog_reply}
 use Rattle.wb_dialog.specs.Lines.{line_of}
 use Rattle.wb_judged_dialog.specs.declared.beginning.Board.{Board}
 use Rattle.wb_judged_dialog.specs.declared.line.JudgeLine.{JudgeLine}
@@ -64,7 +64,7 @@ told v mid new (Some (Driven host (Some seed))) false at none now = λ some same
 told v mid new (Some (Kept k)) b at none now = absurd (let bad : true ≡ false = sym (kept_is_some v k at) ∙ none in cc)
 
 pub is_told : (U E : Type 0) (old mid new : JudgedDialogValue) (host : Option HostState) (written : List ℕ) (u : U) (b : Bool) → MayBeAt old.dialog.host host → is_some (kept_in old.dialog.host) ≡ false
-    → TodayBlocksAt {U = U} {E = E} old.dialog.host mid.dialog.host written (Ok u) (λ t. reply_today old.dialog.tuning t (line_of (codes "keep 1 0"))) → b ≡ is_some (kept_in mid.dialog.host) → (b ≡ false → new ≡ mid) → MayKeep host new b
+    → DialogBlocksAt {U = U} {E = E} old.dialog.host mid.dialog.host written (Ok u) (λ t. dialog_reply old.dialog.tuning t (line_of (codes "keep 1 0"))) → b ≡ is_some (kept_in mid.dialog.host) → (b ≡ false → new ≡ mid) → MayKeep host new b
 is_told U E old mid new host written u b at none did is same =
     let now = subst (λ (r : Reply). MayBeAt mid.dialog.host (host_after host r)) (would_keep old.dialog.tuning host) (did host at).0 in
     told old.dialog.host mid new host b at none now (sym is) same
@@ -87,7 +87,7 @@ pub begins_to_judge : {U E : Type 0} (old mid new : JudgedDialogValue) (line : J
     → ((host : Option HostState) → MayBeAt old.dialog.host host → MayKeep host mid true) → IsJudgedAt m (begun old.tuning line b) → BlocksAt (with_member m mid) new written result (λ s. answers s [])
     → BlocksAt old new written result (λ s. judge_reply s (Ok line))
 begins_to_judge old mid new line b m written result same some may is closes s at =
-    let keeps = may s.today.host at.host in
+    let keeps = may s.dialog.host at.host in
     let h = begun old.tuning line b in
     let is_board : s.board ≡ Some b = at.board ∙ some in
     let did : Blocks new written result (with_judged h s) (answers (with_judged h s) []) = closes (with_judged h s) (begins_judged old mid s m h b at same some is) in
@@ -97,15 +97,15 @@ begins_to_judge old mid new line b m written result same some may is closes s at
 
 -- It is refused as `keep` is.
 pub begins_refused : {U E : Type 0} (old mid new : JudgedDialogValue) (line : JudgeLine) (written : List ℕ) (result : Result U E) → IsSame old mid → IsSame mid new → ((host : Option HostState) → MayBeAt old.dialog.host host → MayKeep host mid false)
-    → TodayBlocksAt mid.dialog.host new.dialog.host written result (λ t. reply_today mid.dialog.tuning t (line_of (codes "keep 1 0"))) → BlocksAt old new written result (λ s. judge_reply s (Ok line))
+    → DialogBlocksAt mid.dialog.host new.dialog.host written result (λ t. dialog_reply mid.dialog.tuning t (line_of (codes "keep 1 0"))) → BlocksAt old new written result (λ s. judge_reply s (Ok line))
 begins_refused old mid new line written result same later may did s at =
-    let keeps = may s.today.host at.host in
-    refuses_keep mid new s line keeps.0 written result later (same_host old mid s at same keeps.2) keeps.1 (did s.today.host keeps.2)
+    let keeps = may s.dialog.host at.host in
+    refuses_keep mid new s line keeps.0 written result later (same_host old mid s at same keeps.2) keeps.1 (did s.dialog.host keeps.2)
 
 -- So is one before a board is open.
-pub begins_closed : (old : JudgedDialogValue) (s : JudgedHosting) → old.board ≡ None → IsAt old s → keep_reply 1 0 s.today.host ≡ denies (refusals.Line faults.NoBoard)
+pub begins_closed : (old : JudgedDialogValue) (s : JudgedHosting) → old.board ≡ None → IsAt old s → keep_reply 1 0 s.dialog.host ≡ denies (refusals.Line faults.NoBoard)
 begins_closed old s none at = ap (keep_reply 1 0) (at.closed (at.board ∙ none))
 
 pub begins_shut : {U E : Type 0} (old new : JudgedDialogValue) (line : JudgeLine) (written : List ℕ) (result : Result U E) → old.board ≡ None → IsSame old new
-    → TodayBlocksAt old.dialog.host new.dialog.host written result (λ t. reply_today old.dialog.tuning t (line_of (codes "keep 1 0"))) → BlocksAt old new written result (λ s. judge_reply s (Ok line))
-begins_shut old new line written result none same did s at = refuses_keep old new s line (refusals.Line faults.NoBoard) written result same at (begins_closed old s none at) (did s.today.host at.host)
+    → DialogBlocksAt old.dialog.host new.dialog.host written result (λ t. dialog_reply old.dialog.tuning t (line_of (codes "keep 1 0"))) → BlocksAt old new written result (λ s. judge_reply s (Ok line))
+begins_shut old new line written result none same did s at = refuses_keep old new s line (refusals.Line faults.NoBoard) written result same at (begins_closed old s none at) (did s.dialog.host at.host)

@@ -1,5 +1,5 @@
 mod RecordLines
-pub mod TodayLines
+pub mod CommonLines
 pub mod ListedPages
 pub mod Acts
 pub mod BoardLines

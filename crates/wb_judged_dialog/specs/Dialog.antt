@@ -22,13 +22,13 @@ use Rattle.wb_commands.specs.declared.fault.LineFault.TheVariants as faults
 use Rattle.wb_commands.specs.Parsing.{line_of as script_line_of}
 use Rattle.wb_dialog.specs.declared.fault.Refusal.TheVariants as refusals
 use Rattle.wb_dialog.specs.Lines.{line_of}
-use Rattle.wb_dialog.specs.Hosting.{Host as HostState, Hosting, Kept, Reply, prints, denies, keep_reply, reply as reply_today}
+use Rattle.wb_dialog.specs.Hosting.{Host as HostState, Hosting, Kept, Reply, prints, denies, keep_reply, reply as dialog_reply}
 use Rattle.wb_judged_dialog.specs.declared.beginning.Board.{Board}
 use Rattle.wb_judged_dialog.specs.declared.fault.JudgedRefusal.{JudgedRefusal}
 use Rattle.wb_judged_dialog.specs.declared.fault.JudgedRefusal.TheVariants.{Host}
 use Rattle.wb_judged_dialog.specs.declared.line.JudgeLine.{JudgeLine}
 use Rattle.wb_judged_dialog.specs.declared.line.JudgedLine.{JudgedLine}
-use Rattle.wb_judged_dialog.specs.declared.line.JudgedLine.TheVariants.{Call as Calls, Skip, Members, List as Lists, Paint, Since, Lacks, Words, Today}
+use Rattle.wb_judged_dialog.specs.declared.line.JudgedLine.TheVariants.{Call as Calls, Skip, Members, List as Lists, Paint, Since, Lacks, Words, Common}
 use Rattle.wb_judged_dialog.specs.Lines.{judge_line_of, judged_line_of}
 use Rattle.wb_judged_dialog.specs.Listing.{listed_first}
 use Rattle.wb_judged_dialog.specs.Refusals.{judged_refusal}
@@ -59,13 +59,13 @@ act (Paint page width height) h = does h (paint_text (shown page h.kept.host) wi
 act (Since page count) h = does h (since_of page count h.kept.host.is.held)
 act (Lacks page) h = does h (lacks_line (missing_on page h.kept.host))
 act (Words v) h = does h (worded_line v)
-act Today h = does h []
+act Common h = does h []
 
 -- ---- a host
 
 -- What a host is without its judge; the board that its first board line opened; and its judge, once it is judged.
 pub record JudgedHosting : Type 0 where
-  pub today : Hosting
+  pub dialog : Hosting
   pub board : Option Board
   pub judge : Option Judge
 
@@ -75,12 +75,12 @@ judged_by (Some j) (Some (Kept k)) = Some (record { kept = k; judge = j })
 judged_by judge host = None
 
 abbrev pub judged_in : JudgedHosting → Option Judged
-judged_in s = judged_by s.judge s.today.host
+judged_in s = judged_by s.judge s.dialog.host
 
 -- From now on this is its judged member.
 abbrev pub with_judged : Judged → JudgedHosting → JudgedHosting
 with_judged h s = record {
-  today = record { tuning = s.today.tuning; host = Some (Kept h.kept) };
+  dialog = record { tuning = s.dialog.tuning; host = Some (Kept h.kept) };
   board = s.board;
   judge = Some h.judge;
 }
@@ -90,7 +90,7 @@ pub data JudgedReply : Type 0 where
   answers : JudgedHosting → List ℕ → JudgedReply
   refuses : JudgedRefusal → JudgedReply
 
--- ---- a line that any host has
+-- ---- a common line: any host has it
 
 -- the board that a line opens, if none was opened
 abbrev pub opens : Result Command LineFault → Option Board
@@ -105,12 +105,12 @@ board_after None line = board_in line
 board_after (Some b) line = Some b
 
 -- It is answered as at a host that is not judged. So a judged host refuses what is for its driver to judge, as a self-managing one does.
-abbrev pub as_today : Option Board → JudgedHosting → Reply → JudgedReply
-as_today board s (prints next text) = answers (record { today = record { tuning = s.today.tuning; host = next }; board = board; judge = s.judge }) text
-as_today board s (denies e) = refuses (Host e)
+abbrev pub as_common : Option Board → JudgedHosting → Reply → JudgedReply
+as_common board s (prints next text) = answers (record { dialog = record { tuning = s.dialog.tuning; host = next }; board = board; judge = s.judge }) text
+as_common board s (denies e) = refuses (Host e)
 
-abbrev pub today_reply : JudgedHosting → List ℕ → JudgedReply
-today_reply s line = as_today (board_after s.board line) s (reply_today s.today.tuning s.today.host (line_of line))
+abbrev pub common_reply : JudgedHosting → List ℕ → JudgedReply
+common_reply s line = as_common (board_after s.board line) s (dialog_reply s.dialog.tuning s.dialog.host (line_of line))
 
 -- ---- a line that a judged host has for itself
 
@@ -119,9 +119,9 @@ as_act s (does h text) = answers (with_judged h s) text
 as_act s (fails e) = refuses e
 
 abbrev pub act_reply : JudgedHosting → List ℕ → JudgedLine → Option Judged → JudgedReply
-act_reply s line Today h = today_reply s line
+act_reply s line Common h = common_reply s line
 act_reply s line said (Some h) = as_act s (act said h)
-act_reply s line said None = today_reply s line
+act_reply s line said None = common_reply s line
 
 abbrev pub judged_reply : JudgedHosting → List ℕ → Result JudgedLine LineFault → JudgedReply
 judged_reply s line (Ok said) = act_reply s line said (judged_in s)
@@ -146,7 +146,7 @@ begun tuning line b = opened (opening_of line b) (ticked line.now (opened_with t
 
 -- It stands in the place of `keep`: it is refused as that is, so after a line that acts it is too late.
 abbrev pub begins_with : JudgedHosting → JudgeLine → Option Board → JudgedReply
-begins_with s line (Some b) = answers (with_judged (begun s.today.tuning line b) s) []
+begins_with s line (Some b) = answers (with_judged (begun s.dialog.tuning line b) s) []
 begins_with s line None = refuses (Host (refusals.Line faults.NoBoard))
 
 abbrev pub begins_if : JudgedHosting → JudgeLine → Reply → JudgedReply
@@ -154,13 +154,13 @@ begins_if s line (prints next text) = begins_with s line s.board
 begins_if s line (denies e) = refuses (Host e)
 
 abbrev pub judge_reply : JudgedHosting → Result JudgeLine LineFault → JudgedReply
-judge_reply s (Ok line) = begins_if s line (keep_reply 1 0 s.today.host)
+judge_reply s (Ok line) = begins_if s line (keep_reply 1 0 s.dialog.host)
 judge_reply s (Err e) = refuses (Host (refusals.Line e))
 
 -- ---- one line
 
 abbrev pub taken_reply : JudgedHosting → List ℕ → Option Judge → JudgedReply
-taken_reply s line None = today_reply s line
+taken_reply s line None = common_reply s line
 taken_reply s line (Some j) = judged_reply s line (judged_line_of line)
 
 abbrev pub line_reply : JudgedHosting → List ℕ → Option (Result JudgeLine LineFault) → JudgedReply

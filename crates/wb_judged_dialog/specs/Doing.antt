@@ -79,13 +79,13 @@ Owns j None = ⊥
 
 -- Which host that is. Before a board was opened no host is open, and a judge has a kept member.
 pub record IsAt (d : JudgedDialogValue) (s : JudgedHosting) : Type 0 where
-  pub tuning : s.today.tuning ≡ d.tuning
+  pub tuning : s.dialog.tuning ≡ d.tuning
   pub tuned : d.dialog.tuning ≡ d.tuning
-  pub host : MayBeAt d.dialog.host s.today.host
+  pub host : MayBeAt d.dialog.host s.dialog.host
   pub board : s.board ≡ d.board
   pub judge : s.judge ≡ d.judge
-  pub closed : s.board ≡ None → s.today.host ≡ None
-  pub own : (j : Judge) → s.judge ≡ Some j → Owns j s.today.host
+  pub closed : s.board ≡ None → s.dialog.host ≡ None
+  pub own : (j : Judge) → s.judge ≡ Some j → Owns j s.dialog.host
 
 -- It wrote a block, or memory ran out within it.
 abbrev pub Blocks : {U E : Type 0} → JudgedDialogValue → List ℕ → Result U E → JudgedHosting → JudgedReply → Type 0

@@ -8,7 +8,7 @@ use Rattle.wb_lines.specs.Handling.{Met, whole, too_long, Step, goes}
 use Rattle.wb_lines.specs.Taking.{met}
 use Rattle.wb_dialog.specs.declared.fault.Refusal.TheVariants as refusals
 use Rattle.wb_dialog.specs.Dialog.{answered_lines, ok_line}
-use Rattle.wb_dialog.specs.Hosting.{due_at, unopened as unopened_today}
+use Rattle.wb_dialog.specs.Hosting.{due_at, unopened as unopened_dialog}
 use Rattle.wb_judged_dialog.specs.declared.fault.JudgedRefusal.TheVariants.{Host}
 use Rattle.wb_judged_dialog.specs.Dialog.{JudgedHosting, JudgedReply, answers, refuses, reply}
 use Rattle.wb_judged_dialog.specs.Refusals.{refused_line}
@@ -17,7 +17,7 @@ use Rattle.wb_judged_dialog.specs.Refusals.{refused_line}
 
 -- what is printed for a line, and one line more, which closes it
 abbrev pub block_of : JudgedReply → List ℕ
-block_of (answers s text) = text ++ ok_line (due_at s.today.host)
+block_of (answers s text) = text ++ ok_line (due_at s.dialog.host)
 block_of (refuses e) = refused_line e
 
 -- the host after a line: if it is refused, the one before
@@ -48,7 +48,7 @@ hosting_from s (line ∷ lines) = hosting_from (after s (reply_of s (met line)))
 
 -- no board is open
 abbrev pub unopened : Tuning → JudgedHosting
-unopened tuning = record { today = unopened_today tuning; board = None; judge = None }
+unopened tuning = record { dialog = unopened_dialog tuning; board = None; judge = None }
 
 -- what is written for an input, which is cut off if reading fails after it
 abbrev pub transcript : Tuning → Bool → List ℕ → List ℕ

@@ -15,9 +15,9 @@ use Rattle.wb_lines.specs.Taking.{met}
 use Rattle.wb_commands.specs.SentLines.{sends_text}
 use Rattle.wb_commands.specs.declared.command.Command.TheVariants as lines
 use Rattle.wb_dialog.specs.declared.line.DriverLine.{DriverLine}
-use Rattle.wb_dialog.specs.declared.line.DriverLine.TheVariants as today
+use Rattle.wb_dialog.specs.declared.line.DriverLine.TheVariants as driver
 use Rattle.wb_dialog.specs.Dialog.{ok_line}
-use Rattle.wb_dialog.specs.Hosting.{Kept, kept_reply, prints, transcript as today_transcript}
+use Rattle.wb_dialog.specs.Hosting.{Kept, kept_reply, prints, transcript as dialog_transcript}
 use Rattle.wb_judged_dialog.specs.declared.fault.JudgedRefusal.{JudgedRefusal}
 use Rattle.wb_judged_dialog.specs.declared.line.JudgedLine.TheVariants.{Call as Calls}
 use Rattle.wb_judged_dialog.specs.Dialog.{JudgedHosting, act, does, judged_in, refuses}
@@ -56,8 +56,8 @@ BeginsNoJudge (whole line) = judge_line_of (content line) ≡ None
 BeginsNoJudge too_long = Unit {0}
 
 -- If no line of an input says `judge`, what is written is what a host writes that knows no judge.
-abbrev pub UnjudgedAsToday : Type 0
-UnjudgedAsToday = (tuning : Tuning) (cut : Bool) (input : List ℕ) → All (λ line. BeginsNoJudge (met line)) (input_lines input) → transcript tuning cut input ≡ today_transcript tuning cut input
+abbrev pub UnjudgedAsDialog : Type 0
+UnjudgedAsDialog = (tuning : Tuning) (cut : Bool) (input : List ℕ) → All (λ line. BeginsNoJudge (met line)) (input_lines input) → transcript tuning cut input ≡ dialog_transcript tuning cut input
 
 -- ---- what a judged member does for a line
 
@@ -74,10 +74,10 @@ RecordBeforeSend = (call : Call) (h next : Judged) (text : List ℕ) → act (Ca
 
 -- the line with which a driver hands a self-managing host the same
 abbrev pub line_of_kept : KeptLine → DriverLine
-line_of_kept (CameIn now v) = today.Came now v
-line_of_kept (Ticked now) = today.Script (lines.Tick now)
-line_of_kept (Added now page time op) = today.Add (record { moment = now; time = time; page = page; op = op })
-line_of_kept (Tuned constants) = today.Script (lines.Tune constants)
+line_of_kept (CameIn now v) = driver.Came now v
+line_of_kept (Ticked now) = driver.Script (lines.Tick now)
+line_of_kept (Added now page time op) = driver.Add (record { moment = now; time = time; page = page; op = op })
+line_of_kept (Tuned constants) = driver.Script (lines.Tune constants)
 
 -- The self-managing host that is handed one line in its place, the same or a tick, comes to the same and sends the same, but for an echo that a
 -- report has besides.

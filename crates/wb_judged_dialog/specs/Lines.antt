@@ -24,7 +24,7 @@ use Rattle.wb_judging.specs.declared.call.Call.TheVariants.{CameFrom, DayTold, G
 use Rattle.wb_judging.specs.declared.record.RecordLine.{RecordLine}
 use Rattle.wb_judged_dialog.specs.declared.line.JudgeLine.{JudgeLine}
 use Rattle.wb_judged_dialog.specs.declared.line.JudgedLine.{JudgedLine}
-use Rattle.wb_judged_dialog.specs.declared.line.JudgedLine.TheVariants.{Call as Calls, Skip, Members, List as Lists, Paint, Since, Lacks, Words, Today}
+use Rattle.wb_judged_dialog.specs.declared.line.JudgedLine.TheVariants.{Call as Calls, Skip, Members, List as Lists, Paint, Since, Lacks, Words, Common}
 use Rattle.wb_judged_dialog.specs.Records.{record_of}
 use Rattle.wb_judged_dialog.specs.Words.{most64, number_or_none, origin, six_of, three_of}
 use Rattle.wb_policy.specs.declared.limits.TheConstants.{MAX_RATE}
@@ -167,7 +167,7 @@ added words' = drawn (adding_reading (timed words'))
 
 -- ---- all lines
 
--- The line with this first word and these further ones. A line that a judged host does not have for itself is one of today. What
+-- The line with this first word and these further ones. A line that a judged host does not have for itself is a common one. What
 -- follows `held` or `add` begins one space after it, so if it does not, it is wrong.
 unfoldable pub command : List ℕ → List (List ℕ) → Result JudgedLine LineFault
 command word arguments =
@@ -183,10 +183,10 @@ command word arguments =
     else (if bytes_eq word (codes "since") then since_line arguments
     else (if bytes_eq word (codes "lacks") then lacks_line arguments
     else (if bytes_eq word (codes "words") then words_line arguments
-    else Ok Today)))))))))))
+    else Ok Common)))))))))))
 
 abbrev pub line_of_words : List (List ℕ) → Result JudgedLine LineFault
-line_of_words [] = Ok Today
+line_of_words [] = Ok Common
 line_of_words (word ∷ arguments) = command word arguments
 
 -- by what follows the word `held`, or the word `add`
@@ -217,4 +217,4 @@ IsWithin (Lacks page) = Unit {0}
 IsWithin (Since page count) = Unit {0}
 IsWithin (Words v) = Unit {0}
 IsWithin (Paint page width height) = is_canvas_size width height ≡ true
-IsWithin Today = Unit {0}
+IsWithin Common = Unit {0}

@@ -214,6 +214,6 @@ pub(crate) fn answer(
         JudgedLine::Lacks { page } => lacks(alloc, member, *page, output),
         JudgedLine::Words { datagram } => words(alloc, datagram, output),
         JudgedLine::Skip => Ok(()),
-        JudgedLine::Today => Ok(()),
+        JudgedLine::Common => Ok(()),
     }
 }

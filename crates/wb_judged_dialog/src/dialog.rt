@@ -1,16 +1,16 @@
 //! A judged host as a handler of the lines of a driver: each line has its block.
 ghost use Rattle.std.specs.Prelude.{◌≡◌, [], false, None, Ok, Option, Some, true, IfOk, OnErr, OnOk, is_some};
 ghost use Rattle.wb_recovery.specs.Timing.{are_constants};
-ghost use Rattle.wb_dialog.specs.Doing.{Adds, BlocksAt as TodayBlocksAt, MayBeAt, kept_in};
-ghost use Rattle.wb_dialog.specs.Hosting.{Host as HostState, due_at, reply as reply_today};
+ghost use Rattle.wb_dialog.specs.Doing.{Adds, BlocksAt as DialogBlocksAt, MayBeAt, kept_in};
+ghost use Rattle.wb_dialog.specs.Hosting.{Host as HostState, due_at, reply as dialog_reply};
 ghost use Rattle.wb_dialog.specs.Lines.{line_of};
 ghost use Rattle.wb_dialog.specs.declared.fault.Refusal.TheVariants as host_refusals;
 ghost use Rattle.wb_keeping.specs.Performing.{KeptValue};
 ghost use Rattle.wb_judging.specs.Judged.{Judged};
 ghost use Rattle.wb_judging.specs.Performing.{JudgedValue};
-ghost use Rattle.wb_judged_dialog.specs.Dialog.{act, answers, board_after, judge_reply, judged_reply, refuses, reply, taken_reply, today_reply};
+ghost use Rattle.wb_judged_dialog.specs.Dialog.{act, answers, board_after, judge_reply, judged_reply, refuses, reply};
 ghost use Rattle.wb_judged_dialog.specs.Doing.{ActsAt, BlocksAt, IsSame, MayKeep, member_in, with_board, with_kept, with_member};
-ghost use Rattle.wb_judged_dialog.specs.Lines.{IsJudgeLine, IsWithin};
+ghost use Rattle.wb_judged_dialog.specs.Lines.{IsJudgeLine, IsWithin, judged_line_of};
 ghost use Rattle.wb_judged_dialog.specs.declared.fault.JudgedRefusal.TheVariants as refusals;
 
 use crate::answering::answer;
@@ -141,9 +141,9 @@ impl JudgedDialog {
 
     /// Prints what its dialog answers.
     fn hand(&mut self, alloc: Global, line: &[u8], output: &mut Output) -> Result<(), AllocError>
-        ensures text { Adds output.old output.new (λ written. TodayBlocksAt self.old.dialog.host
+        ensures text { Adds output.old output.new (λ written. DialogBlocksAt self.old.dialog.host
             self.new.dialog.host written result
-            (λ host. reply_today self.old.dialog.tuning host (line_of line.now))) }
+            (λ host. dialog_reply self.old.dialog.tuning host (line_of line.now))) }
         ensures same { IsSame self.old self.new }
     {
         self.dialog.answer(alloc, line, output)
@@ -190,15 +190,6 @@ impl JudgedDialog {
         Ok(())
     }
 
-    /// What a line does as at a host that is not judged.
-    fn pass(&mut self, alloc: Global, line: &[u8], output: &mut Output) -> Result<(), AllocError>
-        ensures text { Adds output.old output.new (λ written.
-            BlocksAt self.old self.new written result (λ s. today_reply s line.now)) }
-    {
-        self.note(alloc, line)?;
-        self.hand(alloc, line, output)
-    }
-
     /// What a line does at a judged member.
     fn act(
         &mut self,
@@ -224,38 +215,28 @@ impl JudgedDialog {
         }
     }
 
-    /// What a line does at a judged host, which may have it for itself.
+    /// What a line does at a judged member, which may have it for itself.
     fn judged(
         &mut self,
         alloc: Global,
+        member: JudgedMember,
         line: &[u8],
-        said: &JudgedLine,
         output: &mut Output,
     ) -> Result<(), AllocError>
-        requires { IsWithin said.now }
         ensures text { Adds output.old output.new (λ written.
-            BlocksAt self.old self.new written result (λ s. judged_reply s line.now (Ok said.now))) }
+            BlocksAt (with_member member self.old) self.new written result
+            (λ s. judged_reply s line.now (judged_line_of line.now))) }
     {
-        if let JudgedLine::Today = said {
-            return self.pass(alloc, line, output);
-        }
-        match self.take_member() {
-            Some(member) => self.act(alloc, member, said, output),
-            None => self.pass(alloc, line, output),
-        }
-    }
-
-    /// What a line does that does not begin to judge.
-    fn take(&mut self, alloc: Global, line: &[u8], output: &mut Output) -> Result<(), AllocError>
-        ensures text { Adds output.old output.new (λ written.
-            BlocksAt self.old self.new written result (λ s. taken_reply s line.now s.judge)) }
-    {
-        if self.judge.is_none() {
-            return self.pass(alloc, line, output);
-        }
         match read_judged(alloc, line) {
-            Ok(said) => self.judged(alloc, line, &said, output),
-            Err(Untaken::Line(fault)) => self.refuse_line(alloc, fault, output),
+            Ok(JudgedLine::Common) => {
+                self.put_member(member);
+                self.hand(alloc, line, output)
+            }
+            Ok(said) => self.act(alloc, member, &said, output),
+            Err(Untaken::Line(fault)) => {
+                self.put_member(member);
+                self.refuse_line(alloc, fault, output)
+            }
             Err(Untaken::Memory) => Err(AllocError),
         }
     }
@@ -361,10 +342,15 @@ impl JudgedDialog {
             BlocksAt self.old self.new written result (λ s. reply s line.now)) }
     {
         match read_judge(line) {
-            None => self.take(alloc, line, output),
-            Some(Ok(said)) => self.begin(alloc, said, output),
-            Some(Err(fault)) => self.refuse_line(alloc, fault, output),
+            None => {}
+            Some(Ok(said)) => return self.begin(alloc, said, output),
+            Some(Err(fault)) => return self.refuse_line(alloc, fault, output),
         }
+        if let Some(member) = self.take_member() {
+            return self.judged(alloc, member, line, output);
+        }
+        self.note(alloc, line)?;
+        self.dialog.answer(alloc, line, output)
     }
 }
 

@@ -1,6 +1,6 @@
 //! Laws of judged hosts, proved for all inputs. The functions do nothing: each stands here for its
 //! clause.
-ghost use Rattle.wb_judged_dialog.specs.Laws.{EachIsAnswered, JudgedIsKept, RecordBeforeSend, RefusedStays, UnjudgedAsToday};
+ghost use Rattle.wb_judged_dialog.specs.Laws.{EachIsAnswered, JudgedIsKept, RecordBeforeSend, RefusedStays, UnjudgedAsDialog};
 ghost use Rattle.wb_judged_dialog.specs.RecordLaws.{RecordsAreRead};
 
 /// A refused line leaves the host as it was.
@@ -15,7 +15,7 @@ pub fn each_line_is_answered()
 
 /// What is written for lines of which none says `judge` is what a host writes that knows no judge.
 pub fn unjudged_hosts_stay()
-    ensures { UnjudgedAsToday }
+    ensures { UnjudgedAsDialog }
 {}
 
 /// In each block of a judged host all that is to be recorded stands before all that is to be sent.

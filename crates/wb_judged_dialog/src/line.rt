@@ -56,6 +56,6 @@ pub enum JudgedLine {
     Words {
         datagram: Datagram,
     },
-    /// Any other line, which is answered as at a self-managing host.
-    Today,
+    /// Any other line: a common one, which is answered as at a self-managing host.
+    Common,
 }

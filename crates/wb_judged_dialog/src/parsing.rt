@@ -219,8 +219,8 @@ fn words_line(alloc: Global, rest: &[u8]) -> Result<JudgedLine, Untaken>
     Ok(JudgedLine::Words { datagram })
 }
 
-/// The line of these words. A word that a judged host does not have for itself begins a line of
-/// today.
+/// The line of these words. A word that a judged host does not have for itself begins a common
+/// line.
 #[tactic(auto, unfolding(crate::specs::Lines::command))]
 fn command(alloc: Global, word: &[u8], rest: &[u8]) -> Result<JudgedLine, Untaken>
     ensures line { Reads result (command word.now (words rest.now)) }
@@ -262,7 +262,7 @@ fn command(alloc: Global, word: &[u8], rest: &[u8]) -> Result<JudgedLine, Untake
     if is_word(word, b"words") {
         return words_line(alloc, rest);
     }
-    Ok(JudgedLine::Today)
+    Ok(JudgedLine::Common)
 }
 
 /// A line of the record, if it says something to a member.
@@ -350,7 +350,7 @@ pub(crate) fn read_judged(alloc: Global, line: &[u8]) -> Result<JudgedLine, Unta
         return added(alloc, words);
     }
     match next_word(line) {
-        None => Ok(JudgedLine::Today),
+        None => Ok(JudgedLine::Common),
         Some((word, rest)) => command(alloc, word, rest),
     }
 }

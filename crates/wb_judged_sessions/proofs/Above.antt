@@ -1,15 +1,15 @@
 -- The time of a drawing, by the times of what its page has; and what a judge lets in.
 use Rattle.std.proofs.Common.{◌≡◌, ◌≤◌, ◌<◌, ◌+◌, ◌^◌, ◌⊎◌, ◌∙◌, ℕ, Bool, true, false, cond, List, [], ◌∷◌, None, ap, arith, filter, inl, inr, length, map, refl, sym, true≢false, ⊎_elim}
 use Rattle.std.specs.Prelude.{Contains, ◌&&◌, max, nat_lt, not}
-use Rattle.std.proofs.lemmas.Bool.Decides.{nat_tests}
-use Rattle.std.proofs.lemmas.Grind.{common_steps}
 use Rattle.std.proofs.lemmas.List.{length_push}
 use Rattle.std.proofs.lemmas.List.Elements.{Contains-push_cases}
-use Rattle.wb_names.specs.Arrivals.{Clashed, Fresh, Known, Left, Outcome, history_with}
+use Rattle.std.proofs.lemmas.Bool.{lt-ltb, ltb-false}
+use Rattle.wb_names.specs.Arrivals.{Clash, New, Again, Left, Outcome, history_with}
 use Rattle.wb_names.specs.Orders.{same_page}
 use Rattle.wb_names.specs.Values.{DrawopValue}
 use Rattle.wb_names.specs.declared.name.PageId.{PageId}
 use Rattle.wb_names.proofs.Listings.{Contains-cases, Contains-here, Contains-none, Contains-there}
+use Rattle.wb_names.proofs.Orders.{same_page-itself}
 use Rattle.wb_judge.specs.Days.{time_of_day}
 use Rattle.wb_judge.specs.Judge.{Judge, knows}
 use Rattle.wb_judge.specs.Judging.{ahead_of, drawop_verdict, is_ahead, is_forged_drawop}
@@ -22,17 +22,6 @@ use Rattle.wb_judge.specs.declared.verdict.Verdict.{Verdict}
 use Rattle.wb_judge.specs.declared.verdict.Why.TheVariants.{Ahead, Own, Speaks}
 use Rattle.wb_keeping.specs.Drawings.{after_all, drawing_time, is_near}
 use Rattle.wb_keeping.specs.declared.limits.TheConstants.{AHEAD}
-
--- ---- numbers
-
-is_less : (a b : ℕ) → a < b → nat_lt a b ≡ true
-is_less a b lt = grind (arith, nat_tests)
-
-at_most : (a b : ℕ) → nat_lt a b ≡ false → b ≤ a
-at_most a b is = grind (arith, nat_tests)
-
-same_itself : (page : PageId) → same_page page page ≡ true
-same_itself page = grind (arith, common_steps, nat_tests)
 
 -- ---- the time of a drawing
 
@@ -62,8 +51,8 @@ module _ (page : PageId) (time : ℕ) where
   near_if : (d : DrawopValue) → d.name.page ≡ page → d.time < time + AHEAD → is_near page time d ≡ true
   near_if d on lt =
       ap (λ (p : PageId). same_page p page && nat_lt d.time (time + AHEAD)) on
-      ∙ ap (λ (b : Bool). b && nat_lt d.time (time + AHEAD)) (same_itself page)
-      ∙ is_less d.time (time + AHEAD) lt
+      ∙ ap (λ (b : Bool). b && nat_lt d.time (time + AHEAD)) (same_page-itself page)
+      ∙ lt-ltb d.time (time + AHEAD) lt
 
   -- it is at most one more than the greatest of a list, unless its user's clock shows more
   pub drawn_at_most : (list : List DrawopValue) (most : ℕ) → ((d : DrawopValue) → Contains list d → d.time ≤ most) → drawing_time list page time ≤ max time (most + 1)
@@ -82,7 +71,7 @@ ahead_at_most false = omega arith
 not_ahead : (known : Bool) (time now : ℕ) (j : Judge) → is_ahead known time now j ≡ false → time ≤ time_of_day j.clock now + AHEAD_KNOWN
 unfolding is_ahead
 not_ahead known time now j is =
-    let le = at_most (time_of_day j.clock now + ahead_of known) time is in
+    let le = ltb-false (time_of_day j.clock now + ahead_of known) time is in
     let most = ahead_at_most known in
     omega (arith, le, most)
 
@@ -113,13 +102,13 @@ pub later_within : (one other : ℕ) (held : List DrawopValue) → one ≤ other
 later_within one other held le each d c = let is = each d c in omega (arith, le, is)
 
 pub within_more : (latest : ℕ) (held : List DrawopValue) (d : DrawopValue) (o : Outcome) → IsWithin latest held
-    → ((place : ℕ) → o ≡ Fresh place → d.time ≤ latest + AHEAD_KNOWN + length held + 1) → IsWithin latest (history_with held d o)
-within_more latest held d (Fresh place) each new = λ x c.
+    → ((place : ℕ) → o ≡ New place → d.time ≤ latest + AHEAD_KNOWN + length held + 1) → IsWithin latest (history_with held d o)
+within_more latest held d (New place) each new = λ x c.
     let long = length_push held d in
     ⊎_elim
     (λ (before : Contains held x). let is = each x before in omega (arith, is, long))
     (λ (same : d ≡ x). let is = new place refl in let t : d.time ≡ x.time = ap (λ (y : DrawopValue). y.time) same in omega (arith, is, long, t))
     (Contains-push_cases held d x c)
-within_more latest held d (Known place) each new = each
-within_more latest held d (Clashed place) each new = each
+within_more latest held d (Again place) each new = each
+within_more latest held d (Clash place) each new = each
 within_more latest held d Left each new = each

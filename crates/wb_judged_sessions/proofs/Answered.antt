@@ -1,8 +1,8 @@
 -- Two members come to know each other by their reports.
-use Rattle.std.proofs.Common.{◌≡◌, ◌∙◌, ◌≤◌, ◌+◌, ℕ, Bool, true, false, cond, List, [], ◌∷◌, ◌++◌, ap, arith, refl, subst, sym, true≢false}
-use Rattle.std.specs.Prelude.{◌-◌, ◌&&◌, Contains, Option, None, Some, is_some, nat_eq, nat_le}
+use Rattle.std.proofs.Common.{◌≡◌, ◌∙◌, ◌≤◌, ◌+◌, ℕ, Bool, true, cond, List, [], ◌∷◌, ◌++◌, ap, arith, refl, subst, sym, true≢false}
+use Rattle.std.specs.Prelude.{◌-◌, Contains, Option, None, Some, is_some, nat_eq, nat_le}
 use Rattle.std.specs.List.{list_any}
-use Rattle.std.proofs.lemmas.Bool.{eq-eqb, le-leb}
+use Rattle.std.proofs.lemmas.Bool.{and_from, eq-eqb, le-leb}
 use Rattle.std.proofs.lemmas.Cmp.{nat_eq_equiv}
 use Rattle.std.proofs.lemmas.Map.Views.{list_any-from_Contains}
 use Rattle.std.proofs.lemmas.Option.{same_Some}
@@ -31,16 +31,11 @@ use Rattle.wb_judged_sessions.proofs.Terms.{own_at}
 
 -- ---- an echo that comes in time
 
-both : (a b : Bool) → a ≡ true → b ≡ true → (a && b) ≡ true
-both true true e f = refl
-both true false e f = f
-both false b e f = e
-
 pub answers_in_time : (heard : Heard) (moment now : ℕ) (j : Judge) (e : Echo) → IsInTime heard moment now j → e.sent ≡ heard.sent → e.held ≡ moment - heard.at → answers j.own (Some e) now ≡ true
 unfolding answers
 answers_in_time heard moment now j e t sent held =
-    both (list_any (nat_eq e.sent) j.own) _ (ap (λ (n : ℕ). list_any (nat_eq n) j.own) sent ∙ list_any-from_Contains nat_eq_equiv heard.sent j.own t.own)
-    (both (nat_le (now - e.sent) FRESH) _ (le-leb (now - e.sent) FRESH (fresh sent t.fresh)) (le-leb e.held (now - e.sent) (shorter sent held t.clocks))) where
+    and_from (list_any (nat_eq e.sent) j.own) _ (ap (λ (n : ℕ). list_any (nat_eq n) j.own) sent ∙ list_any-from_Contains nat_eq_equiv heard.sent j.own t.own)
+    (and_from (nat_le (now - e.sent) FRESH) _ (le-leb (now - e.sent) FRESH (fresh sent t.fresh)) (le-leb e.held (now - e.sent) (shorter sent held t.clocks))) where
       fresh : e.sent ≡ heard.sent → now ≤ heard.sent + FRESH → now - e.sent ≤ FRESH
       fresh same le = omega (arith, same, le)
 

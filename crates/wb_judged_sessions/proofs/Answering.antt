@@ -3,6 +3,7 @@ use Rattle.std.proofs.Common.{◌≡◌, ◌∙◌, ◌≤◌, ◌+◌, ℕ, Boo
 use Rattle.std.specs.Prelude.{◌≢◌, ◌&&◌, ◌||◌, Option, None, Some, is_none, nat_eq, not}
 use Rattle.std.proofs.lemmas.Bool.{and_parts, eq-eqb, false_from_ne_true}
 use Rattle.std.proofs.lemmas.Option.{none-some, same_Some}
+use Rattle.std.proofs.Math.Nat.{le_refl}
 use Rattle.wb_names.specs.Values.{MarkValue}
 use Rattle.wb_names.specs.declared.echo.Echo.{Echo}
 use Rattle.wb_names.specs.declared.name.PageId.{PageId}
@@ -27,6 +28,7 @@ use Rattle.wb_judge.specs.declared.verdict.Verdict.{Verdict}
 use Rattle.wb_judge.specs.declared.verdict.Warning.TheVariants.{ForgedMark, Impostor, Twin}
 use Rattle.wb_judge.specs.declared.verdict.Why.{Why}
 use Rattle.wb_judge.specs.declared.verdict.Why.TheVariants.{Crowd, Mark, Own, Speaks as Elsewhere}
+use Rattle.wb_judge.proofs.Outcome.{said_number}
 use Rattle.wb_judge.proofs.Sameness.{same_itself, same_origins}
 use Rattle.wb_keeping.specs.Laws.{Came}
 use Rattle.wb_judging.specs.Handing.{facts_of, handed_for, judge_after, verdict_on}
@@ -38,7 +40,7 @@ use Rattle.wb_judging.proofs.MembersIn.{each_kind_is_handed_in}
 use Rattle.wb_judged_sessions.specs.Answering.{AnswersAreHandedIn, AnswersMakeKnown, HasRoomFor, IsLeftKnown, KnownAreHandedIn, KnownGoOn, heard_at, heard_by_call, heard_by_line, is_report_of}
 use Rattle.wb_judged_sessions.specs.Knowing.{IsKnownSince, is_heard_since, is_known_since}
 use Rattle.wb_judged_sessions.specs.Sessions.{JudgedCall, Starts, Takes, after_call, judged_at}
-use Rattle.wb_judged_sessions.proofs.Numbers.{hear_others, of_entry, other_new, said_now, said_number}
+use Rattle.wb_judged_sessions.proofs.Numbers.{hear_others, of_entry, other_new, said_now}
 use Rattle.wb_judged_sessions.proofs.Origins.{from_there}
 use Rattle.wb_judged_sessions.proofs.Records.{number_at}
 use Rattle.wb_judged_sessions.proofs.Staying.{came, known_for, report_makes_known, speaks_since, stays_known}
@@ -103,25 +105,22 @@ let_in o s sent page marks echoes f j none = owned (is_forged s o j) refl none w
 
 -- ---- what a report that answers makes of a judge
 
-no_earlier : (now : ℕ) → now ≤ now
-no_earlier now = omega arith
-
 hears_known : (o : Origin) (number lacking now : ℕ) (j : Judge) → is_known_since o now (after_hearing o number true lacking now j).known ≡ true
 unfolding after_hearing after_fetching after_answer
 hears_known o number lacking now j = by (is_fetched (speaking o number true now j) lacking now j) where
   by : (fetch : Bool) → is_known_since o now (after_fetching fetch now (after_answer true o now j)).known ≡ true
-  by true = from_there o now now j.known (no_earlier now)
-  by false = from_there o now now j.known (no_earlier now)
+  by true = from_there o now now j.known (le_refl now)
+  by false = from_there o now now j.known (le_refl now)
 
 said_first : (fetch : Bool) (o : Origin) (number now : ℕ) (others : List Other) → is_heard_since o now (Some (said_now fetch o number true now others)) ≡ true
 unfolding numbers.spoken
 said_first fetch o number now others = let y = again (other_of number others) in by fetch (heard_again number o now (other_of number others)) y.0 y.1 where
   again : (x : Option Other) → (same_origin (heard_again number o now x).origin o ≡ true) × (now ≤ (heard_again number o now x).at)
-  again None = (same_itself o, no_earlier now)
+  again None = (same_itself o, le_refl now)
   again (Some x) = choose (same_origin x.origin o) refl where
     choose : (b : Bool) → same_origin x.origin o ≡ b → (let y : Other = cond b (record x { at = now }) (heard_first number o now) in (same_origin y.origin o ≡ true) × (now ≤ y.at))
-    choose true is = (is, no_earlier now)
-    choose false is = (same_itself o, no_earlier now)
+    choose true is = (is, le_refl now)
+    choose false is = (same_itself o, le_refl now)
 
   by : (fetch : Bool) (y : Other) → same_origin y.origin o ≡ true → now ≤ y.at → is_heard_since o now (Some (fetching_at fetch now (answering_at true now y))) ≡ true
   by true y from late = of_entry o now (fetching_at true now (answering_at true now y)) from refl late

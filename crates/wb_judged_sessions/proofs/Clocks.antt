@@ -8,14 +8,13 @@ use Rattle.wb_progress.specs.Turns.{IsNowAt, Terms}
 use Rattle.wb_member.specs.Opened.{present}
 use Rattle.wb_keeping.specs.Laws.{doing_of}
 use Rattle.wb_keeping.specs.Performing.{after_doing}
-use Rattle.wb_judging.specs.Handing.{handed, handed_for, recalled, verdict_on}
+use Rattle.wb_judging.specs.Handing.{handed, handed_for, verdict_on}
 use Rattle.wb_judging.specs.Judged.{Judged, moment_of}
 use Rattle.wb_judging.specs.declared.call.Call.{Call}
 use Rattle.wb_judging.specs.declared.call.Call.TheVariants.{CameFrom, DayTold, Garbled, GoneFrom, Held, Passed, UserDrew}
 use Rattle.wb_judging.specs.Laws.{after_all}
 use Rattle.wb_judging.specs.Performing.{after_judged, after_kept_line}
 use Rattle.wb_judging.specs.declared.record.RecordLine.{RecordLine}
-use Rattle.wb_judging.specs.declared.record.RecordLine.TheVariants.{Known, Mark, Said, Strange, Tick}
 use Rattle.wb_laws_kept.specs.Openings.{opened_host}
 use Rattle.wb_kept_progress.proofs.Moments.{moment_of as kept_moment, told_itself}
 use Rattle.wb_kept_progress.proofs.StillCalls.{IsTuning, call_now}
@@ -25,16 +24,9 @@ use Rattle.wb_judged_sessions.specs.Timely.{AreFittingSince, AreInOrder, IsFitti
 use Rattle.wb_judged_sessions.proofs.Records.{number_at}
 use Rattle.wb_judged_sessions.proofs.Reporting.{IsDueSoon, due_soon, first_soon}
 use Rattle.wb_judged_sessions.proofs.Terms.{IsOwn, fault_none, own_at}
-use Rattle.wb_judged_sessions.proofs.Timely.{present_recalled}
+use Rattle.wb_judged_sessions.proofs.Timely.{present_recalled, recalled_now}
 
 -- ---- one line
-
-recalled_moment : (line : RecordLine) (now : ℕ) → kept_moment (recalled now line) ≡ now
-recalled_moment (Tick past) now = refl
-recalled_moment (Said d) now = refl
-recalled_moment (Known d) now = refl
-recalled_moment (Strange d) now = refl
-recalled_moment (Mark speaker page mark) now = refl
 
 came_moment : (now : ℕ) (v : Datagram) (why : Option Why) → kept_moment (handed_for now v why) ≡ now
 came_moment now v None = refl
@@ -48,7 +40,7 @@ handed_moment (Passed now) h = refl
 handed_moment (UserDrew now page op) h = refl
 handed_moment (DayTold now wall) h = refl
 handed_moment (GoneFrom now o) h = refl
-handed_moment (Held line) h = recalled_moment line (present h.kept.host)
+handed_moment (Held line) h = recalled_now line (present h.kept.host)
 
 line_present : (line : Call) (h : Judged) (lag time : ℕ) → moment_of line h + lag ≤ time → present h.kept.host + lag ≤ time → present (after_judged line h).kept.host + lag ≤ time
 unfolding after_kept_line

@@ -1,7 +1,7 @@
 -- What a member holds is at most a day ahead of the latest time of day that it had. So if that goes back by less than a day, what its user draws comes after all of it.
 use Rattle.std.proofs.Common.{◌≡◌, ◌≤◌, ◌<◌, ◌+◌, ◌^◌, ◌∙◌, ℕ, Bool, true, false, cond, List, [], ◌∷◌, None, ap, arith, eqb-true, length, refl, subst, sym, ⊎_elim}
 use Rattle.std.specs.Prelude.{Contains, Option, Some, max, nat_eq}
-use Rattle.wb_names.specs.Arrivals.{Clashed, Fresh, Known as KnownDrawop, Left, Outcome, history_after, history_with, outcome_of}
+use Rattle.wb_names.specs.Arrivals.{Clash, New, Again, Left, Outcome, history_after, history_with, outcome_of}
 use Rattle.wb_names.specs.Values.{DrawopValue}
 use Rattle.wb_names.specs.declared.name.PageId.{PageId}
 use Rattle.wb_names.specs.declared.parts.Op.{Op}
@@ -27,6 +27,7 @@ use Rattle.wb_judging.specs.Laws.{drawops_in, drawops_of, is_told}
 use Rattle.wb_judging.specs.Performing.{after_judged, after_kept_line}
 use Rattle.wb_judging.specs.declared.record.RecordLine.{RecordLine}
 use Rattle.wb_judging.specs.declared.record.RecordLine.TheVariants.{Known, Mark, Said, Strange, Tick}
+use Rattle.wb_judging.proofs.Again.{cells_line, cells_of, held_by}
 use Rattle.wb_judging.proofs.Boards.{IsOther, held_drawn, held_heard, held_recalled, held_ticked}
 use Rattle.wb_judging.proofs.Followed.{nobody_moves_our_time}
 use Rattle.wb_judging.proofs.Histories.{fresh_is_new}
@@ -42,7 +43,7 @@ use Rattle.wb_judged_sessions.specs.Sessions.{JudgedCall, JudgedCallAt, Start, S
 use Rattle.wb_judged_sessions.specs.Terms.{AreTaken, IsItsFile, IsLineTaken, IsTaken, KeepFiles, file_at}
 use Rattle.wb_judged_sessions.proofs.Above.{IsWithin, drawn_after, drawn_at_most, later_within, let_in, within_more}
 use Rattle.wb_judged_sessions.proofs.Drawn.{gained_added, held_added, its}
-use Rattle.wb_judged_sessions.proofs.Records.{boards_are_files, cells_line, cells_of, files_are_whole, held_by, own_held, start_cells, start_held}
+use Rattle.wb_judged_sessions.proofs.Records.{boards_are_files, files_are_whole, own_held, start_cells, start_held}
 use Rattle.wb_judged_sessions.proofs.Terms.{IsOwn, fault_none, own_at}
 
 -- ---- the time of day goes on
@@ -282,9 +283,9 @@ module _ (numbers : ℕ → ℕ) where
 -- ---- a drawing
 
 drawn_one : (ours drawn : DrawopValue) (o : Outcome) → Contains (new_where drawn o) ours → drawn ≡ ours
-drawn_one ours drawn (Fresh place) c = one_of drawn ours c
-drawn_one ours drawn (KnownDrawop place) c = absurd (Contains-none ours c)
-drawn_one ours drawn (Clashed place) c = absurd (Contains-none ours c)
+drawn_one ours drawn (New place) c = one_of drawn ours c
+drawn_one ours drawn (Again place) c = absurd (Contains-none ours c)
+drawn_one ours drawn (Clash place) c = absurd (Contains-none ours c)
 drawn_one ours drawn Left c = absurd (Contains-none ours c)
 
 module _ (latest : ℕ) (h : Judged) (own : IsOwn h) (ours d : DrawopValue) (each : IsWithin latest (held_by h)) (few : length (held_by h) ≤ MAX_CELLS) (soon : IsSoon latest h)

@@ -1,8 +1,8 @@
 -- A judged member draws what the self-managing one at its place draws.
-use Rattle.std.proofs.Common.{◌≡◌, ℕ, Bool, true, false, cond, List, [], ◌∷◌, ◌++◌, ◌∙◌, None, ap, append-nil, drop, eqb-true, length, map, refl, sym}
+use Rattle.std.proofs.Common.{◌≡◌, ℕ, Bool, true, false, cond, List, [], ◌∷◌, ◌++◌, ◌∙◌, None, ap, drop, eqb-true, length, map, refl, sym}
 use Rattle.std.specs.Prelude.{Option, Some, nat_eq}
 use Rattle.std.proofs.lemmas.List.{drop_at}
-use Rattle.wb_names.specs.Arrivals.{Clashed, Fresh, Known as KnownDrawop, Left, Outcome, history_with}
+use Rattle.wb_names.specs.Arrivals.{Clash, New, Again, Left, Outcome, history_with}
 use Rattle.wb_names.specs.Values.{DrawopValue}
 use Rattle.wb_names.specs.declared.name.PageId.{PageId}
 use Rattle.wb_names.specs.declared.parts.Op.{Op}
@@ -23,6 +23,7 @@ use Rattle.wb_judging.specs.Laws.{expanded}
 use Rattle.wb_judging.specs.Performing.{after_judged, after_kept_line, gained}
 use Rattle.wb_judging.specs.declared.record.RecordLine.{RecordLine}
 use Rattle.wb_judging.specs.declared.record.RecordLine.TheVariants.{Known, Mark, Said, Strange, Tick}
+use Rattle.wb_judging.proofs.Again.{all_dropped}
 use Rattle.wb_laws_kept.specs.Sessions.{Begins, CallAt, kept_at, steps_of}
 use Rattle.wb_laws_kept.proofs.Honest.{IsGiven, came_given, moments_given, of_policy, ticks_given, timed_given}
 use Rattle.wb_laws_kept.proofs.Replaying.{lines_stay, none}
@@ -121,14 +122,11 @@ module _ (numbers : ℕ → ℕ) (time place : ℕ) where
 
 -- ---- a drawing
 
-drop_none : (h : List DrawopValue) → drop (length h) h ≡ []
-drop_none h = ap (λ (ds : List DrawopValue). drop (length h) ds) (sym (append-nil h)) ∙ drop_at h [] (length h) refl
-
 drop_new : (h : List DrawopValue) (d : DrawopValue) (o : Outcome) → drop (length h) (history_with h d o) ≡ new_where d o
-drop_new h d (Fresh place) = drop_at h (d ∷ []) (length h) refl
-drop_new h d (KnownDrawop place) = drop_none h
-drop_new h d (Clashed place) = drop_none h
-drop_new h d Left = drop_none h
+drop_new h d (New place) = drop_at h (d ∷ []) (length h) refl
+drop_new h d (Again place) = all_dropped h
+drop_new h d (Clash place) = all_dropped h
+drop_new h d Left = all_dropped h
 
 module _ (now : ℕ) (page : PageId) (told : ℕ) (op : Op) (k : Keeping) where
   abbrev pub its : DrawopValue

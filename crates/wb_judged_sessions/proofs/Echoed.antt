@@ -32,13 +32,14 @@ use Rattle.wb_judging.specs.Performing.{after_judged, after_kept_line, events_of
 use Rattle.wb_judging.specs.declared.record.RecordLine.{RecordLine}
 use Rattle.wb_judging.specs.declared.record.RecordLine.TheVariants.{Known as KnownLine, Mark, Said, Strange, Tick}
 use Rattle.wb_judging.proofs.AsKept.{sends_as_kept}
+use Rattle.wb_judging.proofs.Numbers.{me_judging}
 use Rattle.wb_kept_progress.proofs.Counted.{echoes_listed}
 use Rattle.wb_kept_progress.proofs.FirstLines.{lines_of_call}
 use Rattle.wb_judged_sessions.specs.Answering.{LastTakenIsEchoed, last_taken, taken_by}
 use Rattle.wb_judged_sessions.specs.Sessions.{JudgedCall, JudgedCallAt, Starts, Takes, after_call, judged_at, started}
 use Rattle.wb_judged_sessions.specs.Terms.{AreTaken, IsTaken}
 use Rattle.wb_judged_sessions.proofs.Records.{number_at}
-use Rattle.wb_judged_sessions.proofs.Sent.{echo_mine, me_judging}
+use Rattle.wb_judged_sessions.proofs.Sent.{echo_mine}
 use Rattle.wb_judged_sessions.proofs.TakenIn.{CallTells, IsQuiet, IsTimed, call_tells, lines_same, moment_in, newest_of, quiet_lines, senders}
 use Rattle.wb_judged_sessions.proofs.Terms.{fault_none, own_at}
 

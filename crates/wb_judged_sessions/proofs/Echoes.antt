@@ -10,7 +10,7 @@ use Rattle.std.proofs.lemmas.List.Elements.{Contains-append_cases, filter-append
 use Rattle.std.proofs.lemmas.List.Kept.{IsStrictlySortedBy-filter}
 use Rattle.std.proofs.lemmas.Map.Keys.{sorted_tail}
 use Rattle.std.proofs.lemmas.Option.{none-some, same_Some}
-use Rattle.wb_names.specs.Arrivals.{Outcome, Fresh, Known, Clashed, Left}
+use Rattle.wb_names.specs.Arrivals.{Outcome, New, Again, Clash, Left}
 use Rattle.wb_names.specs.Values.{DrawopValue, NameValue}
 use Rattle.wb_names.specs.declared.echo.Echo.{Echo}
 use Rattle.wb_names.specs.declared.entries.TheConstants.{MAX_ENTRIES}
@@ -306,9 +306,9 @@ answer_of me held heard v c = by (asks_for_pages me heard) c where
   by true c = let r = Any-from_map (λ (r : PageReport). PageState me r.page r.marks) (reports_of held) v c in subst (IsOfMember me) r.4 refl
 
 drawing_of : (me : ℕ) (d : DrawopValue) (o : Outcome) (v : Datagram) → Contains (said_where d o) v → IsOfMember me v
-drawing_of me d (Fresh i) v c = subst (IsOfMember me) (one_of (Draw d) v c) tt
-drawing_of me d (Known i) v c = subst (IsOfMember me) (one_of (Draw d) v c) tt
-drawing_of me d (Clashed i) v c = absurd (Contains-none v c)
+drawing_of me d (New i) v c = subst (IsOfMember me) (one_of (Draw d) v c) tt
+drawing_of me d (Again i) v c = subst (IsOfMember me) (one_of (Draw d) v c) tt
+drawing_of me d (Clash i) v c = absurd (Contains-none v c)
 drawing_of me d Left v c = absurd (Contains-none v c)
 
 line_sends : (line : Line) (host : Opened) → IsSaid host line → (v : Datagram) → Contains (sent_by_line line host) v → IsOfMember host.is.number v

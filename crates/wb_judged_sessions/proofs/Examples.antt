@@ -22,15 +22,12 @@ use Rattle.wb_judging.specs.declared.call.Call.TheVariants.{CameFrom, DayTold, G
 use Rattle.wb_judging.specs.Laws.{drawops_of}
 use Rattle.wb_judging.specs.Performing.{after_kept_line, sent_by_kept_line}
 use Rattle.wb_judging.specs.declared.record.RecordLine.{RecordLine}
-use Rattle.wb_laws_kept.specs.Openings.{IsOpening}
 use Rattle.wb_laws_sessions.specs.Sessions.{AreApart}
 use Rattle.wb_laws_sessions.proofs.Sending.{one_of}
 use Rattle.wb_judged_sessions.specs.Examples.{IsShared, again, at, deletes, drawing, drawn, both_started, file, heard, numbers, one_started, page, somewhere, start}
 use Rattle.wb_judged_sessions.specs.Sessions.{JudgedCall, JudgedCallAt, Start, Starts, Takes, WasHeld, drawn_at, judged_at}
 use Rattle.wb_judged_sessions.specs.Terms.{AreTaken, DrawopsWereHeld, IsItsFile, KeepFiles, KnowTheirOwn, KnowsItsOwn, brought_by, file_at}
-
-is_opening : (seed moment : ℕ) → IsOpening (start seed moment).opening
-is_opening seed moment = record { moments = (omega arith, tt); in_range = refl; small = omega arith }
+use Rattle.wb_judged_sessions.proofs.Meeting.{is_opening}
 
 -- ---- what is held, drawn and recorded
 

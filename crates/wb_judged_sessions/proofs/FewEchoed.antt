@@ -1,25 +1,19 @@
 -- A member that remembers few senders echoes them all.
-use Rattle.std.proofs.Common.{◌≡◌, ◌∙◌, ◌≤◌, ◌<◌, ◌+◌, ℕ, Bool, true, false, cond, List, [], ◌∷◌, ◌++◌, ap, arith, eqb-true, filter, get_or, length, refl, subst, sym, true≢false, ⊎_elim}
+use Rattle.std.proofs.Common.{◌≡◌, ◌∙◌, ◌≤◌, ◌<◌, ◌+◌, ℕ, Bool, true, false, cond, List, [], ◌∷◌, ◌++◌, ap, arith, eqb-true, filter, length, refl, subst, sym, true≢false, ⊎_elim}
 use Rattle.std.specs.Prelude.{◌-◌, ◌||◌, Contains, Option, None, Some, is_some, nat_eq, nat_le, nat_lt}
-use Rattle.std.specs.List.{cons_option, count_by, filter_map, find, list_any}
+use Rattle.std.specs.List.{count_by, filter_map, find, list_any}
 use Rattle.std.specs.Option.{option_or}
-use Rattle.std.specs.Ordering.{match_ordering, nat_cmp}
-use Rattle.std.specs.declared.cmp.Ordering.{Ordering}
-use Rattle.std.specs.declared.cmp.Ordering.TheVariants.{Equal, Greater, Less}
-use Rattle.std.proofs.lemmas.Bool.{eq-eqb, false_from_ne_true, leb-false, leb-true}
+use Rattle.std.proofs.lemmas.Bool.{eq-eqb, false_from_ne_true, leb-true, lt-ltb}
 use Rattle.std.proofs.lemmas.Bool.Decides.{nat_tests}
-use Rattle.std.proofs.lemmas.Grind.{common_steps}
 use Rattle.std.proofs.lemmas.List.Elements.{Contains-append_left, Contains-append_right}
 use Rattle.std.proofs.lemmas.List.Recursion.{is_count_by}
-use Rattle.std.proofs.lemmas.Map.Keys.{Less-from_sorted}
 use Rattle.std.proofs.lemmas.Option.{none-some}
-use Rattle.wb_names.specs.Ascending.{AreEchoes}
+use Rattle.std.proofs.Math.Bool.{or-true}
 use Rattle.wb_names.specs.declared.echo.Echo.{Echo}
 use Rattle.wb_names.specs.declared.entries.TheConstants.{MAX_ENTRIES}
 use Rattle.wb_names.proofs.Listings.{Contains-cases, Contains-filter, Contains-none, Contains-there}
-use Rattle.wb_gaps.specs.Sorting.{inserted, sorted}
 use Rattle.wb_keeper.specs.Keeper.{KeeperCall, heard_by, newest, remember, senders_of, session_heard}
-use Rattle.wb_keeper.specs.Sessions.{echo_cmp, echo_to as echo_of_sender}
+use Rattle.wb_keeper.specs.Sessions.{echo_to as echo_of_sender}
 use Rattle.wb_keeper.specs.declared.keeper.Heard.{Heard}
 use Rattle.wb_judge.specs.Adding.{own_echo}
 use Rattle.wb_judge.specs.Reports.{echo_to}
@@ -33,68 +27,16 @@ use Rattle.wb_judging.specs.Echoing.{placed, with_echo}
 use Rattle.wb_judging.specs.Handing.{handed}
 use Rattle.wb_judging.specs.Judged.{Judged, moment_of}
 use Rattle.wb_judging.specs.Performing.{after_judged, after_kept_line, judging}
+use Rattle.wb_judging.proofs.Numbers.{me_judging}
 use Rattle.wb_kept_progress.proofs.Counted.{echoes_listed}
+use Rattle.wb_kept_progress.proofs.Pauses.{mapped_few, sorted_few}
 use Rattle.wb_judged_sessions.specs.Answering.{FewAreEchoed}
 use Rattle.wb_judged_sessions.specs.Sessions.{JudgedCall, after_call, judged_at}
 use Rattle.wb_judged_sessions.proofs.Echoed.{IsReported, last_is, reported, taken_line, timed_line}
 use Rattle.wb_judged_sessions.proofs.Records.{number_at}
-use Rattle.wb_judged_sessions.proofs.Sent.{echo_mine, me_judging}
+use Rattle.wb_judged_sessions.proofs.Sent.{echo_mine}
 use Rattle.wb_judged_sessions.proofs.TakenIn.{CallTells, call_tells, moment_in, newest_of, remember_grows, senders}
 use Rattle.wb_judged_sessions.proofs.Terms.{own_at}
-
--- ---- as many echoes as senders, at most
-
-inserted_longer : (e : Echo) (es : List Echo) → length (inserted echo_cmp e es) ≤ length es + 1
-inserted_longer e [] = omega arith
-inserted_longer e (y ∷ ys) = by (echo_cmp e y) (inserted_longer e ys) where
-  by : (o : Ordering) → length (inserted echo_cmp e ys) ≤ length ys + 1 → length (match_ordering o (e ∷ y ∷ ys) (y ∷ ys) (y ∷ inserted echo_cmp e ys)) ≤ length (y ∷ ys) + 1
-  by Less rest = omega arith
-  by Equal rest = omega arith
-  by Greater rest = omega (arith, rest)
-
-module _ (me now : ℕ) where
-  echoes_few : (calls : List KeeperCall) (sources : List ℕ) → length (sorted echo_cmp (filter_map (echo_of_sender me calls now) sources)) ≤ length sources
-  echoes_few calls [] = omega arith
-  echoes_few calls (s ∷ sources) = by (echo_of_sender me calls now s) (echoes_few calls sources) where
-    some : List Echo
-    some = filter_map (echo_of_sender me calls now) sources
-
-    by : (o : Option Echo) → length (sorted echo_cmp some) ≤ length sources → length (sorted echo_cmp (cons_option o some)) ≤ length (s ∷ sources)
-    by None le = omega (arith, le)
-    by (Some e) le = let one = inserted_longer e (sorted echo_cmp some) in omega (arith, le, one)
-
-  senders_few : (calls : List KeeperCall) → length (senders_of me calls) ≤ MAX_ENTRIES
-  senders_few [] = omega arith
-  senders_few (call ∷ calls) = by (session_heard me call) (senders_few calls) where
-    known : List ℕ
-    known = senders_of me calls
-
-    room : (source : ℕ) (is full : Bool) → nat_le MAX_ENTRIES (length known) ≡ full → length known ≤ MAX_ENTRIES → length (cond (is || full) known (source ∷ known)) ≤ MAX_ENTRIES
-    room source true full e le = le
-    room source false true e le = le
-    room source false false e le = let lt = leb-false _ _ e in omega (arith, lt)
-
-    by : (told : Option (ℕ × Heard)) → length known ≤ MAX_ENTRIES → length (remember told known) ≤ MAX_ENTRIES
-    by None le = le
-    by (Some told) le = room told.0 (list_any (nat_eq told.0) known) (nat_le MAX_ENTRIES (length known)) refl le
-
-pub lawful : (host : Opened) → AreEchoes (echoes host)
-lawful host = record {
-  ascending = λ i j d lt within. below (get_or (echoes host) i d) (get_or (echoes host) j d) (Less-from_sorted echo_cmp (echoes host) i j d (echoes_listed me calls (present host)).rising lt within);
-  positive = λ i d lt. tt;
-  few = let a = echoes_few me (present host) calls (senders_of me calls) in let b = senders_few me (present host) calls in omega (arith, a, b);
-} where
-  me : ℕ
-  me = host.is.number
-
-  calls : List KeeperCall
-  calls = host.is.calls
-
-  less : (a b : ℕ) → nat_cmp a b ≡ Less → a < b
-  less a b e = grind (arith, common_steps, nat_tests)
-
-  below : (a b : Echo) → echo_cmp a b ≡ Less → a.source < b.source
-  below a b e = less a.source b.source e
 
 -- ---- whoever was heard is remembered
 
@@ -117,10 +59,7 @@ remembered me number (call ∷ calls) h few e = by (session_heard me call) few e
 
     is_there : list_any (nat_eq number) known ≡ true → (b : Bool) → list_any (nat_eq number) (cond b known (told.0 ∷ known)) ≡ true
     is_there there true = there
-    is_there there false = ap (λ (c : Bool). nat_eq number told.0 || c) there ∙ last (nat_eq number told.0) where
-      last : (a : Bool) → (a || true) ≡ true
-      last true = refl
-      last false = refl
+    is_there there false = ap (λ (c : Bool). nat_eq number told.0 || c) there ∙ or-true (nat_eq number told.0)
 
     comes : told.0 ≡ number → (c : Bool) → list_any (nat_eq told.0) known ≡ c → (full : Bool) → nat_le MAX_ENTRIES (length known) ≡ full
         → list_any (nat_eq number) (cond (c || full) known (told.0 ∷ known)) ≡ true
@@ -158,10 +97,7 @@ but_one p (e ∷ es) x c fails = ⊎_elim
       by false lt = omega (arith, lt)
 
 among_last : (es : List Echo) (e : Echo) → length es ≤ 32 → Contains es e → Contains (last_heard es) e
-among_last es e few c = Contains-filter (λ (f : Echo). nat_lt (count_by (λ (g : Echo). heard_later g f) es) 32) es e c (less (count_by (λ (g : Echo). heard_later g e) es) below) where
-  less : (n : ℕ) → n < 32 → nat_lt n 32 ≡ true
-  less n lt = grind (arith, nat_tests)
-
+among_last es e few c = Contains-filter (λ (f : Echo). nat_lt (count_by (λ (g : Echo). heard_later g f) es) 32) es e c (lt-ltb (count_by (λ (g : Echo). heard_later g e) es) 32 below) where
   below : count_by (λ (g : Echo). heard_later g e) es < 32
   below =
       let p : Echo → Bool = λ g. heard_later g e in
@@ -175,8 +111,10 @@ echoed_of number host h few is =
     let e : Echo = record { source = number; sent = h.sent; held = present host - h.at } in
     let listed = echoes_listed host.is.number host.is.calls (present host) in
     let some = ap (λ (b : Bool). cond b (newest_of number host) None) (remembered host.is.number number host.is.calls h few is) ∙ is in
-    let short = echoes_few host.is.number (present host) host.is.calls (senders host) in
-    (e, among_last (echoes host) e (omega (arith, short, few)) ((listed.members e).1 (h, some, refl, refl)), refl)
+    let told = filter_map (echo_of_sender host.is.number host.is.calls (present host)) (senders host) in
+    let short = sorted_few told in
+    let less = mapped_few (echo_of_sender host.is.number host.is.calls (present host)) (senders host) in
+    (e, among_last (echoes host) e (omega (arith, short, less, few)) ((listed.members e).1 (h, some, refl, refl)), refl)
 
 -- ---- with the own echo
 

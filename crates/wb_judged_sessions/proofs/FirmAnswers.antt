@@ -1,7 +1,7 @@
 -- A timer to answer with what is held stands until it is due, if no copy comes in, and then the drawop is sent.
-use Rattle.std.proofs.Common.{◌≡◌, ◌≤◌, ◌<◌, ◌+◌, ℕ, Bool, true, false, cond, List, [], ◌∷◌, ◌∙◌, Option, Some, None, ap, arith, filter, inl, inr, le-leb, leb-false, leb-true, refl, subst, sym, true≢false, ⊎_elim}
+use Rattle.std.proofs.Common.{◌≡◌, ◌≤◌, ◌<◌, ◌+◌, ℕ, Bool, true, false, cond, List, [], ◌∷◌, ◌∙◌, Option, Some, None, ap, arith, filter, inl, inr, le-leb, refl, subst, sym, true≢false, ⊎_elim}
 use Rattle.std.specs.Prelude.{◌⊎◌, ◌&&◌, Contains, is_none, is_some, max, nat_eq, nat_le}
-use Rattle.std.proofs.lemmas.Bool.{false_from_ne_true}
+use Rattle.std.proofs.lemmas.Bool.{cases_lt, false_from_ne_true, lt-leb}
 use Rattle.std.proofs.lemmas.List.Elements.{Contains-append_left}
 use Rattle.wb_names.specs.History.{IsHistory, highest}
 use Rattle.wb_names.specs.Marks.{mark_of}
@@ -10,7 +10,7 @@ use Rattle.wb_names.specs.Values.{DrawopValue, NameValue}
 use Rattle.wb_names.specs.declared.name.PageId.{PageId}
 use Rattle.wb_names.specs.declared.parts.Op.{Op}
 use Rattle.wb_names.proofs.Listings.{Contains-from_filter}
-use Rattle.wb_names.proofs.Orders.{same_name-is}
+use Rattle.wb_names.proofs.Orders.{same_name-here, same_name-is}
 use Rattle.wb_codec.specs.declared.datagram.Datagram.{Datagram}
 use Rattle.wb_codec.specs.declared.datagram.Datagram.TheVariants.{AskPages, Draw, PageState, Request, Session}
 use Rattle.wb_recovery.specs.Events.{Asked, Event, constants_after, due_asks, names_of, timers_of, word_for}
@@ -24,7 +24,7 @@ use Rattle.wb_recovery.proofs.StoppedNames.{not_received, timers_receipts}
 use Rattle.wb_keeper.specs.Hearing.{asks_for_held, marks_heard}
 use Rattle.wb_keeper.specs.Keeper.{asked_by, delay_to, holds as history_holds, received_of}
 use Rattle.wb_keeper.specs.Ticks.{stopped_after}
-use Rattle.wb_keeper.proofs.KeptCalls.{holds_from, same_here}
+use Rattle.wb_keeper.proofs.KeptCalls.{holds_from}
 use Rattle.wb_progress.specs.Keepers.{constants_at}
 use Rattle.wb_progress.proofs.OneCall.{received_from, ticks_answer}
 use Rattle.wb_member.specs.Judged.{asked_names}
@@ -38,7 +38,8 @@ use Rattle.wb_keeping.specs.Performing.{Keeping, after_doing, after_line, after_
 use Rattle.wb_keeping.proofs.EachLine.{Each, OfPolicy, ends_each, hears_each, then_each, timed_each}
 use Rattle.wb_keeping.proofs.StandingTimers.{stands_in}
 use Rattle.wb_kept_progress.proofs.Lines.{Rests, line_rests, lines_grow}
-use Rattle.wb_kept_progress.proofs.PerLine.{line_moment}
+use Rattle.wb_kept_progress.proofs.Performed.{IsNoTick}
+use Rattle.wb_kept_progress.proofs.StillCalls.{line_now}
 
 -- ---- names that have come
 
@@ -58,26 +59,6 @@ not_arrived host y n never =
     let none : is_received (received_of delays names) n ≡ false = false_from_ne_true _ (λ e.
     let c = Contains-from_filter (history_holds (accepted y host).is.held) (y.name ∷ []) n (received_from delays names n e) in never (one_of y.name n c.0, c.1)) in
     timers_receipts host.is.constants (present host) (events host) (received_of delays names) n ∙ not_received (present host) n (timers_of host.is.constants (events host) n) (received_of delays names) none
-
--- ---- moments
-
-pub is_due : (due now : ℕ) → (now < due) ⊎ (due ≤ now)
-is_due due now = by (nat_le due now) refl where
-  by : (b : Bool) → nat_le due now ≡ b → (now < due) ⊎ (due ≤ now)
-  by true e = inr (leb-true due now e)
-  by false e = inl (leb-false due now e)
-
-pub not_due : (due now : ℕ) → now < due → nat_le due now ≡ false
-not_due due now lt = false_from_ne_true (nat_le due now) (λ e. let le = leb-true due now e in absurd (omega (arith, le, lt)))
-
-abbrev pub IsNoTick : Line → Type 0
-IsNoTick line = (now : ℕ) → line ≡ Ticks now → ⊥
-
-pub line_now : (line : Line) (host : Opened) → IsNoTick line → present (after_line line host) ≡ present host
-line_now line host none = ⊎_elim
-    (λ (same : present (after_line line host) ≡ present host). same)
-    (λ (t : (now : ℕ) × (line ≡ Ticks now) × (present (after_line line host) ≡ now)). absurd (none t.0 t.1))
-    (line_moment line host)
 
 -- ---- a line
 
@@ -124,7 +105,7 @@ module _ (d : DrawopValue) (a : AnswerTimer) where
   arrival : (y : DrawopValue) (host : Opened) → same_name y.name n ≡ false → Answers host → Answers (accepted y host)
   arrival y host other is = record {
     held = (lines_grow (Arrives y ∷ []) host).kept d is.held;
-    set = subst AreSet (sym (not_arrived host y n (λ c. true≢false (sym (same_here y.name n c.0) ∙ other)))) is.set;
+    set = subst AreSet (sym (not_arrived host y n (λ c. true≢false (sym (same_name-here y.name n c.0) ∙ other)))) is.set;
   }
 
   asked_set : (t : Tuning) (held : Bool) (now delay word : ℕ) (s : Timers) → AreSet s → AreSet (asked t held now delay word s)
@@ -170,7 +151,8 @@ module _ (d : DrawopValue) (a : AnswerTimer) where
   line_keeps (Says (PageState sender page marks)) host safe is = is
 
   no_tick : (line : Line) → IsSafe line → IsNoTick line
-  no_tick line safe now e = subst IsSafe e safe
+  no_tick (Ticks now) safe = safe
+  no_tick line safe = tt
 
   -- behind lines at a moment
   pub record AnswersAt (now : ℕ) (host : Opened) : Type 0 where
@@ -211,7 +193,7 @@ module _ (d : DrawopValue) (a : AnswerTimer) where
     answer : (timers (after_line (Ticks now) host)).answer ≡ Some a
     answer =
         ap (λ (s : Timers). fired_answer now s.answer) same ∙ ap (fired_answer now) is.set.1
-        ∙ ap (λ (b : Bool). cond b None (Some a)) (not_due a.due now before)
+        ∙ ap (λ (b : Bool). cond b None (Some a)) (lt-leb a.due now before)
 
   tick_sends : (now : ℕ) (host : Opened) → a.due ≤ now → IsHistory host.is.held → Answers host → Contains (sent_by_line (Ticks now) host) (Draw d)
   tick_sends now host due once is =
@@ -229,7 +211,7 @@ module _ (d : DrawopValue) (a : AnswerTimer) where
       (λ (lt : now < a.due). inr (subst (λ (ls : List Line). AnswersAt now (after_lines ls host)) (sym split) (lines_keep now rest (after_line (Ticks now) host) (safe lt) (tick_keeps now host lt is)), lt))
       (λ (le : a.due ≤ now). inl (subst (λ (ls : List Line). Contains (sent_by_lines ls host) (Draw d)) (sym split)
       (Contains-append_left (sent_by_line (Ticks now) host) (sent_by_lines rest (after_line (Ticks now) host)) (Draw d) (tick_sends now host le once is))))
-      (is_due a.due now)
+      (cases_lt now a.due)
 
   safe_lines : OfPolicy IsSafe
   safe_lines = record {

@@ -2,7 +2,7 @@
 -- before or the name is given up.
 use Rattle.std.proofs.Common.{◌≡◌, ◌≤◌, ◌<◌, ℕ, Bool, true, false, cond, List, [], ◌∷◌, ◌++◌, ◌∙◌, Option, Some, None, ap, inl, inr, le-leb, refl, subst, sym, true≢false, ⊎_elim}
 use Rattle.std.specs.Prelude.{◌⊎◌, ◌||◌, Contains, is_some, nat_eq, not}
-use Rattle.std.proofs.lemmas.Bool.{false_from_ne_true}
+use Rattle.std.proofs.lemmas.Bool.{cases_lt, false_from_ne_true, lt-leb}
 use Rattle.std.proofs.lemmas.List.Elements.{Contains-append_left}
 use Rattle.wb_names.specs.Orders.{same_name}
 use Rattle.wb_names.specs.Values.{DrawopValue, NameValue}
@@ -35,9 +35,9 @@ use Rattle.wb_keeping.specs.Performing.{Keeping, after_line, after_lines, sees, 
 use Rattle.wb_keeping.proofs.EachLine.{Each}
 use Rattle.wb_kept_progress.proofs.FirstLines.{AreLinesOf, IsLineOf, lines_of_call}
 use Rattle.wb_kept_progress.proofs.Lines.{lines_grow}
-use Rattle.wb_kept_progress.proofs.Performed as performed
-use Rattle.wb_kept_progress.proofs.Performed.{AreNoTicks, Begins, adds_begin, came_begins, ticks_begin}
-use Rattle.wb_judged_sessions.proofs.FirmAnswers.{IsNoTick, is_due, line_now, not_arrived, not_due, not_stopped}
+use Rattle.wb_kept_progress.proofs.Performed.{AreNoTicks, Begins, IsNoTick, adds_begin, came_begins, ticks_begin}
+use Rattle.wb_kept_progress.proofs.StillCalls.{line_now}
+use Rattle.wb_judged_sessions.proofs.FirmAnswers.{not_arrived, not_stopped}
 
 -- what is held stays
 held_on : (lines : List Line) (host : Opened) (n : NameValue) → history_holds host.is.held n ≡ true → history_holds (after_lines lines host).is.held n ≡ true
@@ -160,7 +160,8 @@ module _ (n : NameValue) (x : AskTimer) where
   line_goes (Says (PageState sender page marks)) host safe is = inl is
 
   no_tick : (line : Line) → IsSafe line → IsNoTick line
-  no_tick line safe now e = subst IsSafe e safe
+  no_tick (Ticks now) safe = safe
+  no_tick line safe = tt
 
   -- ---- lines
 
@@ -215,7 +216,7 @@ module _ (n : NameValue) (x : AskTimer) where
     ask : (timers (after_line (Ticks now) host)).ask ≡ Some x
     ask =
         ap (λ (s : Timers). fired_ask t now word s.ask) same ∙ ap (fired_ask t now word) is.stands
-        ∙ ap (λ (b : Bool). Some (cond b (backed_off t x now x.delay word) x)) (not_due x.due now before)
+        ∙ ap (λ (b : Bool). Some (cond b (backed_off t x now x.delay word) x)) (lt-leb x.due now before)
 
   tick_sends : (now : ℕ) (host : Opened) → x.due ≤ now → Waits host → Contains (sent_by_line (Ticks now) host) (Request host.is.number n)
   tick_sends now host due is = ticks_ask host.is.number host.is.constants host.is.calls host.is.held now n (ap (is_ask_due now) is.stands ∙ le-leb x.due now due) is.lacks
@@ -238,13 +239,13 @@ module _ (n : NameValue) (x : AskTimer) where
       ))
       (λ (le : x.due ≤ now). inl (subst (λ (ls : List Line). Contains (sent_by_lines ls host) (Request host.is.number n)) (sym split)
       (Contains-append_left (sent_by_line (Ticks now) host) (sent_by_lines rest (after_line (Ticks now) host)) (Request host.is.number n) (tick_sends now host le is))))
-      (is_due x.due now)
+      (cases_lt now x.due)
 
   -- no request for the name is handed in
   abbrev pub NotAsked : KeptLine → Type 0
   NotAsked call = (now asker : ℕ) → call ≡ Came now (Request asker n) → ⊥
 
-  safe_line : (call : KeptLine) (start host : Opened) (line : Line) → IsLineOf call start host line → performed.IsNoTick line → NotAsked call → IsSafe line
+  safe_line : (call : KeptLine) (start host : Opened) (line : Line) → IsLineOf call start host line → IsNoTick line → NotAsked call → IsSafe line
   safe_line call start host (Ticks now) is none other = absurd none
   safe_line call start host (Arrives y) is none other = tt
   safe_line call start host (Hears (Draw y)) is none other = tt

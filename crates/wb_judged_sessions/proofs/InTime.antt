@@ -27,6 +27,7 @@ use Rattle.wb_judging.specs.Performing.{events_of, judging, sent_by_kept_line}
 use Rattle.wb_judging.specs.declared.record.RecordLine.{RecordLine}
 use Rattle.wb_judging.proofs.AsKept.{sends_as_kept}
 use Rattle.wb_judging.proofs.MembersIn.{needed_is_handed_in}
+use Rattle.wb_judging.proofs.Numbers.{me_judging}
 use Rattle.wb_laws_kept.specs.Sessions.{CallAt, Handed, kept_at}
 use Rattle.wb_kept_progress.specs.Since.{IsHandedIn, IsSpared, IsTimelyWithStarts, WasSentBy as WasKeptSent, called_at as kept_called_at}
 use Rattle.wb_judged_sessions.specs.Sessions.{JudgedCallAt, Takes, judged_at, kept_calls, plain, plain_line}
@@ -36,7 +37,7 @@ use Rattle.wb_judged_sessions.proofs.Drawn.{DrawsNone, came_draws}
 use Rattle.wb_judged_sessions.proofs.Echoes.{call_sends, plain_again}
 use Rattle.wb_judged_sessions.proofs.Kept.{at, calls_split, judged_is_kept}
 use Rattle.wb_judged_sessions.proofs.Plain.{plain_sent}
-use Rattle.wb_judged_sessions.proofs.Sent.{echo_mine, line_sends, me_judging}
+use Rattle.wb_judged_sessions.proofs.Sent.{echo_mine, line_sends}
 use Rattle.wb_judged_sessions.proofs.Terms.{fault_none, own_at, taken_kept}
 use Rattle.wb_judged_sessions.proofs.Timely.{FromLine, called_kept, fit_kept, from_line, order_kept, order_part, takes_is, taken_at}
 

@@ -56,7 +56,7 @@ whole_plain now (PageState sender on marks) k whole = whole
 abbrev NoStart : ℕ → CallAt → Type 0
 NoStart i c = (o : Opening) (given : List Datagram) → c.place ≡ i → c.call ≡ Begins o given → ⊥
 
-not_begun : (line : KeptLine) (o : Opening) (given : List Datagram) → Handed line ≡ Begins o given → ⊥
+pub not_begun : (line : KeptLine) (o : Opening) (given : List Datagram) → Handed line ≡ Begins o given → ⊥
 not_begun line o given e = cc
 
 -- some calls come before these, none of which is a start at the place

@@ -1,11 +1,12 @@
 -- What a judge has heard of a number stays after each datagram, if nobody answers under that number from elsewhere.
 use Rattle.std.proofs.Common.{◌≡◌, ◌⊎◌, ◌∙◌, ◌≤◌, ◌<◌, ◌+◌, ◌-◌, ℕ, zero, suc, Bool, true, false, cond, List, [], ◌∷◌, ap, arith, filter, inl, inr, length, refl, subst, sym, true≢false, ⊎_elim}
-use Rattle.std.specs.Prelude.{◌&&◌, ◌||◌, IfSome, Option, None, Some, is_none, is_some, nat_eq, nat_le, nat_lt, not, unwrap_or}
+use Rattle.std.specs.Prelude.{◌&&◌, ◌||◌, Option, None, Some, is_none, is_some, nat_eq, nat_le, nat_lt, not, unwrap_or}
 use Rattle.std.specs.List.{find, list_any, position_or_len, remove}
 use Rattle.std.specs.Option.{option_or}
-use Rattle.std.proofs.lemmas.Bool.{and_parts, eq-eqb, eqb-true}
+use Rattle.std.proofs.lemmas.Bool.{and_from, and_parts, eq-eqb, eqb-true, le-leb, leb-true, lt-ltb, or_right}
 use Rattle.std.proofs.lemmas.Bool.Decides.{nat_tests}
 use Rattle.std.proofs.lemmas.List.Folds.{find-append}
+use Rattle.std.proofs.lemmas.Option.{same_Some}
 use Rattle.wb_names.specs.Values.{MarkValue}
 use Rattle.wb_names.specs.declared.echo.Echo.{Echo}
 use Rattle.wb_names.specs.declared.name.PageId.{PageId}
@@ -14,7 +15,7 @@ use Rattle.wb_codec.specs.declared.datagram.Datagram.TheVariants.{AskPages, Draw
 use Rattle.wb_judge.specs.Answers.{answers}
 use Rattle.wb_judge.specs.Buckets.{has_room}
 use Rattle.wb_judge.specs.Judge.{Judge, is_another, is_forged, owner_in}
-use Rattle.wb_judge.specs.Judging.{after_admitted, after_admitting, after_answer, after_coming, after_fetching, after_hearing, after_judging, after_own, after_report, after_said, answering_at, fetching_at, is_admitted, is_elsewhere, is_fetched, is_forged_mark, is_heard, is_twin, paid_for, speaking, with_payment}
+use Rattle.wb_judge.specs.Judging.{after_admitted, after_admitting, after_answer, after_coming, after_fetching, after_hearing, after_judging, after_own, after_report, after_said, answering_at, fetching_at, is_admitted, is_elsewhere, is_fetched, is_forged_mark, is_heard, paid_for, speaking, with_payment}
 use Rattle.wb_judge.specs.Laws.{is_answer, speaker_in}
 use Rattle.wb_judge.specs.Origins.{same_origin}
 use Rattle.wb_judge.specs.Others as numbers
@@ -25,9 +26,10 @@ use Rattle.wb_judge.specs.declared.limits.TheConstants.{MOST_OTHERS, NEW_AHEAD, 
 use Rattle.wb_judge.specs.declared.origin.Origin.{Origin}
 use Rattle.wb_judge.specs.declared.others.Other.{Other}
 use Rattle.wb_judge.specs.declared.report.Report.{Report}
-use Rattle.wb_judge.proofs.Outcome.{Heard, Same, outcome}
+use Rattle.wb_judge.proofs.NumbersBeside.{find_kept}
+use Rattle.wb_judge.proofs.Outcome.{Heard, Same, outcome, said_number}
 use Rattle.wb_judge.proofs.Sameness.{same_origins}
-use Rattle.wb_judge.proofs.Twins.{numbers_stay}
+use Rattle.wb_judge.proofs.Twins.{numbers_stay, own_others}
 use Rattle.wb_judged_sessions.specs.Knowing.{is_heard_since}
 
 abbrev has : ℕ → Other → Bool
@@ -49,9 +51,6 @@ record Goes (may : Other → Bool) (xs : List Other) (place : ℕ) : Type 0 wher
 next : (k : ℕ) → suc k ≡ 1 + k
 next k = omega arith
 
-same_one : (x y : Other) → Some x ≡ Some y → x ≡ y
-same_one x y e = cc
-
 -- the first that may go does so
 goes : (may : Other → Bool) (xs : List Other) → list_any may xs ≡ true → Goes may xs (position_or_len may xs)
 goes may [] some = absurd (true≢false (sym some))
@@ -59,7 +58,7 @@ goes may (x ∷ xs) some = by (may x) refl some (goes may xs) where
   here : may x ≡ true → (q : Other → Bool) (y : Other) → find q (x ∷ xs) ≡ Some y → may y ≡ false → find q xs ≡ Some y
   here is q y found stays = by (q x) found where
     by : (c : Bool) → cond c (Some x) (find q xs) ≡ Some y → find q xs ≡ Some y
-    by true found = absurd (true≢false (sym is ∙ ap may (same_one x y found) ∙ stays))
+    by true found = absurd (true≢false (sym is ∙ ap may (same_Some x y found) ∙ stays))
     by false found = found
 
   there : (k : ℕ) → Goes may xs k → (q : Other → Bool) (y : Other) → find q (x ∷ xs) ≡ Some y → may y ≡ false → find q (x ∷ remove xs k) ≡ Some y
@@ -84,9 +83,6 @@ all_count (x ∷ xs) none = by x.answered none (all_count xs) where
   by None none rest = absurd (true≢false none)
   by (Some at) none rest = let r = rest none in omega (arith, r)
 
-less : (k n : ℕ) → k < n → nat_lt k n ≡ true
-less k n lt = grind (arith, nat_tests)
-
 found_in_place : (q : Other → Bool) (xs : List Other) (y : Other) → length (filter has_answered xs) < MOST_OTHERS → has_answered y ≡ true → find q xs ≡ Some y → find q (with_place_for xs) ≡ Some y
 found_in_place q xs y room answered found = by (nat_lt (length xs) MOST_OTHERS) refl where
   stays : is_unanswered y ≡ false
@@ -105,7 +101,7 @@ found_in_place q xs y room answered found = by (nat_lt (length xs) MOST_OTHERS) 
   by true few = found
   by false full =
       let g = goes is_unanswered xs (some full) in
-      ap (λ (c : Bool). find q (remove xs (unwrap_or (cond c (Some (position_or_len is_unanswered xs)) None) 0))) (less (position_or_len is_unanswered xs) (length xs) g.within) ∙ g.still q y found stays
+      ap (λ (c : Bool). find q (remove xs (unwrap_or (cond c (Some (position_or_len is_unanswered xs)) None) 0))) (lt-ltb (position_or_len is_unanswered xs) (length xs) g.within) ∙ g.still q y found stays
 
 -- ---- who is looked for, where one is taken out
 
@@ -117,15 +113,6 @@ fewer_count r p (x ∷ xs) = by (p x) (r x) refl (fewer_count r p xs) where
   by true false is le = subst (λ (d : Bool). length (cond d (x ∷ filter r (filter p xs)) (filter r (filter p xs))) ≤ length (filter r xs)) (sym is) le
   by false true is le = omega (arith, le)
   by false false is le = le
-
-find_kept : (q p : Other → Bool) → ((x : Other) → q x ≡ true → p x ≡ true) → (xs : List Other) → find q (filter p xs) ≡ find q xs
-find_kept q p so [] = refl
-find_kept q p so (x ∷ xs) = by (p x) refl (q x) refl (find_kept q p so xs) where
-  by : (b : Bool) → p x ≡ b → (c : Bool) → q x ≡ c → find q (filter p xs) ≡ find q xs → find q (cond b (x ∷ filter p xs) (filter p xs)) ≡ cond c (Some x) (find q xs)
-  by true is true at rest = ap (λ (d : Bool). cond d (Some x) (find q (filter p xs))) at
-  by true is false at rest = ap (λ (d : Bool). cond d (Some x) (find q (filter p xs))) at ∙ rest
-  by false is true at rest = absurd (true≢false (sym (so x at) ∙ is))
-  by false is false at rest = rest
 
 -- none is found where all were taken out, also if one more goes
 none_found : (q p : Other → Bool) → ((x : Other) → q x ≡ true → p x ≡ false) → (xs : List Other) → list_any q (filter p xs) ≡ false
@@ -248,13 +235,6 @@ report_others o r f j = by (is_elsewhere o r answer f.at j || not (is_admitted o
   by true = inl refl
   by false = admitted_others o r answer f j (after_admitting o r.speaker answer f.at j) (admit_others o r.speaker answer f.at j)
 
-own_others : (sent : ℕ) (r : Report) (now : ℕ) (j : Judge) → (after_own sent r now j).others ≡ j.others
-unfolding after_own
-own_others sent r now j = by (list_any (nat_eq sent) j.own) (record j { alien = Some (record { sent = sent; at = now }); has_twin = j.has_twin || is_twin sent r now j }) refl where
-  by : (b : Bool) (k : Judge) → k.others ≡ j.others → (let m : Judge = cond b j k in m.others) ≡ j.others
-  by true k same = refl
-  by false k same = same
-
 said_others : (o : Origin) (number : ℕ) (answer : Bool) (now : ℕ) (i j ours theirs : Judge) → j.others ≡ i.others → ours.others ≡ i.others → (theirs.others ≡ i.others) ⊎ Spoke o number answer now i.others theirs
     → ((after_said o number j ours theirs).others ≡ i.others) ⊎ Spoke o number answer now i.others (after_said o number j ours theirs)
 said_others o number answer now i j ours theirs same own rest = by (is_forged number o j) (nat_eq number j.me) where
@@ -298,17 +278,6 @@ spoken_in o (AskPages asker) f j = inl (silent o (AskPages asker) f j refl)
 
 -- ---- who was heard
 
-both : (a b : Bool) → a ≡ true → b ≡ true → (a && b) ≡ true
-both true true e f = refl
-both true false e f = f
-both false b e f = e
-
-le_true : (a b : ℕ) → a ≤ b → nat_le a b ≡ true
-le_true a b le = grind (arith, nat_tests)
-
-true_le : (a b : ℕ) → nat_le a b ≡ true → a ≤ b
-true_le a b is = grind (arith, nat_tests)
-
 -- which entry that is
 record Entry (o : Origin) (number at : ℕ) (others : List Other) : Type 0 where
   x : Other
@@ -324,35 +293,10 @@ entry_of o number at others heard = by (other_of number others) refl heard where
   by (Some x) is e =
       let one = and_parts (same_origin x.origin o) _ e in
       let two = and_parts (is_some x.answered) (nat_le at x.at) one.1 in
-      record { x = x; found = is; origin = one.0; answered = two.0; late = true_le at x.at two.1 }
+      record { x = x; found = is; origin = one.0; answered = two.0; late = leb-true at x.at two.1 }
 
 pub of_entry : (o : Origin) (at : ℕ) (x : Other) → same_origin x.origin o ≡ true → is_some x.answered ≡ true → at ≤ x.at → is_heard_since o at (Some x) ≡ true
-of_entry o at x origin answered late = both (same_origin x.origin o) _ origin (both (is_some x.answered) _ answered (le_true at x.at late))
-
-pub said_number : (fetch : Bool) (o : Origin) (number : ℕ) (answer : Bool) (now : ℕ) (others : List Other) → (said_now fetch o number answer now others).number ≡ number
-unfolding spoken
-said_number fetch o number answer now others = fetched fetch _ ∙ answered_so answer _ ∙ again (other_of number others) (found_by others) where
-  fetched : (b : Bool) (x : Other) → (fetching_at b now x).number ≡ x.number
-  fetched true x = refl
-  fetched false x = refl
-
-  answered_so : (b : Bool) (x : Other) → (answering_at b now x).number ≡ x.number
-  answered_so true x = refl
-  answered_so false x = refl
-
-  found_by : (others : List Other) → IfSome (other_of number others) (λ x. x.number ≡ number)
-  found_by [] = tt
-  found_by (x ∷ others) = by (nat_eq x.number number) refl (found_by others) where
-    by : (b : Bool) → nat_eq x.number number ≡ b → IfSome (other_of number others) (λ x. x.number ≡ number) → IfSome (cond b (Some x) (other_of number others)) (λ x. x.number ≡ number)
-    by true is rest = eqb-true x.number number is
-    by false is rest = rest
-
-  again : (x : Option Other) → IfSome x (λ y. y.number ≡ number) → (heard_again number o now x).number ≡ number
-  again None is = refl
-  again (Some x) is = by (same_origin x.origin o) where
-    by : (b : Bool) → (let y : Other = cond b (record x { at = now }) (heard_first number o now) in y.number) ≡ number
-    by true = is
-    by false = refl
+of_entry o at x origin answered late = and_from (same_origin x.origin o) _ origin (and_from (is_some x.answered) _ answered (le-leb at x.at late))
 
 -- it speaks again from there
 said_again : (fetch : Bool) (o : Origin) (number : ℕ) (answer : Bool) (now since at : ℕ) (others : List Other) → at ≤ now → (e : Entry o number since others) → is_heard_since o at (Some (said_now fetch o number answer now others)) ≡ true
@@ -372,12 +316,12 @@ not_elsewhere : (o p : Origin) (number now at : ℕ) (others : List Other) → n
 unfolding is_bound_elsewhere
 not_elsewhere o p number now at others soon e free = by (same_origin e.x.origin p) refl where
   lately : nat_le (now - e.x.at) PATIENCE ≡ true
-  lately = let le = e.late in le_true (now - e.x.at) PATIENCE (omega (arith, le, soon))
+  lately = let le = e.late in le-leb (now - e.x.at) PATIENCE (omega (arith, le, soon))
 
   bound : same_origin e.x.origin p ≡ false → is_bound_elsewhere number p now others ≡ true
   bound apart =
       ap (λ (x : Option Other). numbers.is_elsewhere p now x) e.found
-      ∙ both (not (same_origin e.x.origin p) && is_some e.x.answered) _ (both (not (same_origin e.x.origin p)) _ (ap (λ (b : Bool). not b) apart) e.answered) lately
+      ∙ and_from (not (same_origin e.x.origin p) && is_some e.x.answered) _ (and_from (not (same_origin e.x.origin p)) _ (ap (λ (b : Bool). not b) apart) e.answered) lately
 
   by : (b : Bool) → same_origin e.x.origin p ≡ b → same_origin p o ≡ true
   by true there = subst (λ (q : Origin). same_origin q o ≡ true) (same_origins e.x.origin p there) e.origin
@@ -442,10 +386,7 @@ in_report o r f j at fine e = by (answers j.own r.echo f.at) where
   inside answer = admitted_spoke o r answer f j (after_admitting o r.speaker answer f.at j) (admit_others o r.speaker answer f.at j) fine
 
   heard_there : (answer : Bool) → is_heard o answer (other_of r.speaker j.others) ≡ true
-  heard_there answer = ap (is_heard o answer) e.found ∙ or answer (same_origin e.x.origin o) e.origin where
-    or : (a b : Bool) → b ≡ true → (a || b) ≡ true
-    or true b e = refl
-    or false b e = e
+  heard_there answer = ap (is_heard o answer) e.found ∙ or_right answer (same_origin e.x.origin o) e.origin
 
   lets : (answer : Bool) → ((not answer && is_bound_elsewhere r.speaker o f.at j.others) || not (is_admitted o r.speaker answer f.at j)) ≡ false
   lets answer =

@@ -2,7 +2,7 @@
 use Rattle.std.proofs.Common.{◌≡◌, ◌∙◌, ◌≤◌, ◌<◌, ◌+◌, ◌-◌, ℕ, Bool, true, false, cond, List, [], ◌∷◌, ◌++◌, ap, arith, drop, length, refl, subst, sym, true≢false, ⊎_elim}
 use Rattle.std.specs.Prelude.{◌&&◌, ◌||◌, nat_le, nat_lt, not}
 use Rattle.std.specs.List.{list_any}
-use Rattle.std.proofs.lemmas.Bool.{and_parts}
+use Rattle.std.proofs.lemmas.Bool.{and_from, and_parts, le-leb, leb-true, or_left, or_right}
 use Rattle.std.proofs.lemmas.Bool.Decides.{nat_tests}
 use Rattle.std.proofs.lemmas.List.Folds.{list_any-append}
 use Rattle.std.proofs.lemmas.Map.Views.{any-filter_same}
@@ -28,21 +28,10 @@ use Rattle.wb_judged_sessions.specs.Knowing.{is_known_since}
 abbrev is_of : Origin → ℕ → KnownOrigin → Bool
 is_of o at k = same_origin k.origin o && nat_le at k.at
 
-both : (a b : Bool) → a ≡ true → b ≡ true → (a && b) ≡ true
-both true true e f = refl
-both true false e f = f
-both false b e f = e
-
-le_true : (a b : ℕ) → a ≤ b → nat_le a b ≡ true
-le_true a b le = grind (arith, nat_tests)
-
-true_le : (a b : ℕ) → nat_le a b ≡ true → a ≤ b
-true_le a b is = grind (arith, nat_tests)
-
 -- what came from there now is later than that moment
 pub from_there : (o : Origin) (at now : ℕ) (known : List KnownOrigin) → at ≤ now → is_known_since o at (known_from o now known) ≡ true
 unfolding known_from
-from_there o at now known le = any_last (is_of o at) MOST_KNOWN (record { origin = o; at = now }) (left o known) (both (same_origin o o) (nat_le at now) (same_itself o) (le_true at now le))
+from_there o at now known le = any_last (is_of o at) MOST_KNOWN (record { origin = o; at = now }) (left o known) (and_from (same_origin o o) (nat_le at now) (same_itself o) (le-leb at now le))
 
 -- what comes from elsewhere drives nobody out, where there is a place
 from_elsewhere : (o p : Origin) (at now : ℕ) (known : List KnownOrigin) → length (left p known) < MOST_KNOWN → same_origin p o ≡ false → is_known_since o at known ≡ true → is_known_since o at (known_from p now known) ≡ true
@@ -118,21 +107,13 @@ knows_for o at now j soon is = by j.known is where
   later : (k : KnownOrigin) → is_of o at k ≡ true → (same_origin k.origin o && nat_le (now - k.at) SILENCE) ≡ true
   later k e =
       let parts = and_parts (same_origin k.origin o) (nat_le at k.at) e in
-      let le = true_le at k.at parts.1 in
-      both (same_origin k.origin o) (nat_le (now - k.at) SILENCE) parts.0 (le_true (now - k.at) SILENCE (omega (arith, le, soon)))
-
-  last : (b c : Bool) → c ≡ true → (b || c) ≡ true
-  last true c e = refl
-  last false c e = e
-
-  first : (b c : Bool) → b ≡ true → (b || c) ≡ true
-  first true c e = refl
-  first false c e = absurd (true≢false (sym e))
+      let le = leb-true at k.at parts.1 in
+      and_from (same_origin k.origin o) (nat_le (now - k.at) SILENCE) parts.0 (le-leb (now - k.at) SILENCE (omega (arith, le, soon)))
 
   by : (known : List KnownOrigin) → list_any (is_of o at) known ≡ true → list_any (λ (k : KnownOrigin). same_origin k.origin o && nat_le (now - k.at) SILENCE) known ≡ true
   by [] e = e
   by (k ∷ known) e = choose (is_of o at k) refl e (by known) where
     choose : (b : Bool) → is_of o at k ≡ b → (b || list_any (is_of o at) known) ≡ true → (list_any (is_of o at) known ≡ true → list_any (λ (k : KnownOrigin). same_origin k.origin o && nat_le (now - k.at) SILENCE) known ≡ true)
         → ((same_origin k.origin o && nat_le (now - k.at) SILENCE) || list_any (λ (k : KnownOrigin). same_origin k.origin o && nat_le (now - k.at) SILENCE) known) ≡ true
-    choose true of e rest = first (same_origin k.origin o && nat_le (now - k.at) SILENCE) _ (later k of)
-    choose false of e rest = last (same_origin k.origin o && nat_le (now - k.at) SILENCE) _ (rest e)
+    choose true of e rest = or_left (same_origin k.origin o && nat_le (now - k.at) SILENCE) _ (later k of)
+    choose false of e rest = or_right (same_origin k.origin o && nat_le (now - k.at) SILENCE) _ (rest e)

@@ -1,5 +1,5 @@
 -- The echo that a report has under the number of its sender: nobody does anything for it.
-use Rattle.std.proofs.Common.{◌≡◌, ℕ, Bool, true, false, cond, List, [], ◌∷◌, ◌++◌, ◌∙◌, ap, arith, filter, refl, sym, true≢false}
+use Rattle.std.proofs.Common.{◌≡◌, ℕ, Bool, true, false, cond, List, [], ◌∷◌, ◌++◌, ap, arith, filter, refl, sym}
 use Rattle.std.specs.Prelude.{nat_eq, nat_lt, not}
 use Rattle.std.proofs.lemmas.Bool.Decides.{nat_tests}
 use Rattle.wb_names.specs.Values.{MarkValue}
@@ -13,18 +13,9 @@ use Rattle.wb_keeping.specs.Kept.{Doing, Hears, Line, Ticks, and_then, came, hea
 use Rattle.wb_keeping.specs.Laws.{Added, Came, KeptLine, Ticked, Tuned, doing_of, fault_of}
 use Rattle.wb_keeping.specs.Performing.{Keeping, after_doing, after_lines, sees, sent_by_doing, sent_by_lines}
 use Rattle.wb_keeping.specs.Views.{View}
+use Rattle.wb_judging.proofs.Heard.{filter_of_filter}
 use Rattle.wb_judged_sessions.specs.Sessions.{PlainIsTheSame, plain, plain_line}
 use Rattle.wb_judged_sessions.specs.Terms.{came_in}
-
--- what passes one test passes the other too
-keeps : (p q : Echo → Bool) → ((f : Echo) → p f ≡ true → q f ≡ true) → (es : List Echo) → filter p (filter q es) ≡ filter p es
-keeps p q so [] = refl
-keeps p q so (f ∷ es) = by (p f) (q f) refl refl (keeps p q so es) where
-  by : (a b : Bool) → p f ≡ a → q f ≡ b → filter p (filter q es) ≡ filter p es → filter p (cond b (f ∷ filter q es) (filter q es)) ≡ cond a (f ∷ filter p es) (filter p es)
-  by true true is and more = ap (λ (c : Bool). cond c (f ∷ filter p (filter q es)) (filter p (filter q es))) is ∙ ap (λ (fs : List Echo). f ∷ fs) more
-  by true false is and more = absurd (true≢false (sym (so f is) ∙ and))
-  by false true is and more = ap (λ (c : Bool). cond c (f ∷ filter p (filter q es)) (filter p (filter q es))) is ∙ more
-  by false false is and more = more
 
 abbrev pub of_others : ℕ → List Echo → List Echo
 of_others sender echoes = filter (λ (e : Echo). not (nat_eq e.source sender)) echoes
@@ -33,7 +24,7 @@ other_source : (sender me : ℕ) → nat_eq sender me ≡ false → (e : Echo) �
 other_source sender me other e is = grind (arith, nat_tests)
 
 own_same : (sender me : ℕ) (echoes : List Echo) → nat_eq sender me ≡ false → own_echo me (of_others sender echoes) ≡ own_echo me echoes
-own_same sender me echoes other = keeps (λ (e : Echo). nat_eq e.source me) (λ (e : Echo). not (nat_eq e.source sender)) (other_source sender me other) echoes
+own_same sender me echoes other = filter_of_filter (λ (e : Echo). nat_eq e.source me) (λ (e : Echo). not (nat_eq e.source sender)) (other_source sender me other) echoes
 
 module _ (sender sent : ℕ) (page : PageId) (marks : List MarkValue) (see : List Line → View) (p : Policy) where
   -- what is done by the echo of this member

@@ -14,12 +14,11 @@ use Rattle.wb_judging.specs.Handing.{handed}
 use Rattle.wb_judging.specs.Judged.{Judged}
 use Rattle.wb_judging.specs.declared.call.Call.{Call}
 use Rattle.wb_judging.specs.declared.call.Call.TheVariants.{CameFrom, DayTold, Garbled, GoneFrom, Held, Passed, UserDrew}
-use Rattle.wb_judging.specs.Laws.{after_all, drawops_of, record_by, record_of}
+use Rattle.wb_judging.specs.Laws.{after_all, drawops_of, record_of}
 use Rattle.wb_judging.specs.Performing.{after_judged}
 use Rattle.wb_judging.specs.declared.record.RecordLine.{RecordLine}
-use Rattle.wb_judging.specs.declared.record.RecordLine.TheVariants.{Known, Mark, Said, Strange, Tick}
-use Rattle.wb_judging.proofs.Again.{held_line, the_record_is_the_board}
-use Rattle.wb_judging.proofs.Boards.{gained_kept, gains_kept, takes_kept}
+use Rattle.wb_judging.proofs.Again.{cells_all, cells_line, cells_of, drawops_both, handed_record, held_by, held_line, the_record_is_the_board}
+use Rattle.wb_judging.proofs.Boards.{gained_kept, gains_kept}
 use Rattle.wb_judging.proofs.Histories.{after_both}
 use Rattle.wb_laws_kept.proofs.Honest.{kept_are_honest, moments_given, number_of_kept}
 use Rattle.wb_laws_kept.proofs.Replaying.{lines_stay, none}
@@ -33,33 +32,6 @@ use Rattle.wb_judged_sessions.specs.Terms.{AreTaken, DrawopsWereHeld, IsItsFile,
 use Rattle.wb_judged_sessions.proofs.Drawn.{draws_as_kept}
 use Rattle.wb_judged_sessions.proofs.Kept.{judged_is_kept}
 use Rattle.wb_judged_sessions.proofs.Terms.{held_kept, know_kept, taken_kept}
-
--- ---- records
-
-drawops_both : (one other : List RecordLine) → drawops_of (one ++ other) ≡ drawops_of one ++ drawops_of other
-drawops_both [] other = refl
-drawops_both (Tick now ∷ one) other = drawops_both one other
-drawops_both (Said d ∷ one) other = ap (λ (ds : List DrawopValue). d ∷ ds) (drawops_both one other)
-drawops_both (Known d ∷ one) other = ap (λ (ds : List DrawopValue). d ∷ ds) (drawops_both one other)
-drawops_both (Strange d ∷ one) other = ap (λ (ds : List DrawopValue). d ∷ ds) (drawops_both one other)
-drawops_both (Mark speaker page mark ∷ one) other = drawops_both one other
-
-given_again : (given : List RecordLine) (h : Judged) → record_by (map Held given) h ≡ given
-given_again [] h = refl
-given_again (line ∷ given) h = ap (λ (ls : List RecordLine). line ∷ ls) (given_again given (after_judged (Held line) h))
-
-abbrev pub cells_of : Judged → ℕ
-cells_of h = h.kept.host.is.cells
-
-abbrev pub held_by : Judged → List DrawopValue
-held_by h = h.kept.host.is.held
-
-pub cells_line : (line : Call) (h : Judged) → cells_of (after_judged line h) ≡ cells_of h
-cells_line line h = (takes_kept (handed line h) h.kept).cells
-
-cells_all : (lines : List Call) (h : Judged) → cells_of (after_all lines h) ≡ cells_of h
-cells_all [] h = refl
-cells_all (line ∷ lines) h = cells_all lines (after_judged line h) ∙ cells_line line h
 
 -- ---- what is held after a start
 
@@ -80,7 +52,7 @@ module _ (number : ℕ) (start : Start) (given : List RecordLine) where
       let o = start.opening in
       let s = lines_stay (map Ticks o.moments) (opened_with o.constants number o.cells o.seed) (moments_given none o.moments) in
       the_record_is_the_board (map Held given) first
-      ∙ ap (λ (ls : List RecordLine). history_after (cells_of first) (held_by first) (drawops_of ls)) (given_again given first)
+      ∙ ap (λ (ls : List RecordLine). history_after (cells_of first) (held_by first) (drawops_of ls)) (handed_record given first)
       ∙ ap (λ (cells : ℕ). history_after cells (held_by first) (drawops_of given)) s.cells
       ∙ ap (λ (held : List DrawopValue). history_after o.cells held (drawops_of given)) s.held
 

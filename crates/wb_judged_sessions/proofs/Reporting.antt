@@ -4,6 +4,7 @@ use Rattle.std.specs.Prelude.{◌||◌, ◌%◌, Contains, take}
 use Rattle.std.specs.List.{list_any}
 use Rattle.std.proofs.lemmas.List.Elements.{Contains-append_left, Contains-append_right}
 use Rattle.std.proofs.lemmas.List.Folds.{list_any-append}
+use Rattle.std.proofs.Math.Nat.{le_refl}
 use Rattle.wb_names.specs.Values.{MarkValue, NameValue}
 use Rattle.wb_names.specs.declared.echo.Echo.{Echo}
 use Rattle.wb_names.specs.declared.name.PageId.{PageId}
@@ -40,9 +41,6 @@ pub record GoesOn (k : Keeping) (lines : List Line) (m : Keeping) : Type 0 where
   pub later : present k.host ≤ present m.host
   pub due : IsDueStill k lines m
 
-same_or_later : (now : ℕ) → now ≤ now
-same_or_later now = omega arith
-
 goes_on : (k m : Keeping) (lines : List Line) → present m.host ≡ present k.host → report_due m ≡ report_due k → GoesOn k lines m
 goes_on k m lines now due = record { later = omega (arith, now); due = inl due }
 
@@ -65,8 +63,8 @@ both_go k m n one other a b = record { later = let x = a.later in let y = b.late
 hears_goes : (v : Datagram) (k : Keeping) → GoesOn k (Hears v ∷ []) (having (Hears v) k)
 hears_goes v k = by (has_room_for v k.host) where
   by : (b : Bool) → GoesOn k (Hears v ∷ []) (record { host = cond b (heard v k.host) k.host; policy = k.policy })
-  by true = record { later = same_or_later (present k.host); due = inl refl }
-  by false = record { later = same_or_later (present k.host); due = inl refl }
+  by true = record { later = le_refl (present k.host); due = inl refl }
+  by false = record { later = le_refl (present k.host); due = inl refl }
 
 wants_goes : (name : NameValue) (anew : Bool) (k : Keeping) → GoesOn k (want name anew (sees k.host) k.policy).lines (after_doing (want name anew) k)
 wants_goes name anew k =
@@ -85,30 +83,30 @@ wants_goes name anew k =
 steps_go_on : HoldsOfSteps GoesOn
 steps_go_on = record {
   due = record {
-    nothing = λ k. record { later = same_or_later (present k.host); due = inl refl };
+    nothing = λ k. record { later = le_refl (present k.host); due = inl refl };
     both = both_go;
     wants = wants_goes;
-    turned = λ t l k. record { later = same_or_later (present k.host); due = inl refl };
-    beats = λ k is. record { later = same_or_later (present k.host); due = inl refl };
+    turned = λ t l k. record { later = le_refl (present k.host); due = inl refl };
+    beats = λ k is. record { later = le_refl (present k.host); due = inl refl };
     answers = λ k is.
         let lines = map (λ page. Says (state_of (view_of k.host) page)) (take 64 (pages_of k.host.is.held)) in
         goes_on k (having_done (doing (after_answer (present k.host) k.policy) lines) k) lines (ap present (says_after (view_of k.host) (take 64 (pages_of k.host.is.held)) k.host)) refl;
-    asks_pages = λ k is. record { later = same_or_later (present k.host); due = inl refl };
-    reports = λ page until told k is. record { later = same_or_later (present k.host); due = inr (refl, next_soon (present k.host) _ (word_of k.policy.words)) };
+    asks_pages = λ k is. record { later = le_refl (present k.host); due = inl refl };
+    reports = λ page until told k is. record { later = le_refl (present k.host); due = inr (refl, next_soon (present k.host) _ (word_of k.policy.words)) };
   };
   ticks = λ now k later. record { later = later; due = inl refl };
-  arrives = λ d k. record { later = same_or_later (present k.host); due = inl refl };
-  answered = λ d k lacks asked. record { later = same_or_later (present k.host); due = inl refl };
+  arrives = λ d k. record { later = le_refl (present k.host); due = inl refl };
+  answered = λ d k lacks asked. record { later = le_refl (present k.host); due = inl refl };
   hears = hears_goes;
-  stops = λ name k full. record { later = same_or_later (present k.host); due = inl refl };
-  sets = λ source micros k. record { later = same_or_later (present k.host); due = inl refl };
-  lends = λ source k. record { later = same_or_later (present k.host); due = inl refl };
-  takes_back = λ source k. record { later = same_or_later (present k.host); due = inl refl };
-  tunes = λ constants k within. record { later = same_or_later (present k.host); due = inl refl };
-  draws = λ d k. record { later = same_or_later (present k.host); due = inl refl };
-  measured = λ micros k. record { later = same_or_later (present k.host); due = inl refl };
-  told = λ k. record { later = same_or_later (present k.host); due = inl refl };
-  takes_up = λ k is. record { later = same_or_later (present k.host); due = inl refl };
+  stops = λ name k full. record { later = le_refl (present k.host); due = inl refl };
+  sets = λ source micros k. record { later = le_refl (present k.host); due = inl refl };
+  lends = λ source k. record { later = le_refl (present k.host); due = inl refl };
+  takes_back = λ source k. record { later = le_refl (present k.host); due = inl refl };
+  tunes = λ constants k within. record { later = le_refl (present k.host); due = inl refl };
+  draws = λ d k. record { later = le_refl (present k.host); due = inl refl };
+  measured = λ micros k. record { later = le_refl (present k.host); due = inl refl };
+  told = λ k. record { later = le_refl (present k.host); due = inl refl };
+  takes_up = λ k is. record { later = le_refl (present k.host); due = inl refl };
 }
 
 -- ---- a line

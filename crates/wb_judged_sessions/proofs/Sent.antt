@@ -17,12 +17,12 @@ use Rattle.wb_judging.specs.Echoing.{echoing}
 use Rattle.wb_judging.specs.Handing.{handed}
 use Rattle.wb_judging.specs.Judged.{Judged, moment_of}
 use Rattle.wb_judging.specs.declared.call.Call.{Call}
-use Rattle.wb_judging.specs.declared.call.Call.TheVariants.{CameFrom, DayTold, Garbled, GoneFrom, Held, Passed, UserDrew}
+use Rattle.wb_judging.specs.declared.call.Call.TheVariants.{Held}
 use Rattle.wb_judging.specs.Laws.{expanded, sends_in}
-use Rattle.wb_judging.specs.Performing.{after_judged, after_kept_line, events_of, fate_by, judging, sent_by_kept_line}
+use Rattle.wb_judging.specs.Performing.{after_judged, after_kept_line, events_of, judging, sent_by_kept_line}
 use Rattle.wb_judging.specs.declared.record.RecordLine.{RecordLine}
 use Rattle.wb_judging.proofs.AsKept.{sends_as_kept as line_sends_as_kept}
-use Rattle.wb_judging.proofs.Numbers.{came_fixed, own_stays, recalled_fixed}
+use Rattle.wb_judging.proofs.Numbers.{me_judging, own_stays}
 use Rattle.wb_laws_kept.specs.Sessions.{CallAt, kept_at, steps_of}
 use Rattle.wb_laws_kept.proofs.Agreeing.{steps_split}
 use Rattle.wb_laws_kept.proofs.Steps.{kept_is_session}
@@ -37,15 +37,6 @@ use Rattle.wb_judged_sessions.proofs.Plain.{plain_sent}
 use Rattle.wb_judged_sessions.proofs.Terms.{IsOwn, begins, fault_none, here, own_at, started_is}
 
 -- ---- one line
-
-pub me_judging : (line : Call) (h : Judged) → (judging line h).me ≡ h.judge.me
-me_judging (CameFrom now o v) h = (came_fixed now o v h).me
-me_judging (Garbled now) h = refl
-me_judging (Passed now) h = refl
-me_judging (UserDrew now page op) h = refl
-me_judging (DayTold now wall) h = refl
-me_judging (GoneFrom now o) h = refl
-me_judging (Held line) h = (recalled_fixed line (fate_by (handed (Held line) h) h.kept) h.judge).me
 
 pub echo_mine : (me now : ℕ) (alien : Option Alien) (e : Echo) → echo_of me now alien ≡ Some e → e.source ≡ me
 echo_mine me now None e is = absurd (none-some e is)

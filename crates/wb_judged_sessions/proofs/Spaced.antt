@@ -1,8 +1,9 @@
 -- Reports of a member are a second apart.
 use Rattle.std.proofs.Common.{◌≡◌, ◌∙◌, ◌≤◌, ◌<◌, ◌+◌, ◌*◌, ℕ, zero, suc, Bool, true, false, cond, List, [], ◌∷◌, ◌++◌, None, ap, arith, eqb-true, map, refl, subst, sym, ⊎_elim}
-use Rattle.std.specs.Prelude.{◌/◌, Contains, max, min, nat_eq, nat_le, take}
+use Rattle.std.specs.Prelude.{Contains, nat_eq, nat_le, take}
 use Rattle.std.proofs.lemmas.Bool.{leb-true}
 use Rattle.std.proofs.lemmas.List.Elements.{Contains-append_cases}
+use Rattle.std.proofs.Math.Nat.{add_comm}
 use Rattle.wb_names.specs.Values.{MarkValue, NameValue}
 use Rattle.wb_names.specs.declared.echo.Echo.{Echo}
 use Rattle.wb_names.specs.declared.name.PageId.{PageId}
@@ -17,7 +18,7 @@ use Rattle.wb_judge.specs.Adding.{own_echo}
 use Rattle.wb_member.specs.Opened.{Opened, becomes, has_room_for, heard, present}
 use Rattle.wb_policy.specs.Choices.{last_heard}
 use Rattle.wb_policy.specs.Policy.{after_answer, after_wanting}
-use Rattle.wb_policy.specs.Reports.{next_report, slice_after}
+use Rattle.wb_policy.specs.Reports.{slice_after}
 use Rattle.wb_policy.specs.Wanting.{is_wanted}
 use Rattle.wb_keeping.specs.Bounds.{is_report}
 use Rattle.wb_keeping.specs.Kept.{Arrives, Asks, Doing, Hears, Line, Says, SetsDistance, Stops, Ticks, Tunes, reports_page, state_of, still, want}
@@ -28,6 +29,7 @@ use Rattle.wb_keeping.proofs.EachLine.{Each, states_each, want_each}
 use Rattle.wb_keeping.proofs.EachStep.{HoldsOfSteps, doing, having_done, line_holds}
 use Rattle.wb_keeping.proofs.Saying.{says_after}
 use Rattle.wb_keeping.proofs.Wanted.{lines_wanted}
+use Rattle.wb_kept_progress.proofs.Leaving.{next_late}
 use Rattle.wb_kept_progress.proofs.Lines.{IsSmall, are_small, does_rest}
 use Rattle.wb_laws_sessions.proofs.Sending.{one_of}
 use Rattle.wb_judging.specs.Handing.{handed}
@@ -131,11 +133,6 @@ both_space k m n one other a b = record {
       (Contains-append_cases one other (Says (Session s t page marks es)) c);
 }
 
-a_second_later : (now sum drawn : ℕ) → now + 1000000 ≤ next_report now (min (max sum 2000000) 64000000) drawn
-a_second_later now sum drawn = by (min (max sum 2000000) 64000000) (omega arith) where
-  by : (mean : ℕ) → 2000000 ≤ mean → now + 1000000 ≤ now + mean / 2 + drawn
-  by mean le = omega (arith, le)
-
 hears_space : (v : Datagram) (k : Keeping) → Spaces k (Hears v ∷ []) (record { host = after_line (Hears v) k.host; policy = k.policy })
 hears_space v k = quietly k _ (Hears v ∷ []) (tt, tt) (at_once _ _ (by (has_room_for v k.host))) refl where
   by : (b : Bool) → present (cond b (heard v k.host) k.host) ≡ present k.host
@@ -174,7 +171,7 @@ reports_space page until marks k is = record {
   next = λ s t on told es c. let same = moment s t on told es (one_of _ _ c) in omega (arith, same, later);
 } where
   later : present k.host + 1000000 ≤ report_due (after_doing (reports_page page until marks) k)
-  later = a_second_later (present k.host) _ _
+  later = next_late (present k.host) _ _
 
   moment : (s t : ℕ) (on : PageId) (told : List MarkValue) (es : List Echo) → Says (Session k.host.is.number (present k.host) page marks (last_heard (view_of k.host).echoes)) ≡ Says (Session s t on told es) → t ≡ present k.host
   moment s t on told es e = cc
@@ -331,9 +328,7 @@ calls_spaced numbers place (e ∷ newer) older not taken =
           let last = goes e.call (λ start given is. not e start given (Contains-here e newer) same is) (subst (λ (p : ℕ). IsTaken e.call (judged_at numbers (newer ++ older) p)) same taken.0) in
           let n = reports_by numbers place newer older in
           let m = reports_among (sent_by e.call h) in
-          subst (λ (c : ℕ). IsSpaced c first (after_call e.call h).kept) (turn n m) (spaced_both n m first h.kept (after_call e.call h).kept rest last) where
-            turn : (n m : ℕ) → n + m ≡ m + n
-            turn n m = omega arith
+          subst (λ (c : ℕ). IsSpaced c first (after_call e.call h).kept) (add_comm n m) (spaced_both n m first h.kept (after_call e.call h).kept rest last)
 
 -- ---- so the moments of the last 256 seconds are remembered
 

@@ -1,7 +1,6 @@
 -- Whom a judge knows it knows after each line that leaves it so, and anew after each report.
 use Rattle.std.proofs.Common.{◌≡◌, ◌≤◌, ◌+◌, ◌∙◌, ℕ, Bool, true, false, cond, List, [], ◌∷◌, ap, arith, filter, refl, sym, true≢false}
 use Rattle.std.specs.Prelude.{◌&&◌, ◌||◌, Option, None, Some, nat_eq, nat_le, not}
-use Rattle.std.specs.List.{find}
 use Rattle.std.proofs.lemmas.Bool.{and_parts, le-leb, leb-true}
 use Rattle.std.proofs.lemmas.Map.Views.{any-filter_same}
 use Rattle.wb_names.specs.Values.{MarkValue}
@@ -22,7 +21,6 @@ use Rattle.wb_judge.specs.declared.limits.TheConstants.{SILENCE}
 use Rattle.wb_judge.specs.declared.origin.Origin.{Origin}
 use Rattle.wb_judge.specs.declared.others.Other.{Other}
 use Rattle.wb_judge.specs.declared.strange.Given.{Given}
-use Rattle.wb_judge.proofs.Sameness.{same_itself, same_origins}
 use Rattle.wb_judging.specs.Events.{is_new}
 use Rattle.wb_judging.specs.Handing.{facts_of, handed, judge_after}
 use Rattle.wb_judging.specs.Hearing.{after_fate, after_recalling, after_sending, after_sends, with_strange}
@@ -34,6 +32,7 @@ use Rattle.wb_judging.specs.declared.event.Fate.{Fate}
 use Rattle.wb_judging.specs.declared.record.RecordLine.{RecordLine}
 use Rattle.wb_judging.specs.declared.record.RecordLine.TheVariants.{Known, Mark, Said, Strange, Tick}
 use Rattle.wb_judging.proofs.Followed.{at_now}
+use Rattle.wb_judging.proofs.MembersStay.{found_still, other_origin}
 use Rattle.wb_judged_sessions.specs.Knowing.{HasRoom, IsKnownSince, LeavesKnown, StaysKnown, is_heard_since, is_known_since}
 use Rattle.wb_judged_sessions.proofs.Numbers.{heard_now, heard_still}
 use Rattle.wb_judged_sessions.proofs.Origins.{known_now, known_still, knows_for}
@@ -104,23 +103,6 @@ came now p o v h number at m =
     and_sends line h o number at (alike o number at (judge_after now p v h) (judging line h) (fated now p v fate (judge_after now p v h)) m)
 
 -- ---- somebody is gone
-
-found_still : (q p : Other → Bool) (x : Other) (xs : List Other) → find q xs ≡ Some x → p x ≡ true → find q (filter p xs) ≡ Some x
-found_still q p x [] found keeps = found
-found_still q p x (y ∷ ys) found keeps = by (q y) refl (p y) refl found (found_still q p x ys) where
-  by : (b : Bool) → q y ≡ b → (c : Bool) → p y ≡ c → cond b (Some y) (find q ys) ≡ Some x → (find q ys ≡ Some x → p x ≡ true → find q (filter p ys) ≡ Some x) → find q (cond c (y ∷ filter p ys) (filter p ys)) ≡ Some x
-  by true is true at e rest = ap (λ (d : Bool). cond d (Some y) (find q (filter p ys))) is ∙ e
-  by true is false at e rest = absurd (true≢false (sym keeps ∙ ap p (sym (same y x e)) ∙ at)) where
-    same : (y x : Other) → Some y ≡ Some x → y ≡ x
-    same y x e = cc
-  by false is true at e rest = ap (λ (d : Bool). cond d (Some y) (find q (filter p ys))) is ∙ rest e keeps
-  by false is false at e rest = rest e keeps
-
-other_origin : (p o q : Origin) → same_origin p o ≡ false → same_origin q o ≡ true → not (same_origin q p) ≡ true
-other_origin p o q apart at = by (same_origin q p) refl where
-  by : (b : Bool) → same_origin q p ≡ b → not b ≡ true
-  by true is = absurd (true≢false (sym (same_itself o) ∙ ap (λ (x : Origin). same_origin x o) (sym (same_origins q o at) ∙ same_origins q p is) ∙ apart))
-  by false is = refl
 
 known_left : (p o : Origin) (at : ℕ) (known : List KnownOrigin) → same_origin p o ≡ false → is_known_since o at known ≡ true → is_known_since o at (filter (λ k. not (same_origin k.origin p)) known) ≡ true
 known_left p o at known apart e =

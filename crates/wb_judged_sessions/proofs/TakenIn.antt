@@ -6,7 +6,8 @@ use Rattle.std.specs.List.{list_any}
 use Rattle.std.proofs.lemmas.Bool.{eq-eqb}
 use Rattle.std.proofs.lemmas.List.Elements.{Contains-append_cases}
 use Rattle.std.proofs.lemmas.Option.{none-some, same_Some}
-use Rattle.wb_names.specs.Arrivals.{Clashed, Fresh, Known, Left, Outcome}
+use Rattle.std.proofs.Math.Nat.{le_refl}
+use Rattle.wb_names.specs.Arrivals.{Clash, New, Again, Left, Outcome}
 use Rattle.wb_names.specs.Values.{DrawopValue, MarkValue, NameValue}
 use Rattle.wb_names.specs.declared.echo.Echo.{Echo}
 use Rattle.wb_names.specs.declared.entries.TheConstants.{MAX_ENTRIES}
@@ -30,16 +31,18 @@ use Rattle.wb_member.specs.Random.{word_of}
 use Rattle.wb_policy.specs.Choices.{distance_in, last_heard, own_echo as echo_of, told_names}
 use Rattle.wb_policy.specs.Policy.{Policy, after_wanting}
 use Rattle.wb_policy.specs.Wanting.{is_wanted}
-use Rattle.wb_keeping.specs.Kept.{Arrives, Asks, Doing, Hears, Line, Says, SetsDistance, Stops, Ticks, Transition, Tunes, and_then, came, draws_it, ends_full, hears, measures, performs, still, timed, want, want_told}
+use Rattle.wb_keeping.specs.Kept.{Arrives, Asks, Doing, Hears, Line, Says, SetsDistance, Stops, Ticks, Transition, Tunes, and_then, came, hears, measures, performs, still, timed, want, want_told}
 use Rattle.wb_keeping.specs.Laws.{Added, Came, KeptLine, Ticked, Tuned, doing_of, fault_of}
 use Rattle.wb_keeping.specs.Performing.{Keeping, after_doing, after_line, after_lines, said_where, sees, sent_by_doing, sent_by_line, sent_by_lines, view_of}
 use Rattle.wb_keeping.specs.Views.{View, holds, is_full, is_known, level}
-use Rattle.wb_keeping.proofs.EachLine.{Each, OfPolicy, each_both, ends_each, hears_each, measures_each, states_each, then_each, timed_each, told_each, wanted_each}
+use Rattle.wb_keeping.proofs.EachLine.{Each, each_both, measures_each, states_each, then_each, timed_each, told_each, wanted_each}
 use Rattle.wb_keeping.proofs.EachStep.{HoldsOfSteps, doing, line_holds}
 use Rattle.wb_keeping.proofs.Performed.{after_both}
 use Rattle.wb_keeping.proofs.Wanted.{lines_wanted}
 use Rattle.wb_kept_progress.proofs.FirstLines.{AreLinesOf, IsHeardBy, IsLineOf, lines_of_call}
 use Rattle.wb_kept_progress.proofs.Lines.{AreSmall, IsSmall, are_small}
+use Rattle.wb_kept_progress.proofs.Performed.{Begins, IsNoTick, adds_begin, came_begins, ticks_begin}
+use Rattle.wb_kept_progress.proofs.StillCalls.{line_now}
 use Rattle.wb_laws_kept.specs.Listening.{heard_of}
 use Rattle.wb_laws_sessions.proofs.Sending.{one_of}
 use Rattle.wb_judged_sessions.specs.Answering.{taken_from, taken_in}
@@ -124,81 +127,36 @@ module _ (number : ℕ) where
 abbrev pub senders : Opened → List ℕ
 senders host = senders_of host.is.number host.is.calls
 
-same_length : (n : ℕ) → n ≤ n
-same_length n = omega arith
-
 pub remember_grows : (told : Option (ℕ × Heard)) (known : List ℕ) → length known ≤ length (remember told known)
-remember_grows None known = same_length (length known)
+remember_grows None known = le_refl (length known)
 remember_grows (Some told) known = by (list_any (nat_eq told.0) known || nat_le MAX_ENTRIES (length known)) where
   by : (b : Bool) → length known ≤ length (cond b known (told.0 ∷ known))
-  by true = same_length (length known)
+  by true = le_refl (length known)
   by false = omega arith
 
 line_grows : (line : Line) (host : Opened) → length (senders host) ≤ length (senders (after_line line host))
-line_grows (Ticks now) host = same_length (length (senders host))
-line_grows (Arrives d) host = same_length (length (senders host))
+line_grows (Ticks now) host = le_refl (length (senders host))
+line_grows (Arrives d) host = le_refl (length (senders host))
 line_grows (Hears v) host = by (has_room_for v host) where
   by : (b : Bool) → length (senders host) ≤ length (senders (cond b (heard v host) host))
   by true = remember_grows (cond (is_own host.is.number v) None (session_in (present host) v)) (senders host)
-  by false = same_length (length (senders host))
+  by false = le_refl (length (senders host))
 line_grows (Asks name) host = by (may_ask name host) where
   by : (b : Bool) → length (senders host) ≤ length (senders (cond b (does_act (Misses (present host) (name ∷ []) (word_of host.random ∷ [])) 1 host) host))
-  by true = same_length (length (senders host))
-  by false = same_length (length (senders host))
-line_grows (Stops name) host = same_length (length (senders host))
-line_grows (SetsDistance source micros) host = same_length (length (senders host))
-line_grows (Tunes constants) host = same_length (length (senders host))
-line_grows (Says (Draw d)) host = same_length (length (senders host))
-line_grows (Says (Session s sent page marks es)) host = same_length (length (senders host))
-line_grows (Says (Request asker name)) host = same_length (length (senders host))
-line_grows (Says (AskPages asker)) host = same_length (length (senders host))
-line_grows (Says (PageState s page marks)) host = same_length (length (senders host))
+  by true = le_refl (length (senders host))
+  by false = le_refl (length (senders host))
+line_grows (Stops name) host = le_refl (length (senders host))
+line_grows (SetsDistance source micros) host = le_refl (length (senders host))
+line_grows (Tunes constants) host = le_refl (length (senders host))
+line_grows (Says (Draw d)) host = le_refl (length (senders host))
+line_grows (Says (Session s sent page marks es)) host = le_refl (length (senders host))
+line_grows (Says (Request asker name)) host = le_refl (length (senders host))
+line_grows (Says (AskPages asker)) host = le_refl (length (senders host))
+line_grows (Says (PageState s page marks)) host = le_refl (length (senders host))
 
 lines_grow : (lines : List Line) (host : Opened) → length (senders host) ≤ length (senders (after_lines lines host))
-lines_grow [] host = same_length (length (senders host))
+lines_grow [] host = le_refl (length (senders host))
 lines_grow (line ∷ lines) host = let one = line_grows line host in let rest = lines_grow lines (after_line line host) in omega (arith, one, rest)
-
--- ---- at one moment
-
-abbrev IsNoTick : Line → Type 0
-IsNoTick (Ticks now) = ⊥
-IsNoTick (Arrives d) = Unit {0}
-IsNoTick (Hears v) = Unit {0}
-IsNoTick (Asks name) = Unit {0}
-IsNoTick (Stops name) = Unit {0}
-IsNoTick (SetsDistance source micros) = Unit {0}
-IsNoTick (Tunes constants) = Unit {0}
-IsNoTick (Says v) = Unit {0}
-
-no_ticks : OfPolicy IsNoTick
-no_ticks = record {
-  asks = λ name. tt;
-  stops = λ name. tt;
-  sets = λ source micros. tt;
-  states = λ v page. tt;
-  asks_pages = λ asker. tt;
-  reports = λ sender sent page marks es. tt;
-}
-
-pub same_now : (line : Line) (host : Opened) → IsNoTick line → present (after_line line host) ≡ present host
-same_now (Ticks now) host unheard = absurd unheard
-same_now (Arrives d) host unheard = refl
-same_now (Hears v) host unheard = by (has_room_for v host) where
-  by : (b : Bool) → present (cond b (heard v host) host) ≡ present host
-  by true = refl
-  by false = refl
-same_now (Asks name) host unheard = by (may_ask name host) where
-  by : (b : Bool) → present (cond b (does_act (Misses (present host) (name ∷ []) (word_of host.random ∷ [])) 1 host) host) ≡ present host
-  by true = refl
-  by false = refl
-same_now (Stops name) host unheard = refl
-same_now (SetsDistance source micros) host unheard = refl
-same_now (Tunes constants) host unheard = refl
-same_now (Says (Draw d)) host unheard = refl
-same_now (Says (Session s sent page marks es)) host unheard = refl
-same_now (Says (Request asker name)) host unheard = refl
-same_now (Says (AskPages asker)) host unheard = refl
-same_now (Says (PageState s page marks)) host unheard = refl
 
 -- ---- what a report says of its moment, and echoes
 
@@ -327,9 +285,9 @@ answer_none me held heard v c = by (asks_for_pages me heard) c where
   by true c = let r = Any-from_map (λ (r : PageReport). PageState me r.page r.marks) (reports_of held) v c in subst IsNoReport r.4 tt
 
 pub drawing_none : (d : DrawopValue) (o : Outcome) (v : Datagram) → Contains (said_where d o) v → IsNoReport v
-drawing_none d (Fresh i) v c = subst IsNoReport (one_of (Draw d) v c) tt
-drawing_none d (Known i) v c = subst IsNoReport (one_of (Draw d) v c) tt
-drawing_none d (Clashed i) v c = absurd (Contains-none v c)
+drawing_none d (New i) v c = subst IsNoReport (one_of (Draw d) v c) tt
+drawing_none d (Again i) v c = subst IsNoReport (one_of (Draw d) v c) tt
+drawing_none d (Clash i) v c = absurd (Contains-none v c)
 drawing_none d Left v c = absurd (Contains-none v c)
 
 free : (host : Opened) (v : Datagram) → IsNoReport v → IsReportOf host v
@@ -380,10 +338,10 @@ module _ (number s moment : ℕ) (page : PageId) (marks : List MarkValue) (es : 
       let r = said_at lines (after_line line host) told.1 unheard.1 stands.1 later in
       record {
         there = r.there;
-        now = r.now ∙ same_now line host stands.0;
+        now = r.now ∙ line_now line host stands.0;
         echoed = r.echoed;
         same = r.same ∙ line_same number line host unheard.0;
-        then = r.then ∙ same_now line host stands.0;
+        then = r.then ∙ line_now line host stands.0;
         few = r.few;
       })
       (Contains-append_cases (sent_by_line line host) (sent_by_lines lines (after_line line host)) report c)
@@ -429,16 +387,10 @@ IsTimed (Ticked now) = Unit {0}
 IsTimed (Added now page time op) = Unit {0}
 IsTimed (Tuned constants) = ⊥
 
-record Begins (call : KeptLine) (k : Keeping) : Type 0 where
-  rest : List Line
-  split : (doing_of call (sees k.host) k.policy).lines ≡ Ticks (moment_in call) ∷ rest
-  stands : Each IsNoTick rest
-
-begins : (call : KeptLine) (k : Keeping) → IsTimed call → Begins call k
-begins (Came now v) k timed_call = record { rest = _; split = refl; stands = then_each IsNoTick (hears v) timed (hears_each IsNoTick no_ticks (λ v. tt) v (λ d is. tt)) (timed_each IsNoTick no_ticks) (sees (after_line (Ticks now) k.host)) k.policy }
-begins (Ticked now) k timed_call = record { rest = _; split = refl; stands = timed_each IsNoTick no_ticks (sees (after_line (Ticks now) k.host)) k.policy }
-begins (Added now page time op) k timed_call =
-    record { rest = _; split = refl; stands = then_each IsNoTick (draws_it page time op) (and_then ends_full timed) (λ see p. (tt, tt)) (then_each IsNoTick ends_full timed (ends_each IsNoTick no_ticks) (timed_each IsNoTick no_ticks)) (sees (after_line (Ticks now) k.host)) k.policy }
+begins : (call : KeptLine) (k : Keeping) → IsTimed call → Begins (moment_in call) (doing_of call (sees k.host) k.policy)
+begins (Came now v) k timed_call = came_begins now v (sees k.host) k.policy
+begins (Ticked now) k timed_call = ticks_begin now (sees k.host) k.policy
+begins (Added now page time op) k timed_call = adds_begin now page time op (sees k.host) k.policy
 begins (Tuned constants) k timed_call = absurd timed_call
 
 -- what a call makes of what was heard last, and where its report was said
@@ -464,15 +416,15 @@ said_after_tick : (number : ℕ) (call : KeptLine) (k : Keeping) → IsTimed cal
     → (there : Opened) × (moment ≡ moment_in call) × (es ≡ last_heard (echoes there)) × (newest_of number there ≡ newest_of number k.host) × (present there ≡ moment) × (length (senders there) ≤ length (senders (after_doing (doing_of call) k).host))
 said_after_tick number call k timed_call unheard none s moment page marks es c =
     let b = begins call k timed_call in
-    let told = subst (AreToldBy k.host) b.split (line_holds Tells steps_tell call k none).told in
-    let quiet = subst (Each (HearsNo number)) b.split unheard in
-    let within = subst (λ (lines : List Line). Contains (sent_by_lines lines k.host) (Session s moment page marks es)) b.split c in
+    let told = subst (AreToldBy k.host) b.is (line_holds Tells steps_tell call k none).told in
+    let quiet = subst (Each (HearsNo number)) b.is unheard in
+    let within = subst (λ (lines : List Line). Contains (sent_by_lines lines k.host) (Session s moment page marks es)) b.is c in
     let first = after_line (Ticks (moment_in call)) k.host in
     ⊎_elim
     (λ (at_once : Contains (sent_by_line (Ticks (moment_in call)) k.host) (Session s moment page marks es)). absurd (silent at_once))
     (λ (later : Contains (sent_by_lines b.rest first) (Session s moment page marks es)).
-    let r = said_at number s moment page marks es b.rest first told.1 quiet.1 b.stands later in
-    (r.there, r.now, r.echoed, r.same, r.then ∙ sym r.now, subst (λ (lines : List Line). length (senders r.there) ≤ length (senders (after_lines lines k.host))) (sym b.split) r.few))
+    let r = said_at number s moment page marks es b.rest first told.1 quiet.1 b.none later in
+    (r.there, r.now, r.echoed, r.same, r.then ∙ sym r.now, subst (λ (lines : List Line). length (senders r.there) ≤ length (senders (after_lines lines k.host))) (sym b.is) r.few))
     (Contains-append_cases (sent_by_line (Ticks (moment_in call)) k.host) (sent_by_lines b.rest first) (Session s moment page marks es) within) where
       silent : Contains (sent_by_line (Ticks (moment_in call)) k.host) (Session s moment page marks es) → ⊥
       silent c = let r = sent_from (sent_for k.host.is.number k.host.is.held) _ (Session s moment page marks es) c in action_none k.host.is.number k.host.is.held r.0 (Session s moment page marks es) r.2
@@ -548,7 +500,7 @@ module _ (number now sent : ℕ) (page : PageId) (marks : List MarkValue) (es : 
         let f = hears_first in
         let b = begins (Came now v) k tt in
         let lines = subst (AreToldBy k.host) f.split (line_holds Tells steps_tell (Came now v) k none).told in
-        let stands = subst (λ (ls : List Line). Each IsNoTick ls) (tail b.rest (Hears own ∷ f.rest) (sym b.split ∙ f.split)) b.stands in
+        let stands = subst (λ (ls : List Line). Each IsNoTick ls) (tail b.rest (Hears own ∷ f.rest) (sym b.is ∙ f.split)) b.none in
         let within = subst (λ (ls : List Line). Contains (sent_by_lines ls k.host) (Session s moment on told_marks told)) f.split c in
         let unheard = small_no number f.rest f.small in
         let r = said_at number s moment on told_marks told f.rest hearing lines.1.1 unheard stands.1 (after_first s moment on told_marks told f.rest within) in (
@@ -564,7 +516,7 @@ module _ (number now sent : ℕ) (page : PageId) (marks : List MarkValue) (es : 
     tail xs ys e = cc
 
     then_now : present hearing ≡ now
-    then_now = same_now (Hears own) ticking tt
+    then_now = line_now (Hears own) ticking tt
 
     after_first : (s moment : ℕ) (on : PageId) (told_marks : List MarkValue) (told : List Echo) (rest : List Line) → let w = Session s moment on told_marks told in
         Contains (sent_by_lines (Ticks now ∷ Hears own ∷ rest) k.host) w → Contains (sent_by_lines rest hearing) w

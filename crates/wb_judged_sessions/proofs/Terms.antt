@@ -42,6 +42,7 @@ use Rattle.wb_judged_sessions.specs.Sessions.{JudgedCall, JudgedCallAt, Start, S
 use Rattle.wb_judged_sessions.specs.Terms.{AreLinesTaken, AreTaken, DrawopsWereHeld, IsLineTaken, IsTaken, KnowTheirOwn, KnowsItsOwn, brought_by, came_in}
 use Rattle.wb_judged_sessions.proofs.Drawn.{DrawNone, DrawsNone, came_draws, draws_as_kept, plain_draws, record_draws}
 use Rattle.wb_judged_sessions.proofs.Kept.{at, calls_split, judged_is_kept}
+use Rattle.wb_judged_sessions.proofs.Listening.{not_begun}
 use Rattle.wb_judged_sessions.proofs.Plain.{plain_came, plain_fault}
 
 -- ---- a judge has the number of its member
@@ -156,9 +157,6 @@ came_by (Begins o given) = []
 abbrev all_came : List KeptLine → List DrawopValue
 all_came [] = []
 all_came (line ∷ lines) = came_in line ++ all_came lines
-
-not_begun : (line : KeptLine) (o : Opening) (given : List Datagram) → Handed line ≡ Begins o given → ⊥
-not_begun line o given e = cc
 
 not_handed : (start o : Opening) (given : List Datagram) (line : KeptLine) → Begins o given ≡ Handed line → ⊥
 not_handed start o given line e = cc

@@ -1,8 +1,7 @@
 -- A session of judged members that keeps to times is one of self-managing members that does.
 use Rattle.std.proofs.Common.{◌≡◌, ◌<◌, ◌≤◌, ℕ, Bool, true, false, List, [], ◌∷◌, ◌++◌, ◌∙◌, None, ap, arith, eqb-true, map, refl, subst, sym, ⊎_elim}
 use Rattle.std.specs.Prelude.{Contains, Option, Some, nat_eq, nat_lt}
-use Rattle.std.proofs.lemmas.Bool.{ltb-true}
-use Rattle.std.proofs.lemmas.Bool.Decides.{nat_tests}
+use Rattle.std.proofs.lemmas.Bool.{ltb-false, ltb-true}
 use Rattle.std.proofs.lemmas.List.Elements.{Contains-append_right}
 use Rattle.wb_names.proofs.Listings.{Contains-cases, Contains-here, Contains-none}
 use Rattle.wb_codec.specs.declared.datagram.Datagram.{Datagram}
@@ -75,7 +74,7 @@ later_calls (e ∷ newer) older order c among = ⊎_elim
 
 -- ---- moments
 
-recalled_now : (line : RecordLine) (now : ℕ) → kept_moment (recalled now line) ≡ now
+pub recalled_now : (line : RecordLine) (now : ℕ) → kept_moment (recalled now line) ≡ now
 recalled_now (Tick past) now = refl
 recalled_now (Said d) now = refl
 recalled_now (Known d) now = refl
@@ -212,9 +211,6 @@ pub record FromLine (numbers : ℕ → ℕ) (calls : List JudgedCallAt) (e : Cal
   pub is : e ≡ at call.time call.place (plain_line (handed line (judged_at numbers before call.place)))
   pub older_is : older ≡ kept_calls numbers before
 
-not_less : (a b : ℕ) → nat_lt a b ≡ false → b ≤ a
-not_less a b e = grind (arith, nat_tests)
-
 one_more : (numbers : ℕ → ℕ) (calls : List JudgedCallAt) (c : JudgedCallAt) (e : CallAt) (older : List CallAt) → FromLine numbers calls e older → FromLine numbers (c ∷ calls) e older
 one_more numbers calls c e older f =
     record { later = c ∷ f.later; call = f.call; before = f.before; split = ap (λ (cs : List JudgedCallAt). c ∷ cs) f.split; line = f.line; takes = f.takes; is = f.is; older_is = f.older_is }
@@ -239,7 +235,7 @@ from_line numbers quiet (c ∷ rest) order alone newer older e split late =
       early above =
           let le = kept_no_later kept e (order_kept numbers (c ∷ rest) order) among in
           let at_c = called_kept numbers (c ∷ rest) in
-          let not = not_less quiet c.time above in
+          let not = ltb-false quiet c.time above in
           omega (arith, le, at_c, late, not)
 
       with_line : (t : (line : Call) × (c.call ≡ Takes line)) → ((newer : List CallAt) → kept_calls numbers rest ≡ newer ++ e ∷ older → FromLine numbers rest e older)

@@ -1,7 +1,7 @@
 -- What judged members hold, send and show: as the self-managing ones.
 use Rattle.std.proofs.Common.{◌≡◌, ℕ, List, ◌++◌, ◌∙◌, ap, refl, subst, sym}
 use Rattle.std.specs.Prelude.{Contains}
-use Rattle.wb_names.specs.Arrivals.{Clashed}
+use Rattle.wb_names.specs.Arrivals.{Clash}
 use Rattle.wb_names.specs.History.{IsHistory}
 use Rattle.wb_names.specs.Values.{DrawopValue, MarkValue}
 use Rattle.wb_names.specs.declared.name.PageId.{PageId}
@@ -97,7 +97,7 @@ none_clashes numbers newer older i d place s was clashed =
     (subst (KeptDrawopsWereHeld numbers) part.1 (held_kept numbers calls s.held))
     (subst (KeptKnowTheirOwn numbers) part.1 (know_kept numbers calls s.know))
     (subst (λ (cs : List CallAt). HeldBySteps numbers (steps_of numbers cs) d) part.1 (held_steps numbers calls d was))
-    (subst (λ (k : Keeping). becomes d k.host ≡ Clashed place) (judged_is_kept numbers older i) clashed)
+    (subst (λ (k : Keeping). becomes d k.host ≡ Clash place) (judged_is_kept numbers older i) clashed)
 
 -- ---- agreement
 

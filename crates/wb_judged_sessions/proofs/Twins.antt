@@ -6,6 +6,7 @@ use Rattle.std.specs.Option.{option_or}
 use Rattle.std.proofs.lemmas.Bool.{eq-eqb, le-leb}
 use Rattle.std.proofs.lemmas.Bool.Decides.{nat_tests}
 use Rattle.std.proofs.lemmas.List.Folds.{find-append}
+use Rattle.std.proofs.Math.Bool.{or-true}
 use Rattle.wb_names.specs.Values.{MarkValue}
 use Rattle.wb_names.specs.declared.echo.Echo.{Echo}
 use Rattle.wb_names.specs.declared.name.PageId.{PageId}
@@ -26,6 +27,7 @@ use Rattle.wb_judge.specs.declared.origin.Origin.{Origin}
 use Rattle.wb_judge.specs.declared.report.Report.{Report}
 use Rattle.wb_judge.proofs.Twins.{replay_is_no_twin}
 use Rattle.wb_member.specs.Judged.{echoes}
+use Rattle.wb_member.specs.Opened.{present}
 use Rattle.wb_policy.proofs.Latest.{last_are_few}
 use Rattle.wb_judging.specs.Echoing.{placed, with_echo}
 use Rattle.wb_judging.specs.Handing.{facts_of, handed, judge_after}
@@ -39,13 +41,13 @@ use Rattle.wb_judging.specs.declared.call.Call.{Call}
 use Rattle.wb_judging.specs.declared.call.Call.TheVariants.{CameFrom, DayTold, Garbled, GoneFrom, Held, Passed, UserDrew}
 use Rattle.wb_judging.specs.Laws.{sends_in}
 use Rattle.wb_judging.specs.Performing.{after_judged, events_of, fate_by, judging, sent_by_kept_line}
+use Rattle.wb_judging.proofs.Numbers.{me_judging}
+use Rattle.wb_kept_progress.proofs.Pauses.{lawful_echoes}
 use Rattle.wb_judged_sessions.specs.Sessions.{judged_at}
 use Rattle.wb_judged_sessions.specs.Terms.{AreTaken}
 use Rattle.wb_judged_sessions.specs.Twins.{AnswersShowTwins, IsOfTwin, TwinsAreRemembered, TwinsSee, TwinsStay}
 use Rattle.wb_judged_sessions.proofs.Answered.{after_it, answers_in_time, me_at, taken_part}
 use Rattle.wb_judged_sessions.proofs.Echoed.{IsReported, report_echoes, report_moment, reported, taken_line}
-use Rattle.wb_judged_sessions.proofs.FewEchoed.{lawful}
-use Rattle.wb_judged_sessions.proofs.Sent.{me_judging}
 
 -- ---- what a report of a twin makes of a judge
 
@@ -103,10 +105,7 @@ module _ (now : ℕ) (o : Origin) (sent : ℕ) (page : PageId) (marks : List Mar
   sees answer =
       (line_sent (CameFrom now o v) h).twin ∙ ap (λ (j : Judge). j.has_twin) judged
       ∙ ap (λ (b : Bool). h.judge.has_twin || (not b && answers h.judge.own r.echo now)) twin.other
-      ∙ ap (λ (b : Bool). h.judge.has_twin || b) answer ∙ last h.judge.has_twin where
-        last : (b : Bool) → (b || true) ≡ true
-        last true = refl
-        last false = refl
+      ∙ ap (λ (b : Bool). h.judge.has_twin || b) answer ∙ or-true h.judge.has_twin
 
 pub twins_are_remembered : TwinsAreRemembered
 twins_are_remembered now o sent page marks es h twin = remembers now o sent page marks es h twin
@@ -261,7 +260,7 @@ twins_see numbers calls e other now moment o page marks es heard taken same sent
       few : length report.plain ≤ 32
       few =
           let t = report_echoes sent.line k me moment page marks es (taken_line numbers sent.earlier sent.call sent.line taken_there sent.takes) report in
-          subst (λ (fs : List Echo). length fs ≤ 32) (sym t.1) (last_are_few (echoes t.0) (lawful t.0))
+          subst (λ (fs : List Echo). length fs ≤ 32) (sym t.1) (last_are_few (echoes t.0) (lawful_echoes t.0.is.number t.0.is.calls (present t.0)))
 
       alien : (judging sent.line k).alien ≡ Some (record { sent = heard.sent; at = heard.at })
       alien =

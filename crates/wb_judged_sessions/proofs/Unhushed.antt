@@ -38,6 +38,7 @@ use Rattle.wb_judging.specs.declared.record.RecordLine.TheVariants.{Known, Mark,
 use Rattle.wb_judging.proofs.AsKept.{sends_as_kept}
 use Rattle.wb_laws_kept.specs.Sessions.{steps_of}
 use Rattle.wb_laws_sessions.proofs.Holding.{none_held_is_asked_for}
+use Rattle.wb_laws_sessions.proofs.Sending.{one_draw}
 use Rattle.wb_judged_sessions.specs.Sessions.{JudgedCall, JudgedCallAt, Start, Starts, Takes, after_call, judged_at, kept_calls}
 use Rattle.wb_judged_sessions.specs.Terms.{AreTaken, IsTaken}
 use Rattle.wb_judged_sessions.specs.Unhushed.{AllAre, RepairsAreSent, ComesWhen, EndsRequest, IsFirmAt, IsToRepair, IsToRequest, OneIs, RequestsAreSent, Sends}
@@ -107,9 +108,7 @@ module _ (d : DrawopValue) (a : AnswerTimer) where
     now = present h.kept.host
 
     copied : (e : DrawopValue) → All (λ (y : DrawopValue). same_name y.name d.name ≡ false) (e ∷ []) → Goes now (Came now (Draw e)) h
-    copied e other = came_answers d a now (Draw e) h.kept (λ lt y is. subst (λ (z : DrawopValue). same_name z.name d.name ≡ false) (one_draw e y is) (All-head (λ (x : DrawopValue). same_name x.name d.name ≡ false) e [] other)) once is where
-      one_draw : (e y : DrawopValue) → Draw e ≡ Draw y → e ≡ y
-      one_draw e y same = cc
+    copied e other = came_answers d a now (Draw e) h.kept (λ lt y is. subst (λ (z : DrawopValue). same_name z.name d.name ≡ false) (one_draw e y is) (All-head (λ (x : DrawopValue). same_name x.name d.name ≡ false) e [] other)) once is
 
     by : (line : RecordLine) → All (λ (y : DrawopValue). same_name y.name d.name ≡ false) (drawops_in line) → Goes now (recalled now line) h
     by (Tick past) other = ticked_answers d a now h.kept once is

@@ -1,5 +1,5 @@
 -- All of a session has come to judged members in time.
-use Rattle.std.proofs.Common.{◌≡◌, ◌+◌, ◌<◌, ◌≤◌, ℕ, true, List, [], ◌∷◌, ◌++◌, ◌∙◌, ap, arith, max, refl, subst, sym}
+use Rattle.std.proofs.Common.{◌≡◌, ◌<◌, ◌≤◌, ℕ, true, List, [], ◌∷◌, ◌++◌, ◌∙◌, ap, arith, refl, subst, sym}
 use Rattle.std.specs.Prelude.{Contains}
 use Rattle.wb_names.specs.Values.{DrawopValue, NameValue}
 use Rattle.wb_progress.specs.Turns.{Terms}
@@ -12,7 +12,7 @@ use Rattle.wb_kept_progress.specs.Since.{called_at as kept_called_at, hosts_of, 
 use Rattle.wb_kept_progress.specs.Timed.{called_at as timed_called_at, lines_of}
 use Rattle.wb_kept_progress.specs.Whole.{Sizes, there, whole_by}
 use Rattle.wb_kept_progress.proofs.Agreeing.{sessions_agree}
-use Rattle.wb_kept_progress.proofs.Since.{restarted_become_whole, restarted_become_whole_by_rounds, restarted_become_whole_in_crowds, restarted_fill_holes, since_is_same, since_is_timely}
+use Rattle.wb_kept_progress.proofs.Since.{quiet_first, restarted_become_whole, restarted_become_whole_by_rounds, restarted_become_whole_in_crowds, restarted_fill_holes, since_is_same, since_is_timely}
 use Rattle.wb_judged_sessions.specs.Sessions.{JudgedCallAt, WasDrawn, judged_at, kept_calls}
 use Rattle.wb_judged_sessions.specs.Terms.{IsSession}
 use Rattle.wb_judged_sessions.specs.Timely.{IsTimely, JudgedAgree, JudgedBecomeWhole, JudgedBecomeWholeByRounds, JudgedBecomeWholeInCrowds, JudgedFillHoles, called_at}
@@ -63,10 +63,8 @@ judged_fill_holes numbers terms calls newer later since wait most crowded i n s 
 
 whole_is_late : (terms : Terms) (sizes : Sizes) (wait most time : ℕ) → whole_by terms sizes wait most < time → terms.quiet < time
 whole_is_late terms sizes wait most time late =
-    let le : terms.quiet ≤ whole_by terms sizes wait most = after terms.quiet terms.delivery _ wait _ sizes.since _ in
-    omega (arith, late, le) where
-      after : (q d m w r first x : ℕ) → q ≤ max (q + d + d + m + 1 + w + r) first + x
-      after q d m w r first x = omega arith
+    let le : terms.quiet ≤ whole_by terms sizes wait most = quiet_first terms.quiet terms.delivery _ wait _ sizes.since _ in
+    omega (arith, late, le)
 
 module _ (numbers : ℕ → ℕ) (calls : List JudgedCallAt) where
   abbrev kept : List CallAt

@@ -1,6 +1,6 @@
 -- What holds of sessions of judged members, through every start of their programs.
 use Rattle.std.specs.Prelude.{◌≡◌, ◌≤◌, ◌<◌, ℕ, List, [], ◌∷◌, ◌++◌, Contains}
-use Rattle.wb_names.specs.Arrivals.{Clashed, history_after}
+use Rattle.wb_names.specs.Arrivals.{Clash, history_after}
 use Rattle.wb_names.specs.Ascending.{AreMarks}
 use Rattle.wb_names.specs.History.{IsHistory, name_of}
 use Rattle.wb_names.specs.Values.{DrawopValue, MarkValue}
@@ -107,7 +107,7 @@ MarksWereDrawn = (numbers : ℕ → ℕ) (calls : List JudgedCallAt) → IsSessi
 abbrev pub NoneClashes : Type 0
 NoneClashes = (numbers : ℕ → ℕ) (newer older : List JudgedCallAt) (i : ℕ) (d : DrawopValue) (place : ℕ)
     → IsSession numbers (newer ++ older) → WasHeld numbers (newer ++ older) d
-    → becomes d (judged_at numbers older i).kept.host ≡ Clashed place → ⊥
+    → becomes d (judged_at numbers older i).kept.host ≡ Clash place → ⊥
 
 -- ---- agreement
 

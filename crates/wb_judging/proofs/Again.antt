@@ -2,11 +2,13 @@
 use Rattle.std.proofs.Common.{◌≡◌, ◌⊎◌, ◌∙◌, ℕ, ◌≤◌, Bool, true, false, cond, List, [], ◌∷◌, ◌++◌, None, ap, append-nil, arith, drop, filter, inl, inr, length, map, refl, subst, sym, true≢false}
 use Rattle.std.specs.Prelude.{◌||◌, Option, Some, nat_lt, not, option_to_list}
 use Rattle.std.proofs.lemmas.Bool.Decides.{nat_tests}
+use Rattle.std.proofs.lemmas.Bool.{ltb-false, or_right}
 use Rattle.std.proofs.lemmas.List.{drop_at}
-use Rattle.wb_names.specs.Arrivals.{Clashed, Fresh, Known as KnownDrawop, Left, Outcome, history_after, history_with, outcome_of}
+use Rattle.wb_names.specs.Arrivals.{Clash, New, Again, Left, Outcome, history_after, history_with, outcome_of}
 use Rattle.wb_names.specs.Orders.{same_name}
 use Rattle.wb_names.specs.Values.{DrawopValue, MarkValue, NameValue}
 use Rattle.wb_names.specs.declared.name.PageId.{PageId}
+use Rattle.wb_names.proofs.Orders.{same_name-itself}
 use Rattle.wb_codec.specs.declared.datagram.Datagram.{Datagram}
 use Rattle.wb_codec.specs.declared.datagram.Datagram.TheVariants.{AskPages, Draw, PageState, Request, Session}
 use Rattle.wb_keeper.specs.Keeper.{holds}
@@ -24,6 +26,7 @@ use Rattle.wb_judge.proofs.Outcome.{Heard, Same, outcome}
 use Rattle.wb_judge.proofs.Sizes.{filter_length}
 use Rattle.wb_keeping.specs.Laws.{Came, KeptLine, Ticked}
 use Rattle.wb_keeping.specs.Performing.{Keeping}
+use Rattle.wb_keeping.proofs.WantedNames.{held_with}
 use Rattle.wb_member.specs.Opened.{Opened, last_number, present}
 use Rattle.wb_judging.specs.Events.{fate_of, is_new}
 use Rattle.wb_judging.specs.Handing.{facts_of, handed, handed_for, judge_after, verdict_on}
@@ -38,13 +41,13 @@ use Rattle.wb_judging.specs.declared.record.Giver.TheVariants.{Others}
 use Rattle.wb_judging.specs.declared.record.RecordLine.{RecordLine}
 use Rattle.wb_judging.specs.declared.record.RecordLine.TheVariants.{Known, Mark, Said, Strange, Tick}
 use Rattle.wb_judging.proofs.Boards.{IsOther, gained_heard, gained_kept, gained_ticked, gains_kept, held_drawn, held_recalled, takes_kept}
-use Rattle.wb_judging.proofs.Histories.{Of, after_both, all_held, fresh_is_new, holds_last, holds_more, name_here, of_both, of_filter, of_so, or_more, taken_again}
+use Rattle.wb_judging.proofs.Histories.{Of, after_both, all_held, fresh_is_new, holds_last, of_both, of_filter, of_so, taken_again}
 use Rattle.wb_judging.proofs.Recorded.{line_recorded, noted}
 use Rattle.wb_judging.proofs.StrangeNames.{Once, each_given, freed_names, has, has_is, less, less_all, less_none, more, named_none, names_less, names_more, none_has, not_held_has, not_held_none, once_filter, once_given, once_last}
 
 -- ---- the drawops of a record
 
-drawops_both : (one other : List RecordLine) → drawops_of (one ++ other) ≡ drawops_of one ++ drawops_of other
+pub drawops_both : (one other : List RecordLine) → drawops_of (one ++ other) ≡ drawops_of one ++ drawops_of other
 drawops_both [] other = refl
 drawops_both (Tick now ∷ one) other = drawops_both one other
 drawops_both (Said d ∷ one) other = ap (λ (ds : List DrawopValue). d ∷ ds) (drawops_both one other)
@@ -111,10 +114,10 @@ no_drawops (Mark speaker page mark ∷ lines) each = no_drawops lines each.1
 
 -- ---- the board
 
-abbrev held_by : Judged → List DrawopValue
+abbrev pub held_by : Judged → List DrawopValue
 held_by h = h.kept.host.is.held
 
-abbrev cells_of : Judged → ℕ
+abbrev pub cells_of : Judged → ℕ
 cells_of h = h.kept.host.is.cells
 
 -- what is recorded first is held
@@ -173,7 +176,7 @@ held_line (GoneFrom now o) h = let l = GoneFrom now o in held_noted l h (others_
 held_line (Held line) h =
     held_recalled (present h.kept.host) line h.kept ∙ ap (λ (ds : List DrawopValue). history_after (cells_of h) (held_by h) ds) (sym (append-nil (drawops_in line)))
 
-cells_line : (line : Call) (h : Judged) → cells_of (after_judged line h) ≡ cells_of h
+pub cells_line : (line : Call) (h : Judged) → cells_of (after_judged line h) ≡ cells_of h
 cells_line line h = (takes_kept (handed line h) h.kept).cells
 
 pub the_record_is_the_board : TheRecordIsTheBoard
@@ -240,15 +243,9 @@ pub record Sound (board : List DrawopValue) (ns : List NameValue) : Type 0 where
   pub held : Of (λ (n : NameValue). holds board n ≡ true) ns
   pub once : Once ns
 
-grown : (held : List DrawopValue) (d : DrawopValue) (o : Outcome) (n : NameValue) → holds held n ≡ true → holds (history_with held d o) n ≡ true
-grown held d (Fresh place) n is = holds_more held (d ∷ []) n is
-grown held d (KnownDrawop place) n is = is
-grown held d (Clashed place) n is = is
-grown held d Left n is = is
-
 sound_grown : (held : List DrawopValue) (d : DrawopValue) (o : Outcome) (ns : List NameValue) → Sound held ns → Sound (history_with held d o) ns
 sound_grown held d o ns s = record {
-  held = of_so (λ (n : NameValue). holds held n ≡ true) (λ (n : NameValue). holds (history_with held d o) n ≡ true) ns (λ n is. grown held d o n is) s.held;
+  held = of_so (λ (n : NameValue). holds held n ≡ true) (λ (n : NameValue). holds (history_with held d o) n ≡ true) ns (λ n is. held_with held d o n is) s.held;
   once = s.once;
 }
 
@@ -262,19 +259,19 @@ sound_more : (most cells : ℕ) (held : List DrawopValue) (d : DrawopValue) (ns 
     → Sound (history_with held d (outcome_of cells held d)) (cond (is_new (Some (fate_of (outcome_of cells held d)))) (more most d.name ns) ns)
 sound_more most cells held d ns s = by (outcome_of cells held d) where
   longer : (b c : Bool) → has d.name ns ≡ b → Sound (held ++ d ∷ []) (cond b ns (cond c (ns ++ d.name ∷ []) ns))
-  longer true c e = sound_grown held d (Fresh 0) ns s
-  longer false false e = sound_grown held d (Fresh 0) ns s
+  longer true c e = sound_grown held d (New 0) ns s
+  longer false false e = sound_grown held d (New 0) ns s
   longer false true e =
-      let t = sound_grown held d (Fresh 0) ns s in
+      let t = sound_grown held d (New 0) ns s in
       record {
         held = of_both (λ (n : NameValue). holds (held ++ d ∷ []) n ≡ true) ns (d.name ∷ []) t.held (holds_last held d, tt);
         once = once_last ns d.name s.once (none_has d.name ns e);
       }
 
   by : (o : Outcome) → Sound (history_with held d o) (cond (is_new (Some (fate_of o))) (more most d.name ns) ns)
-  by (Fresh place) = longer (has d.name ns) (nat_lt (length ns) most) refl
-  by (KnownDrawop place) = s
-  by (Clashed place) = s
+  by (New place) = longer (has d.name ns) (nat_lt (length ns) most) refl
+  by (Again place) = s
+  by (Clash place) = s
   by Left = s
 
 sound_line : (most cells : ℕ) (line : RecordLine) (held : List DrawopValue) (ns : List NameValue) → Sound held ns
@@ -336,9 +333,6 @@ same_if_long {X} p (x ∷ xs) long = by (p x) (filter_length p xs) long (λ le. 
 not_less : (n : ℕ) → nat_lt n n ≡ false
 not_less n = grind (arith, nat_tests)
 
-long_enough : (m n : ℕ) → nat_lt m n ≡ false → n ≤ m
-long_enough m n e = grind (arith, nat_tests)
-
 -- what an origin gave and is strange no more, is recorded as a member's
 freed_told : (o : Origin) (before after : Shares) (held : List DrawopValue) → (after ≡ before) ⊎ (after ≡ without_origin o before) → Sound held (names_of before.given)
     → names_of after.given ≡ less_all (named (freed o before.given after.given) held) (names_of before.given)
@@ -360,7 +354,7 @@ freed_told o before after held (inr taken) s =
           freed_names o held before.given s.held s.once
           ∙ ap (λ (b : Bool). less_all (named (cond b (given_by o before.given) []) held) (names_of before.given)) (sym e)
       by false e =
-          ap (λ (gs : List Given). names_of gs) (same_if_long (λ (g : Given). not (is_given_by o g)) before.given (long_enough (length rest) (length before.given) e))
+          ap (λ (gs : List Given). names_of gs) (same_if_long (λ (g : Given). not (is_given_by o g)) before.given (ltb-false (length rest) (length before.given) e))
           ∙ ap (λ (ds : List DrawopValue). less_all ds (names_of before.given)) (sym (named_none held))
           ∙ ap (λ (b : Bool). less_all (named (cond b (given_by o before.given) []) held) (names_of before.given)) (sym e)
 
@@ -426,15 +420,15 @@ tick_told line h now others none ticked same recorded is =
 more_is : (most : ℕ) (n : NameValue) (ns : List NameValue) → has n ns ≡ false → has n (more most n ns) ≡ false → more most n ns ≡ ns
 more_is most n ns absent still = by (has n ns) (nat_lt (length ns) most) absent still where
   last : (ns : List NameValue) → has n (ns ++ n ∷ []) ≡ true
-  last [] = ap (λ (b : Bool). b || false) (name_here n)
-  last (m ∷ ns) = or_more (same_name m n) (has n (ns ++ n ∷ [])) (last ns)
+  last [] = ap (λ (b : Bool). b || false) (same_name-itself n)
+  last (m ∷ ns) = or_right (same_name m n) (has n (ns ++ n ∷ [])) (last ns)
 
   by : (b c : Bool) → b ≡ false → has n (cond b ns (cond c (ns ++ n ∷ []) ns)) ≡ false → cond b ns (cond c (ns ++ n ∷ []) ns) ≡ ns
   by true c e f = refl
   by false true e f = absurd (true≢false (sym (last ns) ∙ f))
   by false false e f = refl
 
-all_dropped : (h : List DrawopValue) → drop (length h) h ≡ []
+pub all_dropped : (h : List DrawopValue) → drop (length h) h ≡ []
 all_dropped h = ap (λ (ds : List DrawopValue). drop (length h) ds) (sym (append-nil h)) ∙ drop_at h [] (length h) refl
 
 module _ (now : ℕ) (o : Origin) (d : DrawopValue) (k : Keeping) (j : Judge) where
@@ -477,13 +471,13 @@ module _ (now : ℕ) (o : Origin) (d : DrawopValue) (k : Keeping) (j : Judge) wh
   became_told : (out : Outcome) → outcome_here ≡ out → (gained : List DrawopValue) → gained ≡ drop (length held) (history_with held d out) → Of (λ (m : NameValue). holds held m ≡ true) ns
       → let after = cond (is_new (Some (fate_of out))) (after_taking given o now j) j in
       told_by j.strange.most cells (map (line_of after.strange.given) gained) held ns ≡ names_of after.strange.given
-  became_told (Fresh place) e gained is sound =
+  became_told (New place) e gained is sound =
       let after = after_taking given o now j in
       let absent = not_held_has held d.name ns (fresh_is_new cells held d place e) sound in
       ap (λ (ds : List DrawopValue). told_by j.strange.most cells (map (line_of after.strange.given) ds) held ns) (is ∙ drop_at held (d ∷ []) (length held) refl)
       ∙ taken_told (ap (λ (out : Outcome). is_new (Some (fate_of out))) e) absent after (taking (knows o now j))
-  became_told (KnownDrawop place) e gained is sound = nothing_gained j.strange.most cells j.strange.given gained held ns (is ∙ all_dropped held)
-  became_told (Clashed place) e gained is sound = nothing_gained j.strange.most cells j.strange.given gained held ns (is ∙ all_dropped held)
+  became_told (Again place) e gained is sound = nothing_gained j.strange.most cells j.strange.given gained held ns (is ∙ all_dropped held)
+  became_told (Clash place) e gained is sound = nothing_gained j.strange.most cells j.strange.given gained held ns (is ∙ all_dropped held)
   became_told Left e gained is sound = nothing_gained j.strange.most cells j.strange.given gained held ns (is ∙ all_dropped held)
 
   drawn_told : (why : Option Why) → Of (λ (m : NameValue). holds held m ≡ true) ns
@@ -603,7 +597,7 @@ most_line line h = ap (λ (s : Shares). s.most) (strange_line line h) ∙ most_j
 
 -- ---- many lines
 
-cells_all : (lines : List Call) (h : Judged) → cells_of (after_all lines h) ≡ cells_of h
+pub cells_all : (lines : List Call) (h : Judged) → cells_of (after_all lines h) ≡ cells_of h
 cells_all [] h = refl
 cells_all (line ∷ lines) h = cells_all lines (after_judged line h) ∙ cells_line line h
 
@@ -631,7 +625,7 @@ names_all (line ∷ lines) h s =
     ∙ sym (told_both (most_of h) (cells_of h) one rest (held_by h) (strange_names h))
 
 -- the record of what is handed in from one is that one
-handed_record : (recorded : List RecordLine) (h : Judged) → record_by (map Held recorded) h ≡ recorded
+pub handed_record : (recorded : List RecordLine) (h : Judged) → record_by (map Held recorded) h ≡ recorded
 handed_record [] h = refl
 handed_record (line ∷ recorded) h = ap (λ (ls : List RecordLine). line ∷ ls) (handed_record recorded (after_judged (Held line) h))
 

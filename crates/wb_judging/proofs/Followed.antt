@@ -7,14 +7,13 @@ use Rattle.wb_codec.specs.declared.datagram.Datagram.{Datagram}
 use Rattle.wb_codec.specs.declared.datagram.Datagram.TheVariants.{AskPages, Draw, PageState, Request, Session}
 use Rattle.wb_keeper.specs.declared.keep_fault.KeepFault.TheVariants.{BackInTime}
 use Rattle.wb_judge.specs.Days.{DayClock, time_of_day}
-use Rattle.wb_judge.specs.Judge.{Judge, after_taking, knows}
+use Rattle.wb_judge.specs.Judge.{Judge}
 use Rattle.wb_judge.specs.Known.{is_known}
-use Rattle.wb_judge.specs.Strange.{with_given}
 use Rattle.wb_judge.specs.declared.known.KnownOrigin.{KnownOrigin}
 use Rattle.wb_judge.specs.declared.origin.Origin.{Origin}
-use Rattle.wb_judge.specs.declared.strange.Given.{Given}
 use Rattle.wb_judge.specs.declared.verdict.Why.{Why}
 use Rattle.wb_judge.proofs.Members.{a_member_is_not_dropped, only_answers_make_known, strangers_hush_nobody}
+use Rattle.wb_judge.proofs.Stepping.{taking_known}
 use Rattle.wb_member.specs.Opened.{present}
 use Rattle.wb_keeping.specs.Performing.{Keeping}
 use Rattle.wb_keeping.specs.Refusing.{back_in_time}
@@ -79,18 +78,12 @@ known_sends : (sent : List Datagram) (j : Judge) → (after_sends sent j).known 
 known_sends [] j = refl
 known_sends (v ∷ sent) j = known_sends sent (after_sending v j) ∙ known_sending v j
 
-known_taking : (g : Given) (o : Origin) (now : ℕ) (j : Judge) → (after_taking g o now j).known ≡ j.known
-known_taking g o now j = by (knows o now j) where
-  by : (b : Bool) → (cond b j (record j { strange = with_given g j.strange })).known ≡ j.known
-  by true = refl
-  by false = refl
-
 known_if : (b : Bool) (one j : Judge) → one.known ≡ j.known → (cond b one j).known ≡ j.known
 known_if true one j e = e
 known_if false one j e = refl
 
 known_fate : (now : ℕ) (o : Origin) (v : Datagram) (fate : Option Fate) (j : Judge) → (after_fate now o v fate j).known ≡ j.known
-known_fate now o (Draw d) fate j = known_if (is_new fate) _ j (known_taking (record { name = d.name; origin = Some o }) o now j)
+known_fate now o (Draw d) fate j = known_if (is_new fate) _ j (taking_known (record { name = d.name; origin = Some o }) o now j)
 known_fate now o (Session sender sent page marks echoes) fate j = refl
 known_fate now o (Request asker name) fate j = refl
 known_fate now o (AskPages asker) fate j = refl

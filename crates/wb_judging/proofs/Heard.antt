@@ -10,9 +10,9 @@ use Rattle.wb_judging.specs.Echoing.{placed}
 use Rattle.wb_judging.specs.Laws.{OthersHearTheSame}
 
 -- all that pass one test pass the other, or none does
-keeps : (p q : Echo → Bool) → ((f : Echo) → p f ≡ true → q f ≡ true) → (es : List Echo) → filter p (filter q es) ≡ filter p es
-keeps p q so [] = refl
-keeps p q so (f ∷ es) = by (p f) (q f) refl refl (keeps p q so es) where
+pub filter_of_filter : (p q : Echo → Bool) → ((f : Echo) → p f ≡ true → q f ≡ true) → (es : List Echo) → filter p (filter q es) ≡ filter p es
+filter_of_filter p q so [] = refl
+filter_of_filter p q so (f ∷ es) = by (p f) (q f) refl refl (filter_of_filter p q so es) where
   by : (a b : Bool) → p f ≡ a → q f ≡ b → filter p (filter q es) ≡ filter p es → filter p (cond b (f ∷ filter q es) (filter q es)) ≡ cond a (f ∷ filter p es) (filter p es)
   by true true is and more = ap (λ (c : Bool). cond c (f ∷ filter p (filter q es)) (filter p (filter q es))) is ∙ ap (λ (fs : List Echo). f ∷ fs) more
   by true false is and more = absurd (true≢false (sym (so f is) ∙ and))
@@ -58,10 +58,10 @@ parts_same : (n s : ℕ) (es : List Echo) → (n < s) ⊎ (s < n) → filter (is
 parts_same n s es (inl less) =
     ap (λ (fs : List Echo). filter (is_of n) (filter (is_below s) es) ++ fs) (loses (is_of n) (is_above s) (above_loses n s less) es)
     ∙ append-nil (filter (is_of n) (filter (is_below s) es))
-    ∙ keeps (is_of n) (is_below s) (below_keeps n s less) es
+    ∙ filter_of_filter (is_of n) (is_below s) (below_keeps n s less) es
 parts_same n s es (inr more) =
     ap (λ (fs : List Echo). fs ++ filter (is_of n) (filter (is_above s) es)) (loses (is_of n) (is_below s) (below_loses n s more) es)
-    ∙ keeps (is_of n) (is_above s) (above_keeps n s more) es
+    ∙ filter_of_filter (is_of n) (is_above s) (above_keeps n s more) es
 
 not_one : (n s : ℕ) → ¬ (s ≡ n) → nat_eq s n ≡ false
 not_one n s other = grind (arith, nat_tests)

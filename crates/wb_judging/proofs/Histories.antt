@@ -1,15 +1,15 @@
 -- What a board holds that takes drawops in their order.
-use Rattle.std.proofs.Common.{◌≡◌, ◌∙◌, ℕ, ◌+◌, Bool, true, false, cond, List, [], ◌∷◌, ◌++◌, ap, append-nil, append_assoc, arith, drop, filter, length, refl, sym, true≢false}
+use Rattle.std.proofs.Common.{◌≡◌, ◌∙◌, ℕ, ◌+◌, Bool, true, false, cond, List, [], ◌∷◌, ◌++◌, ap, append-nil, append_assoc, drop, filter, length, refl, sym, true≢false}
 use Rattle.std.specs.Prelude.{◌||◌}
 use Rattle.std.proofs.lemmas.List.{drop_at}
 use Rattle.std.proofs.lemmas.List.Folds.{list_any-append}
-use Rattle.wb_names.specs.Arrivals.{Clashed, Fresh, Known, Left, Outcome, history_after, history_with, outcome_from, outcome_of}
+use Rattle.wb_names.specs.Arrivals.{Clash, New, Again, Left, Outcome, history_after, history_with, outcome_from, outcome_of}
 use Rattle.wb_names.specs.Orders.{same_name}
 use Rattle.wb_names.specs.Same.{same_drawop}
 use Rattle.wb_names.specs.Values.{DrawopValue, NameValue}
+use Rattle.wb_names.proofs.Orders.{same_name-itself}
 use Rattle.wb_keeper.specs.Keeper.{holds}
-use Rattle.std.proofs.lemmas.Grind.{common_steps}
-use Rattle.std.proofs.lemmas.Bool.Decides.{nat_tests}
+use Rattle.std.proofs.lemmas.Bool.{or_parts, or_right}
 
 -- of each element
 abbrev pub Of : {X : Type 0} → (X → Type 0) → List X → Type 0
@@ -39,38 +39,20 @@ after_both cells h (d ∷ ds) es = after_both cells (history_with h d (outcome_o
 
 -- ---- names that are held
 
-pub name_here : (n : NameValue) → same_name n n ≡ true
-name_here n = grind (arith, common_steps, nat_tests)
-
-or_true : (b : Bool) → (b || true) ≡ true
-or_true true = refl
-or_true false = refl
-
-pub or_left : (b c : Bool) → (b || c) ≡ false → b ≡ false
-or_left true c e = e
-or_left false c e = refl
-
-pub or_right : (b c : Bool) → (b || c) ≡ false → c ≡ false
-or_right true c e = absurd (true≢false e)
-or_right false c e = e
-
-pub or_more : (b c : Bool) → c ≡ true → (b || c) ≡ true
-or_more b c e = ap (λ (c : Bool). b || c) e ∙ or_true b
-
 pub holds_more : (h more : List DrawopValue) (n : NameValue) → holds h n ≡ true → holds (h ++ more) n ≡ true
 holds_more h more n is = list_any-append (λ (d : DrawopValue). same_name d.name n) h more ∙ ap (λ (b : Bool). b || holds more n) is
 
 pub holds_last : (h : List DrawopValue) (d : DrawopValue) → holds (h ++ d ∷ []) d.name ≡ true
 holds_last h d =
     list_any-append (λ (e : DrawopValue). same_name e.name d.name) h (d ∷ [])
-    ∙ or_more (holds h d.name) (same_name d.name d.name || false) (ap (λ (b : Bool). b || false) (name_here d.name))
+    ∙ or_right (holds h d.name) (same_name d.name d.name || false) (ap (λ (b : Bool). b || false) (same_name-itself d.name))
 
 pub all_held : (h : List DrawopValue) → Of (λ (d : DrawopValue). holds h d.name ≡ true) h
 all_held [] = tt
 all_held (x ∷ h) = (
-  ap (λ (b : Bool). b || holds h x.name) (name_here x.name),
+  ap (λ (b : Bool). b || holds h x.name) (same_name-itself x.name),
   of_so (λ (d : DrawopValue). holds h d.name ≡ true) (λ (d : DrawopValue). (same_name x.name d.name || holds h d.name) ≡ true) h
-      (λ d is. or_more (same_name x.name d.name) (holds h d.name) is) (all_held h),
+      (λ d is. or_right (same_name x.name d.name) (holds h d.name) is) (all_held h),
 )
 
 -- ---- a drawop whose name is held is not taken again
@@ -79,7 +61,7 @@ same_from : (held : List DrawopValue) (cells i : ℕ) (h : List DrawopValue) (d 
 same_from held cells i [] d is = absurd (true≢false (sym is))
 same_from held cells i (x ∷ h) d is = by (same_name x.name d.name) (same_drawop x d) is (λ e. same_from held cells (i + 1) h d e) where
   by : (b c : Bool) → (b || holds h d.name) ≡ true → (holds h d.name ≡ true → history_with held d (outcome_from cells (i + 1) h d) ≡ held)
-      → history_with held d (cond b (cond c (Known i) (Clashed i)) (outcome_from cells (i + 1) h d)) ≡ held
+      → history_with held d (cond b (cond c (Again i) (Clash i)) (outcome_from cells (i + 1) h d)) ≡ held
   by true true e more = refl
   by true false e more = refl
   by false c e more = more e
@@ -91,16 +73,16 @@ taken_again cells h (d ∷ ds) each =
 
 -- ---- a drawop that is taken has a name that was not held
 
-fresh_from : (cells i : ℕ) (h : List DrawopValue) (d : DrawopValue) (place : ℕ) → outcome_from cells i h d ≡ Fresh place → holds h d.name ≡ false
+fresh_from : (cells i : ℕ) (h : List DrawopValue) (d : DrawopValue) (place : ℕ) → outcome_from cells i h d ≡ New place → holds h d.name ≡ false
 fresh_from cells i [] d place e = refl
 fresh_from cells i (x ∷ h) d place e = by (same_name x.name d.name) (same_drawop x d) e (λ e. fresh_from cells (i + 1) h d place e) where
-  by : (b c : Bool) → cond b (cond c (Known i) (Clashed i)) (outcome_from cells (i + 1) h d) ≡ Fresh place
-      → (outcome_from cells (i + 1) h d ≡ Fresh place → holds h d.name ≡ false) → (b || holds h d.name) ≡ false
+  by : (b c : Bool) → cond b (cond c (Again i) (Clash i)) (outcome_from cells (i + 1) h d) ≡ New place
+      → (outcome_from cells (i + 1) h d ≡ New place → holds h d.name ≡ false) → (b || holds h d.name) ≡ false
   by true true e more = absurd cc
   by true false e more = absurd cc
   by false c e more = more e
 
-pub fresh_is_new : (cells : ℕ) (h : List DrawopValue) (d : DrawopValue) (place : ℕ) → outcome_of cells h d ≡ Fresh place → holds h d.name ≡ false
+pub fresh_is_new : (cells : ℕ) (h : List DrawopValue) (d : DrawopValue) (place : ℕ) → outcome_of cells h d ≡ New place → holds h d.name ≡ false
 fresh_is_new cells h d place e = fresh_from cells 0 h d place e
 
 -- ---- what a board gained
@@ -113,13 +95,13 @@ pub record Gains (cells : ℕ) (h after : List DrawopValue) : Type 0 where
   pub new : Of (λ (d : DrawopValue). holds h d.name ≡ false) more
 
 not_in_longer : (h more : List DrawopValue) (n : NameValue) → holds (h ++ more) n ≡ false → holds h n ≡ false
-not_in_longer h more n e = or_left (holds h n) (holds more n) (sym (list_any-append (λ (d : DrawopValue). same_name d.name n) h more) ∙ e)
+not_in_longer h more n e = (or_parts (holds h n) (holds more n) (sym (list_any-append (λ (d : DrawopValue). same_name d.name n) h more) ∙ e)).0
 
 pub gains : (cells : ℕ) (h ds : List DrawopValue) → Gains cells h (history_after cells h ds)
 gains cells h [] = record { more = []; is = sym (append-nil h); again = refl; new = tt }
 gains cells h (d ∷ ds) = by (outcome_of cells h d) refl (λ held. gains cells held ds) where
   by : (o : Outcome) → outcome_of cells h d ≡ o → ((held : List DrawopValue) → Gains cells held (history_after cells held ds)) → Gains cells h (history_after cells (history_with h d o) ds)
-  by (Fresh place) e each =
+  by (New place) e each =
       let rest = each (h ++ d ∷ []) in
       record {
         more = d ∷ rest.more;
@@ -131,8 +113,8 @@ gains cells h (d ∷ ds) = by (outcome_of cells h d) refl (λ held. gains cells 
               (λ x is. not_in_longer h (d ∷ []) x.name is) rest.new,
         );
       }
-  by (Known place) e each = each h
-  by (Clashed place) e each = each h
+  by (Again place) e each = each h
+  by (Clash place) e each = each h
   by Left e each = each h
 
 -- they are what it holds beyond what it held

@@ -1,5 +1,5 @@
 -- A kept member that did not change, or that refused; and the first of some marks.
-use Rattle.std.proofs.Common.{◌≡◌, ◌∙◌, ℕ, List, ap, length, min, subst, sym, take}
+use Rattle.std.proofs.Common.{◌≡◌, ◌∙◌, ℕ, List, ap, length, min, take}
 use Rattle.std.specs.Prelude.{Option, None, Some, Err}
 use Rattle.std.proofs.Math.Nat.{min_comm}
 use Rattle.std.proofs.lemmas.List.{take_min}
@@ -7,9 +7,6 @@ use Rattle.wb_member.specs.Board.{Held}
 use Rattle.wb_keeping.specs.Performing.{IsKeptAt, Keeping, KeptValue}
 use Rattle.wb_keeping.specs.Refusing.{IsRefusedBy}
 use Rattle.wb_keeping.specs.declared.kept_fault.KeptFault.{KeptFault}
-
-pub at_same : {v old : KeptValue} (k : Keeping) → v ≡ old → IsKeptAt old k → IsKeptAt v k
-at_same k e at = subst (λ (v : KeptValue). IsKeptAt v k) (sym e) at
 
 pub refused_so : (X Y : Type 0) (f : Option KeptFault) (e : KeptFault) → IsRefusedBy {X = X} f (Err e) → IsRefusedBy {X = Y} f (Err e)
 refused_so X Y None e is = is

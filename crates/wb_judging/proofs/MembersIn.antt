@@ -1,6 +1,6 @@
 -- What of a member is handed in.
-use Rattle.std.proofs.Common.{◌≡◌, ◌≤◌, ◌∙◌, ℕ, Bool, true, false, ap, arith, refl, sym, true≢false}
-use Rattle.std.proofs.lemmas.Bool.Decides.{nat_tests}
+use Rattle.std.proofs.Common.{◌≡◌, ◌≤◌, ◌∙◌, ℕ, Bool, true, false, ap, refl, sym, true≢false}
+use Rattle.std.proofs.lemmas.Bool.{le-ltb}
 use Rattle.std.specs.Prelude.{Option, ◌&&◌, nat_lt, not}
 use Rattle.wb_codec.specs.declared.datagram.Datagram.{Datagram}
 use Rattle.wb_codec.specs.declared.datagram.Datagram.TheVariants.{AskPages, Draw, PageState, Request, Session}
@@ -45,9 +45,7 @@ pub others_drawops_are_fit : OthersDrawopsAreFit
 others_drawops_are_fit now o d h other soon room = (forged_no true d (facts_of now (Draw d) h.kept) h.judge other, soon, room)
 
 none_listens : (now ready : ℕ) (b : Bool) → ready ≤ now → (nat_lt now ready && b) ≡ false
-none_listens now ready b late = ap (λ (c : Bool). c && b) (not_yet now ready late) where
-  not_yet : (now ready : ℕ) → ready ≤ now → nat_lt now ready ≡ false
-  not_yet now ready late = grind (arith, nat_tests)
+none_listens now ready b late = ap (λ (c : Bool). c && b) (le-ltb now ready late)
 
 pub reports_are_fit : ReportsAreFit
 reports_are_fit now o h late = (

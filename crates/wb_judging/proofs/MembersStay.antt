@@ -2,6 +2,7 @@
 use Rattle.std.proofs.Common.{◌≡◌, ◌≤◌, ◌+◌, ◌-◌, ◌∙◌, ℕ, Bool, true, false, cond, List, [], ◌∷◌, ap, filter, refl, subst, sym, true≢false}
 use Rattle.std.proofs.lemmas.Bool.{and_parts}
 use Rattle.std.proofs.lemmas.Map.Views.{any-filter_same}
+use Rattle.std.proofs.lemmas.Option.{same_Some}
 use Rattle.std.specs.Prelude.{Option, None, Some, ◌&&◌, nat_eq, nat_le, not}
 use Rattle.std.specs.List.{find}
 use Rattle.wb_codec.specs.declared.datagram.Datagram.{Datagram}
@@ -141,18 +142,16 @@ members_are_known_again now o v h number until bounded known spoken speaks soon 
 -- ---- somebody is gone
 
 -- who is found first stays, if it is not taken out
-found_still : (q p : Other → Bool) (x : Other) (xs : List Other) → find q xs ≡ Some x → p x ≡ true → find q (filter p xs) ≡ Some x
+pub found_still : (q p : Other → Bool) (x : Other) (xs : List Other) → find q xs ≡ Some x → p x ≡ true → find q (filter p xs) ≡ Some x
 found_still q p x [] found keeps = found
 found_still q p x (y ∷ ys) found keeps = by (q y) refl (p y) refl found (found_still q p x ys) where
   by : (b : Bool) → q y ≡ b → (c : Bool) → p y ≡ c → cond b (Some y) (find q ys) ≡ Some x → (find q ys ≡ Some x → p x ≡ true → find q (filter p ys) ≡ Some x) → find q (cond c (y ∷ filter p ys) (filter p ys)) ≡ Some x
   by true is true at e rest = ap (λ (d : Bool). cond d (Some y) (find q (filter p ys))) is ∙ e
-  by true is false at e rest = absurd (true≢false (sym keeps ∙ ap p (sym (same y x e)) ∙ at)) where
-    same : (y x : Other) → Some y ≡ Some x → y ≡ x
-    same y x e = cc
+  by true is false at e rest = absurd (true≢false (sym keeps ∙ ap p (sym (same_Some y x e)) ∙ at))
   by false is true at e rest = ap (λ (d : Bool). cond d (Some y) (find q (filter p ys))) is ∙ rest e keeps
   by false is false at e rest = rest e keeps
 
-other_origin : (p o q : Origin) → same_origin p o ≡ false → same_origin q o ≡ true → not (same_origin q p) ≡ true
+pub other_origin : (p o q : Origin) → same_origin p o ≡ false → same_origin q o ≡ true → not (same_origin q p) ≡ true
 other_origin p o q apart at = by (same_origin q p) refl where
   by : (b : Bool) → same_origin q p ≡ b → not b ≡ true
   by true is = absurd (true≢false (sym (same_itself o) ∙ ap (λ (x : Origin). same_origin x o) (sym (same_origins q o at) ∙ same_origins q p is) ∙ apart))

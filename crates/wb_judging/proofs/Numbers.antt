@@ -98,7 +98,7 @@ recalled_fixed (Known d) fate j = members_fixed d.name j
 recalled_fixed (Strange d) fate j = either (is_new fate) j (with_strange d.name j) (strange_fixed d.name j)
 recalled_fixed (Mark speaker page mark) fate j = itself j
 
-me_judging : (line : Call) (h : Judged) → (judging line h).me ≡ h.judge.me
+pub me_judging : (line : Call) (h : Judged) → (judging line h).me ≡ h.judge.me
 me_judging (CameFrom now o v) h = (came_fixed now o v h).me
 me_judging (Garbled now) h = refl
 me_judging (Passed now) h = refl

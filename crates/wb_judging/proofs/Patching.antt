@@ -12,6 +12,7 @@ use Rattle.std.proofs.lemmas.List.{get_or_append_left, take-append-le, drop-appe
 use Rattle.std.proofs.lemmas.List.Elements.{Contains-append_left, Contains-append_right, Contains-append_cases}
 use Rattle.std.proofs.lemmas.List.Folds.{list_any-append, Any-from_list_any}
 use Rattle.std.proofs.lemmas.List.Kept.{IsStrictlySortedBy-filter}
+use Rattle.std.proofs.Math.Bool.{or-false}
 use Rattle.wb_names.specs.History.{IsHistory}
 use Rattle.wb_names.specs.Orders.{same_page, display_cmp}
 use Rattle.wb_names.specs.Same.{same_target, same_target-is}
@@ -60,10 +61,6 @@ module _ (test : DrawopValue → Bool) where
 
 -- ---- what is touched
 
-or_none : (b : Bool) → (b || false) ≡ b
-or_none true = refl
-or_none false = refl
-
 any_map : (p : Target → Bool) (f : DrawopValue → Target) (xs : List DrawopValue) → list_any p (map f xs) ≡ list_any (λ x. p (f x)) xs
 any_map p f [] = refl
 any_map p f (x ∷ xs) = ap (λ (b : Bool). p (f x) || b) (any_map p f xs)
@@ -100,7 +97,7 @@ module _ (page : PageId) (news : List DrawopValue) (d : DrawopValue) where
 
 module _ (xs ys : List DrawopValue) (d : DrawopValue) (still : (e : DrawopValue) → Contains ys e → is_aimed_at e d ≡ false) where
   any_stays : (p : DrawopValue → Bool) → ((e : DrawopValue) → Contains ys e → p e ≡ false) → list_any p (xs ++ ys) ≡ list_any p xs
-  any_stays p none = list_any-append p xs ys ∙ ap (λ (b : Bool). list_any p xs || b) (list_any_nowhere p ys none) ∙ or_none (list_any p xs)
+  any_stays p none = list_any-append p xs ys ∙ ap (λ (b : Bool). list_any p xs || b) (list_any_nowhere p ys none) ∙ or-false (list_any p xs)
 
   word_stays : (e : DrawopValue) → is_last_word (xs ++ ys) d e ≡ is_last_word xs d e
   word_stays e = ap not (any_stays (λ f. is_aimed_at f d && is_lt (display_cmp e f)) (λ f c. ap (λ (b : Bool). b && is_lt (display_cmp e f)) (still f c)))

@@ -2,10 +2,12 @@
 use Rattle.std.proofs.Common.{◌≡◌, ◌∙◌, ℕ, suc, zero, ◌<◌, Bool, true, false, cond, List, [], ◌∷◌, ◌++◌, ap, arith, filter, get_or, length, refl, sym, true≢false}
 use Rattle.std.specs.Prelude.{All, AllPairs, ◌||◌, ◌&&◌, nat_lt, not}
 use Rattle.std.specs.List.{list_any}
+use Rattle.std.proofs.lemmas.Bool.{or_parts}
 use Rattle.std.proofs.lemmas.Map.Views.{any-filter_same}
+use Rattle.std.proofs.Math.Bool.{and-true}
 use Rattle.wb_names.specs.Orders.{same_name}
 use Rattle.wb_names.specs.Values.{DrawopValue, NameValue}
-use Rattle.wb_names.proofs.Orders.{same_name-is}
+use Rattle.wb_names.proofs.Orders.{same_name-is, same_name-itself}
 use Rattle.wb_keeper.specs.Keeper.{holds}
 use Rattle.wb_judge.specs.Laws.{StandOnce}
 use Rattle.wb_judge.specs.Shares.{Shares}
@@ -13,7 +15,7 @@ use Rattle.wb_judge.specs.Strange.{given_by, has_name, is_given_by, names_of, wi
 use Rattle.wb_judge.specs.declared.origin.Origin.{Origin}
 use Rattle.wb_judge.specs.declared.strange.Given.{Given}
 use Rattle.wb_judging.specs.Recording.{named}
-use Rattle.wb_judging.proofs.Histories.{Of, name_here, of_both, of_filter, of_so, or_left, or_right}
+use Rattle.wb_judging.proofs.Histories.{Of, of_both, of_filter, of_so}
 
 -- ---- lists of names
 
@@ -77,7 +79,7 @@ names_more g s =
 
 pub none_has : (n : NameValue) (ns : List NameValue) → has n ns ≡ false → Of (λ (m : NameValue). same_name m n ≡ false) ns
 none_has n [] e = tt
-none_has n (m ∷ ns) e = (or_left (same_name m n) (has n ns) e, none_has n ns (or_right (same_name m n) (has n ns) e))
+none_has n (m ∷ ns) e = let parts = or_parts (same_name m n) (has n ns) e in (parts.0, none_has n ns parts.1)
 
 pub less_none : (n : NameValue) (ns : List NameValue) → Of (λ (m : NameValue). same_name m n ≡ false) ns → less n ns ≡ ns
 less_none n [] none = refl
@@ -137,8 +139,8 @@ flipped m n = by (same_name m n) (same_name n m) refl refl where
   by : (b c : Bool) → same_name m n ≡ b → same_name n m ≡ c → b ≡ c
   by true true e f = refl
   by false false e f = refl
-  by true false e f = absurd (true≢false (sym (name_here n) ∙ ap (λ (x : NameValue). same_name n x) (sym (same_name-is m n e)) ∙ f))
-  by false true e f = absurd (true≢false (sym (name_here m) ∙ ap (λ (x : NameValue). same_name m x) (sym (same_name-is n m f)) ∙ e))
+  by true false e f = absurd (true≢false (sym (same_name-itself n) ∙ ap (λ (x : NameValue). same_name n x) (sym (same_name-is m n e)) ∙ f))
+  by false true e f = absurd (true≢false (sym (same_name-itself m) ∙ ap (λ (x : NameValue). same_name m x) (sym (same_name-is n m f)) ∙ e))
 
 abbrev is_one : List DrawopValue → NameValue → Bool
 is_one ds m = list_any (λ (d : DrawopValue). same_name m d.name) ds
@@ -185,7 +187,7 @@ gave_each : (o : Origin) (given : List Given) → Once (names_of given) → Of (
 gave_each o [] once = tt
 gave_each o (x ∷ given) once = (by (is_given_by o x) refl, gave_more o x given given once.0 (gave_each o given once.1)) where
   by : (b : Bool) → is_given_by o x ≡ b → has x.name (names_of (cond b (x ∷ filter (is_given_by o) given) (filter (is_given_by o) given))) ≡ b
-  by true e = ap (λ (b : Bool). b || has x.name (given_by o given)) (name_here x.name)
+  by true e = ap (λ (b : Bool). b || has x.name (given_by o given)) (same_name-itself x.name)
   by false e = gave_is o x.name given once.0
 
 -- a name that is held is that of one of the named drawops if it is among the names
@@ -194,14 +196,10 @@ one_named names h m held =
     any-filter_same (λ (d : DrawopValue). same_name m d.name) (λ (d : DrawopValue). has d.name names) (has m names)
     (λ d is. ap (λ (x : NameValue). has x names) (sym (same_name-is m d.name is))) h
     ∙ ap (λ (b : Bool). has m names && b) (one_held h ∙ held)
-    ∙ and_true (has m names) where
+    ∙ and-true (has m names) where
       one_held : (h : List DrawopValue) → is_one h m ≡ holds h m
       one_held [] = refl
       one_held (d ∷ h) = ap (λ (b : Bool). b || is_one h m) (flipped m d.name) ∙ ap (λ (b : Bool). same_name d.name m || b) (one_held h)
-
-      and_true : (b : Bool) → (b && true) ≡ b
-      and_true true = refl
-      and_true false = refl
 
 filter_as : (p : Given → Bool) (q : NameValue → Bool) (given : List Given) → Of (λ (g : Given). q g.name ≡ p g) given
     → names_of (filter (λ (g : Given). not (p g)) given) ≡ filter (λ (m : NameValue). not (q m)) (names_of given)

@@ -1,6 +1,6 @@
 -- The events of a line, in their order.
 use Rattle.std.specs.Prelude.{ℕ, Bool, true, false, List, [], ◌∷◌, ◌++◌, Option, Some, None, map}
-use Rattle.wb_names.specs.Arrivals.{Outcome, Fresh, Known as KnownDrawop, Clashed, Left as NoCell}
+use Rattle.wb_names.specs.Arrivals.{Outcome, New, Again, Clash, Left}
 use Rattle.wb_names.specs.Values.{DrawopValue}
 use Rattle.wb_names.specs.declared.echo.Echo.{Echo}
 use Rattle.wb_codec.specs.declared.datagram.Datagram.{Datagram}
@@ -12,23 +12,23 @@ use Rattle.wb_judging.specs.Echoing.{echoing}
 use Rattle.wb_judging.specs.declared.event.Event.{Event}
 use Rattle.wb_judging.specs.declared.event.Event.TheVariants.{Became, Dropped, Drew, Fetch, Record, Send, Warn}
 use Rattle.wb_judging.specs.declared.event.Fate.{Fate}
-use Rattle.wb_judging.specs.declared.event.Fate.TheVariants.{Again, Clash, Left, New}
+use Rattle.wb_judging.specs.declared.event.Fate.TheVariants as fates
 use Rattle.wb_judging.specs.declared.record.RecordLine.{RecordLine}
 use Rattle.wb_judging.specs.declared.record.RecordLine.TheVariants.{Tick}
 
 -- what became of a drawop
 abbrev pub fate_of : Outcome → Fate
-fate_of (Fresh place) = New
-fate_of (KnownDrawop place) = Again
-fate_of (Clashed place) = Clash
-fate_of NoCell = Left
+fate_of (New place) = fates.New
+fate_of (Again place) = fates.Again
+fate_of (Clash place) = fates.Clash
+fate_of Left = fates.Left
 
 abbrev pub is_new : Option Fate → Bool
 is_new None = false
-is_new (Some New) = true
-is_new (Some Again) = false
-is_new (Some Clash) = false
-is_new (Some Left) = false
+is_new (Some fates.New) = true
+is_new (Some fates.Again) = false
+is_new (Some fates.Clash) = false
+is_new (Some fates.Left) = false
 
 abbrev pub dropped_events : Option Why → List Event
 dropped_events None = []

@@ -6,7 +6,7 @@ use Rattle.std.specs.Option.{option_or, option_map}
 use Rattle.std.proofs.lemmas.Cmp.{nat_eq_equiv}
 use Rattle.std.proofs.lemmas.Bool.{cases_lt}
 use Rattle.std.proofs.lemmas.Bool.Decides.{nat_tests}
-use Rattle.std.proofs.lemmas.List.{take_all, length-append, length-take-le, take-append-le}
+use Rattle.std.proofs.lemmas.List.{take_all, length-append, length-take-le, take-append-le, length-take}
 use Rattle.std.proofs.lemmas.Map.Views.{Contains-from_any, list_any-from_Contains}
 use Rattle.wb_names.proofs.Listings.{Contains-there, Contains-cases, Contains-here, Contains-none}
 use Rattle.wb_keeper.specs.Keeper.{KeeperCall, session_heard, remember, senders_of, heard_by, newest, last_heard}
@@ -94,6 +94,9 @@ remembered me (call ∷ calls) = from (session_heard me call) (remembered me cal
   from None same = same
   from (Some told) same = one_more MAX_ENTRIES told.0 (senders_of me calls) (by_first (all_senders me calls)) same
 
+pub senders_few : (me : ℕ) (calls : List KeeperCall) → length (senders_of me calls) ≤ MAX_ENTRIES
+senders_few me calls = let all = (remembered me calls).len in let few = length-take MAX_ENTRIES (by_first (all_senders me calls)) in omega (arith, all, few)
+
 -- ---- the last that a sender sent
 abbrev last_of : ℕ → List KeeperCall → ℕ → Option Heard
 last_of me calls source = newest (λ call. heard_by source (session_heard me call)) calls
@@ -138,16 +141,13 @@ latest_to me (c ∷ newer) call older source h told last =
 
 pub first_senders_are_echoed : FirstSendersAreEchoed
 first_senders_are_echoed me calls source h = (forth, back) where
-  nat_is : (a b : ℕ) → nat_eq a b ≡ true → a ≡ b
-  nat_is a b e = eqb-true a b e
-
   same : has (senders_of me calls) source ≡ has (first_senders me calls) source
   same = (remembered me calls).any source
 
   forth : last_heard me calls source ≡ Some h → Contains (first_senders me calls) source × IsLatest me calls source h
   forth = from (has (senders_of me calls) source) refl where
     from : (b : Bool) → has (senders_of me calls) source ≡ b → cond b (last_of me calls source) None ≡ Some h → Contains (first_senders me calls) source × IsLatest me calls source h
-    from true p q = (Contains-from_any nat_is source (first_senders me calls) (sym same ∙ p), latest_from me calls source h q)
+    from true p q = (Contains-from_any eqb-true source (first_senders me calls) (sym same ∙ p), latest_from me calls source h q)
     from false p q = cc
 
   back : Contains (first_senders me calls) source × IsLatest me calls source h → last_heard me calls source ≡ Some h

@@ -20,21 +20,19 @@ use Rattle.wb_names.proofs.Orders.{name_total}
 use Rattle.wb_gaps.specs.Answers.{gaps_of}
 use Rattle.wb_gaps.specs.Gaps.{AreGaps, Covers, IsApart}
 use Rattle.wb_gaps.proofs.MissingRanges.{gaps_of_page}
+use Rattle.wb_gaps.proofs.OneGaps.{apart_tail}
+use Rattle.wb_gaps.proofs.Starts.{page_itself}
 use Rattle.wb_recovery.specs.Events.{timers_of}
 use Rattle.wb_recovery.specs.declared.timers.Timers.{Timers}
 use Rattle.wb_keeper.specs.Missing.{is_unasked, names_in_gap, names_in_gaps, IsWanted, FirstAreWanted}
 use Rattle.wb_keeper.proofs.WantedNames.{part}
 
 -- ---- the order of names of one page
-page_ties : (p : PageId) → page_cmp p p ≡ Equal
-page_ties p =
-    ap (λ (o : Ordering). ordering_then o (nat_cmp p.number p.number)) (sym (nat_cmp_is p.creator p.creator Equal refl))
-    ∙ sym (nat_cmp_is p.number p.number Equal refl)
 
 less_by_number : (m n : NameValue) → m.source ≡ n.source → m.page ≡ n.page → m.seq < n.seq → name_cmp m n ≡ Less
 less_by_number m n source page lt =
     ap (λ (o : Ordering). ordering_then o (ordering_then (page_cmp m.page n.page) (nat_cmp m.seq n.seq))) (sym (nat_cmp_is m.source n.source Equal source))
-    ∙ ap (λ (o : Ordering). ordering_then o (nat_cmp m.seq n.seq)) (ap (page_cmp m.page) (sym page) ∙ page_ties m.page)
+    ∙ ap (λ (o : Ordering). ordering_then o (nat_cmp m.seq n.seq)) (ap (page_cmp m.page) (sym page) ∙ page_itself m.page)
     ∙ sym (nat_cmp_is m.seq n.seq Less lt)
 
 less_by_source : (m n : NameValue) → m.source < n.source → name_cmp m n ≡ Less
@@ -83,7 +81,7 @@ in_part page source first (suc count) n c = ⊎_elim
     })
     (Contains-cases (name_of page source first) n (part page source (first + 1) count) c)
 
-first_or_later : (a b : ℕ) → a ≤ b → (a ≡ b) ⊎ (a < b)
+pub first_or_later : (a b : ℕ) → a ≤ b → (a ≡ b) ⊎ (a < b)
 first_or_later zero zero le = inl refl
 first_or_later zero (suc b) le = inr (omega arith)
 first_or_later (suc a) zero le = absurd (omega arith)
@@ -125,9 +123,6 @@ gaps_have page (x ∷ gaps) g n c d = ⊎_elim
 
 apart_head : (x : Gap) (xs : List Gap) (g : Gap) → AllPairs IsApart (x ∷ xs) → Contains xs g → IsApart x g
 apart_head x xs g a (k, h, e) = subst (λ (v : Gap). IsApart x v) e (a 0 (suc k) g (omega arith) (omega arith))
-
-apart_tail : (x : Gap) (xs : List Gap) → AllPairs IsApart (x ∷ xs) → AllPairs IsApart xs
-apart_tail x xs a i j d ij h = a (suc i) (suc j) d (omega arith) (omega arith)
 
 names_rise : (page : PageId) (gaps : List Gap) → All (λ g. g.first ≤ g.last) gaps → AllPairs IsApart gaps → IsStrictlySortedBy name_cmp (names_in_gaps page gaps)
 names_rise page [] filled apart = none_rise

@@ -3,9 +3,7 @@ use Rattle.std.proofs.Common.{◌≡◌, ℕ, ◌+◌, Bool, true, false, cond, 
 use Rattle.std.specs.Prelude.{nat_eq, nat_le, nat_lt, not, unwrap_or, is_some, ◌||◌}
 use Rattle.std.specs.List.{find, list_any}
 use Rattle.std.specs.Option.{option_or}
-use Rattle.std.specs.Ordering.{nat_cmp, is_eq}
-use Rattle.std.specs.declared.cmp.Ordering.{Ordering}
-use Rattle.std.specs.declared.cmp.Ordering.TheVariants.{Less, Equal, Greater}
+use Rattle.std.specs.Ordering.{nat_cmp}
 use Rattle.std.specs.BTreeMap.{is_at, insert_entry}
 use Rattle.std.specs.Map.{lookup}
 use Rattle.std.proofs.lemmas.Bool.Decides.{nat_tests}
@@ -19,10 +17,10 @@ use Rattle.wb_codec.specs.declared.datagram.Datagram.TheVariants.{Draw, Session,
 use Rattle.wb_names.specs.declared.echo.Echo.{Echo}
 use Rattle.wb_names.proofs.Orders.{nat_ties, page_ties, same_page-is}
 use Rattle.wb_gaps.specs.Joining.{joined}
-use Rattle.wb_gaps.proofs.HeldNumbers.{same_page-here}
 use Rattle.wb_gaps.proofs.JoinedMarks.{is_merge, joined_count, joins_read}
 use Rattle.wb_gaps.proofs.MergeLength.{merges_all_sources}
 use Rattle.wb_gaps.proofs.Rearranged.{one_merge}
+use Rattle.wb_gaps.proofs.Starts.{nat_itself, page_is, page_itself}
 use Rattle.wb_recovery.specs.Events.{Event, Asked}
 use Rattle.wb_recovery.specs.Accepted as timers
 use Rattle.wb_recovery.specs.Values.{RecoveryValue}
@@ -33,7 +31,7 @@ use Rattle.wb_keeper.specs.Keeping.{KeeperValue, StandsFor, Keeps, delay_at, hea
 use Rattle.wb_keeper.specs.declared.keeper.Heard.{Heard}
 use Rattle.wb_keeper.specs.TakingIn.{count_with, delays_with, has_place, heard_with, marks_with, IsMerged}
 use Rattle.wb_keeper.proofs.KeptCalls.{max_none}
-use Rattle.wb_keeper.proofs.MapEdits.{lookup_put, nat_one, nat_here}
+use Rattle.wb_keeper.proofs.MapEdits.{lookup_put, nat_one}
 use Rattle.wb_names.specs.declared.entries.TheConstants.{MAX_ENTRIES}
 
 -- it is enough to look at the keeper's own number
@@ -103,16 +101,6 @@ keeps_request old new now asker name word held recovery delay e is near accepts 
 
 -- ---- marks
 
-page_one : (a b : PageId) → is_eq (page_cmp a b) ≡ true → a ≡ b
-page_one a b e = same_page-is a b (page_ties a b ∙ e)
-
-page_here : (a : PageId) → page_cmp a a ≡ Equal
-page_here a = equal (page_cmp a a) (sym (page_ties a a) ∙ same_page-here a a refl) where
-  equal : (o : Ordering) → is_eq o ≡ true → o ≡ Equal
-  equal Less e = cc
-  equal Equal e = refl
-  equal Greater e = cc
-
 page_turned : (p q : PageId) → is_at (page_cmp p) q ≡ same_page q p
 page_turned p q = sym (page_ties p q) ∙ turned p q where
   turned : (p q : PageId) → same_page p q ≡ same_page q p
@@ -124,7 +112,7 @@ marks_put old page None p = from (same_page page p) refl where
   from : (b : Bool) → same_page page p ≡ b → marks_at old p ≡ cond b (marks_at old page) (marks_at old p)
   from true e = ap (marks_at old) (sym (same_page-is page p e))
   from false e = refl
-marks_put old page (Some merged) p = ap (λ (o : Option (List MarkValue)). unwrap_or o []) (lookup_put page_cmp page_one page_here page merged p old ∙ ap (λ (b : Bool). cond b (Some merged) (lookup (is_at (page_cmp p)) old)) (page_turned p page)) ∙ from (same_page page p) where
+marks_put old page (Some merged) p = ap (λ (o : Option (List MarkValue)). unwrap_or o []) (lookup_put page_cmp page_is page_itself page merged p old ∙ ap (λ (b : Bool). cond b (Some merged) (lookup (is_at (page_cmp p)) old)) (page_turned p page)) ∙ from (same_page page p) where
   from : (b : Bool) → unwrap_or (cond b (Some merged) (lookup (is_at (page_cmp p)) old)) [] ≡ cond b merged (marks_at old p)
   from true = refl
   from false = refl
@@ -210,7 +198,7 @@ module _ (me : ℕ) (calls : List KeeperCall) (old : List (ℕ × Heard)) (sende
     from false = omega arith
 
   put_at : (s : ℕ) → heard_at (insert_entry nat_cmp old sender h) s ≡ cond (nat_eq sender s) (Some h) (heard_at old s)
-  put_at s = lookup_put nat_cmp nat_one nat_here sender h s old ∙ ap (λ (b : Bool). cond b (Some h) (heard_at old s)) (nat_turned s sender)
+  put_at s = lookup_put nat_cmp nat_one nat_itself sender h s old ∙ ap (λ (b : Bool). cond b (Some h) (heard_at old s)) (nat_turned s sender)
 
   placed : has_place sender old ≡ (list_any (nat_eq sender) (senders_of me calls) || not (nat_le MAX_ENTRIES (length (senders_of me calls))))
   placed = ap (λ (b : Bool). b || nat_lt (length old) MAX_ENTRIES) (known sender) ∙ ap (λ (b : Bool). list_any (nat_eq sender) (senders_of me calls) || b) (room (length old) ∙ ap (λ (n : ℕ). not (nat_le MAX_ENTRIES n)) count) where
@@ -236,7 +224,7 @@ delay_put old sender None rest source same = same ∙ from (nat_eq sender source
   from : (b : Bool) → unwrap_or rest 100000 ≡ unwrap_or (option_or (cond b None None) rest) 100000
   from true = refl
   from false = refl
-delay_put old sender (Some d) rest source same = ap (λ (o : Option ℕ). unwrap_or o 100000) (lookup_put nat_cmp nat_one nat_here sender d source old ∙ ap (λ (b : Bool). cond b (Some d) (lookup (is_at (nat_cmp source)) old)) (nat_turned source sender)) ∙ from (nat_eq sender source) where
+delay_put old sender (Some d) rest source same = ap (λ (o : Option ℕ). unwrap_or o 100000) (lookup_put nat_cmp nat_one nat_itself sender d source old ∙ ap (λ (b : Bool). cond b (Some d) (lookup (is_at (nat_cmp source)) old)) (nat_turned source sender)) ∙ from (nat_eq sender source) where
   from : (b : Bool) → unwrap_or (cond b (Some d) (lookup (is_at (nat_cmp source)) old)) 100000 ≡ unwrap_or (option_or (cond b (Some d) None) rest) 100000
   from true = refl
   from false = same

@@ -1,7 +1,8 @@
 -- What a keeper stands for, once it has accepted a call.
-use Rattle.std.proofs.Common.{◌≡◌, ℕ, ◌+◌, ◌<◌, Bool, true, false, cond, Option, Some, None, List, [], ◌∷◌, ◌++◌, length, get_or, take, refl, ap, ◌∙◌, sym, subst, arith, true≢false, suc, ⊎_elim, add-one, append-nil, Result, Ok, Err}
+use Rattle.std.proofs.Common.{◌≡◌, ℕ, ◌+◌, ◌<◌, Bool, true, false, cond, Option, Some, None, List, [], ◌∷◌, ◌++◌, length, get_or, take, refl, ap, ◌∙◌, sym, subst, arith, true≢false, suc, ◌⊎◌, inl, inr, ⊎_elim, add-one, append-nil}
 use Rattle.std.proofs.lemmas.Bool.{or_right}
-use Rattle.std.specs.Prelude.{max, map, filter, zip, nat_eq, unwrap_or, Contains, MatchOption, OnOk, is_some, ◌||◌}
+use Rattle.std.proofs.lemmas.List.Folds.{list_any-append}
+use Rattle.std.specs.Prelude.{max, map, filter, zip, nat_eq, unwrap_or, Contains, MatchOption, is_some, ◌||◌}
 use Rattle.std.specs.List.{list_any}
 use Rattle.std.specs.Option.{option_or}
 use Rattle.std.specs.Ordering.{nat_cmp}
@@ -12,10 +13,10 @@ use Rattle.wb_gaps.specs.Joining.{joined}
 use Rattle.wb_names.specs.Orders.{same_name}
 use Rattle.wb_names.specs.History.{HoldsName}
 use Rattle.wb_names.specs.declared.name.PageId.{PageId}
+use Rattle.std.proofs.Math.Bool.{or-false}
 use Rattle.std.proofs.Math.Seq.{take-suc}
 use Rattle.wb_names.proofs.Listings.{Contains-cases, Contains-none}
-use Rattle.wb_recovery.proofs.NameOrder.{name_ties, name_decides}
-use Rattle.wb_names.proofs.Orders.{nat_ties, same_name-is}
+use Rattle.wb_names.proofs.Orders.{nat_ties, same_name-here, same_name-is}
 use Rattle.wb_recovery.specs.Values.{RecoveryValue}
 use Rattle.wb_recovery.specs.Events.{Event, Got, Tune}
 use Rattle.wb_recovery.specs.Accepted as timers
@@ -87,9 +88,6 @@ keeps_delay source micros entry old new delays told is r me t calls s = subst (S
   from q false = s.delays q
 
 -- ---- the constants change
-pub on_ok : {T E P Q : Type 0} (r : Result T E) → (P → Q) → OnOk r P → OnOk r Q
-on_ok (Ok x) f p = f p
-on_ok (Err e) f p = tt
 
 pub keeps_constants : (constants : Tuning) (old new : KeeperValue) (recovery : RecoveryValue) → new ≡ record old { recovery = recovery }
     → ((t : Tuning) (events : List Event) → timers.StandsFor t events old.recovery → timers.StandsFor t (Tune constants ∷ events) recovery) → Keeps (SetConstants constants) old new
@@ -105,13 +103,11 @@ keeps_constants constants old new recovery is stands me t calls s = subst (Stand
 })
 
 -- ---- names that have come
-pub same_here : (m n : NameValue) → m ≡ n → same_name m n ≡ true
-same_here m n e = name_ties m n ∙ (name_decides m n).1 e
 
 pub holds_from : (history : List DrawopValue) (name : NameValue) (d : DrawopValue) → Contains history d → d.name ≡ name → holds history name ≡ true
 holds_from [] name d c is = absurd (Contains-none d c)
 holds_from (x ∷ history) name d c is = ⊎_elim
-    (λ (e : x ≡ d). ap (λ (b : Bool). b || holds history name) (same_here x.name name (ap (λ (w : DrawopValue). w.name) e ∙ is)))
+    (λ (e : x ≡ d). ap (λ (b : Bool). b || holds history name) (same_name-here x.name name (ap (λ (w : DrawopValue). w.name) e ∙ is)))
     (λ (g : Contains history d). or_right (same_name x.name name) (holds history name) (holds_from history name d g is))
     (Contains-cases x d history c)
 
@@ -127,6 +123,15 @@ holds_not history name h = from (holds history name) refl where
   from : (b : Bool) → holds history name ≡ b → holds history name ≡ false
   from true e = absurd (h (holds_name history name e))
   from false e = e
+
+pub holds_or_not : (history : List DrawopValue) (name : NameValue) → HoldsName history name ⊎ (HoldsName history name → ⊥)
+holds_or_not history name = by (holds history name) refl where
+  by : (b : Bool) → holds history name ≡ b → HoldsName history name ⊎ (HoldsName history name → ⊥)
+  by true e = inl (holds_name history name e)
+  by false e = inr (λ h. true≢false (sym (holds_from history name h.1 (h.0, h.2, h.3) h.4) ∙ e))
+
+pub holds_one_more : (held : List DrawopValue) (d : DrawopValue) (n : NameValue) → holds (held ++ d ∷ []) n ≡ (holds held n || same_name d.name n)
+holds_one_more held d n = list_any-append (λ (e : DrawopValue). same_name e.name n) held (d ∷ []) ∙ ap (λ (b : Bool). holds held n || b) (or-false (same_name d.name n))
 
 pub found_by : {X : Type 0} (o : Option X) (P : Type 0) (Q : X → Type 0) (b : Bool) → MatchOption o P Q → (P → b ≡ false) → ((x : X) → Q x → b ≡ true) → is_some o ≡ b
 found_by None P Q b m f g = sym (f m)

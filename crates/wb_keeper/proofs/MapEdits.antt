@@ -1,5 +1,5 @@
 -- What stands in a map once a value was put at a key, and once it was put back.
-use Rattle.std.proofs.Common.{◌≡◌, ℕ, Bool, true, false, cond, Option, Some, None, List, [], ◌∷◌, length, refl, ap, ◌∙◌, sym, arith, eqb-true, eq-eqb}
+use Rattle.std.proofs.Common.{◌≡◌, ℕ, Bool, true, false, cond, Option, Some, None, List, [], ◌∷◌, length, refl, ap, ◌∙◌, sym, arith, eqb-true}
 use Rattle.std.specs.Prelude.{IsSome, is_some, is_err, OnErr, OnOk, Result, Ok, Err}
 use Rattle.wb_keeper.specs.Keeping.{KeeperValue}
 use Rattle.wb_keeper.specs.declared.keeper.Heard.{Heard}
@@ -9,6 +9,7 @@ use Rattle.std.specs.BTreeMap.{is_at, insert_entry}
 use Rattle.std.specs.Map.{keys_of, lookup, remove_entry}
 use Rattle.std.specs.declared.cmp.Ordering.{Ordering}
 use Rattle.std.specs.declared.cmp.Ordering.TheVariants.{Less, Equal, Greater}
+use Rattle.wb_gaps.proofs.Starts.{nat_itself}
 use Rattle.wb_keeper.specs.TakingIn.{restored}
 
 cond_twice : {X : Type 0} (b : Bool) (x y z : X) → cond b x z ≡ cond b x (cond b y z)
@@ -68,15 +69,8 @@ module _ (one : (a b : ℕ) → is_eq (nat_cmp a b) ≡ true → a ≡ b) (here 
 pub nat_one : (a b : ℕ) → is_eq (nat_cmp a b) ≡ true → a ≡ b
 nat_one a b e = eqb-true a b (nat_ties a b ∙ e)
 
-pub nat_here : (a : ℕ) → nat_cmp a a ≡ Equal
-nat_here a = equal (nat_cmp a a) (sym (nat_ties a a) ∙ eq-eqb a a refl) where
-  equal : (o : Ordering) → is_eq o ≡ true → o ≡ Equal
-  equal Less e = cc
-  equal Equal e = refl
-  equal Greater e = cc
-
 pub put_back_at : {X : Type 0} (k : ℕ) (v : X) (before : Option X) (es : List (ℕ × X)) → before ≡ lookup (is_at (nat_cmp k)) es → (IsSome before → keys_of (insert_entry nat_cmp es k v) ≡ keys_of es) → restored k before (insert_entry nat_cmp es k v) ≡ es
-put_back_at {X} k v before es is keys = restored_at nat_one nat_here k v before es is (λ w e. keys (ap is_some e))
+put_back_at {X} k v before es is keys = restored_at nat_one nat_itself k v before es is (λ w e. keys (ap is_some e))
 
 pub on_is_err : {X E : Type 0} (r : Result X E) (P : Type 0) → is_err r ≡ true → OnErr r P → P
 on_is_err (Ok x) P e p = cc

@@ -7,6 +7,7 @@ use Rattle.std.specs.List.Sorted.{IsStrictlySortedBy}
 use Rattle.std.specs.Map.{keys_of}
 use Rattle.std.specs.Ordering.{is_eq, nat_cmp}
 use Rattle.std.proofs.lemmas.Map.Views.{Contains-from_any}
+use Rattle.std.proofs.lemmas.Option.{same_Some}
 use Rattle.wb_board.specs.Desks.{PassValue, IsSound}
 use Rattle.wb_names.specs.Listing.{Lists}
 use Rattle.wb_names.specs.declared.echo.Echo.{Echo}
@@ -23,14 +24,11 @@ use Rattle.wb_keeper.specs.Sessions.{echo_cmp, IsEchoTo, IsSession, echo_to, ech
 use Rattle.wb_keeper.specs.declared.keeper.Heard.{Heard}
 use Rattle.wb_keeper.proofs.KeeperAnswers.{few_seen}
 use Rattle.wb_keeper.proofs.OneMessage.{echo_total, one_session}
-use Rattle.wb_keeper.proofs.SentEchoes.{echoes_heard}
+use Rattle.wb_keeper.proofs.SentEchoes.{echoes_heard, same_echo}
 use Rattle.wb_keeper.proofs.TickSends.{sent_by, sent_from}
 
 abbrev echo_as : ℕ → ℕ → Heard → Echo
 echo_as now source h = record { source = source; sent = h.sent; held = now - h.at }
-
-some_same : {X : Type 0} (x y : X) → Some x ≡ Some y → x ≡ y
-some_same x y e = cc
 
 module _ (me : ℕ) (calls : List KeeperCall) (now : ℕ) where
   echo_told : (source : ℕ) (e : Echo) → echo_to me calls now source ≡ Some e → IsEchoTo me calls now e
@@ -38,11 +36,8 @@ module _ (me : ℕ) (calls : List KeeperCall) (now : ℕ) where
     at : (o : Option Heard) → last_heard me calls source ≡ o → option_map (echo_as now source) o ≡ Some e → IsEchoTo me calls now e
     at None l f = absurd cc
     at (Some h) l f =
-        let is : echo_as now source h ≡ e = some_same (echo_as now source h) e f in
+        let is : echo_as now source h ≡ e = same_Some (echo_as now source h) e f in
         (h, ap (λ (x : Echo). last_heard me calls x.source) (sym is) ∙ l, ap (λ (x : Echo). x.sent) (sym is), ap (λ (x : Echo). x.held) (sym is))
-
-  same_echo : (a b c : ℕ) (e : Echo) → a ≡ e.source → b ≡ e.sent → c ≡ e.held → (let x : Echo = record { source = a; sent = b; held = c } in x ≡ e)
-  same_echo a b c e p q r = ap (λ (n : ℕ). let x : Echo = record { source = n; sent = b; held = c } in x) p ∙ ap (λ (n : ℕ). let x : Echo = record { source = e.source; sent = n; held = c } in x) q ∙ ap (λ (n : ℕ). let x : Echo = record { source = e.source; sent = e.sent; held = n } in x) r
 
   echo_there : (e : Echo) → IsEchoTo me calls now e → echo_to me calls now e.source ≡ Some e
   echo_there e (h, told, sent, held) = ap (option_map (echo_as now e.source)) told ∙ ap (λ (x : Echo). Some x) (same_echo e.source h.sent (now - h.at) e refl (sym sent) (sym held))
@@ -64,7 +59,7 @@ module _ (me : ℕ) (calls : List KeeperCall) (now : ℕ) where
       (λ e is. sent_by (echo_to me calls now) (senders_of me calls) e.source e (is_sender e.source is.0 is.1) (echo_there e is))
       (lists_sorted echo_total told (λ x y cx cy tie.
       let same : x.source ≡ y.source = eqb-true x.source y.source (nat_ties x.source y.source ∙ ap is_eq tie) in
-      some_same x y (sym (echo_there x (from x cx)) ∙ ap (echo_to me calls now) same ∙ echo_there y (from y cy))))
+      same_Some x y (sym (echo_there x (from x cx)) ∙ ap (echo_to me calls now) same ∙ echo_there y (from y cy))))
 
 -- what a keeper holds of its senders
 pub only_echoes : (me : ℕ) (calls : List KeeperCall) (now : ℕ) (heard : List (ℕ × Heard)) → IsStrictlySortedBy nat_cmp (keys_of heard) → ((source : ℕ) → heard_at heard source ≡ last_heard me calls source) → echoes_at now heard ≡ echoes_of me calls now

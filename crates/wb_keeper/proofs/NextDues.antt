@@ -1,6 +1,6 @@
 -- The next moment of a keeper, as a function of its calls: it is the least at which a timer is due.
-use Rattle.std.proofs.Common.{◌≡◌, ℕ, ◌≤◌, Bool, true, false, List, [], ◌∷◌, Option, Some, None, refl, ap, ◌∙◌, sym, subst, arith, ◌⊎◌, inl, inr, ⊎_elim, true≢false}
-use Rattle.std.proofs.lemmas.Bool.{or_left, or_right}
+use Rattle.std.proofs.Common.{◌≡◌, ℕ, ◌≤◌, true, false, List, [], ◌∷◌, Option, Some, None, refl, ap, ◌∙◌, sym, subst, arith, ◌⊎◌, inl, inr, ⊎_elim, true≢false}
+use Rattle.std.proofs.lemmas.Bool.{or_cases, or_left, or_right}
 use Rattle.std.specs.Prelude.{Contains, ◌||◌, min, is_some}
 use Rattle.wb_names.specs.Values.{NameValue}
 use Rattle.wb_names.proofs.Listings.{Contains-cases, Contains-none}
@@ -12,7 +12,7 @@ use Rattle.wb_recovery.specs.declared.timers.AskTimer.{AskTimer}
 use Rattle.wb_recovery.specs.declared.timers.AnswerTimer.{AnswerTimer}
 use Rattle.wb_recovery.specs.declared.timers.Timers.{Timers}
 use Rattle.wb_recovery.specs.declared.tuning.Tuning.{Tuning}
-use Rattle.wb_recovery.proofs.AlarmReads.{is_set_to-here, is_set_to-is}
+use Rattle.wb_recovery.proofs.AlarmReads.{is_set_to-here, is_set_to-is, min_either}
 use Rattle.wb_recovery.proofs.NameLists.{known}
 use Rattle.wb_keeper.specs.Dues.{sooner, soonest, next_due_of, NextDueIsLeast}
 
@@ -41,9 +41,6 @@ sooner_right None None = tt
 sooner_right None (Some b) = (b, refl, omega arith)
 sooner_right (Some a) None = tt
 sooner_right (Some a) (Some b) = (min a b, refl, omega arith)
-
-min_either : (a b : ℕ) → (min a b ≡ a) ⊎ (min a b ≡ b)
-min_either a b = grind arith
 
 sooner_one : (a b : Option ℕ) (d : ℕ) → sooner a b ≡ Some d → IsOneOf a b d
 sooner_one None b d e = inr e
@@ -79,10 +76,6 @@ module _ (f : NameValue → Timers) where
       (sooner_one (due_of (f m)) (soonest f names) d e)
 
 -- ---- a timer that is due at a moment
-
-or_cases : (a b : Bool) → (a || b) ≡ true → (a ≡ true) ⊎ (b ≡ true)
-or_cases true b e = inl refl
-or_cases false b e = inr e
 
 set_of : (d : ℕ) (o : Option ℕ) → o ≡ Some d → is_set_to d o ≡ true
 set_of d o e = ap (is_set_to d) e ∙ is_set_to-here d

@@ -2,6 +2,7 @@
 use Rattle.std.proofs.Common.{◌≡◌, ℕ, ◌≤◌, Bool, true, false, cond, List, [], ◌∷◌, length, refl, ap, ◌∙◌, arith, eqb-true, None}
 use Rattle.std.specs.Prelude.{nat_eq, nat_le, All, filter}
 use Rattle.std.proofs.lemmas.Bool.Decides.{nat_tests}
+use Rattle.std.proofs.lemmas.Bool.{leb-true}
 use Rattle.std.proofs.lemmas.List.Elements.{All-head, All-tail}
 use Rattle.wb_names.specs.Values.{MarkValue}
 use Rattle.wb_names.specs.Marks.{mark_of}
@@ -19,11 +20,8 @@ module _ (heard : List MarkValue) where
     both : (nat_le m.high (mark_of heard m.source) ≡ true) × (has_all heard told ≡ true)
     both = and_both (nat_le m.high (mark_of heard m.source)) (has_all heard told) h
 
-    below : (a b : ℕ) → nat_le a b ≡ true → a ≤ b
-    below a b e = grind (arith, nat_tests)
-
     from : (has_all heard told ≡ true → mark_of told s ≤ mark_of heard s) → (b : Bool) → nat_eq m.source s ≡ b → cond b m.high (mark_of told s) ≤ mark_of heard s
-    from rest true e = let same : mark_of heard m.source ≡ mark_of heard s = ap (mark_of heard) (eqb-true m.source s e) in let le = below m.high (mark_of heard m.source) both.0 in omega arith
+    from rest true e = let same : mark_of heard m.source ≡ mark_of heard s = ap (mark_of heard) (eqb-true m.source s e) in let le = leb-true m.high (mark_of heard m.source) both.0 in omega arith
     from rest false e = rest both.1
 
   -- each source that these tell of was heard

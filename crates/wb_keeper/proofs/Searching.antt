@@ -7,8 +7,10 @@ use Rattle.std.specs.declared.cmp.Ordering.TheVariants.{Less, Equal, Greater}
 use Rattle.std.specs.Option.{option_map}
 use Rattle.std.specs.Ordering.{nat_cmp, ordering_index}
 use Rattle.std.proofs.lemmas.Bool.Decides.{nat_tests}
+use Rattle.std.proofs.lemmas.Bool.{cases_lt}
 use Rattle.wb_names.specs.Values.{MarkValue}
 use Rattle.wb_names.specs.Marks.{mark_of}
+use Rattle.wb_keeper.proofs.FirstWanted.{first_or_later}
 
 module _ {X : Type 0} (key : X → ℕ) (s : ℕ) where
   index_rises : (a b : ℕ) → a ≤ b → ordering_index (nat_cmp a s) ≤ ordering_index (nat_cmp b s)
@@ -31,10 +33,7 @@ module _ {X : Type 0} (key : X → ℕ) (s : ℕ) where
         apart a b less e = grind (arith, nat_tests)
 
   rises : (xs : List X) → AllPairs (λ a b. key a < key b) xs → IsNonDecreasingBy (λ x. ordering_index (nat_cmp (key x) s)) xs
-  rises xs up i j d le lt = from (cases i j le) where
-    cases : (i j : ℕ) → i ≤ j → (i ≡ j) ⊎ (i < j)
-    cases i j le = grind (arith, nat_tests)
-
+  rises xs up i j d le lt = from (first_or_later i j le) where
     from : (i ≡ j) ⊎ (i < j) → ordering_index (nat_cmp (key (get_or xs i d)) s) ≤ ordering_index (nat_cmp (key (get_or xs j d)) s)
     from (inl e) = index_rises _ _ (let same : key (get_or xs i d) ≡ key (get_or xs j d) = ap (λ (k : ℕ). key (get_or xs k d)) e in omega arith)
     from (inr less) = index_rises _ _ (let h : key (get_or xs i d) < key (get_or xs j d) = up i j d less lt in omega arith)
@@ -46,12 +45,9 @@ module _ {X : Type 0} (key : X → ℕ) (s : ℕ) where
     same a e = grind (arith, nat_tests)
 
   pub found_err : (xs : List X) → AllPairs (λ a b. key a < key b) xs → (i : ℕ) → (IsNonDecreasingBy (λ x. ordering_index (nat_cmp (key x) s)) xs → IsPartitionPoint (λ x. nat_cmp (key x) s ≡ Less) (λ x. nat_cmp (key x) s ≡ Greater) xs i) → find (λ x. nat_eq (key x) s) xs ≡ None
-  found_err xs up i point = none_found xs (λ k d lt. from k d lt (cases k i)) where
+  found_err xs up i point = none_found xs (λ k d lt. from k d lt (cases_lt k i)) where
     at : IsPartitionPoint (λ x. nat_cmp (key x) s ≡ Less) (λ x. nat_cmp (key x) s ≡ Greater) xs i
     at = point (rises xs up)
-
-    cases : (k i : ℕ) → (k < i) ⊎ (i ≤ k)
-    cases k i = grind (arith, nat_tests)
 
     less : (a : ℕ) → nat_cmp a s ≡ Less → nat_eq a s ≡ false
     less a e = grind (arith, nat_tests)

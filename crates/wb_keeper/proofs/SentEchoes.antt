@@ -52,6 +52,9 @@ rising now (p ∷ heard) s = (below heard s.0, rising now heard s.1) where
 nat_is : (a b : ℕ) → eq_by_cmp nat_cmp a b ≡ true → a ≡ b
 nat_is a b e = eqb-true a b (nat_ties a b ∙ e)
 
+pub same_echo : (a b c : ℕ) (e : Echo) → a ≡ e.source → b ≡ e.sent → c ≡ e.held → (let x : Echo = record { source = a; sent = b; held = c } in x ≡ e)
+same_echo a b c e p q r = ap (λ (n : ℕ). let x : Echo = record { source = n; sent = b; held = c } in x) p ∙ ap (λ (n : ℕ). let x : Echo = record { source = e.source; sent = n; held = c } in x) q ∙ ap (λ (n : ℕ). let x : Echo = record { source = e.source; sent = e.sent; held = n } in x) r
+
 -- an echo to each sender that is remembered, and no other
 pub echoes_heard : (me now : ℕ) (calls : List KeeperCall) (heard : List (ℕ × Heard)) → IsStrictlySortedBy nat_cmp (keys_of heard) → ((source : ℕ) → heard_at heard source ≡ last_heard me calls source) → Lists echo_cmp (IsEchoTo me calls now) (echoes_at now heard)
 echoes_heard me now calls heard rises same = record {
@@ -72,6 +75,4 @@ echoes_heard me now calls heard rises same = record {
   there e (h, told, sent, held) =
       let c = Contains-from_lookup nat_is e.source h heard (same e.source ∙ told) in
       let is : echo_at now (e.source, h) ≡ e = same_echo e.source h.sent (now - h.at) e refl (sym sent) (sym held) in
-      Contains-map (echo_at now) heard e (c.0, (e.source, h), c.1, c.2, is) where
-        same_echo : (a b c : ℕ) (e : Echo) → a ≡ e.source → b ≡ e.sent → c ≡ e.held → (let x : Echo = record { source = a; sent = b; held = c } in x ≡ e)
-        same_echo a b c e p q r = ap (λ (n : ℕ). let x : Echo = record { source = n; sent = b; held = c } in x) p ∙ ap (λ (n : ℕ). let x : Echo = record { source = e.source; sent = n; held = c } in x) q ∙ ap (λ (n : ℕ). let x : Echo = record { source = e.source; sent = e.sent; held = n } in x) r
+      Contains-map (echo_at now) heard e (c.0, (e.source, h), c.1, c.2, is)

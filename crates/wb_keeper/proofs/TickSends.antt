@@ -1,6 +1,6 @@
 -- What a tick asks for, and what it answers with.
 use Rattle.std.proofs.Common.{◌≡◌, ℕ, Bool, true, false, cond, List, [], ◌∷◌, ◌++◌, Option, Some, None, refl, ap, ◌∙◌, sym, subst, true≢false, ⊎_elim}
-use Rattle.std.proofs.lemmas.Bool.{and_from, false_from_ne_true}
+use Rattle.std.proofs.lemmas.Bool.{and_from, false_from_ne_true, not-true}
 use Rattle.std.specs.Prelude.{Contains, map, not, ◌||◌, ◌&&◌, is_some, is_none, unwrap_or}
 use Rattle.std.specs.BTreeMap.{is_at}
 use Rattle.std.specs.List.{list_any, filter_map, cons_option}
@@ -11,7 +11,7 @@ use Rattle.std.proofs.lemmas.Map.Views.{Contains-keys_from_lookup}
 use Rattle.wb_names.specs.Values.{NameValue, DrawopValue}
 use Rattle.wb_names.specs.Orders.{name_cmp, same_name}
 use Rattle.wb_names.specs.History.{IsHistory}
-use Rattle.wb_names.proofs.Orders.{same_name-is, and_both}
+use Rattle.wb_names.proofs.Orders.{same_name-is, and_both, same_name-here}
 use Rattle.wb_names.proofs.Listings.{Contains-here, Contains-there, Contains-cases, Contains-none, Contains-filter, Contains-from_filter, Contains-map, Any-from_map}
 use Rattle.wb_codec.specs.declared.datagram.Datagram.{Datagram}
 use Rattle.wb_codec.specs.declared.datagram.Datagram.TheVariants.{Draw, Request}
@@ -32,7 +32,7 @@ use Rattle.wb_keeper.specs.Keeper.{KeeperCall, events_of, delay_to, received_of,
 use Rattle.wb_keeper.specs.Keeping.{KeeperValue, StandsFor}
 use Rattle.wb_keeper.specs.Ticks.{drawop_of, sent_for, stopped_in}
 use Rattle.wb_keeper.specs.KeeperLaws.{sent_at, AsksForNoneHeld, AnswersWithHeld}
-use Rattle.wb_keeper.proofs.KeptCalls.{same_here, holds_from}
+use Rattle.wb_keeper.proofs.KeptCalls.{holds_from}
 use Rattle.wb_keeper.proofs.FoundDrawops.{found_member}
 
 -- ---- what a list of actions sends
@@ -88,7 +88,7 @@ received_names delays (m ∷ names) n = ap (λ (b : Bool). same_name m n || b) (
 among_from : (names : List NameValue) (n : NameValue) → Contains names n → list_any (λ m. same_name m n) names ≡ true
 among_from [] n c = absurd (Contains-none n c)
 among_from (m ∷ names) n c = ⊎_elim
-    (λ (is : m ≡ n). ap (λ (b : Bool). b || list_any (λ k. same_name k n) names) (same_here m n is))
+    (λ (is : m ≡ n). ap (λ (b : Bool). b || list_any (λ k. same_name k n) names) (same_name-here m n is))
     (λ (d : Contains names n). later (same_name m n) (among_from names n d))
     (Contains-cases m n names c) where
       later : (b : Bool) → list_any (λ k. same_name k n) names ≡ true → (b || list_any (λ k. same_name k n) names) ≡ true
@@ -122,13 +122,9 @@ module _ (history : List DrawopValue) (value : RecoveryValue) (n : NameValue) wh
   held_stopped h a = among_from (stopped_in history value) n
       (Contains-filter (holds history) (asking (names_in value) (timers_in value)) n (Contains-filter (λ m. is_some (timers_in value m).ask) (names_in value) n (with_timer value n a) a) h)
 
-due_stands : (now : ℕ) (o : Option AskTimer) → is_ask_due now o ≡ true → is_some o ≡ true
+pub due_stands : (now : ℕ) (o : Option AskTimer) → is_ask_due now o ≡ true → is_some o ≡ true
 due_stands now None e = cc
 due_stands now (Some ask) e = refl
-
-not_true : (b : Bool) → not b ≡ true → b ≡ false
-not_true true e = cc
-not_true false e = refl
 
 -- ---- a tick
 module _ (me : ℕ) (t : Tuning) (calls : List KeeperCall) (value : KeeperValue) (now : ℕ) (history : List DrawopValue) (s : StandsFor me t calls value) where
@@ -165,7 +161,7 @@ module _ (me : ℕ) (t : Tuning) (calls : List KeeperCall) (value : KeeperValue)
       let due = ((listed_of (λ (r : Timers). is_ask_due now r.ask) refl t after).members name).0 c in
       let both = and_both (not (stopped history value.recovery name)) (is_ask_due now (timers_in value.recovery name).ask) (sym (ask_then name) ∙ due) in (
         ap (λ (k : Timers). is_ask_due now k.ask) (sym (s.recovery.timers name)) ∙ both.1,
-        false_from_ne_true (holds history name) (λ h. true≢false (sym (held_stopped history value.recovery name h (due_stands now (timers_in value.recovery name).ask both.1)) ∙ not_true (stopped history value.recovery name) both.0)),
+        false_from_ne_true (holds history name) (λ h. true≢false (sym (held_stopped history value.recovery name h (due_stands now (timers_in value.recovery name).ask both.1)) ∙ not-true (stopped history value.recovery name) both.0)),
       )
 
   asks_back : (name : NameValue) → is_ask_due now (timers_of t events name).ask ≡ true → holds history name ≡ false → Contains asks name
@@ -180,7 +176,7 @@ module _ (me : ℕ) (t : Tuning) (calls : List KeeperCall) (value : KeeperValue)
       let both = and_both (not (stopped history value.recovery name)) (is_answer_due now (timers_in value.recovery name).answer) (sym (answer_then name) ∙ due) in (
         ap (λ (k : Timers). is_answer_due now k.answer) (sym (s.recovery.timers name)) ∙ both.1,
         ap (λ (k : Timers). is_none k.ask) (sym (s.recovery.timers name)) ∙ none_unless (timers_in value.recovery name).ask
-            (λ a. true≢false (sym (held_stopped history value.recovery name held a) ∙ not_true (stopped history value.recovery name) both.0)),
+            (λ a. true≢false (sym (held_stopped history value.recovery name held a) ∙ not-true (stopped history value.recovery name) both.0)),
       ) where
         none_unless : (o : Option AskTimer) → (is_some o ≡ true → ⊥) → is_none o ≡ true
         none_unless None f = refl

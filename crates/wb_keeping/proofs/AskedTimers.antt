@@ -1,16 +1,16 @@
 -- The names that a host asks for, and their timers.
-use Rattle.std.proofs.Common.{◌≡◌, suc, Bool, true, false, List, [], ◌∷◌, ◌∙◌, Option, Some, None, ap, cond, is_some, refl, sym, subst, arith, true≢false}
+use Rattle.std.proofs.Common.{◌≡◌, Bool, true, false, List, [], ◌∷◌, ◌∙◌, Option, Some, None, ap, cond, is_some, refl, sym, subst, true≢false}
 use Rattle.std.specs.Prelude.{length, map, ◌||◌}
 use Rattle.std.specs.List.{cons_option, find, list_any}
 use Rattle.std.specs.Option.{option_map}
 use Rattle.wb_names.specs.Orders.{same_name}
 use Rattle.wb_names.specs.Values.{NameValue}
-use Rattle.wb_names.proofs.Orders.{same_name-is}
+use Rattle.wb_names.proofs.Orders.{same_name-is, same_name-itself}
 use Rattle.wb_recovery.specs.Events.{asking, names_of, timers_of}
 use Rattle.wb_recovery.proofs.TimerLaws.{unnamed}
 use Rattle.std.specs.Prelude.{Contains}
-use Rattle.std.proofs.lemmas.Bool.Decides.{nat_tests}
 use Rattle.std.proofs.lemmas.List.Folds.{list_any_at}
+use Rattle.std.proofs.lemmas.List.{length-map}
 use Rattle.wb_member.specs.Judged.{asked_names, level as member_level}
 use Rattle.wb_member.specs.Opened.{Opened, events}
 use Rattle.wb_keeping.specs.Views.{level}
@@ -86,10 +86,7 @@ module _ (timers : NameValue → Timers) where
   again (n ∷ names) = again_one n (timers n).ask refl (asking names timers) (asked_with timers names) (again names)
 
 pub counted : (timers : NameValue → Timers) (names : List NameValue) → length (asked_with timers names) ≡ length (asking names timers)
-counted timers names = sym (count (asked_with timers names)) ∙ ap (λ (ns : List NameValue). length ns) (named timers names) where
-  count : (asked : List AskedName) → length (map (λ (a : AskedName). a.name) asked) ≡ length asked
-  count [] = refl
-  count (a ∷ asked) = ap suc (count asked)
+counted timers names = sym (length-map (asked_with timers names) (λ (a : AskedName). a.name)) ∙ ap (λ (ns : List NameValue). length ns) (named timers names)
 
 -- the lines that stop them
 pub stops_named : (asked : List AskedName) → map (λ (a : AskedName). Stops a.name) asked ≡ map Stops (map (λ (a : AskedName). a.name) asked)
@@ -98,11 +95,8 @@ stops_named (a ∷ asked) = ap (λ (lines : List Line). Stops a.name ∷ lines) 
 
 -- ---- of a host
 
-same_itself : (n : NameValue) → same_name n n ≡ true
-same_itself n = grind (arith, nat_tests)
-
 amid_from : (x : NameValue) (names : List NameValue) → Contains names x → amid x names ≡ true
-amid_from x names (i, lt, e) = list_any_at (λ (n : NameValue). same_name n x) names i x lt (ap (λ (n : NameValue). same_name n x) e ∙ same_itself x)
+amid_from x names (i, lt, e) = list_any_at (λ (n : NameValue). same_name n x) names i x lt (ap (λ (n : NameValue). same_name n x) e ∙ same_name-itself x)
 
 pub level_seen : (host : Opened) (x : NameValue) → level (view_of host) x ≡ member_level host x
 level_seen host x = levels (timers_of host.is.constants (events host)) x (names_of (events host)) (λ away.

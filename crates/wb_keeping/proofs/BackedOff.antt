@@ -1,20 +1,21 @@
 -- What calls of the timers make of the request timer of a name, where no delay is below 10 milliseconds: what is backed off waits for its
 -- level.
 use Rattle.std.proofs.Common.{◌≡◌, ℕ, ◌+◌, ◌*◌, ◌≤◌, ◌^◌, Bool, true, false, cond, List, [], ◌∷◌, ◌∙◌, Option, Some, None, ap, arith, inl, inr, refl, subst, sym, true≢false}
-use Rattle.std.specs.Prelude.{◌⊎◌, ◌&&◌, ◌||◌, IfSome, is_none, is_some, min, nat_le}
+use Rattle.std.specs.Prelude.{◌⊎◌, ◌||◌, IfSome, is_none, is_some, min, nat_le}
 use Rattle.std.proofs.Math.Nat.{mul-le-mul_left, mul-le-mul_right}
 use Rattle.std.proofs.lemmas.Bool.{leb-true}
 use Rattle.wb_names.specs.Orders.{same_name}
 use Rattle.wb_names.specs.Values.{NameValue}
 use Rattle.wb_recovery.specs.Events.{Asked, Event, Got, Notice, Tick, Tune, constants_after, due_asks, names_of, timers_of, word_for}
 use Rattle.wb_recovery.specs.Stopping.{got_each, is_received, receipts}
-use Rattle.wb_recovery.specs.Timing.{asked, backed_off, expiry, fired_ask, got, heard_ask, is_ask_due, is_standing, new_answer, new_ask, noticed}
+use Rattle.wb_recovery.specs.Timing.{asked, backed_off, expiry, fired_ask, got, heard_ask, is_ask_due, is_standing, new_ask, noticed}
 use Rattle.wb_recovery.specs.declared.missed.Received.{Received}
 use Rattle.wb_recovery.specs.declared.timers.AnswerTimer.{AnswerTimer}
 use Rattle.wb_recovery.specs.declared.timers.AskTimer.{AskTimer}
 use Rattle.wb_recovery.specs.declared.timers.Timers.{Timers}
 use Rattle.wb_recovery.specs.declared.tuning.Tuning.{Tuning}
 use Rattle.wb_recovery.proofs.StoppedNames.{not_received, received_stops, timers_receipts}
+use Rattle.wb_recovery.proofs.TimerLaws.{asked_ask}
 
 -- ---- one timer
 
@@ -81,15 +82,9 @@ fired_long t now word (Some x) is = by (nat_le x.due now) where
 
 -- ---- the timers of a name
 
-asked_held : (t : Tuning) (now delay word : ℕ) (s : Timers) → (asked t true now delay word s).ask ≡ s.ask
-asked_held t now delay word s = by (is_none s.answer && nat_le s.quiet now) where
-  by : (b : Bool) → (cond b (record s { answer = Some (new_answer t now delay word) }) s).ask ≡ s.ask
-  by true = refl
-  by false = refl
-
 pub asked_backs : (t : Tuning) (held : Bool) (now delay word : ℕ) (s : Timers) → 1 ≤ t.c1 → (held ≡ false → 10000 ≤ delay)
     → Rests s.ask (asked t held now delay word s).ask ⊎ Backs now s.ask (asked t held now delay word s).ask
-asked_backs t true now delay word s one long = inl (inl (asked_held t now delay word s))
+asked_backs t true now delay word s one long = inl (inl (asked_ask t now delay word s))
 asked_backs t false now delay word s one long = heard_backs t now delay word one (long refl) s.ask
 
 noticed_long : (t : Tuning) (now delay word : ℕ) (s : Timers) → 10000 ≤ delay → IsLong s.ask → IsLong (noticed t now delay word s).ask
@@ -140,7 +135,7 @@ spaced_long t (Asked name true now delay word ∷ events) n one spaced =
     let s = timers_of t events n in
     let is = spaced_long t events n one spaced.1 in
     let t_now = constants_after t events in
-    either_long (same_name name n) s (asked t_now true now delay word s) is (subst IsLong (sym (asked_held t_now now delay word s)) is)
+    either_long (same_name name n) s (asked t_now true now delay word s) is (subst IsLong (sym (asked_ask t_now now delay word s)) is)
 spaced_long t (Asked name false now delay word ∷ events) n one spaced =
     let s = timers_of t events n in
     let is = spaced_long t events n one spaced.1 in

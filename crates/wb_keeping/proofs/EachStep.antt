@@ -2,16 +2,15 @@
 use Rattle.std.proofs.Common.{◌≡◌, ℕ, zero, suc, ◌≤◌, Bool, true, false, cond, List, [], ◌∷◌, ◌++◌, length, map, refl, sym, subst}
 use Rattle.std.specs.Prelude.{Option, Some, None, ◌||◌, nat_eq, nat_le, nat_lt, take}
 use Rattle.std.proofs.lemmas.Bool.{leb-true}
-use Rattle.wb_names.specs.Faults.{fault_unless, first_of}
 use Rattle.wb_names.specs.Values.{DrawopValue, MarkValue, NameValue}
 use Rattle.wb_names.specs.declared.echo.Echo.{Echo}
 use Rattle.wb_names.specs.declared.name.PageId.{PageId}
+use Rattle.wb_names.proofs.Faults.{first_none, unless_true}
 use Rattle.wb_codec.specs.declared.datagram.Datagram.{Datagram}
 use Rattle.wb_codec.specs.declared.datagram.Datagram.TheVariants.{Draw, Session, Request, AskPages, PageState}
 use Rattle.wb_gaps.specs.Answers.{pages_of, report_of}
 use Rattle.wb_gaps.specs.Holes.{hole_after}
 use Rattle.wb_gaps.specs.declared.holes.Hole.{Hole}
-use Rattle.wb_keeper.specs.declared.keep_fault.KeepFault.TheVariants.{BackInTime, Range}
 use Rattle.wb_member.specs.Opened.{Opened, present}
 use Rattle.wb_policy.specs.Distances.{bounded}
 use Rattle.wb_recovery.specs.declared.limits.TheConstants.{UNKNOWN_DISTANCE}
@@ -28,8 +27,6 @@ use Rattle.wb_policy.specs.Questions.{is_due, is_to_answer}
 use Rattle.wb_policy.specs.Reports.{is_telling, page_after, rest_after, slice_after}
 use Rattle.wb_policy.specs.Turns.{name_in, nowhere}
 use Rattle.wb_policy.specs.Wanting.{passes_on}
-use Rattle.wb_keeping.specs.declared.kept_fault.KeptFault.{KeptFault}
-use Rattle.wb_keeping.specs.declared.kept_fault.KeptFault.TheVariants.{Host}
 use Rattle.wb_policy.specs.declared.leaps.Leaps.{Leaps}
 use Rattle.wb_policy.specs.declared.turns.Turns.{Turns}
 use Rattle.wb_policy.specs.declared.wanting.AskedName.{AskedName}
@@ -392,33 +389,21 @@ module _ (R : Keeping → List Line → Keeping → Type 0) (is : HoldsOfParts R
 
   -- ---- lines
 
-  on_time : (past : Bool) (others : List (Option KeptFault)) → first_of (fault_unless past (Host BackInTime) ∷ others) ≡ None → past ≡ true
-  on_time true others e = refl
-  on_time false others e = absurd cc
-
-  first_none : (f : Option KeptFault) (others : List (Option KeptFault)) → first_of (f ∷ others) ≡ None → f ≡ None
-  first_none None others e = refl
-  first_none (Some f) others e = absurd cc
-
-  in_range : (may : Bool) → fault_unless may (Host Range) ≡ None → may ≡ true
-  in_range true e = refl
-  in_range false e = absurd cc
-
   pub line_of_parts : (line : KeptLine) (k : Keeping) → fault_of line k ≡ None → HoldsAt R (doing_of line) k
   line_of_parts (Came now v) k none =
       let first = performs (Ticks now) in
-      let later = leb-true _ _ (on_time (nat_le (present k.host) now) _ none) in
+      let later = leb-true _ _ (unless_true (nat_le (present k.host) now) _ (first_none _ _ none)) in
       then_at R is.due first (and_then (hears v) timed) k (is.ticks now k later) (then_holds R is.due (hears v) timed (hears_holds v) (timed_holds R is.due) (after_doing first k))
   line_of_parts (Ticked now) k none =
-      let later = leb-true _ _ (on_time (nat_le (present k.host) now) _ none) in
+      let later = leb-true _ _ (unless_true (nat_le (present k.host) now) _ (first_none _ _ none)) in
       then_at R is.due (performs (Ticks now)) timed k (is.ticks now k later) (timed_holds R is.due (after_doing (performs (Ticks now)) k))
   line_of_parts (Added now page time op) k none =
       let first = performs (Ticks now) in
       let second = draws_it page time op in
-      let later = leb-true _ _ (on_time (nat_le (present k.host) now) _ (first_none _ _ none)) in
+      let later = leb-true _ _ (unless_true (nat_le (present k.host) now) _ (first_none _ _ (first_none _ _ none))) in
       then_at R is.due first (and_then second (and_then ends_full timed)) k (is.ticks now k later)
       (then_holds R is.due second (and_then ends_full timed) (λ k. is.draws (drawing (view_of k.host) page time op) k) (then_holds R is.due ends_full timed ends_hold (timed_holds R is.due)) (after_doing first k))
-  line_of_parts (Tuned constants) k none = is.tunes constants k (in_range (are_constants constants) none)
+  line_of_parts (Tuned constants) k none = is.tunes constants k (unless_true (are_constants constants) _ none)
 
   -- all that a kept host does
   pub all_parts_hold : (lines : List KeptLine) (k : Keeping) → AreTaken lines k → R k (expand lines k) (after_kept lines k)

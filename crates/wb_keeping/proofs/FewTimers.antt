@@ -1,8 +1,8 @@
 -- At most 64 request timers stand, whatever comes in.
-use Rattle.std.proofs.Common.{◌≡◌, ℕ, ◌≤◌, zero, suc, Bool, true, false, cond, List, [], ◌∷◌, ◌++◌, ◌∙◌, Some, None, ap, arith, inl, inr, length, map, refl, subst, sym, true≢false, ⊎_elim}
-use Rattle.std.specs.Prelude.{◌⊎◌, ◌||◌, Contains, nat_eq, nat_le, nat_lt, take}
+use Rattle.std.proofs.Common.{◌≡◌, ℕ, ◌≤◌, zero, suc, Bool, true, false, cond, List, [], ◌∷◌, ◌++◌, ◌∙◌, Some, None, ap, arith, inl, inr, length, map, refl, subst, sym, ⊎_elim}
+use Rattle.std.specs.Prelude.{◌⊎◌, Contains, nat_eq, nat_le, nat_lt, take}
 use Rattle.std.specs.List.{fold}
-use Rattle.std.proofs.lemmas.Bool.{leb-false}
+use Rattle.std.proofs.lemmas.Bool.{leb-false, or_parts}
 use Rattle.wb_names.specs.Values.{NameValue}
 use Rattle.wb_names.proofs.Listings.{Contains-here, Contains-there}
 use Rattle.wb_gaps.specs.Answers.{pages_of}
@@ -104,10 +104,6 @@ oldest_among a later = ⊎_elim
       names : List NameValue
       names = map (λ (a : AskedName). a.name) later
 
-either_false : (a b : Bool) → (a || b) ≡ false → a ≡ false
-either_false true b e = absurd (true≢false e)
-either_false false b e = refl
-
 -- behind the one that gives way there is room for one more
 way_made : (host : Opened) (asked : List AskedName) → asked ≡ (view_of host).asked → timer_count host ≤ 64 → AreFew (stops_one (giving_way asked)) host × (timer_count (after_lines (stops_one (giving_way asked)) host) ≤ 63)
 way_made host [] e few = let none = ap (λ (asked : List AskedName). length asked) e ∙ count_seen host in (few, omega (arith, none))
@@ -120,7 +116,7 @@ way_made host (a ∷ later) e few = by (gives_way (length (a ∷ later)) (fold o
 
   by : (b : Bool) → gives_way (length (a ∷ later)) first.level ≡ b → AreFew (way b) host × (timer_count (after_lines (way b) host) ≤ 63)
   by false f =
-      let lt = leb-false 64 (length (a ∷ later)) (either_false (nat_le 64 (length (a ∷ later))) (is_old first.level) f) in
+      let lt = leb-false 64 (length (a ∷ later)) (or_parts (nat_le 64 (length (a ∷ later))) (is_old first.level) f).0 in
       let counts = ap (λ (asked : List AskedName). length asked) e ∙ count_seen host in
       (few, omega (arith, lt, counts))
   by true f =

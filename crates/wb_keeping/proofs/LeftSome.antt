@@ -5,11 +5,11 @@ use Rattle.wb_names.specs.Values.{NameValue}
 use Rattle.wb_codec.specs.declared.datagram.Datagram.{Datagram}
 use Rattle.wb_member.specs.Holding.{IsOpenAt, MemberValue}
 use Rattle.wb_member.specs.Opened.{Opened}
-use Rattle.wb_keeping.specs.Kept.{Doing, Line, Transition, and_then, is_begun, is_unasked, leap, leaps_on, still, turn, turns_on, want, want_near, want_told}
-use Rattle.wb_keeping.specs.Performing.{Does, DoesQuietly, IsKeptAt, Keeping, KeptValue, LeavesSome, after_doing, after_lines, sees, view_of}
+use Rattle.wb_keeping.specs.Kept.{Doing, Line, Transition, and_then, is_begun, is_unasked, leap, leaps_on, turn, turns_on, want, want_near, want_told}
+use Rattle.wb_keeping.specs.Performing.{Begins, Does, DoesQuietly, IsKeptAt, Keeping, KeptValue, LeavesSome, after_doing, after_lines, sees, view_of}
 use Rattle.wb_policy.specs.Policy.{Policy}
 use Rattle.wb_keeping.specs.Views.{View}
-use Rattle.wb_keeping.proofs.Performed.{after_both, seen_then}
+use Rattle.wb_keeping.proofs.Performed.{after_both, begun_by, quiet_by, seen_then}
 use Rattle.wb_keeping.proofs.Wanted.{leaps_end, leaps_go_on, turns_end, turns_go_on}
 use Rattle.wb_keeping.proofs.OneByOne.{at_next, begun_first, ended_by, passed_by}
 
@@ -95,13 +95,27 @@ pub left_as : (does other : Transition) {a b : KeptValue}
     → ((k : Keeping) → IsKeptAt a k → does (sees k.host) k.policy ≡ other (sees k.host) k.policy) → LeavesSome other a b → LeavesSome does a b
 left_as does other {a} {b} same left = record { at = λ k at. left_as_at does other k b (same k at) (left.at k at) }
 
--- nothing was performed of it, behind what changes nothing
-pub left_still : (does : Transition) {a b c : KeptValue} → DoesQuietly still a b → c.member ≡ b.member → LeavesSome does a c
-left_still does {a} {b} {c} did stays = record { at = λ k at. (0, subst (λ (m : MemberValue). IsOpenAt m k.host) (sym stays) ((did.sends []).at k at).1.member) }
-
 -- What is left of what stands inside is left of the whole.
 pub left_of : {does : Transition} {v old new : KeptValue} → v ≡ old → LeavesSome does v new → LeavesSome does old new
 left_of {does} {v} {old} {new} e left = subst (λ (v : KeptValue). LeavesSome does v new) e left
+
+-- ---- what comes of a transition that may begin to ask for a name
+
+-- The same comes of both, from another policy on.
+pub begins_by : (does other : Transition) {a b c : KeptValue} {E : Type 0}
+    → ((k : Keeping) → IsKeptAt a k → (p : Policy) × (b.policy ≡ p) × (does (sees k.host) k.policy ≡ other (sees k.host) p)) → b.member ≡ a.member
+    → (r : Result Bool E) → Begins other b c r → Begins does a c r
+begins_by does other same stays (Ok x) it = record { begun = begun_by does other same stays it.begun; does = quiet_by does other same stays it.does; left = tt }
+begins_by does other same stays (Err e) it = record { begun = tt; does = tt; left = left_by does other same stays it.left }
+
+-- It is enough to know at each host what that wants.
+pub begins_where : (does : Transition) {P : Type 0} {a b : KeptValue} {E : Type 0} → ((k : Keeping) → IsKeptAt a k → P) → (r : Result Bool E) → (P → Begins does a b r) → Begins does a b r
+begins_where does holds (Ok x) it = record {
+  begun = λ k at. (it (holds k at)).begun k at;
+  does = record { sends = λ sent. record { at = λ k at. ((it (holds k at)).does.sends sent).at k at } };
+  left = tt;
+}
+begins_where does holds (Err e) it = record { begun = tt; does = tt; left = record { at = λ k at. (it (holds k at)).left.at k at } }
 
 -- ---- names that are wanted one by one
 

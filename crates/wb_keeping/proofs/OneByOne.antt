@@ -1,6 +1,6 @@
 -- Names and pages that are gone over one by one.
-use Rattle.std.proofs.Common.{◌≡◌, ℕ, ◌+◌, ◌<◌, ◌≤◌, Bool, true, false, cond, List, [], ◌∷◌, ◌∙◌, add-one, ap, drop, drop-cons, get_or, length, map, subst, sym}
-use Rattle.std.proofs.lemmas.List.{drop_all}
+use Rattle.std.proofs.Common.{◌≡◌, ℕ, ◌+◌, ◌<◌, ◌≤◌, Bool, true, false, cond, List, [], ◌∷◌, ◌∙◌, ap, drop, get_or, length, map, subst, sym}
+use Rattle.std.proofs.lemmas.List.{drop_all, drop_more}
 use Rattle.wb_names.specs.Values.{NameValue}
 use Rattle.wb_keeping.specs.Kept.{Doing, Line, Stops, and_then, is_begun, is_unasked, still, want, want_near, want_told}
 use Rattle.wb_keeping.specs.Performing.{DoesQuietly, IsKeptAt, Keeping, KeptValue, sees, view_of}
@@ -12,12 +12,9 @@ use Rattle.wb_keeping.proofs.Wanted.{not_begun}
 
 -- ---- the next of a list
 
-pub next_of : {X : Type 0} (xs : List X) (i : ℕ) (d : X) → i < length xs → drop i xs ≡ get_or xs i d ∷ drop (i + 1) xs
-next_of xs i d lt = rw (add-one, drop-cons xs i d)
-
 -- what is done for the whole list is done for its rest, once that was done for the next
 pub at_next : {X : Type 0} (P : List X → Type 0) (xs : List X) (i : ℕ) (d : X) → i < length xs → P (get_or xs i d ∷ drop (i + 1) xs) → P (drop i xs)
-at_next P xs i d lt p = subst P (sym (next_of xs i d lt)) p
+at_next P xs i d lt p = subst P (sym (drop_more xs i d lt)) p
 
 pub at_end : {X : Type 0} (P : List X → Type 0) (xs : List X) (i : ℕ) → length xs ≤ i → P [] → P (drop i xs)
 at_end P xs i le p = subst P (sym (drop_all i xs le)) p

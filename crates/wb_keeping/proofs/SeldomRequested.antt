@@ -2,7 +2,7 @@
 -- than ten minutes.
 use Rattle.std.proofs.Common.{◌≡◌, ℕ, ◌+◌, ◌*◌, ◌^◌, ◌≤◌, Bool, true, false, List, [], ◌∷◌, ◌++◌, ◌∙◌, Option, Some, None, ap, arith, length-append, refl, subst, sym, ⊎_elim, zero, suc, ◌-◌}
 use Rattle.std.specs.Prelude.{◌⊎◌, Contains, IfSome, filter, length, min, nat_lt}
-use Rattle.std.proofs.Math.Nat.{pow-le-pow_right}
+use Rattle.std.proofs.Math.Nat.{le_refl, pow-le-pow_right}
 use Rattle.std.proofs.lemmas.Bool.{ltb-false, ltb-true}
 use Rattle.std.proofs.lemmas.Grind.{pow_more}
 use Rattle.std.proofs.lemmas.List.Elements.{filter-append}
@@ -152,10 +152,7 @@ names_are_seldom_requested constants number cells seed moments policy lines befo
     let rest = apt_parts before ((first ∷ part) ++ later) start.host all in
     let apt = (apt_parts (first ∷ part) later host rest.1).0 in
     let spaced = lines_spaced before start.host rest.0 (new_spaced constants number cells seed moments policy within) in
-    let count = seldom n begin end short (first ∷ part) host 0 apt spaced none (at_first begin) (itself end) (omega arith) (never_before n begin end short (ask_at n host)) in
+    let count = seldom n begin end short (first ∷ part) host 0 apt spaced none (at_first begin) (le_refl end) (omega arith) (never_before n begin end short (ask_at n host)) in
     omega (arith, count) where
       at_first : (m : ℕ) → m + passed 0 ≤ m
       at_first m = omega arith
-
-      itself : (m : ℕ) → m ≤ m
-      itself m = omega arith

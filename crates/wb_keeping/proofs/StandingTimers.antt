@@ -8,14 +8,13 @@ use Rattle.wb_gaps.specs.Answers.{reports_of}
 use Rattle.std.specs.List.Sorted.{IsStrictlySortedBy}
 use Rattle.std.specs.Ordering.{is_eq}
 use Rattle.std.specs.declared.cmp.Ordering.TheVariants.{Less}
-use Rattle.std.proofs.lemmas.Bool.Decides.{nat_tests}
 use Rattle.std.proofs.lemmas.List.Sums.{count_by-le-length, length-filter}
 use Rattle.std.proofs.lemmas.Map.Keys.{sorted_tail}
 use Rattle.wb_names.specs.Listing.{Lists}
 use Rattle.wb_names.specs.Orders.{name_cmp, same_name}
 use Rattle.wb_names.specs.Values.{DrawopValue, NameValue}
 use Rattle.wb_names.proofs.Listings.{Contains-cases, Contains-filter, Contains-here, Contains-none, Contains-there, below_all}
-use Rattle.wb_names.proofs.Orders.{name_total, same_name-is}
+use Rattle.wb_names.proofs.Orders.{name_total, same_name-is, same_name-itself}
 use Rattle.wb_codec.specs.declared.datagram.Datagram.{Datagram}
 use Rattle.wb_codec.specs.declared.datagram.Datagram.TheVariants.{Draw, Session, Request, AskPages, PageState}
 use Rattle.wb_recovery.specs.Events.{Asked, Event, Got, due_answers, due_asks, names_of, timers_of}
@@ -34,6 +33,7 @@ use Rattle.wb_keeper.specs.GivingUp.{is_asked, level as level_in}
 use Rattle.wb_keeper.specs.Hearing.{answers_to, asks_for_held, asks_for_pages, page_states}
 use Rattle.wb_keeper.specs.Keeper.{asked_by, delay_to, given_up, holds, received_of}
 use Rattle.wb_keeper.specs.Ticks.{drawop_of, sent_for, stopped_after}
+use Rattle.wb_keeper.proofs.TickSends.{due_stands}
 use Rattle.wb_member.specs.Judged.{asked_names}
 use Rattle.wb_member.specs.Members.{Misses}
 use Rattle.wb_member.specs.Opened.{Opened, becomes, doing, events, has_room_for, heard, may_ask, present, word_at}
@@ -42,13 +42,10 @@ use Rattle.wb_keeping.specs.Bounds.{is_ask, is_request, timer_count}
 use Rattle.wb_keeping.specs.Kept.{Arrives, Asks, Hears, Line, Says, SetsDistance, Tunes, Stops, Ticks}
 use Rattle.wb_keeping.specs.Performing.{after_line, said_where, sent_by_line, view_of}
 use Rattle.wb_keeping.specs.Views.{is_asked as is_asked_by}
-use Rattle.wb_names.specs.Arrivals.{Outcome, Fresh, Known, Clashed, Left}
+use Rattle.wb_names.specs.Arrivals.{Outcome, New, Again, Clash, Left}
 use Rattle.wb_keeping.proofs.AskedTimers.{level_seen}
 
 -- ---- names without one
-
-pub same_itself : (n : NameValue) → same_name n n ≡ true
-same_itself n = grind (arith, nat_tests)
 
 abbrev without : NameValue → List NameValue → List NameValue
 without x ys = filter (λ n. not (same_name x n)) ys
@@ -65,7 +62,7 @@ shorter x (y ∷ ys) there = by (same_name x y) refl (no_longer x ys) (shorter x
   by : (b : Bool) → same_name x y ≡ b → length (without x ys) ≤ length ys → (Contains ys x → length (without x ys) < length ys) → length (cond (not b) (y ∷ without x ys) (without x ys)) < suc (length ys)
   by true e le lt = omega (arith, le)
   by false e le lt =
-      let later = ⊎_elim (λ (same : y ≡ x). absurd (true≢false (sym (subst (λ (n : NameValue). same_name x n ≡ true) (sym same) (same_itself x)) ∙ e))) lt (Contains-cases y x ys there) in
+      let later = ⊎_elim (λ (same : y ≡ x). absurd (true≢false (sym (subst (λ (n : NameValue). same_name x n ≡ true) (sym same) (same_name-itself x)) ∙ e))) lt (Contains-cases y x ys there) in
       omega (arith, later)
 
 apart : (x z : NameValue) → name_cmp x z ≡ Less → not (same_name x z) ≡ true
@@ -237,10 +234,7 @@ tick_requests now host =
     ((listed host).members z).1 (missed_to host z (received z now (events host) stopped (sym (request_stands t calls z) ∙ due_stands now (timers_of t calls z).ask ((rising.members z).0 c))))) in
     let sent : sent_by_line (Ticks now) host ≡ filter_map (sent_for me history) (map Ask due) ++ filter_map (sent_for me history) (map Answer answering) = filter_map-append (sent_for me history) (map Ask due) (map Answer answering) in
     let count = ap (λ (ds : List Datagram). length (filter is_request ds)) sent ∙ asks_in me history due (filter_map (sent_for me history) (map Answer answering)) (answers_in me history answering) in
-    omega (arith, few, count) where
-      due_stands : (now : ℕ) (o : Option AskTimer) → is_ask_due now o ≡ true → is_some o ≡ true
-      due_stands now None e = absurd (true≢false (sym e))
-      due_stands now (Some a) e = refl
+    omega (arith, few, count)
 
 pub heard_requests : (v : Datagram) (host : Opened) (room : Bool) → length (filter is_request (cond room (answers_to host.is.number host.is.held v) [])) ≡ 0
 heard_requests v host false = refl
@@ -250,9 +244,9 @@ heard_requests v host true = by (asks_for_pages host.is.number v) where
   by false = refl
 
 pub drawn_requests : (d : DrawopValue) (o : Outcome) → length (filter is_request (said_where d o)) ≡ 0
-drawn_requests d (Fresh i) = refl
-drawn_requests d (Known i) = refl
-drawn_requests d (Clashed i) = refl
+drawn_requests d (New i) = refl
+drawn_requests d (Again i) = refl
+drawn_requests d (Clash i) = refl
 drawn_requests d Left = refl
 
 -- as many as timers stand, and one where a driver says so

@@ -1,10 +1,9 @@
 -- What a host tells by look-ups is what its policy tells of the whole report and of all pages.
-use Rattle.std.proofs.Common.{◌≡◌, ℕ, List, [], ◌∷◌, ◌∙◌, Option, None, Some, ap, filter, map, refl}
+use Rattle.std.proofs.Common.{◌≡◌, ℕ, List, [], ◌∷◌, Option, None, Some, ap, filter, map, refl}
 use Rattle.std.specs.Prelude.{take}
 use Rattle.std.specs.List.{last_or}
 use Rattle.wb_names.specs.Ascending.{is_above}
 use Rattle.wb_names.specs.Values.{DrawopValue, MarkValue}
-use Rattle.wb_names.specs.declared.name.PageId.{PageId}
 use Rattle.wb_gaps.specs.Answers.{pages_of}
 use Rattle.wb_gaps.specs.Starts.{is_past}
 use Rattle.wb_gaps.specs.Telling.{pages_after}

@@ -3,7 +3,7 @@ use Rattle.std.proofs.Common.{◌≡◌, ℕ, ◌+◌, ◌≤◌, ◌<◌, Bool,
 use Rattle.std.specs.Prelude.{None, ◌⊎◌, not, ◌&&◌, ◌||◌, nat_eq, nat_le, nat_lt}
 use Rattle.std.proofs.lemmas.Bool.{and_parts, eqb-true, ltb-true}
 use Rattle.std.proofs.lemmas.Bool.Decides.{nat_tests}
-use Rattle.wb_names.specs.Arrivals.{Outcome, Fresh, Known, Clashed, Left, history_with, outcome_from, outcome_of}
+use Rattle.wb_names.specs.Arrivals.{Outcome, New, Again, Clash, Left, history_with, outcome_from, outcome_of}
 use Rattle.wb_names.specs.Faults.{fault_unless, first_of}
 use Rattle.wb_names.specs.History.{highest, is_of}
 use Rattle.wb_names.specs.Marks.{mark_of}
@@ -12,6 +12,7 @@ use Rattle.wb_names.specs.Same.{same_drawop}
 use Rattle.wb_names.specs.Values.{DrawopValue, MarkValue, NameValue}
 use Rattle.wb_names.specs.declared.echo.Echo.{Echo}
 use Rattle.wb_names.specs.declared.name.PageId.{PageId}
+use Rattle.wb_names.proofs.Arrivals.{new_has_room}
 use Rattle.wb_codec.specs.declared.datagram.Datagram.{Datagram}
 use Rattle.wb_codec.specs.declared.datagram.Datagram.TheVariants.{Draw, Session, Request, AskPages, PageState}
 use Rattle.wb_gaps.specs.Joining.{greater, joined, joined_at}
@@ -93,43 +94,28 @@ module _ (page : PageId) (me most : ℕ) (history : List DrawopValue) (d : Drawo
     by true e = let a = highest_more page me history d ∙ ap (λ (b : Bool). max (highest page me history) (cond b d.name.seq 0)) e in let s = small e in omega (arith, a, s, long, kept)
     by false e = let a = highest_more page me history d ∙ ap (λ (b : Bool). max (highest page me history) (cond b d.name.seq 0)) e in omega (arith, a, long, kept)
 
-  with_outcome : (o : Outcome) → Kept history → (((i : ℕ) → o ≡ Fresh i → is_of page me d ≡ true → d.name.seq ≤ most + length history + 1)) → Kept (history_with history d o)
-  with_outcome (Fresh i) kept small = more kept (small i refl)
-  with_outcome (Known i) kept small = kept
-  with_outcome (Clashed i) kept small = kept
+  with_outcome : (o : Outcome) → Kept history → (((i : ℕ) → o ≡ New i → is_of page me d ≡ true → d.name.seq ≤ most + length history + 1)) → Kept (history_with history d o)
+  with_outcome (New i) kept small = more kept (small i refl)
+  with_outcome (Again i) kept small = kept
+  with_outcome (Clash i) kept small = kept
   with_outcome Left kept small = kept
 
 -- a name that is held is not fresh
-not_fresh : (cells i : ℕ) (history : List DrawopValue) (d : DrawopValue) (place : ℕ) → holds history d.name ≡ true → outcome_from cells i history d ≡ Fresh place → ⊥
+pub not_fresh : (cells i : ℕ) (history : List DrawopValue) (d : DrawopValue) (place : ℕ) → holds history d.name ≡ true → outcome_from cells i history d ≡ New place → ⊥
 not_fresh cells i [] d place there fresh = true≢false (sym there)
 not_fresh cells i (e ∷ es) d place there fresh = by (same_name e.name d.name) refl (λ a b. not_fresh cells (i + 1) es d place a b) where
-  known : (same : Bool) → cond same (Known i) (Clashed i) ≡ Fresh place → ⊥
+  known : (same : Bool) → cond same (Again i) (Clash i) ≡ New place → ⊥
   known true e = cc
   known false e = cc
 
-  by : (b : Bool) → same_name e.name d.name ≡ b → (holds es d.name ≡ true → outcome_from cells (i + 1) es d ≡ Fresh place → ⊥) → ⊥
-  by true t later = known (same_drawop e d) (sym (ap (λ (b : Bool). cond b (cond (same_drawop e d) (Known i) (Clashed i)) (outcome_from cells (i + 1) es d)) t) ∙ fresh)
-  by false f later = later (sym (ap (λ (b : Bool). b || holds es d.name) f) ∙ there) (sym (ap (λ (b : Bool). cond b (cond (same_drawop e d) (Known i) (Clashed i)) (outcome_from cells (i + 1) es d)) f) ∙ fresh)
+  by : (b : Bool) → same_name e.name d.name ≡ b → (holds es d.name ≡ true → outcome_from cells (i + 1) es d ≡ New place → ⊥) → ⊥
+  by true t later = known (same_drawop e d) (sym (ap (λ (b : Bool). cond b (cond (same_drawop e d) (Again i) (Clash i)) (outcome_from cells (i + 1) es d)) t) ∙ fresh)
+  by false f later = later (sym (ap (λ (b : Bool). b || holds es d.name) f) ∙ there) (sym (ap (λ (b : Bool). cond b (cond (same_drawop e d) (Again i) (Clash i)) (outcome_from cells (i + 1) es d)) f) ∙ fresh)
 
--- who is fresh has a cell
-fresh_room : (cells i : ℕ) (history : List DrawopValue) (d : DrawopValue) (place : ℕ) → outcome_from cells i history d ≡ Fresh place → i + length history < cells
-fresh_room cells i [] d place fresh = by (nat_lt i cells) refl fresh where
-  by : (b : Bool) → nat_lt i cells ≡ b → cond b (Fresh i) Left ≡ Fresh place → i + 0 < cells
-  by true e f = let lt = ltb-true _ _ e in omega (arith, lt)
-  by false e f = absurd cc
-fresh_room cells i (e ∷ es) d place fresh = by (same_name e.name d.name) refl (λ a. fresh_room cells (i + 1) es d place a) where
-  known : (same : Bool) → cond same (Known i) (Clashed i) ≡ Fresh place → ⊥
-  known true e = cc
-  known false e = cc
-
-  by : (b : Bool) → same_name e.name d.name ≡ b → (outcome_from cells (i + 1) es d ≡ Fresh place → i + 1 + length es < cells) → i + length (e ∷ es) < cells
-  by true t later = absurd (known (same_drawop e d) (sym (ap (λ (b : Bool). cond b (cond (same_drawop e d) (Known i) (Clashed i)) (outcome_from cells (i + 1) es d)) t) ∙ fresh))
-  by false f later = let rest = later (sym (ap (λ (b : Bool). cond b (cond (same_drawop e d) (Known i) (Clashed i)) (outcome_from cells (i + 1) es d)) f) ∙ fresh) in omega (arith, rest)
-
-with_room : (cells : ℕ) (history : List DrawopValue) (d : DrawopValue) (o : Outcome) → length history ≤ cells → ((i : ℕ) → o ≡ Fresh i → 0 + length history < cells) → length (history_with history d o) ≤ cells
-with_room cells history d (Fresh i) le fresh = let lt = fresh i refl in let long = length-append history (d ∷ []) in omega (arith, lt, long)
-with_room cells history d (Known i) le fresh = le
-with_room cells history d (Clashed i) le fresh = le
+with_room : (cells : ℕ) (history : List DrawopValue) (d : DrawopValue) (o : Outcome) → length history ≤ cells → ((i : ℕ) → o ≡ New i → 0 + length history < cells) → length (history_with history d o) ≤ cells
+with_room cells history d (New i) le fresh = let lt = fresh i refl in let long = length-append history (d ∷ []) in omega (arith, lt, long)
+with_room cells history d (Again i) le fresh = le
+with_room cells history d (Clash i) le fresh = le
 with_room cells history d Left le fresh = le
 
 -- ---- lines
@@ -158,15 +144,15 @@ IsTame host (Says (PageState sender page marks)) = Unit {0}
 pub number_left : (page : PageId) (host : Opened) → IsBounded host → last_number page host ≤ 2147483647 + length host.is.held
 number_left page host b = let m = mark_below host.is.number 2147483647 (marks_heard host.is.number host.is.calls page) (b.marks page) in let h = b.held page in omega (arith, m, h)
 
-taken : (d : DrawopValue) (host : Opened) → IsBounded host → ((page : PageId) (i : ℕ) → outcome_of host.is.cells host.is.held d ≡ Fresh i → is_of page host.is.number d ≡ true → d.name.seq ≤ 2147483647 + length host.is.held + 1) → IsBounded (accepted d host)
+taken : (d : DrawopValue) (host : Opened) → IsBounded host → ((page : PageId) (i : ℕ) → outcome_of host.is.cells host.is.held d ≡ New i → is_of page host.is.number d ≡ true → d.name.seq ≤ 2147483647 + length host.is.held + 1) → IsBounded (accepted d host)
 taken d host b small = record {
   marks = b.marks;
   held = λ page. with_outcome page host.is.number 2147483647 host.is.held d (outcome_of host.is.cells host.is.held d) (b.held page) (small page);
-  room = with_room host.is.cells host.is.held d (outcome_of host.is.cells host.is.held d) b.room (λ i fresh. fresh_room host.is.cells 0 host.is.held d i fresh);
+  room = with_room host.is.cells host.is.held d (outcome_of host.is.cells host.is.held d) b.room (λ i fresh. new_has_room host.is.cells 0 host.is.held d i fresh);
   cells = b.cells;
 }
 
-arrival : (d : DrawopValue) (host : Opened) (page : PageId) (i : ℕ) → IsTame host (Arrives d) → outcome_of host.is.cells host.is.held d ≡ Fresh i → is_of page host.is.number d ≡ true → d.name.seq ≤ 2147483647 + length host.is.held + 1
+arrival : (d : DrawopValue) (host : Opened) (page : PageId) (i : ℕ) → IsTame host (Arrives d) → outcome_of host.is.cells host.is.held d ≡ New i → is_of page host.is.number d ≡ true → d.name.seq ≤ 2147483647 + length host.is.held + 1
 arrival d host page i tame fresh of = ⊎_elim (λ (small : d.name.seq ≤ 2147483647). omega (arith, small)) (λ (there : holds host.is.held d.name ≡ true). absurd (not_fresh host.is.cells 0 host.is.held d i there fresh)) (tame (eqb-true _ _ (and_parts _ _ of).1))
 
 drawn : (d : DrawopValue) (host : Opened) (page : PageId) → IsBounded host → d.name.seq ≤ last_number d.name.page host + 1 → d.name.seq ≤ 2147483647 + length host.is.held + 1

@@ -1,8 +1,7 @@
 -- A name that is wanted.
 use Rattle.std.proofs.Common.{◌≡◌, ℕ, zero, suc, Bool, true, false, cond, List, [], ◌∷◌, ◌++◌, ◌∙◌, ap, arith, length, length-append, refl, sym, true≢false}
 use Rattle.std.specs.Prelude.{Option, Some, nat_lt, nat_eq}
-use Rattle.std.proofs.lemmas.Bool.{lt-ltb}
-use Rattle.std.proofs.lemmas.Bool.Decides.{nat_tests}
+use Rattle.std.proofs.lemmas.Bool.{lt-ltb, ne_eqb}
 use Rattle.wb_names.specs.Values.{NameValue}
 use Rattle.wb_names.specs.History.{highest}
 use Rattle.wb_gaps.specs.Holes.{hole_after}
@@ -156,13 +155,10 @@ module _ (more : ℕ) (see : List Line → View) (p : Policy) where
 
 -- ---- what an echo tells
 
-pub not_same : (a b : ℕ) → (a ≡ b → ⊥) → nat_eq a b ≡ false
-not_same a b ne = grind (arith, nat_tests)
-
 pub measured : (sender : ℕ) (distance : Option ℕ) (micros near : ℕ) (see : List Line → View) (p : Policy) → Some micros ≡ distance → near ≡ bounded micros → (near ≡ micros → ⊥) → measures sender distance see p ≡ performs (SetsDistance sender near) see (with_distance micros p)
 measured sender distance micros near see p d n ne =
     ap (λ (o : Option ℕ). measures sender o see p) (sym d)
-    ∙ ap (λ (b : Bool). let d : Doing = record { policy = with_distance micros p; lines = cond b [] (SetsDistance sender (bounded micros) ∷ []) } in d) (not_same (bounded micros) micros (λ e. ne (n ∙ e)))
+    ∙ ap (λ (b : Bool). let d : Doing = record { policy = with_distance micros p; lines = cond b [] (SetsDistance sender (bounded micros) ∷ []) } in d) (ne_eqb (bounded micros) micros (λ e. ne (n ∙ e)))
     ∙ ap (λ (m : ℕ). let d : Doing = record { policy = with_distance micros p; lines = SetsDistance sender m ∷ [] } in d) (sym n)
 
 pub same_wanted : (held here full room anew known told : Bool) (old new : Option ℕ) (owed due then now : ℕ) → held ≡ here → full ≡ room → known ≡ told → old ≡ new → owed ≡ due → then ≡ now

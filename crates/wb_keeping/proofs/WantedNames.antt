@@ -1,10 +1,11 @@
 -- A name that is wanted has a request timer then, where there is credit.
 use Rattle.std.proofs.Common.{◌≡◌, ℕ, Bool, true, false, cond, List, [], ◌∷◌, ◌++◌, ◌∙◌, Option, Some, None, ap, inl, inr, refl, subst, sym, true≢false, ⊎_elim}
+use Rattle.std.proofs.lemmas.Bool.{false_from_ne_true}
 use Rattle.std.specs.Prelude.{◌⊎◌, ◌&&◌, ◌||◌, filter, is_none, is_some, nat_eq, nat_le, not}
-use Rattle.wb_names.specs.Arrivals.{Outcome, Fresh, Known, Clashed, Left, history_with, outcome_of}
+use Rattle.wb_names.specs.Arrivals.{Outcome, New, Again, Clash, Left, history_with, outcome_of}
 use Rattle.wb_names.specs.Orders.{same_name}
 use Rattle.wb_names.specs.Values.{DrawopValue, NameValue}
-use Rattle.wb_names.proofs.Orders.{same_name-is}
+use Rattle.wb_names.proofs.Orders.{same_name-is, same_name-itself}
 use Rattle.wb_codec.specs.declared.datagram.Datagram.{Datagram}
 use Rattle.wb_codec.specs.declared.datagram.Datagram.TheVariants.{Draw, Session, Request, AskPages, PageState}
 use Rattle.wb_recovery.specs.Events.{Asked, Event, Got, timers_of}
@@ -31,7 +32,7 @@ use Rattle.wb_policy.specs.Wanting.{giving_way, goes_on, is_paid, is_wanted}
 use Rattle.wb_keeping.proofs.AskedTimers.{level_seen}
 use Rattle.wb_keeping.proofs.EachStep.{doing}
 use Rattle.wb_keeping.proofs.Performed.{after_both}
-use Rattle.wb_keeping.proofs.StandingTimers.{Stands, come, is_some_level, keeps, missed_from, missed_to, same_itself, stands_asked}
+use Rattle.wb_keeping.proofs.StandingTimers.{Stands, come, is_some_level, keeps, missed_from, missed_to, stands_asked}
 use Rattle.wb_keeping.proofs.EachLine.{Each, one_each, room_each}
 
 -- ---- answer timers
@@ -81,10 +82,10 @@ held_append (x ∷ history) d n e = by (same_name x.name n) e (held_append histo
   by true e later = refl
   by false e later = later e
 
-held_with : (history : List DrawopValue) (d : DrawopValue) (o : Outcome) (n : NameValue) → holds history n ≡ true → holds (history_with history d o) n ≡ true
-held_with history d (Fresh i) n e = held_append history d n e
-held_with history d (Known i) n e = e
-held_with history d (Clashed i) n e = e
+pub held_with : (history : List DrawopValue) (d : DrawopValue) (o : Outcome) (n : NameValue) → holds history n ≡ true → holds (history_with history d o) n ≡ true
+held_with history d (New i) n e = held_append history d n e
+held_with history d (Again i) n e = e
+held_with history d (Clash i) n e = e
 held_with history d Left n e = e
 
 -- ---- lines
@@ -183,23 +184,19 @@ room_clears name host = by (is_asked (view_of host) name) refl where
       let asked = stands_asked host name e in
       let missed = missed_from (after_line (Stops name) host) name stands in
       let came = come name name (events host) (subst (λ (b : Bool). since (notices name) (arrives name) (given_up (present host) name b (events host)) ≡ true) asked missed) in
-      true≢false (sym (same_itself name) ∙ came.1)
+      true≢false (sym (same_name-itself name) ∙ came.1)
   by false e stands =
       let first = giving_way (view_of host).asked in
       away e (settings_stand (stops_one first) host name (one_each IsSetting (λ name. tt) first) stands)
-
-not_true : (b : Bool) → (b ≡ true → ⊥) → b ≡ false
-not_true true never = absurd (never refl)
-not_true false never = refl
 
 asks_stand : (name : NameValue) (host : Opened) → holds host.is.held name ≡ false → (Stands host name → ⊥) → (is_answering host name ≡ true → ⊥) → Stands (after_line (Asks name) host) name
 asks_stand name host lacks unasked unanswered =
     let s = timers_of host.is.constants (events host) name in
     let may : may_ask name host ≡ true =
     ap (λ (b : Bool). not (b || (is_some s.ask || is_some s.answer))) lacks
-    ∙ ap (λ (b : Bool). not (b || is_some s.answer)) (not_true (is_some s.ask) unasked)
-    ∙ ap not (not_true (is_some s.answer) unanswered) in
-    subst (λ (b : Bool). Stands (cond b asking host) name) (sym may) (missed_to asking name (ap (λ (b : Bool). b || since (notices name) (arrives name) (events host)) (same_itself name))) where
+    ∙ ap (λ (b : Bool). not (b || is_some s.answer)) (false_from_ne_true (is_some s.ask) unasked)
+    ∙ ap not (false_from_ne_true (is_some s.answer) unanswered) in
+    subst (λ (b : Bool). Stands (cond b asking host) name) (sym may) (missed_to asking name (ap (λ (b : Bool). b || since (notices name) (arrives name) (events host)) (same_name-itself name))) where
       asking : Opened
       asking = doing_act (Misses (present host) (name ∷ []) (word_of host.random ∷ [])) 1 host
 

@@ -2,7 +2,7 @@
 use Rattle.std.proofs.Common.{◌≡◌, ℕ, ◌<◌, Bool, true, false, cond, List, [], ◌∷◌, ◌++◌, ◌∙◌, Option, Some, None, ap, arith, inl, inr, length, length-append, refl, subst, sym, ⊎_elim}
 use Rattle.std.specs.Prelude.{◌⊎◌, ◌||◌, Contains, nat_eq, nat_lt, ◌≢◌}
 use Rattle.std.proofs.lemmas.List.Elements.{Contains-append_left, Contains-append_right}
-use Rattle.wb_names.specs.Arrivals.{Outcome, Fresh, Known, Clashed, Left, history_with, outcome_of}
+use Rattle.wb_names.specs.Arrivals.{Outcome, New, Again, Clash, Left, history_with, outcome_of}
 use Rattle.wb_names.specs.Values.{DrawopValue, MarkValue, NameValue}
 use Rattle.wb_names.specs.declared.echo.Echo.{Echo}
 use Rattle.wb_names.specs.declared.name.PageId.{PageId}
@@ -288,9 +288,9 @@ module _ (P : NameValue → Type 0) where
     same o e f = record { stays = record { held = ap (history_with k.host.is.held d) e ∙ f; now = refl; turns = refl; due = refl }; asks = (tt, tt); owed = inr refl }
 
     by : (o : Outcome) → outcome_of k.host.is.cells k.host.is.held d ≡ o → IsMore k m ⊎ AsksFor P k (Arrives d ∷ []) m
-    by (Fresh i) e = inl (subst (λ (h : List DrawopValue). length k.host.is.held < length h) (sym (ap (history_with k.host.is.held d) e)) (longer_by_one k.host.is.held d))
-    by (Known i) e = inr (same (Known i) e refl)
-    by (Clashed i) e = inr (same (Clashed i) e refl)
+    by (New i) e = inl (subst (λ (h : List DrawopValue). length k.host.is.held < length h) (sym (ap (history_with k.host.is.held d) e)) (longer_by_one k.host.is.held d))
+    by (Again i) e = inr (same (Again i) e refl)
+    by (Clash i) e = inr (same (Clash i) e refl)
     by Left e = inr (same Left e refl)
 
   takes_asks : (d : DrawopValue) (k : Keeping) → IsMore k (after_doing (takes d) k) ⊎ At (takes d) k

@@ -1,11 +1,10 @@
 -- A host that asks for a name of some kind does so after each step of a policy that asks for names of that kind alone, or it holds more then.
-use Rattle.std.proofs.Common.{◌≡◌, ℕ, ◌+◌, ◌-◌, ◌<◌, ◌≤◌, Bool, true, false, cond, List, [], ◌∷◌, ◌++◌, ◌∙◌, None, ap, arith, inl, inr, length, refl, subst, sym, true≢false, ⊎_elim}
-use Rattle.std.specs.Prelude.{◌⊎◌, ◌||◌, Contains, nat_eq, not, take}
+use Rattle.std.proofs.Common.{◌≡◌, ℕ, ◌-◌, ◌<◌, ◌≤◌, Bool, true, false, cond, List, [], ◌∷◌, ◌++◌, ◌∙◌, None, ap, arith, inl, inr, length, refl, subst, sym, true≢false, ⊎_elim}
+use Rattle.std.specs.Prelude.{◌⊎◌, Contains, nat_eq, not, take}
 use Rattle.std.proofs.lemmas.Bool.{and_parts, false_from_ne_true, not-true}
 use Rattle.std.proofs.lemmas.List.Elements.{Contains-append_cases, Contains-append_left, Contains-append_right}
-use Rattle.wb_names.specs.Arrivals.{Outcome, Fresh, Known, Clashed, Left, history_with, outcome_from, outcome_of}
-use Rattle.wb_names.specs.Orders.{same_name}
-use Rattle.wb_names.specs.Same.{same_drawop}
+use Rattle.std.proofs.Math.Nat.{le_refl}
+use Rattle.wb_names.specs.Arrivals.{Outcome, New, Again, Clash, Left, history_with, outcome_of}
 use Rattle.wb_names.specs.declared.name.PageId.{PageId}
 use Rattle.wb_names.specs.declared.parts.Op.{Op}
 use Rattle.wb_names.specs.Values.{DrawopValue, NameValue}
@@ -30,6 +29,7 @@ use Rattle.wb_keeping.proofs.EachStep.{HoldsOfSteps, having, having_done, line_h
 use Rattle.wb_keeping.proofs.Performed.{after_both}
 use Rattle.wb_keeping.proofs.Saying.{says_after}
 use Rattle.wb_keeping.proofs.StandingTimers.{IsMissed, keeps, missed_from, missed_to}
+use Rattle.wb_keeping.proofs.Unlocked.{not_fresh}
 use Rattle.wb_keeping.proofs.Wanted.{is_wanted_here, lines_wanted}
 use Rattle.wb_keeping.proofs.WantedNames.{lines_answer_held}
 use Rattle.wb_kept_progress.proofs.AskedInCalls.{AskFor, AskNothing, HasAsk, IsAskOf, IsMore, asked_is, longer_by_one, wanted_is_asked}
@@ -84,9 +84,6 @@ module _ (P : NameValue → Type 0) where
     lacks = ap (λ (h : Opened). holds h.is.held a.name) same ∙ a.lacks;
     asked = ap (asks_for a.name) same ∙ a.asked;
   }
-
-  itself : (n : ℕ) → n ≤ n
-  itself n = omega arith
 
   -- a step that asks for nothing
   quiet : (k : Keeping) (lines : List Line) (m : Keeping) → m.host ≡ after_lines lines k.host → AskNothing lines → m.policy.owed ≤ k.policy.owed → (AsksOne k → AsksOne m ⊎ IsMore k m) → StaysAsked k lines m
@@ -188,7 +185,7 @@ module _ (P : NameValue → Type 0) where
       its may = asked_is P (wanted true).lines name may.asks (wanted_is_asked name anew (sees k.host) k.policy)
 
       by : (b : Bool) → so ≡ b → StaysAsked k (wanted b).lines (having_done (wanted b) k)
-      by false e = quiet k [] (having_done (wanted false) k) refl tt (itself k.policy.owed) (λ a. inl (with_other k.policy k a))
+      by false e = quiet k [] (having_done (wanted false) k) refl tt (le_refl k.policy.owed) (λ a. inl (with_other k.policy k a))
       by true e = record {
         at = refl;
         on = λ may a. inl (asks_then e may.answers_held (its may));
@@ -210,9 +207,9 @@ module _ (P : NameValue → Type 0) where
         record { name = a.name; is = a.is; lacks = lacks; asked = arrival_stands d k.host a.name lacks a.asked }
 
     by : (o : Outcome) → outcome_of k.host.is.cells k.host.is.held d ≡ o → AsksOne (with_policy p (having (Arrives d) k)) ⊎ IsMore k (with_policy p (having (Arrives d) k))
-    by (Fresh i) e = inr (subst (λ (h : List DrawopValue). length k.host.is.held < length h) (sym (ap (history_with k.host.is.held d) e)) (longer_by_one k.host.is.held d))
-    by (Known i) e = inl (same (Known i) e refl)
-    by (Clashed i) e = inl (same (Clashed i) e refl)
+    by (New i) e = inr (subst (λ (h : List DrawopValue). length k.host.is.held < length h) (sym (ap (history_with k.host.is.held d) e)) (longer_by_one k.host.is.held d))
+    by (Again i) e = inl (same (Again i) e refl)
+    by (Clash i) e = inl (same (Clash i) e refl)
     by Left e = inl (same Left e refl)
 
   heard_on : (v : Datagram) (k : Keeping) → AsksOne k → AsksOne (having (Hears v) k)
@@ -236,35 +233,35 @@ module _ (P : NameValue → Type 0) where
   steps_stay : HoldsOfSteps StaysAsked
   steps_stay = record {
     due = record {
-      nothing = λ k. quiet k [] k refl tt (itself k.policy.owed) (λ a. inl a);
+      nothing = λ k. quiet k [] k refl tt (le_refl k.policy.owed) (λ a. inl a);
       both = both_stay;
       wants = wants_stay;
-      turned = λ t l k. quiet k [] _ refl tt (itself k.policy.owed) (λ a. inl (with_other _ k a));
-      beats = λ k due. quiet k [] _ refl tt (itself k.policy.owed) (λ a. inl (with_other _ k a));
-      answers = λ k is. quiet k _ _ refl (states_each (IsAskOf (λ n. ⊥)) (view_of k.host) (λ page. tt) (take 64 (pages_of k.host.is.held))) (itself k.policy.owed)
+      turned = λ t l k. quiet k [] _ refl tt (le_refl k.policy.owed) (λ a. inl (with_other _ k a));
+      beats = λ k due. quiet k [] _ refl tt (le_refl k.policy.owed) (λ a. inl (with_other _ k a));
+      answers = λ k is. quiet k _ _ refl (states_each (IsAskOf (λ n. ⊥)) (view_of k.host) (λ page. tt) (take 64 (pages_of k.host.is.held))) (le_refl k.policy.owed)
           (λ a. inl (same_then k _ (says_after (view_of k.host) (take 64 (pages_of k.host.is.held)) k.host) a));
-      asks_pages = λ k is. quiet k _ _ refl (tt, tt) (itself k.policy.owed) (λ a. inl (with_other _ k a));
-      reports = λ page until told k is. quiet k _ _ refl (tt, tt) (itself k.policy.owed) (λ a. inl (same_then k _ refl a));
+      asks_pages = λ k is. quiet k _ _ refl (tt, tt) (le_refl k.policy.owed) (λ a. inl (with_other _ k a));
+      reports = λ page until told k is. quiet k _ _ refl (tt, tt) (le_refl k.policy.owed) (λ a. inl (same_then k _ refl a));
     };
-    ticks = λ now k later. quiet k (Ticks now ∷ []) _ refl (tt, tt) (itself k.policy.owed)
+    ticks = λ now k later. quiet k (Ticks now ∷ []) _ refl (tt, tt) (le_refl k.policy.owed)
         (λ a. inl (record { name = a.name; is = a.is; lacks = a.lacks; asked = ticked_stands now k.host a.name a.lacks a.asked }));
-    arrives = λ d k. quiet k (Arrives d ∷ []) _ refl (tt, tt) (itself k.policy.owed) (λ a. arrived d k k.policy a);
+    arrives = λ d k. quiet k (Arrives d ∷ []) _ refl (tt, tt) (le_refl k.policy.owed) (λ a. arrived d k k.policy a);
     answered = λ d k lacks asked. quiet k (Arrives d ∷ []) _ refl (tt, tt) (repaid_less k.policy.owed) (λ a. arrived d k (after_came k.policy) a);
-    hears = λ v k. quiet k (Hears v ∷ []) _ refl (tt, tt) (itself k.policy.owed) (λ a. inl (heard_on v k a));
+    hears = λ v k. quiet k (Hears v ∷ []) _ refl (tt, tt) (le_refl k.policy.owed) (λ a. inl (heard_on v k a));
     stops = λ name k full. record {
       at = refl;
       on = λ may a. absurd (true≢false (sym full ∙ may.room));
       begins = λ may h. absurd (true≢false (sym full ∙ may.room));
-      spent = inr (itself k.policy.owed);
+      spent = inr (le_refl k.policy.owed);
     };
-    sets = λ source micros k. quiet k _ _ refl (tt, tt) (itself k.policy.owed) (λ a. inl (record { name = a.name; is = a.is; lacks = a.lacks; asked = a.asked }));
-    lends = λ source k. quiet k _ _ refl (tt, tt) (itself k.policy.owed) (λ a. inl (record { name = a.name; is = a.is; lacks = a.lacks; asked = a.asked }));
-    takes_back = λ source k. quiet k _ _ refl (tt, tt) (itself k.policy.owed) (λ a. inl (record { name = a.name; is = a.is; lacks = a.lacks; asked = a.asked }));
-    tunes = λ constants k within. quiet k (Tunes constants ∷ []) _ refl (tt, tt) (itself k.policy.owed) (λ a. inl (record { name = a.name; is = a.is; lacks = a.lacks; asked = a.asked }));
-    draws = λ d k. quiet k _ _ refl (tt, tt) (itself k.policy.owed) (λ a. arrived d k k.policy a);
-    measured = λ micros k. quiet k [] _ refl tt (itself k.policy.owed) (λ a. inl (with_other _ k a));
-    told = λ k. quiet k [] _ refl tt (itself k.policy.owed) (λ a. inl (with_other _ k a));
-    takes_up = λ k is. quiet k [] _ refl tt (itself k.policy.owed) (λ a. inl (with_other _ k a));
+    sets = λ source micros k. quiet k _ _ refl (tt, tt) (le_refl k.policy.owed) (λ a. inl (record { name = a.name; is = a.is; lacks = a.lacks; asked = a.asked }));
+    lends = λ source k. quiet k _ _ refl (tt, tt) (le_refl k.policy.owed) (λ a. inl (record { name = a.name; is = a.is; lacks = a.lacks; asked = a.asked }));
+    takes_back = λ source k. quiet k _ _ refl (tt, tt) (le_refl k.policy.owed) (λ a. inl (record { name = a.name; is = a.is; lacks = a.lacks; asked = a.asked }));
+    tunes = λ constants k within. quiet k (Tunes constants ∷ []) _ refl (tt, tt) (le_refl k.policy.owed) (λ a. inl (record { name = a.name; is = a.is; lacks = a.lacks; asked = a.asked }));
+    draws = λ d k. quiet k _ _ refl (tt, tt) (le_refl k.policy.owed) (λ a. arrived d k k.policy a);
+    measured = λ micros k. quiet k [] _ refl tt (le_refl k.policy.owed) (λ a. inl (with_other _ k a));
+    told = λ k. quiet k [] _ refl tt (le_refl k.policy.owed) (λ a. inl (with_other _ k a));
+    takes_up = λ k is. quiet k [] _ refl tt (le_refl k.policy.owed) (λ a. inl (with_other _ k a));
   }
 
   -- ---- a call
@@ -297,18 +294,6 @@ stood_or_asks n (line ∷ lines) host stands = ⊎_elim
 
 -- ---- a drawop that is new
 
--- a name that is held is not fresh
-not_fresh : (cells i : ℕ) (history : List DrawopValue) (d : DrawopValue) (place : ℕ) → holds history d.name ≡ true → outcome_from cells i history d ≡ Fresh place → ⊥
-not_fresh cells i [] d place there fresh = true≢false (sym there)
-not_fresh cells i (e ∷ es) d place there fresh = by (same_name e.name d.name) refl (λ a b. not_fresh cells (i + 1) es d place a b) where
-  known : (same : Bool) → cond same (Known i) (Clashed i) ≡ Fresh place → ⊥
-  known true e = cc
-  known false e = cc
-
-  by : (b : Bool) → same_name e.name d.name ≡ b → (holds es d.name ≡ true → outcome_from cells (i + 1) es d ≡ Fresh place → ⊥) → ⊥
-  by true t later = known (same_drawop e d) (sym (ap (λ (b : Bool). cond b (cond (same_drawop e d) (Known i) (Clashed i)) (outcome_from cells (i + 1) es d)) t) ∙ fresh)
-  by false f later = later (sym (ap (λ (b : Bool). b || holds es d.name) f) ∙ there) (sym (ap (λ (b : Bool). cond b (cond (same_drawop e d) (Known i) (Clashed i)) (outcome_from cells (i + 1) es d)) f) ∙ fresh)
-
 -- what is held stays, or a line brings a drawop whose name was lacked
 abbrev Brings : Line → DrawopValue → Type 0
 Brings line d = (line ≡ Arrives d) ⊎ (line ≡ Says (Draw d))
@@ -316,9 +301,9 @@ Brings line d = (line ≡ Arrives d) ⊎ (line ≡ Says (Draw d))
 taken : (d : DrawopValue) (host : Opened) → ((after_line (Arrives d) host).is.held ≡ host.is.held) ⊎ (holds host.is.held d.name ≡ false)
 taken d host = by (outcome_of host.is.cells host.is.held d) refl where
   by : (o : Outcome) → outcome_of host.is.cells host.is.held d ≡ o → ((after_line (Arrives d) host).is.held ≡ host.is.held) ⊎ (holds host.is.held d.name ≡ false)
-  by (Fresh i) e = inr (false_from_ne_true (holds host.is.held d.name) (λ held. not_fresh host.is.cells 0 host.is.held d i held e))
-  by (Known i) e = inl (ap (history_with host.is.held d) e)
-  by (Clashed i) e = inl (ap (history_with host.is.held d) e)
+  by (New i) e = inr (false_from_ne_true (holds host.is.held d.name) (λ held. not_fresh host.is.cells 0 host.is.held d i held e))
+  by (Again i) e = inl (ap (history_with host.is.held d) e)
+  by (Clash i) e = inl (ap (history_with host.is.held d) e)
   by Left e = inl (ap (history_with host.is.held d) e)
 
 line_brings_new : (line : Line) (host : Opened) → ((after_line line host).is.held ≡ host.is.held) ⊎ ((d : DrawopValue) × Brings line d × (holds host.is.held d.name ≡ false))

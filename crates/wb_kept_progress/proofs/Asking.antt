@@ -1,13 +1,13 @@
 -- A name that is asked for in a call is still asked for behind it: where another needs its timer, one that was backed off gives way.
 use Rattle.wb_progress.specs.Keepers.{constants_at}
 use Rattle.std.proofs.Common.{◌≡◌, ℕ, suc, ◌+◌, ◌-◌, ◌*◌, ◌≤◌, Bool, true, false, cond, List, [], ◌∷◌, ◌∙◌, Option, Some, None, ap, arith, inl, inr, length, map, refl, subst, sym, true≢false, ⊎_elim}
-use Rattle.std.specs.Prelude.{◌⊎◌, ◌||◌, Contains, is_none, is_some, max, nat_eq, nat_le, nat_lt, not, unwrap_or}
+use Rattle.std.specs.Prelude.{◌⊎◌, ◌||◌, Contains, is_none, is_some, max, nat_eq, nat_le, nat_lt, not}
 use Rattle.std.specs.List.{cons_option, fold}
 use Rattle.std.proofs.lemmas.Bool.{and_parts, leb-true, ltb-false, ltb-true, or_cases, false_from_ne_true, le-leb, not-true}
 use Rattle.wb_names.specs.Orders.{same_name}
 use Rattle.wb_names.specs.Values.{DrawopValue, NameValue}
 use Rattle.wb_names.proofs.Listings.{Contains-cases, Contains-here, Contains-none, Contains-there}
-use Rattle.wb_names.proofs.Orders.{same_name-is}
+use Rattle.wb_names.proofs.Orders.{same_name-here, same_name-is}
 use Rattle.wb_recovery.specs.Events.{names_of, timers_of}
 use Rattle.wb_recovery.specs.Timing.{got, new_ask, noticed}
 use Rattle.wb_recovery.specs.declared.timers.AskTimer.{AskTimer}
@@ -15,7 +15,6 @@ use Rattle.wb_recovery.specs.declared.timers.Timers.{Timers}
 use Rattle.wb_recovery.proofs.NameLists.{listed_of}
 use Rattle.wb_keeper.specs.GivingUp.{level as level_in}
 use Rattle.wb_keeper.specs.Keeper.{delay_to, given_up, holds as holds_in}
-use Rattle.wb_keeper.proofs.KeptCalls.{same_here}
 use Rattle.wb_member.specs.Judged.{asked_names, level}
 use Rattle.wb_member.specs.Members.{Misses}
 use Rattle.wb_member.specs.Opened.{Opened, asks_for, doing, events, may_ask, present}
@@ -38,7 +37,8 @@ use Rattle.wb_keeping.proofs.WantedNames.{lines_answer_held, wanted_is_asked, Ar
 use Rattle.wb_policy.proofs.Spending.{has_place}
 use Rattle.wb_kept_progress.proofs.Lines.{lines_of, lines_rest, IsSmall, are_small}
 use Rattle.wb_keeping.proofs.EachLine.{want_each, room_each, wanted_each}
-use Rattle.std.proofs.lemmas.Option.{none-some}
+use Rattle.std.proofs.lemmas.List.{length-map}
+use Rattle.std.proofs.lemmas.Option.{none-some, same_Some}
 
 -- ---- how often a timer was backed off, once a line was performed
 
@@ -53,19 +53,19 @@ stop_leaves name n host other = by (asks_for name host) where
   by false = refl
   by true = ap (λ (b : Bool). level_in (cond b (got (present host) 0 (timers_of host.is.constants (events host) n)) (timers_of host.is.constants (events host) n)).ask) other
 
+pub no_level : (o : Option AskTimer) → is_some o ≡ false → level_in o ≡ None
+no_level None e = refl
+no_level (Some a) e = absurd (true≢false e)
+
 stop_ends : (name : NameValue) (host : Opened) → level (after_line (Stops name) host) name ≡ None
 stop_ends name host = by (asks_for name host) refl where
   s : Timers
   s = timers_of host.is.constants (events host) name
 
-  none : (o : Option AskTimer) → is_some o ≡ false → level_in o ≡ None
-  none None e = refl
-  none (Some a) e = absurd (true≢false e)
-
   by : (b : Bool) → asks_for name host ≡ b → level_in (timers_of host.is.constants (given_up (present host) name b (events host)) name).ask ≡ None
-  by false e = none s.ask e
+  by false e = no_level s.ask e
   by true e =
-      ap (λ (b : Bool). level_in (cond b (got_now s) s).ask) (same_here name name refl)
+      ap (λ (b : Bool). level_in (cond b (got_now s) s).ask) (same_name-here name name refl)
       ∙ ap (λ (b : Bool). level_in (cond b gone s).ask) (ap (λ (b : Bool). b || is_some s.answer) e) where
         gone : Timers
         gone = record { ask = None; answer = None; quiet = present host + 3 * 0 }
@@ -119,7 +119,7 @@ asks_new name n host new = by (same_name name n) refl where
 asks_sets : (name : NameValue) (host : Opened) → may_ask name host ≡ true → IsNew (after_line (Asks name) host) name
 asks_sets name host may =
     ap (λ (b : Bool). level (cond b asking_host host) name) may
-    ∙ ap (λ (b : Bool). level_in (cond b (noticed (constants_at host.is.number host.is.constants host.is.calls) now delay word s) s).ask) (same_here name name refl)
+    ∙ ap (λ (b : Bool). level_in (cond b (noticed (constants_at host.is.number host.is.constants host.is.calls) now delay word s) s).ask) (same_name-here name name refl)
     ∙ set s.ask (no_ask may) where
       asking_host : Opened
       asking_host = doing (Misses (present host) (name ∷ []) (word_of host.random ∷ [])) 1 host
@@ -215,17 +215,14 @@ from_names (a ∷ asked) n c = ⊎_elim
     (λ (c : Contains (map (λ (a : AskedName). a.name) asked) n). let rest = from_names asked n c in (rest.0, Contains-there a rest.0 asked rest.1, rest.2))
     (Contains-cases a.name n (map (λ (a : AskedName). a.name) asked) c)
 
-pub same_zero : (a : ℕ) → Some a ≡ Some 0 → a ≡ 0
-same_zero a e = ap (λ (o : Option ℕ). unwrap_or o 0) e
-
 -- Where fewer than 64 are new, and 64 stand, the oldest is not new.
 oldest_is_old : (host : Opened) (names : List NameValue) → ((m : NameValue) → IsNew host m → Contains names m) → length names ≤ 63 → (a : AskedName) (later : List AskedName) → (view_of host).asked ≡ a ∷ later → 64 ≤ length (a ∷ later) → IsNew host (fold older a later).name → ⊥
 oldest_is_old host names all few a later e many new =
     let o = fold older a later in
     let among_asked : (b : AskedName) → Contains (a ∷ later) b → Contains (view_of host).asked b = λ b c. subst (λ (asked : List AskedName). Contains asked b) (sym e) c in
-    let zero_level : o.level ≡ 0 = same_zero o.level (sym (level_told host o (among_asked o (oldest_is_one a later))) ∙ new) in
+    let zero_level : o.level ≡ 0 = same_Some o.level 0 (sym (level_told host o (among_asked o (oldest_is_one a later))) ∙ new) in
     let names_are : map (λ (b : AskedName). b.name) (a ∷ later) ≡ asked_names host = ap (map (λ (b : AskedName). b.name)) (sym e) ∙ named (timers_of host.is.constants (events host)) (names_of (events host)) in
-    let count : length (a ∷ later) ≡ length (asked_names host) = sym (mapped (a ∷ later)) ∙ ap (λ (ns : List NameValue). length ns) names_are in
+    let count : length (a ∷ later) ≡ length (asked_names host) = sym (length-map (a ∷ later) (λ (b : AskedName). b.name)) ∙ ap (λ (ns : List NameValue). length ns) names_are in
     let le = as_many (asked_names host) names (listed_of (λ (s : Timers). is_some s.ask) refl host.is.constants (events host)).rising (λ z c.
     let b = from_names (a ∷ later) z (subst (λ (ns : List NameValue). Contains ns z) (sym names_are) c) in
     let most = oldest_most a later b.0 b.1 in
@@ -234,10 +231,6 @@ oldest_is_old host names all few a later e many new =
     omega (arith, many, count, le, few) where
       least : (a b : ℕ) → a ≤ b → b ≡ 0 → a ≡ 0
       least a b le e = omega (arith, le, e)
-
-      mapped : (asked : List AskedName) → length (map (λ (b : AskedName). b.name) asked) ≡ length asked
-      mapped [] = refl
-      mapped (b ∷ asked) = ap suc (mapped asked)
 
 -- ---- one name after another
 
@@ -361,7 +354,7 @@ module _ (name : NameValue) (anew : Bool) (k : Keeping) where
             (λ (many : nat_le 64 (length (a ∷ later)) ≡ true). oldest_is_old k.host names are.all few a later e (leb-true 64 (length (a ∷ later)) many) is_new)
             (λ (old : is_old (fold older a later).level ≡ true).
             let told = level_told k.host (fold older a later) (subst (λ (asked : List AskedName). Contains asked (fold older a later)) (sym e) (oldest_is_one a later)) in
-            let zero_level = same_zero (fold older a later).level (sym told ∙ is_new) in
+            let zero_level = same_Some (fold older a later).level 0 (sym told ∙ is_new) in
             let four = leb-true 4 (fold older a later).level old in
             absurd (omega (arith, four, zero_level)))
             (or_cases (nat_le 64 (length (a ∷ later))) (is_old (fold older a later).level) way)
@@ -497,5 +490,5 @@ told_is_asked (name ∷ names) k n used among few may = subst (λ (x : Keeping).
       let taken = is_taken k n used (omega (arith, few)) may in
       stay_asked names m n (subst (λ (x : NameValue). IsAskedAnew (after_doing (want x true) k) n) (sym (same_name-is name n same)) taken)
   by later false other =
-      let rest = ⊎_elim (λ (e : name ≡ n). absurd (true≢false (sym (same_here name n e) ∙ other))) (λ (c : Contains names n). c) (Contains-cases name n names among) in
+      let rest = ⊎_elim (λ (e : name ≡ n). absurd (true≢false (sym (same_name-here name n e) ∙ other))) (λ (c : Contains names n). c) (Contains-cases name n names among) in
       later rest (omega (arith, few)) (passes name k n used other may)

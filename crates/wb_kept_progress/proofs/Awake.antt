@@ -1,8 +1,7 @@
 -- What a call leads to at a live host that lacks nothing but missing numbers, each of which another holds: it goes on asking for one; and if it asks for
 -- none, it spends nothing, and no turn was due while there was credit.
-use Rattle.std.proofs.Common.{◌≡◌, ℕ, ◌+◌, ◌-◌, ◌*◌, ◌<◌, ◌≤◌, Bool, true, false, List, [], ◌∷◌, ◌++◌, ◌∙◌, Some, None, ap, append_assoc, arith, inl, inr, max, refl, subst, sym, true≢false, ⊎_elim}
+use Rattle.std.proofs.Common.{◌≡◌, ℕ, ◌+◌, ◌<◌, ◌≤◌, Bool, true, false, List, [], ◌∷◌, ◌++◌, ◌∙◌, Some, None, ap, append_assoc, arith, inl, inr, refl, subst, sym, ⊎_elim}
 use Rattle.std.specs.Prelude.{◌⊎◌, Contains}
-use Rattle.std.proofs.lemmas.Bool.{false_from_ne_true, le-leb, leb-true}
 use Rattle.std.proofs.lemmas.Bool.Decides.{leb_tells}
 use Rattle.std.proofs.lemmas.Option.{same_Some}
 use Rattle.std.proofs.lemmas.List.Elements.{Contains-append_left}
@@ -16,7 +15,6 @@ use Rattle.wb_member.specs.Opened.{asks_for, present}
 use Rattle.wb_policy.specs.Credit.{has_credit}
 use Rattle.wb_policy.specs.Fairness.{name_in_turn}
 use Rattle.wb_policy.specs.Policy.{Policy}
-use Rattle.wb_policy.specs.declared.limits.TheConstants.{COST}
 use Rattle.wb_keeping.specs.Fairness.{AnswersWhatIsHeld}
 use Rattle.wb_keeping.specs.Kept.{Arrives, Asks, Line, Ticks, takes, timed}
 use Rattle.wb_keeping.specs.Laws.{KeptLine, doing_of, fault_of}
@@ -43,14 +41,8 @@ use Rattle.wb_kept_progress.proofs.Repairs.{came_after, moved}
 use Rattle.wb_kept_progress.proofs.StillCalls.{IsTuning, came_now, still_call}
 use Rattle.wb_kept_progress.proofs.TurnNames.{turn_names}
 use Rattle.wb_kept_progress.proofs.Turning.{answers_at, in_hole, missing_is_lacked}
-use Rattle.wb_kept_progress.proofs.WantedIn.{IsAskedInCall, LacksCredit}
+use Rattle.wb_kept_progress.proofs.WantedIn.{IsAskedInCall, LacksCredit, no_credit_then}
 use Rattle.wb_kept_progress.proofs.WholeParts.{HasTurn, does}
-
--- if there is no credit, there was none while no less was owed
-none_before : (owed owes now : ℕ) → owed ≤ owes → has_credit owed now ≡ false → has_credit owes now ≡ false
-none_before owed owes now le none = false_from_ne_true (has_credit owes now) (λ e.
-    let few = leb-true (max owes now - now) (63 * COST) e in
-    true≢false (sym (le-leb (max owed now - now) (63 * COST) (omega (arith, few, le))) ∙ none))
 
 module _ (hosts : ℕ → Opening) (terms : Terms) (trace : List TimedLine) (since : ℕ) (session : IsTimelySession hosts terms trace) (holes_held : HolesAreHeld hosts terms trace) (only : OnlyHolesAreLacked hosts terms trace since) where
   abbrev IsSome : NameValue → Type 0
@@ -190,7 +182,7 @@ module _ (hosts : ℕ → Opening) (terms : Terms) (trace : List TimedLine) (sin
                 (λ (without : LacksCredit done). ⊎_elim
                 (λ (awake : IsAwake next). inl awake)
                 (λ (le : next.policy.owed ≤ k.policy.owed).
-                inr (none_before next.policy.owed k.policy.owed now le
+                inr (no_credit_then next.policy.owed k.policy.owed now le
                 (ap (λ (x : Keeping). has_credit x.policy.owed now) next_is ∙ ap (λ (t : ℕ). has_credit done.policy.owed t) (sym t.now_is) ∙ without)))
                 spent)
                 (t.wants names.0 (missing_is_lacked k.host.is.held names.0 names.2) (session.room (newer ++ e ∷ []) older i before_it live (omega (arith, settled))) names.1);

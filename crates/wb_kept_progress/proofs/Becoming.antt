@@ -3,7 +3,7 @@ use Rattle.std.proofs.Common.{◌≡◌, ℕ, ◌+◌, ◌*◌, ◌<◌, ◌≤�
 use Rattle.std.specs.Prelude.{◌⊎◌, Contains, length, nat_eq}
 use Rattle.std.proofs.lemmas.List.{append_cancel_left, get_or_append_left}
 use Rattle.std.proofs.lemmas.Bool.Decides.{leb_tells}
-use Rattle.wb_names.specs.Arrivals.{Outcome, Fresh, Known, Clashed, Left, history_with, outcome_of}
+use Rattle.wb_names.specs.Arrivals.{Outcome, New, Again, Clash, Left, history_with, outcome_of}
 use Rattle.wb_names.specs.History.{IsHistory}
 use Rattle.wb_names.specs.Values.{DrawopValue, NameValue}
 use Rattle.std.proofs.lemmas.List.Elements.{Contains-append_left, Contains-append_right}
@@ -30,10 +30,10 @@ use Rattle.wb_kept_progress.proofs.GivenUp.{timer_leads_or_is_given_up}
 use Rattle.wb_kept_progress.proofs.NothingNew.{held_was_held}
 use Rattle.wb_kept_progress.proofs.Stillness.{stillness_ends}
 use Rattle.wb_kept_progress.proofs.Young.{timers_are_young}
-use Rattle.wb_kept_progress.proofs.CallParts.{calls_order, lacked_until}
 use Rattle.wb_kept_progress.proofs.Reached.{reached}
 use Rattle.wb_kept_progress.proofs.Repairs.{held_once}
 use Rattle.wb_kept_progress.proofs.WholeParts.{HeldWasHeld, StillnessEnds}
+use Rattle.wb_kept_progress.proofs.CallParts.{lacked_until}
 
 -- ---- what is held is followed by what comes
 
@@ -48,9 +48,9 @@ joined : (a b c : List DrawopValue) → Appends a b → Appends b c → Appends 
 joined a b c one two = record { more = one.more ++ two.more; is = two.is ∙ ap (λ (h : List DrawopValue). h ++ two.more) one.is ∙ append_assoc a one.more two.more }
 
 with_appends : (h : List DrawopValue) (d : DrawopValue) (o : Outcome) → Appends h (history_with h d o)
-with_appends h d (Fresh i) = record { more = d ∷ []; is = refl }
-with_appends h d (Known i) = nothing h
-with_appends h d (Clashed i) = nothing h
+with_appends h d (New i) = record { more = d ∷ []; is = refl }
+with_appends h d (Again i) = nothing h
+with_appends h d (Clash i) = nothing h
 with_appends h d Left = nothing h
 
 accepts : (d : DrawopValue) (host : Opened) → Appends host.is.held (accepted d host).is.held
@@ -184,15 +184,22 @@ module _ (hosts : ℕ → Opening) where
 
 -- ---- a session
 
+-- what a live host lacks behind a time that is late enough, and another held, it lacked at first
+pub lacked_first : (hosts : ℕ → Opening) (terms : Terms) (trace newer part : List TimedLine) (i : ℕ) (n : NameValue) → AreCalledInOrder trace → trace ≡ newer ++ part → settled_by terms < called_at part → Contains terms.live i → IsHeldBySome hosts terms trace n
+    → holds (there hosts part i).host n ≡ false → IsLackedAt hosts terms trace (until (settled_by terms) (performed hosts trace)) (record { place = i; name = n })
+lacked_first hosts terms trace newer part i n order split late live held lacks = (
+  live,
+  held,
+  subst (λ (t : List TimedLine). holds (host_after (λ j. start_of (hosts j)) (until (settled_by terms) (performed hosts t)) i) n ≡ false) (sym split)
+      (lacked_until hosts newer part (settled_by terms) i n (subst AreCalledInOrder split order) late lacks),
+)
+
 module _ (hosts : ℕ → Opening) (terms : Terms) (trace : List TimedLine) (sizes : Sizes) (wait most : ℕ) (all : Holds hosts terms trace sizes wait most)
     (was_held : HeldWasHeld) (asked : LackIsAsked) (ends : StillnessEnds) where
   abbrev start : ℕ
   start = max (known_from terms + wait + repairing terms) sizes.since
 
   -- ---- a still window in which something is lacked
-
-  ordered : (newer part : List TimedLine) → trace ≡ newer ++ part → AreCalledInOrder part
-  ordered newer part split = calls_order newer part (subst AreCalledInOrder split all.session.order)
 
   -- a still window ends by then
   abbrev still_by : ℕ → ℕ
@@ -222,23 +229,13 @@ module _ (hosts : ℕ → Opening) (terms : Terms) (trace : List TimedLine) (siz
     first : (x : Lack) → Contains lacks x → IsLackedAt hosts terms trace (until (settled_by terms) (performed hosts trace)) x
     then : (x : Lack) → Contains lacks x → (x ≡ record { place = i; name = n }) ⊎ (holds (there hosts part x.place).host x.name ≡ true)
 
-  -- what is lacked behind a time is lacked before
-  lacked_first : (newer part : List TimedLine) (i : ℕ) (n : NameValue) → trace ≡ newer ++ part → start < called_at part → Contains terms.live i → IsHeldBySome hosts terms trace n → holds (there hosts part i).host n ≡ false
-      → IsLackedAt hosts terms trace (until (settled_by terms) (performed hosts trace)) (record { place = i; name = n })
-  lacked_first newer part i n split late live held lacks = (
-    live,
-    held,
-    subst (λ (t : List TimedLine). holds (host_after (λ j. start_of (hosts j)) (until (settled_by terms) (performed hosts t)) i) n ≡ false) (sym split)
-        (lacked_until hosts newer part (settled_by terms) i n (subst AreCalledInOrder split all.session.order) (omega (arith, late)) lacks),
-  )
-
   filled : (k : ℕ) (newer part : List TimedLine) (i : ℕ) (n : NameValue) → trace ≡ newer ++ part → at_step k < called_at part → Contains terms.live i → IsHeldBySome hosts terms trace n → holds (there hosts part i).host n ≡ false → AreFilled part i n k
   filled zero newer part i n split late live held lacks = record {
     lacks = record { place = i; name = n } ∷ [];
     apart = (λ c. absurd (Contains-none _ c), tt);
     count = refl;
     first = λ x c. ⊎_elim
-        (λ (same : record { place = i; name = n } ≡ x). subst (IsLackedAt hosts terms trace (until (settled_by terms) (performed hosts trace))) same (lacked_first newer part i n split (omega (arith, late)) live held lacks))
+        (λ (same : record { place = i; name = n } ≡ x). subst (IsLackedAt hosts terms trace (until (settled_by terms) (performed hosts trace))) same (lacked_first hosts terms trace newer part i n all.session.order split (omega (arith, late)) live held lacks))
         (λ (none : Contains [] x). absurd (Contains-none x none))
         (Contains-cases (record { place = i; name = n }) x [] c);
     then = λ x c. ⊎_elim (λ (same : record { place = i; name = n } ≡ x). inl (sym same)) (λ (none : Contains [] x). absurd (Contains-none x none)) (Contains-cases (record { place = i; name = n }) x [] c);
@@ -276,7 +273,7 @@ module _ (hosts : ℕ → Opening) (terms : Terms) (trace : List TimedLine) (siz
                 apart = (λ c. true≢false (sym (here x c) ∙ lacks), f.apart);
                 count = let c = f.count in omega (arith, c);
                 first = λ y c. ⊎_elim
-                    (λ (same : x ≡ y). subst (IsLackedAt hosts terms trace (until (settled_by terms) (performed hosts trace))) same (lacked_first newer part i n split (omega (arith, late)) live held lacks))
+                    (λ (same : x ≡ y). subst (IsLackedAt hosts terms trace (until (settled_by terms) (performed hosts trace))) same (lacked_first hosts terms trace newer part i n all.session.order split (omega (arith, late)) live held lacks))
                     (λ (later : Contains f.lacks y). f.first y later)
                     (Contains-cases x y f.lacks c);
                 then = λ y c. ⊎_elim (λ (same : x ≡ y). inl (sym same)) (λ (later : Contains f.lacks y). inr (here y later)) (Contains-cases x y f.lacks c);

@@ -9,13 +9,11 @@ use Rattle.wb_keeping.specs.Performing.{after_line}
 use Rattle.wb_laws_sessions.specs.Drawn.{drawn_by}
 use Rattle.wb_laws_sessions.specs.Sessions.{Performs}
 use Rattle.wb_laws_sessions.proofs.Deeds.{ComesBy, deed_brings, deed_draws}
+use Rattle.wb_laws_kept.proofs.Restarting.{same_line}
 
 -- it was held before, or comes by the line
 abbrev pub WasHeldOrComes : Line → Opened → DrawopValue → Type 0
 WasHeldOrComes line host d = Contains host.is.held d ⊎ ((line ≡ Arrives d) ⊎ (line ≡ Says (Draw d)))
-
-same_line : (line other : Line) → Performs line ≡ Performs other → line ≡ other
-same_line line other e = cc
 
 pub line_brings : (line : Line) (host : Opened) (d : DrawopValue) → Contains (after_line line host).is.held d → WasHeldOrComes line host d
 line_brings line host d c = ⊎_elim

@@ -13,7 +13,7 @@ use Rattle.wb_kept_progress.specs.Timed.{AreInOrder, Performed, TimedLine, calle
 use Rattle.wb_kept_progress.specs.Whole.{AreCalledInOrder, there}
 use Rattle.wb_kept_progress.proofs.KeptInTime.{front_of, time_is}
 use Rattle.wb_kept_progress.proofs.Performed.{kept_is_performed}
-use Rattle.wb_kept_progress.proofs.Timely.{before_end, held_later}
+use Rattle.wb_kept_progress.proofs.Timely.{before_end, held_later, of_start}
 use Rattle.wb_kept_progress.proofs.WholeParts.{does}
 
 pub calls_order : (front part : List TimedLine) → AreCalledInOrder (front ++ part) → AreCalledInOrder part
@@ -80,6 +80,9 @@ module _ (hosts : ℕ → Opening) where
   -- a host is that of the lines that were performed
   pub host_is : (part : List TimedLine) (i : ℕ) → host_after (λ j. start_of (hosts j)) (performed hosts part) i ≡ (there hosts part i).host
   host_is part i = (kept_is_performed hosts part).same i
+
+  pub number_is : (part : List TimedLine) (i : ℕ) → (there hosts part i).host.is.number ≡ (hosts i).number
+  number_is part i = ap (λ (h : Opened). h.is.number) (sym (host_is part i)) ∙ (of_start (λ j. start_of (hosts j)) (performed hosts part) i).number
 
   -- what is lacked behind a time was lacked at that time
   pub lacked_until : (newer part : List TimedLine) (s i : ℕ) (n : NameValue) → AreCalledInOrder (newer ++ part) → s < called_at part → holds (there hosts part i).host n ≡ false

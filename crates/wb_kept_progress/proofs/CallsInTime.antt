@@ -1,6 +1,6 @@
 -- Of a session that keeps to times, the lines that are performed do.
 use Rattle.std.proofs.Common.{◌≡◌, ◌⊎◌, ℕ, ◌+◌, ◌<◌, ◌≤◌, Bool, true, false, cond, List, [], ◌∷◌, ◌++◌, ◌∙◌, ap, append_assoc, arith, eqb-true, inl, inr, length, refl, subst, sym, true≢false, ⊎_elim}
-use Rattle.std.specs.Prelude.{◌≢◌, Contains, nat_eq, nat_le, not}
+use Rattle.std.specs.Prelude.{◌≢◌, Contains, nat_eq, nat_le}
 use Rattle.std.proofs.lemmas.List.{append_cancel_right}
 use Rattle.wb_names.specs.Values.{DrawopValue, NameValue}
 use Rattle.wb_codec.specs.declared.datagram.Datagram.{Datagram}
@@ -19,7 +19,7 @@ use Rattle.wb_kept_progress.specs.Sessions.{Opening}
 use Rattle.wb_kept_progress.specs.Timed.{ComesTo, GoByShort, IsHeldBy, IsQuietLine, SaysNow, Performed, Start, TellTimes, TimedLine, WasSent, called_at, host_after, performed, performed_then, lines_of as lines_of_calls, sends, start_of, time_of, timers_after}
 use Rattle.wb_kept_progress.specs.Whole.{IsHandedIn, IsSpared, IsTimelySession, WasSentBy, sends_then, there}
 use Rattle.wb_kept_progress.proofs.CallLines.{Ends, call_ends, ends_both, host_amid, host_apart, host_before, line_stands, lines_have_calls, sent_in}
-use Rattle.wb_kept_progress.proofs.CallParts.{host_is, lines_order}
+use Rattle.wb_kept_progress.proofs.CallParts.{host_is, lines_order, number_is}
 use Rattle.wb_kept_progress.proofs.FirstLines.{AreLinesOf, IsLineOf, drawop_begins, lines_of_call, one_of_lines, request_begins}
 use Rattle.wb_kept_progress.proofs.KeptInTime.{at_place, front_of, sent_by_one, then_front, time_is}
 use Rattle.wb_kept_progress.proofs.Lines.{lines_of}
@@ -35,7 +35,7 @@ use Rattle.wb_kept_progress.proofs.Timely.{held_later, none_held, of_start}
 use Rattle.wb_kept_progress.proofs.TimersAhead.{AreAhead, ahead_amid, ahead_in_time, due_in_time, tuned_alone}
 use Rattle.wb_kept_progress.proofs.Tunings.{constants_of, line_tuned}
 use Rattle.wb_kept_progress.proofs.WholeParts.{IsOfCall, PerformedIsTimely, does}
-use Rattle.std.proofs.lemmas.Bool.{false_from_ne_true}
+use Rattle.std.proofs.lemmas.Bool.{false_from_ne_true, not-false}
 use Rattle.wb_kept_progress.proofs.WindowParts.{told_in}
 
 module _ (hosts : ℕ → Opening) (terms : Terms) (trace : List TimedLine) (s : IsTimelySession hosts terms trace) where
@@ -44,9 +44,6 @@ module _ (hosts : ℕ → Opening) (terms : Terms) (trace : List TimedLine) (s :
 
   abbrev all : List Performed
   all = performed hosts trace
-
-  number_is : (calls : List TimedLine) (i : ℕ) → (there hosts calls i).host.is.number ≡ (hosts i).number
-  number_is calls i = ap (λ (h : Opened). h.is.number) (sym (host_is hosts calls i)) ∙ (of_start starts (performed hosts calls) i).number
 
   -- ---- a line and its call
 
@@ -143,11 +140,8 @@ module _ (hosts : ℕ → Opening) (terms : Terms) (trace : List TimedLine) (s :
           between = b.0;
           split = append_cancel_right newer (f.0 ++ b.0) (x ∷ back) (sym split ∙ whole);
           soon = omega (arith, at, time, soon);
-          held = ap (λ (t : List Performed). holds (host_after starts t j) d.name) (sym b.1) ∙ ap (λ (h : Opened). holds h d.name) (host_is hosts calls j) ∙ is_held (holds (there hosts calls j).host d.name) p.spared;
-        } where
-          is_held : (b : Bool) → not b ≡ false → b ≡ true
-          is_held true e = refl
-          is_held false e = absurd (true≢false e)
+          held = ap (λ (t : List Performed). holds (host_after starts t j) d.name) (sym b.1) ∙ ap (λ (h : Opened). holds h d.name) (host_is hosts calls j) ∙ not-false (holds (there hosts calls j).host d.name) p.spared;
+        }
 
     module _ (newer : List Performed) (split : all ≡ newer ++ x ∷ back) (j : ℕ) (live : Contains terms.live j) (other : x.place ≢ j) (late : terms.quiet < x.time) (soon : x.time + terms.delivery < time_of all) where
       delivered : (v : Datagram) → Contains (sends starts back x) v → IsHandedIn c.newer j (c.e.time + terms.delivery) v ⊎ IsSpared hosts c.newer (c.e ∷ c.older) j (c.e.time + terms.delivery) v
@@ -173,7 +167,7 @@ module _ (hosts : ℕ → Opening) (terms : Terms) (trace : List TimedLine) (s :
 
         apart : (calls : List TimedLine) (place : ℕ) → place ≡ j → nat_eq asker (there hosts calls place).host.is.number ≡ false
         apart calls place here = false_from_ne_true (nat_eq asker (there hosts calls place).host.is.number) (λ same.
-            other (s.distinct x.place j (sym own ∙ eqb-true asker (there hosts calls place).host.is.number same ∙ number_is calls place ∙ ap (λ (i : ℕ). (hosts i).number) here)))
+            other (s.distinct x.place j (sym own ∙ eqb-true asker (there hosts calls place).host.is.number same ∙ number_is hosts calls place ∙ ap (λ (i : ℕ). (hosts i).number) here)))
 
         requests : holds (host_after starts back j) m ≡ true → ComesTo newer j (x.time + terms.delivery) (Hears (Request asker m))
         requests held = ⊎_elim

@@ -17,6 +17,7 @@ use Rattle.wb_gaps.proofs.HeldNames.{held-by, held-from}
 use Rattle.wb_gaps.proofs.PageAnswers.{has_source, pages_of_history}
 use Rattle.wb_gaps.proofs.Reports.{greatest_held}
 use Rattle.wb_keeper.specs.Keeper.{holds}
+use Rattle.wb_keeper.proofs.KeptCalls.{holds_one_more}
 use Rattle.wb_progress.specs.Repairs.{asking_wait}
 use Rattle.wb_member.specs.Judged.{is_full}
 use Rattle.wb_member.specs.Opened.{Opened, asks_for, present}
@@ -31,9 +32,22 @@ use Rattle.wb_kept_progress.proofs.Hearing.{report_asks, report_holds}
 use Rattle.wb_kept_progress.proofs.Repairs.{asked_can_come, fine_at, idle, is_itself, moved, of_opening, places_differ, session_in_time}
 use Rattle.wb_kept_progress.proofs.Turning.{answers_at, brought_behind, by_turn, comes_to_tell, count_of, in_map, not_ours, others_stay, sent_both, some_ticks, ticks_sent}
 use Rattle.wb_kept_progress.proofs.Leaving.{told_of}
-use Rattle.std.proofs.lemmas.Bool.{false_from_ne_true}
+use Rattle.std.proofs.lemmas.Bool.{false_from_ne_true, lt-leb}
+use Rattle.std.proofs.Math.Bool.{and-false}
 
 -- ---- marks
+
+-- what a mark tells is among the names of its report, if it is no forged number
+pub named_in : (me : ℕ) (n : NameValue) (marks : List MarkValue) → n.seq < 2147483648 → Contains marks (record { source = n.source; high = n.seq }) → Contains (told_names me n.page marks) n
+named_in me n marks small among = in_map (λ (m : MarkValue). name_of n.page m.source m.high) (filter p marks) mark (Contains-filter p marks mark among passes) where
+  p : MarkValue → Bool
+  p m = not (nat_eq m.source me && nat_le 2147483648 m.high)
+
+  mark : MarkValue
+  mark = record { source = n.source; high = n.seq }
+
+  passes : p mark ≡ true
+  passes = ap (λ (b : Bool). not (nat_eq n.source me && b)) (lt-leb 2147483648 mark.high small) ∙ ap not (and-false (nat_eq n.source me))
 
 pub marks_come_to_be_told : MarksComeToBeTold
 marks_come_to_be_told hosts older j page m taken among there =
@@ -94,16 +108,6 @@ missing_below held n high counted le lacks h =
       under a b c p q = omega (arith, p, q)
 
 -- ---- the top of a source
-
-holds_one_more : (held : List DrawopValue) (d : DrawopValue) (n : NameValue) → holds (held ++ d ∷ []) n ≡ (holds held n || same_name d.name n)
-holds_one_more [] d n = by (same_name d.name n) where
-  by : (b : Bool) → (b || false) ≡ b
-  by true = refl
-  by false = refl
-holds_one_more (x ∷ held) d n = by (same_name x.name n) (holds_one_more held d n) where
-  by : (b : Bool) → holds (held ++ d ∷ []) n ≡ (holds held n || same_name d.name n) → (b || holds (held ++ d ∷ []) n) ≡ ((b || holds held n) || same_name d.name n)
-  by true e = refl
-  by false e = e
 
 pub has_room : (host : Opened) → length host.is.held < host.is.cells → is_full host ≡ false
 has_room host lt = false_from_ne_true (nat_le host.is.cells (length host.is.held)) (λ e. let le = leb-true host.is.cells (length host.is.held) e in omega (arith, le, lt))
@@ -183,15 +187,8 @@ module _ (hosts : ℕ → Opening) (are : AreHosts hosts) where
     other e = differ (are.distinct i j (sym (of_opening hosts older i).number ∙ sym e ∙ (of_opening hosts older j).number))
 
     among : Contains (told_names k.host.is.number n.page told.marks) n
-    among =
-        let p : MarkValue → Bool = λ m. not (nat_eq m.source k.host.is.number && nat_le 2147483648 m.high) in
-        let low : nat_le 2147483648 mark.high ≡ false = false_from_ne_true (nat_le 2147483648 mark.high) (λ e. let le = leb-true 2147483648 mark.high e in omega (arith, le, small, is_top)) in
-        let passes : p mark ≡ true = ap (λ (b : Bool). not (nat_eq n.source k.host.is.number && b)) low ∙ never (nat_eq n.source k.host.is.number) in
-        let there = in_map (λ (m : MarkValue). name_of n.page m.source m.high) (filter p told.marks) mark (Contains-filter p told.marks mark told.among passes) in
-        subst (λ (s : ℕ). Contains (told_names k.host.is.number n.page told.marks) (name_of n.page n.source s)) (sym is_top) there where
-          never : (b : Bool) → not (b && false) ≡ true
-          never true = refl
-          never false = refl
+    among = subst (λ (s : ℕ). Contains (told_names k.host.is.number n.page told.marks) (name_of n.page n.source s)) (sym is_top)
+        (named_in k.host.is.number (name_of n.page n.source mark.high) told.marks (omega (arith, small, is_top)) told.among)
 
     module _ (none : asks_for n k.host ≡ false) where
       same_2 : (host_at hosts l2 i).is.held ≡ k.host.is.held

@@ -37,12 +37,11 @@ use Rattle.wb_kept_progress.specs.Timed.{Performed, Start, TellTimes, TimedLine,
 use Rattle.wb_kept_progress.specs.Whole.{IsTimelySession, LiveHostsAreCounted, WasSentBy, there}
 use Rattle.wb_kept_progress.proofs.Begun.{ticks_keep}
 use Rattle.wb_kept_progress.proofs.CallLines.{lines_have_calls}
-use Rattle.wb_kept_progress.proofs.CallParts.{host_is}
+use Rattle.wb_kept_progress.proofs.CallParts.{host_is, number_is}
 use Rattle.wb_kept_progress.proofs.FirstLines.{AreLinesOf, IsLineOf, lines_of_call, one_of_lines}
 use Rattle.wb_kept_progress.proofs.OwedAndDue.{taken_of, tells_of}
 use Rattle.wb_kept_progress.proofs.Performed.{kept_keeps_moments}
 use Rattle.wb_kept_progress.proofs.PerLine.{IsMade, line_did}
-use Rattle.wb_kept_progress.proofs.Timely.{of_start}
 use Rattle.wb_kept_progress.proofs.ToldHeld.{call_tells}
 use Rattle.wb_kept_progress.proofs.WholeParts.{IsOfCall}
 
@@ -187,9 +186,6 @@ module _ (hosts : ℕ → Opening) (terms : Terms) (trace newer older : List Tim
   abbrev host : Opened
   host = (there hosts older i).host
 
-  number_is : (calls : List TimedLine) (j : ℕ) → (there hosts calls j).host.is.number ≡ (hosts j).number
-  number_is calls j = ap (λ (h : Opened). h.is.number) (sym (host_is hosts calls j)) ∙ (of_start starts (performed hosts calls) j).number
-
   -- the number of a live host
   abbrev IsOfLive : ℕ → Type 0
   IsOfLive number = Contains (map (λ (j : ℕ). (hosts j).number) terms.live) number
@@ -205,7 +201,7 @@ module _ (hosts : ℕ → Opening) (terms : Terms) (trace newer older : List Tim
       let soon = w.soon in
       let j = w.e.at.place in
       let taken = taken_of hosts (front ++ w.newer) (w.e ∷ w.before) (subst (λ (t : List TimedLine). AreTaken hosts (lines_of t)) whole s.taken) in
-      subst IsOfLive (sym ((call_tells w.e.at.line (there hosts w.before j) taken.0 (Session sender sent page marks told) w.sent).0 ∙ number_is w.before j))
+      subst IsOfLive (sym ((call_tells w.e.at.line (there hosts w.before j) taken.0 (Session sender sent page marks told) w.sent).0 ∙ number_is hosts w.before j))
       (of_live j (s.alone (front ++ w.newer) w.before w.e whole (omega (arith, late, soon))))
 
   -- a report that was heard late is one of a live host
@@ -233,7 +229,7 @@ module _ (hosts : ℕ → Opening) (terms : Terms) (trace newer older : List Tim
       let latest = ((first_senders_are_echoed host.is.number host.is.calls e.source is.0).0 is.1).1 in
       let among : Contains (host_after starts (performed hosts older) i).is.calls latest.call = subst (λ (o : Opened). Contains o.is.calls latest.call) (sym (host_is hosts older i))
       (subst (λ (calls : List KeeperCall). Contains calls latest.call) (sym latest.split) (amid latest.newer latest.call latest.older)) in
-      let me_is = number_is older i in
+      let me_is = number_is hosts older i in
       (is.0, heard_in starts i e.source is.0 (performed hosts older) latest.call among (subst (λ (me : ℕ). session_heard me latest.call ≡ Some (e.source, is.0)) me_is latest.heard), is.3) where
         amid : (front : List KeeperCall) (call : KeeperCall) (rest : List KeeperCall) → Contains (front ++ call ∷ rest) call
         amid [] call rest = Contains-here call rest

@@ -28,7 +28,7 @@ use Rattle.wb_kept_progress.proofs.Timely.{order_of}
 use Rattle.wb_kept_progress.proofs.WindowParts.{line_by}
 use Rattle.wb_kept_progress.proofs.YoungestAsked.{Others, new_level, new_timer, others}
 
-none_below : (n : NameValue) → name_cmp n n ≡ Less → ⊥
+pub none_below : (n : NameValue) → name_cmp n n ≡ Less → ⊥
 none_below n e = less_greater (sym e ∙ name_total.antisymm n n ∙ ap ordering_reverse e)
 
 -- a line at a place asks for a name, so shortly before a time

@@ -1,5 +1,6 @@
 -- How many bytes a self-managing host sends.
 use Rattle.std.proofs.Common.{◌≡◌, ℕ, ◌+◌, ◌*◌, ◌-◌, ◌≤◌, Bool, true, false, cond, List, [], ◌∷◌, Option, Some, None, arith, length, mul-le-mul, refl, subst}
+use Rattle.std.proofs.Math.Nat.{le_refl}
 use Rattle.std.specs.Prelude.{take}
 use Rattle.std.specs.Option.{option_map}
 use Rattle.wb_names.specs.Drawing.{op_fault}
@@ -75,9 +76,7 @@ module _ (most : ℕ) where
     questions = questions _ _ (few_bytes is_page_question spelling 12 sent (every_mapped question_short sent short)) few.questions;
   } where
     reports : (bytes n : ℕ) → bytes ≤ n * most → n * 1000000 ≤ 1000000 + micros → bytes * 1000000 ≤ most * (1000000 + micros)
-    reports bytes n each few = let all : most * (n * 1000000) ≤ most * (1000000 + micros) = mul-le-mul (same most) few in omega (arith, each, all) where
-      same : (n : ℕ) → n ≤ n
-      same n = omega arith
+    reports bytes n each few = let all : most * (n * 1000000) ≤ most * (1000000 + micros) = mul-le-mul (le_refl most) few in omega (arith, each, all)
 
     states : (bytes n : ℕ) → bytes ≤ n * 534 → n * 1000000 ≤ 64 * (1000000 + micros) → bytes * 1000000 ≤ 534 * (64 * (1000000 + micros))
     states bytes n each few = omega (arith, each, few)

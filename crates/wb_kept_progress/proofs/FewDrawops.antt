@@ -4,7 +4,7 @@ use Rattle.std.specs.Prelude.{Contains, filter, is_none, is_some, nat_eq, nat_le
 use Rattle.std.specs.List.{cons_option, filter_map}
 use Rattle.std.specs.Option.{option_map}
 use Rattle.std.proofs.lemmas.List.Elements.{filter_map-append}
-use Rattle.wb_names.specs.Arrivals.{Outcome, Fresh, Known, Clashed, Left}
+use Rattle.wb_names.specs.Arrivals.{Outcome, New, Again, Clash, Left}
 use Rattle.wb_names.specs.Orders.{same_name}
 use Rattle.wb_names.specs.Values.{DrawopValue, NameValue}
 use Rattle.wb_names.specs.declared.name.PageId.{PageId}
@@ -250,9 +250,9 @@ module _ (n : NameValue) where
     by false = refl
 
   said_draws : (d : DrawopValue) (o : Outcome) → count drawn n (said_where d o) ≤ one_if (same_name d.name n)
-  said_draws d (Fresh place) = let more = count_more drawn n (Draw d) [] in omega (arith, more)
-  said_draws d (Known place) = let more = count_more drawn n (Draw d) [] in omega (arith, more)
-  said_draws d (Clashed place) = omega arith
+  said_draws d (New place) = let more = count_more drawn n (Draw d) [] in omega (arith, more)
+  said_draws d (Again place) = let more = count_more drawn n (Draw d) [] in omega (arith, more)
+  said_draws d (Clash place) = omega arith
   said_draws d Left = omega arith
 
   arrival_fewer : (d : DrawopValue) (host : Opened) → stands (answer_at (accepted d host)) ≤ stands (answer_at host)

@@ -1,6 +1,7 @@
 -- At each self-managing host time goes on, and delays are in range.
 use Rattle.wb_recovery.specs.Timing.{are_constants}
 use Rattle.std.proofs.Common.{◌≡◌, ℕ, ◌≤◌, Bool, true, false, cond, List, [], ◌∷◌, ◌∙◌, None, ap, arith, map, refl, subst, sym, eqb-true}
+use Rattle.std.proofs.Math.Nat.{le_refl}
 use Rattle.std.specs.Prelude.{nat_eq, take, ◌*◌, ◌/◌, ◌+◌, max, min}
 use Rattle.wb_names.specs.Values.{NameValue}
 use Rattle.wb_codec.specs.declared.datagram.Datagram.{Datagram}
@@ -39,13 +40,10 @@ IsFit line = IsSmall line
 abbrev pub AreFit : List Line → Type 0
 AreFit lines = Each IsFit lines
 
-itself : (n : ℕ) → n ≤ n
-itself n = omega arith
-
 asks_orderly : (name : NameValue) (host : Opened) → AreOrderly host.is.calls → AreOrderly (after_line (Asks name) host).is.calls
 asks_orderly name host is = by (may_ask name host) where
   by : (b : Bool) → AreOrderly (cond b (doing (Misses (present host) (name ∷ []) (word_of host.random ∷ [])) 1 host) host).is.calls
-  by true = (itself (present host), tt, is)
+  by true = (le_refl (present host), tt, is)
   by false = is
 
 fit_orderly : (lines : List Line) (host : Opened) → AreFit lines → AreOrderly host.is.calls → AreOrderly (after_lines lines host).is.calls
@@ -54,9 +52,9 @@ fit_orderly (Ticks now ∷ lines) host fit is = absurd fit.0
 fit_orderly (Arrives d ∷ lines) host fit is = absurd fit.0
 fit_orderly (Hears v ∷ lines) host fit is = absurd fit.0
 fit_orderly (Asks name ∷ lines) host fit is = fit_orderly lines (after_line (Asks name) host) fit.1 (asks_orderly name host is)
-fit_orderly (Stops name ∷ lines) host fit is = fit_orderly lines (after_line (Stops name) host) fit.1 (itself (present host), tt, is)
-fit_orderly (SetsDistance source micros ∷ lines) host fit is = fit_orderly lines (after_line (SetsDistance source micros) host) fit.1 (itself (present host), fit.0, is)
-fit_orderly (Tunes constants ∷ lines) host fit is = fit_orderly lines (after_line (Tunes constants) host) fit.1 (itself (present host), fit.0, is)
+fit_orderly (Stops name ∷ lines) host fit is = fit_orderly lines (after_line (Stops name) host) fit.1 (le_refl (present host), tt, is)
+fit_orderly (SetsDistance source micros ∷ lines) host fit is = fit_orderly lines (after_line (SetsDistance source micros) host) fit.1 (le_refl (present host), fit.0, is)
+fit_orderly (Tunes constants ∷ lines) host fit is = fit_orderly lines (after_line (Tunes constants) host) fit.1 (le_refl (present host), fit.0, is)
 fit_orderly (Says (Draw d) ∷ lines) host fit is = absurd fit.0
 fit_orderly (Says (Session sender sent page marks echoes) ∷ lines) host fit is = fit_orderly lines host fit.1 is
 fit_orderly (Says (Request asker name) ∷ lines) host fit is = fit_orderly lines host fit.1 is
@@ -82,7 +80,7 @@ changes k m e near = record { at = e; goes = λ g. record { orderly = subst (λ 
 hears_orderly : (v : Datagram) (host : Opened) → AreOrderly host.is.calls → AreOrderly (after_line (Hears v) host).is.calls
 hears_orderly v host is = by (has_room_for v host) where
   by : (b : Bool) → AreOrderly (cond b (heard v host) host).is.calls
-  by true = (itself (present host), tt, is)
+  by true = (le_refl (present host), tt, is)
   by false = is
 
 unknown_fits : UNKNOWN_DISTANCE ≤ farthest
@@ -130,15 +128,15 @@ steps_go_on = record {
     reports = λ page until told k is. record { at = refl; goes = λ g. record { orderly = g.orderly; near = g.near } };
   };
   ticks = λ now k later. record { at = refl; goes = λ g. record { orderly = (later, tt, g.orderly); near = g.near } };
-  arrives = λ d k. record { at = refl; goes = λ g. record { orderly = (itself (present k.host), tt, g.orderly); near = g.near } };
-  answered = λ d k lacks asked. record { at = refl; goes = λ g. record { orderly = (itself (present k.host), tt, g.orderly); near = g.near } };
+  arrives = λ d k. record { at = refl; goes = λ g. record { orderly = (le_refl (present k.host), tt, g.orderly); near = g.near } };
+  answered = λ d k lacks asked. record { at = refl; goes = λ g. record { orderly = (le_refl (present k.host), tt, g.orderly); near = g.near } };
   hears = λ v k. record { at = refl; goes = λ g. record { orderly = hears_orderly v k.host g.orderly; near = g.near } };
-  stops = λ name k full. record { at = refl; goes = λ g. record { orderly = (itself (present k.host), tt, g.orderly); near = g.near } };
-  tunes = λ constants k within. record { at = refl; goes = λ g. record { orderly = (itself (present k.host), within, g.orderly); near = g.near } };
-  sets = λ source micros k. record { at = refl; goes = λ g. record { orderly = (itself (present k.host), bounded_fits micros, g.orderly); near = g.near } };
-  lends = λ source k. record { at = refl; goes = λ g. record { orderly = (itself (present k.host), near_fits k.policy.usual g.near, g.orderly); near = g.near } };
-  takes_back = λ source k. record { at = refl; goes = λ g. record { orderly = (itself (present k.host), unknown_fits, g.orderly); near = g.near } };
-  draws = λ d k. record { at = refl; goes = λ g. record { orderly = (itself (present k.host), tt, g.orderly); near = g.near } };
+  stops = λ name k full. record { at = refl; goes = λ g. record { orderly = (le_refl (present k.host), tt, g.orderly); near = g.near } };
+  tunes = λ constants k within. record { at = refl; goes = λ g. record { orderly = (le_refl (present k.host), within, g.orderly); near = g.near } };
+  sets = λ source micros k. record { at = refl; goes = λ g. record { orderly = (le_refl (present k.host), bounded_fits micros, g.orderly); near = g.near } };
+  lends = λ source k. record { at = refl; goes = λ g. record { orderly = (le_refl (present k.host), near_fits k.policy.usual g.near, g.orderly); near = g.near } };
+  takes_back = λ source k. record { at = refl; goes = λ g. record { orderly = (le_refl (present k.host), unknown_fits, g.orderly); near = g.near } };
+  draws = λ d k. record { at = refl; goes = λ g. record { orderly = (le_refl (present k.host), tt, g.orderly); near = g.near } };
   measured = λ micros k. changes k _ refl (λ near. usual_near k.policy.usual micros near);
   told = λ k. changes k _ refl (λ near. near);
   takes_up = λ k is. changes k _ refl (λ near. near);

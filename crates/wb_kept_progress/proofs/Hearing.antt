@@ -1,6 +1,6 @@
 -- A host that hears a report of a number that it lacks asks for it.
 use Rattle.std.proofs.Common.{◌≡◌, ℕ, suc, ◌+◌, ◌*◌, ◌≤◌, Bool, true, false, cond, List, [], ◌∷◌, ◌∙◌, Option, Some, None, ap, arith, eqb-true, length, map, refl, subst, sym, true≢false}
-use Rattle.std.specs.Prelude.{◌&&◌, Contains, IfSome, filter, is_some, max, min, nat_eq, nat_le, nat_lt, not, take, unwrap_or}
+use Rattle.std.specs.Prelude.{◌&&◌, Contains, IfSome, filter, is_some, max, min, nat_eq, nat_le, nat_lt, not, take}
 use Rattle.std.proofs.lemmas.List.Sums.{count_by-le-length, length-filter}
 use Rattle.wb_names.specs.History.{name_of}
 use Rattle.wb_names.specs.Values.{MarkValue, NameValue}
@@ -23,6 +23,7 @@ use Rattle.wb_keeper.specs.Ticks.{stopped_after}
 use Rattle.wb_progress.specs.Bounds.{IsAskNear}
 use Rattle.wb_progress.specs.Keepers.{farthest, greatest_constants}
 use Rattle.wb_progress.specs.Repairs.{asking_wait}
+use Rattle.wb_progress.proofs.Calls.{backed_level}
 use Rattle.wb_progress.proofs.KeeperBounds.{keepers_are_bounded}
 use Rattle.wb_progress.proofs.OneCall.{not_standing}
 use Rattle.wb_member.specs.Judged.{is_full}
@@ -40,32 +41,24 @@ use Rattle.wb_keeping.proofs.EachStep.{having, HoldsOfDue, having_done, timed_ho
 use Rattle.wb_keeping.proofs.Performed.{then_after}
 use Rattle.wb_keeping.proofs.StandingTimers.{keeps}
 use Rattle.wb_keeping.proofs.WantedNames.{lines_answer_held}
-use Rattle.wb_kept_progress.proofs.Asking.{IsAskedAnew, IsNew, MayBeAsked, stays_asked, told_is_asked}
+use Rattle.wb_kept_progress.proofs.Asking.{IsAskedAnew, IsNew, MayBeAsked, no_level, stays_asked, told_is_asked}
 use Rattle.wb_kept_progress.proofs.Lines.{IsSmall, are_small, does_rest}
 use Rattle.wb_kept_progress.proofs.Repairs.{IsFine, came_after}
 use Rattle.wb_keeping.proofs.EachLine.{measures_each, timed_each, told_each}
 use Rattle.wb_keeping.proofs.Saying.{says_after}
 use Rattle.std.proofs.lemmas.Bool.{false_from_ne_true, le-leb}
 use Rattle.wb_progress.proofs.Repairs.{asking_bound}
-use Rattle.std.proofs.lemmas.Option.{none-some}
+use Rattle.std.proofs.lemmas.Option.{none-some, same_Some}
+use Rattle.std.proofs.Math.Nat.{le_refl}
 
 -- ---- behind a long wait no timer is new
-
-itself : (n : ℕ) → n ≤ n
-itself n = omega arith
 
 -- a timer that fired was backed off
 fired_is_old : (t : Tuning) (now word : ℕ) (o : Option AskTimer) → IfSome o (λ a. a.due ≤ now) → level_in (fired_ask t now word o) ≡ Some 0 → ⊥
 fired_is_old t now word None due new = none-some 0 new
 fired_is_old t now word (Some a) due new = by (nat_le a.due now) (le-leb a.due now due) new where
-  zero_of : (n : ℕ) → Some n ≡ Some 0 → n ≡ 0
-  zero_of n e = ap (λ (o : Option ℕ). unwrap_or o 0) e
-
-  some_left : (n : ℕ) → min (n + 1) 16 ≡ 0 → ⊥
-  some_left n e = absurd (omega (arith, e))
-
   by : (b : Bool) → b ≡ true → level_in (Some (cond b (backed_off t a now a.delay word) a)) ≡ Some 0 → ⊥
-  by true e new = some_left a.level (zero_of (min (a.level + 1) 16) new)
+  by true e new = backed_level a.level (same_Some (min (a.level + 1) 16) 0 new)
   by false e new = true≢false (sym e)
 
 module _ (k : Keeping) (fine : IsFine k) (now : ℕ) (late : present k.host + asking_wait ≤ now) where
@@ -74,7 +67,7 @@ module _ (k : Keeping) (fine : IsFine k) (now : ℕ) (late : present k.host + as
     from : (o : Option AskTimer) → IfSome o (IsAskNear greatest_constants farthest (present k.host)) → IfSome o (λ a. a.due ≤ now)
     from None near = tt
     from (Some a) near =
-        let b = asking_bound a.level 32 a.delay near.level (itself 32) near.delay in
+        let b = asking_bound a.level 32 a.delay near.level (le_refl 32) near.delay in
         let due = near.due in
         omega (arith, b, due, late)
 
@@ -107,10 +100,6 @@ module _ (k : Keeping) (fine : IsFine k) (now : ℕ) (late : present k.host + as
     by : (b : Bool) → is_received received n ≡ b → ⊥
     by true e = none-some 0 (sym (ap (λ (o : Option AskTimer). level_in (fired_ask c now word o)) (not_standing (got_each now n s received) (received_stops now n s received e)).ask) ∙ fired)
     by false e = fired_is_old c now word s.ask (all_due n) (ap (λ (s : Timers). level_in (fired_ask c now word s.ask)) (sym (not_received now n s received e)) ∙ fired)
-
-no_level : (o : Option AskTimer) → is_some o ≡ false → level_in o ≡ None
-no_level None e = refl
-no_level (Some a) e = absurd (true≢false e)
 
 some_level : (o : Option AskTimer) → level_in o ≡ Some 0 → is_some o ≡ true
 some_level None e = absurd (none-some 0 e)

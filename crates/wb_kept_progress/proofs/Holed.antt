@@ -1,7 +1,7 @@
 -- The example with a hole computes.
-use Rattle.std.proofs.Common.{◌≡◌, ℕ, ◌+◌, ◌≤◌, Bool, true, ◌&&◌, List, [], ◌∷◌, arith, inr, leb-true, ltb-true, refl, subst, sym, ⊎_elim}
+use Rattle.std.proofs.Common.{◌≡◌, ℕ, ◌+◌, ◌≤◌, Bool, true, not, ◌&&◌, ◌||◌, List, [], ◌∷◌, arith, inr, leb-true, ltb-true, nat_lt, refl, subst, sym, ⊎_elim}
 use Rattle.std.specs.Prelude.{Contains}
-use Rattle.std.proofs.lemmas.Bool.{and_parts}
+use Rattle.std.proofs.lemmas.Bool.{and_from, and_parts}
 use Rattle.wb_gaps.specs.Answers.{gaps_of, pages_of, report_of}
 use Rattle.wb_member.specs.Judged.{holds}
 use Rattle.wb_member.specs.Random.{after_word, started, word_of}
@@ -11,12 +11,12 @@ use Rattle.wb_policy.specs.Choices.{near_names}
 use Rattle.wb_policy.specs.Words as words
 use Rattle.wb_keeping.specs.Kept.{leaps_on, turns_on}
 use Rattle.wb_kept_progress.specs.Holed.{HoledMeets, IsHoleAt, holed, holed_lines, numbered, seldom, unfilled_lines}
-use Rattle.wb_kept_progress.specs.Timed.{TimedLine, performed}
+use Rattle.wb_kept_progress.specs.Timed.{TimedLine, called_at}
 use Rattle.wb_kept_progress.specs.Whole.{there}
-use Rattle.wb_kept_progress.proofs.HolesTested.{LinesPass, all_lack_few, all_wait_short, are_held, hole_so, holes_are_held, is_held, is_hole, line_passes, lines_pass, one_lacks, only_holes_lacked, waits_for}
-use Rattle.wb_kept_progress.proofs.ShortTested.{go_by_short, lines_near}
-use Rattle.wb_kept_progress.proofs.Tested.{Begins, in_order, lines_keep, session_of, taken}
-use Rattle.wb_kept_progress.proofs.Testing.{Cut, cut, each, each-at, from_there, further, piece, two_live, uncut}
+use Rattle.wb_kept_progress.proofs.HolesTested.{all_lack_few, all_wait_short, are_held, hole_so, holes_are_held, holes_held, is_held, is_hole, one_lacks, only_holes, only_holes_lacked, waits_for}
+use Rattle.wb_kept_progress.proofs.ShortTested.{calls_near, go_by_short}
+use Rattle.wb_kept_progress.proofs.Tested.{Begins, delivers, has_room, in_order, in_time, is_fresh, lines_keep, passes, session_of, taken}
+use Rattle.wb_kept_progress.proofs.Testing.{each, each-at, halved, parts, splits, two_live}
 
 -- ---- what computes
 
@@ -28,74 +28,30 @@ lines : (lines_keep seldom holed holed_lines && (in_order seldom holed holed_lin
 unfolding started word_of after_word words.started report_of gaps_of pages_of near_names leaps_on turns_on
 lines = refl
 
--- each line in a piece, the newest first, since no proof computes all of them in a short time
-abbrev line_is : List TimedLine → TimedLine → List TimedLine → Bool
-line_is = line_passes seldom holed holed_lines three holed.quiet
-
-abbrev c0 : Cut TimedLine
-c0 = uncut holed_lines
-
-abbrev c1 : Cut TimedLine
-c1 = further 10 c0
-
-abbrev c2 : Cut TimedLine
-c2 = further 10 c1
-
-abbrev c3 : Cut TimedLine
-c3 = further 10 c2
-
-abbrev c4 : Cut TimedLine
-c4 = further 12 c3
-
-abbrev c5 : Cut TimedLine
-c5 = further 14 c4
-
-abbrev c6 : Cut TimedLine
-c6 = further 18 c5
-
-abbrev c7 : Cut TimedLine
-c7 = further 16 c6
-
-abbrev c8 : Cut TimedLine
-c8 = further 12 c7
-
-piece_1 : piece line_is 10 c0 ≡ true
+hosts_keep : (parts (in_time seldom holed) holed_lines && (parts (has_room seldom holed) holed_lines && parts (is_fresh seldom holed) holed_lines)) ≡ true
 unfolding started word_of after_word words.started report_of gaps_of pages_of near_names leaps_on turns_on
-piece_1 = refl
+hosts_keep = refl
 
-piece_2 : piece line_is 10 c1 ≡ true
+-- what is sent, in three pieces
+abbrev is_after : ℕ → TimedLine → Bool
+is_after time e = nat_lt time e.time
+
+abbrev sends : List TimedLine → TimedLine → List TimedLine → Bool
+sends = delivers seldom holed (called_at holed_lines)
+
+sent_first : splits (λ newer e older. is_after 45000000 e || sends newer e older) [] holed_lines ≡ true
 unfolding started word_of after_word words.started report_of gaps_of pages_of near_names leaps_on turns_on
-piece_2 = refl
+sent_first = refl
 
-piece_3 : piece line_is 10 c2 ≡ true
+sent_then : splits (λ newer e older. not (is_after 45000000 e) || (is_after 80000000 e || sends newer e older)) [] holed_lines ≡ true
 unfolding started word_of after_word words.started report_of gaps_of pages_of near_names leaps_on turns_on
-piece_3 = refl
+sent_then = refl
 
-piece_4 : piece line_is 12 c3 ≡ true
+sent_last : splits (λ newer e older. not (is_after 45000000 e) || (not (is_after 80000000 e) || sends newer e older)) [] holed_lines ≡ true
 unfolding started word_of after_word words.started report_of gaps_of pages_of near_names leaps_on turns_on
-piece_4 = refl
+sent_last = refl
 
-piece_5 : piece line_is 14 c4 ≡ true
-unfolding started word_of after_word words.started report_of gaps_of pages_of near_names leaps_on turns_on
-piece_5 = refl
-
-piece_6 : piece line_is 18 c5 ≡ true
-unfolding started word_of after_word words.started report_of gaps_of pages_of near_names leaps_on turns_on
-piece_6 = refl
-
-piece_7 : piece line_is 16 c6 ≡ true
-unfolding started word_of after_word words.started report_of gaps_of pages_of near_names leaps_on turns_on
-piece_7 = refl
-
-piece_8 : piece line_is 12 c7 ≡ true
-unfolding started word_of after_word words.started report_of gaps_of pages_of near_names leaps_on turns_on
-piece_8 = refl
-
-last_piece : from_there line_is c8 ≡ true
-unfolding started word_of after_word words.started report_of gaps_of pages_of near_names leaps_on turns_on
-last_piece = refl
-
-near : lines_near seldom holed (performed seldom holed_lines) ≡ true
+near : calls_near seldom holed holed_lines ≡ true
 unfolding started word_of after_word words.started report_of gaps_of pages_of near_names leaps_on turns_on
 near = refl
 
@@ -107,6 +63,10 @@ few : (all_lack_few seldom holed holed_lines three 2 && all_wait_short seldom ho
 unfolding started word_of after_word words.started report_of gaps_of pages_of near_names leaps_on turns_on
 few = refl
 
+holes : (parts (holes_held seldom holed holed_lines three) holed_lines && parts (only_holes seldom holed holed_lines three holed.quiet) holed_lines) ≡ true
+unfolding started word_of after_word words.started report_of gaps_of pages_of near_names leaps_on turns_on
+holes = refl
+
 lacked : each (is_hole (there seldom unfilled_lines 1).host.is.held) (numbered 1 ∷ (numbered 2 ∷ [])) ≡ true
 unfolding started word_of after_word words.started report_of gaps_of pages_of near_names leaps_on turns_on
 lacked = refl
@@ -117,8 +77,18 @@ come = refl
 
 -- ---- so it meets all premises
 
-all_pass : LinesPass seldom holed holed_lines three holed.quiet
-all_pass = lines_pass seldom holed holed_lines three holed.quiet lines refl (cut line_is 10 c0 piece_1 (cut line_is 10 c1 piece_2 (cut line_is 10 c2 piece_3 (cut line_is 12 c3 piece_4 (cut line_is 14 c4 piece_5 (cut line_is 18 c5 piece_6 (cut line_is 16 c6 piece_7 (cut line_is 12 c7 piece_8 last_piece))))))))
+sent : splits sends [] holed_lines ≡ true
+sent = halved (is_after 45000000) sends [] holed_lines sent_first (halved (is_after 80000000) later [] holed_lines sent_then sent_last) where
+  later : List TimedLine → TimedLine → List TimedLine → Bool
+  later newer e older = not (is_after 45000000 e) || sends newer e older
+
+keeps : passes seldom holed holed_lines ≡ true
+keeps =
+    let a = and_parts (lines_keep seldom holed holed_lines) _ lines in
+    let b = and_parts (in_order seldom holed holed_lines) _ a.1 in
+    let c = and_parts (parts (in_time seldom holed) holed_lines) _ hosts_keep in
+    let d = and_parts (parts (has_room seldom holed) holed_lines) _ c.1 in
+    and_from _ _ a.0 (and_from _ _ b.0 (and_from _ _ b.1 (and_from _ _ c.0 (and_from _ _ d.0 (and_from _ _ sent d.1)))))
 
 begins : Begins seldom holed
 begins = record {
@@ -142,11 +112,11 @@ hole_at n named lacking = record {
 
 pub holed_meets : HoledMeets
 holed_meets = record {
-  session = session_of seldom holed holed_lines begins (inr (go_by_short seldom holed (leb-true _ _ refl) holed_lines near)) all_pass.session;
+  session = session_of seldom holed holed_lines begins (inr (go_by_short seldom holed (leb-true _ _ refl) holed_lines near)) keeps;
   waits = waits_for seldom holed holed_lines three are_three 0 f.1;
   lacks = one_lacks seldom holed holed_lines three are_three 2 f.0;
-  held = holes_are_held seldom holed holed_lines three are_three all_pass.held;
-  only = only_holes_lacked seldom holed holed_lines three are_three holed.quiet all_pass.only;
+  held = holes_are_held seldom holed holed_lines three are_three h.0;
+  only = only_holes_lacked seldom holed holed_lines three are_three holed.quiet h.1;
   credit = leb-true _ _ refl;
   late = leb-true _ _ refl;
   first = hole_at (numbered 1) one (Contains-here (numbered 1) (numbered 2 ∷ []));
@@ -157,6 +127,9 @@ holed_meets = record {
 } where
   f : (all_lack_few seldom holed holed_lines three 2 ≡ true) × (all_wait_short seldom holed holed_lines three 0 ≡ true)
   f = and_parts _ _ few
+
+  h : (parts (holes_held seldom holed holed_lines three) holed_lines ≡ true) × (parts (only_holes seldom holed holed_lines three holed.quiet) holed_lines ≡ true)
+  h = and_parts _ _ holes
 
   one : Contains three (numbered 1)
   one = Contains-here (numbered 1) (numbered 2 ∷ (numbered 3 ∷ []))

@@ -1,7 +1,7 @@
 -- Tests of what a session lacks that compute, and what they tell. All that was held is given as a list of names.
 use Rattle.std.proofs.Common.{◌≡◌, ◌⊎◌, ℕ, suc, ◌+◌, ◌≤◌, Bool, true, false, not, ◌&&◌, ◌||◌, List, [], ◌∷◌, arith, eqb-true, inl, inr, length, max, nat_le, nat_lt, refl, subst, sym, true≢false, ⊎_elim}
 use Rattle.std.specs.Prelude.{zero, Contains, Option, None, Some, filter}
-use Rattle.std.proofs.lemmas.Bool.{and_from, and_parts, leb-false, leb-true, ltb-true, not-true, not_from_false, or_cases}
+use Rattle.std.proofs.lemmas.Bool.{and_parts, leb-false, leb-true, ltb-true, not-true, not_from_false, or_cases}
 use Rattle.wb_names.specs.History.{IsHeld, highest, is_of, name_of}
 use Rattle.wb_names.specs.Orders.{same_name, same_page}
 use Rattle.wb_names.specs.Values.{DrawopValue, NameValue}
@@ -25,8 +25,8 @@ use Rattle.wb_kept_progress.specs.Sessions.{Opening}
 use Rattle.wb_kept_progress.specs.Timed.{TimedLine, called_at, host_after, performed, start_of, timers_after, until}
 use Rattle.wb_kept_progress.specs.Whole.{HolesAreHeld, IsHeldBySome, WaitAtMost, there}
 use Rattle.wb_kept_progress.proofs.Coming.{missing_below}
-use Rattle.wb_kept_progress.proofs.Tested.{delivers, has_room, in_middle, in_order, in_time, is_fresh, lines_keep, passes, taken}
-use Rattle.wb_kept_progress.proofs.Testing.{both, both-parts, both-splits, each, each-at, parts, parts-and, parts-at, some, some-at, splits}
+use Rattle.wb_kept_progress.proofs.Tested.{in_middle}
+use Rattle.wb_kept_progress.proofs.Testing.{each, each-at, parts, parts-at, some, some-at}
 
 -- ---- numbers up to one
 
@@ -131,44 +131,6 @@ module _ (hosts : ℕ → Opening) (terms : Terms) (trace : List TimedLine) (nam
 
   abbrev pub only_holes : ℕ → List TimedLine → Bool
   only_holes since part = nat_lt (called_at part) since || each (lacks_holes part) terms.live
-
-  -- ---- tests of each line
-
-  abbrev lacks_right : ℕ → List TimedLine → Bool
-  lacks_right since part = holes_held part && only_holes since part
-
-  abbrev is_right : ℕ → List TimedLine → Bool
-  is_right since part = is_fresh hosts terms part && lacks_right since part
-
-  abbrev has_right : ℕ → List TimedLine → Bool
-  has_right since part = has_room hosts terms part && is_right since part
-
-  abbrev pub part_passes : ℕ → List TimedLine → Bool
-  part_passes since part = in_time hosts terms part && has_right since part
-
-  abbrev pub line_passes : ℕ → List TimedLine → TimedLine → List TimedLine → Bool
-  line_passes since = both (part_passes since) (delivers hosts terms (called_at trace))
-
-  -- all that is tested of lines
-  pub record LinesPass (since : ℕ) : Type 0 where
-    pub session : passes hosts terms trace ≡ true
-    pub held : parts holes_held trace ≡ true
-    pub only : parts (only_holes since) trace ≡ true
-
-  pub lines_pass : (since : ℕ) → (lines_keep hosts terms trace && (in_order hosts terms trace && taken hosts terms trace)) ≡ true → part_passes since [] ≡ true → splits (line_passes since) [] trace ≡ true → LinesPass since
-  lines_pass since lines none all =
-      let a = and_parts (lines_keep hosts terms trace) _ lines in
-      let b = and_parts (in_order hosts terms trace) _ a.1 in
-      let c = parts-and (in_time hosts terms) (has_right since) trace (both-parts (part_passes since) (delivers hosts terms (called_at trace)) [] trace all none) in
-      let d = parts-and (has_room hosts terms) (is_right since) trace c.1 in
-      let e = parts-and (is_fresh hosts terms) (lacks_right since) trace d.1 in
-      let f = parts-and holes_held (only_holes since) trace e.1 in
-      let sent = both-splits (part_passes since) (delivers hosts terms (called_at trace)) [] trace all in
-      record {
-        session = and_from _ _ a.0 (and_from _ _ b.0 (and_from _ _ b.1 (and_from _ _ c.0 (and_from _ _ d.0 (and_from _ _ sent e.0)))));
-        held = f.0;
-        only = f.1;
-      }
 
   -- ---- what they tell
 

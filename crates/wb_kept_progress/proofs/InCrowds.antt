@@ -2,6 +2,7 @@
 use Rattle.std.proofs.Common.{◌≡◌, ◌⊎◌, ℕ, ◌+◌, ◌-◌, ◌*◌, ◌<◌, ◌≤◌, Bool, true, false, List, [], ◌∷◌, ◌++◌, ◌∙◌, ap, append_assoc, arith, length, max, mul-le-mul, refl, subst, sym, ⊎_elim}
 use Rattle.std.specs.Prelude.{Contains}
 use Rattle.std.proofs.lemmas.Bool.{cases_lt}
+use Rattle.std.proofs.Math.Nat.{le_refl}
 use Rattle.wb_names.specs.Values.{NameValue}
 use Rattle.wb_progress.specs.InTime.{AreApart, known_from, repairing}
 use Rattle.wb_progress.specs.Turns.{Terms, settled_by}
@@ -14,14 +15,13 @@ use Rattle.wb_keeping.specs.Performing.{Keeping, after_lines}
 use Rattle.wb_keeping.proofs.KeptHosts.{kept_hosts_are_hosts}
 use Rattle.wb_keeping.proofs.LittleSaid.{few_names_are_asked}
 use Rattle.wb_kept_progress.specs.Crowded.{SessionsBecomeWholeInCrowds, crowded_by, round_span, spent_in}
-use Rattle.wb_kept_progress.specs.Promises.{host_then}
 use Rattle.wb_kept_progress.specs.Rounds.{OneLacksAtMost}
 use Rattle.wb_kept_progress.specs.Sessions as sessions
 use Rattle.wb_kept_progress.specs.Sessions.{Opening}
-use Rattle.wb_kept_progress.specs.Timed.{TimedLine, called_at, lines_of, performed, until}
-use Rattle.wb_kept_progress.specs.Whole.{AreCalledInOrder, IsHeldBySome, IsLackedAt, IsTimelySession, WaitAtMost, there}
-use Rattle.wb_kept_progress.proofs.Becoming.{lacked_before}
-use Rattle.wb_kept_progress.proofs.CallParts.{calls_end, calls_order, due_by_turn, lacked_until}
+use Rattle.wb_kept_progress.specs.Timed.{TimedLine, called_at, lines_of}
+use Rattle.wb_kept_progress.specs.Whole.{AreCalledInOrder, IsHeldBySome, IsTimelySession, WaitAtMost, there}
+use Rattle.wb_kept_progress.proofs.Becoming.{lacked_before, lacked_first}
+use Rattle.wb_kept_progress.proofs.CallParts.{calls_end, calls_order, due_by_turn}
 use Rattle.wb_kept_progress.proofs.ComeOnce.{HaveCome, have_come}
 use Rattle.wb_kept_progress.proofs.Handed.{after_handed, handed, performs_in, taken_handed}
 use Rattle.wb_kept_progress.proofs.NothingNew.{held_was_held}
@@ -29,20 +29,10 @@ use Rattle.wb_kept_progress.proofs.OwedAndDue.{near_there, next_by_turn, now_the
 use Rattle.wb_kept_progress.proofs.RoundCounts.{Counted, FilledFor, IsThen, counted, then_at}
 
 module _ (hosts : ℕ → Opening) (terms : Terms) (trace : List TimedLine) (most i : ℕ) (session : IsTimelySession hosts terms trace) (lacks_most : OneLacksAtMost hosts terms trace most) (live : Contains terms.live i) where
-  -- what is lacked behind a time that is late enough, and another held, was lacked at first
-  lacked_first : (newer part : List TimedLine) (n : NameValue) → trace ≡ newer ++ part → settled_by terms < called_at part → IsHeldBySome hosts terms trace n → holds (there hosts part i).host n ≡ false
-      → IsLackedAt hosts terms trace (until (settled_by terms) (performed hosts trace)) (record { place = i; name = n })
-  lacked_first newer part n split late held lacks = (
-    live,
-    held,
-    subst (λ (t : List TimedLine). holds (host_then hosts (until (settled_by terms) (performed hosts t)) i) n ≡ false) (sym split)
-        (lacked_until hosts newer part (settled_by terms) i n (subst AreCalledInOrder split session.order) late lacks),
-  )
-
   -- no more names are lacked by then
   pub few_lacked : (newer part : List TimedLine) (names : List NameValue) → trace ≡ newer ++ part → settled_by terms < called_at part → AreApart names
       → ((x : NameValue) → Contains names x → IsHeldBySome hosts terms trace x × (holds (there hosts part i).host x ≡ false)) → length names ≤ most
-  few_lacked newer part names split late apart each = lacks_most i names apart (λ x c. let l = each x c in lacked_first newer part x split late l.0 l.1)
+  few_lacked newer part names split late apart each = lacks_most i names apart (λ x c. let l = each x c in lacked_first hosts terms trace newer part i x session.order split late live l.0 l.1)
 
   -- ---- what is asked for costs credit
 
@@ -185,13 +175,10 @@ module _ (hosts : ℕ → Opening) (terms : Terms) (trace : List TimedLine) (sin
         past : (one other many most : ℕ) → most ≤ one → one ≤ other → other + 1 ≤ many → many ≤ most → ⊥
         past one other many most a b c d = omega (arith, a, b, c, d)
 
-        same : (k : ℕ) → k ≤ k
-        same k = omega arith
-
         by : (c.bringing < bringing) ⊎ (bringing ≤ c.bringing) → (many : ℕ) → many ≤ most → c.bringing * places + 1 ≤ many → c.bringing < bringing
         by cases many le count = ⊎_elim
             (λ (lt : c.bringing < bringing). lt)
-            (λ (more : bringing ≤ c.bringing). absurd (past (bringing * places) (c.bringing * places) many most brings (mul-le-mul more (same places)) count le))
+            (λ (more : bringing ≤ c.bringing). absurd (past (bringing * places) (c.bringing * places) many most brings (mul-le-mul more (le_refl places)) count le))
             cases
 
   -- so there were more crowds than credit pays for

@@ -27,10 +27,11 @@ use Rattle.wb_keeping.proofs.ToldReports.{reports_tell}
 use Rattle.wb_kept_progress.proofs.Lines.{IsOf, Rests, lines_of, IsSmall, are_small, does_rest}
 use Rattle.wb_kept_progress.proofs.WantedIn.{IsAskedIn, IsAskedInCall, LacksCredit, IsWantedIn, MayBeWanted, turn_wants, wanted_later, IsAskedThen, asked_at_end, turn_owed, same_may}
 use Rattle.wb_keeping.proofs.EachLine.{answers_each, asks_pages_each, due_each, timed_each, turn_each}
-use Rattle.wb_kept_progress.proofs.Leaving.{Leaves, LeavesTurns, answers_leave, asks_leave, gap_least, gap_most, reports_leave, rest_late, rest_soon, told_of, turn_tells, turns_tell}
+use Rattle.wb_kept_progress.proofs.Leaving.{Leaves, LeavesTurns, answers_leave, asks_leave, reports_leave, rest_late, rest_soon, told_of, turn_tells, turns_tell}
 use Rattle.wb_policy.specs.Credit.{has_credit}
 use Rattle.wb_policy.specs.declared.limits.TheConstants.{COST}
-use Rattle.std.proofs.lemmas.Bool.{false_from_ne_true, le-leb, leb-true}
+use Rattle.wb_policy.proofs.Gaps.{gap_least, gap_most}
+use Rattle.std.proofs.lemmas.Bool.{le-leb, lt-leb}
 
 -- ---- what a policy tells and whose turn it is
 
@@ -87,10 +88,6 @@ pub record IsTurning (does : Transition) (k : Keeping) (now : ℕ) : Type 0 wher
   pub now_is : present (after_doing does k).host ≡ now
   pub wants : (n : NameValue) → holds k.host.is.held n ≡ false → is_full k.host ≡ false → name_in_turn k.host.is.held k.policy.turns ≡ Some n
       → IsAskedInCall n does k ⊎ LacksCredit (after_doing does k)
-
--- a later moment is not one that has come
-is_later : (due now : ℕ) → now < due → nat_le due now ≡ false
-is_later due now lt = false_from_ne_true (nat_le due now) (λ e. let le = leb-true due now e in omega (arith, lt, le))
 
 -- ---- what is due
 
@@ -188,7 +185,7 @@ module _ (m : Keeping) where
   -- no report is due
   module _ (early : present m.host < m.policy.reports.due) where
     not_due : nat_le q.policy.reports.due (present q.host) ≡ false
-    not_due = is_later q.policy.reports.due (present q.host) (let d = due_q in let n = now_q in omega (arith, early, d, n))
+    not_due = lt-leb q.policy.reports.due (present q.host) (let d = due_q in let n = now_q in omega (arith, early, d, n))
 
     silent_there : reported ≡ q
     silent_there = ap by_report not_due
@@ -274,7 +271,7 @@ module _ (m : Keeping) where
   -- no turn is due
   module _ (early : present m.host < m.policy.pace.due) where
     no_turn : nat_le reported.policy.pace.due (present reported.host) ≡ false
-    no_turn = is_later reported.policy.pace.due (present reported.host) (let d = beat_r in let n = now_r in omega (arith, early, d, n))
+    no_turn = lt-leb reported.policy.pace.due (present reported.host) (let d = beat_r in let n = now_r in omega (arith, early, d, n))
 
     idle_there : after_doing timed m ≡ reported
     idle_there = to_turn ∙ ap by_turn no_turn

@@ -2,7 +2,8 @@
 use Rattle.std.proofs.Common.{◌≡◌, ℕ, ◌+◌, ◌-◌, ◌≤◌, Bool, true, false, cond, List, [], ◌∷◌, ◌++◌, ◌∙◌, Option, Some, None, ap, arith, map, refl, subst, sym}
 use Rattle.std.specs.Prelude.{◌&&◌, filter, is_none, not}
 use Rattle.std.proofs.lemmas.Nat.{le-div}
-use Rattle.wb_names.specs.Arrivals.{Outcome, Clashed, Fresh, Known, Left}
+use Rattle.std.proofs.Math.Bool.{and-false}
+use Rattle.wb_names.specs.Arrivals.{Outcome, Clash, New, Again, Left}
 use Rattle.wb_names.specs.Values.{DrawopValue}
 use Rattle.wb_names.specs.declared.echo.Echo.{Echo}
 use Rattle.wb_codec.specs.declared.datagram.Datagram.{Datagram}
@@ -97,10 +98,6 @@ steps_both (s ∷ one) other j = steps_both one other (after_step s j)
 
 -- ---- they lead where its lines do
 
-and_false : (b : Bool) → (b && false) ≡ false
-and_false true = refl
-and_false false = refl
-
 -- a drawop that the board takes in was handed in, and not held
 drawop_taken : (now : ℕ) (o : Origin) (d : DrawopValue) (h : Judged)
     → let fate = fate_by (handed (CameFrom now o (Draw d)) h) h.kept in
@@ -113,15 +110,15 @@ drawop_taken now o d h = by (verdict o (Draw d) (facts_of now (Draw d) h.kept) h
 
   by : (why : Option Why) → (verdict o (Draw d) (facts_of now (Draw d) h.kept) h.judge).why ≡ why → (outcome : Outcome) → becomes d h.kept.host ≡ outcome
       → let new = is_new (fate_by (handed_for now (Draw d) why) h.kept) in is_taken o d (record (facts_of now (Draw d) h.kept) { holds = not new }) h.judge ≡ new
-  by (Some why) e outcome f = and_false _
+  by (Some why) e outcome f = and-false _
   by None e outcome f = fresh outcome f where
     fresh : (outcome : Outcome) → becomes d h.kept.host ≡ outcome
         → let new = is_new (Some (fate_of (becomes d h.kept.host))) in is_taken o d (record (facts_of now (Draw d) h.kept) { holds = not new }) h.judge ≡ new
-    fresh (Fresh place) f = subst (λ (o' : Outcome). let new = is_new (Some (fate_of o')) in is_taken o d (record (facts_of now (Draw d) h.kept) { holds = not new }) h.judge ≡ new) (sym f)
+    fresh (New place) f = subst (λ (o' : Outcome). let new = is_new (Some (fate_of o')) in is_taken o d (record (facts_of now (Draw d) h.kept) { holds = not new }) h.judge ≡ new) (sym f)
         (ap (λ (g : Facts). is_none (verdict o (Draw d) g h.judge).why && true) (as_facts (fresh_is_new h.kept.host.is.cells h.kept.host.is.held d place f)) ∙ ap (λ (w : Option Why). is_none w && true) e)
-    fresh (Known place) f = subst (λ (o' : Outcome). let new = is_new (Some (fate_of o')) in is_taken o d (record (facts_of now (Draw d) h.kept) { holds = not new }) h.judge ≡ new) (sym f) (and_false _)
-    fresh (Clashed place) f = subst (λ (o' : Outcome). let new = is_new (Some (fate_of o')) in is_taken o d (record (facts_of now (Draw d) h.kept) { holds = not new }) h.judge ≡ new) (sym f) (and_false _)
-    fresh Left f = subst (λ (o' : Outcome). let new = is_new (Some (fate_of o')) in is_taken o d (record (facts_of now (Draw d) h.kept) { holds = not new }) h.judge ≡ new) (sym f) (and_false _)
+    fresh (Again place) f = subst (λ (o' : Outcome). let new = is_new (Some (fate_of o')) in is_taken o d (record (facts_of now (Draw d) h.kept) { holds = not new }) h.judge ≡ new) (sym f) (and-false _)
+    fresh (Clash place) f = subst (λ (o' : Outcome). let new = is_new (Some (fate_of o')) in is_taken o d (record (facts_of now (Draw d) h.kept) { holds = not new }) h.judge ≡ new) (sym f) (and-false _)
+    fresh Left f = subst (λ (o' : Outcome). let new = is_new (Some (fate_of o')) in is_taken o d (record (facts_of now (Draw d) h.kept) { holds = not new }) h.judge ≡ new) (sym f) (and-false _)
 
 came_judged : (now : ℕ) (o : Origin) (v : Datagram) (h : Judged) → after_step (coming now o v h) h.judge ≡ after_fate now o v (fate_by (handed (CameFrom now o v) h) h.kept) (judge_after now o v h)
 unfolding judge_after
@@ -182,7 +179,7 @@ abbrev called : Call → Judged → ℕ
 called line h = cond (calls_for_drawop (handed line h) h.kept) 1 0
 
 quiet_came : (now : ℕ) (v : Datagram) (k : Keeping) (why : Option Why) → calls_for_drawop (handed_for now v None) k ≡ false → as_one (calls_for_drawop (handed_for now v why) k) ≡ 0
-quiet_came now v k why none = ap as_one (handed_calls now v k why ∙ ap (λ (b : Bool). is_none why && b) none ∙ and_false (is_none why))
+quiet_came now v k why none = ap as_one (handed_calls now v k why ∙ ap (λ (b : Bool). is_none why && b) none ∙ and-false (is_none why))
 
 first_called : (line : Call) (h : Judged) → IsOfNow line → called line h ≤ drawing_count (line ∷ []) + many is_repaired_in (first_steps line h) h.judge + many is_asked_in (first_steps line h) h.judge
 unfolding verdict_on

@@ -1,6 +1,6 @@
 -- By when what is asked for comes to self-managing hosts: as to the hosts that perform their lines.
 use Rattle.std.proofs.Common.{◌≡◌, ℕ, ◌+◌, ◌<◌, ◌≤◌, true, List, [], ◌∷◌, ◌++◌, ◌∙◌, ap, append_assoc, inl, inr, max, refl, subst, sym, ⊎_elim}
-use Rattle.std.specs.Prelude.{Contains, nat_eq}
+use Rattle.std.specs.Prelude.{Contains}
 use Rattle.std.proofs.lemmas.List.Elements.{Contains-append_cases}
 use Rattle.wb_names.specs.Values.{NameValue}
 use Rattle.wb_names.proofs.Listings.{Contains-none}
@@ -118,8 +118,6 @@ kept_request_is_answered hosts terms trace newer older e asker n is split late l
     let parted : performed hosts (e ∷ older) ≡ g.0 ++ x ∷ base = ap (λ (lines : List Line). performed_then e.time e.at.place lines (performed hosts older)) s.split ∙ then_both e.time e.at.place s.before (s.line ∷ s.later) (performed hosts older) ∙ g.1 in
     let whole : performed hosts trace ≡ (f.0 ++ g.0) ++ x ∷ base = ap (performed hosts) split ∙ f.1 ∙ ap (λ (t : List Performed). f.0 ++ t) parted ∙ sym (append_assoc f.0 g.0 (x ∷ base)) in
     let there : host_after (starts hosts) base e.at.place ≡ after_lines s.before k.host =
-    after_all (starts hosts) e.time e.at.place s.before (performed hosts older) e.at.place true (itself e.at.place) ∙ ap (after_lines s.before) (same hosts terms trace is older e.at.place) in
+    after_all (starts hosts) e.time e.at.place s.before (performed hosts older) e.at.place true (is_itself e.at.place) ∙ ap (after_lines s.before) (same hosts terms trace is older e.at.place) in
     holding hosts terms trace is n (e.time + answering_by terms)
-    (request_is_answered (starts hosts) terms (performed hosts trace) (f.0 ++ g.0) base x asker n is whole late later (subst (λ (h : Opened). Contains (sent_by_line s.line h) (Request asker n)) (sym there) s.sent) a) where
-      itself : (n : ℕ) → nat_eq n n ≡ true
-      itself n = is_itself n
+    (request_is_answered (starts hosts) terms (performed hosts trace) (f.0 ++ g.0) base x asker n is whole late later (subst (λ (h : Opened). Contains (sent_by_line s.line h) (Request asker n)) (sym there) s.sent) a)

@@ -1,11 +1,11 @@
 -- What a live host lacks is wanted in time: a report tells it the greatest number of its source, or its hole has its turn.
 use Rattle.std.proofs.Common.{◌≡◌, ℕ, suc, ◌+◌, ◌*◌, ◌<◌, ◌≤◌, Bool, true, false, List, [], ◌∷◌, ◌++◌, ◌∙◌, Some, ap, append_assoc, arith, eqb-true, length, mul-le-mul, refl, subst, sym, true≢false, ⊎_elim}
-use Rattle.std.specs.Prelude.{◌⊎◌, ◌&&◌, Contains, filter, nat_eq, nat_le, not}
-use Rattle.std.proofs.lemmas.Bool.{leb-true, false_from_ne_true}
+use Rattle.std.specs.Prelude.{◌⊎◌, Contains}
+use Rattle.std.proofs.lemmas.Bool.{eq-eqb}
+use Rattle.std.proofs.Math.Nat.{le_refl}
 use Rattle.wb_names.specs.History.{IsHeld, highest, name_of}
 use Rattle.wb_names.specs.Values.{DrawopValue, MarkValue, NameValue}
 use Rattle.wb_names.specs.declared.name.PageId.{PageId}
-use Rattle.wb_names.proofs.Listings.{Contains-filter}
 use Rattle.wb_codec.specs.declared.datagram.Datagram.{Datagram}
 use Rattle.wb_codec.specs.declared.datagram.Datagram.TheVariants.{Session}
 use Rattle.wb_gaps.specs.Answers.{top_mark}
@@ -28,15 +28,15 @@ use Rattle.wb_kept_progress.specs.Sessions.{Opening}
 use Rattle.wb_kept_progress.specs.Timed.{SaysNow, TimedLine, called_at, host_after, lines_of, performed, start_of, until}
 use Rattle.wb_kept_progress.specs.Whole.{AreCalledInOrder, AreSoon, AreWithin, HolesAreHeld, IsHandedIn, IsHeldBySome, IsTimelySession, Sizes, there, wanting}
 use Rattle.wb_kept_progress.proofs.CallParts.{calls_end, lacked_until}
-use Rattle.wb_kept_progress.proofs.Coming.{below_top, missing_below, page_there, top_held, top_told}
+use Rattle.wb_kept_progress.proofs.Coming.{below_top, missing_below, named_in, page_there, top_held, top_told}
 use Rattle.wb_kept_progress.proofs.Beats.{ByReport, ByTurn, Kind, state_of, states_after}
 use Rattle.wb_kept_progress.proofs.OwedAndDue.{beat_there}
 use Rattle.wb_kept_progress.proofs.NextDue.{DueWithin, First, IsBehind, IsCut, before_is, cut, held_there, is_behind, next_behind, ordered, quiet_before, quiet_behind, room_there, split_there, state_there, still_older, still_there, told_there, window_there}
 use Rattle.wb_kept_progress.proofs.ReportsCome.{reports_come}
-use Rattle.wb_kept_progress.proofs.Repairs.{is_itself, of_opening}
+use Rattle.wb_kept_progress.proofs.Repairs.{of_opening}
 use Rattle.wb_kept_progress.proofs.StillCalls.{came_now}
 use Rattle.wb_kept_progress.proofs.Told.{told_wants}
-use Rattle.wb_kept_progress.proofs.Turning.{answers_at, in_hole, in_map, missing_is_lacked}
+use Rattle.wb_kept_progress.proofs.Turning.{answers_at, in_hole, missing_is_lacked}
 use Rattle.wb_kept_progress.proofs.TurnNames.{turn_names}
 use Rattle.wb_kept_progress.proofs.WantedIn.{IsAskedInCall, LacksCredit}
 use Rattle.wb_kept_progress.proofs.WantingCalls.{wanting_in_call}
@@ -47,14 +47,10 @@ use Rattle.wb_progress.proofs.Parts.{tails}
 -- ---- spans
 
 more_spans : (a b span : ℕ) → a ≤ b → a * span ≤ b * span
-more_spans a b span le = mul-le-mul le (same span) where
-  same : (n : ℕ) → n ≤ n
-  same n = omega arith
+more_spans a b span le = mul-le-mul le (le_refl span)
 
 more_turns : (numbers holes all : ℕ) → holes ≤ all → 2 * numbers * holes ≤ 2 * numbers * all
-more_turns numbers holes all le = mul-le-mul (same (2 * numbers)) le where
-  same : (n : ℕ) → n ≤ n
-  same n = omega arith
+more_turns numbers holes all le = mul-le-mul (le_refl (2 * numbers)) le
 
 -- ---- a call within a window
 
@@ -267,22 +263,7 @@ module _ (was_held : HeldWasHeld) (hosts : ℕ → Opening) (terms : Terms) (tra
 
       -- among the names of a report
       in_names : (me : ℕ) (told : PageId) (marks : List MarkValue) → told ≡ page → Contains marks mark → Contains (told_names me told marks) top_name
-      in_names me told marks same among = subst (λ (p : PageId). Contains (told_names me p marks) top_name) (sym same) there_is where
-        p : MarkValue → Bool
-        p m = not (nat_eq m.source me && nat_le 2147483648 m.high)
-
-        never : (b : Bool) → not (b && false) ≡ true
-        never true = refl
-        never false = refl
-
-        low : nat_le 2147483648 mark.high ≡ false
-        low = false_from_ne_true (nat_le 2147483648 mark.high) (λ e. let le = leb-true 2147483648 mark.high e in omega (arith, le, top_small))
-
-        passes : p mark ≡ true
-        passes = ap (λ (b : Bool). not (nat_eq d.name.source me && b)) low ∙ never (nat_eq d.name.source me)
-
-        there_is : Contains (told_names me page marks) top_name
-        there_is = in_map (λ (m : MarkValue). name_of page m.source m.high) (filter p marks) mark (Contains-filter p marks mark among passes)
+      in_names me told marks same among = subst (λ (p : PageId). Contains (told_names me p marks) top_name) (sym same) (named_in me top_name marks top_small among)
 
       -- `count` reports come before the one that tells it
       record IsToldAt (count : ℕ) : Type 0 where
@@ -315,7 +296,7 @@ module _ (was_held : HeldWasHeld) (hosts : ℕ → Opening) (terms : Terms) (tra
         handed_in count t b r soon h =
             wanting_in_call hosts terms trace i top_name held window base c.0
             (h.between ++ r.e ∷ (r.between ++ b.grown)) older h.call from by split_w is_w
-            (same_place h.call.at.place i h.place) now_is wants behind in_by where
+            (eq-eqb h.call.at.place i h.place) now_is wants behind in_by where
               more : List TimedLine
               more = r.e ∷ r.between
 
@@ -368,9 +349,6 @@ module _ (was_held : HeldWasHeld) (hosts : ℕ → Opening) (terms : Terms) (tra
                   quiet_before hosts terms trace s (newest ++ c.0) h.between part h.call whole
                   (quiet_behind hosts terms trace s (newest ++ r.later) more b.part (split_next ByReport j live_j count b r) b.quiet)
 
-              same_place : (a b : ℕ) → a ≡ b → nat_eq a b ≡ true
-              same_place a b e = subst (λ (x : ℕ). nat_eq a x ≡ true) e (is_itself a)
-
               k_held : k.host.is.held ≡ held_by i
               k_held =
                   st_later.same (c.0 ++ h.call ∷ []) h.between i (c.1 ∙ sym (append_assoc c.0 (h.call ∷ []) h.between)) live
@@ -417,7 +395,7 @@ module _ (was_held : HeldWasHeld) (hosts : ℕ → Opening) (terms : Terms) (tra
               now_is : IsNowAt terms h.call.time i (present (after_doing (doing_of h.call.at.line) k).host)
               now_is = subst (IsNowAt terms h.call.time i)
                   (sym (ap (λ (line : KeptLine). present (after_doing (doing_of line) k).host) h.is ∙ came_now h.now report k))
-                  (subst (SaysNow terms h.call.time i) h.is (told_there hosts terms trace s (newest ++ c.0) older h.call i whole live (same_place h.call.at.place i h.place)))
+                  (subst (SaysNow terms h.call.time i) h.is (told_there hosts terms trace s (newest ++ c.0) older h.call i whole live (eq-eqb h.call.at.place i h.place)))
 
               behind : from < h.call.time
               behind =

@@ -1,11 +1,12 @@
 -- Sessions of the example hosts in which one drawing is held, and one of two hosts lacks it.
-use Rattle.std.proofs.Common.{◌≡◌, ℕ, ◌+◌, ◌≤◌, Bool, true, false, not, ◌&&◌, ◌||◌, List, [], ◌∷◌, ◌∙◌, arith, eqb-true, inl, is_none, length, max, nat_eq, nat_le, nat_lt, refl, subst, sym, true≢false, ⊎_elim}
+use Rattle.std.proofs.Common.{◌≡◌, ℕ, ◌+◌, ◌≤◌, Bool, true, false, not, ◌&&◌, ◌||◌, List, [], ◌∷◌, ◌∙◌, arith, eqb-true, inl, is_none, length, max, nat_eq, nat_le, nat_lt, subst, sym, true≢false, ⊎_elim}
 use Rattle.std.specs.Prelude.{Contains, Option, None, Some}
-use Rattle.std.proofs.lemmas.Bool.{and_parts, leb-true, ltb-true, or_cases}
+use Rattle.std.proofs.lemmas.Bool.{and_parts, leb-true, ltb-true, not-true, or_cases}
 use Rattle.wb_names.specs.Orders.{same_name}
 use Rattle.wb_names.specs.Values.{DrawopValue, NameValue}
 use Rattle.wb_names.proofs.Orders.{same_name-is}
 use Rattle.wb_names.proofs.Listings.{Contains-here, Contains-there}
+use Rattle.wb_judge.proofs.Stepping.{none_of}
 use Rattle.wb_recovery.specs.declared.timers.AskTimer.{AskTimer}
 use Rattle.wb_progress.specs.InTime.{AreApart, known_from}
 use Rattle.wb_progress.specs.Turns.{Terms, settled_by}
@@ -19,7 +20,7 @@ use Rattle.wb_kept_progress.specs.Timed.{Performed, TimedLine, called_at, host_a
 use Rattle.wb_kept_progress.specs.Whole.{AreWithin, IsHeldBySome, IsLackedAt, IsTimelySession, Lack, LackAtMost, NewAreKept, ReportWithin, WaitAtMost, there}
 use Rattle.wb_kept_progress.proofs.OwedAndDue.{reports_are_due}
 use Rattle.wb_kept_progress.proofs.Promised.{all_are_soon}
-use Rattle.wb_kept_progress.proofs.Tested.{Begins, all_fit, in_middle, none_so, passes, session_of, within_of}
+use Rattle.wb_kept_progress.proofs.Tested.{Begins, all_fit, in_middle, passes, session_of, within_of}
 use Rattle.wb_kept_progress.proofs.Testing.{each, each-at, parts, parts-at, two_live}
 
 -- ---- lists of one thing
@@ -91,7 +92,7 @@ module _ (terms : Terms) (trace : List TimedLine) where
     pub wait_for_none : each waits_for_it terms.live ≡ true → WaitAtMost hosts terms trace 0
     wait_for_none none i n ask live held stands =
         let named = is_it n held in
-        let stops = none_so (timer drawn) (each-at waits_for_it terms.live i none live) in
+        let stops = none_of (timer drawn) (each-at waits_for_it terms.live i none live) in
         absurd (some_none ask (sym (subst (λ (m : NameValue). timer m ≡ Some ask) named stands) ∙ stops)) where
           timer : NameValue → Option AskTimer
           timer m = (timers_after (λ j. start_of (hosts j)) (until (known_from terms) (performed hosts trace)) i m).ask
@@ -135,10 +136,6 @@ module _ (terms : Terms) (trace : List TimedLine) where
   abbrev pub calls_pass : ℕ → Bool
   calls_pass since =
       passes hosts terms trace && (parts (all_fit hosts terms (sizes_in terms)) trace && (parts (asks_for_it since) trace && holds (there hosts trace 1).host drawn))
-
-not_false : (b : Bool) → not b ≡ true → b ≡ false
-not_false true so = absurd (true≢false (sym so))
-not_false false so = refl
 
 -- how long after `quiet` clocks begin, and how late hosts are called
 pub record AreSmall (quiet late drift since : ℕ) (lag : ℕ → ℕ) : Type 0 where
@@ -197,7 +194,7 @@ module _ (quiet late drift since : ℕ) (lag : ℕ → ℕ) (trace : List TimedL
         lacks = f.0;
         waits = g.0;
         held = h.0;
-        lost = not_false _ h.1;
+        lost = not-true _ h.1;
       }
 
   pub meets : calls_pass T trace since ≡ true → lines_pass T trace since ≡ true → Meets T trace 0 since

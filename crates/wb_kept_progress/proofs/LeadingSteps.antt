@@ -4,6 +4,7 @@ use Rattle.std.specs.Prelude.{◌⊎◌, ◌||◌, ◌&&◌, ◌%◌, All, Conta
 use Rattle.std.proofs.lemmas.Bool.{and_parts, false_from_ne_true, le-leb, leb-true, not-true}
 use Rattle.std.proofs.lemmas.List.Elements.{All-head, All-tail}
 use Rattle.std.proofs.lemmas.Nat.{mod_below}
+use Rattle.std.proofs.Math.Nat.{le-add_right}
 use Rattle.wb_names.specs.Orders.{same_name}
 use Rattle.wb_names.specs.Values.{DrawopValue, MarkValue, NameValue}
 use Rattle.wb_names.specs.declared.name.PageId.{PageId}
@@ -339,14 +340,11 @@ module _ (held : List DrawopValue) (page : PageId) (source number : ℕ) (h : Ho
   filled : h.gap.first ≤ h.gap.last
   filled = (hole_filled held page source number h found).filled
 
-  far_above : (first far : ℕ) → first ≤ first + far
-  far_above first far = omega arith
-
   far_below : (first last far : ℕ) → first ≤ last → first + far % (last + 1 - first) ≤ last
   far_below first last far le = let below = mod_below far (last + 1 - first) (omega (arith, le)) in omega (arith, le, below)
 
   far_missing : (l : Leaps) → IsMissingIn (far_name l h)
-  far_missing l = missing_in held h (far_in l.round h.gap) there (far_above h.gap.first (19 * l.round % (h.gap.last + 1 - h.gap.first))) (far_below h.gap.first h.gap.last (19 * l.round) filled)
+  far_missing l = missing_in held h (far_in l.round h.gap) there (le-add_right h.gap.first (19 * l.round % (h.gap.last + 1 - h.gap.first))) (far_below h.gap.first h.gap.last (19 * l.round) filled)
 
   turn_missing : (t : Turns) → IsMissingIn (name_in t h)
   turn_missing t = missing_in held h (number_in t h.gap) there (number_above t h.gap filled) (number_below t h.gap filled)

@@ -18,7 +18,6 @@ use Rattle.wb_policy.specs.Policy.{Policy, after_answer, after_beat, after_leapi
 use Rattle.wb_keeping.specs.Views.{View, holds, is_asked, is_full}
 use Rattle.wb_policy.specs.Leaps.{far_name}
 use Rattle.wb_recovery.specs.declared.limits.TheConstants.{MOST_TIMERS}
-use Rattle.wb_policy.specs.Pace.{gap_within}
 use Rattle.wb_policy.specs.Questions.{is_due, is_to_answer}
 use Rattle.wb_policy.specs.Reports.{next_report, rest_after}
 use Rattle.wb_policy.specs.Turns.{name_in, nowhere}
@@ -90,7 +89,7 @@ pub rest_soon : (marks : List MarkValue) (see : List Line → View) (p : Policy)
 rest_soon [] see p = next_soon (see []).now _ (word_of p.words)
 rest_soon (m ∷ marks) see p = next_soon (see []).now _ (word_of p.words)
 
-next_late : (now sum drawn : ℕ) → now + 1000000 ≤ next_report now (min (max sum 2000000) 64000000) drawn
+pub next_late : (now sum drawn : ℕ) → now + 1000000 ≤ next_report now (min (max sum 2000000) 64000000) drawn
 next_late now sum drawn = by (min (max sum 2000000) 64000000) (omega arith) where
   by : (mean : ℕ) → 2000000 ≤ mean → now + 1000000 ≤ now + mean / 2 + drawn
   by mean le = omega (arith, le)
@@ -98,13 +97,6 @@ next_late now sum drawn = by (min (max sum 2000000) 64000000) (omega arith) wher
 pub rest_late : (marks : List MarkValue) (see : List Line → View) (p : Policy) → (see []).now + 1000000 ≤ (reports_rest marks see p).policy.reports.due
 rest_late [] see p = next_late (see []).now _ _
 rest_late (m ∷ marks) see p = next_late (see []).now _ _
-
--- the next turn is 1 to 16 seconds after one
-pub gap_least : (gap : ℕ) → 1000000 ≤ gap_within gap
-gap_least gap = omega arith
-
-pub gap_most : (gap : ℕ) → gap_within gap ≤ 16000000
-gap_most gap = omega arith
 
 -- ---- what is heard, asked for and turned to tells nothing, and puts neither a report nor a turn off
 

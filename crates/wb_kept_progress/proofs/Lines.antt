@@ -3,7 +3,7 @@ use Rattle.wb_progress.specs.Keepers.{constants_at}
 use Rattle.std.proofs.Common.{◌≡◌, Bool, true, false, cond, List, [], ◌∷◌, ◌∙◌, None, ap, refl, subst, sym, true≢false, ◌≤◌, arith, length, length-append}
 use Rattle.std.specs.Prelude.{◌||◌, Contains, is_some, not}
 use Rattle.std.proofs.lemmas.List.Elements.{Contains-append_left}
-use Rattle.wb_names.specs.Arrivals.{Outcome, Fresh, Known, Clashed, Left, history_with, outcome_of}
+use Rattle.wb_names.specs.Arrivals.{Outcome, New, Again, Clash, Left, history_with, outcome_of}
 use Rattle.wb_names.specs.History.{IsHistory}
 use Rattle.wb_names.specs.Orders.{same_name}
 use Rattle.wb_names.specs.Values.{DrawopValue, NameValue}
@@ -63,15 +63,15 @@ lines_of (line ∷ lines) host =
 -- ---- what is held
 
 with_grows : (h : List DrawopValue) (d : DrawopValue) (o : Outcome) (x : DrawopValue) → Contains h x → Contains (history_with h d o) x
-with_grows h d (Fresh i) x c = Contains-append_left h (d ∷ []) x c
-with_grows h d (Known i) x c = c
-with_grows h d (Clashed i) x c = c
+with_grows h d (New i) x c = Contains-append_left h (d ∷ []) x c
+with_grows h d (Again i) x c = c
+with_grows h d (Clash i) x c = c
 with_grows h d Left x c = c
 
 with_longer : (h : List DrawopValue) (d : DrawopValue) (o : Outcome) → length h ≤ length (history_with h d o)
-with_longer h d (Fresh i) = let e = length-append h (d ∷ []) in omega (arith, e)
-with_longer h d (Known i) = omega arith
-with_longer h d (Clashed i) = omega arith
+with_longer h d (New i) = let e = length-append h (d ∷ []) in omega (arith, e)
+with_longer h d (Again i) = omega arith
+with_longer h d (Clash i) = omega arith
 with_longer h d Left = omega arith
 
 -- What is held stays, and no name comes to stand twice.

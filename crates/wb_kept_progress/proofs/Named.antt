@@ -6,8 +6,7 @@ use Rattle.std.proofs.lemmas.Option.{none-some, same_Some}
 use Rattle.wb_names.specs.Orders.{same_name}
 use Rattle.wb_names.specs.Values.{NameValue}
 use Rattle.wb_names.proofs.Listings.{Contains-cases, Contains-from_filter, Contains-here, Contains-none, Contains-there}
-use Rattle.wb_names.proofs.Orders.{same_name-is}
-use Rattle.wb_keeper.proofs.KeptCalls.{same_here}
+use Rattle.wb_names.proofs.Orders.{same_name-here, same_name-is}
 use Rattle.wb_progress.specs.InTime.{AreApart}
 
 abbrev pub one_if : Bool → ℕ
@@ -68,7 +67,7 @@ at_most_one m f g (n ∷ names) apart here le = by (same_name m n) refl (at_most
       let one = subst (λ (x : NameValue). g x ≤ f x + 1) is here in
       let others = none_more m f g names (λ c. apart.0 (subst (Contains names) is c)) le in
       omega (arith, one, others)
-  by false e rest = let one = le n (λ is. true≢false (sym (same_here m n is) ∙ e)) in omega (arith, one, rest)
+  by false e rest = let one = le n (λ is. true≢false (sym (same_name-here m n is) ∙ e)) in omega (arith, one, rest)
 
 pub passing : (p : NameValue → Bool) (names : List NameValue) → sum_of (λ n. one_if (p n)) names ≡ length (filter p names)
 passing p [] = refl
@@ -88,7 +87,7 @@ among (m ∷ names) n = by (same_name m n) refl (among names n) where
   by true e rest = inl (subst (Contains (m ∷ names)) (same_name-is m n e) (Contains-here m names))
   by false e rest = ⊎_elim
       (λ (c : Contains names n). inl (Contains-there m n names c))
-      (λ (never : Contains names n → ⊥). inr (λ c. ⊎_elim (λ (is : m ≡ n). true≢false (sym (same_here m n is) ∙ e)) never (Contains-cases m n names c)))
+      (λ (never : Contains names n → ⊥). inr (λ c. ⊎_elim (λ (is : m ≡ n). true≢false (sym (same_name-here m n is) ∙ e)) never (Contains-cases m n names c)))
       rest
 
 -- ---- things that are for a name, or for none
@@ -98,7 +97,7 @@ is_for n None = false
 is_for n (Some m) = same_name m n
 
 pub for_itself : (n : NameValue) → is_for n (Some n) ≡ true
-for_itself n = same_here n n refl
+for_itself n = same_name-here n n refl
 
 module _ {X : Type 0} (name_in : X → Option NameValue) where
   abbrev pub count : NameValue → List X → ℕ

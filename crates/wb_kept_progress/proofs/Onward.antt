@@ -1,15 +1,12 @@
 -- Moments do not go back: a call that is not refused goes on to its moment, and ticks nowhere else.
-use Rattle.std.proofs.Common.{◌≡◌, ℕ, ◌≤◌, Bool, true, false, List, [], ◌∷◌, ◌++◌, ◌∙◌, Option, Some, None, ap, arith, inl, inr, refl, subst, sym, ⊎_elim}
+use Rattle.std.proofs.Common.{◌≡◌, ℕ, ◌≤◌, List, [], ◌∷◌, ◌++◌, ◌∙◌, None, ap, arith, inl, inr, refl, subst, sym, ⊎_elim}
 use Rattle.std.specs.Prelude.{◌⊎◌, nat_le}
 use Rattle.std.proofs.lemmas.Bool.{leb-true}
-use Rattle.wb_names.specs.Faults.{fault_unless, first_of}
-use Rattle.wb_keeper.specs.declared.keep_fault.KeepFault.TheVariants.{BackInTime}
+use Rattle.wb_names.proofs.Faults.{first_none, unless_true}
 use Rattle.wb_member.specs.Opened.{Opened, present}
 use Rattle.wb_keeping.specs.Kept.{Doing, Line, Ticks}
 use Rattle.wb_keeping.specs.Laws.{KeptLine, Came, Ticked, Added, Tuned, doing_of, fault_of}
 use Rattle.wb_keeping.specs.Performing.{Keeping, after_doing, after_lines, sees}
-use Rattle.wb_keeping.specs.declared.kept_fault.KeptFault.{KeptFault}
-use Rattle.wb_keeping.specs.declared.kept_fault.KeptFault.TheVariants.{Host}
 use Rattle.wb_kept_progress.specs.Sessions.{AreTaken, Opening}
 use Rattle.wb_kept_progress.specs.Timed.{Performed, TimedLine, host_after, lines_of, performed, start_of}
 use Rattle.wb_kept_progress.specs.Whole.{there}
@@ -19,19 +16,11 @@ use Rattle.wb_kept_progress.proofs.Performed.{AreNoTicks, Begins, adds_begin, ca
 use Rattle.wb_kept_progress.proofs.StillCalls.{IsTuning, call_now, tuned_only}
 use Rattle.wb_progress.proofs.Parts.{heads, tails}
 
-on_time : (past : Bool) (others : List (Option KeptFault)) → first_of (fault_unless past (Host BackInTime) ∷ others) ≡ None → past ≡ true
-on_time true others e = refl
-on_time false others e = absurd cc
-
-first_none : (f : Option KeptFault) (others : List (Option KeptFault)) → first_of (f ∷ others) ≡ None → f ≡ None
-first_none None others e = refl
-first_none (Some f) others e = absurd cc
-
 -- it sets constants, or goes on to its moment
 pub not_back : (line : KeptLine) (k : Keeping) → fault_of line k ≡ None → IsTuned line ⊎ (present k.host ≤ moment_of line)
-not_back (Came now v) k none = inr (leb-true _ _ (on_time (nat_le (present k.host) now) _ none))
-not_back (Ticked now) k none = inr (leb-true _ _ (on_time (nat_le (present k.host) now) _ none))
-not_back (Added now page time op) k none = inr (leb-true _ _ (on_time (nat_le (present k.host) now) _ (first_none _ _ none)))
+not_back (Came now v) k none = inr (leb-true _ _ (unless_true (nat_le (present k.host) now) _ (first_none _ _ none)))
+not_back (Ticked now) k none = inr (leb-true _ _ (unless_true (nat_le (present k.host) now) _ (first_none _ _ none)))
+not_back (Added now page time op) k none = inr (leb-true _ _ (unless_true (nat_le (present k.host) now) _ (first_none _ _ (first_none _ _ none))))
 not_back (Tuned constants) k none = inl (constants, refl)
 
 pub call_later : (line : KeptLine) (k : Keeping) → fault_of line k ≡ None → present k.host ≤ present (after_doing (doing_of line) k).host
@@ -60,11 +49,11 @@ begun_onward now moment d host (first ∷ before) later b split le =
 
 call_onward : (line : KeptLine) (k : Keeping) (now : ℕ) (before later : List Line) → fault_of line k ≡ None → (doing_of line (sees k.host) k.policy).lines ≡ before ++ Ticks now ∷ later → present (after_lines before k.host) ≤ now
 call_onward (Came moment v) k now before later none split =
-    begun_onward now moment _ k.host before later (came_begins moment v (sees k.host) k.policy) split (leb-true _ _ (on_time (nat_le (present k.host) moment) _ none))
+    begun_onward now moment _ k.host before later (came_begins moment v (sees k.host) k.policy) split (leb-true _ _ (unless_true (nat_le (present k.host) moment) _ (first_none _ _ none)))
 call_onward (Ticked moment) k now before later none split =
-    begun_onward now moment _ k.host before later (ticks_begin moment (sees k.host) k.policy) split (leb-true _ _ (on_time (nat_le (present k.host) moment) _ none))
+    begun_onward now moment _ k.host before later (ticks_begin moment (sees k.host) k.policy) split (leb-true _ _ (unless_true (nat_le (present k.host) moment) _ (first_none _ _ none)))
 call_onward (Added moment page time op) k now before later none split =
-    begun_onward now moment _ k.host before later (adds_begin moment page time op (sees k.host) k.policy) split (leb-true _ _ (on_time (nat_le (present k.host) moment) _ (first_none _ _ none)))
+    begun_onward now moment _ k.host before later (adds_begin moment page time op (sees k.host) k.policy) split (leb-true _ _ (unless_true (nat_le (present k.host) moment) _ (first_none _ _ (first_none _ _ none))))
 call_onward (Tuned constants) k now before later none split = absurd (no_tick_in before later now (subst AreNoTicks split (tt, tt)))
 
 taken_in : (hosts : ℕ → Opening) (newer older : List TimedLine) (e : TimedLine) → AreTaken hosts (lines_of (newer ++ e ∷ older)) → AreTaken hosts (lines_of (e ∷ older))

@@ -16,6 +16,7 @@ use Rattle.wb_policy.specs.Policy.{after_answer, after_wanting}
 use Rattle.wb_keeping.specs.Views.{View, holds, is_full, level, is_known}
 use Rattle.wb_policy.specs.Wanting.{goes_on, is_wanted}
 use Rattle.wb_policy.specs.Words.{started, word_of}
+use Rattle.wb_policy.proofs.Gaps.{gap_most}
 use Rattle.wb_policy.proofs.Spending.{has_place}
 use Rattle.wb_keeping.proofs.EachStep.{HoldsOfSteps, doing, having, having_done, line_holds}
 use Rattle.wb_keeping.proofs.Saying.{says_after}
@@ -28,7 +29,7 @@ use Rattle.wb_kept_progress.proofs.CallParts.{calls_order, due_by_turn}
 use Rattle.wb_kept_progress.proofs.Lines.{IsSmall, are_small, does_rest}
 use Rattle.wb_kept_progress.proofs.StillCalls.{IsTuning, call_now, tuned_only}
 use Rattle.wb_keeping.proofs.EachLine.{want_each}
-use Rattle.wb_kept_progress.proofs.Leaving.{gap_most, next_soon}
+use Rattle.wb_kept_progress.proofs.Leaving.{next_soon}
 
 -- ---- each step of a policy
 

@@ -2,6 +2,7 @@
 use Rattle.std.proofs.Common.{◌≡◌, ℕ, ◌+◌, ◌-◌, ◌*◌, ◌<◌, ◌≤◌, Bool, true, false, cond, List, [], ◌∷◌, ◌++◌, ◌∙◌, ap, append-nil, arith, eqb-true, map, max, refl, subst, sym}
 use Rattle.std.specs.Prelude.{◌&&◌, Contains, nat_eq, nat_lt, take}
 use Rattle.std.proofs.lemmas.Bool.{leb-false, lt-ltb}
+use Rattle.std.proofs.Math.Nat.{le_refl, sub-le}
 use Rattle.wb_names.specs.Values.{NameValue}
 use Rattle.wb_names.proofs.Listings.{Contains-none}
 use Rattle.wb_codec.specs.declared.datagram.Datagram.{Datagram}
@@ -40,14 +41,8 @@ no_more k lines m later le = record { later = later; owes = within (ask_count li
   within : (asks : ℕ) → m.policy.owed ≤ k.policy.owed → m.policy.owed ≤ max k.policy.owed (present m.host) + asks * 250000
   within asks le = omega (arith, le)
 
-itself : (n : ℕ) → n ≤ n
-itself n = omega arith
-
 no_later : (a b : ℕ) → a ≡ b → b ≤ a
 no_later a b same = omega (arith, same)
-
-less : (owed paid : ℕ) → owed - paid ≤ owed
-less owed paid = omega arith
 
 both_owe : (k m n : Keeping) (one other : List Line) → Owes k one m → Owes m other n → Owes k (one ++ other) n
 both_owe k m n one other a b = record {
@@ -81,7 +76,7 @@ wants_owe name anew k = by (is_wanted_here name anew (sees k.host) k.policy) now
   one_more owed now then asks same some = omega (arith, same, some)
 
   by : (b : Bool) → present (having_done (wanted b) k).host ≡ present k.host → Owes k (wanted b).lines (having_done (wanted b) k)
-  by false same = no_more k [] (having_done (wanted false) k) (itself (present k.host)) (itself k.policy.owed)
+  by false same = no_more k [] (having_done (wanted false) k) (le_refl (present k.host)) (le_refl k.policy.owed)
   by true same = record {
     later = no_later (present (having_done (wanted true) k).host) (present k.host) same;
     owes = one_more k.policy.owed (present k.host) (present (having_done (wanted true) k).host) (ask_count (wanted true).lines) same
@@ -91,29 +86,29 @@ wants_owe name anew k = by (is_wanted_here name anew (sees k.host) k.policy) now
 steps_owe : HoldsOfSteps Owes
 steps_owe = record {
   due = record {
-    nothing = λ k. no_more k [] k (itself (present k.host)) (itself k.policy.owed);
+    nothing = λ k. no_more k [] k (le_refl (present k.host)) (le_refl k.policy.owed);
     both = both_owe;
     wants = wants_owe;
-    turned = λ t l k. no_more k [] _ (itself (present k.host)) (itself k.policy.owed);
-    beats = λ k due. no_more k [] _ (itself (present k.host)) (itself k.policy.owed);
+    turned = λ t l k. no_more k [] _ (le_refl (present k.host)) (le_refl k.policy.owed);
+    beats = λ k due. no_more k [] _ (le_refl (present k.host)) (le_refl k.policy.owed);
     answers = λ k is. no_more k _ (having_done (doing (after_answer (present k.host) k.policy) (map (λ page. Says (state_of (view_of k.host) page)) (take 64 (pages_of k.host.is.held)))) k)
-        (no_later _ (present k.host) (ap present (says_after (view_of k.host) (take 64 (pages_of k.host.is.held)) k.host))) (itself k.policy.owed);
-    asks_pages = λ k is. no_more k _ _ (itself (present k.host)) (itself k.policy.owed);
-    reports = λ page until told k is. no_more k _ _ (itself (present k.host)) (itself k.policy.owed);
+        (no_later _ (present k.host) (ap present (says_after (view_of k.host) (take 64 (pages_of k.host.is.held)) k.host))) (le_refl k.policy.owed);
+    asks_pages = λ k is. no_more k _ _ (le_refl (present k.host)) (le_refl k.policy.owed);
+    reports = λ page until told k is. no_more k _ _ (le_refl (present k.host)) (le_refl k.policy.owed);
   };
-  ticks = λ now k later. no_more k (Ticks now ∷ []) (having (Ticks now) k) later (itself k.policy.owed);
-  arrives = λ d k. no_more k _ _ (itself (present k.host)) (itself k.policy.owed);
-  answered = λ d k lacks asked. no_more k _ _ (itself (present k.host)) (less k.policy.owed 500000);
-  hears = λ v k. no_more k _ (having (Hears v) k) (no_later (present (having (Hears v) k).host) (present k.host) (hearing_now v k)) (itself k.policy.owed);
-  stops = λ name k full. no_more k _ _ (itself (present k.host)) (itself k.policy.owed);
-  sets = λ source micros k. no_more k _ _ (itself (present k.host)) (itself k.policy.owed);
-  lends = λ source k. no_more k _ _ (itself (present k.host)) (itself k.policy.owed);
-  takes_back = λ source k. no_more k _ _ (itself (present k.host)) (itself k.policy.owed);
-  tunes = λ constants k within. no_more k _ _ (itself (present k.host)) (itself k.policy.owed);
-  draws = λ d k. no_more k _ _ (itself (present k.host)) (itself k.policy.owed);
-  measured = λ micros k. no_more k [] _ (itself (present k.host)) (itself k.policy.owed);
-  told = λ k. no_more k [] _ (itself (present k.host)) (itself k.policy.owed);
-  takes_up = λ k is. no_more k [] _ (itself (present k.host)) (itself k.policy.owed);
+  ticks = λ now k later. no_more k (Ticks now ∷ []) (having (Ticks now) k) later (le_refl k.policy.owed);
+  arrives = λ d k. no_more k _ _ (le_refl (present k.host)) (le_refl k.policy.owed);
+  answered = λ d k lacks asked. no_more k _ _ (le_refl (present k.host)) (sub-le k.policy.owed 500000);
+  hears = λ v k. no_more k _ (having (Hears v) k) (no_later (present (having (Hears v) k).host) (present k.host) (hearing_now v k)) (le_refl k.policy.owed);
+  stops = λ name k full. no_more k _ _ (le_refl (present k.host)) (le_refl k.policy.owed);
+  sets = λ source micros k. no_more k _ _ (le_refl (present k.host)) (le_refl k.policy.owed);
+  lends = λ source k. no_more k _ _ (le_refl (present k.host)) (le_refl k.policy.owed);
+  takes_back = λ source k. no_more k _ _ (le_refl (present k.host)) (le_refl k.policy.owed);
+  tunes = λ constants k within. no_more k _ _ (le_refl (present k.host)) (le_refl k.policy.owed);
+  draws = λ d k. no_more k _ _ (le_refl (present k.host)) (le_refl k.policy.owed);
+  measured = λ micros k. no_more k [] _ (le_refl (present k.host)) (le_refl k.policy.owed);
+  told = λ k. no_more k [] _ (le_refl (present k.host)) (le_refl k.policy.owed);
+  takes_up = λ k is. no_more k [] _ (le_refl (present k.host)) (le_refl k.policy.owed);
 }
 
 -- ---- the calls of one host

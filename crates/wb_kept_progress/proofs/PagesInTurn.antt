@@ -14,8 +14,7 @@ use Rattle.wb_names.specs.Orders.{page_cmp}
 use Rattle.wb_names.specs.declared.name.PageId.{PageId}
 use Rattle.wb_names.proofs.Listings.{Contains-cases, Contains-here, Contains-none, Contains-there, below_all}
 use Rattle.wb_names.proofs.Orders.{page_total}
-use Rattle.wb_gaps.proofs.FirstHoles.{is_less}
-use Rattle.wb_gaps.proofs.Starts.{page_is, page_itself}
+use Rattle.wb_gaps.proofs.Starts.{is_less, page_is, page_itself}
 use Rattle.wb_policy.specs.Reports.{is_after, page_after}
 use Rattle.wb_policy.specs.Turns.{nowhere}
 
@@ -83,15 +82,7 @@ behind : (p q : PageId) → page_cmp p q ≡ Greater → is_after q p ≡ true
 behind p q greater = ap is_lt (page_total.antisymm q p ∙ ap ordering_reverse greater)
 
 after_both : (p q r : PageId) → is_after p q ≡ true → is_after q r ≡ true → is_after p r ≡ true
-after_both p q r e f = ap is_lt (page_total.trans p q r (is_less p q e) (is_less q r f))
-
--- p is q or before it, and r is after q
-after_second : (p q r : PageId) → is_after q p ≡ false → is_after q r ≡ true → is_after p r ≡ true
-after_second p q r e f = by (page_cmp p q) refl where
-  by : (o : Ordering) → page_cmp p q ≡ o → is_after p r ≡ true
-  by Less is = after_both p q r (ap is_lt is) f
-  by Equal is = ap is_lt (page_total.congr p q r is) ∙ f
-  by Greater is = absurd (true≢false (sym (behind p q is) ∙ e))
+after_both p q r e f = ap is_lt (page_total.trans p q r (is_less (page_cmp p q) e) (is_less (page_cmp q r) f))
 
 -- neither is after the other
 apart : (p q : PageId) → is_after p q ≡ false → is_after q p ≡ false → p ≡ q

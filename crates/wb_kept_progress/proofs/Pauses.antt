@@ -1,17 +1,16 @@
 -- When the next report of a host is due: by its rate, and by how many members it counts.
 use Rattle.std.proofs.Common.{◌≡◌, ℕ, ◌+◌, ◌*◌, ◌/◌, ◌<◌, ◌≤◌, Bool, true, false, cond, List, [], ◌∷◌, ◌++◌, ◌∙◌, Option, Some, None, ap, append_assoc, arith, eqb-true, get_or, inl, inr, length, max, mul-le-mul, refl, subst, sym, ⊎_elim}
-use Rattle.std.specs.Prelude.{◌⊎◌, ◌%◌, ◌||◌, Contains, map, min, nat_eq, nat_le, take}
-use Rattle.std.specs.List.{cons_option, filter_map, list_any}
+use Rattle.std.specs.Prelude.{◌⊎◌, ◌%◌, Contains, map, min, nat_eq, nat_le, take}
+use Rattle.std.specs.List.{cons_option, filter_map}
 use Rattle.std.specs.List.Sorted.{IsStrictlySortedBy}
-use Rattle.std.specs.Ordering.{match_ordering, nat_cmp}
+use Rattle.std.specs.Ordering.{match_ordering}
 use Rattle.std.specs.declared.cmp.Ordering.{Ordering}
 use Rattle.std.specs.declared.cmp.Ordering.TheVariants.{Less, Equal, Greater}
-use Rattle.std.proofs.Math.Nat.{div-mul-le_self}
-use Rattle.std.proofs.lemmas.Bool.{leb-false}
-use Rattle.std.proofs.lemmas.Bool.Decides.{leb_tells, nat_tests}
-use Rattle.std.proofs.lemmas.Grind.{common_steps}
+use Rattle.std.proofs.Math.Nat.{div-mul-le_self, le_refl}
+use Rattle.std.proofs.lemmas.Bool.Decides.{leb_tells}
 use Rattle.std.proofs.lemmas.Map.Keys.{Less-from_sorted}
 use Rattle.std.proofs.lemmas.Nat.{le-div}
+use Rattle.std.proofs.lemmas.Cmp.{ranked}
 use Rattle.wb_names.specs.Ascending.{AreEchoes}
 use Rattle.wb_names.specs.Values.{MarkValue, NameValue}
 use Rattle.wb_names.specs.declared.echo.Echo.{Echo}
@@ -19,9 +18,9 @@ use Rattle.wb_names.specs.declared.name.PageId.{PageId}
 use Rattle.wb_codec.specs.declared.datagram.Datagram.TheVariants.{Draw, Session, Request, AskPages, PageState}
 use Rattle.wb_gaps.specs.Answers.{pages_of, report_of}
 use Rattle.wb_gaps.specs.Sorting.{inserted, sorted}
-use Rattle.wb_keeper.specs.Keeper.{KeeperCall, remember, senders_of, session_heard}
+use Rattle.wb_keeper.specs.Keeper.{KeeperCall, senders_of}
 use Rattle.wb_keeper.specs.Sessions.{echo_cmp, echo_to, echoes_of}
-use Rattle.wb_keeper.specs.declared.keeper.Heard.{Heard}
+use Rattle.wb_keeper.proofs.FirstSenders.{senders_few}
 use Rattle.wb_progress.specs.Turns.{IsNowAt, Terms, settled_by}
 use Rattle.wb_member.specs.Judged.{echoes}
 use Rattle.wb_member.specs.Members.{Misses}
@@ -57,7 +56,6 @@ use Rattle.wb_kept_progress.proofs.NextDue.{there_here, there_other}
 use Rattle.wb_kept_progress.proofs.OwedAndDue.{due_there, now_there, taken_of}
 use Rattle.wb_kept_progress.proofs.Repairs.{came_after}
 use Rattle.wb_kept_progress.proofs.TurnsApart.{DrawsNothing}
-use Rattle.wb_names.specs.declared.entries.TheConstants.{MAX_ENTRIES}
 
 -- ---- the echoes of a host ascend, and are at most 65,535
 
@@ -70,32 +68,16 @@ inserted_longer e (y ∷ ys) = by (echo_cmp e y) (inserted_longer e ys) where
   by Equal rest = omega arith
   by Greater rest = omega (arith, rest)
 
-sorted_few : (es : List Echo) → length (sorted echo_cmp es) ≤ length es
+pub sorted_few : (es : List Echo) → length (sorted echo_cmp es) ≤ length es
 sorted_few [] = omega arith
 sorted_few (e ∷ es) = let one = inserted_longer e (sorted echo_cmp es) in let rest = sorted_few es in omega (arith, one, rest)
 
-mapped_few : (f : ℕ → Option Echo) (sources : List ℕ) → length (filter_map f sources) ≤ length sources
+pub mapped_few : (f : ℕ → Option Echo) (sources : List ℕ) → length (filter_map f sources) ≤ length sources
 mapped_few f [] = omega arith
 mapped_few f (s ∷ sources) = by (f s) (mapped_few f sources) where
   by : (o : Option Echo) → length (filter_map f sources) ≤ length sources → length (cons_option o (filter_map f sources)) ≤ length (s ∷ sources)
   by None rest = omega (arith, rest)
   by (Some e) rest = omega (arith, rest)
-
-senders_few : (me : ℕ) (calls : List KeeperCall) → length (senders_of me calls) ≤ MAX_ENTRIES
-senders_few me [] = omega arith
-senders_few me (call ∷ calls) = by (session_heard me call) (senders_few me calls) where
-  senders : List ℕ
-  senders = senders_of me calls
-
-  room : (source : ℕ) (known full : Bool) → nat_le MAX_ENTRIES (length senders) ≡ full → length senders ≤ MAX_ENTRIES
-      → length (cond (known || full) senders (source ∷ senders)) ≤ MAX_ENTRIES
-  room source true full e le = le
-  room source false true e le = le
-  room source false false e le = let lt = leb-false _ _ e in omega (arith, lt)
-
-  by : (told : Option (ℕ × Heard)) → length senders ≤ MAX_ENTRIES → length (remember told senders) ≤ MAX_ENTRIES
-  by None le = le
-  by (Some told) le = room told.0 (list_any (nat_eq told.0) senders) (nat_le MAX_ENTRIES (length senders)) refl le
 
 module _ (me : ℕ) (calls : List KeeperCall) (now : ℕ) where
   rising : IsStrictlySortedBy echo_cmp (echoes_of me calls now)
@@ -103,15 +85,10 @@ module _ (me : ℕ) (calls : List KeeperCall) (now : ℕ) where
 
   pub lawful_echoes : AreEchoes (echoes_of me calls now)
   lawful_echoes = record {
-    ascending = λ i j d lt within. below (get_or (echoes_of me calls now) i d) (get_or (echoes_of me calls now) j d) (Less-from_sorted echo_cmp (echoes_of me calls now) i j d rising lt within);
+    ascending = λ i j d lt within. ranked (get_or (echoes_of me calls now) i d).source (get_or (echoes_of me calls now) j d).source Less (sym (Less-from_sorted echo_cmp (echoes_of me calls now) i j d rising lt within));
     positive = λ i d lt. tt;
     few = let a = sorted_few (filter_map (echo_to me calls now) (senders_of me calls)) in let b = mapped_few (echo_to me calls now) (senders_of me calls) in let c = senders_few me calls in omega (arith, a, b, c);
-  } where
-    less : (a b : ℕ) → nat_cmp a b ≡ Less → a < b
-    less a b e = grind (arith, common_steps, nat_tests)
-
-    below : (a b : Echo) → echo_cmp a b ≡ Less → a.source < b.source
-    below a b e = less a.source b.source e
+  }
 
 -- what is left of a telling fits into a report
 rest_small : (until : ℕ) (told : Option ℕ) (marks : List MarkValue) (es : List Echo) → AreEchoes es → report_bytes (rest_after until told marks) (last_heard es) ≤ 1184
@@ -123,10 +100,7 @@ rest_small until told marks es lawful = by (is_telling until told) where
 -- ---- the mean time
 
 less_quotient : (a b rate least : ℕ) → a ≤ b → 1 ≤ least → least ≤ rate → a / rate ≤ b / least
-less_quotient a b rate least le some more = le-div (a / rate) b least (omega (arith, some)) (chain (a / rate * least) (a / rate * rate) a b (mul-le-mul (same (a / rate)) more) (div-mul-le_self a rate) le) where
-  same : (n : ℕ) → n ≤ n
-  same n = omega arith
-
+less_quotient a b rate least le some more = le-div (a / rate) b least (omega (arith, some)) (chain (a / rate * least) (a / rate * rate) a b (mul-le-mul (le_refl (a / rate)) more) (div-mul-le_self a rate) le) where
   chain : (x y a b : ℕ) → x ≤ y → y ≤ a → a ≤ b → x ≤ b
   chain x y a b one two three = omega (arith, one, two, three)
 

@@ -1,9 +1,10 @@
 -- What one line makes of a keeper, and what it sends.
 use Rattle.std.proofs.Common.{◌≡◌, ℕ, Bool, true, false, cond, List, [], ◌∷◌, ◌++◌, ◌∙◌, Option, Some, None, ap, arith, inl, inr, length, map, refl, subst, sym, true≢false, ⊎_elim}
-use Rattle.std.specs.Prelude.{◌⊎◌, ◌||◌, Contains, filter, is_some, not}
+use Rattle.std.specs.Prelude.{◌⊎◌, ◌||◌, Contains, filter, is_some}
 use Rattle.std.specs.Option.{option_map}
+use Rattle.std.proofs.lemmas.Bool.{not-true, or_parts}
 use Rattle.std.proofs.lemmas.List.Elements.{All-cons, All-nil, Contains-append_cases}
-use Rattle.wb_names.specs.Arrivals.{Outcome, Fresh, Known, Clashed, Left}
+use Rattle.wb_names.specs.Arrivals.{Outcome, New, Again, Clash, Left}
 use Rattle.wb_names.specs.Values.{DrawopValue, NameValue}
 use Rattle.wb_names.proofs.Listings.{Any-from_map, Contains-from_filter, Contains-here, Contains-none}
 use Rattle.wb_codec.specs.declared.datagram.Datagram.{Datagram}
@@ -133,10 +134,7 @@ line_none (Hears v) host none = by (has_room_for v host) where
   by false = none
 line_none (Asks name) host none = by (may_ask name host) refl where
   lacks : may_ask name host ≡ true → holds host.is.held name ≡ false
-  lacks e = from (holds host.is.held name) (is_some (timers_of host.is.constants (events host) name).ask || is_some (timers_of host.is.constants (events host) name).answer) e where
-    from : (a b : Bool) → not (a || b) ≡ true → a ≡ false
-    from true b e = absurd (true≢false (sym e))
-    from false b e = refl
+  lacks e = (or_parts (holds host.is.held name) (is_some (timers_of host.is.constants (events host) name).ask || is_some (timers_of host.is.constants (events host) name).answer) (not-true _ e)).0
 
   by : (b : Bool) → may_ask name host ≡ b → HeldNone (cond b (doing (Misses (present host) (name ∷ []) (word_of host.random ∷ [])) 1 host) host).is
   by true e = none_after (Misses (present host) (name ∷ []) (word_of host.random ∷ [])) host.is (All-cons (λ (m : NameValue). holds host.is.held m ≡ false) name [] (lacks e) (All-nil (λ (m : NameValue). holds host.is.held m ≡ false))) none
@@ -242,9 +240,9 @@ module _ (host : Opened) (lacking : HeldNone host.is) (asker : ℕ) (n : NameVal
           none (Some x) e = cc
 
   unsaid : (d : DrawopValue) (o : Outcome) → Contains (said_where d o) (Request asker n) → ⊥
-  unsaid d (Fresh i) c = let e = one_of _ _ c in cc
-  unsaid d (Known i) c = let e = one_of _ _ c in cc
-  unsaid d (Clashed i) c = Contains-none (Request asker n) c
+  unsaid d (New i) c = let e = one_of _ _ c in cc
+  unsaid d (Again i) c = let e = one_of _ _ c in cc
+  unsaid d (Clash i) c = Contains-none (Request asker n) c
   unsaid d Left c = Contains-none (Request asker n) c
 
   pub asks : (line : Line) → Contains (sent_by_line line host) (Request asker n) → Goal ⊎ ((a : ℕ) × (m : NameValue) × (line ≡ Says (Request a m)))

@@ -1,5 +1,6 @@
 -- The policy of self-managing hosts keeps its promises, so that a session of them becomes whole.
-use Rattle.std.proofs.Common.{ℕ, ◌+◌, ◌*◌, ◌≤◌, arith, inl}
+use Rattle.std.proofs.Common.{◌+◌, ◌*◌, inl}
+use Rattle.std.proofs.Math.Nat.{le_refl}
 use Rattle.wb_kept_progress.specs.Promises.{Promises}
 use Rattle.wb_kept_progress.specs.Whole.{AllAreSoon, AllAreSoonByRates, SessionsBecomeWhole, turn_span}
 use Rattle.wb_kept_progress.proofs.Becoming.{promises_suffice}
@@ -26,17 +27,13 @@ promises_are_kept = record {
 pub all_are_soon : AllAreSoon
 all_are_soon hosts terms trace slices holes numbers most session = record {
   reports = reports_are_due hosts terms trace session;
-  turns = inl (same (2 * numbers * holes * (16000000 + terms.late)));
-  gives = inl (same most);
-} where
-  same : (n : ℕ) → n ≤ n
-  same n = omega arith
+  turns = inl (le_refl (2 * numbers * holes * (16000000 + terms.late)));
+  gives = inl (le_refl most);
+}
 
 pub all_are_soon_by_rates : AllAreSoonByRates
 all_are_soon_by_rates hosts terms trace rate slices holes numbers most session some slower =
-    record { reports = reports_go_by_rates hosts terms trace rate session some slower; turns = inl (same (2 * numbers * holes * turn_span terms)); gives = inl (same most) } where
-      same : (n : ℕ) → n ≤ n
-      same n = omega arith
+    record { reports = reports_go_by_rates hosts terms trace rate session some slower; turns = inl (le_refl (2 * numbers * holes * turn_span terms)); gives = inl (le_refl most) }
 
 pub sessions_become_whole : SessionsBecomeWhole
 sessions_become_whole = promises_suffice promises_are_kept

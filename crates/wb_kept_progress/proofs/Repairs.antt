@@ -5,7 +5,9 @@ use Rattle.std.specs.Prelude.{Contains, IfSome, nat_eq, nat_le, not, ◌||◌}
 use Rattle.std.proofs.lemmas.Bool.{leb-false, false_from_ne_true, le-leb, lt-ltb}
 use Rattle.std.proofs.lemmas.Bool.Decides.{nat_tests}
 use Rattle.std.proofs.lemmas.List.Elements.{Contains-append_left, Contains-append_right}
-use Rattle.wb_names.specs.Arrivals.{Fresh, Known, Clashed, Left, history_with, outcome_from}
+use Rattle.std.proofs.Math.Bool.{or-true}
+use Rattle.std.proofs.Math.Nat.{le-add_right, le_refl}
+use Rattle.wb_names.specs.Arrivals.{New, Again, Clash, Left, history_with, outcome_from}
 use Rattle.wb_names.specs.Faults.{fault_unless, first_of}
 use Rattle.wb_names.specs.History.{IsHistory}
 use Rattle.wb_names.specs.Orders.{same_name}
@@ -103,10 +105,10 @@ request_rests now asker n k other = subst (λ (x : Keeping). Rests (after_line l
   by false = does_rest timed (timed_each IsSmall are_small) (done m (with_it false))
 
 -- a drawop that is not held is taken into a lt-ltb cell
-fresh : (cells k : ℕ) (h : List DrawopValue) (d : DrawopValue) → holds h d.name ≡ false → k + length h < cells → (place : ℕ) × (outcome_from cells k h d ≡ Fresh place)
-fresh cells k [] d lost room = (k, ap (λ (b : Bool). cond b (Fresh k) Left) (lt-ltb k cells (omega arith)))
+fresh : (cells k : ℕ) (h : List DrawopValue) (d : DrawopValue) → holds h d.name ≡ false → k + length h < cells → (place : ℕ) × (outcome_from cells k h d ≡ New place)
+fresh cells k [] d lost room = (k, ap (λ (b : Bool). cond b (New k) Left) (lt-ltb k cells (omega arith)))
 fresh cells k (x ∷ h) d lost room = from (fresh cells (k + 1) h d) (same_name x.name d.name) lost where
-  from : (holds h d.name ≡ false → k + 1 + length h < cells → (place : ℕ) × (outcome_from cells (k + 1) h d ≡ Fresh place)) → (b : Bool) → (b || holds h d.name) ≡ false → (place : ℕ) × (cond b (cond (same_drawop x d) (Known k) (Clashed k)) (outcome_from cells (k + 1) h d) ≡ Fresh place)
+  from : (holds h d.name ≡ false → k + 1 + length h < cells → (place : ℕ) × (outcome_from cells (k + 1) h d ≡ New place)) → (b : Bool) → (b || holds h d.name) ≡ false → (place : ℕ) × (cond b (cond (same_drawop x d) (Again k) (Clash k)) (outcome_from cells (k + 1) h d) ≡ New place)
   from rest true e = absurd (true≢false e)
   from rest false e = rest e (omega (arith, room))
 
@@ -268,12 +270,6 @@ module _ (o : Keeping) (fine : IsFine o) (d : DrawopValue) (held : Contains o.ho
   abbrev pub o3 : Keeping
   o3 = after_doing (came second (Request asker n)) o2
 
-  up : (a b : ℕ) → a ≤ a + b
-  up a b = omega arith
-
-  itself : (a : ℕ) → a ≤ a
-  itself a = omega arith
-
   abbrev timers : Opened → Timers
   timers host = timers_of host.is.constants (events host) n
 
@@ -288,7 +284,7 @@ module _ (o : Keeping) (fine : IsFine o) (d : DrawopValue) (held : Contains o.ho
   r1 = tick_rests first o
 
   pub none_1 : fault_of (Ticked first) o ≡ None
-  none_1 = tick_in_time o first (up (present o.host) answering_wait)
+  none_1 = tick_in_time o first (le-add_right (present o.host) answering_wait)
 
   fine_1 : IsFine o1
   fine_1 = fine_next (Ticked first) o none_1 fine
@@ -307,7 +303,7 @@ module _ (o : Keeping) (fine : IsFine o) (d : DrawopValue) (held : Contains o.ho
   r2 = tick_rests second o1
 
   pub none_2 : fault_of (Ticked second) o1 ≡ None
-  none_2 = tick_in_time o1 second (subst (λ (x : ℕ). x ≤ second) (sym r1.now) (up first quiet_wait))
+  none_2 = tick_in_time o1 second (subst (λ (x : ℕ). x ≤ second) (sym r1.now) (le-add_right first quiet_wait))
 
   fine_2 : IsFine o2
   fine_2 = fine_next (Ticked second) o1 none_2 fine_1
@@ -370,10 +366,7 @@ module _ (o : Keeping) (fine : IsFine o) (d : DrawopValue) (held : Contains o.ho
         ∙ requests_set host.is.number host.is.constants host.is.calls (present host) asker (word_at (Request asker n) host.random) n apart idle (subst (λ (t : ℕ). (timers host).quiet ≤ t) (sym now) quiet);
   }) where
     heard_so : after_line (Hears (Request asker n)) host ≡ heard (Request asker n) host
-    heard_so = ap (λ (b : Bool). cond b (heard (Request asker n) host) host) (room (is_own host.is.number (Request asker n))) where
-      room : (b : Bool) → (b || true) ≡ true
-      room true = refl
-      room false = refl
+    heard_so = ap (λ (b : Bool). cond b (heard (Request asker n) host) host) (or-true (is_own host.is.number (Request asker n)))
 
   abbrev g3 : Opened
   g3 = after_line (Hears (Request asker n)) (lending_host (heard_source asker n h3) o2.policy.usual h3)
@@ -400,7 +393,7 @@ module _ (o : Keeping) (fine : IsFine o) (d : DrawopValue) (held : Contains o.ho
   now_o3 = r3.now ∙ heard_3.now_is
 
   pub none_3 : fault_of (Came second (Request asker n)) o2 ≡ None
-  none_3 = request_in_time o2 second asker n (subst (λ (x : ℕ). x ≤ second) (sym r2.now) (itself second))
+  none_3 = request_in_time o2 second asker n (subst (λ (x : ℕ). x ≤ second) (sym r2.now) (le_refl second))
 
   fine_3 : IsFine o3
   fine_3 = fine_next (Came second (Request asker n)) o2 none_3 fine_2
@@ -421,7 +414,7 @@ module _ (o : Keeping) (fine : IsFine o) (d : DrawopValue) (held : Contains o.ho
       ap (λ (s : Timers). is_answer_due third s.answer) timers_3 ∙ le-leb answer.due third (omega (arith, le, now))
 
   pub none_4 : fault_of (Ticked third) o3 ≡ None
-  none_4 = tick_in_time o3 third (subst (λ (x : ℕ). x ≤ third) (sym now_o3) (up second answering_wait))
+  none_4 = tick_in_time o3 third (subst (λ (x : ℕ). x ≤ third) (sym now_o3) (le-add_right second answering_wait))
 
   pub kept_4 : (after_doing (ticks third) o3).host.is.held ≡ o.host.is.held
   kept_4 = (tick_rests third o3).held ∙ held_o3 ∙ r2.held ∙ r1.held
@@ -502,14 +495,11 @@ module _ (hosts : ℕ → Opening) (older : List LineAt) (i j : ℕ) (d : Drawop
   abbrev n5 : List LineAt
   n5 = at j (Ticked t3) ∷ n4
 
-  up_to : (a b : ℕ) → a ≤ a + b
-  up_to a b = omega arith
-
   stage_0 : Stage hosts older [] i j k o
   stage_0 = record { taken = taken; sent = tt; here = refl; there = refl }
 
   stage_1 : Stage hosts older n1 i j k1 o
-  stage_1 = first_next hosts [] older i j apart k o stage_0 (Ticked asking) tt (tick_in_time k asking (up_to (present k.host) asking_wait))
+  stage_1 = first_next hosts [] older i j apart k o stage_0 (Ticked asking) tt (tick_in_time k asking (le-add_right (present k.host) asking_wait))
 
   sent_1 : Contains (sent_since hosts n1 older) (Request me d.name)
   sent_1 = did_send hosts [] older i (Ticked asking) k (Request me d.name) refl requests
@@ -553,9 +543,7 @@ module _ (hosts : ℕ → Opening) (older : List LineAt) (i j : ℕ) (d : Drawop
       with_number m = record { is = record k.host.is { number = m }; random = k.host.random }
 
   stage_6 : Stage hosts older (at i (Came asking (Draw d)) ∷ n5) i j (after_doing (came asking (Draw d)) k1) (after_doing (ticks t3) p3)
-  stage_6 = first_next hosts n5 older i j apart k1 (after_doing (ticks t3) p3) stage_5 (Came asking (Draw d)) sent_5 (drawop_in_time k1 asking d (subst (λ (x : ℕ). x ≤ asking) (sym rests.now) (le_itself asking)) known_1) where
-    le_itself : (a : ℕ) → a ≤ a
-    le_itself a = omega arith
+  stage_6 = first_next hosts n5 older i j apart k1 (after_doing (ticks t3) p3) stage_5 (Came asking (Draw d)) sent_5 (drawop_in_time k1 asking d (subst (λ (x : ℕ). x ≤ asking) (sym rests.now) (le_refl asking)) known_1)
 
   pub brought : IsBrought hosts (repair i j (host_at hosts older i) (host_at hosts older j) d) older i j d
   brought = record {

@@ -35,7 +35,7 @@ use Rattle.wb_kept_progress.proofs.Handed.{asked_both, performs_in}
 use Rattle.wb_kept_progress.proofs.KeptInTime.{at_place, front_of, time_is}
 use Rattle.wb_kept_progress.proofs.Timely.{in_past}
 use Rattle.wb_kept_progress.proofs.WholeParts.{IsOfCall}
-use Rattle.wb_kept_progress.proofs.WindowParts.{calls_past}
+use Rattle.wb_kept_progress.proofs.WindowParts.{in_window}
 
 -- ---- lists
 
@@ -57,6 +57,10 @@ no_longer_than_itself a b xs x same =
     let one = length-append a (x ∷ (b ++ xs)) in
     let other = length-append b xs in
     omega (arith, all, one, other)
+
+-- a span more
+pub one_more : (from k span : ℕ) → from + suc k * span ≡ from + k * span + span
+one_more from k span = let product : suc k * span ≡ k * span + span = omega arith in omega (arith, product)
 
 -- ---- calls
 
@@ -163,16 +167,11 @@ module _ (hosts : ℕ → Opening) (terms : Terms) (trace : List TimedLine) (sin
   timely : IsTimely starts terms (performed hosts trace)
   timely = performed_is_timely hosts terms trace session
 
-  ordered : (newer part : List TimedLine) → trace ≡ newer ++ part → AreCalledInOrder part
-  ordered newer part split = calls_order newer part (subst AreCalledInOrder split session.order)
-
   abbrev at_round : ℕ → ℕ
   at_round k = called_at base + k * round_span terms
 
   next_round : (k : ℕ) → at_round (suc k) ≡ at_round k + round_span terms
-  next_round k = one_more (called_at base) k (round_span terms) where
-    one_more : (from k round : ℕ) → from + suc k * round ≡ from + k * round + round
-    one_more from k round = let product : suc k * round ≡ k * round + round = omega arith in omega (arith, product)
+  next_round k = one_more (called_at base) k (round_span terms)
 
   -- what the rounds so far brought: in each one as many names as there are places, or a crowd
   pub record Counted (part : List TimedLine) (k : ℕ) : Type 0 where
@@ -190,21 +189,12 @@ module _ (hosts : ℕ → Opening) (terms : Terms) (trace : List TimedLine) (sin
 
   -- ---- before the first round
 
-  -- a part that goes on after the base ends in it
-  in_base : (newer : List TimedLine) (e : TimedLine) (part : List TimedLine) → trace ≡ newer ++ e ∷ part → called_at base < e.time → (window : List TimedLine) × (part ≡ window ++ base)
-  in_base newer e part split lt =
-      let p = calls_past newer (e ∷ part) newest base (sym split ∙ split_base) (subst AreCalledInOrder split session.order) lt in
-      by p.0 p.1 where
-        by : (middle : List TimedLine) → e ∷ part ≡ middle ++ base → (window : List TimedLine) × (part ≡ window ++ base)
-        by [] same = let is : e.time ≡ called_at base = ap called_at same in absurd (omega (arith, is, lt))
-        by (y ∷ middle) same = (middle, tails e y part (middle ++ base) same)
-
   at_first : (newer : List TimedLine) (e : TimedLine) (part : List TimedLine) → trace ≡ newer ++ e ∷ part → at_round 0 < e.time → holds (there hosts (e ∷ part) i).host n ≡ false → Counted part 0
   at_first newer e part split lt lacks =
-      let w = in_base newer e part split (omega (arith, lt)) in
+      let w = in_window newest base newer part e (sym split_base ∙ split) (subst AreCalledInOrder split_base session.order) (omega (arith, lt)) in
       record {
-        window = w.0;
-        is = w.1;
+        window = w.part;
+        is = w.older_is;
         bringing = 0;
         crowded = 0;
         rounds = refl;
@@ -213,7 +203,7 @@ module _ (hosts : ℕ → Opening) (terms : Terms) (trace : List TimedLine) (sin
         count = none places;
         first = λ x c. ⊎_elim
             (λ (same : n ≡ x). subst (λ (y : NameValue). IsHeldBySome hosts terms trace y × (holds (there hosts base i).host y ≡ false)) same
-            (held, lacked_before hosts (e ∷ w.0) base i n (subst (λ (l : List TimedLine). holds (there hosts (e ∷ l) i).host n ≡ false) w.1 lacks)))
+            (held, lacked_before hosts (e ∷ w.part) base i n (subst (λ (l : List TimedLine). holds (there hosts (e ∷ l) i).host n ≡ false) w.older_is lacks)))
             (λ (none : Contains [] x). absurd (Contains-none x none))
             (Contains-cases n x [] c);
         then = λ x c. ⊎_elim (λ (same : n ≡ x). inl (sym same)) (λ (none : Contains [] x). absurd (Contains-none x none)) (Contains-cases n x [] c);
@@ -278,7 +268,7 @@ module _ (hosts : ℕ → Opening) (terms : Terms) (trace : List TimedLine) (sin
       base_by : called_at base ≤ called_at q.part
       base_by =
           let is : q.part ≡ (b.0 ++ c.window) ++ base = b.1 ∙ ap (λ (l : List TimedLine). b.0 ++ l) c.is ∙ sym (append_assoc b.0 c.window base) in
-          let le = calls_end (b.0 ++ c.window) base (subst AreCalledInOrder is (ordered ((newer ++ q.front) ++ q.next ∷ []) q.part upto_q)) in
+          let le = calls_end (b.0 ++ c.window) base (subst AreCalledInOrder is (calls_order ((newer ++ q.front) ++ q.next ∷ []) q.part (subst AreCalledInOrder upto_q session.order))) in
           subst (λ (l : List TimedLine). called_at base ≤ called_at l) (sym is) le
 
       -- 64 names are asked for in the round

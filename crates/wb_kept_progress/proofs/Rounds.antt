@@ -9,14 +9,13 @@ use Rattle.wb_progress.specs.Turns.{Terms, settled_by}
 use Rattle.wb_progress.proofs.NamesApart.{apart_append}
 use Rattle.wb_member.specs.Judged.{holds}
 use Rattle.wb_member.specs.Opened.{asks_for}
-use Rattle.wb_kept_progress.specs.Promises.{host_then, timer_then}
+use Rattle.wb_kept_progress.specs.Promises.{timer_then}
 use Rattle.wb_kept_progress.specs.Rounds.{AreAsked, OneLacksAtMost, PlacesAreFilled, SessionsBecomeWholeByRounds, coming, rounds_by}
 use Rattle.wb_kept_progress.specs.Sessions.{Opening}
 use Rattle.wb_kept_progress.specs.Timed.{AllKeptHoldBehind, IsTimely, Start, TimedLine, called_at, performed, start_of, until}
-use Rattle.wb_kept_progress.specs.Whole.{AreCalledInOrder, IsHeldBySome, IsLackedAt, IsTimelySession, NewAreKept, ReportWithin, WaitAtMost, there}
+use Rattle.wb_kept_progress.specs.Whole.{IsHeldBySome, IsLackedAt, IsTimelySession, NewAreKept, ReportWithin, WaitAtMost, there}
 use Rattle.wb_kept_progress.proofs.AskedComes.{asked_comes, asked_lacked, the_ask, timer_of}
-use Rattle.wb_kept_progress.proofs.Becoming.{held_on, lacked_before}
-use Rattle.wb_kept_progress.proofs.CallParts.{calls_order, lacked_until}
+use Rattle.wb_kept_progress.proofs.Becoming.{held_on, lacked_before, lacked_first}
 use Rattle.wb_kept_progress.proofs.CallsInTime.{performed_is_timely}
 use Rattle.wb_kept_progress.proofs.KeptInTime.{front_of, holding, time_is}
 use Rattle.wb_kept_progress.proofs.Reached.{reached}
@@ -35,9 +34,6 @@ module _ (hosts : ℕ → Opening) (terms : Terms) (trace : List TimedLine) (sin
 
   timely : IsTimely starts terms (performed hosts trace)
   timely = performed_is_timely hosts terms trace session
-
-  ordered : (newer part : List TimedLine) → trace ≡ newer ++ part → AreCalledInOrder part
-  ordered newer part split = calls_order newer part (subst AreCalledInOrder split session.order)
 
   -- ---- what is asked for comes
 
@@ -64,22 +60,13 @@ module _ (hosts : ℕ → Opening) (terms : Terms) (trace : List TimedLine) (sin
     first : (x : NameValue) → Contains names x → IsLackedAt hosts terms trace (until (settled_by terms) (performed hosts trace)) (record { place = i; name = x })
     then : (x : NameValue) → Contains names x → (x ≡ n) ⊎ (holds (there hosts part i).host x ≡ true)
 
-  lacked_first : (newer part : List TimedLine) (i : ℕ) (n : NameValue) → trace ≡ newer ++ part → start < called_at part → Contains terms.live i → IsHeldBySome hosts terms trace n → holds (there hosts part i).host n ≡ false
-      → IsLackedAt hosts terms trace (until (settled_by terms) (performed hosts trace)) (record { place = i; name = n })
-  lacked_first newer part i n split late live held lacks = (
-    live,
-    held,
-    subst (λ (t : List TimedLine). holds (host_then hosts (until (settled_by terms) (performed hosts t)) i) n ≡ false) (sym split)
-        (lacked_until hosts newer part (settled_by terms) i n (subst AreCalledInOrder split session.order) (omega (arith, late)) lacks),
-  )
-
   have_come : (k : ℕ) (newer part : List TimedLine) (i : ℕ) (n : NameValue) → trace ≡ newer ++ part → at_round k < called_at part → Contains terms.live i → IsHeldBySome hosts terms trace n → holds (there hosts part i).host n ≡ false → HaveCome part i n k
   have_come zero newer part i n split late live held lacks = record {
     names = n ∷ [];
     apart = (λ c. absurd (Contains-none n c), tt);
     count = one_name places;
     first = λ x c. ⊎_elim
-        (λ (same : n ≡ x). subst (λ (y : NameValue). IsLackedAt hosts terms trace (until (settled_by terms) (performed hosts trace)) (record { place = i; name = y })) same (lacked_first newer part i n split (omega (arith, late)) live held lacks))
+        (λ (same : n ≡ x). subst (λ (y : NameValue). IsLackedAt hosts terms trace (until (settled_by terms) (performed hosts trace)) (record { place = i; name = y })) same (lacked_first hosts terms trace newer part i n session.order split (omega (arith, late)) live held lacks))
         (λ (none : Contains [] x). absurd (Contains-none x none))
         (Contains-cases n x [] c);
     then = λ x c. ⊎_elim (λ (same : n ≡ x). inl (sym same)) (λ (none : Contains [] x). absurd (Contains-none x none)) (Contains-cases n x [] c);
@@ -114,7 +101,7 @@ module _ (hosts : ℕ → Opening) (terms : Terms) (trace : List TimedLine) (sin
                     (h.then x old));
                 count = let all = length-append a.names h.names in let one = a.count in let other = h.count in omega (arith, all, one, other);
                 first = λ x c. ⊎_elim
-                    (λ (new : Contains a.names x). lacked_first (newer ++ window) base i x whole (omega (arith, from)) live (a.held x new) (asked_lacked hosts base i x (a.asked x new)))
+                    (λ (new : Contains a.names x). lacked_first hosts terms trace (newer ++ window) base i x session.order whole (omega (arith, from)) live (a.held x new) (asked_lacked hosts base i x (a.asked x new)))
                     (λ (old : Contains h.names x). h.first x old)
                     (Contains-append_cases a.names h.names x c);
                 then = λ x c. ⊎_elim

@@ -3,7 +3,7 @@ use Rattle.std.proofs.Common.{◌≡◌, ℕ, Bool, true, false, cond, List, [],
 use Rattle.std.specs.Prelude.{◌⊎◌, Contains, IfSome}
 use Rattle.std.specs.List.{cons_option, filter_map}
 use Rattle.std.specs.Option.{option_map}
-use Rattle.wb_names.specs.Arrivals.{Outcome, Fresh, Known, Clashed, Left}
+use Rattle.wb_names.specs.Arrivals.{Outcome, New, Again, Clash, Left}
 use Rattle.wb_names.specs.Orders.{same_name}
 use Rattle.wb_names.specs.Values.{DrawopValue, NameValue}
 use Rattle.wb_names.proofs.Listings.{Contains-here, Contains-there}
@@ -64,9 +64,9 @@ module _ (P : Datagram → Type 0) where
       by (Some d) it rest = (it, rest)
 
     said_is : (d : DrawopValue) (o : Outcome) → P (Draw d) → Every P (said_where d o)
-    said_is d (Fresh place) is = (is, tt)
-    said_is d (Known place) is = (is, tt)
-    said_is d (Clashed place) is = tt
+    said_is d (New place) is = (is, tt)
+    said_is d (Again place) is = (is, tt)
+    said_is d (Clash place) is = tt
     said_is d Left is = tt
 
     no_answer : (room : Bool) → Every P (cond room [] [])

@@ -4,7 +4,7 @@ use Rattle.std.specs.Prelude.{filter}
 use Rattle.std.specs.List.{cons_option, filter_map}
 use Rattle.std.specs.Option.{option_map}
 use Rattle.std.proofs.lemmas.List.Elements.{filter-append}
-use Rattle.wb_names.specs.Arrivals.{Outcome, Fresh, Known, Clashed, Left}
+use Rattle.wb_names.specs.Arrivals.{Outcome, New, Again, Clash, Left}
 use Rattle.wb_names.specs.Values.{DrawopValue, NameValue}
 use Rattle.wb_codec.specs.declared.datagram.Datagram.{Datagram}
 use Rattle.wb_codec.specs.declared.datagram.Datagram.TheVariants.{AskPages, Draw, PageState, Request, Session}
@@ -105,9 +105,9 @@ module _ (kind : Datagram → Bool) (requests : (asker : ℕ) (name : NameValue)
     by (Some d) rest = not_this (Draw d) _ (drawops d) ∙ rest
 
   said_kind : (d : DrawopValue) (o : Outcome) → how_many kind (said_where d o) ≡ 0
-  said_kind d (Fresh place) = not_this (Draw d) [] (drawops d)
-  said_kind d (Known place) = not_this (Draw d) [] (drawops d)
-  said_kind d (Clashed place) = refl
+  said_kind d (New place) = not_this (Draw d) [] (drawops d)
+  said_kind d (Again place) = not_this (Draw d) [] (drawops d)
+  said_kind d (Clash place) = refl
   said_kind d Left = refl
 
   no_answer : (room : Bool) → how_many kind (cond room [] []) ≡ 0

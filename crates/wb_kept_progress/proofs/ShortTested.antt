@@ -1,5 +1,5 @@
 -- A test of the distances of a session that computes, and what it tells: none is above a bound of its own.
-use Rattle.std.proofs.Common.{◌≡◌, ℕ, ◌≤◌, Bool, true, false, ◌&&◌, cond, List, [], ◌∷◌, ◌++◌, eqb-true, nat_eq, nat_le, refl, subst}
+use Rattle.std.proofs.Common.{◌≡◌, ℕ, ◌≤◌, Bool, true, false, ◌&&◌, cond, List, [], ◌∷◌, ◌++◌, eqb-true, nat_eq, nat_le, refl, subst, sym}
 use Rattle.std.specs.Prelude.{Option, None, Some, unwrap_or}
 use Rattle.std.specs.List.{find}
 use Rattle.std.specs.Option.{option_or}
@@ -11,11 +11,14 @@ use Rattle.wb_keeper.specs.Keeper.{delay_given, distance_by, is_own, newest}
 use Rattle.wb_member.specs.Judged.{delay}
 use Rattle.wb_member.specs.Opened.{Opened, has_room_for, heard, may_ask, opened_with, present}
 use Rattle.wb_keeping.specs.Kept.{Line, Arrives, Asks, Hears, Says, SetsDistance, Stops, Ticks, Tunes}
-use Rattle.wb_keeping.specs.Performing.{after_line}
+use Rattle.wb_keeping.specs.Laws.{doing_of}
+use Rattle.wb_keeping.specs.Performing.{Keeping, after_doing, after_line, after_lines, sees}
 use Rattle.wb_keeping.proofs.KeptDistances.{AreSo, ticks_so}
 use Rattle.wb_keeping.proofs.SpacedLines.{either_host, missing}
 use Rattle.wb_kept_progress.specs.Sessions.{Opening}
-use Rattle.wb_kept_progress.specs.Timed.{GoByShort, Performed, TimedLine, host_after, performed, start_of}
+use Rattle.wb_kept_progress.specs.Timed.{GoByShort, TimedLine, performed, start_of}
+use Rattle.wb_kept_progress.specs.Whole.{there}
+use Rattle.wb_kept_progress.proofs.CallLines.{host_before, lines_have_calls}
 
 module _ (hosts : ℕ → Opening) (terms : Terms) where
   abbrev IsNear : ℕ → Type 0
@@ -45,9 +48,17 @@ module _ (hosts : ℕ → Opening) (terms : Terms) where
   line_near host (Tunes constants) = true
   line_near host (Says v) = true
 
-  abbrev pub lines_near : List Performed → Bool
-  lines_near [] = true
-  lines_near (e ∷ older) = line_near (host_after (λ j. start_of (hosts j)) older e.place) e.line && lines_near older
+  -- lines, one after the other, and those of each call
+  abbrev told_near : List Line → Opened → Bool
+  told_near [] host = true
+  told_near (line ∷ lines) host = line_near host line && told_near lines (after_line line host)
+
+  abbrev call_near : TimedLine → Keeping → Bool
+  call_near e k = told_near (doing_of e.at.line (sees k.host) k.policy).lines k.host
+
+  abbrev pub calls_near : List TimedLine → Bool
+  calls_near [] = true
+  calls_near (e ∷ older) = call_near e (there hosts older e.at.place) && calls_near older
 
   -- ---- what it tells of distances
 
@@ -96,25 +107,43 @@ module _ (hosts : ℕ → Opening) (terms : Terms) where
   after_near (Says (AskPages asker)) host near so = so
   after_near (Says (PageState sender page marks)) host near so = so
 
+  all_near : (lines : List Line) (host : Opened) → told_near lines host ≡ true → AreSo IsNear host → AreSo IsNear (after_lines lines host)
+  all_near [] host near so = so
+  all_near (line ∷ lines) host near so =
+      let p = and_parts (line_near host line) _ near in
+      all_near lines (after_line line host) p.1 (after_near line host p.0 so)
+
+  near_at : (one other : List Line) (line : Line) (host : Opened) → told_near (one ++ line ∷ other) host ≡ true → AreSo IsNear host → AreSo IsNear (after_lines one host)
+  near_at [] other line host near so = so
+  near_at (first ∷ one) other line host near so =
+      let p = and_parts (line_near host first) _ near in
+      near_at one other line (after_line first host) p.1 (after_near first host p.0 so)
+
+  near_before : (newer older : List TimedLine) → calls_near (newer ++ older) ≡ true → calls_near older ≡ true
+  near_before [] older near = near
+  near_before (e ∷ newer) older near = near_before newer older (and_parts (call_near e (there hosts (newer ++ older) e.at.place)) _ near).1
+
   module _ (unknown : 100000 ≤ terms.far) where
-    are_near : (back : List Performed) → lines_near back ≡ true → (i : ℕ) → AreSo IsNear (host_after (λ j. start_of (hosts j)) back i)
+    are_near : (calls : List TimedLine) → calls_near calls ≡ true → (i : ℕ) → AreSo IsNear (there hosts calls i).host
     are_near [] near i = ticks_so IsNear (hosts i).moments (opened_with (hosts i).constants (hosts i).number (hosts i).cells (hosts i).seed) (λ source. unknown)
-    are_near (e ∷ older) near i = by (nat_eq e.place i) refl (are_near older p.1 i) where
-      p : (line_near (host_after (λ j. start_of (hosts j)) older e.place) e.line ≡ true) × (lines_near older ≡ true)
+    are_near (e ∷ older) near i = by (nat_eq e.at.place i) refl (are_near older p.1 i) where
+      k : Keeping
+      k = there hosts older i
+
+      p : (call_near e (there hosts older e.at.place) ≡ true) × (calls_near older ≡ true)
       p = and_parts _ _ near
 
-      by : (b : Bool) → nat_eq e.place i ≡ b → AreSo IsNear (host_after (λ j. start_of (hosts j)) older i)
-          → AreSo IsNear (cond b (after_line e.line (host_after (λ j. start_of (hosts j)) older i)) (host_after (λ j. start_of (hosts j)) older i))
-      by true here so =
-          let near = subst (λ (k : ℕ). line_near (host_after (λ j. start_of (hosts j)) older k) e.line ≡ true) (eqb-true e.place i here) p.0 in
-          after_near e.line (host_after (λ j. start_of (hosts j)) older i) near so
+      by : (b : Bool) → nat_eq e.at.place i ≡ b → AreSo IsNear (there hosts older i).host → AreSo IsNear (cond b (after_doing (doing_of e.at.line) (there hosts older i)) (there hosts older i)).host
+      by true here so = all_near (doing_of e.at.line (sees k.host) k.policy).lines k.host (subst (λ (j : ℕ). call_near e (there hosts older j) ≡ true) (eqb-true e.at.place i here) p.0) so
       by false apart so = so
 
-    near_before : (newer older : List Performed) → lines_near (newer ++ older) ≡ true → lines_near older ≡ true
-    near_before [] older near = near
-    near_before (e ∷ newer) older near = near_before newer older (and_parts _ _ near).1
-
-    pub go_by_short : (trace : List TimedLine) → lines_near (performed hosts trace) ≡ true → GoByShort (λ j. start_of (hosts j)) terms (performed hosts trace)
-    go_by_short trace near newer older e source split live goes =
-        let here = near_before newer (e ∷ older) (subst (λ (lines : List Performed). lines_near lines ≡ true) split near) in
-        are_near older (and_parts _ _ here).1 e.place source
+    pub go_by_short : (trace : List TimedLine) → calls_near trace ≡ true → GoByShort (λ j. start_of (hosts j)) terms (performed hosts trace)
+    go_by_short trace near newer older x source split live goes =
+        let c = lines_have_calls hosts trace newer x older split in
+        let k = there hosts c.older c.e.at.place in
+        let here = near_before c.newer (c.e ∷ c.older) (subst (λ (calls : List TimedLine). calls_near calls ≡ true) c.split near) in
+        let p = and_parts (call_near c.e k) _ here in
+        let told = subst (λ (lines : List Line). told_near lines k.host ≡ true) c.lines p.0 in
+        let so = near_at c.before c.later x.line k.host told (are_near c.older p.1 c.e.at.place) in
+        let back = subst (AreSo IsNear) (sym (host_before hosts trace x older c)) so in
+        back source

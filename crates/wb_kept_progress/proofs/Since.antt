@@ -30,15 +30,11 @@ use Rattle.wb_kept_progress.proofs.InCrowds.{sessions_become_whole_in_crowds}
 use Rattle.wb_kept_progress.proofs.Promised.{sessions_become_whole}
 use Rattle.wb_kept_progress.proofs.Rounds.{sessions_become_whole_by_rounds}
 use Rattle.wb_kept_progress.proofs.CallParts.{calls_end}
-use Rattle.wb_kept_progress.proofs.Starts.{are_fit, are_taken, is_kept, onto, same_opening, without}
+use Rattle.wb_kept_progress.proofs.Starts.{are_fit, are_taken, is_kept, onto, same_either, same_opening, without}
 use Rattle.wb_kept_progress.proofs.Starts as lines
 
 abbrev timed_line : ℕ → ℕ → KeptLine → TimedLine
 timed_line time place line = record { time = time; at = at place line }
-
-same_either : {A : Type 0} (b : Bool) (x : A) → cond b x x ≡ x
-same_either true x = refl
-same_either false x = refl
 
 -- ---- the same lines without their times
 
@@ -522,34 +518,33 @@ holding_since numbers terms calls newer (e ∷ older) time i n s comes after spl
       all : holds (there (hosts_of numbers calls) (since numbers (e ∷ older)) i).host n ≡ true
       all = comes (timed_of numbers newer are) (since numbers (e ∷ older)) i parted (subst (λ (t : List TimedLine). time < timed.called_at t) (sym (since_one numbers e older one)) late) live
 
+-- a time when a session is whole is no earlier than its quiet
+pub quiet_first : (q d m w r first x : ℕ) → q ≤ max (q + d + d + m + 1 + w + r) first + x
+quiet_first q d m w r first x = omega arith
+
+pub quiet_first_more : (q d m w r first x y : ℕ) → q ≤ max (q + d + d + m + 1 + w + r) first + x + y
+quiet_first_more q d m w r first x y = omega arith
+
 pub restarted_become_whole : RestartedBecomeWhole
 restarted_become_whole numbers terms calls newer later sizes wait most i n s within soon waits lacks short held split late live =
     holding_since numbers terms calls newer later (whole.whole_by terms sizes wait most) i n s
     (sessions_become_whole (hosts_of numbers calls) terms (since numbers calls) sizes wait most n (since_is_timely numbers terms calls s) within soon waits lacks short held)
-    (after terms.quiet terms.delivery _ wait _ sizes.since _) split late live where
-      after : (q d m w r first x : ℕ) → q ≤ max (q + d + d + m + 1 + w + r) first + x
-      after q d m w r first x = omega arith
+    (quiet_first terms.quiet terms.delivery _ wait _ sizes.since _) split late live
 
 pub restarted_become_whole_by_rounds : RestartedBecomeWholeByRounds
 restarted_become_whole_by_rounds numbers terms calls newer later from pause wait most places rounds i n s reports waits lacks kept filled enough held split late live =
     holding_since numbers terms calls newer later (rounds_by terms from pause wait rounds) i n s
     (sessions_become_whole_by_rounds (hosts_of numbers calls) terms (since numbers calls) from pause wait most places rounds n (since_is_timely numbers terms calls s) reports waits lacks kept filled enough held)
-    (after terms.quiet terms.delivery _ wait _ from _) split late live where
-      after : (q d m w r first x : ℕ) → q ≤ max (q + d + d + m + 1 + w + r) first + x
-      after q d m w r first x = omega arith
+    (quiet_first terms.quiet terms.delivery _ wait _ from _) split late live
 
 pub restarted_become_whole_in_crowds : RestartedBecomeWholeInCrowds
 restarted_become_whole_in_crowds numbers terms calls newer later from wait most places bringing crowded i n s waits lacks filled brings enough held split late live =
     holding_since numbers terms calls newer later (crowded_by terms from wait (bringing + crowded)) i n s
     (sessions_become_whole_in_crowds (hosts_of numbers calls) terms (since numbers calls) from wait most places bringing crowded n (since_is_timely numbers terms calls s) waits lacks filled brings enough held)
-    (after terms.quiet terms.delivery _ wait _ from _ _) split late live where
-      after : (q d m w r first x y : ℕ) → q ≤ max (q + d + d + m + 1 + w + r) first + x + y
-      after q d m w r first x y = omega arith
+    (quiet_first_more terms.quiet terms.delivery _ wait _ from _ _) split late live
 
 pub restarted_fill_holes : RestartedFillHoles
 restarted_fill_holes numbers terms calls newer later from wait most crowded i n s waits lacks holes_held only enough held split late live =
     holding_since numbers terms calls newer later (filled_by terms from wait (most + crowded)) i n s
     (holes_are_filled (hosts_of numbers calls) terms (since numbers calls) from wait most crowded n (since_is_timely numbers terms calls s) waits lacks holes_held only enough held)
-    (after terms.quiet terms.delivery _ wait _ _ _ _) split late live where
-      after : (q d m w r first x y : ℕ) → q ≤ max (q + d + d + m + 1 + w + r) first + x + y
-      after q d m w r first x y = omega arith
+    (quiet_first_more terms.quiet terms.delivery _ wait _ _ _ _) split late live

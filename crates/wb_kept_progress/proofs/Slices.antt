@@ -5,7 +5,7 @@ use Rattle.std.specs.Cmp.{nat_cmp_total}
 use Rattle.std.specs.List.Sorted.{IsStrictlySortedBy}
 use Rattle.std.specs.Ordering.{nat_cmp}
 use Rattle.std.specs.declared.cmp.Ordering.TheVariants.{Less}
-use Rattle.std.proofs.lemmas.Bool.{false_from_ne_true, lt-ltb, ltb-true}
+use Rattle.std.proofs.lemmas.Bool.{false_from_ne_true, ltb-true}
 use Rattle.std.proofs.lemmas.Bool.Decides.{nat_tests}
 use Rattle.std.proofs.lemmas.Grind.{common_steps}
 use Rattle.std.proofs.lemmas.Map.Keys.{sorted_head, sorted_tail}
@@ -17,6 +17,7 @@ use Rattle.wb_gaps.specs.Answers.{report_of, sources_of, top_mark}
 use Rattle.wb_gaps.proofs.Sorting.{sorted_rises}
 use Rattle.wb_policy.specs.Choices.{last_source}
 use Rattle.wb_policy.specs.Reports.{is_untold}
+use Rattle.wb_policy.proofs.ToldMarks.{higher}
 use Rattle.wb_kept_progress.proofs.PagesInTurn.{fewer_where, sum_where}
 
 -- ---- marks that ascend from a source on
@@ -24,10 +25,6 @@ use Rattle.wb_kept_progress.proofs.PagesInTurn.{fewer_where, sum_where}
 abbrev pub Rise : Option ℕ → List MarkValue → Type 0
 Rise told [] = Unit {0}
 Rise told (m ∷ marks) = (is_untold told m.source ≡ true) × Rise (Some m.source) marks
-
-higher : (told : Option ℕ) (a n : ℕ) → is_untold told a ≡ true → nat_lt a n ≡ true → is_untold told n ≡ true
-higher None a n e f = refl
-higher (Some t) a n e f = let one = ltb-true t a e in let other = ltb-true a n f in lt-ltb t n (omega (arith, one, other))
 
 lower : (other told : Option ℕ) (marks : List MarkValue) → ((n : ℕ) → is_untold other n ≡ true → is_untold told n ≡ true) → Rise other marks → Rise told marks
 lower other told [] less rises = tt

@@ -34,6 +34,10 @@ abbrev pub onto : ℕ → List KeptLine → List LineAt → List LineAt
 onto p [] lines = lines
 onto p (line ∷ more) lines = onto p more (at p line ∷ lines)
 
+pub same_either : {A : Type 0} (b : Bool) (x : A) → cond b x x ≡ x
+same_either true x = refl
+same_either false x = refl
+
 module _ (numbers : ℕ → ℕ) where
   abbrev pub lines_by : ℕ → Call → List LineAt → List LineAt
   lines_by p (Begins o given) lines = onto p (given_lines (openings.opened (numbers p) o) given) (without p lines)
@@ -97,10 +101,6 @@ module _ (numbers : ℕ → ℕ) where
         (subst (AreLinesTaken given) (sym (same_place h p line lines)) given_are.1) (given_are.0, taken)
 
   -- ---- the same hosts
-
-  same_either : {A : Type 0} (b : Bool) (x : A) → cond b x x ≡ x
-  same_either true x = refl
-  same_either false x = refl
 
   abbrev call_at : ℕ → ℕ → Call → CallAt
   call_at time p call = record { time = time; place = p; call = call }

@@ -27,14 +27,15 @@ use Rattle.wb_kept_progress.proofs.AskedInCalls.{AreTold, AsksFor, IsMore, hears
 
 -- ---- the moment of a call
 
+pub line_now : (line : Line) (host : Opened) → IsNoTick line → present (after_line line host) ≡ present host
+line_now line host none = ⊎_elim
+    (λ (same : present (after_line line host) ≡ present host). same)
+    (λ (t : (now : ℕ) × (line ≡ Ticks now) × (present (after_line line host) ≡ now)). absurd (subst IsNoTick t.1 none))
+    (line_moment line host)
+
 pub no_ticks_stand : (lines : List Line) (host : Opened) → AreNoTicks lines → present (after_lines lines host) ≡ present host
 no_ticks_stand [] host none = refl
-no_ticks_stand (line ∷ lines) host none =
-    no_ticks_stand lines (after_line line host) none.1
-    ∙ ⊎_elim
-    (λ (e : present (after_line line host) ≡ present host). e)
-    (λ (t : (now : ℕ) × (line ≡ Ticks now) × (present (after_line line host) ≡ now)). absurd (subst IsNoTick t.1 none.0))
-    (line_moment line host)
+no_ticks_stand (line ∷ lines) host none = no_ticks_stand lines (after_line line host) none.1 ∙ line_now line host none.0
 
 begun_now : (now : ℕ) (d : Doing) (host : Opened) → Begins now d → present (after_lines d.lines host) ≡ now
 begun_now now d host b = ap (λ (lines : List Line). present (after_lines lines host)) b.is ∙ no_ticks_stand b.rest (after_line (Ticks now) host) b.none

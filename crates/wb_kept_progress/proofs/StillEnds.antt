@@ -31,7 +31,7 @@ use Rattle.wb_kept_progress.proofs.Crowds.{IsCrowd}
 use Rattle.wb_kept_progress.proofs.Handed.{after_handed, handed, performs_in, taken_handed}
 use Rattle.wb_kept_progress.proofs.OwedAndDue.{near_there, now_there, taken_of}
 use Rattle.wb_kept_progress.proofs.Owing.{asked_since}
-use Rattle.wb_kept_progress.proofs.RoundCounts.{IsThen, then_at}
+use Rattle.wb_kept_progress.proofs.RoundCounts.{IsThen, one_more, then_at}
 use Rattle.wb_kept_progress.proofs.StillOne.{IsAwake, awake_on, gives_up, same_then}
 use Rattle.wb_kept_progress.proofs.WindowParts.{calls_past}
 
@@ -60,9 +60,7 @@ module _ (hosts : ℕ → Opening) (terms : Terms) (trace : List TimedLine) (wai
   at j = from + j * span
 
   next_at : (j : ℕ) → at (suc j) ≡ at j + span
-  next_at j = one_more from j span where
-    one_more : (from j span : ℕ) → from + suc j * span ≡ from + j * span + span
-    one_more from j span = let product : suc j * span ≡ j * span + span = omega arith in omega (arith, product)
+  next_at j = one_more from j span
 
   upto : trace ≡ (newer ++ e ∷ []) ++ (window ++ base)
   upto = split ∙ sym (append_assoc newer (e ∷ []) (window ++ base))

@@ -1,8 +1,7 @@
 -- While nothing new comes, a host does not ask for long for what another holds: what it asks for comes, or is given up, and then it asks for
 -- something greater that another holds.
-use Rattle.std.proofs.Common.{◌≡◌, ℕ, zero, suc, ◌+◌, ◌-◌, ◌*◌, ◌<◌, ◌≤◌, Bool, true, false, List, [], ◌∷◌, ◌++◌, ◌∙◌, Option, Some, None, ap, append_assoc, arith, inl, inr, length, max, mul-le-mul, refl, subst, sym, true≢false, ⊎_elim}
+use Rattle.std.proofs.Common.{◌≡◌, ℕ, zero, suc, ◌+◌, ◌-◌, ◌*◌, ◌<◌, ◌≤◌, Bool, true, false, List, [], ◌∷◌, ◌++◌, ◌∙◌, Option, Some, ap, append_assoc, arith, inl, inr, length, max, mul-le-mul, refl, subst, sym, true≢false, ⊎_elim}
 use Rattle.std.specs.Prelude.{◌⊎◌, ◌≢◌, Contains, IfSome, nat_le}
-use Rattle.std.specs.Ordering.{ordering_reverse}
 use Rattle.std.specs.declared.cmp.Ordering.TheVariants.{Less}
 use Rattle.std.proofs.lemmas.Bool.{leb-false, leb-true}
 use Rattle.std.proofs.lemmas.List.Elements.{Contains-append_right}
@@ -14,7 +13,7 @@ use Rattle.wb_recovery.specs.declared.timers.AskTimer.{AskTimer}
 use Rattle.wb_recovery.specs.declared.tuning.Tuning.{Tuning}
 use Rattle.wb_progress.specs.InTime.{AreApart, known_from, repairing}
 use Rattle.wb_progress.specs.Turns.{Terms, settled_by}
-use Rattle.wb_progress.proofs.NamesApart.{most_are, less_greater}
+use Rattle.wb_progress.proofs.NamesApart.{most_are}
 use Rattle.wb_member.specs.Judged.{holds, level}
 use Rattle.wb_member.specs.Opened.{Opened}
 use Rattle.wb_keeper.specs.Keeper.{holds as history_holds}
@@ -30,6 +29,7 @@ use Rattle.wb_kept_progress.specs.Whole.{AreCalledInOrder, IsHeldBySome, IsLacke
 use Rattle.wb_kept_progress.proofs.AskedComes.{asked_comes}
 use Rattle.wb_kept_progress.proofs.AskedSince.{WasAsked, was_asked}
 use Rattle.wb_kept_progress.proofs.CallParts.{calls_end, calls_order, host_is, lacked_until, lines_order}
+use Rattle.wb_kept_progress.proofs.Crowds.{none_below}
 use Rattle.wb_kept_progress.proofs.KeptInTime.{front_of, time_is}
 use Rattle.wb_kept_progress.proofs.Moments.{IsTuned, moment_of}
 use Rattle.wb_kept_progress.proofs.Timely.{before_end, held_later, in_past, none_held, order_of}
@@ -37,16 +37,14 @@ use Rattle.wb_kept_progress.proofs.TurnsHad.{AreOrdinary, Had, had}
 use Rattle.wb_kept_progress.proofs.WholeParts.{AsksHaveCause, HasTurn, IsOfCall, LinesHaveCalls, PerformedIsTimely, StillnessEnds, StopsHaveCause, TimersAreYoung, does}
 use Rattle.wb_kept_progress.proofs.WindowParts.{IsInWindow, in_window, line_by, told_in, two_parts}
 use Rattle.wb_kept_progress.proofs.YoungestAsked.{Others, new_level, new_timer, others}
-use Rattle.std.proofs.lemmas.Option.{same_Some}
+use Rattle.std.proofs.lemmas.Option.{none-some, same_Some}
+use Rattle.std.proofs.Math.Nat.{le_refl}
 
 -- what a call asks for that only changes constants
 tunes_only : (constants : Tuning) (n : NameValue) → Contains (Tunes constants ∷ []) (Asks n) → ⊥
 tunes_only constants n c = ⊎_elim (λ (e : Tunes constants ≡ Asks n). other e) (λ (none : Contains [] (Asks n)). Contains-none (Asks n) none) (Contains-cases (Tunes constants) (Asks n) [] c) where
   other : Tunes constants ≡ Asks n → ⊥
   other e = cc
-
-none_below : (n : NameValue) → name_cmp n n ≡ Less → ⊥
-none_below n e = less_greater (sym e ∙ name_total.antisymm n n ∙ ap ordering_reverse e)
 
 few_turns : (from now span drift turns : ℕ) → from + span ≡ now → span + drift ≤ 60000000 → from + turns * 1000000 ≤ now + drift + 1000000 → turns ≤ 61
 few_turns from now span drift turns is short few = omega (arith, is, short, few)
@@ -101,15 +99,12 @@ module _ (hosts : ℕ → Opening) (terms : Terms) (trace newest window base : L
 
     lacked_base : holds (there hosts base i).host n ≡ false
     lacked_base = ap (λ (h : Opened). holds h n) (sym (host_is hosts base i)) ∙ by (holds (host_then hosts (performed hosts base) i) n) refl where
-      none_some : (o : Option AskTimer) → o ≡ None → o ≡ Some ask → ⊥
-      none_some o e f = cc
-
       by : (b : Bool) → holds (host_then hosts (performed hosts base) i) n ≡ b → b ≡ false
       by false e = refl
       by true e =
           let later = held_later starts within.0 (performed hosts base) i n e in
           let held : holds (host_then hosts back i) n ≡ true = ap (λ (l : List Performed). holds (host_then hosts l i) n) within.1 ∙ later in
-          absurd (none_some (timer_then hosts back i n) (none_held starts back i n held) stands)
+          absurd (none-some ask (sym (none_held starts back i n held) ∙ stands))
 
     lacked_whole : holds (host_then hosts lines i) n ≡ false
     lacked_whole =
@@ -470,9 +465,7 @@ stillness_ends young leads timely_so keeps hosts terms trace newest window base 
     at_most (called_at (window ++ base)) (time_of back) (request_span terms) (repairing terms) 1 sizes.gives (omega (arith, le)) kept.0)
     are.soon.gives where
       at_most : (end back span repair few many : ℕ) → end ≤ back + few * span + repair → few ≤ many → end ≤ back + many * span + repair
-      at_most end back span repair few many le more = let product = mul-le-mul more (same span) in omega (arith, le, product) where
-        same : (n : ℕ) → n ≤ n
-        same n = omega arith
+      at_most end back span repair few many le more = let product = mul-le-mul more (le_refl span) in omega (arith, le, product)
 
       none_yet : (n : ℕ) → n ≤ 0 + n
       none_yet n = omega arith

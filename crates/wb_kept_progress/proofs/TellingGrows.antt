@@ -6,7 +6,7 @@ use Rattle.std.proofs.lemmas.Bool.{and_from, and_parts, le-leb, leb-true, lt-ltb
 use Rattle.wb_names.specs.Orders.{page_cmp, same_page}
 use Rattle.wb_names.specs.Values.{DrawopValue, MarkValue, NameValue}
 use Rattle.wb_names.specs.declared.name.PageId.{PageId}
-use Rattle.wb_names.proofs.Listings.{Contains-filter, Contains-from_filter, Contains-here, Contains-none, Contains-there}
+use Rattle.wb_names.proofs.Listings.{Contains-filter, Contains-from_filter, Contains-from_take, Contains-here, Contains-none, Contains-there}
 use Rattle.wb_names.proofs.Orders.{same_page-is}
 use Rattle.wb_gaps.specs.Answers.{pages_of, report_of, sources_of, top_mark}
 use Rattle.wb_gaps.proofs.HeldNumbers.{same_page-here}
@@ -14,7 +14,6 @@ use Rattle.wb_gaps.proofs.PageAnswers.{pages_of_history}
 use Rattle.wb_policy.specs.Choices.{last_source, until_in}
 use Rattle.wb_policy.specs.Fairness.{Told, after_telling, left_to_tell, marks_in_turn, page_in_turn, slices_of, slices_on, where_left}
 use Rattle.wb_policy.specs.Reports.{is_telling, is_untold, page_after, slice_after}
-use Rattle.wb_progress.proofs.NamesApart.{from_take}
 use Rattle.wb_kept_progress.specs.Telling.{AreGrowing, EachMarkIsToldOfGrowing, EndsAtMark, HasMark, after_growing}
 use Rattle.wb_kept_progress.proofs.Coming.{page_there, top_told}
 use Rattle.wb_kept_progress.proofs.PagesInTurn.{all_where, begins_behind, count_where, fewer_where, goes_on, is_between, next_page, one_where, reaches, sum_where}
@@ -188,7 +187,7 @@ module _ (whole : List DrawopValue) (to : PageId) (source : ℕ) where
 
       slice_among : (m : MarkValue) → Contains slice m → (x : MarkValue) × Contains (report_of whole page) x × (x.source ≡ m.source)
       slice_among m c =
-          let there = (Contains-from_filter (λ m. is_untold told m.source) (report_of held page) m (from_take 64 untold m c)).0 in
+          let there = (Contains-from_filter (λ m. is_untold told m.source) (report_of held page) m (Contains-from_take 64 untold m c)).0 in
           (top_mark whole page m.source, its_mark whole page m.source (mark_stays held whole page m.source grows (has_mark held page m there)), refl)
 
       fewer_left : above (last_source told slice) page + length slice ≤ above told page

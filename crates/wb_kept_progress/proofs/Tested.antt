@@ -1,13 +1,14 @@
 -- Tests of a session that compute, and what they tell: it keeps to the terms, and how much its boards have.
 use Rattle.std.proofs.Common.{◌≡◌, ◌≢◌, ◌⊎◌, ℕ, ◌+◌, ◌*◌, ◌-◌, ◌^◌, ◌<◌, ◌≤◌, Bool, true, false, not, ◌&&◌, ◌||◌, List, [], ◌∷◌, ◌++◌, ap, arith, eqb-true, inl, is_none, length, nat_eq, nat_le, nat_lt, refl, subst, sym, true≢false, ⊎_elim}
-use Rattle.std.specs.Prelude.{Contains, Option, None, Some}
-use Rattle.std.proofs.lemmas.Bool.{and_parts, leb-true, ltb-true, or_cases}
+use Rattle.std.specs.Prelude.{Contains}
+use Rattle.std.proofs.lemmas.Bool.{and_parts, leb-true, ltb-true, or_cases, not-true}
 use Rattle.std.proofs.lemmas.List.Elements.{Contains-append_right}
 use Rattle.wb_names.specs.Values.{DrawopValue}
 use Rattle.wb_names.specs.declared.name.PageId.{PageId}
 use Rattle.wb_names.specs.declared.parts.Op.{Op}
 use Rattle.wb_names.proofs.Listings.{Contains-here}
 use Rattle.wb_codec.specs.declared.datagram.Datagram.{Datagram}
+use Rattle.wb_judge.proofs.Stepping.{none_of}
 use Rattle.wb_recovery.specs.declared.tuning.Tuning.{Tuning}
 use Rattle.wb_gaps.specs.Holes.{holes_of}
 use Rattle.wb_gaps.specs.declared.holes.Hole.{Hole}
@@ -33,10 +34,6 @@ some_is : (i : ℕ) (is : List ℕ) → some (nat_eq i) is ≡ true → Contains
 some_is i is one =
     let p = some-at (nat_eq i) is one in
     subst (Contains is) (sym (eqb-true i p.x p.passes)) (in_middle is p.front p.x p.back p.split)
-
-pub none_so : {X : Type 0} (x : Option X) → is_none x ≡ true → x ≡ None
-none_so None so = refl
-none_so (Some x) so = absurd (true≢false (sym so))
 
 -- ---- lines
 
@@ -141,7 +138,7 @@ module _ (hosts : ℕ → Opening) (terms : Terms) where
   taken_so [] so = tt
   taken_so (e ∷ older) so =
       let p = and_parts (is_none (fault_of e.at.line (there hosts older e.at.place))) (taken older) so in
-      (none_so (fault_of e.at.line (there hosts older e.at.place)) p.0, taken_so older p.1)
+      (none_of (fault_of e.at.line (there hosts older e.at.place)) p.0, taken_so older p.1)
 
   -- each live host is called in time
   abbrev is_due : List TimedLine → ℕ → ℕ → Bool
@@ -274,7 +271,7 @@ module _ (hosts : ℕ → Opening) (terms : Terms) where
     delays = delays;
     alone = λ newer older e split late. some_is e.at.place terms.live (then_so e.time _ (line newer older e split).live late);
     drawn = λ newer older e now page time op split late is. not_drawn e.at.line (then_so e.time _ (line newer older e split).undrawn late) now page time op is;
-    room = λ newer older i split live late. not_so _ (each-at (is_free older) terms.live i (then_so (called_at older) _ (parts-at has_room trace newer older p.room split) late) live);
+    room = λ newer older i split live late. not-true _ (each-at (is_free older) terms.live i (then_so (called_at older) _ (parts-at has_room trace newer older p.room split) late) live);
     delivered = λ newer older e j v split live other late sent goes_on. inl (delivered newer older e j v split live other late sent goes_on);
     fresh = λ newer older e now v split late is. fresh_so older e now v (parts-at is_fresh trace newer (e ∷ older) p.fresh split) late is;
   } where
@@ -289,10 +286,6 @@ module _ (hosts : ℕ → Opening) (terms : Terms) where
 
     not_drawn : (l : KeptLine) → not (is_drawn l) ≡ true → (now : ℕ) (page : PageId) (time : ℕ) (op : Op) → l ≢ Added now page time op
     not_drawn l so now page time op is = true≢false (sym (subst (λ (m : KeptLine). not (is_drawn m) ≡ true) is so))
-
-    not_so : (b : Bool) → not b ≡ true → b ≡ false
-    not_so true so = absurd (true≢false (sym so))
-    not_so false so = refl
 
     delivered : (newer older : List TimedLine) (e : TimedLine) (j : ℕ) (v : Datagram) → trace ≡ newer ++ e ∷ older → Contains terms.live j → e.at.place ≢ j → terms.quiet < e.time → Contains (sends_then hosts older e) v → e.time + terms.delivery < called_at trace
         → IsHandedIn newer j (e.time + terms.delivery) v

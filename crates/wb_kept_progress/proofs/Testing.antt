@@ -1,14 +1,8 @@
 -- Tests of a list, of its parts and of its elements, which compute, and what they tell.
 use Rattle.std.proofs.Common.{◌≡◌, ◌⊎◌, ℕ, Bool, true, false, ◌&&◌, ◌||◌, List, [], ◌∷◌, ◌++◌, append-nil, append_assoc, ap, inl, inr, refl, subst, sym, ⊎_elim, true≢false}
-use Rattle.std.specs.Prelude.{Contains, drop, take}
+use Rattle.std.specs.Prelude.{Contains, not}
 use Rattle.std.proofs.lemmas.Bool.{and_from, and_parts, or_cases}
-use Rattle.std.proofs.lemmas.List.{take-append-drop}
 use Rattle.wb_names.proofs.Listings.{Contains-cases, Contains-none}
-
--- a list that is cut: what is in front, and what is behind
-pub record Cut (X : Type 0) : Type 0 where
-  pub front : List X
-  pub back : List X
 
 module _ {X : Type 0} where
   -- ---- elements
@@ -72,62 +66,19 @@ module _ {X : Type 0} where
   pub splits-at : (test : List X → X → List X → Bool) (xs newer : List X) (x : X) (older : List X) → splits test [] xs ≡ true → xs ≡ newer ++ x ∷ older → test newer x older ≡ true
   splits-at test xs newer x older all same = split_of test [] newer x older (subst (λ (ys : List X). splits test [] ys ≡ true) same all)
 
-  -- ---- a long list, in pieces
+  -- ---- two halves
 
-  abbrev pub uncut : List X → Cut X
-  uncut xs = record { front = []; back = xs }
-
-  -- k elements further
-  abbrev pub further : ℕ → Cut X → Cut X
-  further k c = record { front = c.front ++ take k c.back; back = drop k c.back }
-
-  module _ (test : List X → X → List X → Bool) where
-    -- each element of a list that others follow
-    abbrev each_of : (front newer older : List X) → Bool
-    each_of front [] older = true
-    each_of front (x ∷ newer) older = test front x (newer ++ older) && each_of (front ++ x ∷ []) newer older
-
-    -- each of the next elements
-    abbrev pub piece : ℕ → Cut X → Bool
-    piece k c = each_of c.front (take k c.back) (drop k c.back)
-
-    abbrev pub from_there : Cut X → Bool
-    from_there c = splits test c.front c.back
-
-    joined : (front newer older : List X) → each_of front newer older ≡ true → splits test (front ++ newer) older ≡ true → splits test front (newer ++ older) ≡ true
-    joined front [] older here rest = subst (λ (f : List X). splits test f older ≡ true) (append-nil front) rest
-    joined front (x ∷ newer) older here rest =
-        let p = and_parts (test front x (newer ++ older)) _ here in
-        and_from _ _ p.0 (joined (front ++ x ∷ []) newer older p.1 (subst (λ (f : List X). splits test f older ≡ true) (sym (append_assoc front (x ∷ []) newer)) rest))
-
-    pub cut : (k : ℕ) (c : Cut X) → piece k c ≡ true → from_there (further k c) ≡ true → from_there c ≡ true
-    cut k c here rest = subst (λ (xs : List X). splits test c.front xs ≡ true) (take-append-drop k c.back) (joined c.front (take k c.back) (drop k c.back) here rest)
-
-  -- ---- two tests at once
-
-  module _ (part : List X → Bool) (one : List X → X → List X → Bool) where
-    abbrev pub both : List X → X → List X → Bool
-    both front x xs = part (x ∷ xs) && one front x xs
-
-    pub both-parts : (front xs : List X) → splits both front xs ≡ true → part [] ≡ true → parts part xs ≡ true
-    both-parts front [] all none = none
-    both-parts front (x ∷ xs) all none =
-        let p = and_parts (both front x xs) _ all in
-        and_from _ _ (and_parts (part (x ∷ xs)) _ p.0).0 (both-parts (front ++ x ∷ []) xs p.1 none)
-
-    pub both-splits : (front xs : List X) → splits both front xs ≡ true → splits one front xs ≡ true
-    both-splits front [] all = refl
-    both-splits front (x ∷ xs) all =
-        let p = and_parts (both front x xs) _ all in
-        and_from _ _ (and_parts (part (x ∷ xs)) _ p.0).1 (both-splits (front ++ x ∷ []) xs p.1)
-
-  pub parts-and : (one other : List X → Bool) (xs : List X) → parts (λ (ys : List X). one ys && other ys) xs ≡ true → (parts one xs ≡ true) × (parts other xs ≡ true)
-  parts-and one other [] all = and_parts (one []) _ all
-  parts-and one other (x ∷ xs) all =
-      let p = and_parts (one (x ∷ xs) && other (x ∷ xs)) _ all in
-      let q = and_parts (one (x ∷ xs)) _ p.0 in
-      let r = parts-and one other xs p.1 in
-      (and_from _ _ q.0 r.0, and_from _ _ q.1 r.1)
+  -- So a long test may be made in two halves.
+  pub halved : (is : X → Bool) (test : List X → X → List X → Bool) (front xs : List X) → splits (λ f x ys. is x || test f x ys) front xs ≡ true
+      → splits (λ f x ys. not (is x) || test f x ys) front xs ≡ true → splits test front xs ≡ true
+  halved is test front [] one other = refl
+  halved is test front (x ∷ xs) one other =
+      let p = and_parts (is x || test front x xs) _ one in
+      let q = and_parts (not (is x) || test front x xs) _ other in
+      and_from _ _ (either (is x) (test front x xs) p.0 q.0) (halved is test (front ++ x ∷ []) xs p.1 q.1) where
+        either : (b c : Bool) → (b || c) ≡ true → (not b || c) ≡ true → c ≡ true
+        either true c p q = q
+        either false c p q = p
 
 -- ---- two places
 

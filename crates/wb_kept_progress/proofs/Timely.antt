@@ -1,7 +1,8 @@
 -- Hosts that keep to stated times are keepers that take turns in time.
 use Rattle.std.proofs.Common.{◌≡◌, ℕ, ◌+◌, ◌<◌, ◌≤◌, Bool, true, false, cond, List, [], ◌∷◌, ◌++◌, ◌∙◌, None, ap, append_assoc, arith, eqb-true, eq-eqb, inl, inr, max, refl, subst, sym, true≢false, ⊎_elim}
-use Rattle.std.specs.Prelude.{◌⊎◌, ◌≢◌, ◌||◌, Contains, is_some, nat_eq}
+use Rattle.std.specs.Prelude.{◌⊎◌, ◌≢◌, Contains, is_some, nat_eq}
 use Rattle.std.proofs.lemmas.List.Elements.{Contains-append_right}
+use Rattle.std.proofs.Math.Bool.{or-true}
 use Rattle.wb_names.specs.History.{IsHistory}
 use Rattle.wb_names.specs.Values.{DrawopValue, NameValue}
 use Rattle.wb_names.proofs.Listings.{Contains-cases, Contains-from_filter, Contains-here, Contains-none}
@@ -326,10 +327,7 @@ module _ (hosts : ℕ → Start) (terms : Terms) (trace : List Performed) (timel
             heard = subst (λ (t : List Turn). Accepts at t (turn_of hosts base c.arrival) call) (turns_join hosts c.between (e ∷ back)) accepts;
           } where
             hears_it : (g : Opened) (asker : ℕ) (m : NameValue) → (after_line (Hears (Request asker m)) g).is.calls ≡ Hear (present g) (Request asker m) (word_of g.random) (holds g.is.held m) ∷ g.is.calls
-            hears_it g asker m = ap (λ (b : Bool). (cond b (heard (Request asker m) g) g).is.calls) (room (is_own g.is.number (Request asker m))) where
-              room : (b : Bool) → (b || true) ≡ true
-              room true = refl
-              room false = refl
+            hears_it g asker m = ap (λ (b : Bool). (cond b (heard (Request asker m) g) g).is.calls) (or-true (is_own g.is.number (Request asker m)))
 
     -- ---- what comes was sent
 

@@ -1,5 +1,5 @@
 -- Behind a tick no timer that stands is due before its moment, and so it stays until the next tick.
-use Rattle.std.proofs.Common.{◌≡◌, ℕ, ◌+◌, ◌*◌, ◌^◌, ◌%◌, ◌≤◌, Bool, true, false, cond, List, [], ◌∷◌, ◌++◌, ◌∙◌, Option, Some, None, ap, arith, filter, leb-false, min, refl, subst, sym, true≢false, ⊎_elim}
+use Rattle.std.proofs.Common.{◌≡◌, ℕ, ◌+◌, ◌*◌, ◌^◌, ◌%◌, ◌≤◌, Bool, true, false, cond, List, [], ◌∷◌, ◌++◌, ◌∙◌, Option, Some, None, ap, arith, filter, leb-false, min, refl, subst, sym, true≢false}
 use Rattle.std.specs.Prelude.{◌&&◌, IfSome, is_none, is_some, nat_eq, nat_le}
 use Rattle.std.proofs.lemmas.Bool.{or_left, or_right}
 use Rattle.wb_names.specs.Orders.{same_name}
@@ -30,7 +30,7 @@ use Rattle.wb_policy.specs.Policy.{next_moment}
 use Rattle.wb_progress.specs.Turns.{AreNotOverdue}
 use Rattle.wb_kept_progress.proofs.Moments.{IsTold, IsTuned}
 use Rattle.wb_kept_progress.proofs.Performed.{AreNoTicks, Begins, IsNoTick, adds_begin, came_begins, ticks_begin}
-use Rattle.wb_kept_progress.proofs.PerLine.{line_moment}
+use Rattle.wb_kept_progress.proofs.StillCalls.{line_now}
 use Rattle.wb_progress.proofs.Parts.{heads, tails, nil_ends}
 
 -- ---- the timers of a name
@@ -152,12 +152,6 @@ line_ahead (Says (Session sender sent page marks echoes)) host none h = h
 line_ahead (Says (Request asker name)) host none h = h
 line_ahead (Says (AskPages asker)) host none h = h
 line_ahead (Says (PageState sender page marks)) host none h = h
-
-line_now : (line : Line) (host : Opened) → IsNoTick line → present (after_line line host) ≡ present host
-line_now line host none = ⊎_elim
-    (λ (same : present (after_line line host) ≡ present host). same)
-    (λ (t : (now : ℕ) × (line ≡ Ticks now) × (present (after_line line host) ≡ now)). absurd (subst IsNoTick t.1 none))
-    (line_moment line host)
 
 -- ---- in the middle of a call
 

@@ -4,11 +4,11 @@ use Rattle.std.specs.Prelude.{◌⊎◌, Contains, filter, nat_lt, take}
 use Rattle.std.specs.Option.{option_map}
 use Rattle.std.proofs.lemmas.Bool.{ltb-true}
 use Rattle.std.proofs.lemmas.List.Elements.{Contains-append_cases}
-use Rattle.wb_names.specs.Arrivals.{Outcome, Fresh, Known, Clashed, Left}
+use Rattle.wb_names.specs.Arrivals.{Outcome, New, Again, Clash, Left}
 use Rattle.wb_names.specs.History.{IsHeld, highest}
 use Rattle.wb_names.specs.Values.{DrawopValue, MarkValue, NameValue}
 use Rattle.wb_names.specs.declared.name.PageId.{PageId}
-use Rattle.wb_names.proofs.Listings.{Any-from_map, Contains-cases, Contains-from_filter, Contains-none}
+use Rattle.wb_names.proofs.Listings.{Any-from_map, Contains-cases, Contains-from_filter, Contains-from_take, Contains-none}
 use Rattle.wb_codec.specs.declared.datagram.Datagram.{Datagram}
 use Rattle.wb_codec.specs.declared.datagram.Datagram.TheVariants.{Draw, Session, Request, AskPages, PageState}
 use Rattle.wb_gaps.specs.Answers.{pages_of, report_of, reports_of, sources_of, top_mark}
@@ -19,7 +19,6 @@ use Rattle.wb_recovery.specs.declared.plan.Action.TheVariants.{Ask, Answer}
 use Rattle.wb_keeper.specs.Hearing.{answers_to, asks_for_pages, page_states}
 use Rattle.wb_keeper.specs.Ticks.{drawop_of, sent_for}
 use Rattle.wb_keeper.proofs.TickSends.{sent_from}
-use Rattle.wb_progress.proofs.NamesApart.{from_take}
 use Rattle.wb_member.specs.Opened.{Opened, becomes, has_room_for, present, sent_by}
 use Rattle.wb_policy.specs.Choices.{last_heard}
 use Rattle.wb_keeping.specs.Kept.{Arrives, Asks, Hears, Line, Says, SetsDistance, Tunes, Stops, Ticks, state_of, still, want}
@@ -80,7 +79,7 @@ report_held held page m c =
 pub slice_held : (held : List DrawopValue) (page : PageId) (told : Option ℕ) → AreHeld held page (slice_after told (report_of held page))
 slice_held held page told m c =
     let p : MarkValue → Bool = λ m. is_untold told m.source in
-    report_held held page m (Contains-from_filter p (report_of held page) m (from_take 64 (filter p (report_of held page)) m c)).0
+    report_held held page m (Contains-from_filter p (report_of held page) m (Contains-from_take 64 (filter p (report_of held page)) m c)).0
 
 -- ---- what a line sends
 
@@ -115,9 +114,9 @@ hear_tells heard host v c = by (has_room_for heard host) c where
   by false c = absurd (Contains-none v c)
 
 draw_tells : (me : ℕ) (held : List DrawopValue) (d : DrawopValue) (o : Outcome) (v : Datagram) → Contains (said_where d o) v → TellsHeld me held v
-draw_tells me held d (Fresh i) v c = subst (TellsHeld me held) (one_of (Draw d) v c) tt
-draw_tells me held d (Known i) v c = subst (TellsHeld me held) (one_of (Draw d) v c) tt
-draw_tells me held d (Clashed i) v c = absurd (Contains-none v c)
+draw_tells me held d (New i) v c = subst (TellsHeld me held) (one_of (Draw d) v c) tt
+draw_tells me held d (Again i) v c = subst (TellsHeld me held) (one_of (Draw d) v c) tt
+draw_tells me held d (Clash i) v c = absurd (Contains-none v c)
 draw_tells me held d Left v c = absurd (Contains-none v c)
 
 -- ---- lines that send nothing

@@ -6,7 +6,6 @@ use Rattle.wb_names.proofs.Listings.{Contains-cases, Contains-none}
 use Rattle.wb_keeper.specs.Keeper.{holds}
 use Rattle.wb_progress.specs.InTime.{AreApart}
 use Rattle.wb_progress.specs.Turns.{Terms}
-use Rattle.wb_progress.proofs.Parts.{tails}
 use Rattle.wb_kept_progress.specs.Sessions.{Opening}
 use Rattle.wb_kept_progress.specs.Telling.{HaveSlices, LastNumbersAreTold}
 use Rattle.wb_kept_progress.specs.Timed.{TimedLine, called_at, lines_of}
@@ -16,7 +15,7 @@ use Rattle.wb_kept_progress.proofs.Becoming.{held_on, lacked_before, one_gains}
 use Rattle.wb_kept_progress.proofs.NothingNew.{held_was_held}
 use Rattle.wb_kept_progress.proofs.Repairs.{held_once}
 use Rattle.wb_kept_progress.proofs.TopWindows as windows
-use Rattle.wb_kept_progress.proofs.WindowParts.{calls_past}
+use Rattle.wb_kept_progress.proofs.WindowParts.{in_window}
 
 module _ (told : LastNumbersAreTold) (hosts : ℕ → Opening) (terms : Terms) (trace : List TimedLine) (since wait slices pause crowds i : ℕ) (n : NameValue) (session : IsTimelySession hosts terms trace) (waits : WaitAtMost hosts terms trace wait)
     (reports : ReportWithin hosts terms trace since pause) (have : HaveSlices hosts terms trace slices) (holes_held : HolesAreHeld hosts terms trace) (enough : 64 * 250000 + (16000000 + terms.late) + crowds * (2 * request_span terms) < crowds * (64 * 250000))
@@ -41,27 +40,18 @@ module _ (told : LastNumbersAreTold) (hosts : ℕ → Opening) (terms : Terms) (
     pub first : (x : NameValue) → Contains names x → IsHeldBySome hosts terms trace x × (holds (there hosts base i).host.is.held x ≡ false)
     pub then : (x : NameValue) → Contains names x → (x ≡ n) ⊎ (holds (there hosts part i).host.is.held x ≡ true)
 
-  -- a part that goes on after the base ends in it
-  in_base : (newer : List TimedLine) (e : TimedLine) (part : List TimedLine) → trace ≡ newer ++ e ∷ part → called_at base < e.time → (window : List TimedLine) × (part ≡ window ++ base)
-  in_base newer e part split lt =
-      let p = calls_past newer (e ∷ part) newest base (sym split ∙ split_base) (subst AreCalledInOrder split session.order) lt in
-      by p.0 p.1 where
-        by : (middle : List TimedLine) → e ∷ part ≡ middle ++ base → (window : List TimedLine) × (part ≡ window ++ base)
-        by [] same = let is : e.time ≡ called_at base = ap called_at same in absurd (omega (arith, is, lt))
-        by (y ∷ middle) same = (middle, tails e y part (middle ++ base) same)
-
   at_first : (newer : List TimedLine) (e : TimedLine) (part : List TimedLine) → trace ≡ newer ++ e ∷ part → at_window 0 < e.time → holds (there hosts (e ∷ part) i).host.is.held n ≡ false → Gained part 0
   at_first newer e part split lt lacks =
-      let w = in_base newer e part split (omega (arith, lt)) in
+      let w = in_window newest base newer part e (sym split_base ∙ split) (subst AreCalledInOrder split_base session.order) (omega (arith, lt)) in
       record {
-        window = w.0;
-        is = w.1;
+        window = w.part;
+        is = w.older_is;
         names = n ∷ [];
         apart = (λ c. absurd (Contains-none n c), tt);
         count = refl;
         first = λ x c. ⊎_elim
             (λ (same : n ≡ x). subst (λ (y : NameValue). IsHeldBySome hosts terms trace y × (holds (there hosts base i).host.is.held y ≡ false)) same
-            (held, lacked_before hosts (e ∷ w.0) base i n (subst (λ (l : List TimedLine). holds (there hosts (e ∷ l) i).host.is.held n ≡ false) w.1 lacks)))
+            (held, lacked_before hosts (e ∷ w.part) base i n (subst (λ (l : List TimedLine). holds (there hosts (e ∷ l) i).host.is.held n ≡ false) w.older_is lacks)))
             (λ (none : Contains [] x). absurd (Contains-none x none))
             (Contains-cases n x [] c);
         then = λ x c. ⊎_elim (λ (same : n ≡ x). inl (sym same)) (λ (none : Contains [] x). absurd (Contains-none x none)) (Contains-cases n x [] c);

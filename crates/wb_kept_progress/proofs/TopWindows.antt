@@ -1,12 +1,10 @@
 -- In each window a live host that lacks the last number of a source, as another holds it, hears of it: the number comes, or the host asks for 64 names in the window.
-use Rattle.std.proofs.Common.{◌≡◌, ℕ, zero, suc, ◌+◌, ◌*◌, ◌<◌, ◌≤◌, Bool, true, false, List, [], ◌∷◌, ◌++◌, ◌∙◌, Some, ap, append_assoc, arith, eqb-true, max, refl, subst, sym, true≢false, ⊎_elim}
-use Rattle.std.specs.Prelude.{◌⊎◌, ◌&&◌, Contains, filter, nat_eq, nat_le, not}
-use Rattle.std.proofs.lemmas.Bool.{eq-eqb, false_from_ne_true, leb-true}
+use Rattle.std.proofs.Common.{◌≡◌, ℕ, zero, suc, ◌+◌, ◌*◌, ◌<◌, ◌≤◌, true, false, List, [], ◌∷◌, ◌++◌, ◌∙◌, Some, ap, append_assoc, arith, eqb-true, max, refl, subst, sym, true≢false, ⊎_elim}
+use Rattle.std.specs.Prelude.{◌⊎◌, Contains, nat_eq}
+use Rattle.std.proofs.lemmas.Bool.{eq-eqb}
 use Rattle.std.proofs.lemmas.List.{append_cancel_right}
 use Rattle.std.proofs.lemmas.List.Elements.{Contains-append_left}
-use Rattle.wb_names.specs.History.{name_of}
-use Rattle.wb_names.specs.Values.{DrawopValue, MarkValue, NameValue}
-use Rattle.wb_names.proofs.Listings.{Contains-filter}
+use Rattle.wb_names.specs.Values.{DrawopValue, NameValue}
 use Rattle.wb_codec.specs.declared.datagram.Datagram.{Datagram}
 use Rattle.wb_codec.specs.declared.datagram.Datagram.TheVariants.{Session}
 use Rattle.wb_keeper.proofs.KeptCalls.{holds_from}
@@ -17,7 +15,6 @@ use Rattle.wb_progress.proofs.Giving.{held_as}
 use Rattle.wb_progress.proofs.Parts.{heads, nil_ends, tails}
 use Rattle.wb_member.specs.Judged.{holds}
 use Rattle.wb_member.specs.Opened.{asks_for, present}
-use Rattle.wb_policy.specs.Choices.{told_names}
 use Rattle.wb_keeping.specs.Bounds.{ask_count}
 use Rattle.wb_keeping.specs.Kept.{Asks, Line, came}
 use Rattle.wb_keeping.specs.Laws.{KeptLine, doing_of}
@@ -33,50 +30,30 @@ use Rattle.wb_kept_progress.proofs.AskedComes.{comes_or_is_given_up}
 use Rattle.wb_kept_progress.proofs.AskedInCalls.{HasAsk}
 use Rattle.wb_kept_progress.proofs.AskedStays.{stood_or_asks}
 use Rattle.wb_kept_progress.proofs.Becoming.{lacked_before}
-use Rattle.wb_kept_progress.proofs.CallParts.{calls_end, calls_order}
+use Rattle.wb_kept_progress.proofs.CallParts.{calls_end}
 use Rattle.wb_kept_progress.proofs.CallsInTime.{performed_is_timely}
+use Rattle.wb_kept_progress.proofs.Coming.{named_in}
 use Rattle.wb_kept_progress.proofs.CrowdAsks.{before_newest, crowd_asks}
 use Rattle.wb_kept_progress.proofs.Crowds.{crowd}
 use Rattle.wb_kept_progress.proofs.Handed.{asked_both, performs_in}
-use Rattle.wb_kept_progress.proofs.NextDue.{there_here, told_there}
+use Rattle.wb_kept_progress.proofs.NextDue.{ordered, there_here, told_there}
 use Rattle.wb_kept_progress.proofs.NothingNew.{held_was_held}
 use Rattle.wb_kept_progress.proofs.OwedAndDue.{near_there, next_by_turn, now_there, taken_of}
 use Rattle.wb_kept_progress.proofs.Owing.{asked_since, without_credit}
 use Rattle.wb_kept_progress.proofs.Repairs.{of_opening}
 use Rattle.wb_kept_progress.proofs.ReportsCome.{reports_come}
-use Rattle.wb_kept_progress.proofs.RoundCounts.{IsThen, held_before, then_at}
+use Rattle.wb_kept_progress.proofs.RoundCounts.{IsThen, held_before, one_more, then_at}
 use Rattle.wb_kept_progress.proofs.SameReports.{still_held}
 use Rattle.wb_kept_progress.proofs.StillCalls.{came_now}
 use Rattle.wb_kept_progress.proofs.StillEnds.{not_still}
 use Rattle.wb_kept_progress.proofs.StillOne.{IsAwake, an_ask, awake_by, begins_here, one_on}
 use Rattle.wb_kept_progress.proofs.Timely.{before_end, order_of}
 use Rattle.wb_kept_progress.proofs.Told.{told_wants}
-use Rattle.wb_kept_progress.proofs.Turning.{answers_at, in_map}
+use Rattle.wb_kept_progress.proofs.Turning.{answers_at}
 use Rattle.wb_kept_progress.proofs.WantedIn.{IsAskedInCall, LacksCredit}
 use Rattle.wb_kept_progress.proofs.WantingCalls.{timer_in_call}
 use Rattle.wb_kept_progress.proofs.WholeParts.{does}
 use Rattle.wb_kept_progress.proofs.WindowParts.{IsInWindow, calls_past, in_window}
-
--- ---- a mark of a report
-
--- what a mark tells is among the names of its report, if it is no forged number
-named_in : (me : ℕ) (n : NameValue) (marks : List MarkValue) → n.seq < 2147483648 → Contains marks (record { source = n.source; high = n.seq }) → Contains (told_names me n.page marks) n
-named_in me n marks small among = in_map (λ (m : MarkValue). name_of n.page m.source m.high) (filter p marks) mark (Contains-filter p marks mark among passes) where
-  p : MarkValue → Bool
-  p m = not (nat_eq m.source me && nat_le 2147483648 m.high)
-
-  mark : MarkValue
-  mark = record { source = n.source; high = n.seq }
-
-  never : (b : Bool) → not (b && false) ≡ true
-  never true = refl
-  never false = refl
-
-  low : nat_le 2147483648 mark.high ≡ false
-  low = false_from_ne_true (nat_le 2147483648 mark.high) (λ e. let le = leb-true 2147483648 mark.high e in omega (arith, le, small))
-
-  passes : p mark ≡ true
-  passes = ap (λ (b : Bool). not (nat_eq n.source me && b)) low ∙ never (nat_eq n.source me)
 
 -- ---- a window
 
@@ -102,9 +79,6 @@ module _ (told : LastNumbersAreTold) (hosts : ℕ → Opening) (terms : Terms) (
   timely : IsTimely starts terms (performed hosts trace)
   timely = performed_is_timely hosts terms trace session
 
-  ordered : (newer part : List TimedLine) → trace ≡ newer ++ part → AreCalledInOrder part
-  ordered newer part split = calls_order newer part (subst AreCalledInOrder split session.order)
-
   abbrev telling : ℕ
   telling = 2 * slices * (pause + terms.late)
 
@@ -112,9 +86,7 @@ module _ (told : LastNumbersAreTold) (hosts : ℕ → Opening) (terms : Terms) (
   at_window k = from + k * span
 
   next_window : (k : ℕ) → at_window (suc k) ≡ at_window k + span
-  next_window k = one_more from k span where
-    one_more : (from k span : ℕ) → from + suc k * span ≡ from + k * span + span
-    one_more from k span = let product : suc k * span ≡ k * span + span = omega arith in omega (arith, product)
+  next_window k = one_more from k span
 
   -- the one that holds it
   abbrev j : ℕ
@@ -179,7 +151,7 @@ module _ (told : LastNumbersAreTold) (hosts : ℕ → Opening) (terms : Terms) (
         (let end = first_time in let b = begins in let l = later_then in omega (arith, end, b, l)) where
           first_time : p.next.time ≤ q.next.time
           first_time = subst (λ (l : List TimedLine). p.next.time ≤ called_at l) (sym p.split)
-              (calls_end p.front (p.next ∷ p.part) (subst AreCalledInOrder p.split (ordered (newer ++ q.front) base split_q)))
+              (calls_end p.front (p.next ∷ p.part) (subst AreCalledInOrder p.split (ordered hosts terms trace session (newer ++ q.front) base split_q)))
 
     abbrev pub window : List TimedLine
     window = more.0 ++ p.next ∷ []
@@ -277,7 +249,7 @@ module _ (told : LastNumbersAreTold) (hosts : ℕ → Opening) (terms : Terms) (
 
     heard_after : credited < h.call.time
     heard_after =
-        let o = ordered h.later (h.call ∷ older_h) whole_h in
+        let o = ordered hosts terms trace session h.later (h.call ∷ older_h) whole_h in
         let first = o.0 in
         let end = calls_end h.between (t.e ∷ older_t) o.1 in
         let a = after_base in
@@ -328,7 +300,7 @@ module _ (told : LastNumbersAreTold) (hosts : ℕ → Opening) (terms : Terms) (
         }) where
           late_older : terms.quiet < called_at older_h
           late_older =
-              let o = ordered h.later (h.call ∷ older_h) whole_h in
+              let o = ordered hosts terms trace session h.later (h.call ∷ older_h) whole_h in
               let end = calls_end h.between (t.e ∷ older_t) o.1 in
               let a = after_base in
               let first = quiet_start in
@@ -403,7 +375,7 @@ module _ (told : LastNumbersAreTold) (hosts : ℕ → Opening) (terms : Terms) (
     window_counts : asks_since hosts from i p.part + 64 ≤ asks_since hosts from i part
     window_counts =
         let many = window_asks in
-        let counts = asked_since hosts i more.0 p.next p.part from (subst AreCalledInOrder more.1 (ordered (newer ++ e ∷ []) part (split ∙ sym (append_assoc newer (e ∷ []) part)))) (let after = p.after in omega (arith, after)) in
+        let counts = asked_since hosts i more.0 p.next p.part from (subst AreCalledInOrder more.1 (ordered hosts terms trace session (newer ++ e ∷ []) part (split ∙ sym (append_assoc newer (e ∷ []) part)))) (let after = p.after in omega (arith, after)) in
         let same = ap (asks_since hosts from i) more.1 in
         omega (arith, many, counts, same)
 
@@ -411,7 +383,7 @@ module _ (told : LastNumbersAreTold) (hosts : ℕ → Opening) (terms : Terms) (
 
     -- the host of a window is handed a report at this call
     v : IsInWindow window p.part z.0 older_h h.call
-    v = in_window window p.part z.0 older_h h.call (sym whole ∙ z.1) (subst AreCalledInOrder whole (ordered (newer ++ e ∷ []) part (split ∙ sym (append_assoc newer (e ∷ []) part))))
+    v = in_window window p.part z.0 older_h h.call (sym whole ∙ z.1) (subst AreCalledInOrder whole (ordered hosts terms trace session (newer ++ e ∷ []) part (split ∙ sym (append_assoc newer (e ∷ []) part))))
         (let by = p.by in let a = heard_after in omega (arith, by, a))
 
     in_whole : trace ≡ newer ++ e ∷ (window ++ p.part)
@@ -422,7 +394,7 @@ module _ (told : LastNumbersAreTold) (hosts : ℕ → Opening) (terms : Terms) (
 
     settled_in : (front rest : List TimedLine) (y : TimedLine) → window ≡ front ++ y ∷ rest → settled_by terms < y.time
     settled_in front rest y is =
-        let after = all_after more.0 p.next p.part (at_window k) (subst AreCalledInOrder more.1 (ordered (newer ++ e ∷ []) part (split ∙ sym (append_assoc newer (e ∷ []) part)))) p.after front rest y is in
+        let after = all_after more.0 p.next p.part (at_window k) (subst AreCalledInOrder more.1 (ordered hosts terms trace session (newer ++ e ∷ []) part (split ∙ sym (append_assoc newer (e ∷ []) part)))) p.after front rest y is in
         let first = known_start in
         omega (arith, after, first)
 

@@ -2,6 +2,7 @@
 use Rattle.std.proofs.Common.{◌≡◌, ℕ, ◌+◌, ◌*◌, ◌<◌, ◌≤◌, Bool, true, false, List, [], ◌∷◌, ◌++◌, ◌∙◌, ap, append_assoc, arith, inl, inr, refl, subst, sym, ⊎_elim}
 use Rattle.std.specs.Prelude.{◌⊎◌, Contains}
 use Rattle.std.proofs.lemmas.Bool.{cases_lt}
+use Rattle.std.proofs.Math.Nat.{le_refl}
 use Rattle.wb_names.specs.History.{IsHeld, highest, name_of}
 use Rattle.wb_names.specs.Values.{DrawopValue, NameValue}
 use Rattle.wb_names.specs.declared.name.PageId.{PageId}
@@ -107,9 +108,6 @@ module _ (hosts : ℕ → Opening) (terms : Terms) (trace newer older : List Tim
 
 -- ---- the laws
 
-itself : (k : ℕ) → k ≤ k
-itself k = omega arith
-
 module _ (told : LastNumbersAreTold) (hosts : ℕ → Opening) (terms : Terms) (trace : List TimedLine) (since wait slices pause : ℕ) (session : IsTimelySession hosts terms trace) (waits : WaitAtMost hosts terms trace wait)
     (reports : ReportWithin hosts terms trace since pause) (have : HaveSlices hosts terms trace slices) (numbered : AreNumbered hosts terms trace) where
   abbrev start : ℕ
@@ -162,7 +160,7 @@ module _ (told : LastNumbersAreTold) (hosts : ℕ → Opening) (terms : Terms) (
 
       too_many : ⊥
       too_many =
-          let many = many_asks told hosts terms trace since wait slices pause start (window_span terms slices pause) i m (itself start) (itself (window_span terms slices pause)) session waits reports have live m_some m_last
+          let many = many_asks told hosts terms trace since wait slices pause start (window_span terms slices pause) i m (le_refl start) (le_refl (window_span terms slices pause)) session waits reports have live m_some m_last
           (numbered m m_some).0 (numbered m m_some).1 windows (newer ++ v.front) v.part v.next split_v v.by v.after lacks_v in
           let all = few i live in
           let part = subst (λ (l : List TimedLine). asks_since hosts start i v.part ≤ asks_since hosts start i l)

@@ -20,6 +20,7 @@ use Rattle.wb_policy.proofs.Cycle.{found_at}
 use Rattle.wb_policy.proofs.FilledHoles.{hole_filled}
 use Rattle.wb_policy.proofs.HolesRise.{Rise, found_first, holes_rise}
 use Rattle.std.proofs.lemmas.Option.{none-some, same_Some}
+use Rattle.std.proofs.Math.Nat.{min-le_right}
 use Rattle.wb_kept_progress.specs.Repairs.{TurnsAsk}
 use Rattle.wb_kept_progress.proofs.Turning.{from_flat, from_map, missing_is_lacked}
 use Rattle.wb_kept_progress.proofs.WantedIn.{MayBeWanted, turn_asks_it}
@@ -29,14 +30,11 @@ module _ (t : Turns) (gap : Gap) (filled : gap.first ≤ gap.last) where
   above : (first far step last : ℕ) → first ≤ last → first ≤ min (first + far + step) last
   above first far step last le = omega (arith, le)
 
-  below : (number last : ℕ) → min number last ≤ last
-  below number last = omega arith
-
   pub number_above : gap.first ≤ number_in t gap
   number_above = above gap.first (64 * (t.round % windows_in gap)) t.step gap.last filled
 
   pub number_below : number_in t gap ≤ gap.last
-  number_below = below (window_in t.round gap + t.step) gap.last
+  number_below = min-le_right (window_in t.round gap + t.step) gap.last
 
 -- a number of a hole is missing
 pub missing_in : (held : List DrawopValue) (hole : Hole) (number : ℕ) → Contains (holes_of held) hole → hole.gap.first ≤ number → number ≤ hole.gap.last → IsMissing held hole.page [] hole.gap.source number

@@ -2,6 +2,7 @@
 use Rattle.std.proofs.Common.{◌≡◌, ℕ, ◌+◌, ◌*◌, ◌<◌, ◌≤◌, Bool, true, false, cond, List, [], ◌∷◌, ◌++◌, ◌∙◌, Option, Some, None, ap, arith, eq-eqb, eqb-true, length, refl, subst, sym, true≢false, ⊎_elim}
 use Rattle.std.specs.Prelude.{Contains, max, nat_eq, nat_le, unwrap_or}
 use Rattle.std.proofs.lemmas.Bool.{leb-false, leb-true}
+use Rattle.std.proofs.Math.Nat.{le_refl}
 use Rattle.wb_names.specs.Values.{NameValue}
 use Rattle.wb_names.proofs.Listings.{Contains-here, Contains-there}
 use Rattle.wb_progress.specs.Turns.{IsNowAt, Terms}
@@ -165,6 +166,4 @@ module _ (hosts : ℕ → Opening) (terms : Terms) (i : ℕ) (base : List TimedL
   had le (e ∷ part) ordinary = by_place (nat_eq e.at.place i) refl (had le part ordinary.1) where
     by_place : (b : Bool) → nat_eq e.at.place i ≡ b → Had part (at_i part) → Had (e ∷ part) (cond b (after_doing (doing_of e.at.line) (at_i part)) (at_i part))
     by_place true same h = one_call e part (subst (λ (p : ℕ). SaysNow terms e.time p e.at.line) (eqb-true e.at.place i same) ordinary.0.0) ordinary.0.1 h
-    by_place false other h = same_names e part (at_i part) (at_i part) h (itself (due_at (at_i part))) (λ n place. absurd (true≢false (sym (eq-eqb e.at.place i place) ∙ other))) where
-      itself : (m : ℕ) → m ≤ m
-      itself m = omega arith
+    by_place false other h = same_names e part (at_i part) (at_i part) h (le_refl (due_at (at_i part))) (λ n place. absurd (true≢false (sym (eq-eqb e.at.place i place) ∙ other)))

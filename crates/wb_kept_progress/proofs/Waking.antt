@@ -4,11 +4,12 @@ use Rattle.std.proofs.Common.{◌≡◌, ℕ, ◌+◌, ◌-◌, ◌*◌, ◌<◌
 use Rattle.std.specs.Prelude.{◌⊎◌, Contains, nat_eq}
 use Rattle.std.proofs.lemmas.Bool.{le-leb}
 use Rattle.wb_names.specs.Values.{NameValue}
-use Rattle.wb_names.proofs.Listings.{Contains-cases, Contains-none}
+use Rattle.wb_names.proofs.Listings.{Contains-none}
 use Rattle.wb_progress.specs.InTime.{known_from, repairing}
 use Rattle.wb_progress.specs.Turns.{Terms, settled_by}
 use Rattle.wb_member.specs.Judged.{holds}
 use Rattle.wb_member.specs.Opened.{asks_for, present}
+use Rattle.wb_laws_sessions.proofs.Sending.{one_of}
 use Rattle.wb_policy.specs.Credit.{has_credit}
 use Rattle.wb_policy.specs.declared.limits.TheConstants.{COST}
 use Rattle.wb_keeping.specs.Laws.{fault_of}
@@ -254,11 +255,9 @@ module _ (hosts : ℕ → Opening) (terms : Terms) (trace : List TimedLine) (sin
           names = a.name ∷ [];
           apart = (λ c. absurd (Contains-none a.name c), tt);
           count = refl;
-          held = λ x c. subst (λ (y : NameValue). IsHeldBySome hosts terms trace y) (only_one a.name x c) a.is;
-          asked = λ x c. subst (λ (y : NameValue). asks_for y (there hosts older i).host ≡ true) (only_one a.name x c) a.asked;
-        } where
-          only_one : (name x : NameValue) → Contains (name ∷ []) x → name ≡ x
-          only_one name x c = ⊎_elim (λ (same : name ≡ x). same) (λ (none : Contains [] x). absurd (Contains-none x none)) (Contains-cases name x [] c)
+          held = λ x c. subst (λ (y : NameValue). IsHeldBySome hosts terms trace y) (one_of a.name x c) a.is;
+          asked = λ x c. subst (λ (y : NameValue). asks_for y (there hosts older i).host ≡ true) (one_of a.name x c) a.asked;
+        }
 
   pub one_place : FilledFor hosts terms trace (start + 3 * turn_span terms) 1 i n
   one_place newer older split late lacks = inr (one_asked newer older split late lacks)

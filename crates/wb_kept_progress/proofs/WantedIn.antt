@@ -117,7 +117,7 @@ costs_nothing k = record { owed = omega arith; now = refl }
 pub costs_both : (k m n : Keeping) → CostsMore k m → CostsMore m n → CostsMore k n
 costs_both k m n one other = record { owed = let a = one.owed in let b = other.owed in omega (arith, a, b); now = other.now ∙ one.now }
 
-no_credit_then : (owed owes now : ℕ) → owed ≤ owes → has_credit owed now ≡ false → has_credit owes now ≡ false
+pub no_credit_then : (owed owes now : ℕ) → owed ≤ owes → has_credit owed now ≡ false → has_credit owes now ≡ false
 no_credit_then owed owes now le none = false_from_ne_true (has_credit owes now) (λ e.
     let few = leb-true (max owes now - now) (63 * COST) e in
     true≢false (sym (le-leb (max owed now - now) (63 * COST) (omega (arith, few, le))) ∙ none))

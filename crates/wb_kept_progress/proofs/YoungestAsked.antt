@@ -5,6 +5,7 @@ use Rattle.std.specs.List.{fold}
 use Rattle.std.specs.List.Sorted.{IsStrictlySortedBy}
 use Rattle.std.specs.declared.cmp.Ordering.TheVariants.{Less}
 use Rattle.std.proofs.lemmas.Bool.{ltb-true}
+use Rattle.std.proofs.lemmas.List.{length-map}
 use Rattle.std.proofs.lemmas.Map.Keys.{sorted_tail}
 use Rattle.wb_names.specs.Orders.{name_cmp}
 use Rattle.wb_names.specs.Values.{NameValue}
@@ -23,7 +24,7 @@ use Rattle.wb_keeping.specs.Performing.{view_of}
 use Rattle.wb_policy.specs.Wanting.{older, oldest}
 use Rattle.wb_policy.specs.declared.wanting.AskedName.{AskedName}
 use Rattle.wb_keeping.proofs.AskedTimers.{named}
-use Rattle.wb_kept_progress.proofs.Asking.{from_names, level_told, oldest_is_one, oldest_most, same_zero}
+use Rattle.wb_kept_progress.proofs.Asking.{from_names, level_told, oldest_is_one, oldest_most}
 use Rattle.std.proofs.lemmas.Option.{same_Some, none-some}
 
 -- the first is the oldest if none of those after it was backed off more
@@ -51,7 +52,7 @@ module _ (host : Opened) (n : NameValue) (new : level host n ≡ Some 0) where
       let told : (b : AskedName) → Contains (first ∷ later) b → level host b.name ≡ Some b.level = λ b c. level_told host b (subst (λ (asked : List AskedName). Contains asked b) (sym is) c) in
       let most : (b : AskedName) → Contains (first ∷ later) b → b.level ≤ a.level = λ b c. subst (λ (x : AskedName). b.level ≤ x.level) oldest_is (oldest_most first later b c) in
       let among : Contains (first ∷ later) a = subst (λ (x : AskedName). Contains (first ∷ later) x) oldest_is (oldest_is_one first later) in
-      let zero_a : a.level ≡ 0 = same_zero a.level (sym (told a among) ∙ ap (level host) named_so ∙ new) in
+      let zero_a : a.level ≡ 0 = same_Some a.level 0 (sym (told a among) ∙ ap (level host) named_so ∙ new) in
       let zero_of : (b : AskedName) → Contains (first ∷ later) b → b.level ≡ 0 = λ b c. let le = most b c in omega (arith, le, zero_a) in
       let same : fold older first later ≡ first = first_stays first later (λ b c. let e = zero_of b (Contains-there first b later c) in omega (arith, e)) in
       let first_name : first.name ≡ n = ap (λ (x : AskedName). x.name) (sym same ∙ oldest_is) ∙ named_so in
@@ -63,11 +64,8 @@ module _ (host : Opened) (n : NameValue) (new : level host n ≡ Some 0) where
         apart = apart_of names (sorted_tail name_cmp first.name names rises);
         new = λ m c. let b = from_names later m c in subst (λ (x : NameValue). level host x ≡ Some 0) b.2 (told b.0 (Contains-there first b.0 later b.1) ∙ ap Some (zero_of b.0 (Contains-there first b.0 later b.1)));
         greater = λ m c. subst (λ (x : NameValue). name_cmp x m ≡ Less) first_name (below_all name_total first.name m names rises c);
-        count = ap (λ (asked : List AskedName). length asked) is ∙ ap suc (sym (mapped later));
-      } where
-        mapped : (asked : List AskedName) → length (map (λ (x : AskedName). x.name) asked) ≡ length asked
-        mapped [] = refl
-        mapped (x ∷ asked) = ap suc (mapped asked)
+        count = ap (λ (asked : List AskedName). length asked) is ∙ ap suc (sym (length-map later (λ (x : AskedName). x.name)));
+      }
 
   -- where it is the oldest of those that are asked for
   pub others : (a : AskedName) → oldest (view_of host).asked ≡ Some a → a.name ≡ n → Others host n
@@ -81,7 +79,7 @@ module _ (host : Opened) (n : NameValue) (new : level host n ≡ Some 0) where
 -- a timer that was not backed off
 pub new_timer : (o : Option AskTimer) → level_in o ≡ Some 0 → (ask : AskTimer) × (o ≡ Some ask) × (ask.level ≡ 0)
 new_timer None e = absurd (none-some 0 e)
-new_timer (Some ask) e = (ask, refl, same_zero ask.level e)
+new_timer (Some ask) e = (ask, refl, same_Some ask.level 0 e)
 
 pub new_level : (o : Option AskTimer) (ask : AskTimer) → o ≡ Some ask → ask.level ≡ 0 → level_in o ≡ Some 0
 new_level o ask is zero = ap level_in is ∙ ap Some zero

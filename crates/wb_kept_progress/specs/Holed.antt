@@ -1,7 +1,7 @@
 -- A third session that the laws are about, with a hole. The first of the two hosts draws three frames, and the network brings the second only the last of
 -- them. The second asks for the two below it, and the network loses that too. From `quiet` on nothing is lost: the second asks again, and gets both. The
 -- lines go on until after the law of holes says so. They are those that two `wb host` were handed, with the bytes that these printed.
-use Rattle.std.specs.Prelude.{◌≡◌, ℕ, ◌+◌, ◌*◌, ◌<◌, ◌≤◌, true, List, [], ◌∷◌, ◌++◌}
+use Rattle.std.specs.Prelude.{◌≡◌, ℕ, ◌+◌, ◌*◌, ◌<◌, ◌≤◌, true, List, [], ◌∷◌, drop}
 use Rattle.wb_names.specs.History.{name_of}
 use Rattle.wb_names.specs.Values.{DrawopValue, MarkValue, NameValue}
 use Rattle.wb_codec.specs.declared.datagram.Datagram.TheVariants.{AskPages, Draw, PageState, Request, Session}
@@ -42,26 +42,9 @@ tops = record { source = 10; high = 3 } ∷ []
 abbrev pub holed : Terms
 holed = record (terms_of 2000000 1000000 20000 (λ i. 99999 + 99980 * i)) { far = 100000 }
 
--- the newest line is the first; up to here the second host lacks two of the three
-abbrev pub unfilled_lines : List TimedLine
-unfilled_lines =
-    call 2578567 1 (Came 2378331 (AskPages 10)) ∷
-    call 2558567 0 (Came 2458568 (Request 11 (numbered 2))) ∷
-    call 2558567 0 (Came 2458568 (Request 11 (numbered 1))) ∷
-    call 2538567 1 (Ticked 2338335) ∷
-    call 1723903 0 (Ticked 1623904) ∷
-    call 1474546 1 (Ticked 1274420) ∷
-    call 440000 1 (Came 239977 (Draw (drawing_of 3))) ∷
-    call 420000 0 (Added 320001 page 7 frame) ∷
-    call 410000 0 (Added 310001 page 6 frame) ∷
-    call 400000 0 (Added 300001 page 5 frame) ∷
-    call 200000 1 (Ticked 1) ∷
-    call 100000 0 (Ticked 1) ∷
-    []
-
--- then it gets them
-abbrev pub filling_lines : List TimedLine
-filling_lines =
+-- the newest line is the first
+abbrev pub holed_lines : List TimedLine
+holed_lines =
     call 108977289 1 (Ticked 108766413) ∷
     call 107100484 0 (Ticked 107000485) ∷
     call 106576362 1 (Ticked 106365726) ∷
@@ -168,10 +151,23 @@ filling_lines =
     call 3578133 1 (Came 3377797 (Draw (drawing_of 2))) ∷
     call 3578133 1 (Came 3377797 (Draw (drawing_of 1))) ∷
     call 3558133 0 (Ticked 3458134) ∷
+    call 2578567 1 (Came 2378331 (AskPages 10)) ∷
+    call 2558567 0 (Came 2458568 (Request 11 (numbered 2))) ∷
+    call 2558567 0 (Came 2458568 (Request 11 (numbered 1))) ∷
+    call 2538567 1 (Ticked 2338335) ∷
+    call 1723903 0 (Ticked 1623904) ∷
+    call 1474546 1 (Ticked 1274420) ∷
+    call 440000 1 (Came 239977 (Draw (drawing_of 3))) ∷
+    call 420000 0 (Added 320001 page 7 frame) ∷
+    call 410000 0 (Added 310001 page 6 frame) ∷
+    call 400000 0 (Added 300001 page 5 frame) ∷
+    call 200000 1 (Ticked 1) ∷
+    call 100000 0 (Ticked 1) ∷
     []
 
-abbrev pub holed_lines : List TimedLine
-holed_lines = filling_lines ++ unfilled_lines
+-- the first twelve, after which the second host lacks two of the three drawings
+abbrev pub unfilled_lines : List TimedLine
+unfilled_lines = drop 106 holed_lines
 
 -- ---- what it meets
 

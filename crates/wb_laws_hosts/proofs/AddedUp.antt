@@ -6,9 +6,9 @@ use Rattle.std.proofs.Math.Seq.{take-append_seam}
 use Rattle.std.proofs.lemmas.Bool.{or_right}
 use Rattle.std.proofs.lemmas.List.{map-append}
 use Rattle.std.proofs.lemmas.List.Elements.{Contains-append_left, Contains-append_right, Contains-append_cases}
-use Rattle.std.proofs.lemmas.List.Folds.{list_any-append}
+use Rattle.std.specs.Cmp.{second_so}
 use Rattle.wb_names.specs.Values.{NameValue, DrawopValue}
-use Rattle.wb_names.specs.Arrivals.{Outcome as Arrived, Fresh, Known, Clashed, Left, Counts, counts, counted, counts_of, history_with, history_after, outcome_of, outcomes_of}
+use Rattle.wb_names.specs.Arrivals.{Outcome as Arrived, New, Again, Clash, Left, Counts, counts, counted, counts_of, history_with, history_after, outcome_of, outcomes_of}
 use Rattle.wb_names.specs.Orders.{name_cmp, same_name}
 use Rattle.wb_names.proofs.Listings.{Contains-here, Contains-filter, Contains-from_filter}
 use Rattle.wb_names.proofs.Orders.{name_total, same_name-is}
@@ -24,13 +24,12 @@ use Rattle.wb_commands.specs.declared.command.Command.TheVariants as lines
 use Rattle.wb_commands.specs.declared.fault.LineFault.{LineFault}
 use Rattle.wb_commands.specs.Parsing.{line_of as script_line_of}
 use Rattle.wb_keeper.specs.Keeper.{KeeperCall, Arrive, holds}
+use Rattle.wb_keeper.proofs.KeptCalls.{holds_one_more}
 use Rattle.wb_member.specs.Members.{names_of}
 use Rattle.wb_member.specs.Opened.{Opened, opened_with, accepted, becomes, present}
 use Rattle.wb_script.specs.Hosts.{taken, script_constants}
-use Rattle.wb_script.specs.declared.fault.RunFault.{RunFault}
 use Rattle.wb_script.specs.declared.fault.RunFault.TheVariants as run_faults
-use Rattle.wb_script.specs.declared.running.Summary.{Summary}
-use Rattle.wb_script.specs.Script.{State as Board, start, after_batch, closing_text, Closing, Acts, Part, Arrival, Nothing, End, part_of, part_in, Step, goes, refused, step_by, said_step, Outcome, prints, before, finish, proceed, continue, most_lines, outcome_from, outcome}
+use Rattle.wb_script.specs.Script.{State as Board, start, after_batch, Closing, Acts, Part, Arrival, Nothing, End, part_of, part_in, Step, goes, refused, step_by, said_step, Outcome, prints, before, finish, proceed, continue, most_lines, outcome_from, outcome}
 use Rattle.wb_script.proofs.FreeArrivals.{batches_are_one}
 use Rattle.wb_script.proofs.ReorderedScripts.{workers_are_one_thread}
 use Rattle.wb_script.proofs.Members.{Among}
@@ -40,21 +39,21 @@ use Rattle.wb_script.proofs.Telling.{taken_alone}
 use Rattle.wb_dialog.specs.declared.line.DriverLine.TheVariants.{Script}
 use Rattle.wb_dialog.specs.Dialog.{State, Answer, gives, answered, arrives, answer_to, answer_of, block, state_after, blocks_from, answered_lines, due}
 use Rattle.wb_dialog.proofs.DrivenHosts.{AreGiven, blocks_given}
-use Rattle.wb_laws_hosts.specs.RunLaws.{IsAddedUp, AddsUp, Prints, counted_text, counted_with, PrintsAddedUp, IsTold, ThreadIsTold, RunIsTold}
-use Rattle.wb_laws_hosts.proofs.RunTexts.{board, closing, answer_is, and_right, closing_again, neither}
+use Rattle.wb_laws_hosts.specs.RunLaws.{IsAddedUp, AddsUp, counted_text, counted_with, PrintsAddedUp, IsTold, ThreadIsTold, RunIsTold}
+use Rattle.wb_laws_hosts.proofs.RunTexts.{board, closing, answer_is, closing_again, neither}
 
 -- ---- counts
 
 counted_before : (p : Arrived) (m n : Counts) → counted p (counted_with (Some m) n) ≡ counted_with (Some (counted p m)) n
-counted_before (Fresh i) m n = let e : (m.fresh + n.fresh) + 1 ≡ (m.fresh + 1) + n.fresh = omega arith in ap (λ (k : ℕ). counts k (m.again + n.again) (m.clash + n.clash) (m.left + n.left)) e
-counted_before (Known i) m n = let e : (m.again + n.again) + 1 ≡ (m.again + 1) + n.again = omega arith in ap (λ (k : ℕ). counts (m.fresh + n.fresh) k (m.clash + n.clash) (m.left + n.left)) e
-counted_before (Clashed i) m n = let e : (m.clash + n.clash) + 1 ≡ (m.clash + 1) + n.clash = omega arith in ap (λ (k : ℕ). counts (m.fresh + n.fresh) (m.again + n.again) k (m.left + n.left)) e
+counted_before (New i) m n = let e : (m.fresh + n.fresh) + 1 ≡ (m.fresh + 1) + n.fresh = omega arith in ap (λ (k : ℕ). counts k (m.again + n.again) (m.clash + n.clash) (m.left + n.left)) e
+counted_before (Again i) m n = let e : (m.again + n.again) + 1 ≡ (m.again + 1) + n.again = omega arith in ap (λ (k : ℕ). counts (m.fresh + n.fresh) k (m.clash + n.clash) (m.left + n.left)) e
+counted_before (Clash i) m n = let e : (m.clash + n.clash) + 1 ≡ (m.clash + 1) + n.clash = omega arith in ap (λ (k : ℕ). counts (m.fresh + n.fresh) (m.again + n.again) k (m.left + n.left)) e
 counted_before Left m n = let e : (m.left + n.left) + 1 ≡ (m.left + 1) + n.left = omega arith in ap (λ (k : ℕ). counts (m.fresh + n.fresh) (m.again + n.again) (m.clash + n.clash) k) e
 
 one_more : (os : List Arrived) (o : Arrived) → counts_of (os ++ o ∷ []) ≡ counted_with (Some (counts_of os)) (counts_of (o ∷ []))
-one_more [] (Fresh i) = refl
-one_more [] (Known i) = refl
-one_more [] (Clashed i) = refl
+one_more [] (New i) = refl
+one_more [] (Again i) = refl
+one_more [] (Clash i) = refl
 one_more [] Left = refl
 one_more (p ∷ os) o = ap (counted p) (one_more os o) ∙ counted_before p (counts_of os) (counts_of (o ∷ []))
 
@@ -76,28 +75,21 @@ so_far_with host (e ∷ es) d =
 
 -- ---- names that are held
 
-or_false : (b : Bool) → (b || false) ≡ b
-or_false true = refl
-or_false false = refl
-
-holds_more : (h : List DrawopValue) (d : DrawopValue) (n : NameValue) → holds (h ++ d ∷ []) n ≡ (holds h n || same_name d.name n)
-holds_more h d n = list_any-append (λ (e : DrawopValue). same_name e.name n) h (d ∷ []) ∙ ap (λ (b : Bool). holds h n || b) (or_false (same_name d.name n))
-
 -- what is held after an arrival was held before, or is the arrival
 held_or : (h : List DrawopValue) (d : DrawopValue) (o : Arrived) (n : NameValue) → holds (history_with h d o) n ≡ true → (holds h n ≡ true) ⊎ (n ≡ d.name)
-held_or h d (Fresh i) n is = at (holds h n) (same_name d.name n) (sym (holds_more h d n) ∙ is) refl refl where
+held_or h d (New i) n is = at (holds h n) (same_name d.name n) (sym (holds_one_more h d n) ∙ is) refl refl where
   at : (a b : Bool) → (a || b) ≡ true → holds h n ≡ a → same_name d.name n ≡ b → (holds h n ≡ true) ⊎ (n ≡ d.name)
   at true b either p q = inl p
   at false true either p q = inr (sym (same_name-is d.name n q))
   at false false either p q = absurd (true≢false (sym either))
-held_or h d (Known i) n is = inl is
-held_or h d (Clashed i) n is = inl is
+held_or h d (Again i) n is = inl is
+held_or h d (Clash i) n is = inl is
 held_or h d Left n is = inl is
 
 held_still : (h : List DrawopValue) (d : DrawopValue) (o : Arrived) (n : NameValue) → holds h n ≡ true → holds (history_with h d o) n ≡ true
-held_still h d (Fresh i) n is = holds_more h d n ∙ ap (λ (b : Bool). b || same_name d.name n) is
-held_still h d (Known i) n is = is
-held_still h d (Clashed i) n is = is
+held_still h d (New i) n is = holds_one_more h d n ∙ ap (λ (b : Bool). b || same_name d.name n) is
+held_still h d (Again i) n is = is
+held_still h d (Clash i) n is = is
 held_still h d Left n is = is
 
 -- ---- hosts that are alike
@@ -394,9 +386,9 @@ module _ (cut : Bool) (n : ℕ) (s : Board) (other : Option Opened) (line : Inpu
 
   agrees_line : (within complete : Bool) → (nat_lt n most_lines && nat_le (length line.bytes) most_bytes) ≡ within → (line.ended || not cut) ≡ complete
       → Agrees cut n s other (line ∷ lines) (continue (cond within (cond complete None (Some run_faults.Read)) (Some run_faults.Endless)) (n + 1) s (content line) rest)
-  agrees_line true true few is = takes (script_line_of (content line)) refl (and_right (nat_lt n most_lines) (is_short line) few) (or_right (not (is_short line)) (line.ended || not cut) is)
+  agrees_line true true few is = takes (script_line_of (content line)) refl (second_so (nat_lt n most_lines) (is_short line) few) (or_right (not (is_short line)) (line.ended || not cut) is)
   agrees_line true false few is =
-      let left : is_taken cut line ≡ false = neither (is_short line) (line.ended || not cut) (and_right (nat_lt n most_lines) (is_short line) few) is in
+      let left : is_taken cut line ≡ false = neither (is_short line) (line.ended || not cut) (second_so (nat_lt n most_lines) (is_short line) few) is in
       subst (λ (b : Bool). Follows s other (if b then line ∷ answered_lines cut lines else []) (closing s)) (sym left) (none_follows s other)
   agrees_line false complete few is = tt
 

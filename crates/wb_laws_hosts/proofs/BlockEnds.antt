@@ -2,11 +2,11 @@
 use Rattle.std.proofs.Common.{ℕ, List, Option, Some, None, Result, Ok, Err, sym, subst}
 use Rattle.wb_codec.specs.declared.datagram.Datagram.{Datagram}
 use Rattle.wb_codec.specs.declared.datagram.Datagram.TheVariants as datagrams
-use Rattle.wb_names.specs.Arrivals.{Outcome, Fresh, Known as KnownDrawop, Clashed, Left}
+use Rattle.wb_names.specs.Arrivals.{Outcome, New}
 use Rattle.wb_keeping.specs.Performing.{Keeping}
 use Rattle.wb_keeping.specs.Refusing.{came_as, drawn_as}
 use Rattle.wb_lines.specs.Taking.{met}
-use Rattle.wb_member.specs.Opened.{Opened, asks_for, becomes, may_ask}
+use Rattle.wb_member.specs.Opened.{Opened, becomes}
 use Rattle.wb_commands.specs.SentLines.{sends_text}
 use Rattle.wb_commands.specs.declared.command.Command.{Command}
 use Rattle.wb_commands.specs.declared.command.Command.TheVariants as lines
@@ -27,7 +27,7 @@ use Rattle.wb_laws_hosts.proofs.Telling.{texts_tell_sends}
 -- ---- what is answered
 
 unsent : (o : Outcome) → Plain (unsent_text o)
-unsent (Fresh place) = none
+unsent (New place) = none
 unsent o = search plain_rules depth 20
 
 module _ (host : Opened) (held : AreOneLine host.is.held) where

@@ -40,34 +40,34 @@ byte_of k a b e = ap (λ (t : List ℕ). get_or t k 0) e
 abbrev line_of : List ℕ → List ℕ → List ℕ → List ℕ → List ℕ
 line_of a b c d = codes "batch " ++ (a ++ (codes " " ++ (b ++ (codes " " ++ (c ++ (codes " " ++ (d ++ codes "\n")))))))
 
-new_text : (place : ℕ) → batch_of (became.Fresh place) ≡ line_of (49 ∷ []) (48 ∷ []) (48 ∷ []) (48 ∷ [])
+new_text : (place : ℕ) → batch_of (became.New place) ≡ line_of (49 ∷ []) (48 ∷ []) (48 ∷ []) (48 ∷ [])
 new_text place = ap (λ (x : List ℕ). line_of x (decimal 0) (decimal 0) (decimal 0)) digit_1 ∙ ap (λ (z : List ℕ). line_of (49 ∷ []) z z z) digit_0
 
-again_text : (place : ℕ) → batch_of (became.Known place) ≡ line_of (48 ∷ []) (49 ∷ []) (48 ∷ []) (48 ∷ [])
+again_text : (place : ℕ) → batch_of (became.Again place) ≡ line_of (48 ∷ []) (49 ∷ []) (48 ∷ []) (48 ∷ [])
 again_text place = ap (λ (x : List ℕ). line_of (decimal 0) x (decimal 0) (decimal 0)) digit_1 ∙ ap (λ (z : List ℕ). line_of z (49 ∷ []) z z) digit_0
 
-clash_text : (place : ℕ) → batch_of (became.Clashed place) ≡ line_of (48 ∷ []) (48 ∷ []) (49 ∷ []) (48 ∷ [])
+clash_text : (place : ℕ) → batch_of (became.Clash place) ≡ line_of (48 ∷ []) (48 ∷ []) (49 ∷ []) (48 ∷ [])
 clash_text place = ap (λ (x : List ℕ). line_of (decimal 0) (decimal 0) x (decimal 0)) digit_1 ∙ ap (λ (z : List ℕ). line_of z z (49 ∷ []) z) digit_0
 
 left_text : batch_of became.Left ≡ line_of (48 ∷ []) (48 ∷ []) (48 ∷ []) (49 ∷ [])
 left_text = ap (λ (x : List ℕ). line_of (decimal 0) (decimal 0) (decimal 0) x) digit_1 ∙ ap (λ (z : List ℕ). line_of z z z (49 ∷ [])) digit_0
 
-no_text : (k : ℕ) → [] ≡ batch_of (became.Clashed k) → ⊥
-no_text k e = differ 0 98 (omega arith) (byte_of 0 [] (batch_of (became.Clashed k)) e)
+no_text : (k : ℕ) → [] ≡ batch_of (became.Clash k) → ⊥
+no_text k e = differ 0 98 (omega arith) (byte_of 0 [] (batch_of (became.Clash k)) e)
 
 abbrev IsClash : Outcome → Type 0
-IsClash a = (place : ℕ) × (a ≡ became.Clashed place)
+IsClash a = (place : ℕ) × (a ≡ became.Clash place)
 
-only_clash : (k : ℕ) (a : Outcome) → batch_of a ≡ batch_of (became.Clashed k) → IsClash a
-only_clash k (became.Fresh place) e = absurd (differ 48 49 (omega arith) (sym (byte_of 6 _ _ (sym (new_text place) ∙ e ∙ clash_text k))))
-only_clash k (became.Known place) e = absurd (differ 48 49 (omega arith) (sym (byte_of 8 _ _ (sym (again_text place) ∙ e ∙ clash_text k))))
-only_clash k (became.Clashed place) e = (place, refl)
+only_clash : (k : ℕ) (a : Outcome) → batch_of a ≡ batch_of (became.Clash k) → IsClash a
+only_clash k (became.New place) e = absurd (differ 48 49 (omega arith) (sym (byte_of 6 _ _ (sym (new_text place) ∙ e ∙ clash_text k))))
+only_clash k (became.Again place) e = absurd (differ 48 49 (omega arith) (sym (byte_of 8 _ _ (sym (again_text place) ∙ e ∙ clash_text k))))
+only_clash k (became.Clash place) e = (place, refl)
 only_clash k became.Left e = absurd (differ 48 49 (omega arith) (byte_of 10 _ _ (sym left_text ∙ e ∙ clash_text k)))
 
-only_clash_unsent : (k : ℕ) (a : Outcome) → unsent_text a ≡ batch_of (became.Clashed k) → IsClash a
-only_clash_unsent k (became.Fresh place) e = absurd (no_text k e)
-only_clash_unsent k (became.Known place) e = absurd (no_text k e)
-only_clash_unsent k (became.Clashed place) e = (place, refl)
+only_clash_unsent : (k : ℕ) (a : Outcome) → unsent_text a ≡ batch_of (became.Clash k) → IsClash a
+only_clash_unsent k (became.New place) e = absurd (no_text k e)
+only_clash_unsent k (became.Again place) e = absurd (no_text k e)
+only_clash_unsent k (became.Clash place) e = (place, refl)
 only_clash_unsent k became.Left e = only_clash k became.Left e
 
 -- ---- the deed that brings the drawop
@@ -114,7 +114,7 @@ module _ (numbers : ℕ → ℕ) (place : ℕ) (older : List Step) (apart : AreA
   none_drawn d deeds host is honest c clash = drawing_never_clashes numbers 0 place deeds older apart honest d clash.0 c (ap (becomes d) (sym is) ∙ clash.1)
 
   abbrev NoClash : Option Host → DriverLine → Type 0
-  NoClash s line = IsMemberAt there s → Honest (deeds_of tuning s line) → told_of s line ≡ batch_of (became.Clashed k) → ⊥
+  NoClash s line = IsMemberAt there s → Honest (deeds_of tuning s line) → told_of s line ≡ batch_of (became.Clash k) → ⊥
 
   handed : (d : DrawopValue) (s : Option Host) → NoClash s (Script (lines.Arrive d))
   handed d None is honest e = no_text k e
@@ -139,11 +139,11 @@ module _ (numbers : ℕ → ℕ) (place : ℕ) (older : List Step) (apart : AreA
       none_drawn d (deeds_doing (adds a.moment a.page a.time a.op) it) it.host is honest (adds_says a it) (only_clash_unsent k (becomes d it.host) e)
 
   -- a line that is refused tells nothing
-  given : (s : Option Host) (line : DriverLine) (r : Reply) → NoClash s line → IsMemberAt there s → Honest (deeds_by r (deeds_of tuning s line)) → told_by r (told_of s line) ≡ batch_of (became.Clashed k) → ⊥
+  given : (s : Option Host) (line : DriverLine) (r : Reply) → NoClash s line → IsMemberAt there s → Honest (deeds_by r (deeds_of tuning s line)) → told_by r (told_of s line) ≡ batch_of (became.Clash k) → ⊥
   given s line (prints next text) none is honest e = none is honest e
   given s line (denies fault) none is honest e = no_text k e
 
-  by_line : (s : Option Host) (line : DriverLine) (read : Result DriverLine Refusal) → read ≡ Ok line → NoClash s line → IsMemberAt there s → Honest (deeds_by (reply tuning s read) (deeds_said tuning s read)) → told_by (reply tuning s read) (told_said s read) ≡ batch_of (became.Clashed k) → ⊥
+  by_line : (s : Option Host) (line : DriverLine) (read : Result DriverLine Refusal) → read ≡ Ok line → NoClash s line → IsMemberAt there s → Honest (deeds_by (reply tuning s read) (deeds_said tuning s read)) → told_by (reply tuning s read) (told_said s read) ≡ batch_of (became.Clash k) → ⊥
   by_line s line read same none is honest e = given s line (reply tuning s (Ok line)) none is
       (subst (λ (r : Result DriverLine Refusal). Honest (deeds_by (reply tuning s r) (deeds_said tuning s r))) same honest)
       (ap (λ (r : Result DriverLine Refusal). told_by (reply tuning s r) (told_said s r)) (sym same) ∙ e)

@@ -1,7 +1,7 @@
 -- What one line makes of a host, and what is printed for it, as the deeds of a member.
 use Rattle.std.proofs.Common.{◌≡◌, ℕ, Bool, true, false, cond, List, [], ◌∷◌, ◌++◌, Option, Some, None, Result, Ok, Err, append-nil, ap, refl, sym, subst, ◌∙◌, nat_lt}
 use Rattle.std.specs.Prelude.{nat_eq, unwrap_or}
-use Rattle.wb_names.specs.Arrivals.{Outcome, Fresh, Known as KnownDrawop, Clashed, Left}
+use Rattle.wb_names.specs.Arrivals.{Outcome, New, Again, Clash, Left}
 use Rattle.wb_names.specs.Values.{DrawopValue}
 use Rattle.wb_codec.specs.declared.datagram.Datagram.{Datagram}
 use Rattle.wb_codec.specs.declared.datagram.Datagram.TheVariants as datagrams
@@ -82,9 +82,9 @@ module _ (host : Opened) (seed : Option ℕ) where
   script_led line = (refl, refl)
 
   said_led : (d : DrawopValue) (o : Outcome) → said_text d o ≡ sends_text (said_where d o ++ []) ++ unsent_text o
-  said_led d (Fresh place) = one (datagrams.Draw d)
-  said_led d (KnownDrawop place) = one (datagrams.Draw d)
-  said_led d (Clashed place) = refl
+  said_led d (New place) = one (datagrams.Draw d)
+  said_led d (Again place) = one (datagrams.Draw d)
+  said_led d (Clash place) = refl
   said_led d Left = refl
 
   goes_led : (v : Datagram) → Leads (goes_out v host) (deeds_driven (Say v)) (told_saying v host)

@@ -1,12 +1,11 @@
 -- A session message, and what a tick sends, is in range where the board and the calls of the keeper are.
-use Rattle.std.proofs.Common.{◌≡◌, ◌<◌, ◌≤◌, ◌^◌, ℕ, Bool, true, false, List, [], ◌∷◌, length, get_or, Option, Some, None, refl, sym, ap, subst, arith}
-use Rattle.std.specs.Prelude.{All, Contains, IfSome, map, nat_eq, nat_le, ◌||◌, if◌then◌else◌}
-use Rattle.std.specs.List.{list_any, filter_map, cons_option}
+use Rattle.std.proofs.Common.{◌≡◌, ◌<◌, ◌≤◌, ◌^◌, ℕ, Bool, true, false, List, [], ◌∷◌, length, get_or, Option, Some, None, sym, ap, subst, arith}
+use Rattle.std.specs.Prelude.{All, Contains, IfSome, map, if◌then◌else◌}
+use Rattle.std.specs.List.{filter_map, cons_option}
 use Rattle.std.specs.Option.{option_map}
 use Rattle.std.specs.Cmp.{ranks}
 use Rattle.std.specs.Ordering.{nat_cmp, MatchOrdering}
 use Rattle.std.specs.declared.cmp.Ordering.TheVariants.{Less}
-use Rattle.std.proofs.lemmas.Bool.{leb-false, or_parts}
 use Rattle.std.proofs.lemmas.List.Elements.{All-nil, All-cons, All-head, All-tail, All-append, All-map, All-filter, All-weaker, All-contains, Contains-append_right}
 use Rattle.std.proofs.lemmas.Map.Keys.{Less-from_sorted}
 use Rattle.wb_names.specs.Values.{NameValue, DrawopValue, MarkValue}
@@ -27,18 +26,17 @@ use Rattle.wb_recovery.specs.declared.plan.Action.{Action}
 use Rattle.wb_recovery.specs.declared.plan.Action.TheVariants.{Ask, Answer}
 use Rattle.wb_recovery.specs.declared.tuning.Tuning.{Tuning}
 use Rattle.wb_recovery.proofs.StoppedNames.{names_receipts}
-use Rattle.wb_keeper.specs.Keeper.{KeeperCall, Hear, is_own, session_in, session_heard, remember, senders_of, last_heard, delay_to, received_of, events_of}
+use Rattle.wb_keeper.specs.Keeper.{KeeperCall, Hear, is_own, session_in, session_heard, senders_of, last_heard, delay_to, received_of, events_of}
 use Rattle.wb_keeper.specs.Sessions.{echo_cmp, IsEchoTo, echo_to, echoes_of, message_of}
 use Rattle.wb_keeper.specs.Ticks.{drawop_of, sent_for, stopped_after, sent_by_tick}
 use Rattle.wb_keeper.specs.declared.keeper.Heard.{Heard}
-use Rattle.wb_keeper.proofs.FirstSenders.{first_senders_are_echoed}
+use Rattle.wb_keeper.proofs.FirstSenders.{first_senders_are_echoed, senders_few}
 use Rattle.wb_keeper.proofs.MessageValue.{message_is_session}
 use Rattle.wb_laws_hosts.proofs.BoardRanges.{report_fits}
 use Rattle.wb_laws_hosts.proofs.CallRanges.{Fits, names_fit}
 use Rattle.std.proofs.lemmas.Option.{same_Some}
 use Rattle.wb_laws_sessions.proofs.Holding.{all_from}
 use Rattle.wb_board.specs.Counts.{MAX_CELLS}
-use Rattle.wb_names.specs.declared.entries.TheConstants.{MAX_ENTRIES}
 
 -- ---- how many echoes there are
 
@@ -48,16 +46,6 @@ few_told f (x ∷ xs) = from (f x) (few_told f xs) where
   from : (o : Option _) → length (filter_map f xs) ≤ length xs → length (cons_option o (filter_map f xs)) ≤ length (x ∷ xs)
   from None le = omega arith
   from (Some y) le = omega arith
-
-few_senders : (me : ℕ) (calls : List KeeperCall) → length (senders_of me calls) ≤ MAX_ENTRIES
-few_senders me [] = omega arith
-few_senders me (call ∷ calls) = from (session_heard me call) (senders_of me calls) (few_senders me calls) where
-  from : (o : Option (ℕ × Heard)) (senders : List ℕ) → length senders ≤ MAX_ENTRIES → length (remember o senders) ≤ MAX_ENTRIES
-  from None senders le = le
-  from (Some told) senders le = at (list_any (nat_eq told.0) senders || nat_le MAX_ENTRIES (length senders)) refl where
-    at : (b : Bool) → (list_any (nat_eq told.0) senders || nat_le MAX_ENTRIES (length senders)) ≡ b → length (if b then senders else told.0 ∷ senders) ≤ MAX_ENTRIES
-    at true e = le
-    at false e = let lt = leb-false MAX_ENTRIES (length senders) (or_parts (list_any (nat_eq told.0) senders) (nat_le MAX_ENTRIES (length senders)) e).1 in omega arith
 
 -- ---- the session message that an echo answers
 
@@ -109,7 +97,7 @@ module _ (me : ℕ) (calls : List KeeperCall) (fit : All Fits calls) (now : ℕ)
         let echoes = echoes_of me calls now in
         let a = length-sorted-le echo_cmp (filter_map (echo_to me calls now) (senders_of me calls)) in
         let b = few_told (echo_to me calls now) (senders_of me calls) in
-        let c = few_senders me calls in
+        let c = senders_few me calls in
         record {
           lawful = record {
             ascending = λ i j d ij jn. below (get_or echoes i d).source (get_or echoes j d).source (Less-from_sorted echo_cmp echoes i j d listed.rising ij jn);

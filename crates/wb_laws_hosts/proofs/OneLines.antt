@@ -5,11 +5,11 @@ use Rattle.std.proofs.lemmas.Bool.{and_parts, leb-true}
 use Rattle.std.proofs.lemmas.Bool.Decides.{nat_tests}
 use Rattle.std.proofs.lemmas.List.Elements.{All-nil, All-cons, All-head, All-tail}
 use Rattle.wb_names.specs.Values.{NameValue, DrawopValue}
-use Rattle.wb_names.specs.Drawing.{IsLawful, stroke_fault, text_fault, is_printable}
-use Rattle.wb_names.specs.declared.parts.Stroke.{Stroke}
+use Rattle.wb_names.specs.Drawing.{IsLawful, text_fault, is_printable}
 use Rattle.wb_names.specs.declared.parts.Op.{Op}
 use Rattle.wb_names.specs.declared.parts.Op.TheVariants.{Drawn, Text, Aimed}
 use Rattle.wb_codec.specs.Ranges.{IsDrawop}
+use Rattle.wb_words.proofs.Visible.{glyph_seen}
 use Rattle.wb_lines.specs.Ahead.{NoLineFeed}
 use Rattle.wb_laws_hosts.specs.Closings.{IsOneLine, AreOneLine}
 
@@ -20,9 +20,6 @@ printed (b ∷ text) e =
     let q = and_parts (nat_le 32 b) (nat_le b 126) p.0 in
     let least : 32 ≤ b = leb-true 32 b q.0 in
     (omega arith, printed text p.1)
-
-glyph_seen : (s : Stroke) → stroke_fault s ≡ None → 32 ≤ s.glyph
-glyph_seen s e = grind (arith, nat_tests)
 
 text_seen : (x y : ℕ) (text : List ℕ) → text_fault x y text ≡ None → NoLineFeed text
 text_seen x y text e = let printable : list_all is_printable text ≡ true = grind (arith, nat_tests) in printed text printable

@@ -6,13 +6,14 @@ use Rattle.std.proofs.lemmas.List.Elements.{All-nil, All-contains}
 use Rattle.wb_names.specs.Drawing.{op_fault}
 use Rattle.wb_names.specs.Faults.{fault_unless, first_of}
 use Rattle.wb_names.specs.declared.fault.FieldFault.{FieldFault}
+use Rattle.wb_names.proofs.Faults.{first_none, unless_true}
 use Rattle.wb_codec.specs.Ranges.{IsDatagram, IsDrawop}
 use Rattle.wb_codec.specs.declared.datagram.Datagram.{Datagram}
 use Rattle.wb_codec.specs.declared.datagram.Datagram.TheVariants as datagrams
 use Rattle.wb_recovery.specs.declared.tuning.Tuning.{Tuning}
 use Rattle.wb_lines.specs.Input.{InputLine}
 use Rattle.wb_lines.specs.Taking.{met}
-use Rattle.wb_member.specs.Lines.{Line, Ticks, Arrives, Hears, Asks, Stops, SetsDistance, Tunes, Says}
+use Rattle.wb_member.specs.Lines.{Line, Ticks, Arrives, Says}
 use Rattle.wb_member.specs.Opened.{Opened, last_number}
 use Rattle.wb_keeping.specs.Kept.{Transition, adds, came, drawing, ends_full, hears, ticks, timed}
 use Rattle.wb_keeping.specs.Performing.{Keeping, sees, view_of}
@@ -30,7 +31,7 @@ use Rattle.wb_dialog.specs.declared.line.Call.TheVariants.{Ask}
 use Rattle.wb_dialog.specs.Dialog.{says_line}
 use Rattle.wb_dialog.specs.Hosting.{Host, Driven, Kept, Hosting, Reply, prints, denies, host_after, hosting_after, hosting_from, kept_does, kept_reply, reply, reply_of, reply_to, unopened}
 use Rattle.wb_laws_sessions.specs.Drawn.{drawn_by}
-use Rattle.wb_laws_sessions.specs.Sessions.{Deed, Looks, Opens, Performs, Reports, after_deed, after_deeds}
+use Rattle.wb_laws_sessions.specs.Sessions.{Deed, Performs, after_deed, after_deeds}
 use Rattle.wb_laws_sessions.proofs.Deeds.{ComesBy, deed_brings, deed_draws, number_after}
 use Rattle.wb_laws_hosts.specs.Closings.{HoldsLines}
 use Rattle.wb_laws_hosts.specs.Laws.{BoardsAreInRange, IsOpenHost}
@@ -130,10 +131,6 @@ came_brings now v fit see p = (
 ticks_bring : (now : ℕ) → DoesEach Brings (ticks now)
 ticks_bring now see p = (tt, timed_brings (λ (performed : List Line). see (Ticks now ∷ performed)) p)
 
-head_none : (x : Option KeptFault) (rest : List (Option KeptFault)) → first_of (x ∷ rest) ≡ None → x ≡ None
-head_none None rest e = refl
-head_none (Some f) rest e = absurd cc
-
 tail_none : (x : Option KeptFault) (rest : List (Option KeptFault)) → first_of (x ∷ rest) ≡ None → first_of rest ≡ None
 tail_none None rest e = e
 tail_none (Some f) rest e = absurd cc
@@ -142,24 +139,20 @@ mapped_none : (o : Option FieldFault) → option_map Operation o ≡ None → o 
 mapped_none None e = refl
 mapped_none (Some f) e = absurd cc
 
-unless_none : (b : Bool) (f : KeptFault) → fault_unless b f ≡ None → b ≡ true
-unless_none true f e = refl
-unless_none false f e = absurd cc
-
 module _ (k : Keeping) (f : InRange k.host) where
   -- a drawing that is not refused
   drawn_in_range : (a : Adding) → IsAdding a → add_fault a.moment a.page a.time a.op k ≡ None → IsDrawop (drawing (view_of k.host) a.page a.time a.op)
   drawn_in_range a fit none =
       let faults = drawing_fault a.page a.time a.op k in
-      let fault : faults ≡ None = head_none faults [] (tail_none (waits_fault a.moment k) (faults ∷ []) none) in
+      let fault : faults ≡ None = first_none faults [] (tail_none (waits_fault a.moment k) (faults ∷ []) none) in
       let left = fault_unless (nat_lt (last_number a.page k.host) 4294967295) Numbers in
       let d = drawing (view_of k.host) a.page a.time a.op in
       let op = option_map Operation (op_fault d.name a.op) in
-      let lt = ltb-true (last_number a.page k.host) 4294967295 (unless_none (nat_lt (last_number a.page k.host) 4294967295) Numbers (head_none left (op ∷ []) fault)) in
+      let lt = ltb-true (last_number a.page k.host) 4294967295 (unless_true (nat_lt (last_number a.page k.host) 4294967295) Numbers (first_none left (op ∷ []) fault)) in
       record {
         name = record { source = f.me; page = fit.page; positive = omega arith; seq = omega (arith, lt) };
         time = omega arith;
-        lawful = mapped_none (op_fault d.name a.op) (head_none op [] (tail_none left (op ∷ []) fault));
+        lawful = mapped_none (op_fault d.name a.op) (first_none op [] (tail_none left (op ∷ []) fault));
         target = fit.target;
       }
 

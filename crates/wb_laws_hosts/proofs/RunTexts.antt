@@ -27,6 +27,7 @@ use Rattle.wb_script.proofs.Telling.{taken_alone}
 use Rattle.wb_laws_hosts.proofs.LoneArrivals.{Waits, step_waits, Batches, HasOne, has_batch, Fits, fits_all, fits_after, none_before, alone_is_one_order}
 use Rattle.wb_dialog.proofs.ScriptLines.{script_lines_are_read}
 use Rattle.std.proofs.lemmas.Bool.{or_right}
+use Rattle.std.specs.Cmp.{second_so}
 
 -- what the end of the present batch prints
 abbrev pub closing : Board → List ℕ
@@ -148,10 +149,6 @@ step_agrees : (cut : Bool) (n : ℕ) (s : Board) (line : InputLine) (lines : Lis
 step_agrees cut n s line lines (goes t text) rest taken alike on = agrees_on s t line text alike.0 alike.1 alike.2 cut n lines (rest t) taken (on t text refl)
 step_agrees cut n s line lines (refused t text e) rest taken alike on = refused_here cut n s t (line ∷ lines) text e alike
 
-pub and_right : (a b : Bool) → (a && b) ≡ true → b ≡ true
-and_right true b e = e
-and_right false b e = absurd cc
-
 pub neither : (short complete : Bool) → short ≡ true → complete ≡ false → (not short || complete) ≡ false
 neither true complete is off = off
 neither false complete is off = absurd cc
@@ -172,9 +169,9 @@ module _ (cut : Bool) (n : ℕ) (s : Board) (line : InputLine) (lines : List Inp
       → Fits (length s.waiting) (batches_with (part_unless (cond within (cond complete None (Some run_faults.Read)) (Some run_faults.Endless)) line) (content line) batches)
       → Agrees cut n s (line ∷ lines) (continue (cond within (cond complete None (Some run_faults.Read)) (Some run_faults.Endless)) (n + 1) s (content line) rest)
   agrees_line true true few is fit =
-      takes (script_line_of (content line)) refl (and_right (nat_lt n most_lines) (is_short line) few) (or_right (not (is_short line)) (line.ended || not cut) is) fit
+      takes (script_line_of (content line)) refl (second_so (nat_lt n most_lines) (is_short line) few) (or_right (not (is_short line)) (line.ended || not cut) is) fit
   agrees_line true false few is fit =
-      let left : is_taken cut line ≡ false = neither (is_short line) (line.ended || not cut) (and_right (nat_lt n most_lines) (is_short line) few) is in
+      let left : is_taken cut line ≡ false = neither (is_short line) (line.ended || not cut) (second_so (nat_lt n most_lines) (is_short line) few) is in
       subst (λ (b : Bool). Follows s (if b then line ∷ answered_lines cut lines else []) (closing s)) (sym left) (none_follows s)
   agrees_line false complete few is fit = tt
 

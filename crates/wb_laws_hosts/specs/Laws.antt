@@ -1,7 +1,7 @@
 -- Laws of sessions of hosts, from the bytes of their lines to the characters that they print.
 use Rattle.std.specs.Prelude.{◌≡◌, ◌≢◌, ◌⊎◌, ℕ, List, [], ◌∷◌, ◌++◌, Contains, All, Bool, Option, Some, None, Ok, nat_eq, if◌then◌else◌}
 use Rattle.std.specs.List.{concat}
-use Rattle.wb_names.specs.Arrivals.{Clashed}
+use Rattle.wb_names.specs.Arrivals.{Clash}
 use Rattle.wb_names.specs.Values.{DrawopValue}
 use Rattle.wb_names.specs.declared.name.PageId.{PageId}
 use Rattle.wb_codec.specs.Ranges.{IsDrawop}
@@ -112,7 +112,7 @@ BatchesCountNoClash =
     (numbers : ℕ → ℕ) (older : List EventAt) (e : EventAt) (line : InputLine) (place : ℕ)
     → AreApart numbers → HaveNumbers numbers (e ∷ older)
     → AreHonest numbers (steps_of_texts (e ∷ older)) → e.event ≡ Takes line → BringsDrawop line
-    → told_at (hosting_at older e.place) line ≢ batch_of (Clashed place)
+    → told_at (hosting_at older e.place) line ≢ batch_of (Clash place)
 
 -- ---- what is sent, at once or as a repair
 

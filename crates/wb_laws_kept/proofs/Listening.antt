@@ -5,7 +5,7 @@ use Rattle.std.proofs.lemmas.Bool.{and_parts, eq-eqb, lt-ltb}
 use Rattle.std.proofs.lemmas.Bool.Decides.{nat_tests}
 use Rattle.std.proofs.lemmas.Grind.{common_steps}
 use Rattle.std.proofs.lemmas.List.Elements.{All-contains}
-use Rattle.wb_names.specs.Arrivals.{Outcome, Fresh, Known, Clashed, Left, history_with, outcome_of}
+use Rattle.wb_names.specs.Arrivals.{Outcome, New, Again, Clash, Left, history_with, outcome_of}
 use Rattle.wb_names.specs.Ascending.{AreMarks}
 use Rattle.wb_names.specs.History.{highest}
 use Rattle.wb_names.specs.Marks.{mark_of}
@@ -15,6 +15,7 @@ use Rattle.wb_names.specs.declared.echo.Echo.{Echo}
 use Rattle.wb_names.specs.declared.name.PageId.{PageId}
 use Rattle.wb_names.proofs.Listings.{Contains-cases, Contains-here, Contains-none, Contains-there}
 use Rattle.wb_names.proofs.MarkLists.{Rises, here, rest_above, rest_rises}
+use Rattle.wb_names.proofs.Orders.{same_page-itself}
 use Rattle.wb_codec.specs.declared.datagram.Datagram.{Datagram}
 use Rattle.wb_codec.specs.declared.datagram.Datagram.TheVariants.{Draw, Session, Request, AskPages, PageState}
 use Rattle.wb_gaps.specs.Joining.{greater, joined, joined_at}
@@ -91,9 +92,9 @@ highest_more page source [] d = omega arith
 highest_more page source (e ∷ held) d = let rest = highest_more page source held d in omega (arith, rest)
 
 highest_with : (page : PageId) (source : ℕ) (held : List DrawopValue) (d : DrawopValue) (o : Outcome) → highest page source held ≤ highest page source (history_with held d o)
-highest_with page source held d (Fresh place) = highest_more page source held d
-highest_with page source held d (Known place) = omega arith
-highest_with page source held d (Clashed place) = omega arith
+highest_with page source held d (New place) = highest_more page source held d
+highest_with page source held d (Again place) = omega arith
+highest_with page source held d (Clash place) = omega arith
 highest_with page source held d Left = omega arith
 
 module _ (page : PageId) where
@@ -317,9 +318,6 @@ its_mark me (x ∷ marks) m rises c own low = ⊎_elim
       by : mark_of (own_marks me true marks) me ≡ m.high → nat_eq x.source me ≡ false → mark_of (own_marks me true (x ∷ marks)) me ≡ m.high
       by rest e = ap (λ (b : Bool). mark_of (cond (b && (true && nat_lt x.high 2147483648)) (x ∷ own_marks me true marks) (own_marks me true marks)) me) e ∙ rest
 
-same_here : (page : PageId) → same_page page page ≡ true
-same_here page = grind (arith, common_steps, nat_tests)
-
 module _ (page : PageId) (now : ℕ) (k : Keeping) (own : HeardItsOwn k.host) (listens : nat_lt now k.policy.ready ≡ true) (m : MarkValue) (mine : m.source ≡ k.host.is.number) (low : m.high < 2147483648) where
   abbrev me : ℕ
   me = k.host.is.number
@@ -354,7 +352,7 @@ module _ (page : PageId) (now : ℕ) (k : Keeping) (own : HeardItsOwn k.host) (l
       omega (arith, e)
 
   on_its_page : (on : PageId) (own : List MarkValue) → on ≡ page → m.high ≤ mark_of own me → m.high ≤ mark_of (cond (same_page on page) own []) me
-  on_its_page on own is le = subst (λ (b : Bool). m.high ≤ mark_of (cond b own []) me) (sym (ap (λ (p : PageId). same_page p page) is ∙ same_here page)) le
+  on_its_page on own is le = subst (λ (b : Bool). m.high ≤ mark_of (cond b own []) me) (sym (ap (λ (p : PageId). same_page p page) is ∙ same_page-itself page)) le
 
   session_tells : (sender sent : ℕ) (on : PageId) (marks : List MarkValue) (echoes : List Echo) → sender ≢ me → on ≡ page → AreMarks marks → Contains marks m → IsHeardWhole now (Session sender sent on marks echoes) k
       → Told (hears (Session sender sent on marks echoes) there k.policy)
@@ -388,7 +386,7 @@ module _ (page : PageId) (now : ℕ) (k : Keeping) (own : HeardItsOwn k.host) (l
             (each_both (IsOwn me) rest (more one) (told_each (IsOwn me) (of_policy me) (told_names me on marks) (λ lines. there (Hears v ∷ lines)) q) (more_own one))
 
   read : (on : PageId) (marks : List MarkValue) → on ≡ page → AreMarks (cond (same_page on page) marks []) → AreMarks marks
-  read on marks is are = subst (λ (b : Bool). AreMarks (cond b marks [])) (ap (λ (p : PageId). same_page p page) is ∙ same_here page) are
+  read on marks is are = subst (λ (b : Bool). AreMarks (cond b marks [])) (ap (λ (p : PageId). same_page p page) is ∙ same_page-itself page) are
 
   it_tells : (v : Datagram) → AreMarks (marks_in page v) → TellsMark v me page m → IsHeardWhole now v k → m.high ≤ last_number page (after_doing (came now v) k).host
   it_tells (Draw d) are tells room = absurd tells

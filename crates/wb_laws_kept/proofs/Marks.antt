@@ -1,16 +1,16 @@
 -- Each mark that a self-managing member sends is of a drawop that it holds.
-use Rattle.std.proofs.Common.{◌≡◌, ◌⊎◌, ℕ, suc, zero, ◌<◌, ◌≤◌, Bool, true, false, cond, List, [], ◌∷◌, ◌++◌, ◌∙◌, Option, Some, None, ap, append_assoc, arith, eq-eqb, inl, inr, length, map, refl, subst, sym, ⊎_elim}
+use Rattle.std.proofs.Common.{◌≡◌, ◌⊎◌, ℕ, ◌<◌, ◌≤◌, Bool, true, false, cond, List, [], ◌∷◌, ◌++◌, ◌∙◌, Option, Some, None, ap, append_assoc, arith, eq-eqb, inl, inr, length, map, refl, subst, sym, ⊎_elim}
 use Rattle.std.specs.Prelude.{Contains, filter, nat_eq, take}
 use Rattle.std.specs.Option.{option_map}
 use Rattle.std.proofs.lemmas.List.Elements.{All-contains, Contains-append_cases, Contains-append_left, Contains-append_right}
 use Rattle.wb_names.specs.History.{HoldsName, IsHeld, highest, name_of}
 use Rattle.wb_names.specs.Marks.{mark_of}
 use Rattle.wb_names.specs.Orders.{same_page}
-use Rattle.wb_names.specs.Arrivals.{Outcome, Fresh, Known, Clashed, Left}
+use Rattle.wb_names.specs.Arrivals.{Outcome, New, Again, Clash, Left}
 use Rattle.wb_names.specs.Values.{DrawopValue, MarkValue, NameValue}
 use Rattle.wb_names.specs.declared.echo.Echo.{Echo}
 use Rattle.wb_names.specs.declared.name.PageId.{PageId}
-use Rattle.wb_names.proofs.Listings.{Any-from_map, Contains-cases, Contains-from_filter, Contains-none, Contains-there}
+use Rattle.wb_names.proofs.Listings.{Any-from_map, Contains-cases, Contains-from_filter, Contains-from_take, Contains-none}
 use Rattle.wb_names.proofs.MarkLists.{Rises, here, rest_above, rest_rises, there}
 use Rattle.wb_names.proofs.Orders.{same_page-is}
 use Rattle.wb_codec.specs.declared.datagram.Datagram.{Datagram}
@@ -43,7 +43,7 @@ use Rattle.wb_keeping.proofs.Performed.{after_both, sent_by_both}
 use Rattle.wb_keeping.proofs.Wanted.{is_wanted_here, lines_wanted}
 use Rattle.wb_board.specs.Counts.{MAX_CELLS}
 use Rattle.wb_laws_sessions.specs.Drawn.{WasHeld}
-use Rattle.wb_laws_sessions.specs.Sessions.{Deed, Opens, Performs, Step, after_deed, host_at, sent, sent_by_deed, steps_then}
+use Rattle.wb_laws_sessions.specs.Sessions.{Deed, Opens, Performs, Step, after_deed, host_at, sent, sent_by_deed, sent_by_deeds, steps_then}
 use Rattle.wb_laws_sessions.proofs.Deeds.{Fits, fits_after}
 use Rattle.wb_laws_sessions.proofs.Drawn.{once_held_was_drawn}
 use Rattle.wb_laws_sessions.proofs.Names.{holds_name, of_name}
@@ -55,15 +55,10 @@ use Rattle.wb_laws_kept.proofs.Honest.{kept_are_honest}
 use Rattle.wb_laws_kept.proofs.Restarting.{line_grows}
 use Rattle.wb_laws_kept.proofs.Steps.{deeds_of_call, kept_is_session}
 use Rattle.wb_laws_sessions.proofs.Sending.{one_of}
+use Rattle.wb_laws_sessions.proofs.Several.{sent_performed}
 use Rattle.std.proofs.lemmas.Option.{same_Some}
 
 -- ---- a report is of what is held
-
-from_take : {X : Type 0} (k : ℕ) (xs : List X) (x : X) → Contains (take k xs) x → Contains xs x
-from_take zero [] x c = c
-from_take zero (y ∷ xs) x c = absurd (Contains-none x c)
-from_take (suc k) [] x c = c
-from_take (suc k) (y ∷ xs) x c = ⊎_elim (λ (e : y ≡ x). (0, omega arith, e)) (λ (d : Contains (take k xs) x). Contains-there y x xs (from_take k xs x d)) (Contains-cases y x (take k xs) c)
 
 its_high : (marks : List MarkValue) (m : MarkValue) → Rises marks → Contains marks m → mark_of marks m.source ≡ m.high
 its_high [] m rises c = absurd (Contains-none m c)
@@ -86,7 +81,7 @@ report_holds held page m few c =
 
 slice_holds : (held : List DrawopValue) (page : PageId) (told : Option ℕ) (m : MarkValue) → length held ≤ MAX_CELLS → Contains (slice_after told (report_of held page)) m → HoldsName held (name_of page m.source m.high)
 slice_holds held page told m few c =
-    report_holds held page m few (Contains-from_filter (λ m. is_untold told m.source) (report_of held page) m (from_take 64 (filter (λ m. is_untold told m.source) (report_of held page)) m c)).0
+    report_holds held page m few (Contains-from_filter (λ m. is_untold told m.source) (report_of held page) m (Contains-from_take 64 (filter (λ m. is_untold told m.source) (report_of held page)) m c)).0
 
 -- ---- a datagram tells marks of what is held alone
 
@@ -239,9 +234,9 @@ states_tell told (page ∷ pages) host few is v c = ⊎_elim
     (Contains-cases (state_of (view_of told) page) v (sent_by_lines (map (λ page. Says (state_of (view_of told) page)) pages) host) c)
 
 said_tells : (d : DrawopValue) (host : Opened) (v : Datagram) (o : Outcome) → Contains (said_where d o) v → TellsHeld host.is.held v
-said_tells d host v (Fresh place) c = drawing_tells host.is.held v d (one_of (Draw d) v c)
-said_tells d host v (Known place) c = drawing_tells host.is.held v d (one_of (Draw d) v c)
-said_tells d host v (Clashed place) c = absurd (Contains-none v c)
+said_tells d host v (New place) c = drawing_tells host.is.held v d (one_of (Draw d) v c)
+said_tells d host v (Again place) c = drawing_tells host.is.held v d (one_of (Draw d) v c)
+said_tells d host v (Clash place) c = absurd (Contains-none v c)
 said_tells d host v Left c = absurd (Contains-none v c)
 
 hears_tells : (h : Datagram) (host : Opened) → length host.is.held ≤ MAX_CELLS → (v : Datagram) → Contains (sent_by_line (Hears h) host) v → TellsHeld host.is.held v
@@ -326,14 +321,6 @@ module _ (numbers : ℕ → ℕ) where
 
   -- ---- what deeds send
 
-  abbrev sent_by_deeds : List Deed → Opened → List Datagram
-  sent_by_deeds [] host = []
-  sent_by_deeds (deed ∷ deeds) host = sent_by_deed deed host ++ sent_by_deeds deeds (after_deed deed host)
-
-  performed_sends : (lines : List Line) (host : Opened) → sent_by_deeds (map Performs lines) host ≡ sent_by_lines lines host
-  performed_sends [] host = refl
-  performed_sends (line ∷ lines) host = ap (λ (sent : List Datagram). sent_by_line line host ++ sent) (performed_sends lines (after_line line host))
-
   sent_then : (time place : ℕ) (deeds : List Deed) (older : List Step) (v : Datagram) → Contains (sent numbers (steps_then time place deeds older)) v
       → Contains (sent numbers older) v ⊎ Contains (sent_by_deeds deeds (host_at numbers older place)) v
   sent_then time place [] older v c = inl c
@@ -358,14 +345,14 @@ module _ (numbers : ℕ → ℕ) where
   call_tells : (call : Call) (k : Keeping) → IsTaken call k → Fits k.host → (v : Datagram) → Contains (sent_by_deeds (deeds_of_call call k) k.host) v → TellsHeld (after_call call k).host.is.held v
   call_tells (Handed line) k taken fits v c =
       let lines = (doing_of line (sees k.host) k.policy).lines in
-      (line_holds Tells steps_tell line k taken).tells fits v (subst (λ (sent : List Datagram). Contains sent v) (performed_sends lines k.host) c)
+      (line_holds Tells steps_tell line k taken).tells fits v (subst (λ (sent : List Datagram). Contains sent v) (sent_performed lines k.host) c)
   call_tells (Begins o given) k taken fits v c =
       let first = opened k.host.is.number o in
       let start = opened_with o.constants k.host.is.number o.cells o.seed in
       let lines = given_lines first given in
       let ticks = map Ticks o.moments in
       let opened_fits : Fits first.host = lines_fit ticks start (record { few = omega arith; small = taken.0.small }) in
-      let all = subst (λ (sent : List Datagram). Contains sent v) (performed_sends (ticks ++ expand lines first) start ∙ sent_by_both ticks (expand lines first) start) c in
+      let all = subst (λ (sent : List Datagram). Contains sent v) (sent_performed (ticks ++ expand lines first) start ∙ sent_by_both ticks (expand lines first) start) c in
       let told : TellsHeld (after_lines (expand lines first) first.host).is.held v = ⊎_elim
       (λ (early : Contains (sent_by_lines ticks start) v). tells_later (expand lines first) first.host v (tells_later ticks start v (ticks_tell o.moments start v early)))
       (λ (later : Contains (sent_by_lines (expand lines first) first.host) v). (all_hold Tells steps_tell lines first taken.1).tells opened_fits v later)

@@ -3,7 +3,7 @@ use Rattle.std.proofs.Common.{◌≡◌, ◌⊎◌, ℕ, ◌+◌, ◌<◌, ◌�
 use Rattle.std.specs.Prelude.{◌||◌, Contains, nat_lt}
 use Rattle.std.proofs.lemmas.Bool.Decides.{nat_tests}
 use Rattle.std.proofs.lemmas.List.Elements.{Contains-append_left, Contains-append_right, Contains-push_cases}
-use Rattle.wb_names.specs.Arrivals.{Outcome, Fresh, Known, Clashed, Left, history_with, outcome_from, outcome_of}
+use Rattle.wb_names.specs.Arrivals.{Outcome, New, Again, Clash, Left, history_with, outcome_from, outcome_of}
 use Rattle.wb_names.specs.Orders.{same_name}
 use Rattle.wb_names.specs.Same.{same_drawop}
 use Rattle.wb_names.specs.Values.{DrawopValue}
@@ -105,11 +105,11 @@ other_stays now v k other = lines_stay (came now v (sees k.host) k.policy).lines
 
 full : (cells i : ℕ) (h : List DrawopValue) (d : DrawopValue) → outcome_from cells i h d ≡ Left → cells ≤ i + length h
 full cells i [] d e = from (nat_lt i cells) refl e where
-  from : (b : Bool) → nat_lt i cells ≡ b → cond b (Fresh i) Left ≡ Left → cells ≤ i + 0
+  from : (b : Bool) → nat_lt i cells ≡ b → cond b (New i) Left ≡ Left → cells ≤ i + 0
   from true f g = cc
   from false f g = grind (arith, nat_tests, f)
 full cells i (x ∷ h) d e = from (full cells (i + 1) h d) (same_name x.name d.name) (same_drawop x d) e where
-  from : (outcome_from cells (i + 1) h d ≡ Left → cells ≤ i + 1 + length h) → (b c : Bool) → cond b (cond c (Known i) (Clashed i)) (outcome_from cells (i + 1) h d) ≡ Left → cells ≤ i + length (x ∷ h)
+  from : (outcome_from cells (i + 1) h d ≡ Left → cells ≤ i + 1 + length h) → (b c : Bool) → cond b (cond c (Again i) (Clash i)) (outcome_from cells (i + 1) h d) ≡ Left → cells ≤ i + length (x ∷ h)
   from rest true true g = cc
   from rest true false g = cc
   from rest false c g = let le = rest g in omega (arith, le)
@@ -151,19 +151,19 @@ record Taken (d : DrawopValue) (cells : ℕ) (held next : List DrawopValue) : Ty
   longer : length next ≤ length held + 1
 
 taken : (d : DrawopValue) (cells : ℕ) (held : List DrawopValue) (o : Outcome) → outcome_of cells held d ≡ o → Found held d o → length held < cells → ((x : DrawopValue) → Contains held x → x.name ≡ d.name → x ≡ d) → Taken d cells held (history_with held d o)
-taken d cells held (Fresh place) is none lt one = record {
+taken d cells held (New place) is none lt one = record {
   over = λ x c. Contains-append_left held (d ∷ []) x c;
   comes = λ x e. subst (Contains (held ++ d ∷ [])) (one_draw d x e) (Contains-append_right held (d ∷ []) d (Contains-here d []));
   back = λ x c. ⊎_elim (λ (was : Contains held x). inl was) (λ (e : d ≡ x). inr (ap Draw e)) (Contains-push_cases held d x c);
   longer = let e = length-append held (d ∷ []) in omega (arith, e);
 }
-taken d cells held (Known place) is has lt one = record {
+taken d cells held (Again place) is has lt one = record {
   over = λ x c. c;
   comes = λ x e. subst (Contains held) (one_draw d x e) has;
   back = λ x c. inl c;
   longer = omega arith;
 }
-taken d cells held (Clashed place) is other lt one = absurd (other.3 (one other.0 other.1 other.2))
+taken d cells held (Clash place) is other lt one = absurd (other.3 (one other.0 other.1 other.2))
 taken d cells held Left is none lt one = let le = full cells 0 held d is in absurd (omega (arith, le, lt))
 
 module _ (now : ℕ) where

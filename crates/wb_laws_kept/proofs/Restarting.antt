@@ -31,6 +31,9 @@ use Rattle.wb_laws_kept.proofs.Honest.{IsGiven, all_honest, moments_given, recor
 use Rattle.wb_laws_kept.proofs.Replaying.{Among, MeanOne, lines_stay, none, replayed}
 use Rattle.wb_laws_kept.proofs.Steps.{kept_is_session}
 
+pub same_line : (line other : Line) → Performs line ≡ Performs other → line ≡ other
+same_line line other e = cc
+
 -- ---- a line keeps what is held
 
 pub line_grows : (line : Line) (host : Opened) (x : DrawopValue) → Contains host.is.held x → Contains (after_line line host).is.held x
@@ -85,9 +88,7 @@ module _ (numbers : ℕ → ℕ) where
 
     -- lines that say no drawop draw nothing
     not_said : (comes : DrawopValue → Type 0) (line : Line) (d : DrawopValue) → IsGiven comes line → Performs line ≡ Performs (Says (Draw d)) → ⊥
-    not_said comes line d is e = subst (IsGiven comes) (same line (Says (Draw d)) e) is where
-      same : (a b : Line) → Performs a ≡ Performs b → a ≡ b
-      same a b e = cc
+    not_said comes line d is e = subst (IsGiven comes) (same_line line (Says (Draw d)) e) is
 
     given_draw_none : (comes : DrawopValue → Type 0) (lines : List Line) (older : List Step) → Each (IsGiven comes) lines → (i : ℕ) (d : DrawopValue) → Contains (drawn_at numbers (steps_then time place (map Performs lines) older) i) d → Contains (drawn_at numbers older i) d
     given_draw_none comes [] older each i d c = c

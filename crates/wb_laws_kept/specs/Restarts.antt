@@ -1,7 +1,7 @@
 -- What a record has when a program starts, and what a member knows of its own sequence numbers.
 use Rattle.std.specs.Prelude.{◌≡◌, ℕ, ◌≤◌, List, [], ◌∷◌, ◌++◌, Contains, Option, Some, None, length}
 use Rattle.std.specs.List.{filter_map}
-use Rattle.wb_names.specs.Arrivals.{Clashed}
+use Rattle.wb_names.specs.Arrivals.{Clash}
 use Rattle.wb_names.specs.History.{name_of}
 use Rattle.wb_names.specs.Values.{DrawopValue, MarkValue}
 use Rattle.wb_names.specs.declared.name.PageId.{PageId}
@@ -106,7 +106,7 @@ KeptNeverClash = (numbers : ℕ → ℕ) (newer older : List CallAt) (i : ℕ) (
     → AreApart numbers → AreTaken numbers (newer ++ older)
     → DrawopsWereHeld numbers (newer ++ older) → KnowTheirOwn numbers (newer ++ older)
     → WasHeld numbers (steps_of numbers (newer ++ older)) d
-    → becomes d (kept_at numbers older i).host ≡ Clashed place → ⊥
+    → becomes d (kept_at numbers older i).host ≡ Clash place → ⊥
 
 -- Each mark that a member sends is of a drawop that was drawn.
 abbrev pub MarksWereDrawn : Type 0

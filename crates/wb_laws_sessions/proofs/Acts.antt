@@ -9,7 +9,7 @@ use Rattle.wb_names.proofs.Listings.{Contains-here, Contains-there, Contains-non
 use Rattle.wb_codec.specs.declared.datagram.Datagram.TheVariants.{Draw, Session, AskPages}
 use Rattle.wb_member.specs.Members.{Member, Act, Draws, Takes, Hears, Ticks, Reports, AsksForPages, next_drawop, after, sends}
 use Rattle.wb_laws_sessions.proofs.Outcomes.{with_more}
-use Rattle.wb_laws_sessions.proofs.Sending.{answers_held, no_answer, one_of}
+use Rattle.wb_laws_sessions.proofs.Sending.{answers_held, no_answer, one_draw, one_of}
 use Rattle.wb_laws_sessions.proofs.Deeds.{arrival_brings}
 
 -- an act takes this drawop
@@ -41,9 +41,7 @@ held_after act m x c = inl c
 -- ---- what is sent
 
 pub draws_sent : (act : Act) (m : Member) (d : DrawopValue) → Contains (sends act m) (Draw d) → Contains m.held d ⊎ IsDrawing act m d
-draws_sent (Draws page time op) m d c = inr (same (next_drawop m page time op) d (one_of _ _ c)) where
-  same : (x y : DrawopValue) → Draw x ≡ Draw y → x ≡ y
-  same x y e = cc
+draws_sent (Draws page time op) m d c = inr (one_draw (next_drawop m page time op) d (one_of _ _ c))
 draws_sent (Hears now datagram word) m d c = absurd (no_answer m.number m.held datagram d c)
 draws_sent (Ticks now words) m d c = inl (answers_held m.number m.held _ d c)
 draws_sent (Reports now page) m d c = absurd (other m.number now page _ _ (one_of _ _ c)) where

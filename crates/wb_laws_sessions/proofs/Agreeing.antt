@@ -13,15 +13,17 @@ use Rattle.wb_gaps.proofs.MissingRanges.{gaps_of_page}
 use Rattle.wb_gaps.proofs.PageAnswers.{report_of_page}
 use Rattle.wb_display.specs.Canvas.{canvas_text}
 use Rattle.wb_keeper.specs.Hearing.{marks_heard}
+use Rattle.wb_keeper.proofs.KeptCalls.{holds_or_not}
 use Rattle.wb_member.specs.Opened.{Opened, gaps_at, shown}
 use Rattle.wb_laws_sessions.specs.Agreement.{Agree, ReportsTellAgreement, WholeBoardsAgree}
 use Rattle.wb_laws_sessions.specs.Drawn.{AreHonest, WasDrawn}
 use Rattle.wb_laws_sessions.specs.Sessions.{AreApart, Step, after_deed, host_at}
 use Rattle.wb_laws_sessions.proofs.Deeds.{Fits, fits_after}
 use Rattle.wb_laws_sessions.proofs.Drawn.{each_was_drawn, held_once_at, held_was_drawn, names_mean_one, numbers_count}
-use Rattle.wb_laws_sessions.proofs.Names.{at_most_highest, name_in, named, of_name}
-use Rattle.wb_laws_sessions.proofs.Sharing.{ShareAPage, view_alike}
+use Rattle.wb_laws_sessions.proofs.Names.{at_most_highest, named, of_name}
+use Rattle.wb_laws_sessions.proofs.Sharing.{view_alike}
 use Rattle.wb_board.specs.Counts.{MAX_CELLS}
+use Rattle.wb_board.proofs.Agreement.{ShareAPage}
 
 -- no range covers anything where there is none
 pub covers_none : (gaps : List Gap) (source n : ℕ) → gaps ≡ [] → Covers gaps source n → ⊥
@@ -36,7 +38,7 @@ over : (one other : Opened) (page : PageId) → ((source : ℕ) → highest page
 over one other page tops none counted same d here c = ⊎_elim
     (λ (there : HoldsName held d.name). let x = of_name held d.name there in subst (Contains held) (sym (same d x.0 c x.1 (sym x.2))) x.1)
     (λ (absent : HoldsName held d.name → ⊥). absurd (missing absent))
-    (name_in held d.name) where
+    (holds_or_not held d.name) where
       held : List DrawopValue
       held = other.is.held
 

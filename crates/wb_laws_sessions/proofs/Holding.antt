@@ -1,6 +1,7 @@
 -- Timers of what is held, and of what is not: act by act, and deed by deed.
 use Rattle.std.proofs.Common.{◌≡◌, ℕ, ◌+◌, ◌*◌, Bool, true, false, cond, List, [], ◌∷◌, Option, Some, None, refl, ap, ◌∙◌, sym, subst, true≢false, ⊎_elim}
-use Rattle.std.specs.Prelude.{not, All, Contains, map, filter, is_some, is_none, nat_eq, nat_le, ◌&&◌, ◌||◌}
+use Rattle.std.specs.Prelude.{All, Contains, map, filter, is_some, is_none, nat_eq, nat_le, ◌&&◌}
+use Rattle.std.proofs.lemmas.Bool.{not-true, or_parts}
 use Rattle.std.proofs.lemmas.List.Elements.{All-nil, All-cons, All-take, All-weaker, All-contains_itself, All-head, All-tail, All-contains}
 use Rattle.wb_names.specs.Values.{NameValue, DrawopValue, MarkValue}
 use Rattle.wb_names.specs.History.{HoldsName}
@@ -245,10 +246,7 @@ module _ (host : Opened) where
 
   -- nor does it hold what it may ask for
   asked_lacking : (name : NameValue) → may_ask name host ≡ true → All (λ n. holds host.is.held n ≡ false) (name ∷ [])
-  asked_lacking name e = All-cons (λ n. holds host.is.held n ≡ false) name [] (lacks (holds host.is.held name) (is_timed (timers_of host.is.constants (events host)) name) e) (All-nil (λ n. holds host.is.held n ≡ false)) where
-    lacks : (a b : Bool) → not (a || b) ≡ true → a ≡ false
-    lacks true b e = absurd (true≢false (sym e))
-    lacks false b e = refl
+  asked_lacking name e = All-cons (λ n. holds host.is.held n ≡ false) name [] (or_parts (holds host.is.held name) (is_timed (timers_of host.is.constants (events host)) name) (not-true _ e)).0 (All-nil (λ n. holds host.is.held n ≡ false))
 
   module _ (is : Tells host.is) where
     accepts : (d : DrawopValue) → Tells (accepted d host).is

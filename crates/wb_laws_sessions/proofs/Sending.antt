@@ -4,7 +4,7 @@ use Rattle.std.specs.Prelude.{Contains, if◌then◌else◌}
 use Rattle.std.specs.Option.{option_map}
 use Rattle.std.proofs.lemmas.List.Elements.{Contains-append_cases, Contains-append_right}
 use Rattle.wb_names.specs.Values.{NameValue, DrawopValue, MarkValue}
-use Rattle.wb_names.specs.Arrivals.{Outcome, Fresh, Known, Clashed, Left, outcome_of, history_with}
+use Rattle.wb_names.specs.Arrivals.{Outcome, New, Again, Clash, Left, outcome_of, history_with}
 use Rattle.wb_names.specs.Orders.{same_name}
 use Rattle.wb_names.specs.declared.echo.Echo.{Echo}
 use Rattle.wb_names.specs.declared.name.PageId.{PageId}
@@ -61,9 +61,9 @@ pub one_draw : (x d : DrawopValue) → Draw x ≡ Draw d → x ≡ d
 one_draw x d e = cc
 
 said_held : (held : List DrawopValue) (x d : DrawopValue) (o : Outcome) → Found held x o → Contains (said_where x o) (Draw d) → Contains (history_with held x o) d
-said_held held x d (Fresh place) f c = subst (Contains (held ++ x ∷ [])) (one_draw x d (one_of (Draw x) (Draw d) c)) (Contains-append_right held (x ∷ []) x (Contains-here x []))
-said_held held x d (Known place) f c = subst (Contains held) (one_draw x d (one_of (Draw x) (Draw d) c)) f
-said_held held x d (Clashed place) f c = absurd (Contains-none (Draw d) c)
+said_held held x d (New place) f c = subst (Contains (held ++ x ∷ [])) (one_draw x d (one_of (Draw x) (Draw d) c)) (Contains-append_right held (x ∷ []) x (Contains-here x []))
+said_held held x d (Again place) f c = subst (Contains held) (one_draw x d (one_of (Draw x) (Draw d) c)) f
+said_held held x d (Clash place) f c = absurd (Contains-none (Draw d) c)
 said_held held x d Left f c = absurd (Contains-none (Draw d) c)
 
 -- it was held before, or is then

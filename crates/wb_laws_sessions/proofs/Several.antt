@@ -2,7 +2,7 @@
 use Rattle.std.proofs.Common.{◌≡◌, ◌⊎◌, ◌<◌, ℕ, Bool, true, false, cond, List, [], ◌∷◌, ◌++◌, ◌∙◌, ap, append_assoc, arith, inl, inr, map, refl, subst, sym, ⊎_elim}
 use Rattle.std.specs.Prelude.{Contains, nat_eq}
 use Rattle.std.proofs.lemmas.List.Elements.{Contains-append_cases, Contains-append_left, Contains-append_right}
-use Rattle.wb_names.specs.Arrivals.{Outcome, Fresh, Known, Clashed, Left}
+use Rattle.wb_names.specs.Arrivals.{Outcome, New, Again, Clash, Left}
 use Rattle.wb_names.specs.Values.{DrawopValue, NameValue}
 use Rattle.wb_names.proofs.Listings.{Contains-cases, Contains-here, Contains-none, Contains-there}
 use Rattle.wb_codec.specs.declared.datagram.Datagram.{Datagram}
@@ -84,9 +84,9 @@ module _ (numbers : ℕ → ℕ) (time place : ℕ) where
   -- ---- what is drawn
 
   new_sent : (d x : DrawopValue) (o : Outcome) → Contains (new_where d o) x → Contains (said_where d o) (Draw d)
-  new_sent d x (Fresh i) c = Contains-here (Draw d) []
-  new_sent d x (Known i) c = absurd (Contains-none x c)
-  new_sent d x (Clashed i) c = absurd (Contains-none x c)
+  new_sent d x (New i) c = Contains-here (Draw d) []
+  new_sent d x (Again i) c = absurd (Contains-none x c)
+  new_sent d x (Clash i) c = absurd (Contains-none x c)
   new_sent d x Left c = absurd (Contains-none x c)
 
   -- what is drawn by a deed is said and sent by it
@@ -164,7 +164,7 @@ module _ (numbers : ℕ → ℕ) (time place : ℕ) where
     abbrev Clashes : DrawopValue → Type 0
     Clashes d = (x : DrawopValue) × Contains host.is.held x × (x.name ≡ d.name) × (x ≡ d → ⊥)
 
-    clash_of : (d : DrawopValue) (k : ℕ) → becomes d host ≡ Clashed k → Clashes d
+    clash_of : (d : DrawopValue) (k : ℕ) → becomes d host ≡ Clash k → Clashes d
     clash_of d k e = subst (Found host.is.held d) e (found host.is.cells 0 host.is.held d)
 
     -- what was held before one of the deeds clashes with nothing that is held
@@ -175,7 +175,7 @@ module _ (numbers : ℕ → ℕ) (time place : ℕ) where
         (once_held_was_drawn numbers p.part before clash.0 (record { newer = p.front; older = older; split = p.split; place = place; held = clash.1 }))
         (once_held_was_drawn numbers p.part before d was) clash.2)
 
-    pub arrival_never_clashes : (d : DrawopValue) (k : ℕ) → Contains deeds (Performs (Arrives d)) → becomes d host ≡ Clashed k → ⊥
+    pub arrival_never_clashes : (d : DrawopValue) (k : ℕ) → Contains deeds (Performs (Arrives d)) → becomes d host ≡ Clash k → ⊥
     arrival_never_clashes d k c e = let p = part_of (Performs (Arrives d)) deeds older c in
         held_none d (Performs (Arrives d)) p ((p.honest honest).0.comes d refl) (clash_of d k e)
 
@@ -189,7 +189,7 @@ module _ (numbers : ℕ → ℕ) (time place : ℕ) where
         let eq : x.name.seq ≡ d.name.seq = ap (λ (n : NameValue). n.seq) clash.2 in
         omega (arith, lt, eq)
 
-    pub drawing_never_clashes : (d : DrawopValue) (k : ℕ) → Contains deeds (Performs (Says (Draw d))) → becomes d host ≡ Clashed k → ⊥
+    pub drawing_never_clashes : (d : DrawopValue) (k : ℕ) → Contains deeds (Performs (Says (Draw d))) → becomes d host ≡ Clash k → ⊥
     drawing_never_clashes d k c e =
         let says : Deed = Performs (Says (Draw d)) in
         let p = part_of says deeds older c in

@@ -1,6 +1,6 @@
 -- What is drawn and held in a session, and what it asks of what comes and is drawn.
 use Rattle.std.specs.Prelude.{◌≡◌, ◌⊎◌, ℕ, ◌<◌, ◌≤◌, List, [], ◌∷◌, ◌++◌, Contains, nat_eq, if◌then◌else◌}
-use Rattle.wb_names.specs.Arrivals.{Outcome, Fresh, Known, Clashed, Left}
+use Rattle.wb_names.specs.Arrivals.{Outcome, New, Again, Clash, Left}
 use Rattle.wb_names.specs.History.{IsHistory}
 use Rattle.wb_names.specs.Values.{DrawopValue, NameValue}
 use Rattle.wb_codec.specs.declared.datagram.Datagram.TheVariants.{Draw, Session, Request, AskPages, PageState}
@@ -12,9 +12,9 @@ use Rattle.wb_laws_sessions.specs.Sessions.{AreApart, Deed, Looks, Opens, Perfor
 
 -- a drawop that a member says is drawn if its board takes it anew
 abbrev pub new_where : DrawopValue → Outcome → List DrawopValue
-new_where d (Fresh place) = d ∷ []
-new_where d (Known place) = []
-new_where d (Clashed place) = []
+new_where d (New place) = d ∷ []
+new_where d (Again place) = []
+new_where d (Clash place) = []
 new_where d Left = []
 
 -- what a member draws by a line
@@ -119,4 +119,4 @@ SentWasHeld = (numbers : ℕ → ℕ) (steps : List Step) (d : DrawopValue)
 abbrev pub NoneClashes : Type 0
 NoneClashes = (numbers : ℕ → ℕ) (older : List Step) (e : Step) (d : DrawopValue) (place : ℕ)
     → AreApart numbers → AreHonest numbers (e ∷ older) → e.deed ≡ Performs (Arrives d)
-    → becomes d (host_at numbers older e.place) ≡ Clashed place → ⊥
+    → becomes d (host_at numbers older e.place) ≡ Clash place → ⊥

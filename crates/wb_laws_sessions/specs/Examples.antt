@@ -1,6 +1,6 @@
 -- A session as an example: a loss, and its repair by a third.
 use Rattle.std.specs.Prelude.{◌≡◌, ℕ, ◌+◌, List, [], ◌∷◌}
-use Rattle.wb_names.specs.Arrivals.{Clashed}
+use Rattle.wb_names.specs.Arrivals.{Clash}
 use Rattle.wb_names.specs.Values.{DrawopValue}
 use Rattle.wb_names.specs.History.{name_of}
 use Rattle.wb_names.specs.declared.name.PageId.{PageId}
@@ -97,5 +97,5 @@ forgotten =
 -- What it sends clashes with what 11 holds. So this session keeps to no terms.
 pub record Clashes : Type 0 where
   pub sent : sent numbers forgotten ≡ Draw again ∷ Draw drawing ∷ []
-  pub clash : becomes again (host_at numbers forgotten 1) ≡ Clashed 0
+  pub clash : becomes again (host_at numbers forgotten 1) ≡ Clash 0
   pub honest : AreHonest numbers forgotten → ⊥

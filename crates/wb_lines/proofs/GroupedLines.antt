@@ -1,6 +1,7 @@
 -- Lines that are taken as the first of a group, join one, or come after it.
 use Rattle.std.proofs.Common.{◌≡◌, ℕ, ◌+◌, ◌<◌, ◌≤◌, Bool, true, false, inl, inr, ◌⊎◌, List, [], ◌∷◌, ◌++◌, length, Option, Some, None, refl, sym, ap, subst, ◌∙◌, append_assoc, append-nil, arith, nat_lt, nat_le, ◌&&◌, ◌||◌, not, if◌then◌else◌}
 use Rattle.std.proofs.lemmas.Bool.Decides.{nat_tests}
+use Rattle.std.proofs.lemmas.Bool.{false_from_ne_true}
 use Rattle.wb_lines.specs.declared.lines.Seen.{Seen}
 use Rattle.wb_lines.specs.declared.lines.Seen.TheVariants as seens
 use Rattle.wb_lines.specs.Ahead.{Ahead}
@@ -140,10 +141,6 @@ long_parts by g front more is =
     let one = starts front more is in
     subst (Parts by g) (sym one.is) (inr (not_short one.first (omega (arith, one.long, is.long))))
 
-unmet : (b : Bool) → (b ≡ true → ⊥) → b ≡ false
-unmet true h = absurd (h refl)
-unmet false h = refl
-
 behind : (b c : Bool) → (b ≡ true → c ≡ false) → (b && c) ≡ false
 behind true c h = h refl
 behind false c h = refl
@@ -173,7 +170,7 @@ group_end {S = S} by says v g more cut is sound end may rest = at v.seen refl wh
       let whole_is = parts v.seen refl p (rw e (rw e at rest)) in
       rw e (rw e at whole_is)
   at seens.Nothing e =
-      let alone : by.gathers g.first ≡ false = unmet (by.gathers g.first) (λ h. rw e at end h) in
+      let alone : by.gathers g.first ≡ false = false_from_ne_true (by.gathers g.first) (λ h. rw e at end h) in
       let p : Parts by g (input_lines (unread v ++ more)) = first_parts by g (input_lines (unread v ++ more)) alone in
       let whole_is = parts v.seen refl p (rw e (rw e at rest)) in
       rw e (rw e at whole_is)

@@ -1,16 +1,13 @@
 -- Which words stand for bytes.
-use Rattle.std.proofs.Common.{◌≡◌, ℕ, ◌%◌, List, Bool, true, false, Ok, Err, refl, ap, sym, ◌∙◌, arith, length, Some, None, ◌&&◌, nat_eq, true≢false}
+use Rattle.std.proofs.Common.{◌≡◌, ℕ, ◌%◌, List, true, false, Ok, Err, refl, ap, sym, ◌∙◌, arith, length, Some, None, nat_eq, true≢false}
 use Rattle.std.specs.List.{list_all}
 use Rattle.std.specs.Result.{result_ok}
 use Rattle.std.proofs.lemmas.Bool.Decides.{nat_tests}
+use Rattle.std.proofs.lemmas.Bool.{and_parts}
 use Rattle.std.proofs.lemmas.List.Sums.{AllPass-from_list_all, list_all-from_AllPass}
 use Rattle.hex.specs.Hex.{decode_of, is_hex_digit}
 use Rattle.hex.proofs.HexLemmas.{decode_of-ok, decode_of-digits}
 use Rattle.wb_lines.specs.Words.{is_hex, unhex}
-
-both : (a b : Bool) → (a && b) ≡ true → (a ≡ true) × (b ≡ true)
-both true b e = (refl, e)
-both false b e = cc
 
 -- the digits are as many as they should be, and each is one
 is_hex-from : (word : List ℕ) → length word % 2 ≡ 0 → list_all is_hex_digit word ≡ true → is_hex word ≡ true
@@ -25,7 +22,7 @@ unhex-not_hex word no_hex =
 
 pub unhex-hex : (word : List ℕ) → is_hex word ≡ true → (bytes : List ℕ) × (unhex word ≡ Some bytes)
 unhex-hex word hex =
-    let h = both (nat_eq (length word % 2) 0) (list_all is_hex_digit word) hex in
+    let h = and_parts (nat_eq (length word % 2) 0) (list_all is_hex_digit word) hex in
     let even : length word % 2 ≡ 0 = grind (arith, nat_tests, h.0) in
     let d = decode_of-digits word even (AllPass-from_list_all is_hex_digit word h.1) in
     (d.0, ap result_ok d.1)

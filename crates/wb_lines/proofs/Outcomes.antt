@@ -1,6 +1,7 @@
 -- Outcomes of items, and fronts of them.
-use Rattle.std.proofs.Common.{◌≡◌, ℕ, ◌+◌, ◌<◌, ◌≤◌, Bool, true, false, List, [], ◌∷◌, ◌++◌, length, Result, Ok, Err, refl, sym, ap, subst, ◌∙◌, append_assoc, arith, nat_le, nat_lt, ◌||◌}
+use Rattle.std.proofs.Common.{◌≡◌, ℕ, ◌+◌, ◌<◌, ◌≤◌, true, false, List, [], ◌∷◌, ◌++◌, length, Result, Ok, Err, refl, sym, ap, subst, ◌∙◌, append_assoc, arith, nat_le, nat_lt}
 use Rattle.std.proofs.lemmas.Bool.Decides.{nat_tests}
+use Rattle.std.proofs.Math.Bool.{or-true}
 use Rattle.wb_lines.specs.declared.handler.Stop.{Stop}
 use Rattle.wb_lines.specs.declared.handler.Stop.TheVariants as handler_stops
 use Rattle.wb_lines.specs.declared.fault.DriveFault.{DriveFault}
@@ -38,14 +39,10 @@ short_line line short = grind (arith, nat_tests)
 pub passed_line : (line : List ℕ) → length line ≤ most_bytes → nat_lt (length line) most_passed ≡ true
 passed_line line short = grind (arith, nat_tests)
 
-or_true : (b : Bool) → (b || true) ≡ true
-or_true true = refl
-or_true false = refl
-
 -- a line of an input that is not cut off
 pub short_line_taken : {S F : Type 0} (rules : Rules S F) (n : ℕ) (s : S) (l : InputLine) (lines : List InputLine) → n < rules.most → length l.bytes ≤ most_bytes
     → outcome_from rules false n s (l ∷ lines) ≡ proceed (n + 1) (rules.step s (n + 1) (whole l)) (λ next. outcome_from rules false (n + 1) next lines)
-short_line_taken rules n s l lines few short = rw (few_lines rules.most n few, short_line l.bytes short, passed_line l.bytes short, or_true l.ended) refl
+short_line_taken rules n s l lines few short = rw (few_lines rules.most n few, short_line l.bytes short, passed_line l.bytes short, or-true l.ended) refl
 
 -- ---- some outcome
 

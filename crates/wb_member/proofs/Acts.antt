@@ -10,14 +10,15 @@ use Rattle.wb_recovery.specs.Stopping.{receipts}
 use Rattle.wb_random.specs.Words.{Lcg}
 use Rattle.wb_keeper.specs.Hearing.{marks_heard}
 use Rattle.wb_keeper.specs.GivingUp.{is_timed}
-use Rattle.wb_keeper.specs.Keeper.{KeeperCall, Miss, GoOn, received_of, delay_to, holds}
+use Rattle.wb_keeper.specs.Keeper.{KeeperCall, Miss, GoOn, Report, received_of, delay_to, holds}
 use Rattle.wb_keeper.specs.Keeping.{KeeperValue, StandsFor, Keeps}
 use Rattle.wb_keeper.specs.Missing.{wanted_of as names_wanted}
+use Rattle.wb_keeper.specs.Sessions.{message_of}
 use Rattle.wb_keeper.specs.Ticks.{sends_for, stopped_in, stopped_after}
 use Rattle.wb_member.specs.Board.{Held}
 use Rattle.wb_member.specs.Holding.{IsOpenAt, MemberValue}
 use Rattle.wb_member.specs.Members.{calling}
-use Rattle.wb_member.specs.Opened.{Opened, present, events, due_count, sent_by, ticked, wanted_of, looked, may_ask, with_asked}
+use Rattle.wb_member.specs.Opened.{Opened, present, events, due_count, sent_by, ticked, wanted_of, looked, may_ask, with_asked, message, reported}
 use Rattle.wb_member.specs.Random.{word_of, words_of, after_word, after_words}
 
 abbrev pub member : Held → KeeperValue → Lcg → MemberValue
@@ -70,15 +71,23 @@ look_done b k k' g g' host page names words now at told random left moment keeps
 
 -- ---- a name that is asked for
 
-pub ask_done : (b : Held) (k k' : KeeperValue) (g g' : Lcg) (host : Opened) (name : NameValue) (word now : ℕ) → IsOpenAt (member b k g) host → {held timed : Bool} → holds b.drawops name ≡ held → held ≡ false
+pub ask_done : (b : Held) (k k' : KeeperValue) (g g' : Lcg) (host : Opened) (name : NameValue) (word now : ℕ) → IsOpenAt (member b k g) host → {held timed : Bool} → holds host.is.held name ≡ held → held ≡ false
     → is_timed (timers_in k.recovery) name ≡ timed → timed ≡ false → word ≡ word_of g → g' ≡ after_word g → now ≡ k.moment → Keeps (Miss now (name ∷ []) (word ∷ [])) k k'
     → (true ≡ may_ask name host) × IsOpenAt (member b k' g') (with_asked name host)
 ask_done b k k' g g' host name word now at {held} {timed} known none standing still taken left moment keeps =
     let free : may_ask name host ≡ true =
-    ap (λ (h : Bool). not (h || is_timed (timers_of host.is.constants (events host)) name)) (sym (ap (λ (l : List DrawopValue). holds l name) (same_history b k g host at)) ∙ known ∙ none)
+    ap (λ (h : Bool). not (h || is_timed (timers_of host.is.constants (events host)) name)) (known ∙ none)
     ∙ ap not (sym (ap is_standing (at.keeper.recovery.timers name)) ∙ standing ∙ still) in
     let call : Miss now (name ∷ []) (word ∷ []) ≡ Miss (present host) (name ∷ []) (word_of host.random ∷ []) =
     ap (λ (m : ℕ). Miss m (name ∷ []) (word ∷ [])) (moment ∙ at.keeper.moment) ∙ ap (λ (w : ℕ). Miss (present host) (name ∷ []) (w ∷ [])) (taken ∙ ap word_of at.words) in
     rw free (refl, called b k k' g g' host (Miss now (name ∷ []) (word ∷ [])) (Miss (present host) (name ∷ []) (word_of host.random ∷ [])) 1 at keeps call left)
 
 -- ---- a session message
+
+pub session_done : (b : Held) (k k' : KeeperValue) (g : Lcg) (host : Opened) (page : PageId) (now : ℕ) (sent : Datagram) → IsOpenAt (member b k g) host → now ≡ k.moment
+    → sent ≡ message_of host.is.number host.is.calls now b.drawops page → Keeps (Report now) k k' → (sent ≡ message page host) × IsOpenAt (member b k' g) (reported page host)
+session_done b k k' g host page now sent at moment told keeps =
+    let is : now ≡ present host = moment ∙ at.keeper.moment in (
+      told ∙ ap (λ (m : ℕ). message_of host.is.number host.is.calls m b.drawops page) is ∙ ap (λ (l : List DrawopValue). message_of host.is.number host.is.calls (present host) l page) (same_history b k g host at),
+      called b k k' g g host (Report now) (Report (present host)) 0 at keeps (ap Report is) refl,
+    )

@@ -1,5 +1,6 @@
 -- The next number of a host is above all of its own that are held or that others told.
-use Rattle.std.proofs.Common.{◌≡◌, ℕ, ◌+◌, ◌<◌, ◌≤◌, Bool, true, false, cond, List, Option, Some, None, ap, ◌∙◌, sym, arith, IfSome, max, nat_lt}
+use Rattle.std.proofs.Common.{◌≡◌, ℕ, ◌+◌, ◌<◌, Bool, true, false, cond, List, Option, Some, None, ap, ◌∙◌, sym, arith, IfSome, nat_lt}
+use Rattle.std.proofs.Math.Nat.{le-max_left, le-max_right}
 use Rattle.wb_names.specs.Values.{MarkValue}
 use Rattle.wb_names.specs.History.{highest}
 use Rattle.wb_names.specs.Marks.{mark_of}
@@ -11,22 +12,16 @@ use Rattle.wb_keeper.proofs.HeardNumbers.{marks_are_greatest}
 use Rattle.wb_member.specs.Opened.{Opened, last_number, next_number}
 use Rattle.wb_member.specs.Holding.{MemberValue, IsOpenAt, IsUnreached}
 
-max_left : (a b : ℕ) → a ≤ max a b
-max_left a b = omega arith
-
-max_right : (a b : ℕ) → b ≤ max a b
-max_right a b = omega arith
-
 module _ (page : PageId) (host : Opened) (marks : mark_of (marks_heard host.is.number host.is.calls page) host.is.number ≡ high_heard host.is.number host.is.calls page host.is.number) where
   above : (number : ℕ) → last_number page host < number → IsUnreached page host number
   above number lt = record {
     held = λ n h.
         let le = (greatest_held host.is.held page host.is.number).bound n h in
-        let most = max_left (highest page host.is.number host.is.held) (mark_of (marks_heard host.is.number host.is.calls page) host.is.number) in
+        let most = le-max_left (highest page host.is.number host.is.held) (mark_of (marks_heard host.is.number host.is.calls page) host.is.number) in
         omega (arith, le, most, lt);
     reported = λ n t.
         let le = (marks_are_greatest host.is.number host.is.calls page host.is.number).greatest n t in
-        let most = max_right (highest page host.is.number host.is.held) (mark_of (marks_heard host.is.number host.is.calls page) host.is.number) in
+        let most = le-max_right (highest page host.is.number host.is.held) (mark_of (marks_heard host.is.number host.is.calls page) host.is.number) in
         omega (arith, le, marks, most, lt);
   }
 

@@ -3,7 +3,7 @@ use Rattle.std.proofs.Common.{◌≡◌, ℕ, ◌+◌, ◌<◌, ◌≤◌, List,
 use Rattle.std.proofs.Math.Seq.{take-append_seam}
 use Rattle.wb_names.specs.Values.{NameValue, DrawopValue}
 use Rattle.wb_names.specs.History.{HoldsName}
-use Rattle.wb_names.specs.Arrivals.{Outcome, Fresh, Known, Clashed, Left, IsTaken, history_with, outcome_of}
+use Rattle.wb_names.specs.Arrivals.{Outcome, New, Again, Clash, Left, IsTaken, history_with, outcome_of}
 use Rattle.wb_names.proofs.Arrivals.{outcome_is}
 use Rattle.wb_board.specs.Desks.{PassValue, IsSound, IsWhole, Becomes}
 use Rattle.wb_keeper.specs.Keeper.{KeeperCall, Arrive, holds}
@@ -17,7 +17,7 @@ use Rattle.wb_member.proofs.Acts.{member}
 
 -- one thread takes it so
 taken : (p q : PassValue) (d : DrawopValue) (o : Outcome) → IsSound p → IsWhole p → Becomes p d o q → IsTaken p.cells p.seen d o × (q.seen ≡ history_with p.seen d o)
-taken p q d (Fresh i) sound whole b =
+taken p q d (New i) sound whole b =
     let grown : q.seen ≡ p.seen ++ d ∷ [] = b.alone whole in
     let long : length q.seen ≡ length p.seen + 1 = ap (λ (l : List DrawopValue). length l) grown ∙ length-append p.seen (d ∷ []) in
     let place : i ≡ length p.seen = let last = b.last in omega (arith, long, last) in
@@ -25,10 +25,10 @@ taken p q d (Fresh i) sound whole b =
     let room : length p.seen < p.cells = let r = sound.room in let row = b.row in omega (arith, r, row) in
     let absent : HoldsName p.seen d.name → ⊥ = subst (λ (l : List DrawopValue). HoldsName l d.name → ⊥) front b.new.1 in
     (((place, absent), room), grown)
-taken p q d (Known i) sound whole b =
+taken p q d (Again i) sound whole b =
     let same = b.1.1 whole in
     (ap (λ (l : List DrawopValue). slice_get l i) (sym same) ∙ b.0, same)
-taken p q d (Clashed i) sound whole b =
+taken p q d (Clash i) sound whole b =
     let same = b.1.1 whole in
     ((b.0.0, ap (λ (l : List DrawopValue). slice_get l i) (sym same) ∙ b.0.1, b.0.2, b.0.3), same)
 taken p q d Left sound whole b =
@@ -36,15 +36,14 @@ taken p q d Left sound whole b =
     let full : p.cells ≤ length p.seen = let none = b.none_left in let free = b.kept.0.1 in let many = sound.as_many whole in omega (arith, whole, none, free, many) in
     ((full, subst (λ (l : List DrawopValue). HoldsName l d.name → ⊥) same b.absent), same)
 
-pub became : (p q : PassValue) (h : Held) (d : DrawopValue) (o : Outcome) → held_of p ≡ h → IsSound p → IsWhole p → Becomes p d o q → o ≡ outcome_of h.cells h.drawops d
-became p q h d o view sound whole b = outcome_is p.cells p.seen d o sound.history (taken p q d o sound whole b).0 ∙ ap (λ (k : Held). outcome_of k.cells k.drawops d) view
+pub became : (p q : PassValue) (d : DrawopValue) (o : Outcome) → IsSound p → IsWhole p → Becomes p d o q → o ≡ outcome_of p.cells p.seen d
+became p q d o sound whole b = outcome_is p.cells p.seen d o sound.history (taken p q d o sound whole b).0
 
-pub held : (p q : PassValue) (h : Held) (d : DrawopValue) (o : Outcome) → held_of p ≡ h → IsSound p → IsWhole p → q.cells ≡ p.cells → Becomes p d o q → held_of q ≡ board_after h (d ∷ [])
-held p q h d o view sound whole cells b =
+pub held : (p q : PassValue) (d : DrawopValue) (o : Outcome) → IsSound p → IsWhole p → q.cells ≡ p.cells → Becomes p d o q → held_of q ≡ board_after (held_of p) (d ∷ [])
+held p q d o sound whole cells b =
     let t = taken p q d o sound whole b in
     ap (λ (n : ℕ). let k : Held = record { cells = n; drawops = q.seen } in k) cells
     ∙ ap (λ (ds : List DrawopValue). let k : Held = record { cells = p.cells; drawops = ds } in k) (t.1 ∙ ap (history_with p.seen d) (outcome_is p.cells p.seen d o sound.history t.0))
-    ∙ ap (λ (k : Held). board_after k (d ∷ [])) view
 
 -- the keeper took in the names of a batch that was taken in this order
 pub told : (b b' : Held) (k k' : KeeperValue) (g : Lcg) (host : Opened) (batch order : List DrawopValue) (names : List NameValue) → IsOpenAt (member b k g) host → names ≡ names_of batch → b' ≡ board_after b order

@@ -10,13 +10,9 @@ use Rattle.wb_recovery.specs.Events.{asking, timers_of, names_of}
 use Rattle.wb_keeper.specs.GivingUp.{level_of}
 use Rattle.wb_keeper.specs.Keeper.{delay_to, holds as history_holds}
 use Rattle.wb_keeper.specs.Sessions.{echoes_of}
-use Rattle.wb_member.specs.Board.{Held}
 use Rattle.wb_member.specs.Opened.{Opened, events, present}
 
--- the board has no cell for another drawop
-abbrev pub has_no_cell : Held → Bool
-has_no_cell board = nat_le board.cells (length board.drawops)
-
+-- its board has no cell for another drawop
 abbrev pub is_full : Opened → Bool
 is_full host = nat_le host.is.cells (length host.is.held)
 

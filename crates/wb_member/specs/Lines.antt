@@ -1,6 +1,6 @@
 -- A line that a host takes, what becomes of a member that performs lines, and what it sends by them.
 use Rattle.std.specs.Prelude.{ℕ, List, [], ◌∷◌, ◌++◌, if◌then◌else◌}
-use Rattle.wb_names.specs.Arrivals.{Outcome, Fresh, Known, Clashed, Left}
+use Rattle.wb_names.specs.Arrivals.{Outcome, New, Again, Clash, Left}
 use Rattle.wb_names.specs.Values.{DrawopValue, NameValue}
 use Rattle.wb_codec.specs.declared.datagram.Datagram.{Datagram}
 use Rattle.wb_codec.specs.declared.datagram.Datagram.TheVariants.{Draw, Session, Request, AskPages, PageState}
@@ -30,9 +30,9 @@ after_saying (PageState sender page marks) host = host
 
 -- It is not sent if its name means another drawop, or the board is full.
 abbrev pub said_where : DrawopValue → Outcome → List Datagram
-said_where d (Fresh place) = Draw d ∷ []
-said_where d (Known place) = Draw d ∷ []
-said_where d (Clashed place) = []
+said_where d (New place) = Draw d ∷ []
+said_where d (Again place) = Draw d ∷ []
+said_where d (Clash place) = []
 said_where d Left = []
 
 abbrev pub said : Datagram → Opened → List Datagram

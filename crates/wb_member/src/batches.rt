@@ -6,8 +6,7 @@ ghost use Rattle.wb_member.specs.Holding.{IsOpenAt, board_after};
 ghost use Rattle.wb_member.specs.Members.{names_of};
 ghost use Rattle.wb_member.specs.Opened.{Opened, batched};
 
-use crate::member::Member;
-use crate::own_board::OwnBoard;
+use crate::member::{Member, tell_arrived};
 use std::alloc::{AllocError, Global};
 use std::marker::Model;
 use std::snapshot::Snapshot;
@@ -20,18 +19,23 @@ use wb_random::RandomWords;
 /// keeper knows of the batch, and no sooner.
 #[derive(Drop)]
 pub struct AwaitsBatch {
-    /// For contracts alone: the board as it was.
-    before: Snapshot<OwnBoard>,
+    /// For contracts alone: the desk of the board as it was.
+    before: Snapshot<Desk>,
     keeper: Keeper,
     words: RandomWords,
 }
 
 impl Model for AwaitsBatch {
+    ghost use Rattle.wb_member.specs.Board.{held_of};
     ghost use Rattle.wb_member.specs.Holding.{MemberValue};
 
     ghost Value = { MemberValue };
 
-    ghost view = { λ a. record { board = a.before.value; keeper = a.keeper; words = a.words } };
+    ghost view = { λ a. record {
+      board = held_of a.before.value;
+      keeper = a.keeper;
+      words = a.words;
+    } };
 }
 
 impl Member {
@@ -43,11 +47,11 @@ impl Member {
     {
         let Member {
             board,
+            desk,
             keeper,
             words,
         } = self;
-        let before = Snapshot::of(&board);
-        let (board, desk) = board.into_parts();
+        let before = Snapshot::of(&desk);
         let awaits = AwaitsBatch {
             before,
             keeper,
@@ -80,10 +84,10 @@ impl AwaitsBatch {
             words,
         } = self;
         let names = names_of(alloc, batch)?;
-        let board = OwnBoard::from_parts(board, desk);
-        board.tell_arrived(&mut keeper, &names);
+        tell_arrived(&mut keeper, &desk, &names);
         Ok(Member {
             board,
+            desk,
             keeper,
             words,
         })

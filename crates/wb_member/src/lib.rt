@@ -6,15 +6,13 @@
 //! no thread and has no clock. A call that is refused or can't allocate changes nothing.
 //!
 //! In reading order: `member` opens a member and hands it what comes in and time; `questions` has
-//! what it is asked; `batches` has others take a batch at its board; `own_board` is the board with
-//! its only desk. `specs/Members.antt` says what a member is, and `specs/Opened.antt` what each call
-//! does.
+//! what it is asked; `batches` has others take a batch at its board. `specs/Members.antt` says what a
+//! member is, and `specs/Opened.antt` what each call does.
 #![tactic(auto)]
 
 mod batches;
 pub mod laws;
 mod member;
-mod own_board;
 mod questions;
 
 pub use batches::AwaitsBatch;

@@ -1,23 +1,26 @@
 //! A member: what it is handed, and what follows.
-ghost use Rattle.std.specs.Prelude.{◌≡◌, ◌<◌, ◌≤◌, ◌^◌, false, true, length, IfOk, OnErr, IfSome, IsTrue, MatchResult};
+ghost use Rattle.std.specs.Prelude.{◌≡◌, ◌<◌, ◌≤◌, ◌^◌, ◌∷◌, [], false, true, filter, length, IfOk, OnOk, OnErr, IfSome, IsTrue, MatchResult};
+ghost use Rattle.wb_names.specs.Arrivals.{outcome_of};
 ghost use Rattle.wb_names.specs.Moments.{IsMoment};
 ghost use Rattle.wb_board.specs.Counts.{IsCellCount};
 ghost use Rattle.wb_recovery.specs.Timing.{are_constants};
+ghost use Rattle.wb_keeper.specs.Keeper.{Arrive, holds};
 ghost use Rattle.wb_keeper.specs.KeepFaults.{IsKeptBy, delay_fault};
-ghost use Rattle.wb_member.specs.Holding.{IsOpenAt, IsUnreached, outcome_in};
+ghost use Rattle.wb_keeper.specs.Keeping.{Keeps};
+ghost use Rattle.wb_member.specs.Board.{OwnsAll, held_of};
+ghost use Rattle.wb_member.specs.Holding.{IsOpenAt, IsUnreached, board_after, outcome_in};
 ghost use Rattle.wb_member.specs.Opened.{Opened, opened_with, present, becomes, accepted, heard, heard_fault, takes_word, answered, with_delay, with_constants, next_due, ticked, ticked_fault, sent_by, next_number};
 
 mod asking;
 mod judged;
 mod telling;
 
-use crate::own_board::OwnBoard;
 use std::alloc::{AllocError, Global};
 use std::marker::Model;
-use wb_board::Reply;
+use wb_board::{Board, BoardFault, Desk, OpenFault, Reply};
 use wb_codec::Datagram;
 use wb_keeper::{KeepFault, Keeper};
-use wb_names::{Drawop, PageId};
+use wb_names::{Drawop, Name, PageId};
 use wb_random::RandomWords;
 use wb_recovery::{Tuning, TuningFault};
 
@@ -30,17 +33,22 @@ pub const STREAM: u64 = 54;
 /// member at which the code may be, and say at which it is afterwards.
 #[derive(Drop)]
 pub struct Member {
-    pub(crate) board: OwnBoard,
+    pub(crate) board: Board,
+    /// The only desk of the board: it owns all rows.
+    pub(crate) desk: Desk,
     pub(crate) keeper: Keeper,
     pub(crate) words: RandomWords,
 }
 
 impl Model for Member {
+    ghost use Rattle.wb_member.specs.Board.{OwnsAll, held_of};
     ghost use Rattle.wb_member.specs.Holding.{MemberValue};
 
     ghost Value = { MemberValue };
 
-    ghost view = { λ s. record { board = s.board; keeper = s.keeper; words = s.words } };
+    ghost view = { λ s. record { board = held_of s.desk; keeper = s.keeper; words = s.words } };
+
+    ghost invariant = { λ s. OwnsAll s.board s.desk };
 }
 
 impl Member {
@@ -58,10 +66,11 @@ impl Member {
         requires constants { are_constants tuning ≡ true }
         ensures { IfOk result (λ s. IsOpenAt s (opened_with tuning member cells seed)) }
     {
-        let board = OwnBoard::open(alloc, cells)?;
+        let (board, desk) = opened(alloc, cells)?;
         match Keeper::new(alloc, member, tuning) {
             Ok(keeper) => Ok(Member {
                 board,
+                desk,
                 keeper,
                 words: RandomWords::new(STREAM, seed),
             }),
@@ -88,7 +97,7 @@ impl Member {
     pub fn held(&self) -> u32
         ensures { result ≡ length self.now.board.drawops }
     {
-        self.board.drawops().len() as u32
+        self.desk.list().len() as u32
     }
 
     /// A drawop arrives, as a batch of its own, and the member tells its keeper. Answers what
@@ -99,8 +108,8 @@ impl Member {
             IsOpenAt self.new (accepted drawop.now host)) }
         ensures err { OnErr result (self.new ≡ self.old) }
     {
-        let reply = self.board.accept(drawop)?;
-        self.board.tell_arrived(&mut self.keeper, &[drawop.name()]);
+        let reply = take(&self.board, &mut self.desk, drawop)?;
+        tell_arrived(&mut self.keeper, &self.desk, &[drawop.name()]);
         Ok(reply)
     }
 
@@ -114,13 +123,17 @@ impl Member {
             IsOpenAt self.new (heard datagram.now host)) }
         ensures err { OnErr result (self.new ≡ self.old) }
     {
+        let now = self.keeper.moment();
         if takes_word(datagram) {
             let (word, rest) = self.words.next_ahead()?;
-            let sent = self.board.hear(alloc, &mut self.keeper, datagram, word)?;
+            let sent = self
+                .keeper
+                .hear(alloc, &self.board, &mut self.desk, now, datagram, word)?;
             self.words = rest;
             return Ok(sent);
         }
-        self.board.hear(alloc, &mut self.keeper, datagram, 0)
+        self.keeper
+            .hear(alloc, &self.board, &mut self.desk, now, datagram, 0)
     }
 
     /// Sets the delay to a source, in microseconds. Refused with `Range`, from 2^24 microseconds
@@ -169,7 +182,9 @@ impl Member {
         }
         let count = self.keeper.due_count(now);
         let (words, rest) = self.words.ahead(alloc, count)?;
-        let sent = self.board.tick(alloc, &mut self.keeper, now, &words)?;
+        let sent = self
+            .keeper
+            .tick(alloc, &self.board, &mut self.desk, now, &words)?;
         self.words = rest;
         Ok(sent)
     }
@@ -181,10 +196,51 @@ impl Member {
         ensures unreached { IfSome result (λ number. (host : Opened) → IsOpenAt self.now host →
             IsUnreached page host number) }
     {
-        let last = self
-            .board
-            .known_number(&self.keeper, page, self.keeper.me());
+        let last = self.keeper.known_number(&self.desk, page, self.keeper.me());
         last.checked_add(1)
+    }
+}
+
+/// An empty board of `cells` cells, and its desk.
+fn opened(alloc: Global, cells: u32) -> Result<(Board, Desk), AllocError>
+    requires { IsCellCount cells }
+    ensures owns { IfOk result (λ t. OwnsAll t.0 t.1) }
+    ensures empty { IfOk result (λ t. held_of t.1 ≡ record { cells = cells; drawops = [] }) }
+{
+    match Board::open(alloc, cells) {
+        Ok(parts) => Ok(parts),
+        Err(OpenFault::Memory) => Err(AllocError),
+        Err(OpenFault::Cells) => unreachable!(),
+    }
+}
+
+/// A board takes one drawop through the desk that owns its rows. Answers what became of it: None if
+/// the board has no cell for it. If an allocation fails, it holds what it held.
+fn take(board: &Board, desk: &mut Desk, drawop: &Drawop) -> Result<Option<Reply>, AllocError>
+    requires { OwnsAll board.now desk.old }
+    ensures owns { OwnsAll board.now desk.new }
+    ensures became { IfOk result
+        (λ reply. outcome_in reply ≡ outcome_of desk.old.cells desk.old.seen drawop.now) }
+    ensures held { OnOk result
+        (held_of desk.new ≡ board_after (held_of desk.old) (drawop.now ∷ [])) }
+    ensures err { OnErr result (held_of desk.new ≡ held_of desk.old) }
+{
+    match board.accept(desk, drawop) {
+        Ok(reply) => Ok(Some(reply)),
+        Err(BoardFault::NoRow) => Ok(None),
+        Err(BoardFault::Memory) => Err(AllocError),
+    }
+}
+
+/// Tells a keeper, at the moment of its last call, that these names arrived at a desk.
+pub(crate) fn tell_arrived(keeper: &mut Keeper, desk: &Desk, names: &[Name])
+    ensures { Keeps (Arrive keeper.old.moment (filter (holds desk.now.seen) names.now))
+        keeper.old keeper.new }
+{
+    let now = keeper.moment();
+    match keeper.arrived(desk, now, names) {
+        Ok(()) => {}
+        Err(_) => unreachable!(),
     }
 }
 

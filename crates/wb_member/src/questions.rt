@@ -1,12 +1,13 @@
 //! What a member is asked, and what it answers. No answer changes the member.
-ghost use Rattle.std.specs.Prelude.{◌≡◌, IfOk};
+ghost use Rattle.std.specs.Prelude.{◌≡◌, true, IfOk};
+ghost use Rattle.wb_display.specs.Canvas.{canvas_text, is_canvas_size};
 ghost use Rattle.wb_member.specs.Holding.{IsOpenAt};
 ghost use Rattle.wb_member.specs.Opened.{Opened};
 ghost use Rattle.wb_member.specs.Questions.{IsAnswerable, answer_to, told};
 
 use crate::member::Member;
 use std::alloc::{AllocError, Global};
-use wb_display::Canvas;
+use wb_display::{Canvas, CanvasFault};
 use wb_names::{Drawop, Gap, Marks, PageId};
 
 /// What a member is asked.
@@ -58,18 +59,46 @@ impl Member {
                 width,
                 height,
             } => {
-                let canvas = self.board.paint(alloc, page, width, height)?;
+                let shown = self.desk.shown(alloc, &self.board, page)?;
+                let canvas = painted(alloc, shown, width, height)?;
                 Ok(Answer::Canvas(canvas))
             }
-            Query::Gaps(page) => Ok(Answer::Gaps(self.board.gaps(alloc, &self.keeper, page)?)),
-            Query::Report(page) => Ok(Answer::Report(self.report(alloc, page)?)),
-            Query::Pages => Ok(Answer::Pages(self.pages(alloc)?)),
-            Query::View(page) => Ok(Answer::View(self.board.view(alloc, page)?)),
+            Query::Gaps(page) => {
+                let holdings = self.desk.holdings()?;
+                let gaps = holdings.gaps(alloc, page, self.keeper.marks(page))?;
+                Ok(Answer::Gaps(gaps))
+            }
+            Query::Report(page) => {
+                let holdings = self.desk.holdings()?;
+                let marks = holdings.report(alloc, page)?;
+                Ok(Answer::Report(marks))
+            }
+            Query::Pages => {
+                let holdings = self.desk.holdings()?;
+                let pages = holdings.pages(alloc)?;
+                Ok(Answer::Pages(pages))
+            }
+            Query::View(page) => {
+                let view = self.board.view(alloc, &mut self.desk, page)?;
+                Ok(Answer::View(view))
+            }
             Query::Known => {
-                let pages = self.board.known_pages(alloc, &self.keeper)?;
+                let pages = self.keeper.known_pages(alloc, &self.board, &mut self.desk)?;
                 Ok(Answer::Known(pages))
             }
             Query::Next(page) => Ok(Answer::Next(self.next_number(page))),
         }
+    }
+}
+
+/// The canvas of what a page shows, `width` cells wide and `height` high.
+fn painted(alloc: Global, shown: &[Drawop], width: u32, height: u32) -> Result<Canvas, AllocError>
+    requires { is_canvas_size width height ≡ true }
+    ensures { IfOk result (λ canvas. canvas ≡ canvas_text shown.now width height) }
+{
+    match Canvas::paint(alloc, shown, width, height) {
+        Ok(canvas) => Ok(canvas),
+        Err(CanvasFault::Memory) => Err(AllocError),
+        Err(CanvasFault::Size) => unreachable!(),
     }
 }

@@ -1,5 +1,6 @@
 pub mod Ascents
 pub mod Buffers
+pub mod Faults
 pub mod Listings
 pub mod MarkLists
 pub mod Orders

@@ -1,7 +1,7 @@
 -- Laws of `Lists`: there is one such list; a sorted rearrangement of a filter is one.
 use Rattle.std.proofs.lemmas.Grind.{common_steps}
-use Rattle.std.proofs.Common.{◌≡◌, zero, suc, ◌+◌, Bool, true, false, cond, List, [], ◌∷◌, refl, ap, ◌∙◌, sym, subst, arith, ◌⊎◌, inl, inr, ⊎_elim, true≢false}
-use Rattle.std.specs.Prelude.{Contains, AllPairs, Any, map, filter, IsTrue, IsPermutation}
+use Rattle.std.proofs.Common.{◌≡◌, ℕ, zero, suc, ◌+◌, Bool, true, false, cond, List, [], ◌∷◌, refl, ap, ◌∙◌, sym, subst, arith, ◌⊎◌, inl, inr, ⊎_elim, true≢false}
+use Rattle.std.specs.Prelude.{Contains, AllPairs, Any, map, filter, take, IsTrue, IsPermutation}
 use Rattle.std.specs.List.{IsDistinct, dedup}
 use Rattle.std.specs.List.Sorted.{IsStrictlySortedBy, IsSorted}
 use Rattle.std.specs.Cmp.{IsTotalOrder, IsEquivalence}
@@ -27,6 +27,15 @@ module _ {X : Type 0} where
 
   pub Contains-none : (z : X) → Contains [] z → ⊥
   Contains-none z (k, h, e) = omega arith
+
+  pub Contains-from_take : (k : ℕ) (xs : List X) (x : X) → Contains (take k xs) x → Contains xs x
+  Contains-from_take zero [] x c = c
+  Contains-from_take zero (y ∷ xs) x c = absurd (Contains-none x c)
+  Contains-from_take (suc k) [] x c = c
+  Contains-from_take (suc k) (y ∷ xs) x c = ⊎_elim
+      (λ (e : y ≡ x). subst (λ (z : X). Contains (y ∷ xs) z) e (Contains-here y xs))
+      (λ (d : Contains (take k xs) x). Contains-there y x xs (Contains-from_take k xs x d))
+      (Contains-cases y x (take k xs) c)
 
   pub Contains-filter : (p : X → Bool) (xs : List X) (x : X) → Contains xs x → IsTrue (p x) → Contains (filter p xs) x
   Contains-filter p [] x h t = absurd (Contains-none x h)

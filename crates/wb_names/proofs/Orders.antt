@@ -43,6 +43,15 @@ same_page-is p q e = grind (arith, common_steps, and_both, page_parts, eqb-true)
 pub same_name-is : (m n : NameValue) → same_name m n ≡ true → m ≡ n
 same_name-is m n e = grind (arith, common_steps, and_both, name_parts, eqb-true, same_page-is)
 
+pub same_page-itself : (p : PageId) → same_page p p ≡ true
+same_page-itself p = grind (arith, nat_tests)
+
+pub same_name-here : (m n : NameValue) → m ≡ n → same_name m n ≡ true
+same_name-here m n e = grind (arith, common_steps, nat_tests)
+
+pub same_name-itself : (n : NameValue) → same_name n n ≡ true
+same_name-itself n = same_name-here n n refl
+
 pub page_ties : (p q : PageId) → same_page p q ≡ eq_by_cmp page_cmp p q
 page_ties p q = grind (arith, common_steps, nat_ties, then_is)
 

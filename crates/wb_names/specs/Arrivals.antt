@@ -6,23 +6,23 @@ use Rattle.wb_names.specs.Same.{same_drawop}
 use Rattle.wb_names.specs.History.{HoldsName, IsNewAt, IsAgainAt, IsClashAt}
 
 pub data Outcome : Type 0 where
-  Fresh : (place : ℕ) → Outcome
-  Known : (place : ℕ) → Outcome
-  Clashed : (place : ℕ) → Outcome
+  New : (place : ℕ) → Outcome
+  Again : (place : ℕ) → Outcome
+  Clash : (place : ℕ) → Outcome
   Left : Outcome
 
 -- a new drawop is left where all cells are filled
 abbrev pub IsTaken : ℕ → List DrawopValue → DrawopValue → Outcome → Type 0
-IsTaken cells history d (Fresh i) = IsNewAt history d i × (length history < cells)
-IsTaken cells history d (Known i) = IsAgainAt history d i
-IsTaken cells history d (Clashed i) = IsClashAt history d i
+IsTaken cells history d (New i) = IsNewAt history d i × (length history < cells)
+IsTaken cells history d (Again i) = IsAgainAt history d i
+IsTaken cells history d (Clash i) = IsClashAt history d i
 IsTaken cells history d Left = (cells ≤ length history) × ¬ HoldsName history d.name
 
--- only a fresh drawop joins the history, at its end
+-- only a new drawop joins the history, at its end
 abbrev pub history_with : List DrawopValue → DrawopValue → Outcome → List DrawopValue
-history_with history d (Fresh i) = history ++ d ∷ []
-history_with history d (Known i) = history
-history_with history d (Clashed i) = history
+history_with history d (New i) = history ++ d ∷ []
+history_with history d (Again i) = history
+history_with history d (Clash i) = history
 history_with history d Left = history
 
 -- one arrival after another: what became of each, and the history after them
@@ -44,9 +44,9 @@ counts fresh again clash left = record { fresh = fresh; again = again; clash = c
 
 -- one outcome more
 abbrev pub counted : Outcome → Counts → Counts
-counted (Fresh i) n = record n { fresh = n.fresh + 1 }
-counted (Known i) n = record n { again = n.again + 1 }
-counted (Clashed i) n = record n { clash = n.clash + 1 }
+counted (New i) n = record n { fresh = n.fresh + 1 }
+counted (Again i) n = record n { again = n.again + 1 }
+counted (Clash i) n = record n { clash = n.clash + 1 }
 counted Left n = record n { left = n.left + 1 }
 
 abbrev pub counts_of : List Outcome → Counts
@@ -59,8 +59,8 @@ IsBatch cells history arrivals after n = (os : List Outcome) × AreTaken cells h
 
 -- The outcome of d is that of the first member with its name, which is looked for from place i on.
 abbrev pub outcome_from : ℕ → ℕ → List DrawopValue → DrawopValue → Outcome
-outcome_from cells i [] d = if nat_lt i cells then Fresh i else Left
-outcome_from cells i (e ∷ es) d = if same_name e.name d.name then (if same_drawop e d then Known i else Clashed i) else outcome_from cells (i + 1) es d
+outcome_from cells i [] d = if nat_lt i cells then New i else Left
+outcome_from cells i (e ∷ es) d = if same_name e.name d.name then (if same_drawop e d then Again i else Clash i) else outcome_from cells (i + 1) es d
 
 abbrev pub outcome_of : ℕ → List DrawopValue → DrawopValue → Outcome
 outcome_of cells history d = outcome_from cells 0 history d

@@ -2,9 +2,8 @@
 use Rattle.std.proofs.Common.{◌≡◌, ℕ, zero, suc, ◌+◌, ◌-◌, ◌*◌, ◌≤◌, ◌<◌, Bool, true, false, cond, List, [], ◌∷◌, ◌∙◌, Option, Some, None, ap, arith, get_or, inl, inr, length, refl, subst, sym, ⊎_elim}
 use Rattle.std.specs.Prelude.{◌⊎◌, ◌||◌, ◌/◌, ◌%◌, Contains, min, nat_le}
 use Rattle.std.specs.List.{find}
-use Rattle.std.proofs.Math.Nat.{add-mod_right, mod-eq_of_lt, mul-le-mul_right}
-use Rattle.std.proofs.lemmas.Bool.{leb-false, leb-true}
-use Rattle.std.proofs.lemmas.Bool.Decides.{nat_tests}
+use Rattle.std.proofs.Math.Nat.{add-mod_right, add_comm, mod-eq_of_lt, mul-le-mul_right}
+use Rattle.std.proofs.lemmas.Bool.{leb-false, leb-true, lt-leb}
 use Rattle.std.proofs.lemmas.List.Elements.{Contains-get_or}
 use Rattle.wb_gaps.specs.Starts.{start}
 use Rattle.std.specs.Option.{option_map, option_or}
@@ -331,9 +330,7 @@ module _ (held : List DrawopValue) (d : Hole) (most lead : ℕ) (some_most : 1 �
   -- ---- each number of a hole
 
   on : (t : Turns) (g : Gap) → t.step + 1 < 64 → window_in t.round g + t.step < g.last → is_through t g ≡ false
-  on t g few less = ap (λ (b : Bool). b || nat_le g.last (window_in t.round g + t.step)) (above 64 (t.step + 1) few) ∙ above g.last (window_in t.round g + t.step) less where
-    above : (a b : ℕ) → b < a → nat_le a b ≡ false
-    above a b lt = grind (arith, nat_tests)
+  on t g few less = ap (λ (b : Bool). b || nat_le g.last (window_in t.round g + t.step)) (lt-leb 64 (t.step + 1) few) ∙ lt-leb g.last (window_in t.round g + t.step) less
 
   -- `more` turns later it is at another number of its window
   walks : (more : ℕ) (t : Turns) (count round i : ℕ) (s : Stands t count round i) → s.of.entered.step + more < 64 → window_in round (at i).gap + (s.of.entered.step + more) ≤ (at i).gap.last
@@ -490,16 +487,13 @@ module _ (held : List DrawopValue) (hole : Hole) (t : Turns) (bound : ℕ) (some
     after_all round small in_window step late led v =
         let next = agains held hole bound lead some fits less t 0 round i windows small v in
         let s = next.it in
-        let same : (windows + round) % windows ≡ p.window = ap (λ (n : ℕ). n % windows) (swapped windows round) ∙ add-mod_right round windows ∙ in_window in
+        let same : (windows + round) % windows ≡ p.window = ap (λ (n : ℕ). n % windows) (add_comm windows round) ∙ add-mod_right round windows ∙ in_window in
         let turns = s.few in
         let last = far_less in
         let first : s.of.entered.step ≡ 0 = ⊎_elim (λ (e : s.of.entered.step ≡ 0). e)
         (λ (none : (windows * length (holes_of held) + 0 ≡ 0) × (min s.of.entered.step (bound - 1) ≤ lead)). let is = none.0 in let le = some_windows in absurd (omega (arith, is, le))) next.fresh in
         standing (windows * length (holes_of held) + 0) (windows + round) (windows * length (holes_of held) * bound) s same (omega (arith, first))
         (bounded (windows * length (holes_of held)) s.turns s.of.entered.step first turns) where
-          swapped : (a b : ℕ) → a + b ≡ b + a
-          swapped a b = omega arith
-
           bounded : (all turns step_there : ℕ) → step_there ≡ 0 → turns + lead ≤ (all + 0) * bound + min step_there (bound - 1) → turns + (p.far - step_there) ≤ all * bound
           bounded all turns step_there first few =
               let same : (all + 0) * bound ≡ all * bound = ap (λ (n : ℕ). n * bound) (omega arith) in
@@ -526,12 +520,9 @@ module _ (held : List DrawopValue) (hole : Hole) (t : Turns) (bound : ℕ) (some
         let c = comes round windows p.window p.within in
         let more = c.few in
         let there = agains held hole bound lead some fits less t count round i c.more (omega (arith, small, more)) v in
-        let same : (c.more + round) % windows ≡ p.window = ap (λ (n : ℕ). n % windows) (swapped c.more round) ∙ c.is in
+        let same : (c.more + round) % windows ≡ p.window = ap (λ (n : ℕ). n % windows) (add_comm c.more round) ∙ c.is in
         visited (c.more * length (holes_of held) + count) (c.more + round) (at_once c.more count (length (holes_of held)) few small) same (rounds c.more count windows (length
         (holes_of held)) more few) there where
-          swapped : (a b : ℕ) → a + b ≡ b + a
-          swapped a b = omega arith
-
           at_once : (more count holes : ℕ) → count < holes → round + windows < 4294967296 → more * holes + count ≡ 0 → more + round + windows < 4294967296
           at_once zero count holes some small none = omega (arith, small)
           at_once (suc more) count holes some small none =

@@ -17,7 +17,7 @@ pub record IsFilled (g : Gap) : Type 0 where
   pub counted : 1 ≤ g.first
   pub filled : g.first ≤ g.last
 
-abbrev AreFilled : List Gap → Type 0
+abbrev pub AreFilled : List Gap → Type 0
 AreFilled [] = Unit {0}
 AreFilled (g ∷ gaps) = IsFilled g × AreFilled gaps
 
@@ -45,7 +45,7 @@ missing : (held : ℕ → ℕ → Bool) (top : ℕ → ℕ) (sources : List ℕ)
 missing held top [] = tt
 missing held top (source ∷ sources) = before (held source) source 1 (top source) (missing_of held top sources) (omega arith) (missing held top sources)
 
-gaps_filled : (history : List DrawopValue) (page : PageId) → AreFilled (gaps_of history page [])
+pub gaps_filled : (history : List DrawopValue) (page : PageId) → AreFilled (gaps_of history page [])
 unfolding gaps_of
 gaps_filled history page = missing (is_held history page) (known history page []) (known_sources history page [])
 

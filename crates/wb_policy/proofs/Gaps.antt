@@ -5,10 +5,10 @@ use Rattle.wb_policy.specs.Laws.{IdleTurnsAreRare, SuccessHurries, TurnsArePaced
 use Rattle.wb_policy.specs.Pace.{gap_within}
 use Rattle.wb_policy.specs.declared.pace.Pace.{Pace}
 
-gap_least : (gap : ℕ) → 1000000 ≤ gap_within gap
+pub gap_least : (gap : ℕ) → 1000000 ≤ gap_within gap
 gap_least gap = omega arith
 
-gap_most : (gap : ℕ) → gap_within gap ≤ 16000000
+pub gap_most : (gap : ℕ) → gap_within gap ≤ 16000000
 gap_most gap = omega arith
 
 pub turns_are_paced : TurnsArePaced

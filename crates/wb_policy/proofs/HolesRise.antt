@@ -8,8 +8,8 @@ use Rattle.std.specs.declared.cmp.Ordering.{Ordering}
 use Rattle.std.specs.declared.cmp.Ordering.TheVariants.{Less, Equal, Greater}
 use Rattle.std.proofs.lemmas.Bool.Decides.{nat_tests}
 use Rattle.std.proofs.lemmas.Grind.{common_steps}
+use Rattle.std.proofs.lemmas.Cmp.{ranked}
 use Rattle.std.proofs.lemmas.List.Concat.{flat_map-cons}
-use Rattle.std.proofs.lemmas.List.Elements.{Contains-get_or}
 use Rattle.std.proofs.lemmas.Map.Keys.{sorted_tail}
 use Rattle.wb_names.specs.Orders.{page_cmp}
 use Rattle.wb_names.specs.Values.{DrawopValue}
@@ -25,10 +25,10 @@ use Rattle.wb_gaps.specs.declared.holdings.Start.{Start}
 use Rattle.wb_gaps.specs.declared.holes.Hole.{Hole}
 use Rattle.wb_gaps.proofs.MissingRanges.{gaps_of_page}
 use Rattle.wb_gaps.proofs.PageAnswers.{pages_of_history}
-use Rattle.wb_gaps.proofs.Starts.{by_number, nat_itself, page_itself, start_total}
+use Rattle.wb_gaps.proofs.Starts.{by_number, is_less, nat_itself, page_itself, start_total}
 use Rattle.wb_policy.specs.Turns.{nowhere}
 use Rattle.wb_policy.proofs.Cycle as cycle
-use Rattle.wb_policy.proofs.FilledHoles.{IsFilled}
+use Rattle.wb_policy.proofs.FilledHoles.{AreFilled, IsFilled, gaps_filled}
 
 abbrev pub first_of : Hole → Start
 first_of h = start h.page h.gap.source h.gap.first
@@ -49,24 +49,6 @@ Rise [] = Unit {0}
 Rise (h ∷ holes) = IsFilled h.gap × AreBehind h holes × Rise holes
 
 -- ---- of one page
-
-abbrev AreFilled : List Gap → Type 0
-AreFilled [] = Unit {0}
-AreFilled (g ∷ gaps) = IsFilled g × AreFilled gaps
-
-filled_each : (gaps : List Gap) → ((i : ℕ) (d : Gap) → i < length gaps → IsFilled (get_or gaps i d)) → AreFilled gaps
-filled_each [] each = tt
-filled_each (g ∷ gaps) each = (each 0 g (omega arith), filled_each gaps (λ i d lt. each (suc i) d (omega (arith, lt))))
-
--- no gap is without a number, and none has the number 0
-gaps_filled : (history : List DrawopValue) (page : PageId) → AreFilled (gaps_of history page [])
-gaps_filled history page =
-    let are = gaps_of_page history page [] in
-    let gaps = gaps_of history page [] in
-    filled_each gaps (λ i d lt.
-    let g = get_or gaps i d in
-    let filled = are.filled i d lt in
-    record { counted = ((are.missing g.source g.first).0 (g, Contains-get_or gaps i d lt, refl, omega arith, filled)).counted; filled = filled })
 
 nat_less : (a b : ℕ) → a < b → nat_cmp a b ≡ Less
 nat_less a b lt = grind (arith, common_steps, nat_tests)
@@ -137,9 +119,7 @@ up_to_last : (place : Start) (h : Hole) → IsFilled h.gap → start_cmp place (
 up_to_last place h filled less = by (nat_cmp h.gap.first h.gap.last) refl where
   by : (o : Ordering) → nat_cmp h.gap.first h.gap.last ≡ o → start_cmp place (last_of h) ≡ Less
   by Less e = start_total.trans place (first_of h) (last_of h) less (by_number h.page h.gap.source h.gap.first h.gap.last ∙ e)
-  by Equal e = subst (λ (n : ℕ). start_cmp place (start h.page h.gap.source n) ≡ Less) (tied h.gap.first h.gap.last e) less where
-    tied : (a b : ℕ) → nat_cmp a b ≡ Equal → a ≡ b
-    tied a b e = grind (arith, common_steps, nat_tests)
+  by Equal e = subst (λ (n : ℕ). start_cmp place (start h.page h.gap.source n) ≡ Less) (ranked h.gap.first h.gap.last Equal (sym e)) less
   by Greater e = absurd (above h.gap.first h.gap.last filled.filled e) where
     above : (a b : ℕ) → a ≤ b → nat_cmp a b ≡ Greater → ⊥
     above a b le e = grind (arith, common_steps, nat_tests)
@@ -147,15 +127,10 @@ up_to_last place h filled less = by (nat_cmp h.gap.first h.gap.last) refl where
 -- nor behind the end of a later one
 not_before : (h g : Hole) → IsFilled h.gap → IsFilled g.gap → Precedes h g → begins_after (last_of g) h ≡ false
 not_before h g filled other precedes = by (begins_after (last_of g) h) refl where
-  less_is : (o : Ordering) → is_lt o ≡ true → o ≡ Less
-  less_is Less e = refl
-  less_is Equal e = absurd (true≢false (sym e))
-  less_is Greater e = absurd (true≢false (sym e))
-
   by : (b : Bool) → begins_after (last_of g) h ≡ b → b ≡ false
   by false e = refl
   by true e =
-      let down = up_to_last (last_of g) h filled (less_is (start_cmp (last_of g) (first_of h)) e) in
+      let down = up_to_last (last_of g) h filled (is_less (start_cmp (last_of g) (first_of h)) e) in
       let round = start_total.trans (last_of g) (last_of h) (first_of g) down precedes in
       absurd (true≢false (sym (ap is_lt round) ∙ not_itself g other))
 

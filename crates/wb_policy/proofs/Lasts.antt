@@ -9,6 +9,7 @@ use Rattle.std.proofs.lemmas.List.Elements.{All-cons, All-from_get_or, All-nil}
 use Rattle.std.proofs.lemmas.List.Sorted.{sum_by-IsPermutation}
 use Rattle.std.proofs.lemmas.List.Filters.{length-filter_both}
 use Rattle.std.proofs.lemmas.List.Sums.{count_by-le-length, length-filter, sum_by-append, sum_by-cons, sum_by-le, sum_by-le-sum_by}
+use Rattle.std.proofs.lemmas.Bool.{le-ltb, lt-ltb, not-true}
 use Rattle.wb_names.specs.declared.echo.Echo.{Echo}
 use Rattle.wb_gaps.proofs.PageRanges.{same_filter}
 use Rattle.wb_policy.specs.Choices.{heard_later, last_heard}
@@ -102,33 +103,23 @@ every : (P : Echo → Type 0) → ((e : Echo) → P e) → (es : List Echo) → 
 every P each [] = All-nil P
 every P each (e ∷ es) = All-cons P e es (each e) (every P each es)
 
-is_false : (b : Bool) → not b ≡ true → b ≡ false
-is_false true is = sym is
-is_false false is = refl
-
-below : (n : ℕ) → n < 32 → nat_lt n 32 ≡ true
-below n few = grind (arith, nat_tests)
-
-not_below : (n : ℕ) → 32 ≤ n → nat_lt n 32 ≡ false
-not_below n many = grind (arith, nat_tests)
-
 module _ (all : List Echo) (first : Echo) (few : count_by (λ e. heard_later e first) all < 32) (many : 32 ≤ count_by (λ e. not (heard_later first e)) all) where
   same_test : (x : Echo) → nat_lt (count_by (λ e. heard_later e x) all) 32 ≡ not (heard_later first x)
   same_test x = by (heard_later first x) refl where
     by : (b : Bool) → heard_later first x ≡ b → nat_lt (count_by (λ e. heard_later e x) all) 32 ≡ not b
     by true later =
-        let more = more_pass (λ e. not (heard_later first e)) (λ e. heard_later e x) all (λ e here. before e first x (is_false (heard_later first e) here) later) in
-        not_below (count_by (λ e. heard_later e x) all) (omega (arith, more, many))
+        let more = more_pass (λ e. not (heard_later first e)) (λ e. heard_later e x) all (λ e here. before e first x (not-true (heard_later first e) here) later) in
+        le-ltb (count_by (λ e. heard_later e x) all) 32 (omega (arith, more, many))
     by false here =
         let more = more_pass (λ e. heard_later e x) (λ e. heard_later e first) all (λ e later. past e x first later here) in
-        below (count_by (λ e. heard_later e x) all) (omega (arith, more, few))
+        lt-ltb (count_by (λ e. heard_later e x) all) 32 (omega (arith, more, few))
 
   pub last_are_not_before : filter (λ e. not (heard_later first e)) all ≡ last_heard all
   last_are_not_before = sym (same_filter (λ x. nat_lt (count_by (λ e. heard_later e x) all) 32) (λ e. not (heard_later first e)) all (every _ same_test all))
 
 -- where there are fewer, each of them
 pub few_are_last : (all : List Echo) → length all < 32 → last_heard all ≡ all
-few_are_last all few = same_filter (λ x. nat_lt (count_by (λ e. heard_later e x) all) 32) (λ e. true) all (every _ (λ x. let c = count_by-le-length (λ e. heard_later e x) all in below (count_by (λ e. heard_later e x) all) (omega (arith, c, few))) all) ∙ filter_all all where
+few_are_last all few = same_filter (λ x. nat_lt (count_by (λ e. heard_later e x) all) 32) (λ e. true) all (every _ (λ x. let c = count_by-le-length (λ e. heard_later e x) all in lt-ltb (count_by (λ e. heard_later e x) all) 32 (omega (arith, c, few))) all) ∙ filter_all all where
   filter_all : (es : List Echo) → filter (λ e. true) es ≡ es
   filter_all [] = refl
   filter_all (e ∷ es) = ap (λ (rest : List Echo). e ∷ rest) (filter_all es)

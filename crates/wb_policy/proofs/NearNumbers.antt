@@ -1,7 +1,7 @@
 -- The numbers near one are at most so far away, and all that are so far away are among them.
-use Rattle.std.proofs.Common.{◌≡◌, ℕ, zero, suc, ◌+◌, ◌-◌, ◌≤◌, ◌<◌, Bool, true, false, cond, List, [], ◌∷◌, ◌++◌, arith, refl, subst, sym, true≢false}
+use Rattle.std.proofs.Common.{◌≡◌, ℕ, zero, suc, ◌+◌, ◌-◌, ◌≤◌, ◌<◌, Bool, true, false, cond, List, [], ◌∷◌, ◌++◌, arith, refl, subst, sym}
 use Rattle.std.specs.Prelude.{◌&&◌, All, Contains, nat_le, nat_lt}
-use Rattle.std.proofs.lemmas.Bool.{and_parts, le-leb, leb-false, leb-true}
+use Rattle.std.proofs.lemmas.Bool.{and_from, and_parts, le-leb, leb-false, leb-true}
 use Rattle.std.proofs.lemmas.List.Elements.{All-append, All-cons, All-map, All-nil, Contains-append_left, Contains-append_right}
 use Rattle.wb_names.specs.History.{name_of}
 use Rattle.wb_names.specs.Values.{NameValue}
@@ -41,10 +41,7 @@ each_near P name top each = All-map P (name_of name.page name.source) (numbers_n
 
 it_is_below : (top m : ℕ) → 1 ≤ m → m < top → Contains (if_below top m) m
 it_is_below top m counted below =
-    subst (λ (b : Bool). Contains (cond b (m ∷ []) []) m) (sym (both (nat_le 1 m) (nat_lt m top) (le-leb 1 m counted) (le-leb (suc m) top below))) (Contains-here m []) where
-      both : (a b : Bool) → a ≡ true → b ≡ true → (a && b) ≡ true
-      both true b e f = f
-      both false b e f = absurd (true≢false (sym e))
+    subst (λ (b : Bool). Contains (cond b (m ∷ []) []) m) (sym (and_from (nat_le 1 m) (nat_lt m top) (le-leb 1 m counted) (le-leb (suc m) top below))) (Contains-here m [])
 
 pub near_is_among : NearIsAmong
 near_is_among n top zero m near other = absurd (other (let a = near.above in let u = near.under in omega (arith, a, u)))

@@ -1,8 +1,7 @@
 -- How many names are asked for from one moment to another.
 use Rattle.std.proofs.Common.{◌≡◌, ℕ, ◌+◌, ◌-◌, ◌*◌, ◌≤◌, Bool, true, false, List, [], ◌∷◌, arith}
-use Rattle.std.specs.Prelude.{max, nat_le}
-use Rattle.std.proofs.lemmas.Bool.{leb-true}
-use Rattle.std.proofs.lemmas.Bool.Decides.{nat_tests}
+use Rattle.std.specs.Prelude.{max}
+use Rattle.std.proofs.lemmas.Bool.{le-leb, leb-true}
 use Rattle.wb_policy.specs.Credit.{has_credit}
 use Rattle.wb_policy.specs.Laws.{Spending, Asks, Comes, owed_after, asks_in, comes_in, IsSpent, FewAreAsked}
 use Rattle.wb_policy.specs.Wanting.{is_paid}
@@ -25,13 +24,10 @@ paid owed start end [] spent = record { after = spent; owes = omega arith; few =
 paid owed start end (Asks now ∷ before) spent = one_asked start now end (owed_after owed before) (asks_in before) (comes_in before) spent.0 (leb-true _ _ spent.1) (paid owed start now before spent.2)
 paid owed start end (Comes ∷ before) spent = one_came start end (owed_after owed before) (asks_in before) (comes_in before) (paid owed start end before spent)
 
-le_true : (a b : ℕ) → a ≤ b → nat_le a b ≡ true
-le_true a b le = grind (arith, nat_tests)
-
 -- where there is credit for a name, a place is left
 pub has_place : (any : Bool) (owed now : ℕ) → is_paid any owed now ≡ true → has_credit owed now ≡ true
 has_place true owed now e = e
-has_place false owed now e = let le = leb-true (max owed now - now) (47 * 250000) e in le_true (max owed now - now) (63 * 250000) (omega (arith, le))
+has_place false owed now e = let le = leb-true (max owed now - now) (47 * 250000) e in le-leb (max owed now - now) (63 * 250000) (omega (arith, le))
 
 pub few_are_asked : FewAreAsked
 few_are_asked owed start end spending spent = (paid owed start end spending spent).few

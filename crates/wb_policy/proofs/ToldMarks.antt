@@ -8,13 +8,14 @@ use Rattle.std.specs.Option.{option_or}
 use Rattle.std.specs.Ordering.{is_lt, nat_cmp, ordering_reverse}
 use Rattle.std.specs.declared.cmp.Ordering.TheVariants.{Less}
 use Rattle.std.proofs.Math.ListN.{drop_of_length-le}
+use Rattle.std.proofs.Math.Numerals.{suc-eq-add-one}
 use Rattle.std.proofs.lemmas.Bool.{leb-false, leb-true, lt-ltb, ltb-true}
 use Rattle.std.proofs.lemmas.Bool.Decides.{nat_tests}
-use Rattle.std.proofs.lemmas.Grind.{common_steps}
 use Rattle.std.proofs.lemmas.List.{get_or-drop, get_or-take, length-drop, length-take, take_all}
 use Rattle.std.proofs.lemmas.List.Elements.{Contains-get_or}
 use Rattle.std.proofs.lemmas.List.Sums.{count_by-le-length, length-filter, sum_by_more, sum_by_more_le}
 use Rattle.std.proofs.lemmas.Map.Keys.{sorted_head, sorted_tail}
+use Rattle.std.proofs.lemmas.Cmp.{ranked}
 use Rattle.wb_names.specs.Orders.{page_cmp, same_page}
 use Rattle.wb_names.specs.Values.{DrawopValue, MarkValue}
 use Rattle.wb_names.specs.declared.name.PageId.{PageId}
@@ -57,9 +58,7 @@ ascend_of p (m ∷ marks) all = by (p m) (ascend_of p marks all.1) where
 module _ (history : List DrawopValue) (page : PageId) where
   tops_above : (a : ℕ) (sources : List ℕ) → AllByRecursion (λ s. nat_cmp a s ≡ Less) sources → AreAbove a (map (top_mark history page) sources)
   tops_above a [] all = tt
-  tops_above a (s ∷ sources) all = (is_below a s all.0, tops_above a sources all.1) where
-    is_below : (a b : ℕ) → nat_cmp a b ≡ Less → a < b
-    is_below a b e = grind (arith, common_steps, nat_tests)
+  tops_above a (s ∷ sources) all = (ranked a s Less (sym all.0), tops_above a sources all.1)
 
   tops_ascend : (sources : List ℕ) → IsStrictlySortedBy nat_cmp sources → Ascend (map (top_mark history page) sources)
   tops_ascend [] rising = tt
@@ -78,9 +77,7 @@ IsLeft told (m ∷ marks) = (is_untold told m.source ≡ true) × IsLeft (Some m
 
 left_above : (a : ℕ) (marks : List MarkValue) → AreAbove a marks → Ascend marks → IsLeft (Some a) marks
 left_above a [] above all = tt
-left_above a (m ∷ marks) above all = (is_above a m.source above.0, left_above m.source marks all.0 all.1) where
-  is_above : (a b : ℕ) → a < b → nat_lt a b ≡ true
-  is_above a b lt = grind (arith, nat_tests)
+left_above a (m ∷ marks) above all = (lt-ltb a m.source above.0, left_above m.source marks all.0 all.1)
 
 left_of : (told : Option ℕ) (marks : List MarkValue) → Ascend marks → IsLeft told (filter (λ m. is_untold told m.source) marks)
 left_of told [] all = tt
@@ -92,13 +89,14 @@ left_of told (m ∷ marks) all = by (is_untold told m.source) refl (left_of told
   by true e later = (e, left_above m.source rest (above_of (λ m. is_untold told m.source) m.source marks all.0) (ascend_of (λ m. is_untold told m.source) marks all.1))
   by false e later = later
 
+pub higher : (told : Option ℕ) (a n : ℕ) → is_untold told a ≡ true → nat_lt a n ≡ true → is_untold told n ≡ true
+higher None a n e f = refl
+higher (Some t) a n e f = grind (arith, nat_tests)
+
 -- the last source of some marks that are left is not below the last before
 no_lower : (told : Option ℕ) (marks : List MarkValue) (n : ℕ) → IsLeft told marks → is_untold (last_source told marks) n ≡ true → is_untold told n ≡ true
 no_lower told [] n left untold = untold
-no_lower told (m ∷ marks) n left untold = higher told m.source n left.0 (no_lower (Some m.source) marks n left.1 untold) where
-  higher : (told : Option ℕ) (a n : ℕ) → is_untold told a ≡ true → nat_lt a n ≡ true → is_untold told n ≡ true
-  higher None a n e f = refl
-  higher (Some t) a n e f = grind (arith, nat_tests)
+no_lower told (m ∷ marks) n left untold = higher told m.source n left.0 (no_lower (Some m.source) marks n left.1 untold)
 
 first_left : (k : ℕ) (told : Option ℕ) (marks : List MarkValue) → IsLeft told marks → IsLeft told (take k marks)
 first_left zero told marks left = tt
@@ -396,9 +394,7 @@ module _ (held : List DrawopValue) (t : Told) where
     before i = sum_by (slices_on held) (take i pages)
 
     before_more : (i : ℕ) → i < length pages → before (suc i) ≡ before i + slices_on held (page_at i)
-    before_more i lt = ap (λ (n : ℕ). before n) (next i) ∙ sum_by_more (slices_on held) pages i d lt where
-      next : (i : ℕ) → suc i ≡ i + 1
-      next i = omega arith
+    before_more i lt = ap (λ (n : ℕ). before n) (suc-eq-add-one i) ∙ sum_by_more (slices_on held) pages i d lt
 
     next_page : (i : ℕ) → i + 1 < length pages → page_after (page_at i) pages ≡ page_at (suc i)
     next_page i lt = ap (λ (o : Option PageId). unwrap_or (option_or o (first_of_pages pages)) nowhere) (cycle.found_next is_after pages i d (pages_ascend held) lt)

@@ -315,16 +315,13 @@ module _ (far me : ℕ) (bound t : Tuning) (call : KeeperCall) (calls : List Kee
       (λ (r : (answer : AnswerTimer) × (s_0.answer ≡ Some answer) × (answer.due ≤ k.now)). inr (inr (r.0, r.1, fires r.0.due k.is r.2), near))
       (quiet_fires k.now s_0.quiet s_0.answer))
 
-  none_some : (o : Option AskTimer) (ask : AskTimer) → o ≡ None → o ≡ Some ask → ⊥
-  none_some o ask e f = cc
-
   pub ask_begins : (ask : AskTimer) → s_0.ask ≡ None → s_1.ask ≡ Some ask → Misses n call × (ask.due ≤ moment_at (call ∷ calls) + (bound.c1 + bound.c2) * far) × (ask.level ≡ 0)
   ask_begins ask none is = by_case
-      (λ e. absurd (none_some s_1.ask ask (ap (λ (k : Timers). k.ask) e ∙ none) is))
-      (λ b. absurd (none_some s_1.ask ask b.1 is))
-      (λ h. absurd (none_some s_1.ask ask (ap (λ (k : Timers). k.ask) h.becomes ∙ asked_no_ask h.constants h.by.held h.by.now h.delay h.by.word s_0 none) is))
+      (λ e. absurd (none-some ask (sym (ap (λ (k : Timers). k.ask) e ∙ none) ∙ is)))
+      (λ b. absurd (none-some ask (sym b.1 ∙ is)))
+      (λ h. absurd (none-some ask (sym (ap (λ (k : Timers). k.ask) h.becomes ∙ asked_no_ask h.constants h.by.held h.by.now h.delay h.by.word s_0 none) ∙ is)))
       (λ m. (m.0, at_miss m.0 (subst (λ (o : Option AskTimer). IfSome o (λ (a : AskTimer). a.due ≤ moment_at (call ∷ []) + (bound.c1 + bound.c2) * far)) is (m.1.new none)), subst (λ (o : Option AskTimer). IfSome o (λ (a : AskTimer). a.level ≡ 0)) is (m.1.lowest none)))
-      (λ k. absurd (none_some s_1.ask ask (ap (λ (r : Timers). r.ask) k.becomes ∙ ap (fired_ask k.constants k.now k.word) none) is)) where
+      (λ k. absurd (none-some ask (sym (ap (λ (r : Timers). r.ask) k.becomes ∙ ap (fired_ask k.constants k.now k.word) none) ∙ is))) where
         at_miss : Misses n call → ask.due ≤ moment_at (call ∷ []) + (bound.c1 + bound.c2) * far → ask.due ≤ moment_at (call ∷ calls) + (bound.c1 + bound.c2) * far
         at_miss m le = subst (λ (k : ℕ). ask.due ≤ k + (bound.c1 + bound.c2) * far) (ap (λ (c : KeeperCall). moment_at (c ∷ [])) m.is ∙ sym (ap (λ (c : KeeperCall). moment_at (c ∷ calls)) m.is)) le
 
@@ -356,7 +353,7 @@ requests_are_heard far me bound t calls now asker word n other within = subst Fo
 
 -- ---- a request timer that was not backed off
 
-backed_level : (level : ℕ) → min (level + 1) 16 ≡ 0 → ⊥
+pub backed_level : (level : ℕ) → min (level + 1) 16 ≡ 0 → ⊥
 backed_level level e = omega (arith, e)
 
 -- what backs off or not, and was not backed off, is as it was

@@ -19,9 +19,7 @@ use Rattle.wb_progress.proofs.Giving.{Spares, spares_held, Called, Copy, IsGiven
 use Rattle.wb_progress.proofs.OneCall.{ticks_ask}
 use Rattle.wb_progress.proofs.Parts.{before_end, order_of, joined, AreFrom, from_at, from_tail}
 use Rattle.std.proofs.lemmas.Bool.{le-leb}
-
-itself : (n : ℕ) → n ≤ n
-itself n = omega arith
+use Rattle.std.proofs.Math.Nat.{le_refl}
 
 module _ {MayStop : List Turn → Turn → NameValue → Type 0} (places : Places) (terms : Terms) (turns : List Turn) (is : KeepTimeBut MayStop places terms turns) (i : ℕ) (live : Contains terms.live i) (n : NameValue) (a : IsAnswerable places terms turns n) (spares : Spares places MayStop n) where
   abbrev asks : List Turn → Option AskTimer
@@ -73,7 +71,7 @@ module _ {MayStop : List Turn → Turn → NameValue → Type 0} (places : Place
           let sends = ticks_ask (places.me i) (places.constants i) (desk_at places older i).calls (desk_at places older i).held f.now n due lost in
           let there = (is.are.turn newer older e split (subst (Contains terms.live) (sym c.place) live)).sends f.now f.words f.stopped (c.accepts ∙ ap (λ (k : KeeperCall). k ∷ (desk_at places older e.place).calls) f.is) (Request (places.me i) n)
           (subst (λ (k : ℕ). Contains (sent_by_tick (places.me k) (places.constants k) (desk_at places older k).calls (desk_at places older k).held f.now) (Request (places.me i) n)) (sym c.place) sends) in
-          asked_for newer older e (places.me i) split (omega arith) (itself e.time) there
+          asked_for newer older e (places.me i) split (omega arith) (le_refl e.time) there
 
       heard : (c : Called places terms turns is older e i) → Requests (places.me i) n c.call → HoldBy e.time
       heard c r =

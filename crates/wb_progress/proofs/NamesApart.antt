@@ -1,5 +1,5 @@
 -- Lists in which nothing stands twice.
-use Rattle.std.proofs.Common.{◌≡◌, ℕ, zero, suc, ◌+◌, ◌≤◌, List, [], ◌∷◌, ◌++◌, length, take, ap, ◌∙◌, sym, subst, arith, ◌⊎◌, inl, inr, ⊎_elim}
+use Rattle.std.proofs.Common.{◌≡◌, ℕ, ◌+◌, ◌≤◌, List, [], ◌∷◌, ◌++◌, length, ap, ◌∙◌, sym, subst, arith, ◌⊎◌, inl, inr, ⊎_elim}
 use Rattle.std.specs.Prelude.{Contains}
 use Rattle.std.specs.List.Sorted.{IsStrictlySortedBy}
 use Rattle.std.specs.Ordering.{ordering_reverse}
@@ -21,15 +21,6 @@ apart_of [] s = tt
 apart_of (n ∷ names) s = ((λ c. itself (below_all name_total n n names s c)), apart_of names (sorted_tail name_cmp n names s)) where
   itself : name_cmp n n ≡ Less → ⊥
   itself e = less_greater (sym e ∙ name_total.antisymm n n ∙ ap ordering_reverse e)
-
-pub from_take : {X : Type 0} (k : ℕ) (xs : List X) (x : X) → Contains (take k xs) x → Contains xs x
-from_take zero [] x c = c
-from_take zero (y ∷ xs) x c = absurd (Contains-none x c)
-from_take (suc k) [] x c = c
-from_take {X} (suc k) (y ∷ xs) x c = ⊎_elim
-    (λ (e : y ≡ x). subst (λ (z : X). Contains (y ∷ xs) z) e (Contains-here y xs))
-    (λ (d : Contains (take k xs) x). Contains-there y x xs (from_take k xs x d))
-    (Contains-cases y x (take k xs) c)
 
 -- ---- one less
 

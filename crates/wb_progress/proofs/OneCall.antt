@@ -6,7 +6,7 @@ use Rattle.std.proofs.lemmas.List.Elements.{Contains-append_left, Contains-appen
 use Rattle.wb_names.specs.Values.{NameValue, DrawopValue}
 use Rattle.wb_names.specs.History.{IsHistory}
 use Rattle.wb_names.specs.Orders.{same_name}
-use Rattle.wb_names.proofs.Orders.{same_name-is}
+use Rattle.wb_names.proofs.Orders.{same_name-here, same_name-is}
 use Rattle.wb_names.proofs.Listings.{Contains-here, Contains-there, Contains-cases, Contains-none, Contains-filter, Contains-from_filter, Contains-map}
 use Rattle.wb_codec.specs.declared.datagram.Datagram.{Datagram}
 use Rattle.wb_codec.specs.declared.datagram.Datagram.TheVariants.{Draw, Request}
@@ -25,7 +25,6 @@ use Rattle.wb_keeper.specs.GivingUp.{is_asked}
 use Rattle.wb_keeper.specs.Keeper.{KeeperCall, Miss, delay_to, received_of, given_up, events_of, holds}
 use Rattle.wb_keeper.specs.Ticks.{sent_for, sent_by_tick, stopped_after}
 use Rattle.wb_keeper.proofs.FoundDrawops.{found_member}
-use Rattle.wb_keeper.proofs.KeptCalls.{same_here}
 use Rattle.wb_keeper.proofs.TickSends.{sent_by}
 use Rattle.wb_progress.specs.Keepers.{constants_at}
 use Rattle.wb_progress.specs.Repairs.{timers_at, gone_on, IsIdle, TicksAsk, TicksAnswer, TicksClear, TicksEnd, TicksLeave, RequestsSet, MissesStand, GivenUpIsIdle}
@@ -36,7 +35,7 @@ use Rattle.std.proofs.lemmas.Bool.{le-leb, false_from_ne_true}
 pub received_in : (delays : ℕ → ℕ) (names : List NameValue) (n : NameValue) → Contains names n → is_received (received_of delays names) n ≡ true
 received_in delays [] n c = absurd (Contains-none n c)
 received_in delays (m ∷ names) n c = ⊎_elim
-    (λ (e : m ≡ n). ap (λ (b : Bool). b || is_received (received_of delays names) n) (same_here m n e))
+    (λ (e : m ≡ n). ap (λ (b : Bool). b || is_received (received_of delays names) n) (same_name-here m n e))
     (λ (d : Contains names n). later (same_name m n) (received_in delays names n d))
     (Contains-cases m n names c) where
       later : (b : Bool) → is_received (received_of delays names) n ≡ true → (b || is_received (received_of delays names) n) ≡ true
@@ -191,7 +190,7 @@ module _ (me : ℕ) (t : Tuning) (calls : List KeeperCall) (now asker word : ℕ
   sets other = from (nat_eq asker me) refl where
     from : (b : Bool) → nat_eq asker me ≡ b → timers_of t (cond b (events_of me calls) (Asked n true now delay word ∷ events_of me calls)) n ≡ set
     from true e = absurd (other (eqb-true asker me e))
-    from false e = ap (λ (b : Bool). cond b (asked (constants_at me t calls) true now delay word before) before) (same_here n n refl) ∙ sets_here
+    from false e = ap (λ (b : Bool). cond b (asked (constants_at me t calls) true now delay word before) before) (same_name-here n n refl) ∙ sets_here
 
 pub requests_set : RequestsSet
 requests_set me t calls now asker word n other idle quiet = sets me t calls now asker word n idle quiet other
@@ -206,7 +205,7 @@ pub misses_stand : MissesStand
 misses_stand me t calls now word n =
     let s = timers_at me t calls n in
     let delay = delay_to me calls n.source in
-    ap (λ (b : Bool). is_some (cond b (noticed (constants_at me t calls) now delay word s) s).ask) (same_here n n refl) ∙ stands (constants_at me t calls) now delay word s
+    ap (λ (b : Bool). is_some (cond b (noticed (constants_at me t calls) now delay word s) s).ask) (same_name-here n n refl) ∙ stands (constants_at me t calls) now delay word s
 
 -- ---- a name that is given up
 
@@ -225,5 +224,5 @@ pub sets_anew : (me : ℕ) (t : Tuning) (calls : List KeeperCall) (now word : �
 sets_anew me t calls now word n none =
     let s = timers_at me t calls n in
     let delay = delay_to me calls n.source in
-    ap (λ (b : Bool). (cond b (noticed (constants_at me t calls) now delay word s) s).ask) (same_here n n refl)
+    ap (λ (b : Bool). (cond b (noticed (constants_at me t calls) now delay word s) s).ask) (same_name-here n n refl)
     ∙ ap (λ (o : Option AskTimer). (cond (is_none o) (record s { ask = Some (new_ask (constants_at me t calls) now delay word) }) s).ask) none

@@ -1,7 +1,7 @@
 -- How a keeper comes to ask for a name, and how one that holds it comes to answer.
 use Rattle.std.proofs.Common.{◌≡◌, ℕ, ◌+◌, ◌*◌, ◌^◌, ◌<◌, ◌≤◌, true, List, [], ◌∷◌, Option, Some, None, refl, ap, ◌∙◌, sym, subst, arith, true≢false}
 use Rattle.std.specs.Prelude.{IfSome, is_some, Contains}
-use Rattle.std.proofs.Math.Nat.{pow-le-pow_right, mul-le-mul}
+use Rattle.std.proofs.Math.Nat.{pow-le-pow_right, mul-le-mul, le_refl}
 use Rattle.wb_names.specs.Values.{DrawopValue}
 use Rattle.wb_names.specs.History.{IsHistory}
 use Rattle.wb_names.proofs.Orders.{and_both}
@@ -35,9 +35,6 @@ small t e =
     let c = and_both (is_constant t.c1) (is_constant t.c2) b.0 in
     record { c1 = most t.c1 c.0; c2 = most t.c2 c.1; d1 = most t.d1 b.1; d2 = most t.d2 a.1 }
 
-itself : (k : ℕ) → k ≤ k
-itself k = omega arith
-
 pub asking_bound : (level c delay : ℕ) → level ≤ 16 → c ≤ 32 → delay ≤ farthest → 2 ^ level * c * delay ≤ 2 ^ 45
 asking_bound level c delay l x d =
     let two : 0 < 2 = omega arith in
@@ -57,7 +54,7 @@ asker_asks me t calls history n constants orderly h stands =
       from : (o : Option AskTimer) → IfSome o (IsAskNear greatest_constants farthest (moment_at calls)) → is_some o ≡ true → is_ask_due (moment_at calls + asking_wait) o ≡ true
       from None near e = absurd (true≢false (sym e))
       from (Some a) near e =
-          let b = asking_bound a.level 32 a.delay near.level (itself 32) near.delay in
+          let b = asking_bound a.level 32 a.delay near.level (le_refl 32) near.delay in
           let due = near.due in
           le-leb a.due (moment_at calls + asking_wait) (omega (arith, b, due))
 
@@ -70,14 +67,14 @@ asked_anew_is_soon me t calls history n word constants orderly lost none =
     let stopped = gave_up me t calls now n in
     let delay = delay_to me stopped n.source in
     let now_used = constants_at me t stopped in
-    let s = small now_used (in_range me t stopped constants (itself now, tt, orderly)) in
+    let s = small now_used (in_range me t stopped constants (le_refl now, tt, orderly)) in
     let c1 = s.c1 in
     let c2 = s.c2 in
     let sum : now_used.c1 + now_used.c2 ≤ 32 = omega arith in
     let timer = new_ask now_used now delay word in
     let set : (timers_at me t (Miss now (n ∷ []) (word ∷ []) ∷ stopped) n).ask ≡ Some timer = sets_anew me t stopped now word n (given_up_is_idle me t calls now n none).ask in
     let e = expiry_within now 0 now_used.c1 now_used.c2 delay word in
-    let b = answering_bound (now_used.c1 + now_used.c2) delay sum (delays_fit me stopped (itself now, tt, orderly) n.source) in
+    let b = answering_bound (now_used.c1 + now_used.c2) delay sum (delays_fit me stopped (le_refl now, tt, orderly) n.source) in
     let due : timer.due ≤ now + first_wait = omega (arith, e, b) in
     ticks_ask me t (Miss now (n ∷ []) (word ∷ []) ∷ stopped) history (now + first_wait) n (ap (is_ask_due (now + first_wait)) set ∙ le-leb timer.due (now + first_wait) due) lost
 
@@ -86,7 +83,7 @@ answers_are_soon me t calls n constants orderly = from (timers_at me t calls n).
   from : (o : Option AnswerTimer) → IfSome o (IsAnswerNear greatest_constants farthest (moment_at calls)) → IfSome o (λ answer. answer.due ≤ moment_at calls + answering_wait)
   from None near = tt
   from (Some a) near =
-      let b = answering_bound 32 a.delay (itself 32) near.delay in
+      let b = answering_bound 32 a.delay (le_refl 32) near.delay in
       let due = near.due in
       omega (arith, b, due)
 

@@ -1,9 +1,11 @@
 -- What becomes of a timer that stands, and why a name is quiet.
 use Rattle.std.proofs.Common.{◌≡◌, ℕ, ◌+◌, ◌*◌, ◌≤◌, ◌<◌, Bool, true, false, cond, List, [], ◌∷◌, ◌++◌, Option, Some, None, refl, ap, ◌∙◌, sym, subst, arith, ◌⊎◌, inl, inr, ⊎_elim, append-nil}
 use Rattle.std.specs.Prelude.{IfSome, is_none, nat_le, ◌&&◌}
+use Rattle.std.proofs.Math.Bool.{and-false}
 use Rattle.std.proofs.Math.Nat.{mul-le-mul_left}
 use Rattle.wb_names.specs.Values.{NameValue}
 use Rattle.wb_names.specs.Orders.{same_name}
+use Rattle.wb_names.proofs.Orders.{same_name-here}
 use Rattle.wb_recovery.specs.Timing.{asked, new_answer, is_answer_due}
 use Rattle.wb_recovery.specs.Events.{Event, Notice, Asked, Got, Tick, Tune, constants_after, timers_of}
 use Rattle.wb_recovery.specs.Laws.{arrives, sets_ask, backs_off, sets_answer, ends_answer, quiets}
@@ -11,7 +13,6 @@ use Rattle.wb_recovery.specs.declared.tuning.Tuning.{Tuning}
 use Rattle.wb_recovery.specs.declared.timers.AskTimer.{AskTimer}
 use Rattle.wb_recovery.specs.declared.timers.AnswerTimer.{AnswerTimer}
 use Rattle.wb_recovery.specs.declared.timers.Timers.{Timers}
-use Rattle.wb_keeper.proofs.KeptCalls.{same_here}
 use Rattle.wb_recovery.proofs.TimerLaws.{request_stays, answer_stays_set, quiet_stays_left}
 use Rattle.wb_progress.specs.Bounds.{AreSteady, IsAnswerNear}
 use Rattle.wb_progress.specs.Standing.{Did, AnswersAreKept, RequestsAreKept, IsCause, QuietHasCause, RequestsAreTaken, IsRecent, RequestsLeadOn}
@@ -29,19 +30,13 @@ newest does e newer older h = record { after = []; e = e; before = newer; split 
 no_set_answer : (t : Tuning) (n : NameValue) (e : Event) (events : List Event) (answer : AnswerTimer) → (timers_of t events n).answer ≡ Some answer → sets_answer t n e events ≡ false
 no_set_answer t n (Notice name now delay word) events answer is = refl
 no_set_answer t n (Asked name false now delay word) events answer is = refl
-no_set_answer t n (Asked name true now delay word) events answer is = ap (λ (o : Option AnswerTimer). same_name name n && (is_none o && nat_le (timers_of t events n).quiet now)) is ∙ none (same_name name n) where
-  none : (b : Bool) → (b && false) ≡ false
-  none true = refl
-  none false = refl
+no_set_answer t n (Asked name true now delay word) events answer is = ap (λ (o : Option AnswerTimer). same_name name n && (is_none o && nat_le (timers_of t events n).quiet now)) is ∙ and-false (same_name name n)
 no_set_answer t n (Got name now delay) events answer is = refl
 no_set_answer t n (Tick now words) events answer is = refl
 no_set_answer t n (Tune constants) events answer is = refl
 
 no_set_ask : (t : Tuning) (n : NameValue) (e : Event) (events : List Event) (ask : AskTimer) → (timers_of t events n).ask ≡ Some ask → sets_ask t n e events ≡ false
-no_set_ask t n (Notice name now delay word) events ask is = ap (λ (o : Option AskTimer). same_name name n && is_none o) is ∙ none (same_name name n) where
-  none : (b : Bool) → (b && false) ≡ false
-  none true = refl
-  none false = refl
+no_set_ask t n (Notice name now delay word) events ask is = ap (λ (o : Option AskTimer). same_name name n && is_none o) is ∙ and-false (same_name name n)
 no_set_ask t n (Asked name held now delay word) events ask is = refl
 no_set_ask t n (Got name now delay) events ask is = refl
 no_set_ask t n (Tick now words) events ask is = refl
@@ -110,7 +105,7 @@ requests_are_taken bound t far n events now delay word steady = from (timers_of 
   from : (o : Option AnswerTimer) → (timers_of t (Asked n true now delay word ∷ events) n).answer ≡ o → IfSome o (IsAnswerNear bound far now)
       → (now < (timers_of t events n).quiet) ⊎ ((answer : AnswerTimer) × ((timers_of t (Asked n true now delay word ∷ events) n).answer ≡ Some answer) × (answer.due ≤ now + (bound.d1 + bound.d2) * far))
   from (Some a) e near = inr (a, e, waits now a.due (bound.d1 + bound.d2) a.delay far near.due near.delay)
-  from None e near = inl (is_quiet (constants_after t events) now delay word (timers_of t events n) (sym (ap (λ (b : Bool). (cond b (asked (constants_after t events) true now delay word (timers_of t events n)) (timers_of t events n)).answer) (same_here n n refl)) ∙ e))
+  from None e near = inl (is_quiet (constants_after t events) now delay word (timers_of t events n) (sym (ap (λ (b : Bool). (cond b (asked (constants_after t events) true now delay word (timers_of t events n)) (timers_of t events n)).answer) (same_name-here n n refl)) ∙ e))
 
 -- ---- and what it leads to
 

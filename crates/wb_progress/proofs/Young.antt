@@ -2,6 +2,7 @@
 use Rattle.std.proofs.Common.{◌≡◌, ℕ, ◌+◌, ◌<◌, ◌≤◌, List, [], ◌∷◌, ◌++◌, Option, Some, None, refl, sym, ap, ◌∙◌, subst, arith, ◌⊎◌, inl, inr, ⊎_elim, append_assoc}
 use Rattle.std.specs.Prelude.{Contains}
 use Rattle.std.proofs.lemmas.List.{append_cancel_right}
+use Rattle.std.proofs.lemmas.Option.{none-some}
 use Rattle.wb_names.specs.Values.{NameValue}
 use Rattle.wb_recovery.specs.declared.timers.AskTimer.{AskTimer}
 use Rattle.wb_keeper.specs.Keeper.{KeeperCall}
@@ -33,12 +34,9 @@ module _ {MayStop : List Turn → Turn → NameValue → Type 0} (places : Place
     at_calls : List KeeperCall → Option AskTimer
     at_calls calls = (timers_at (places.me i) (places.constants i) calls n).ask
 
-    none_some : (o : Option AskTimer) (ask : AskTimer) → o ≡ None → o ≡ Some ask → ⊥
-    none_some o ask e f = cc
-
     level_of : (ask : AskTimer) → asks (e ∷ older) ≡ Some ask → ask.level ≡ 0
     level_of ask stands = ⊎_elim
-        (λ (same : (desk_at places (e ∷ older) i).calls ≡ (desk_at places older i).calls). absurd (none_some (asks (e ∷ older)) ask (ap at_calls same ∙ none) stands))
+        (λ (same : (desk_at places (e ∷ older) i).calls ≡ (desk_at places older i).calls). absurd (none-some ask (sym (ap at_calls same ∙ none) ∙ stands)))
         (λ (c : Called places terms turns is older e i).
         let within = subst (AreWithin terms.far (longest terms) (places.me i) (places.constants i)) c.calls (is.are.within newer (e ∷ older) i split live) in
         (ask_begins terms.far (places.me i) (longest terms) (places.constants i) c.call (desk_at places older i).calls n within ask none (sym (ap at_calls c.calls) ∙ stands)).2)
@@ -106,9 +104,7 @@ timers_are_young MayStop places terms turns newer part i wait n ask is spares wa
   begin (Some ask) e = let due = waits ask e in let by = r.by in Stood ask e (omega (arith, due)) (omega (arith, by))
 
   ends : Young part → (ask.level ≡ 0) ⊎ AllHoldBehind places terms turns (time_of part + answering_by terms) n
-  ends (Absent none) = absurd (other (timers_there places part i n).ask none stands) where
-    other : (o : Option AskTimer) → o ≡ None → o ≡ Some ask → ⊥
-    other o e f = cc
+  ends (Absent none) = absurd (none-some ask (sym none ∙ stands))
   ends (Stood other is soon by) = absurd (omega (arith, by, lt))
   ends (Lowest other is level) = inl (ap (λ (k : AskTimer). k.level) (same (timers_there places part i n).ask other stands is) ∙ level) where
     same : (o : Option AskTimer) (other : AskTimer) → o ≡ Some ask → o ≡ Some other → ask ≡ other

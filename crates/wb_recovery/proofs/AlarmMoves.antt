@@ -10,7 +10,7 @@ use Rattle.wb_names.proofs.Orders.{name_total, same_name-is}
 use Rattle.wb_recovery.specs.Alarms.{Keep, IsFirst, IsUpTo, with_due, earlier, earliest}
 use Rattle.wb_recovery.specs.declared.alarms.Alarms.{Alarms}
 use Rattle.wb_recovery.proofs.NameOrder.{name_ties}
-use Rattle.wb_recovery.proofs.AlarmReads.{lesser, is_first}
+use Rattle.wb_recovery.proofs.AlarmReads.{min_either, is_first}
 
 -- a bound that is lowered to a moment
 up_to-earlier : (s : Option ℕ) (due d : ℕ) → IsUpTo s d → earlier s due ≤ d
@@ -53,7 +53,7 @@ module _ (dues : NameValue → Option ℕ) (name : NameValue) where
     found (Some b) f other = ⊎_elim
         (λ (g : min b due ≡ b). let r : (n : NameValue) × (with_due dues name (Some due) n ≡ Some (min b due)) = (f.0, stays (Some due) f.0 b f.1 other ∙ ap Some (sym g)) in r)
         (λ (g : min b due ≡ due). here (Some b) g)
-        (lesser b due)
+        (min_either b due)
 
     first_set : (s : Option ℕ) → ((n : NameValue) (d : ℕ) → dues n ≡ Some d → IsUpTo s d) → (earlier s due ≡ due) ⊎ (IsFirst dues s × (dues name ≡ s → ⊥)) → IsFirst (with_due dues name (Some due)) (Some (earlier s due))
     first_set s bound which = (at.0, at.1, λ n d. from n (same_name name n) d) where

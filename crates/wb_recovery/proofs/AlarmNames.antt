@@ -9,6 +9,8 @@ use Rattle.std.proofs.lemmas.List.Elements.{All-head, All-tail, All-weaker}
 use Rattle.std.proofs.lemmas.List.{append_assoc}
 use Rattle.std.proofs.lemmas.List.Kept.{IsStrictlySortedBy-filter}
 use Rattle.std.proofs.lemmas.Map.Views.{All-found, Contains-keys_from_lookup}
+use Rattle.std.proofs.Math.Bool.{and-false}
+use Rattle.std.specs.Cmp.{second_so}
 use Rattle.wb_names.specs.Values.{NameValue}
 use Rattle.wb_names.specs.Orders.{name_cmp}
 use Rattle.wb_names.specs.Listing.{Lists}
@@ -23,10 +25,6 @@ use Rattle.wb_recovery.proofs.NameLists.{sorted_nil}
 pub some_due : (o : Option ℕ) → is_some o ≡ is_due_where (λ d. true) o
 some_due None = refl
 some_due (Some d) = refl
-
-and_none : (b : Bool) → (b && false) ≡ false
-and_none true = refl
-and_none false = refl
 
 none_listed : (P : NameValue → Type 0) → ((n : NameValue) → P n → ⊥) → Lists name_cmp P []
 none_listed P f = record {
@@ -44,7 +42,7 @@ module _ (dues : NameValue → Option ℕ) (alarms : Alarms) (keep : Keep dues a
     from (Some d) (Some b) f h = let g : b ≤ d = f d refl in grind (arith, nat_tests)
 
   pub no_names_until : (now : ℕ) (stopped : NameValue → Bool) → is_after now alarms.soonest ≡ true → Lists name_cmp (λ n. (not (stopped n) && is_until now (dues n)) ≡ true) []
-  no_names_until now stopped before = none_listed _ (λ n h. true≢false (sym h ∙ ap (λ (b : Bool). not (stopped n) && b) (none_until now before n) ∙ and_none (not (stopped n))))
+  no_names_until now stopped before = none_listed _ (λ n h. true≢false (sym h ∙ ap (λ (b : Bool). not (stopped n) && b) (none_until now before n) ∙ and-false (not (stopped n))))
 
   pub no_count_until : (now : ℕ) → is_after now alarms.soonest ≡ true → (names : List NameValue) → Lists name_cmp (λ n. is_until now (dues n) ≡ true) names → 0 ≡ length names
   no_count_until now before names l = ap length (one_list name_total _ [] names (none_listed _ (λ n h. true≢false (sym h ∙ none_until now before n))) l)
@@ -91,18 +89,11 @@ module _ (dues : NameValue → Option ℕ) (alarms : Alarms) (keep : Keep dues a
       from same false = same
 
     pub names_due : (stopped : NameValue → Bool) (now : ℕ) (names : List NameValue) → names ≡ filter_map (λ e. due_name stopped now e.0 e.1) alarms.dues.entries → Lists name_cmp (λ n. (not (stopped n) && is_until now (dues n)) ≡ true) names
-    names_due stopped now names is = rw (is ∙ picked stopped now alarms.dues.entries found) (names_passing (λ n. not (stopped n) && is_until now (dues n)) (λ n h. due_some (λ d. nat_le d now) (dues n) (right (not (stopped n)) (is_until now (dues n)) h))) where
-      right : (a b : Bool) → (a && b) ≡ true → b ≡ true
-      right true b h = h
-      right false b h = absurd (true≢false (sym h))
+    names_due stopped now names is = rw (is ∙ picked stopped now alarms.dues.entries found) (names_passing (λ n. not (stopped n) && is_until now (dues n)) (λ n h. due_some (λ d. nat_le d now) (dues n) (second_so (not (stopped n)) (is_until now (dues n)) h)))
 
     -- the names with a timer that pass a test
     pub names_some : (p : NameValue → Bool) (names : List NameValue) → names ≡ filter p (keys alarms.dues) → Lists name_cmp (λ n. (p n && is_some (dues n)) ≡ true) names
-    names_some p names is = rw (is ∙ alike alarms.dues.entries found) (names_passing (λ n. p n && is_some (dues n)) (λ n. right (p n) (is_some (dues n)))) where
-      right : (a b : Bool) → (a && b) ≡ true → b ≡ true
-      right true b h = h
-      right false b h = absurd (true≢false (sym h))
-
+    names_some p names is = rw (is ∙ alike alarms.dues.entries found) (names_passing (λ n. p n && is_some (dues n)) (λ n. second_so (p n) (is_some (dues n)))) where
       and_true : (b : Bool) → b ≡ (b && true)
       and_true true = refl
       and_true false = refl

@@ -44,8 +44,8 @@ least_below_each first (e ∷ es) n d h = ⊎_elim
     (λ (g : Contains es (n, d)). least_below_each (min first e.1) es n d g)
     (Contains-cases e (n, d) es h)
 
-pub lesser : (a b : ℕ) → (min a b ≡ a) ⊎ (min a b ≡ b)
-lesser a b = grind (arith, nat_tests)
+pub min_either : (a b : ℕ) → (min a b ≡ a) ⊎ (min a b ≡ b)
+min_either a b = grind (arith, nat_tests)
 
 least_among : (first : ℕ) (es : List (NameValue × ℕ)) → (least first es ≡ first) ⊎ ((n : NameValue) × Contains es (n, least first es))
 unfolding least
@@ -54,7 +54,7 @@ least_among first (e ∷ es) = ⊎_elim
     (λ (g : least (min first e.1) es ≡ min first e.1). ⊎_elim
     (λ (k : min first e.1 ≡ first). inl (g ∙ k))
     (λ (k : min first e.1 ≡ e.1). inr (e.0, subst (λ (d : ℕ). Contains (e ∷ es) (e.0, d)) (sym (g ∙ k)) (Contains-here e es)))
-    (lesser first e.1))
+    (min_either first e.1))
     (λ (g : (n : NameValue) × Contains es (n, least (min first e.1) es)). inr (g.0, Contains-there e (g.0, least (min first e.1) es) es g.1))
     (least_among (min first e.1) es)
 

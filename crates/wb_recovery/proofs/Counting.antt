@@ -1,7 +1,7 @@
 -- How many names have a timer, and which timer is due next.
-use Rattle.std.proofs.Common.{◌≡◌, ℕ, ◌≤◌, Bool, true, false, refl, ap, ◌∙◌, sym, Option, Some, None, ◌⊎◌, inl, inr, ⊎_elim, arith, length}
-use Rattle.std.proofs.lemmas.Bool.{or_left, or_right}
-use Rattle.std.specs.Prelude.{is_some, ◌||◌}
+use Rattle.std.proofs.Common.{◌≡◌, ℕ, ◌≤◌, true, refl, ap, ◌∙◌, sym, Option, Some, None, ◌⊎◌, ⊎_elim, arith, length}
+use Rattle.std.proofs.lemmas.Bool.{or_cases, or_left, or_right}
+use Rattle.std.specs.Prelude.{is_some}
 use Rattle.std.specs.List.Sorted.{IsStrictlySortedBy}
 use Rattle.wb_names.specs.Values.{NameValue}
 use Rattle.wb_names.specs.Orders.{name_cmp}
@@ -39,10 +39,6 @@ module _ (value : RecoveryValue) (rises : IsStrictlySortedBy name_cmp (names_in 
 
   pub count_due : (now k : ℕ) → CountsUntil now (λ n. ask_due (timers_in value n)) k → k ≡ length (due_asks (names_in value) (timers_in value) now)
   count_due now k counts = counts _ (list_due_asks now)
-
-or_cases : (a b : Bool) → (a || b) ≡ true → (a ≡ true) ⊎ (b ≡ true)
-or_cases true b e = inl refl
-or_cases false b e = inr e
 
 -- the lesser of the first request timer and the first answer timer
 pub next_both : (f : NameValue → Timers) (k a b : ℕ) → IsFirst (λ n. ask_due (f n)) (Some a) → IsFirst (λ n. answer_due (f n)) (Some b) → k ≤ a → k ≤ b → (k ≡ a) ⊎ (k ≡ b) → IsNextDue f (Some k)

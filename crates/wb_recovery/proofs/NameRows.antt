@@ -10,6 +10,7 @@ use Rattle.std.specs.declared.cmp.Ordering.TheVariants.{Less, Equal, Greater}
 use Rattle.std.proofs.lemmas.List.Folds.{list_any_more}
 use Rattle.std.proofs.lemmas.List.Sums.{length-filter}
 use Rattle.std.proofs.lemmas.Map.Keys.{sorted_tail}
+use Rattle.std.proofs.Math.Bool.{or-false, or-true}
 use Rattle.wb_names.specs.Values.{NameValue}
 use Rattle.wb_names.specs.Orders.{name_cmp, same_name}
 use Rattle.wb_names.proofs.Orders.{name_total, same_name-is}
@@ -81,11 +82,5 @@ module _ (xs : List NameValue) (i : ℕ) (a : NameValue) (s : IsStrictlySortedBy
     pub replaced_more : (after : Timers) → ((n : NameValue) → new n ≡ cond (same_name a n) after (now n)) → after ≡ g a → (n : NameValue) → new n ≡ cond (among (take (i + 1) xs) n) (g n) (f n)
     replaced_more after r e n = r n ∙ from (same_name a n) refl ∙ sym (ap (λ (b : Bool). cond b (g n) (f n)) (among_more n)) where
       from : (b : Bool) → same_name a n ≡ b → cond b after (now n) ≡ cond (among (take i xs) n || b) (g n) (f n)
-      from true h = e ∙ ap g (same_name-is a n h) ∙ ap (λ (b : Bool). cond b (g n) (f n)) (sym (or_true (among (take i xs) n))) where
-        or_true : (b : Bool) → (b || true) ≡ true
-        or_true true = refl
-        or_true false = refl
-      from false h = so_far n ∙ ap (λ (b : Bool). cond b (g n) (f n)) (sym (or_false (among (take i xs) n))) where
-        or_false : (b : Bool) → (b || false) ≡ b
-        or_false true = refl
-        or_false false = refl
+      from true h = e ∙ ap g (same_name-is a n h) ∙ ap (λ (b : Bool). cond b (g n) (f n)) (sym (or-true (among (take i xs) n)))
+      from false h = so_far n ∙ ap (λ (b : Bool). cond b (g n) (f n)) (sym (or-false (among (take i xs) n)))

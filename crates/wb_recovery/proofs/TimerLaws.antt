@@ -2,6 +2,7 @@
 use Rattle.std.proofs.Common.{◌≡◌, ℕ, ◌+◌, ◌*◌, ◌<◌, Bool, true, false, cond, [], ◌∷◌, refl, ap, ◌∙◌, sym, subst, Option, Some, None, ⊎_elim, arith, min}
 use Rattle.std.specs.Prelude.{◌&&◌, ◌||◌, IfSome, is_some, is_none, nat_le, Contains}
 use Rattle.std.proofs.lemmas.Bool.Decides.{nat_tests}
+use Rattle.std.proofs.Math.Bool.{and-false}
 use Rattle.wb_names.specs.Values.{NameValue}
 use Rattle.wb_names.specs.Orders.{same_name}
 use Rattle.wb_names.proofs.Orders.{same_name-is}
@@ -34,7 +35,7 @@ noticed_quiet t now delay word s = from (is_none s.ask) where
   from true = refl
   from false = refl
 
-asked_ask : (t : Tuning) (now delay word : ℕ) (s : Timers) → (asked t true now delay word s).ask ≡ s.ask
+pub asked_ask : (t : Tuning) (now delay word : ℕ) (s : Timers) → (asked t true now delay word s).ask ≡ s.ask
 asked_ask t now delay word s = from (is_none s.answer && nat_le s.quiet now) where
   from : (b : Bool) → (cond b (record s { answer = Some (new_answer t now delay word) }) s).ask ≡ s.ask
   from true = refl
@@ -270,13 +271,9 @@ quiet_is_not_answered t events name n now delay word h = from (same_name name n)
   past : (m d : ℕ) → m < d → nat_le d m ≡ false
   past m d l = grind (arith, nat_tests)
 
-  none : (b : Bool) → (b && false) ≡ false
-  none true = refl
-  none false = refl
-
   from : (b : Bool) → same_name name n ≡ b → cond b (asked (constants_after t events) true now delay word (timers_of t events n)) (timers_of t events n) ≡ timers_of t events n
   from true e =
       let quiet = subst (λ (m : NameValue). now < (timers_of t events m).quiet) (same_name-is name n e) h in
       ap (λ (c : Bool). cond (is_none (timers_of t events n).answer && c) (record (timers_of t events n) { answer = Some (new_answer (constants_after t events) now delay word) }) (timers_of t events n)) (past now (timers_of t events n).quiet quiet)
-      ∙ ap (λ (c : Bool). cond c (record (timers_of t events n) { answer = Some (new_answer (constants_after t events) now delay word) }) (timers_of t events n)) (none (is_none (timers_of t events n).answer))
+      ∙ ap (λ (c : Bool). cond c (record (timers_of t events n) { answer = Some (new_answer (constants_after t events) now delay word) }) (timers_of t events n)) (and-false (is_none (timers_of t events n).answer))
   from false e = refl

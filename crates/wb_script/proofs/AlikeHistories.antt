@@ -9,7 +9,6 @@ use Rattle.wb_names.specs.Orders.{same_name, same_page, page_cmp}
 use Rattle.wb_names.specs.Arrivals.{history_after}
 use Rattle.wb_names.specs.History.{IsHeld, HoldsName, highest}
 use Rattle.wb_names.specs.declared.name.PageId.{PageId}
-use Rattle.wb_names.specs.declared.gap.Gap.{Gap}
 use Rattle.wb_names.proofs.Listings.{Contains-filter, Contains-from_filter, Any-from_map, Contains-map}
 use Rattle.wb_names.proofs.Orders.{nat_ties, page_total}
 use Rattle.wb_codec.specs.declared.datagram.Datagram.{Datagram}
@@ -30,6 +29,7 @@ use Rattle.wb_keeper.specs.Keeper.{holds}
 use Rattle.wb_keeper.specs.Hearing.{asks_for_held}
 use Rattle.wb_keeper.specs.Ticks.{drawop_of, sent_for}
 use Rattle.wb_keeper.proofs.FoundDrawops.{found_member, found_none}
+use Rattle.wb_keeper.proofs.KeptCalls.{holds_or_not}
 use Rattle.wb_commands.specs.Answers.{answer_text}
 use Rattle.wb_member.specs.Questions.{answer_by}
 use Rattle.wb_member.specs.declared.questions.Query.{Query}
@@ -37,7 +37,7 @@ use Rattle.wb_member.specs.declared.questions.Query.TheVariants.{Pages}
 use Rattle.wb_member.specs.Queries.{view_of}
 use Rattle.wb_member.proofs.Queries.{view_of_page}
 use Rattle.wb_script.specs.Laws.{AnswersAreFree, PrintsAreFree}
-use Rattle.wb_script.proofs.FreeArrivals.{AreAlike, found, free_on}
+use Rattle.wb_script.proofs.FreeArrivals.{AreAlike, free_on}
 use Rattle.wb_script.proofs.Members.{Among, among_both, same_ascending}
 
 any_alike : (P : DrawopValue → Type 0) (one other : List DrawopValue) → IsPermutation one other → Any P one → Any P other
@@ -92,7 +92,7 @@ module _ (one other : List DrawopValue) (a : AreAlike one other) where
       found_member one name d a.once here held.4 ∙ sym (found_member other name d a.again (Contains-permutation one other d a.moved here) held.4))
       (λ (absent : HoldsName one name → ⊥).
       found_none one name absent ∙ sym (found_none other name (λ h. absent (any_alike (λ (d : DrawopValue). d.name ≡ name) other one back h))))
-      (found one name)
+      (holds_or_not one name)
 
   pub same_sent : (me : ℕ) → sent_for me one ≡ sent_for me other
   same_sent me = fun_ext each where

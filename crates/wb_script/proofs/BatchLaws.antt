@@ -1,11 +1,11 @@
 -- That the counts of a batch add up, and that what is held stays.
 use Rattle.std.proofs.Common.{◌≡◌, ◌+◌, List, [], ◌∷◌, ◌++◌, length, refl, sym, ap, ◌∙◌, append_assoc, arith, append-nil, length-append}
 use Rattle.wb_names.specs.Values.{DrawopValue}
-use Rattle.wb_names.specs.Arrivals.{Outcome, Fresh, history_with, Counts, counted, counts_of, outcome_of, outcomes_of}
+use Rattle.wb_names.specs.Arrivals.{Outcome, New, history_with, Counts, counted, counts_of, outcome_of, outcomes_of}
 use Rattle.wb_script.specs.ScriptLaws.{total, CountsAddUp, HeldStays}
 
 one_more : (a : Outcome) (n : Counts) → total (counted a n) ≡ total n + 1
-one_more (Fresh i) n = omega arith
+one_more (New i) n = omega arith
 one_more a n = omega arith
 
 pub counts_add_up : CountsAddUp
@@ -23,7 +23,7 @@ record Adds (held : List DrawopValue) (d : DrawopValue) (a : Outcome) (n : Count
   number : (counted a n).fresh ≡ n.fresh + length new
 
 adds_one : (held : List DrawopValue) (d : DrawopValue) (a : Outcome) (n : Counts) → Adds held d a n
-adds_one held d (Fresh i) n = record { new = d ∷ []; behind = refl; number = omega arith }
+adds_one held d (New i) n = record { new = d ∷ []; behind = refl; number = omega arith }
 adds_one held d a n = record { new = []; behind = sym (append-nil held); number = omega arith }
 
 pub held_stays : HeldStays

@@ -1,18 +1,14 @@
 -- Arrivals that do not clash lead to the same drawops in every order, where there are cells for their names, and are counted the same.
-use Rattle.std.proofs.Common.{◌≡◌, ℕ, ◌+◌, Bool, true, false, List, [], ◌∷◌, ◌++◌, length, refl, sym, ap, ◌∙◌, subst, arith, append_assoc, ◌⊎◌, inl, inr, ⊎_elim, true≢false, Contains, Some, IsPermutation, length-append}
+use Rattle.std.proofs.Common.{◌≡◌, ℕ, ◌+◌, List, [], ◌∷◌, ◌++◌, length, refl, sym, ap, ◌∙◌, subst, arith, append_assoc, ⊎_elim, Contains, Some, IsPermutation, length-append}
 use Rattle.std.proofs.lemmas.List.Elements.{Contains-append_left, Contains-append_cases, Contains-push_cases}
-use Rattle.std.proofs.lemmas.List.Folds.{Any-from_list_any}
 use Rattle.std.proofs.lemmas.List.Sorted.{IsPermutation-refl, Contains-permutation, length_permutation}
 use Rattle.std.proofs.lemmas.Option.{slice_get-get_or}
-use Rattle.wb_names.specs.Values.{NameValue, DrawopValue}
-use Rattle.wb_names.specs.Orders.{same_name}
+use Rattle.wb_names.specs.Values.{DrawopValue}
 use Rattle.wb_names.specs.History.{IsHistory, HoldsName}
-use Rattle.wb_names.specs.Arrivals.{Outcome, Fresh, Known, history_with, Counts, counts, counted, counts_of, outcome_of, outcomes_of, history_after}
+use Rattle.wb_names.specs.Arrivals.{Outcome, New, Again, history_with, Counts, counts, counted, counts_of, outcome_of, outcomes_of, history_after}
 use Rattle.wb_names.proofs.Arrivals.{outcome_is, history_with-is}
 use Rattle.wb_names.proofs.Listings.{Contains-here, Contains-there, Contains-none}
-use Rattle.wb_names.proofs.Orders.{same_name-is}
-use Rattle.wb_keeper.specs.Keeper.{holds}
-use Rattle.wb_keeper.proofs.KeptCalls.{holds_from}
+use Rattle.wb_keeper.proofs.KeptCalls.{holds_or_not}
 use Rattle.wb_script.specs.Laws.{NoneClash, HasCells, BatchesAreOne, ArrivalsAreFree}
 use Rattle.wb_script.proofs.BatchLaws.{counts_add_up, held_stays}
 use Rattle.wb_script.proofs.Members.{Among, rearranged, among_both, same_members}
@@ -26,13 +22,6 @@ pub record AreAlike (one other : List DrawopValue) : Type 0 where
   pub once : IsHistory one
   pub again : IsHistory other
   pub moved : IsPermutation one other
-
--- a member has the name, or none has
-pub found : (h : List DrawopValue) (n : NameValue) → HoldsName h n ⊎ (HoldsName h n → ⊥)
-found h n = at (holds h n) refl where
-  at : (b : Bool) → holds h n ≡ b → HoldsName h n ⊎ (HoldsName h n → ⊥)
-  at true e = let a = Any-from_list_any (λ (d : DrawopValue). same_name d.name n) h e in inl (a.0, a.1, a.2, a.3, same_name-is a.1.name n a.4)
-  at false e = inr (λ a. true≢false (sym (holds_from h n a.1 (a.0, a.2, a.3) a.4) ∙ e))
 
 -- ---- one arrival
 
@@ -64,7 +53,7 @@ module _ (cells : ℕ) (all : List DrawopValue) (clash : NoneClash all) (room : 
   known_step : (h : List DrawopValue) (d : DrawopValue) → IsHistory h → Among h all → Contains all d → HoldsName h d.name → Stepped h d (outcome_of cells h d)
   known_step h d once within here held =
       let same : held.1 ≡ d = clash held.1 d (within held.1 (held.0, held.2, held.3)) here held.4 in
-      subst (Stepped h d) (outcome_is cells h d (Known held.0) once (slice_get-get_or h held.0 held.1 held.2 ∙ ap (λ (w : DrawopValue). Some w) (held.3 ∙ same)))
+      subst (Stepped h d) (outcome_is cells h d (Again held.0) once (slice_get-get_or h held.0 held.1 held.2 ∙ ap (λ (w : DrawopValue). Some w) (held.3 ∙ same)))
       (record {
         once = once;
         up = λ x c. Contains-append_left h (d ∷ []) x c;
@@ -75,14 +64,14 @@ module _ (cells : ℕ) (all : List DrawopValue) (clash : NoneClash all) (room : 
   -- and another is fresh
   fresh_step : (h : List DrawopValue) (d : DrawopValue) → IsHistory h → Among h all → Contains all d → (HoldsName h d.name → ⊥) → Stepped h d (outcome_of cells h d)
   fresh_step h d once within here absent =
-      let longer : IsHistory (h ++ d ∷ []) = history_with-is (length h + 1) h d (Fresh (length h)) once ((refl, absent), omega arith) in
+      let longer : IsHistory (h ++ d ∷ []) = history_with-is (length h + 1) h d (New (length h)) once ((refl, absent), omega arith) in
       let fits = room (h ++ d ∷ []) longer (pushed_within h d within here) in
       let long : length (h ++ d ∷ []) ≡ length h + 1 = length-append h (d ∷ []) in
-      subst (Stepped h d) (outcome_is cells h d (Fresh (length h)) once ((refl, absent), omega (arith, fits, long)))
+      subst (Stepped h d) (outcome_is cells h d (New (length h)) once ((refl, absent), omega (arith, fits, long)))
       (record { once = longer; up = λ x c. c; down = λ x c. c; kept = λ n. (refl, refl) })
 
   step : (h : List DrawopValue) (d : DrawopValue) → IsHistory h → Among h all → Contains all d → Stepped h d (outcome_of cells h d)
-  step h d once within here = ⊎_elim (λ (held : HoldsName h d.name). known_step h d once within here held) (λ (absent : HoldsName h d.name → ⊥). fresh_step h d once within here absent) (found h d.name)
+  step h d once within here = ⊎_elim (λ (held : HoldsName h d.name). known_step h d once within here held) (λ (absent : HoldsName h d.name → ⊥). fresh_step h d once within here absent) (holds_or_not h d.name)
 
   pub walk : (h ds : List DrawopValue) → IsHistory h → Among h all → Among ds all → Walked h ds (history_after cells h ds) (counts_of (outcomes_of cells h ds))
   walk h [] once within here = record {

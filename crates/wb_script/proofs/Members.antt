@@ -13,6 +13,7 @@ use Rattle.wb_names.specs.History.{IsHistory}
 use Rattle.wb_names.proofs.Listings.{Contains-here, Contains-there, Contains-cases, Contains-none, same_sorted}
 use Rattle.wb_gaps.specs.Sorting.{sorted}
 use Rattle.wb_gaps.proofs.Sorting.{sorted_rises, Contains-from_sorted, Contains-sorted}
+use Rattle.wb_keeper.proofs.FoundDrawops.{tail_history}
 
 -- each member of the one is a member of the other
 abbrev pub Among : {X : Type 0} → List X → List X → Type 0
@@ -32,9 +33,6 @@ same_ascending {X} {R} total one xs ys up down =
     (λ z c. Contains-sorted total xs (λ x y _ _ tie. one x y tie) z (down z (Contains-from_sorted R ys z c)))
 
 -- ---- histories
-
-tail_history : (a : DrawopValue) (ms : List DrawopValue) → IsHistory (a ∷ ms) → IsHistory ms
-tail_history a ms h i j d lt within = h (suc i) (suc j) d (omega arith) (omega arith)
 
 head_apart : (a x : DrawopValue) (ms : List DrawopValue) → IsHistory (a ∷ ms) → Contains ms x → a ≡ x → ⊥
 head_apart a x ms h (k, lt, is) same = h 0 (suc k) x (omega arith) (omega arith) (ap (λ (d : DrawopValue). d.name) (same ∙ sym is))

@@ -1,17 +1,16 @@
 -- A keeper that learned the names of a batch in one order learned them in every order, and ascending.
-use Rattle.std.proofs.Common.{◌≡◌, ℕ, Bool, true, false, cond, List, [], ◌∷◌, refl, ap, ◌∙◌, sym, subst, arith, true≢false, Contains, IsPermutation, filter, is_eq}
+use Rattle.std.proofs.Common.{◌≡◌, ℕ, Bool, true, false, cond, List, [], ◌∷◌, refl, ap, ◌∙◌, sym, subst, arith, true≢false, Contains, IsPermutation, filter}
 use Rattle.std.specs.Prelude.{◌↔◌}
-use Rattle.std.specs.declared.cmp.Ordering.TheVariants.{Equal}
 use Rattle.std.proofs.lemmas.List.Folds.{Any-from_list_any, list_any-from_Any}
 use Rattle.std.proofs.lemmas.List.Sorted.{IsPermutation-map, IsPermutation-sym, Contains-permutation, length_permutation}
 use Rattle.wb_names.specs.Values.{NameValue, DrawopValue}
 use Rattle.wb_names.specs.Arrivals.{history_after}
 use Rattle.wb_names.specs.Orders.{name_cmp, same_name}
 use Rattle.wb_names.proofs.Listings.{Contains-here, Contains-none, Contains-filter, Contains-from_filter}
-use Rattle.wb_names.proofs.Orders.{name_total, same_name-is}
+use Rattle.wb_names.proofs.Orders.{name_total, same_name-here, same_name-is}
 use Rattle.wb_gaps.specs.Sorting.{sorted}
 use Rattle.wb_gaps.proofs.Sorting.{Contains-from_sorted, Contains-sorted}
-use Rattle.wb_recovery.proofs.NameOrder.{name_ties}
+use Rattle.wb_recovery.proofs.NameOrder.{equal_is}
 use Rattle.wb_recovery.proofs.StoppedNames.{constants_receipts}
 use Rattle.wb_recovery.specs.Events.{Event, Got, moment_of}
 use Rattle.wb_recovery.specs.Stopping.{receipts}
@@ -19,7 +18,6 @@ use Rattle.wb_recovery.specs.declared.tuning.Tuning.{Tuning}
 use Rattle.wb_keeper.specs.Keeper.{KeeperCall, Arrive, holds, received_of, events_of, delay_to}
 use Rattle.wb_keeper.specs.Keeping.{KeeperValue, StandsFor}
 use Rattle.wb_keeper.proofs.FreeArrivals.{comes, timers_alike}
-use Rattle.wb_keeper.proofs.KeptCalls.{same_here}
 use Rattle.wb_member.specs.Holding.{MemberValue, IsOpenAt}
 use Rattle.wb_member.specs.Members.{names_of}
 use Rattle.wb_member.specs.Opened.{Opened, present, accepted}
@@ -28,9 +26,6 @@ use Rattle.wb_script.proofs.Members.{Among, same_ascending}
 
 -- ---- names
 
-one_name : (m n : NameValue) → name_cmp m n ≡ Equal → m ≡ n
-one_name m n tie = same_name-is m n (name_ties m n ∙ ap is_eq tie)
-
 names_moved : (p : NameValue → Bool) (ds es : List DrawopValue) → IsPermutation ds es → Among (filter p (names_of ds)) (filter p (names_of es))
 names_moved p ds es moved n c =
     let here = Contains-from_filter p (names_of ds) n c in
@@ -38,12 +33,12 @@ names_moved p ds es moved n c =
 
 -- so it learns the same names, whatever the order of a batch
 pub told_alike : (p : NameValue → Bool) (ds es : List DrawopValue) → IsPermutation ds es → sorted name_cmp (filter p (names_of ds)) ≡ sorted name_cmp (filter p (names_of es))
-told_alike p ds es moved = same_ascending name_total one_name (filter p (names_of ds)) (filter p (names_of es)) (names_moved p ds es moved) (names_moved p es ds (IsPermutation-sym ds es moved))
+told_alike p ds es moved = same_ascending name_total equal_is (filter p (names_of ds)) (filter p (names_of es)) (names_moved p ds es moved) (names_moved p es ds (IsPermutation-sym ds es moved))
 
 -- ---- what a keeper holds
 
 comes_here : (names : List NameValue) (n : NameValue) → Contains names n → comes names n ≡ true
-comes_here names n c = list_any-from_Any (λ (m : NameValue). same_name m n) names (c.0, n, c.1, c.2, same_here n n refl)
+comes_here names n c = list_any-from_Any (λ (m : NameValue). same_name m n) names (c.0, n, c.1, c.2, same_name-here n n refl)
 
 comes_from : (names : List NameValue) (n : NameValue) → comes names n ≡ true → Contains names n
 comes_from names n h = let a = Any-from_list_any (λ (m : NameValue). same_name m n) names h in subst (Contains names) (same_name-is a.1 n a.4) (a.0, a.2, a.3)
@@ -98,7 +93,7 @@ SameNames host batch order =
 pub names_told : (host : Opened) (batch order : List DrawopValue) → IsPermutation batch order → SameNames host batch order
 names_told host batch order moved =
     let p : NameValue → Bool = holds (history_after host.is.cells host.is.held order) in (
-      λ n c. Contains-sorted name_total (filter p (names_of order)) (λ m k _ _ tie. one_name m k tie) n (names_moved p batch order moved n c),
+      λ n c. Contains-sorted name_total (filter p (names_of order)) (λ m k _ _ tie. equal_is m k tie) n (names_moved p batch order moved n c),
       λ n c. names_moved p order batch (IsPermutation-sym batch order moved) n (Contains-from_sorted name_cmp (filter p (names_of order)) n c),
     )
 

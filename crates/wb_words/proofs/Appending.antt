@@ -1,6 +1,6 @@
 -- Words added one after another.
 use Rattle.std.proofs.Common.{◌≡◌, ℕ, List, [], ◌∷◌, ◌++◌, sym, ap, ◌∙◌, append_assoc, append-nil}
-use Rattle.std.specs.Prelude.{codes, decimal, OnOk, Result, Ok, Err}
+use Rattle.std.specs.Prelude.{codes, decimal}
 use Rattle.std.proofs.lemmas.Grind.{flat_map-append}
 use Rattle.wb_words.specs.Words.{words, joined}
 use Rattle.wb_names.specs.declared.parts.Stroke.{Stroke}
@@ -41,7 +41,3 @@ session_text sender sent creator number marks echoes = rw joined_tailed (simp (a
 pub page_state_text : (sender creator number : ℕ) (marks : List (List ℕ)) → (codes "page-state " ++ (decimal sender ++ (codes " " ++ (decimal creator ++ (codes "/" ++ decimal number))))) ++ tailed marks
     ≡ joined (codes "page-state" ∷ decimal sender ∷ (decimal creator ++ 47 ∷ decimal number) ∷ marks)
 page_state_text sender creator number marks = rw joined_tailed (simp append_assoc)
-
-pub ok_then : {A E P Q : Type 0} (r : Result A E) → (P → Q) → OnOk r P → OnOk r Q
-ok_then (Ok x) f h = f h
-ok_then (Err e) f h = h

@@ -136,7 +136,7 @@ printed (b ∷ text) e =
     let q = and_parts (nat_le 32 b) (nat_le b 126) p.0 in
     (leb-true 32 b q.0, printed text p.1)
 
-glyph_seen : (s : Stroke) → stroke_fault s ≡ None → 32 ≤ s.glyph
+pub glyph_seen : (s : Stroke) → stroke_fault s ≡ None → 32 ≤ s.glyph
 glyph_seen s e = grind (arith, nat_tests)
 
 text_seen : (x y : ℕ) (text : List ℕ) → text_fault x y text ≡ None → AllSeen text

@@ -41,7 +41,7 @@ class Case:
     how: Callable[[Settings, str], Result] = run
 
     def seeds(self, with_hosts: bool) -> list[Settings]:
-        """The sessions of today's lines have timers that are reckoned here, or with the same seeds hosts, which send the same."""
+        """The sessions of driven members have timers that are reckoned here, or with the same seeds hosts, which send the same."""
         who = "hosts" if with_hosts and self.how is run else self.settings.who
         return [replace(self.settings, who=who, seed=seed) for seed in range(1, self.runs + 1)]
 

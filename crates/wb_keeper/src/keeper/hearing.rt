@@ -121,7 +121,8 @@ impl Keeper {
         ensures same { desk.new ≡ desk.old }
         ensures sent { IfOk result (λ sent. ArePageStates self.now.me desk.old.seen sent.items) }
     {
-        let reports = desk.reports(alloc)?;
+        let holdings = desk.holdings()?;
+        let reports = holdings.reports(alloc)?;
         let sent = reports.into_iter().map(|report| Datagram::PageState {
             sender: self.me,
             page: report.page,

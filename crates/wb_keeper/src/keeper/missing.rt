@@ -1,16 +1,14 @@
 //! Names that are missing, and wanted.
 
-ghost use Rattle.std.specs.Prelude.{◌≡◌, ◌≤◌, ◌++◌, ◌∷◌, [], ℕ, List, All, None as none, filter, length, take, IfOk, OnOk};
+ghost use Rattle.std.specs.Prelude.{◌≡◌, ◌≤◌, ◌++◌, ◌∷◌, [], ℕ, List, All, filter, length, take, IfOk, OnOk};
 ghost use Rattle.wb_board.specs.Desks.{IsPassOf, IsCaughtUp, ReadsOn};
 ghost use Rattle.wb_recovery.specs.Values.{timers_in};
 ghost use Rattle.wb_recovery.specs.declared.tuning.Tuning.{Tuning as Constants};
 ghost use Rattle.wb_keeper.specs.Hearing.{marks_heard};
 ghost use Rattle.wb_keeper.specs.Keeper.{KeeperCall, events_of};
 ghost use Rattle.wb_keeper.specs.Keeping.{StandsFor};
-ghost use Rattle.wb_keeper.specs.KeepFaults.{IsKeptBy};
 ghost use Rattle.wb_keeper.specs.Missing.{wanted_of, is_unasked, names_in_gap, names_in_gaps};
 
-use crate::keep_fault::KeepFault;
 use crate::keeper::Keeper;
 use std::alloc::{AllocError, Global};
 use wb_board::{Board, Desk};
@@ -22,18 +20,15 @@ impl Keeper {
     /// The names of a page that are missing and for which no request timer stands, ascending, at
     /// most as many as bring the standing request timers to 64. A name is missing up to the
     /// greatest number of its source that the desk then has or that was heard. It reads the history
-    /// to its end first, and leaves the keeper as it is.
-    ///
-    /// Refused with `Memory` alone. The desk may then have seen more.
+    /// to its end first, and leaves the keeper as it is. After a fault the desk may have seen more.
     pub fn missing(
         &self,
         alloc: Global,
         board: &Board,
         desk: &mut Desk,
         page: PageId,
-    ) -> Result<Vec<Name>, KeepFault>
+    ) -> Result<Vec<Name>, AllocError>
         requires desk { IsPassOf board.now desk.old }
-        ensures fault { IsKeptBy none result }
         ensures desk { ReadsOn desk.old desk.new }
         ensures end { OnOk result (IsCaughtUp desk.old desk.new) }
         ensures value { IfOk result
@@ -48,7 +43,7 @@ impl Keeper {
         }
         let holdings = desk.holdings()?;
         let gaps = holdings.missing(page, self.marks(page));
-        Ok(self.unasked(alloc, page, gaps, room)?)
+        self.unasked(alloc, page, gaps, room)
     }
 
     /// The first names in the gaps of a page for which no request timer stands. It looks for no gap

@@ -1,13 +1,13 @@
 //! What a self-managing member asks for.
 ghost use Rattle.std.specs.Prelude.{◌≡◌, ◌≤◌, ◌<◌, ◌^◌, ◌∷◌, [], IfOk, OnErr, OnOk, IfSome};
 ghost use Rattle.wb_recovery.specs.Delays.{IsDelay};
-ghost use Rattle.wb_keeping.specs.Kept.{Asks, and_then, end, ends_full, is_begun, is_unasked, leap, leaps_on, learned, paid_for, performs, stops_one, turn, turn_if, turns_due, turns_on, turns_past, want, want_near, want_told};
+ghost use Rattle.wb_keeping.specs.Kept.{end, ends_full, is_begun, is_unasked, leap, leaps_on, learned, paid_for, stops_one, turn, turn_if, turns_due, turns_on, turns_past, want, want_near, want_told};
 ghost use Rattle.wb_recovery.specs.Events.{timers_of};
 ghost use Rattle.wb_member.specs.Opened.{events};
-ghost use Rattle.wb_keeping.specs.Performing.{DoesQuietly, IsKeptAt, Keeping, LeavesSome, asked_with, sees, view_of};
+ghost use Rattle.wb_keeping.specs.Performing.{Begins, DoesQuietly, IsKeptAt, Keeping, LeavesSome, asked_with, sees, view_of};
 ghost use Rattle.wb_keeping.specs.Views.{holds, is_asked, is_full, is_known, level};
 ghost use Rattle.wb_policy.specs.Wanting.{giving_way};
-ghost use Rattle.wb_keeping.specs.Steps.{AreNear, leap_again, leap_in, lends_for, lent_at, lowest_near, makes_room, performs_all, turn_again, want_in};
+ghost use Rattle.wb_keeping.specs.Steps.{AreNear, leap_again, leap_in, lent_at, lowest_near, makes_room, performs_all, turn_again, want_in};
 
 use crate::kept_member::KeptMember;
 use std::alloc::{AllocError, Global};
@@ -37,22 +37,9 @@ impl KeptMember {
         if !self.policy.want(&candidate, may_start_anew, now) {
             return Ok(false);
         }
-        self.begin(alloc, name, lent)?;
-        Ok(true)
-    }
-
-    /// It makes room for the timer of a name, and begins to ask for it, with the distance that is
-    /// lent, if there is one to lend.
-    fn begin(&mut self, alloc: Global, name: &Name, lent: Option<u64>) -> Result<(), AllocError>
-        requires { IfSome lent IsDelay }
-        ensures does { OnOk result (DoesQuietly (and_then (makes_room name.now)
-            (lends_for name.now.source lent (Asks name.now))) self.old self.new) }
-        ensures left { OnErr result (LeavesSome (and_then (makes_room name.now)
-            (lends_for name.now.source lent (Asks name.now))) self.old self.new) }
-    {
         self.make_room(alloc, name)?;
         self.ask_by(alloc, name, lent)?;
-        Ok(())
+        Ok(true)
     }
 
     /// What the policy sees of a name that might be asked for.
@@ -253,62 +240,40 @@ impl KeptMember {
     /// A name of the next hole is wanted, far from those before, or one of the first hole in another
     /// round. Answers whether the member begins to ask for it.
     fn leap(&mut self, alloc: Global) -> Result<bool, AllocError>
-        ensures begun { IfOk result (λ begun. (k : Keeping) → IsKeptAt self.old k →
-            begun ≡ is_begun (leap (sees k.host) k.policy)) }
-        ensures does { OnOk result (DoesQuietly leap self.old self.new) }
-        ensures left { OnErr result (LeavesSome leap self.old self.new) }
+        ensures { Begins leap self.old self.new result }
     {
         let leaps = self.policy.leaps();
         let next = self
             .member
-            .hole_after(alloc, leaps.page, leaps.source, leaps.number)?;
+            .hole_after(leaps.page, leaps.source, leaps.number)?;
         match next {
-            Some(hole) => {
-                let begun = self.leap_in(alloc, hole)?;
-                Ok(begun)
-            }
-            None => {
-                let begun = self.leap_again(alloc)?;
-                Ok(begun)
-            }
+            Some(hole) => self.leap_in(alloc, hole),
+            None => self.leap_again(alloc),
         }
     }
 
     /// Another round of these begins with the first hole, if there is one.
     fn leap_again(&mut self, alloc: Global) -> Result<bool, AllocError>
-        ensures begun { IfOk result (λ begun. (k : Keeping) → IsKeptAt self.old k →
-            begun ≡ is_begun (leap_again (sees k.host) k.policy)) }
-        ensures does { OnOk result (DoesQuietly leap_again self.old self.new) }
-        ensures left { OnErr result (LeavesSome leap_again self.old self.new) }
+        ensures { Begins leap_again self.old self.new result }
     {
         self.policy.leap_again();
-        let first = self.member.hole_after(alloc, Turns::START.page, 0, 0)?;
+        let first = self.member.hole_after(Turns::START.page, 0, 0)?;
         match first {
-            Some(hole) => {
-                let begun = self.leap_in(alloc, hole)?;
-                Ok(begun)
-            }
+            Some(hole) => self.leap_in(alloc, hole),
             None => Ok(false),
         }
     }
 
     /// One of the names of a hole is wanted. A hole is never empty.
     fn leap_in(&mut self, alloc: Global, hole: Hole) -> Result<bool, AllocError>
-        ensures begun { IfOk result (λ begun. 1 ≤ hole.gap.first → hole.gap.first ≤ hole.gap.last →
-            (k : Keeping) → IsKeptAt self.old k →
-            begun ≡ is_begun (leap_in hole (sees k.host) k.policy)) }
-        ensures does { OnOk result (1 ≤ hole.gap.first → hole.gap.first ≤ hole.gap.last →
-            DoesQuietly (leap_in hole) self.old self.new) }
-        ensures left { OnErr result
-            (1 ≤ hole.gap.first → hole.gap.first ≤ hole.gap.last → LeavesSome (leap_in hole)
-            self.old self.new) }
+        ensures { 1 ≤ hole.gap.first → hole.gap.first ≤ hole.gap.last →
+            Begins (leap_in hole) self.old self.new result }
     {
         if hole.gap.first == 0 || hole.gap.last < hole.gap.first {
             return Ok(false);
         }
         let name = self.policy.leap(hole);
-        let begun = self.want(alloc, &name, true)?;
-        Ok(begun)
+        self.want(alloc, &name, true)
     }
 
     /// The names near one, which may be left out if all of them are held. Mostly one look-up shows
@@ -379,62 +344,40 @@ impl KeptMember {
     /// The next hole has its turn, or the first one in another round. Answers whether the member
     /// begins to ask for a name of it.
     fn turn(&mut self, alloc: Global) -> Result<bool, AllocError>
-        ensures begun { IfOk result (λ begun. (k : Keeping) → IsKeptAt self.old k →
-            begun ≡ is_begun (turn (sees k.host) k.policy)) }
-        ensures does { OnOk result (DoesQuietly turn self.old self.new) }
-        ensures left { OnErr result (LeavesSome turn self.old self.new) }
+        ensures { Begins turn self.old self.new result }
     {
         let turns = self.policy.turns();
         let next = self
             .member
-            .hole_after(alloc, turns.page, turns.source, turns.number)?;
+            .hole_after(turns.page, turns.source, turns.number)?;
         match next {
-            Some(hole) => {
-                let begun = self.want_in(alloc, hole)?;
-                Ok(begun)
-            }
-            None => {
-                let begun = self.turn_again(alloc)?;
-                Ok(begun)
-            }
+            Some(hole) => self.want_in(alloc, hole),
+            None => self.turn_again(alloc),
         }
     }
 
     /// Another round begins, and the first hole has its turn, if there is one.
     fn turn_again(&mut self, alloc: Global) -> Result<bool, AllocError>
-        ensures begun { IfOk result (λ begun. (k : Keeping) → IsKeptAt self.old k →
-            begun ≡ is_begun (turn_again (sees k.host) k.policy)) }
-        ensures does { OnOk result (DoesQuietly turn_again self.old self.new) }
-        ensures left { OnErr result (LeavesSome turn_again self.old self.new) }
+        ensures { Begins turn_again self.old self.new result }
     {
         self.policy.begin_round();
-        let first = self.member.hole_after(alloc, Turns::START.page, 0, 0)?;
+        let first = self.member.hole_after(Turns::START.page, 0, 0)?;
         match first {
-            Some(hole) => {
-                let begun = self.want_in(alloc, hole)?;
-                Ok(begun)
-            }
+            Some(hole) => self.want_in(alloc, hole),
             None => Ok(false),
         }
     }
 
     /// A hole has its turn: one of its names is wanted. A hole is never empty.
     fn want_in(&mut self, alloc: Global, hole: Hole) -> Result<bool, AllocError>
-        ensures begun { IfOk result (λ begun. 1 ≤ hole.gap.first → hole.gap.first ≤ hole.gap.last →
-            (k : Keeping) → IsKeptAt self.old k →
-            begun ≡ is_begun (want_in hole (sees k.host) k.policy)) }
-        ensures does { OnOk result (1 ≤ hole.gap.first → hole.gap.first ≤ hole.gap.last →
-            DoesQuietly (want_in hole) self.old self.new) }
-        ensures left { OnErr result
-            (1 ≤ hole.gap.first → hole.gap.first ≤ hole.gap.last → LeavesSome (want_in hole)
-            self.old self.new) }
+        ensures { 1 ≤ hole.gap.first → hole.gap.first ≤ hole.gap.last →
+            Begins (want_in hole) self.old self.new result }
     {
         if hole.gap.first == 0 || hole.gap.last < hole.gap.first {
             return Ok(false);
         }
         let name = self.policy.take_turn(hole);
-        let begun = self.want(alloc, &name, true)?;
-        Ok(begun)
+        self.want(alloc, &name, true)
     }
 
     /// If the board is full, the member stops all of its request timers.

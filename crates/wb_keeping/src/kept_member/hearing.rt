@@ -61,7 +61,7 @@ impl KeptMember {
         let name = drawop.name();
         let is_no_news = self.is_no_news(&name);
         let was_asked = self.is_asked(&name);
-        let became = self.arrive(drawop)?;
+        let became = self.member.accept(drawop)?;
         if is_no_news {
             return Ok(became);
         }

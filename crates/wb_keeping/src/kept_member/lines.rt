@@ -6,7 +6,7 @@ ghost use Rattle.wb_codec.specs.declared.datagram.Datagram.TheVariants.{Draw};
 ghost use Rattle.wb_keeper.specs.Hearing.{asks_for_pages};
 ghost use Rattle.wb_member.specs.Holding.{outcome_in};
 ghost use Rattle.wb_member.specs.Opened.{becomes};
-ghost use Rattle.wb_keeping.specs.Kept.{Arrives, Asks, Hears, Says, SetsDistance, Stops, Ticks, performs};
+ghost use Rattle.wb_keeping.specs.Kept.{Asks, Hears, Says, SetsDistance, Stops, Ticks, performs};
 ghost use Rattle.wb_keeping.specs.Performing.{Does, DoesQuietly, IsKeptAt, Keeping, LeavesSome};
 ghost use Rattle.wb_keeping.specs.Steps.{back_lines, lends_for, performs_all, set_lines};
 
@@ -31,17 +31,6 @@ impl KeptMember {
             Ok(sent) => Ok(sent),
             Err(_fault) => Err(AllocError),
         }
-    }
-
-    /// A drawop arrives. Answers what became of it.
-    pub(super) fn arrive(&mut self, drawop: &Drawop) -> Result<Option<Reply>, AllocError>
-        ensures became { IfOk result (λ reply. (k : Keeping) → IsKeptAt self.old k →
-            outcome_in reply ≡ becomes drawop.now k.host) }
-        ensures does { OnOk result (DoesQuietly (performs (Arrives drawop.now)) self.old self.new) }
-        ensures err { OnErr result (self.new ≡ self.old) }
-    {
-        let reply = self.member.accept(drawop)?;
-        Ok(reply)
     }
 
     /// It hears a datagram that is not a question for pages, so that nothing is sent at once. If

@@ -1,8 +1,8 @@
 //! What a self-managing member sends others as time goes on.
 ghost use Rattle.std.specs.Prelude.{◌≡◌, ◌≤◌, ◌<◌, ◌++◌, ◌∷◌, [], IfOk, OnErr, OnOk, map};
 ghost use Rattle.wb_gaps.specs.Answers.{pages_of, report_of};
-ghost use Rattle.wb_keeping.specs.Kept.{answers, asks_pages, reports, reports_due, reports_next, reports_page, state_of, still, timed};
-ghost use Rattle.wb_keeping.specs.Performing.{Does, DoesQuietly, IsKeptAt, Keeping, LeavesSome, view_of};
+ghost use Rattle.wb_keeping.specs.Kept.{answers, asks_pages, reports, reports_due, reports_next, reports_page, state_of, timed};
+ghost use Rattle.wb_keeping.specs.Performing.{Does, IsKeptAt, Keeping, LeavesSome, view_of};
 ghost use Rattle.wb_policy.specs.Choices.{until_in};
 ghost use Rattle.wb_policy.specs.Reports.{page_after, rest_after, slice_after};
 
@@ -10,7 +10,7 @@ use crate::kept_member::KeptMember;
 use crate::kept_member::lines::send;
 use std::alloc::{AllocError, Global};
 use wb_codec::Datagram;
-use wb_names::{Echoes, Marks, PageId};
+use wb_names::{Marks, PageId};
 use wb_policy::limits::{MOST_MARKS, MOST_PAGES};
 use wb_policy::{last_heard, last_source, members, page_after, report_bytes};
 
@@ -184,7 +184,7 @@ impl KeptMember {
             sent.new.items) }
         ensures left { OnErr result (LeavesSome (reports_page page until marks) self.old self.new) }
     {
-        let all = self.heard(alloc)?;
+        let all = self.member.echoes(alloc)?;
         let echoes = last_heard(alloc, &all)?;
         let bytes = report_bytes(&marks, &echoes);
         let last = last_source(marks.as_slice());
@@ -200,15 +200,5 @@ impl KeptMember {
         };
         send(sent, report)?;
         Ok(())
-    }
-
-    /// An echo to each sender that is remembered.
-    fn heard(&mut self, alloc: Global) -> Result<Echoes, AllocError>
-        ensures same { DoesQuietly still self.old self.new }
-        ensures policy { self.new.policy ≡ self.old.policy }
-        ensures echoes { IfOk result (λ all. (k : Keeping) → IsKeptAt self.old k →
-            all ≡ (view_of k.host).echoes) }
-    {
-        self.member.echoes(alloc)
     }
 }

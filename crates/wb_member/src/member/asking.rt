@@ -16,7 +16,15 @@ impl Member {
             (datagram ≡ message page host) × IsOpenAt self.new (reported page host)) }
         ensures err { OnErr result (self.new ≡ self.old) }
     {
-        self.board.session(alloc, &mut self.keeper, page)
+        let now = self.keeper.moment();
+        match self
+            .keeper
+            .session(alloc, &self.board, &mut self.desk, now, page)
+        {
+            Ok(message) => Ok(message),
+            Err(KeepFault::Memory) => Err(AllocError),
+            Err(_) => unreachable!(),
+        }
     }
 
     /// Looks for what is missing of a page, and begins to miss it. Answers how many drawops it is.
@@ -25,7 +33,9 @@ impl Member {
             (count ≡ length (wanted_of page host)) × IsOpenAt self.new (looked page host)) }
         ensures err { OnErr result (self.new ≡ self.old) }
     {
-        let names = self.board.missing(alloc, &self.keeper, page)?;
+        let names = self
+            .keeper
+            .missing(alloc, &self.board, &mut self.desk, page)?;
         let (words, rest) = self.words.ahead(alloc, names.len())?;
         let now = self.keeper.moment();
         match self.keeper.notice(alloc, now, &names, &words) {
@@ -45,7 +55,7 @@ impl Member {
             (begun ≡ may_ask name.now host) × IsOpenAt self.new (with_asked name.now host)) }
         ensures err { OnErr result (self.new ≡ self.old) }
     {
-        if self.board.holds(name) || self.keeper.is_timed(name) {
+        if self.holds(name) || self.keeper.is_timed(name) {
             return Ok(false);
         }
         let (word, rest) = self.words.next_ahead()?;

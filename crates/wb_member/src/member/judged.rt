@@ -20,21 +20,21 @@ impl Member {
         ensures drawops { (host : Opened) → IsOpenAt self.now host → result.now ≡ host.is.held }
         ensures few { length result.now ≤ MAX_CELLS }
     {
-        self.board.drawops()
+        self.desk.list()
     }
 
     /// Whether its board has no cell for another drawop.
     pub fn is_full(&self) -> bool
         ensures { (host : Opened) → IsOpenAt self.now host → result ≡ is_full host }
     {
-        self.board.is_full()
+        self.desk.rows_left() == 0
     }
 
     /// Whether a drawop of this name is held.
     pub fn holds(&self, name: &Name) -> bool
         ensures { (host : Opened) → IsOpenAt self.now host → result ≡ holds host name.now }
     {
-        self.board.holds(name)
+        self.desk.find(name).is_some()
     }
 
     /// The delay to a source in microseconds: the last set or measured, or 100,000 before any.
@@ -82,7 +82,8 @@ impl Member {
         ensures number { IfOk result (λ number. (host : Opened) → IsOpenAt self.old host →
             number ≡ highest page source host) }
     {
-        self.board.highest(page, source)
+        let holdings = self.desk.holdings()?;
+        Ok(holdings.highest(page, source))
     }
 
     /// The least number from which on all of a source are held on a page, up to the greatest that
@@ -92,14 +93,14 @@ impl Member {
         ensures number { IfOk result (λ number. (host : Opened) → IsOpenAt self.old host →
             IsWholeFrom (IsHeld host.is.held page source) (highest page source host) number) }
     {
-        self.board.whole_from(page, source)
+        let holdings = self.desk.holdings()?;
+        Ok(holdings.whole_from(page, source))
     }
 
     /// The first hole that begins after this number of a source on a page: holes are the missing
     /// ranges of all pages below what is held, ascending by page, source and number.
     pub fn hole_after(
         &mut self,
-        alloc: Global,
         page: PageId,
         source: u32,
         number: u32,
@@ -108,6 +109,7 @@ impl Member {
         ensures hole { IfOk result (λ found. (host : Opened) → IsOpenAt self.old host →
             found ≡ hole_after page source number host) }
     {
-        self.board.hole_after(alloc, page, source, number)
+        let holdings = self.desk.holdings()?;
+        Ok(holdings.hole_after(page, source, number))
     }
 }

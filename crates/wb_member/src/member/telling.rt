@@ -1,6 +1,5 @@
 //! What a member tells others of the pages that it holds.
 ghost use Rattle.std.specs.Prelude.{◌≡◌, ◌≤◌, IfOk};
-ghost use Rattle.wb_gaps.specs.Answers.{report_of, pages_of};
 ghost use Rattle.wb_gaps.specs.Telling.{last_source, marks_after, pages_after};
 ghost use Rattle.wb_names.specs.declared.entries.TheConstants.{MAX_ENTRIES};
 ghost use Rattle.wb_member.specs.Holding.{IsOpenAt};
@@ -11,24 +10,6 @@ use std::alloc::{AllocError, Global};
 use wb_names::{Marks, PageId};
 
 impl Member {
-    /// The greatest number of each source that is held of a page.
-    pub fn report(&mut self, alloc: Global, page: PageId) -> Result<Marks, AllocError>
-        ensures same { self.new ≡ self.old }
-        ensures report { IfOk result (λ marks. (host : Opened) → IsOpenAt self.old host →
-            marks ≡ report_of host.is.held page) }
-    {
-        self.board.report(alloc, page)
-    }
-
-    /// The pages that have a drawop, ascending, each once.
-    pub fn pages(&mut self, alloc: Global) -> Result<Vec<PageId>, AllocError>
-        ensures same { self.new ≡ self.old }
-        ensures pages { IfOk result (λ pages. (host : Opened) → IsOpenAt self.old host →
-            pages.items ≡ pages_of host.is.held) }
-    {
-        self.board.pages(alloc)
-    }
-
     /// The next marks of the report of a page, at most `most`: those of sources above `last`, or
     /// the first ones. It costs look-ups for these alone.
     pub fn marks_after(
@@ -43,7 +24,9 @@ impl Member {
         ensures marks { IfOk result (λ marks. (host : Opened) → IsOpenAt self.old host →
             marks ≡ marks_after host.is.held page last most) }
     {
-        self.board.marks_after(alloc, page, last, most)
+        let holdings = self.desk.holdings()?;
+        let marks = holdings.marks_after(alloc, page, last, most)?;
+        Ok(marks)
     }
 
     /// The last source of the report of a page, if it has one. It costs one look-up.
@@ -52,7 +35,8 @@ impl Member {
         ensures last { IfOk result (λ last. (host : Opened) → IsOpenAt self.old host →
             last ≡ last_source host.is.held page) }
     {
-        self.board.last_source(page)
+        let holdings = self.desk.holdings()?;
+        Ok(holdings.last_source(page))
     }
 
     /// The next pages that have a drawop, at most `most`: those after `last`, or the first ones. It
@@ -67,6 +51,8 @@ impl Member {
         ensures pages { IfOk result (λ pages. (host : Opened) → IsOpenAt self.old host →
             pages.items ≡ pages_after host.is.held last most) }
     {
-        self.board.pages_after(alloc, last, most)
+        let holdings = self.desk.holdings()?;
+        let pages = holdings.pages_after(alloc, last, most)?;
+        Ok(pages)
     }
 }

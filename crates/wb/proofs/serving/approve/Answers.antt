@@ -1,13 +1,13 @@
 use Rattle.std.proofs.Common.{[], ◌++◌, ◌∙◌, List, ℕ, ap, ap₂, append-nil, inl, inr, refl, sym}
 use Rattle.std.proofs.lemmas.Result.{err_from_is_err_and}
+use Rattle.wb_lines.proofs.KnownBytes.{Appends-none}
 use Rattle.wb.specs.Serving.{approval}
-use Rattle.wb.proofs.Statuses.{unwritten}
 use Rattle.wb.proofs.serving.approve.Goals as goal
 
 pub returns-in_err-text-clause-text : goal.returns-in_err-text-clause-text
 returns-in_err-text-clause-text g c =
     let p = err_from_is_err_and c.from_residual.result c.from_residual.ensures.1 in
-    rw p.1 ([], unwritten (g.W.Sink.taken c.args.sink.now), ((approval c.args.lines, refl), inr p.2))
+    rw p.1 ([], Appends-none (g.W.Sink.taken c.args.sink.now), ((approval c.args.lines, refl), inr p.2))
 
 pub returns-in_err-text-clause-read : goal.returns-in_err-text-clause-read
 returns-in_err-text-clause-read g c = λ e.
@@ -26,7 +26,7 @@ returns-in_err-text-clause-write g c = λ e.
 pub returns-in_err-add-clause-text : goal.returns-in_err-add-clause-text
 returns-in_err-add-clause-text g c =
     let p = err_from_is_err_and c.from_residual-in_err-add.result c.from_residual-in_err-add.ensures.1 in
-    rw p.1 ([], unwritten (g.W.Sink.taken c.args.sink.now), ((approval c.args.lines, refl), inr p.2))
+    rw p.1 ([], Appends-none (g.W.Sink.taken c.args.sink.now), ((approval c.args.lines, refl), inr p.2))
 
 pub returns-in_err-add-clause-read : goal.returns-in_err-add-clause-read
 returns-in_err-add-clause-read g c = λ e.

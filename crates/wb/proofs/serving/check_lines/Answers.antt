@@ -1,6 +1,7 @@
 use Rattle.std.proofs.Common.{◌∙◌, [], Ok, Err, ap, inl, inr, refl, sym}
 use Rattle.std.proofs.lemmas.Result.{err_from_is_err_and}
-use Rattle.wb.proofs.Statuses.{run_lost, script_lost, unwritten}
+use Rattle.wb_lines.proofs.KnownBytes.{Appends-none}
+use Rattle.wb.proofs.Statuses.{run_lost, script_lost}
 use Rattle.wb.proofs.serving.check_lines.Goals as goal
 
 pub returns-in_err-lines : goal.returns-in_err-lines
@@ -11,7 +12,7 @@ returns-in_err-lines g c =
       input = s.0;
       written = [];
       read = s.1;
-      wrote = unwritten (g.W.Sink.taken c.args.sink.now);
+      wrote = Appends-none (g.W.Sink.taken c.args.sink.now);
       answered = (Err p.0, rw p.2 s.2, (Err p.0, (refl, refl), refl));
       failed = λ e. elim (run_lost p.0 e) [
         | inl read ↦ inl (c.in_err-lines.ensures.read (ap Err (sym p.2 ∙ read)))

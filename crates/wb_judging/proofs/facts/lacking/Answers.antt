@@ -4,9 +4,10 @@ use Rattle.std.proofs.lemmas.List.{take_all}
 use Rattle.std.proofs.lemmas.List.Sums.{sum_by_more}
 use Rattle.wb_names.specs.Values.{MarkValue}
 use Rattle.wb_judging.specs.Handing.{lacks}
-use Rattle.wb_judging.proofs.Kept.{at_same, take_first}
+use Rattle.wb_judging.proofs.Kept.{take_first}
 use Rattle.wb_judging.proofs.facts.lacking.Goals as goal
 use Rattle.wb_policy.specs.declared.limits.TheConstants.{MOST_MARKS}
+use Rattle.wb_keeping.proofs.Performed.{at_inside}
 
 pub loop-mark-preserved : goal.loop-mark-preserved
 loop-mark-preserved c = record {
@@ -16,7 +17,7 @@ loop-mark-preserved c = record {
       let f : MarkValue → ℕ = lacks c.args.page k.host in
       let items = take c.min-count.result c.args.marks.now in
       let i = c.loop-mark.mark-index in
-      let one = c.in_ok-total.ensures.lacks k (at_same k c.loop-mark.invariant.same at) in
+      let one = c.in_ok-total.ensures.lacks k (at_inside k c.loop-mark.invariant.same at) in
       let here = ap f c.mark-item.is in
       let before = c.loop-mark.invariant.lacking k at in
       let more = sum_by_more f items i c.mark-item.result c.loop-mark-test.true in

@@ -9,8 +9,8 @@ pub returns : goal.returns
 returns c = λ history held.
     let ranges = c.self.inside.ranges in
     let ordered = c.source_at_end.ensures.ordered in
-    let all = tops ranges ordered c.self.invariant c.args.page in
-    let top = are_tops ranges ordered c.self.invariant c.args.page in
+    let all = tops ranges ordered c.self.invariant.ranges c.args.page in
+    let top = are_tops ranges ordered c.self.invariant.ranges c.args.page in
     let here = subst (λ (rs : List HeldRange). HoldNamesOf history rs) (sym c.self.view_is) held in
-    at_end ranges ordered c.self.invariant c.args.page all top c.source_at_end.result c.source_at_end.ensures.last
-    ∙ ap (λ (ms : List MarkValue). last_or None (map (λ (m : MarkValue). m.source) ms)) (are_told ranges ordered c.self.invariant c.args.page all top history here)
+    at_end ranges ordered c.self.invariant.ranges c.args.page all top c.source_at_end.result c.source_at_end.ensures.last
+    ∙ ap (λ (ms : List MarkValue). last_or None (map (λ (m : MarkValue). m.source) ms)) (are_told ranges ordered c.self.invariant.ranges c.args.page all top history here)

@@ -18,5 +18,5 @@ returns c = λ history held.
     let found : c.in_ok-pages.pages.items ≡ all = c.in_ok-pages.ensures.pages all listed
     ∙ ap (take c.len.result) (all_left (is_past None) all (λ page. refl))
     ∙ take_all c.len.result all (omega (arith, few_pages ranges.entries, c.len.ensures.len)) in
-    pages_are ranges ordered c.self.invariant history (subst (λ (rs : List HeldRange). HoldNamesOf history rs) (sym c.self.view_is) held) _
+    pages_are ranges ordered c.self.invariant.ranges history (subst (λ (rs : List HeldRange). HoldNamesOf history rs) (sym c.self.view_is) held) _
     (subst (Lists page_cmp (HasPage ranges.entries)) (sym found) listed)

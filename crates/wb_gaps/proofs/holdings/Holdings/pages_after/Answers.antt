@@ -8,4 +8,4 @@ use Rattle.wb_gaps.proofs.holdings.Holdings.pages_after.Goals as goal
 pub returns : goal.returns
 returns c = λ history held.
     c.in_ok-pages.ensures.pages (pages_of history)
-    (pages_held c.self.inside.ranges c.in_ok-pages.ensures.ordered c.self.invariant history (subst (λ (rs : List HeldRange). HoldNamesOf history rs) (sym c.self.view_is) held) (pages_of history) (pages_of_history history))
+    (pages_held c.self.inside.ranges c.in_ok-pages.ensures.ordered c.self.invariant.ranges history (subst (λ (rs : List HeldRange). HoldNamesOf history rs) (sym c.self.view_is) held) (pages_of history) (pages_of_history history))

@@ -7,7 +7,7 @@ use Rattle.wb_gaps.proofs.Reports.{report_of_runs}
 use Rattle.wb_gaps.proofs.holdings.Holdings.report.Goals as goal
 
 pub highs-requires : goal.highs-requires
-highs-requires c = subst AreRuns (sym c.runs_of.ensures.runs) (runs_are c.self.inside.ranges c.runs_of.ensures.ordered c.self.invariant c.args.page)
+highs-requires c = subst AreRuns (sym c.runs_of.ensures.runs) (runs_are c.self.inside.ranges c.runs_of.ensures.ordered c.self.invariant.ranges c.args.page)
 
 pub from_ascending-requires : goal.from_ascending-requires
 from_ascending-requires c =
@@ -28,5 +28,5 @@ returns c = λ history held.
     subst (IsReport history c.args.page) (sym c.from_ascending.ensures)
     (report_of_runs history c.args.page _ c.in_ok-marks.marks.items
     (subst (AreRunsOf history c.args.page) (sym c.runs_of.ensures.runs)
-    (runs_hold c.self.inside.ranges c.runs_of.ensures.ordered c.self.invariant history (subst (λ (rs : List HeldRange). HoldNamesOf history rs) (sym c.self.view_is) held) c.args.page))
+    (runs_hold c.self.inside.ranges c.runs_of.ensures.ordered c.self.invariant.ranges history (subst (λ (rs : List HeldRange). HoldNamesOf history rs) (sym c.self.view_is) held) c.args.page))
     c.in_ok-marks.ensures (omega arith))

@@ -6,11 +6,11 @@ use Rattle.wb_judge.specs.declared.verdict.Why.{Why}
 use Rattle.wb_keeper.specs.declared.keep_fault.KeepFault.TheVariants.{BackInTime}
 use Rattle.wb_keeping.specs.Laws.{fault_of}
 use Rattle.wb_keeping.specs.declared.kept_fault.KeptFault.TheVariants.{Host}
+use Rattle.wb_keeping.proofs.Performed.{at_inside}
 use Rattle.wb_judging.specs.Handing.{handed_for}
 use Rattle.wb_judging.specs.Performing.{IsJudgedAt, JudgedValue}
 use Rattle.wb_judging.specs.declared.judged_fault.JudgedFault.TheVariants.{Kept}
 use Rattle.wb_judging.proofs.Handed.{handed_fault}
-use Rattle.wb_judging.proofs.Kept.{at_same}
 use Rattle.wb_judging.proofs.Taken.{not_refused, took, why_is}
 use Rattle.wb_judging.proofs.judged_member.JudgedMember.take.Goals as goal
 
@@ -30,7 +30,7 @@ returns-in_err-did-clause-fault c = λ h here time.
     let none : fault_of (handed_for now v c.in_ok-weighed.weighed.verdict.why) h.kept ≡ None =
     ap (λ (w : Option Why). fault_of (handed_for now v w) h.kept) why ∙ handed_fault now o v h at.own ∙ ap (λ (b : Bool). fault_unless b (Host BackInTime)) time in
     not_refused _ _ (fault_of (handed_for now v c.in_ok-weighed.weighed.verdict.why) h.kept) e c.from_residual-in_err-did.result
-    (c.in_err-did.ensures.fault h.kept (at_same h.kept c.in_ok-facts.ensures.same at.kept)) none gives
+    (c.in_err-did.ensures.fault h.kept (at_inside h.kept c.in_ok-facts.ensures.same at.kept)) none gives
 
 pub returns-clause-does : goal.returns-clause-does
 returns-clause-does c = λ h here.

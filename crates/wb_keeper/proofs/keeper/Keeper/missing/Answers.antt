@@ -1,4 +1,5 @@
 use Rattle.std.proofs.Common.{◌∙◌, ap, sym, subst, List, filter, take}
+use Rattle.std.proofs.lemmas.Result.{IfOk-weaker}
 use Rattle.wb_names.specs.Values.{MarkValue}
 use Rattle.wb_gaps.specs.Gaps.{AreGaps}
 use Rattle.wb_board.specs.Desks.{PassValue}
@@ -22,7 +23,7 @@ pub unasked-requires-clause-first : goal.unasked-requires-clause-first
 unasked-requires-clause-first c = gaps_start c.refresh.new.desk.seen c.args.page c.marks.result.now c.missing-gaps.result (c.missing-gaps.ensures c.refresh.new.desk.seen c.in_ok-holdings.ensures.holds)
 
 pub returns-clause-value : goal.returns-clause-value
-returns-clause-value c = λ me constants calls s.
+returns-clause-value c = IfOk-weaker c.unasked.result _ _ (λ names is me constants calls s.
     let events = events_of me calls in
     let stands = subst (λ (v : KeeperValue). timers.StandsFor constants events v.recovery) (sym c.self.view_is) s.recovery in
     let gaps = c.missing-gaps.result in
@@ -33,5 +34,5 @@ returns-clause-value c = λ me constants calls s.
       gaps,
       subst (λ (marks : List MarkValue). AreGaps history c.args.page marks gaps) (c.marks.ensures ∙ s.merged c.args.page) here,
       wanted_as c.self.inside.recovery constants events c.asks.result c.saturating_sub-room.result c.args.page gaps _ stands (c.asks.ensures.events constants events stands) c.saturating_sub-room.ensures
-          (c.in_ok-unasked.ensures ∙ ap (λ (v : KeeperValue). take c.saturating_sub-room.result (filter (is_unasked (timers_in v.recovery)) (names_in_gaps c.args.page gaps))) (sym c.self.view_is)),
-    )
+          (is ∙ ap (λ (v : KeeperValue). take c.saturating_sub-room.result (filter (is_unasked (timers_in v.recovery)) (names_in_gaps c.args.page gaps))) (sym c.self.view_is)),
+    )) c.unasked.ensures

@@ -6,7 +6,7 @@ use Rattle.wb_keeping.specs.Steps.{lends_for}
 use Rattle.wb_keeping.proofs.LeftSome.{left_as, on_err}
 use Rattle.wb_keeping.proofs.Lending.{heard_so}
 use Rattle.wb_keeping.proofs.Performed.{at_inside, quiet_as}
-use Rattle.wb_keeping.proofs.Wanted as wanted
+use Rattle.std.proofs.lemmas.Bool.{ne_eqb}
 use Rattle.wb_keeping.proofs.kept_member.KeptMember.hears_request.Goals as goal
 use Rattle.wb_keeping.proofs.kept_member.KeptMember.hears_request.Goals.{After-hear_by}
 
@@ -15,7 +15,7 @@ hearing : (c : After-hear_by) (k : Keeping) → IsKeptAt c.args.self.now k
     ≡ lends_for c.answered_to-source.result c.lent_to-lent.result (Hears (Request c.args.asker c.args.name)) (sees k.host) k.policy
 hearing c k at =
     let me : c.me.result ≡ k.host.is.number = c.me.ensures k.host (at_inside k c.self.view_is at).member in
-    heard_so c.args.asker c.answered_to-source.result c.args.name c.lent_to-lent.result k (wanted.not_same c.args.asker k.host.is.number (λ e. c.if-asker-me.false (e ∙ sym me)))
+    heard_so c.args.asker c.answered_to-source.result c.args.name c.lent_to-lent.result k (ne_eqb c.args.asker k.host.is.number (λ e. c.if-asker-me.false (e ∙ sym me)))
     (c.answered_to-source.ensures k at) (c.lent_to-lent.ensures.lent k at)
 
 pub returns-clause-does : goal.returns-clause-does

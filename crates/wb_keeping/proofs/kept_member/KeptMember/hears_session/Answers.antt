@@ -7,7 +7,7 @@ use Rattle.wb_keeping.specs.Performing.{IsKeptAt, Keeping, KeptValue, sees}
 use Rattle.wb_policy.specs.Policy.{Policy}
 use Rattle.wb_keeping.proofs.Performed.{at_inside, quiet_as, quiet_then}
 use Rattle.wb_keeping.proofs.LeftSome.{on_err, left_as, left_first, left_later, left_none}
-use Rattle.wb_keeping.proofs.Wanted as wanted
+use Rattle.std.proofs.lemmas.Bool.{ne_eqb}
 use Rattle.wb_member.specs.Opened.{present}
 use Rattle.wb_codec.specs.declared.datagram.Datagram.TheVariants.{Session}
 use Rattle.wb_keeping.proofs.kept_member.KeptMember.hears_session.Goals as goal
@@ -30,7 +30,7 @@ parts c names are k at =
     let inside = at_inside k c.self.view_is at in
     let me = c.me-me.ensures k.host inside.member in
     let now = c.moment-now.ensures.moment k.host inside.member in
-    let other = wanted.not_same c.args.sender k.host.is.number (λ e. c.if-sender-me.false (e ∙ sym me)) in
+    let other = ne_eqb c.args.sender k.host.is.number (λ e. c.if-sender-me.false (e ∙ sym me)) in
     let listens = c.is_listening.ensures ∙ ap (λ (n : ℕ). nat_lt n c.self.inside.policy.ready) now ∙ ap (λ (p : Policy). nat_lt (present k.host) p.ready) inside.policy in
     let own = sym (c.in_ok-own.ensures ∙ ap (λ (m : ℕ). own_marks m c.is_listening.result marks) me ∙ ap (λ (b : Bool). own_marks k.host.is.number b marks) listens) in
     let told = sym (are ∙ ap (λ (m : ℕ). told_names m c.args.page marks) me) in

@@ -4,7 +4,7 @@ use Rattle.wb_names.specs.declared.name.PageId.{PageId}
 use Rattle.wb_gaps.specs.Answers.{pages_of, report_of}
 use Rattle.wb_policy.specs.Choices.{until_in}
 use Rattle.wb_keeping.specs.Kept.{reports_next, reports_page}
-use Rattle.wb_keeping.specs.Performing.{Does, IsKeptAt, KeptValue, sees}
+use Rattle.wb_keeping.specs.Performing.{Does, KeptValue, sees}
 use Rattle.wb_policy.specs.Reports.{page_after, slice_after}
 use Rattle.wb_keeping.proofs.LeftSome.{left_none, on_err}
 use Rattle.wb_keeping.proofs.Performed.{at_inside, does_as}

@@ -3,10 +3,10 @@ use Rattle.std.specs.Prelude.{None}
 use Rattle.wb_codec.specs.declared.datagram.Datagram.{Datagram}
 use Rattle.wb_policy.specs.Choices.{last_heard, last_source}
 use Rattle.wb_keeping.specs.Kept.{reports_page}
-use Rattle.wb_keeping.specs.Performing.{IsKeptAt, KeptValue, sees, view_of}
+use Rattle.wb_keeping.specs.Performing.{KeptValue, sees, view_of}
 use Rattle.wb_policy.specs.Policy.{after_report}
 use Rattle.wb_keeping.proofs.Performed.{at_inside, does_seen}
-use Rattle.wb_keeping.proofs.LeftSome.{on_err, left_still}
+use Rattle.wb_keeping.proofs.LeftSome.{on_err, left_none}
 use Rattle.std.proofs.Common.{◌*◌}
 use Rattle.wb_names.specs.declared.echo.Echo.{Echo}
 use Rattle.wb_codec.specs.declared.datagram.Datagram.TheVariants.{Session}
@@ -16,11 +16,10 @@ use Rattle.wb_keeping.proofs.kept_member.KeptMember.reports_page.Goals as goal
 pub returns-clause-does : goal.returns-clause-does
 returns-clause-does c = does_seen (reports_page c.args.page c.args.until c.args.marks) (λ k at.
     let v = view_of k.host in
-    let same : IsKeptAt c.heard.new.self k = ((c.heard.ensures.same.sends []).at k at).1 in
-    let inside = at_inside k c.self.view_is same in
+    let inside = at_inside k c.self.view_is at in
     let now : c.moment-now.result ≡ v.now = c.moment-now.ensures.moment k.host inside.member in
     let me : c.me.result ≡ v.me = c.me.ensures k.host inside.member in
-    let all : c.in_ok-all.all ≡ v.echoes = c.in_ok-all.ensures.echoes k at in
+    let all : c.in_ok-all.all ≡ v.echoes = c.in_ok-all.ensures k.host inside.member in
     let echoes : c.in_ok-echoes.echoes ≡ last_heard v.echoes = c.in_ok-echoes.ensures ∙ ap last_heard all in
     let last : c.last_source-last.result ≡ last_source None c.args.marks = c.last_source-last.ensures ∙ ap (last_source None) c.as_slice.ensures.entries in
     let others : c.members-others.result ≡ members_in v.echoes = c.members-others.ensures.members ∙ ap members_in (c.as_slice-2.ensures.entries ∙ all) in
@@ -31,11 +30,5 @@ returns-clause-does c = does_seen (reports_page c.args.page c.args.until c.args.
       record { member = inside.member; policy = c.reported.ensures.after ∙ (λ i. after_report (now i) c.args.page (last i) c.args.until (others i) (bytes i) (inside.policy i)) },
     ))
 
-pub returns-in_err-all-clause-left : goal.returns-in_err-all-clause-left
-returns-in_err-all-clause-left c = on_err _ (left_still (reports_page c.args.page c.args.until c.args.marks) c.heard.ensures.same refl)
-
-pub returns-in_err-echoes-clause-left : goal.returns-in_err-echoes-clause-left
-returns-in_err-echoes-clause-left c = on_err _ (left_still (reports_page c.args.page c.args.until c.args.marks) c.heard.ensures.same refl)
-
 pub returns-in_err-send-clause-left : goal.returns-in_err-send-clause-left
-returns-in_err-send-clause-left c = on_err _ (left_still (reports_page c.args.page c.args.until c.args.marks) c.heard.ensures.same (ap (λ (v : KeptValue). v.member) c.self.view_is))
+returns-in_err-send-clause-left c = on_err _ (left_none (reports_page c.args.page c.args.until c.args.marks) (ap (λ (v : KeptValue). v.member) c.self.view_is))

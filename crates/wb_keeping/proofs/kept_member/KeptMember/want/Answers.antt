@@ -4,21 +4,21 @@ use Rattle.wb_keeping.specs.Performing.{IsKeptAt, Keeping, KeptValue, sees, view
 use Rattle.wb_policy.specs.Policy.{Policy, after_wanting}
 use Rattle.wb_keeping.specs.Views.{holds, is_full, is_known, level}
 use Rattle.wb_keeping.specs.Steps.{lends_for, lent_at, makes_room}
-use Rattle.wb_keeping.proofs.Performed.{at_inside, quiet_by}
-use Rattle.wb_keeping.proofs.LeftSome.{on_err, left_by}
+use Rattle.wb_keeping.proofs.Performed.{at_inside, quiet_by, quiet_then}
+use Rattle.wb_keeping.proofs.LeftSome.{on_err, left_by, left_later, left_none}
 use Rattle.wb_keeping.proofs.Lending.{lends_as}
 use Rattle.wb_keeping.proofs.Wanted as wanted
 use Rattle.wb_member.specs.Opened.{present}
 use Rattle.wb_keeping.proofs.kept_member.KeptMember.want.Goals as goal
-use Rattle.wb_keeping.proofs.kept_member.KeptMember.want.Goals.{After-begin}
+use Rattle.wb_keeping.proofs.kept_member.KeptMember.want.Goals.{After-make_room}
 
 -- the lines with which it begins to ask, if the name is wanted
-abbrev asking : After-begin → Transition
+abbrev asking : After-make_room → Transition
 asking c =
     let n = c.args.name.now in
     and_then (makes_room n) (lends_for n.source c.lent_to-lent.result (Asks n))
 
-begins : (c : After-begin) (k : Keeping) → IsKeptAt c.args.self.now k
+begins : (c : After-make_room) (k : Keeping) → IsKeptAt c.args.self.now k
     → want c.args.name.now c.args.may_start_anew (sees k.host) k.policy ≡ asking c (sees k.host) (after_wanting (present k.host) k.policy)
 begins c k at =
     let n = c.args.name.now in
@@ -34,7 +34,7 @@ begins c k at =
     (sym (lends_as n.source ((view_of k.host).distance n.source) k.policy.usual (Asks n) c.lent_to-lent.result
     (c.lent_to-lent.ensures.lent k at ∙ ap (λ (s : ℕ). lent_at ((view_of k.host).distance s) k.policy.usual) c.source.ensures)))
 
-spends : (c : After-begin) (k : Keeping) → IsKeptAt c.args.self.now k
+spends : (c : After-make_room) (k : Keeping) → IsKeptAt c.args.self.now k
     → after_wanting c.moment-now.result c.self.inside.policy ≡ after_wanting (present k.host) k.policy
 spends c k at =
     let inside = at_inside k c.self.view_is at in
@@ -42,14 +42,19 @@ spends c k at =
 
 pub returns-clause-does : goal.returns-clause-does
 returns-clause-does c =
-    let here = (goal.at.returns-clause-does c).After-begin in
-    quiet_by (want c.args.name.now c.args.may_start_anew) (asking here)
+    let here = (goal.at.returns-clause-does c).After-make_room in
+    let n = c.args.name.now in
+    quiet_by (want n c.args.may_start_anew) (asking here)
     (λ k at. (after_wanting (present k.host) k.policy, c.if-not-want.ensures.spent ∙ spends here k at, begins here k at))
-    (ap (λ (v : KeptValue). v.member) c.self.view_is) c.in_ok-begin.ensures.does
+    (ap (λ (v : KeptValue). v.member) c.self.view_is) (quiet_then (makes_room n) (lends_for n.source c.lent_to-lent.result (Asks n)) c.in_ok-make_room.ensures.does c.in_ok-ask_by.ensures.does)
 
-pub returns-in_err-begin-clause-left : goal.returns-in_err-begin-clause-left
-returns-in_err-begin-clause-left c = on_err _ (
-    let here = (goal.at.returns-in_err-begin-clause-left c).After-begin in
-    left_by (want c.args.name.now c.args.may_start_anew) (asking here)
+pub returns-in_err-make_room-clause-left : goal.returns-in_err-make_room-clause-left
+returns-in_err-make_room-clause-left c = on_err _ (left_none (want c.args.name.now c.args.may_start_anew) (ap (λ (v : KeptValue). v.member) c.in_err-make_room.ensures.err ∙ ap (λ (v : KeptValue). v.member) c.self.view_is))
+
+pub returns-in_err-ask_by-clause-left : goal.returns-in_err-ask_by-clause-left
+returns-in_err-ask_by-clause-left c = on_err _ (
+    let here = (goal.at.returns-in_err-ask_by-clause-left c).After-make_room in
+    let n = c.args.name.now in
+    left_by (want n c.args.may_start_anew) (asking here)
     (λ k at. (after_wanting (present k.host) k.policy, c.if-not-want.ensures.spent ∙ spends here k at, begins here k at))
-    (ap (λ (v : KeptValue). v.member) c.self.view_is) c.in_err-begin.ensures.left)
+    (ap (λ (v : KeptValue). v.member) c.self.view_is) (left_later (makes_room n) (lends_for n.source c.lent_to-lent.result (Asks n)) c.in_ok-make_room.ensures.does c.in_err-ask_by.ensures.left))

@@ -1,7 +1,0 @@
-use Rattle.std.proofs.Common.{subst}
-use Rattle.wb_gaps.specs.Holdings.{HoldNamesOf}
-use Rattle.wb_history.specs.Passes.{PassValue}
-use Rattle.wb_board.proofs.desk.Desk.gaps.Goals as goal
-
-pub returns-clause-gaps : goal.returns-clause-gaps
-returns-clause-gaps c = c.in_ok-gaps.ensures c.args.self.now.seen (subst (λ (p : PassValue). HoldNamesOf p.seen c.catch_up.new.self.holdings) c.self.view_is c.in_ok-catch_up.ensures.all)
