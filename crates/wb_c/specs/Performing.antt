@@ -1,22 +1,25 @@
 -- What a self-managing member does for a call by bytes, and which events it gives.
 use Rattle.std.specs.Prelude.{◌≡◌, ℕ, List, [], ◌∷◌, ◌++◌, Option, Some, None, map}
+use Rattle.wb_names.specs.Arrivals.{Outcome}
 use Rattle.wb_member.specs.Questions.{answer_to}
 use Rattle.wb_member.specs.declared.questions.Query.{Query}
-use Rattle.wb_keeping.specs.Laws.{KeptLine, Added, Came, Ticked, Tuned, doing_of, fault_of}
+use Rattle.wb_keeping.specs.Calls.{KeptLine, Added, Came, Ticked, Tuned, became_of, doing_of, fault_of}
 use Rattle.wb_keeping.specs.Performing.{IsKeptAt, Keeping, KeptValue, after_doing, sent_by_doing}
-use Rattle.wb_keeping.specs.Refusing.{came_as, drawn_as}
 use Rattle.wb_keeping.specs.declared.kept_fault.KeptFault.{KeptFault}
 use Rattle.wb_c.specs.Events.{came_events, outcome_event, told_events}
 use Rattle.wb_c.specs.Statuses.{done, kept_status}
 use Rattle.wb_c.specs.declared.event.Event.{Event}
 use Rattle.wb_c.specs.declared.event.Event.TheVariants.{Sent}
 
--- what became of the drawop that came in or was drawn
+-- the event of what became of the drawop that came in or was drawn, if there is one
+abbrev pub became_events : KeptLine → Outcome → List Event
+became_events (Came now v) outcome = came_events v outcome
+became_events (Ticked now) outcome = []
+became_events (Added now page time op) outcome = outcome_event outcome ∷ []
+became_events (Tuned constants) outcome = []
+
 abbrev pub became : KeptLine → Keeping → List Event
-became (Came now v) k = came_events v (came_as v k.host)
-became (Ticked now) k = []
-became (Added now page time op) k = outcome_event (drawn_as page time op k.host) ∷ []
-became (Tuned constants) k = []
+became line k = became_events line (became_of line k.host)
 
 -- What a member gives for a line: each datagram that it sends for it, in order, and then what became of a drawop.
 abbrev pub given : KeptLine → Keeping → List Event

@@ -1,11 +1,9 @@
 //! What a self-managing member is handed by bytes, and the events that follow.
 ghost use Rattle.std.specs.Prelude.{◌≡◌, ◌++◌, IfOk, OnOk};
-ghost use Rattle.wb_names.specs.Moments.{IsMoment};
 ghost use Rattle.wb_member.specs.Holding.{outcome_in};
 ghost use Rattle.wb_member.specs.Questions.{IsAnswerable};
-ghost use Rattle.wb_keeping.specs.Laws.{Added, Came, Ticked};
-ghost use Rattle.wb_c.specs.Events.{came_events};
-ghost use Rattle.wb_c.specs.Performing.{Answers, Performs};
+ghost use Rattle.wb_keeping.specs.Calls.{IsWithin, line_of};
+ghost use Rattle.wb_c.specs.Performing.{Answers, Performs, became_events};
 
 use crate::event::{Event, outcome_event};
 use crate::status::{DONE, kept_status};
@@ -14,85 +12,43 @@ use std::alloc::{AllocError, Global};
 use std::collections::VecDeque;
 use wb_board::Reply;
 use wb_codec::Datagram;
-use wb_keeping::{Done, KeptMember};
+use wb_keeping::{Done, KeptCall, KeptMember};
 use wb_member::Query;
-use wb_names::{Drawop, shape_of};
 
-/// Adds the event that says what became of the drawop that came in, if the datagram is one.
+/// Adds the event that says what became of the drawop that came in or was drawn, if there is one.
 fn add_became(
     events: &mut VecDeque<Event>,
-    datagram: &Datagram,
+    call: KeptCall<'_>,
     became: Option<Reply>,
 ) -> Result<(), AllocError>
     ensures { OnOk result (events.new.items ≡
-        events.old.items ++ came_events datagram.now (outcome_in became)) }
+        events.old.items ++ became_events (line_of call.entry) (outcome_in became)) }
 {
-    match datagram {
-        Datagram::Draw(_) => add(events, outcome_event(became)),
-        _ => Ok(()),
+    match call {
+        KeptCall::Came {
+            datagram: Datagram::Draw(_),
+            ..
+        }
+        | KeptCall::Added { .. } => add(events, outcome_event(became)),
+        KeptCall::Came { .. } | KeptCall::Ticked { .. } | KeptCall::Tuned(_) => Ok(()),
     }
 }
 
-/// A datagram came in at a moment.
-pub(crate) fn came(
+/// Something happens to the member.
+pub(crate) fn perform(
     alloc: Global,
     kept: &mut KeptMember,
-    now: u64,
-    datagram: &Datagram,
+    call: KeptCall<'_>,
     events: &mut VecDeque<Event>,
 ) -> Result<u32, AllocError>
-    requires { IsMoment now }
-    ensures { IfOk result (Performs (Came now datagram.now) kept.old kept.new
+    requires { IsWithin (line_of call) }
+    ensures { IfOk result (Performs (line_of call.entry) kept.old kept.new
         events.old.items events.new.items) }
 {
-    match kept.came(alloc, now, datagram) {
+    match kept.call(alloc, call) {
         Ok(Done { sent, became }) => {
             add_sent(events, sent)?;
-            add_became(events, datagram, became)?;
-            Ok(DONE)
-        }
-        Err(fault) => kept_status(fault),
-    }
-}
-
-/// Time goes on to a moment.
-pub(crate) fn tick(
-    alloc: Global,
-    kept: &mut KeptMember,
-    now: u64,
-    events: &mut VecDeque<Event>,
-) -> Result<u32, AllocError>
-    requires { IsMoment now }
-    ensures { IfOk result (Performs (Ticked now) kept.old kept.new
-        events.old.items events.new.items) }
-{
-    match kept.tick(alloc, now) {
-        Ok(sent) => {
-            add_sent(events, sent)?;
-            Ok(DONE)
-        }
-        Err(fault) => kept_status(fault),
-    }
-}
-
-/// Its user draws what a drawop does, on the page of that and at its time.
-pub(crate) fn draw(
-    alloc: Global,
-    kept: &mut KeptMember,
-    now: u64,
-    drawop: &Drawop,
-    events: &mut VecDeque<Event>,
-) -> Result<u32, AllocError>
-    requires { IsMoment now }
-    ensures { IfOk result (Performs
-        (Added now drawop.now.name.page drawop.now.time drawop.now.op) kept.old kept.new
-        events.old.items events.new.items) }
-{
-    let page = drawop.name().page();
-    match kept.add(alloc, now, page, drawop.time(), shape_of(drawop.op())) {
-        Ok(Done { sent, became }) => {
-            add_sent(events, sent)?;
-            add(events, outcome_event(became))?;
+            add_became(events, call, became)?;
             Ok(DONE)
         }
         Err(fault) => kept_status(fault),

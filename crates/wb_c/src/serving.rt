@@ -2,12 +2,12 @@
 ghost use Rattle.std.specs.Prelude.{◌≡◌, IfOk, Ok};
 ghost use Rattle.wb_names.specs.Moments.{IsMoment};
 ghost use Rattle.wb_codec.specs.Reading.{reading};
-ghost use Rattle.wb_keeping.specs.Laws.{Added, Came, Ticked};
+ghost use Rattle.wb_keeping.specs.Calls.{IsWithin, line_of};
 ghost use Rattle.wb_member.specs.Questions.{IsAnswerable};
 ghost use Rattle.wb_c.specs.Performing.{Answers, Performs};
 ghost use Rattle.wb_c.specs.Serving.{Adds, AddsBy, Asks, AtMember, CameBy, Draws, GivesEvent, Takes, TicksBy, read_by};
 
-use crate::performing::{ask, came, draw, tick};
+use crate::performing::{ask, perform};
 use crate::query::query_of;
 use crate::room::{Room, write_out};
 use crate::status::{
@@ -16,8 +16,9 @@ use crate::status::{
 use std::alloc::{AllocError, Global};
 use wb_codec::{Datagram, ReadFault, read};
 use wb_judging::Call;
+use wb_keeping::KeptCall;
 use wb_member::Query;
-use wb_names::{Drawop, MOMENT_LIMIT, PageId};
+use wb_names::{Drawop, MOMENT_LIMIT, PageId, shape_of};
 
 /// The datagram of some bytes, or the status that says why they are none.
 pub(crate) fn datagram_of(alloc: Global, bytes: &[u8]) -> Result<Result<Datagram, u32>, AllocError>
@@ -31,20 +32,15 @@ pub(crate) fn datagram_of(alloc: Global, bytes: &[u8]) -> Result<Result<Datagram
 }
 
 impl Room {
-    /// A datagram came in at a moment, at a self-managing host.
-    fn take_datagram(
-        &mut self,
-        alloc: Global,
-        now: u64,
-        datagram: &Datagram,
-    ) -> Result<u32, AllocError>
-        requires { IsMoment now }
-        ensures { IfOk result (AtMember (Performs (Came now datagram.now)) self.old self.new) }
+    /// Something happens to a self-managing member, if it is one.
+    fn call_kept(&mut self, alloc: Global, call: KeptCall<'_>) -> Result<u32, AllocError>
+        requires { IsWithin (line_of call) }
+        ensures { IfOk result (AtMember (Performs (line_of call.entry)) self.old self.new) }
     {
         let Some(mut kept) = self.dialog.take_kept() else {
             return Ok(NOT_KEPT);
         };
-        let status = came(alloc, &mut kept, now, datagram, &mut self.events);
+        let status = perform(alloc, &mut kept, call, &mut self.events);
         self.dialog.put_kept(kept);
         status
     }
@@ -62,7 +58,7 @@ impl Room {
         if self.dialog.is_judged() {
             return Ok(JUDGED);
         }
-        self.take_datagram(alloc, now, datagram)
+        self.call_kept(alloc, KeptCall::Came { now, datagram })
     }
 
     /// The bytes of a datagram came in at a moment.
@@ -78,19 +74,6 @@ impl Room {
         }
     }
 
-    /// Time goes on to a moment, at a self-managing host.
-    fn tick_kept(&mut self, alloc: Global, now: u64) -> Result<u32, AllocError>
-        requires { IsMoment now }
-        ensures { IfOk result (AtMember (Performs (Ticked now)) self.old self.new) }
-    {
-        let Some(mut kept) = self.dialog.take_kept() else {
-            return Ok(NOT_KEPT);
-        };
-        let status = tick(alloc, &mut kept, now, &mut self.events);
-        self.dialog.put_kept(kept);
-        status
-    }
-
     /// Time goes on to a moment.
     pub(crate) fn tick(&mut self, alloc: Global, now: u64) -> Result<u32, AllocError>
         ensures { IfOk result (TicksBy now self.old self.new) }
@@ -101,22 +84,7 @@ impl Room {
         if self.dialog.is_judged() {
             return self.judge(alloc, &Call::Passed { now });
         }
-        self.tick_kept(alloc, now)
-    }
-
-    /// The user draws what a drawop does, at a self-managing host.
-    fn draw_kept(&mut self, alloc: Global, now: u64, drawop: &Drawop) -> Result<u32, AllocError>
-        requires { IsMoment now }
-        ensures { IfOk result (AtMember
-            (Performs (Added now drawop.now.name.page drawop.now.time drawop.now.op))
-            self.old self.new) }
-    {
-        let Some(mut kept) = self.dialog.take_kept() else {
-            return Ok(NOT_KEPT);
-        };
-        let status = draw(alloc, &mut kept, now, drawop, &mut self.events);
-        self.dialog.put_kept(kept);
-        status
+        self.call_kept(alloc, KeptCall::Ticked { now })
     }
 
     /// The user draws what a drawop does.
@@ -124,12 +92,18 @@ impl Room {
         requires { IsMoment now }
         ensures { IfOk result (Draws now drawop self.old self.new) }
     {
+        let page = drawop.name().page();
         if self.dialog.is_judged() {
-            let page = drawop.name().page();
             let op = *drawop.op();
             return self.judge(alloc, &Call::UserDrew { now, page, op });
         }
-        self.draw_kept(alloc, now, &drawop)
+        let call = KeptCall::Added {
+            now,
+            page,
+            time: drawop.time(),
+            shape: shape_of(drawop.op()),
+        };
+        self.call_kept(alloc, call)
     }
 
     /// The user draws what a datagram does, if it is a drawop.

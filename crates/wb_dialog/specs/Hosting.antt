@@ -5,16 +5,15 @@ use Rattle.std.specs.declared.convert.Infallible.{Infallible}
 use Rattle.wb_names.specs.Arrivals.{Outcome, New, Again, Clash, Left}
 use Rattle.wb_names.specs.declared.fault.FieldFault.{FieldFault}
 use Rattle.wb_names.specs.declared.moment.TheConstants.{MOMENT_LIMIT}
-use Rattle.wb_names.specs.declared.name.PageId.{PageId}
-use Rattle.wb_names.specs.declared.parts.Op.{Op}
 use Rattle.wb_codec.specs.declared.datagram.Datagram.{Datagram as DatagramValue}
 use Rattle.wb_codec.specs.declared.datagram.Datagram.TheVariants as datagrams
 use Rattle.wb_recovery.specs.declared.tuning.Tuning.{Tuning}
 use Rattle.wb_member.specs.Opened.{Opened, next_due, present}
-use Rattle.wb_keeping.specs.Kept.{Transition, Tunes, adds, came, performs, ticks}
+use Rattle.wb_keeping.specs.Calls.{KeptLine, became_of, doing_of, fault_of}
+use Rattle.wb_keeping.specs.Calls as kept_lines
+use Rattle.wb_keeping.specs.Kept.{Transition, Tunes, performs}
 use Rattle.wb_keeping.specs.Performing.{Keeping, after_doing, due as kept_due, sent_by_doing}
 use Rattle.wb_policy.specs.Policy.{begun}
-use Rattle.wb_keeping.specs.Refusing.{add_fault, came_as, came_fault, drawn_as, tick_fault}
 use Rattle.wb_keeping.specs.declared.kept_fault.KeptFault.{KeptFault}
 use Rattle.wb_keeping.specs.declared.kept_fault.KeptFault.TheVariants as kept_faults
 use Rattle.wb_lines.specs.Input.{InputLine, input_lines}
@@ -113,21 +112,22 @@ unsent_text (Again place) = []
 unsent_text (Clash place) = batch_of (Clash place)
 unsent_text Left = batch_of Left
 
-abbrev pub kept_ticks : ℕ → Keeping → Reply
-kept_ticks now k = kept_does (tick_fault now k) (ticks now) [] k
+-- the batch that is printed last: that of a drawop which came in, or of a drawing that is not sent
+abbrev pub kept_batch : KeptLine → Outcome → List ℕ
+kept_batch (kept_lines.Came now v) outcome = came_text v outcome
+kept_batch (kept_lines.Ticked now) outcome = []
+kept_batch (kept_lines.Added now page time op) outcome = unsent_text outcome
+kept_batch (kept_lines.Tuned constants) outcome = []
+
+abbrev pub kept_performs : KeptLine → Keeping → Reply
+kept_performs line k = kept_does (fault_of line k) (doing_of line) (kept_batch line (became_of line k.host)) k
 
 -- Its timers are given other constants.
 abbrev pub kept_tunes : Tuning → Keeping → Reply
 kept_tunes constants k = kept_does None (performs (Tunes constants)) [] k
 
-abbrev pub kept_takes : ℕ → DatagramValue → Keeping → Reply
-kept_takes now v k = kept_does (came_fault now v k) (came now v) (came_text v (came_as v k.host)) k
-
-abbrev pub kept_draws : ℕ → PageId → ℕ → Op → Keeping → Reply
-kept_draws now page time op k = kept_does (add_fault now page time op k) (adds now page time op) (unsent_text (drawn_as page time op k.host)) k
-
 abbrev pub kept_adds : Adding → Keeping → Reply
-kept_adds a k = kept_draws a.moment a.page a.time a.op k
+kept_adds a k = kept_performs (kept_lines.Added a.moment a.page a.time a.op) k
 
 -- What it is asked, it answers as any host, and is not changed by that.
 abbrev pub kept_shows : Keeping → Answer → Reply
@@ -136,9 +136,9 @@ kept_shows k (refuses e) = denies e
 
 -- A line that acts is for its driver to judge no more, but for one that gives the timers other constants.
 abbrev pub kept_reply : DriverLine → Keeping → Reply
-kept_reply (Script (lines.Tick now)) k = kept_ticks now k
+kept_reply (Script (lines.Tick now)) k = kept_performs (kept_lines.Ticked now) k
 kept_reply (Script (lines.Tune constants)) k = kept_tunes constants k
-kept_reply (Came now v) k = kept_takes now v k
+kept_reply (Came now v) k = kept_performs (kept_lines.Came now v) k
 kept_reply (Add adding) k = kept_adds adding k
 kept_reply line k = if is_acting line then denies refusals.Kept else kept_shows k (answer_at line k.host)
 

@@ -1,13 +1,13 @@
 //! What the lines of a driver do at a self-managing host.
-ghost use Rattle.std.specs.Prelude.{◌≡◌, ◌<◌, ◌^◌, ◌++◌, [], true};
+ghost use Rattle.std.specs.Prelude.{◌≡◌, ◌<◌, ◌^◌, ◌++◌, true};
 ghost use Rattle.wb_names.specs.Moments.{IsMoment};
-ghost use Rattle.wb_names.specs.Shapes.{op_of};
 ghost use Rattle.wb_member.specs.Holding.{outcome_in};
 ghost use Rattle.wb_member.specs.Questions.{IsAnswerable};
 ghost use Rattle.wb_commands.specs.SentLines.{sends_text};
 ghost use Rattle.wb_dialog.specs.Doing.{DoesKept, Tells, unanswered_of, Adds};
 ghost use Rattle.wb_recovery.specs.Timing.{are_constants};
-ghost use Rattle.wb_dialog.specs.Hosting.{came_text, kept_adds, kept_draws, kept_reply, kept_takes, kept_ticks, kept_tunes, unsent_text, wrong_target};
+ghost use Rattle.wb_keeping.specs.Calls.{IsWithin as IsWithinKept, line_of};
+ghost use Rattle.wb_dialog.specs.Hosting.{kept_adds, kept_batch, kept_performs, kept_reply, kept_tunes, unsent_text, wrong_target};
 ghost use Rattle.wb_dialog.specs.Lines.{IsWithin};
 
 use crate::blocks::print_version;
@@ -19,10 +19,10 @@ use wb_board::Reply;
 use wb_codec::Datagram;
 use wb_commands::{Command, LineFault, arrival_line, print, print_sends};
 use wb_keeper::KeepFault;
-use wb_keeping::{Done, KeptFault, KeptMember};
+use wb_keeping::{Done, KeptCall, KeptFault, KeptMember};
 use wb_lines::Output;
 use wb_member::Query;
-use wb_names::{FieldFault, Shape, shape_of};
+use wb_names::{FieldFault, shape_of};
 use wb_recovery::Tuning;
 use wb_words::{Adding, WordFault, WrongWord};
 
@@ -69,64 +69,6 @@ fn tell(
     Ok(())
 }
 
-/// Time goes on to a moment.
-#[tactic(auto, using(crate::proofs::KeptReplies::does_line))]
-fn tick(
-    alloc: Global,
-    kept: &mut KeptMember,
-    now: u64,
-    output: &mut Output,
-) -> Result<(), Unanswered>
-    requires { IsMoment now }
-    ensures text { Adds output.old output.new (λ written.
-        DoesKept kept.old kept.new written result (kept_ticks now)) }
-{
-    match kept.tick(alloc, now) {
-        Ok(sent) => tell(alloc, &sent, b"", output),
-        Err(fault) => Err(refused(fault)),
-    }
-}
-
-/// Its timers are given other constants.
-fn tune(kept: &mut KeptMember, constants: Tuning) -> Result<(), Unanswered>
-    requires { are_constants constants ≡ true }
-    ensures { DoesKept kept.old kept.new [] result (kept_tunes constants) }
-{
-    match kept.set_constants(constants) {
-        Ok(()) => Ok(()),
-        Err(_) => unreachable!(),
-    }
-}
-
-/// The batch that a datagram is, if it is a drawop, by what became of that.
-fn batch(datagram: &Datagram, became: Option<Reply>) -> &'static [u8]
-    ensures { result.now ≡ came_text datagram.now (outcome_in became) }
-{
-    match datagram {
-        Datagram::Draw(_) => arrival_line(became),
-        _ => b"",
-    }
-}
-
-/// A datagram came in at a moment. If it is a drawop, its batch is printed last.
-#[tactic(auto, using(crate::proofs::KeptReplies::does_line))]
-fn came(
-    alloc: Global,
-    kept: &mut KeptMember,
-    now: u64,
-    datagram: &Datagram,
-    output: &mut Output,
-) -> Result<(), Unanswered>
-    requires { IsMoment now }
-    ensures text { Adds output.old output.new (λ written.
-        DoesKept kept.old kept.new written result (kept_takes now datagram.now)) }
-{
-    match kept.came(alloc, now, datagram) {
-        Ok(Done { sent, became }) => tell(alloc, &sent, batch(datagram, became), output),
-        Err(fault) => Err(refused(fault)),
-    }
-}
-
 /// The batch of a drawing that is not sent: its board is full.
 fn unsent(became: Option<Reply>) -> &'static [u8]
     ensures { result.now ≡ unsent_text (outcome_in became) }
@@ -139,24 +81,51 @@ fn unsent(became: Option<Reply>) -> &'static [u8]
     }
 }
 
-/// The user draws an operation. If the board is full, the batch is printed last.
+/// The batch that is printed last: that of a drawop which came in, or of a drawing that is not
+/// sent.
+fn batch(call: KeptCall<'_>, became: Option<Reply>) -> &'static [u8]
+    ensures { result.now ≡ kept_batch (line_of call.entry) (outcome_in became) }
+{
+    match call {
+        KeptCall::Came {
+            datagram: Datagram::Draw(_),
+            ..
+        } => arrival_line(became),
+        KeptCall::Added { .. } => unsent(became),
+        KeptCall::Came { .. } | KeptCall::Ticked { .. } | KeptCall::Tuned(_) => b"",
+    }
+}
+
+/// Something happens to its member.
 #[tactic(auto, using(crate::proofs::KeptReplies::does_line))]
-fn draw(
+fn perform(
     alloc: Global,
     kept: &mut KeptMember,
-    adding: &Adding,
-    shape: Shape<'_>,
+    call: KeptCall<'_>,
     output: &mut Output,
 ) -> Result<(), Unanswered>
-    requires { IsMoment adding.now.moment }
+    requires { IsWithinKept (line_of call) }
     ensures text { Adds output.old output.new (λ written.
-        DoesKept kept.old kept.new written result
-        (kept_draws adding.now.moment adding.now.page adding.now.time (op_of shape.entry))) }
+        DoesKept kept.old kept.new written result (kept_performs (line_of call.entry))) }
 {
-    match kept.add(alloc, adding.moment, adding.page, adding.time, shape) {
-        Ok(Done { sent, became }) => tell(alloc, &sent, unsent(became), output),
+    match kept.call(alloc, call) {
+        Ok(Done { sent, became }) => tell(alloc, &sent, batch(call, became), output),
         Err(fault) => Err(refused(fault)),
     }
+}
+
+/// Its timers are given other constants.
+fn tune(
+    alloc: Global,
+    kept: &mut KeptMember,
+    constants: Tuning,
+    output: &mut Output,
+) -> Result<(), Unanswered>
+    requires { are_constants constants ≡ true }
+    ensures text { Adds output.old output.new (λ written.
+        DoesKept kept.old kept.new written result (kept_tunes constants)) }
+{
+    perform(alloc, kept, KeptCall::Tuned(constants), output)
 }
 
 /// The user draws.
@@ -170,7 +139,13 @@ fn add(
     ensures text { Adds output.old output.new (λ written.
         DoesKept kept.old kept.new written result (kept_adds adding.now)) }
 {
-    draw(alloc, kept, adding, shape_of(&adding.op), output)
+    let call = KeptCall::Added {
+        now: adding.moment,
+        page: adding.page,
+        time: adding.time,
+        shape: shape_of(&adding.op),
+    };
+    perform(alloc, kept, call, output)
 }
 
 /// Its member is asked a question, and the answer is printed.
@@ -218,10 +193,15 @@ pub(crate) fn answer_kept(
         DriverLine::Script(Command::Board { .. }) => {
             Err(Unanswered::Refused(Refusal::Line(LineFault::SecondBoard)))
         }
-        DriverLine::Script(Command::Tick { moment }) => tick(alloc, kept, *moment, output),
-        DriverLine::Script(Command::Tune(constants)) => tune(kept, *constants),
+        DriverLine::Script(Command::Tick { moment: now }) => {
+            perform(alloc, kept, KeptCall::Ticked { now: *now }, output)
+        }
+        DriverLine::Script(Command::Tune(constants)) => tune(alloc, kept, *constants, output),
         DriverLine::Script(Command::Question(query)) => ask(alloc, kept, *query, output),
-        DriverLine::Came { now, datagram } => came(alloc, kept, *now, datagram, output),
+        DriverLine::Came { now, datagram } => {
+            let now = *now;
+            perform(alloc, kept, KeptCall::Came { now, datagram }, output)
+        }
         DriverLine::Add(adding) => add(alloc, kept, adding, output),
         DriverLine::Version => version(kept, output),
         _ => Err(Unanswered::Refused(Refusal::Kept)),

@@ -11,7 +11,8 @@ use Rattle.wb_member.specs.Opened.{Opened, opened_with, present}
 use Rattle.wb_recovery.specs.declared.limits.TheConstants.{MOST_TIMERS}
 use Rattle.wb_policy.specs.declared.limits.TheConstants.{COST, FIRST_WAIT, LEAST_DISTANCE, MOST_PAGES, PAYS, PLACES, QUIET, SHORTEST_PAUSE}
 use Rattle.wb_keeping.specs.Kept.{Line, Ticks, Arrives, Asks, Says}
-use Rattle.wb_keeping.specs.Laws.{AreTaken, KeptLine, after_kept, expand}
+use Rattle.wb_keeping.specs.Calls.{KeptLine}
+use Rattle.wb_keeping.specs.Laws.{AreTaken, after_kept, expand}
 use Rattle.wb_keeping.specs.Performing.{Keeping, after_line, after_lines, sent_by_line, sent_by_lines, view_of}
 use Rattle.wb_policy.specs.Policy.{Policy}
 use Rattle.wb_keeping.specs.Views.{holds, is_asked}

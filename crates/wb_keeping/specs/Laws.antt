@@ -1,21 +1,17 @@
 -- Laws of a policy.
 use Rattle.std.specs.Prelude.{◌≡◌, ◌⊎◌, ℕ, ◌≤◌, ◌<◌, Bool, false, List, [], ◌∷◌, ◌++◌, IsTrue, Option, None, map, nat_le, ◌||◌}
 use Rattle.wb_names.specs.Drawing.{op_fault}
-use Rattle.wb_names.specs.Faults.{fault_unless}
 use Rattle.wb_names.specs.Values.{NameValue, greatest_number}
 use Rattle.wb_names.specs.declared.name.PageId.{PageId}
 use Rattle.wb_names.specs.declared.parts.Op.{Op}
 use Rattle.wb_codec.specs.declared.datagram.Datagram.{Datagram}
-use Rattle.wb_recovery.specs.Timing.{are_constants}
 use Rattle.wb_recovery.specs.declared.tuning.Tuning.{Tuning}
 use Rattle.wb_board.specs.Counts.{MAX_CELLS}
 use Rattle.wb_member.specs.Opened.{last_number, opened_with, present}
-use Rattle.wb_keeping.specs.Kept.{Line, Ticks, Tunes, Transition, adds, came, drawing, performs, still, ticks, want}
+pub use Rattle.wb_keeping.specs.Calls.{KeptLine, Came, Ticked, Added, Tuned, doing_of, fault_of}
+use Rattle.wb_keeping.specs.Kept.{Line, Ticks, came, drawing, still, ticks, want}
 use Rattle.wb_keeping.specs.Performing.{Keeping, after_doing, after_lines, sees, sent_by_doing, sent_by_lines, view_of}
-use Rattle.wb_keeping.specs.Refusing.{add_fault, came_fault, tick_fault}
-use Rattle.wb_keeper.specs.declared.keep_fault.KeepFault.TheVariants.{Range}
-use Rattle.wb_keeping.specs.declared.kept_fault.KeptFault.{KeptFault}
-use Rattle.wb_keeping.specs.declared.kept_fault.KeptFault.TheVariants.{Host}
+use Rattle.wb_keeping.specs.Refusing.{add_fault}
 use Rattle.wb_policy.specs.Policy.{Policy, after_wanting}
 use Rattle.wb_keeping.specs.Views.{View, holds, is_known}
 use Rattle.wb_policy.specs.Questions.{is_due}
@@ -39,25 +35,6 @@ WantedIsPaid = (name : NameValue) (anew : Bool) (see : List Line → View) (p : 
     → (want name anew see p ≡ still see p) ⊎ (IsTrue (is_paid (anew || is_known (see []) name.source) p.owed (see []).now) × (holds (see []) name ≡ false) × ((want name anew see p).policy ≡ after_wanting (see []).now p))
 
 -- ---- a kept host, line by line
-
--- what its driver hands in
-pub data KeptLine : Type 0 where
-  Came : (now : ℕ) (v : Datagram) → KeptLine
-  Ticked : (now : ℕ) → KeptLine
-  Added : (now : ℕ) (page : PageId) (time : ℕ) (op : Op) → KeptLine
-  Tuned : (constants : Tuning) → KeptLine
-
-abbrev pub doing_of : KeptLine → Transition
-doing_of (Came now v) = came now v
-doing_of (Ticked now) = ticks now
-doing_of (Added now page time op) = adds now page time op
-doing_of (Tuned constants) = performs (Tunes constants)
-
-abbrev pub fault_of : KeptLine → Keeping → Option KeptFault
-fault_of (Came now v) k = came_fault now v k
-fault_of (Ticked now) k = tick_fault now k
-fault_of (Added now page time op) k = add_fault now page time op k
-fault_of (Tuned constants) k = fault_unless (are_constants constants) (Host Range)
 
 -- each of these lines is taken, and none is refused
 abbrev pub AreTaken : List KeptLine → Keeping → Type 0

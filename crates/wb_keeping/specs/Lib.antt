@@ -3,6 +3,7 @@ pub mod Views
 pub mod Kept
 pub mod Performing
 pub mod Refusing
+pub mod Calls
 pub mod Steps
 pub mod Laws
 pub mod Bounds

@@ -8,7 +8,7 @@ use wb_names::FieldFault;
 /// Why a self-managing member refuses a call.
 #[derive(Clone, Copy, Debug, PartialEq, Eq, Error)]
 pub enum KeptFault {
-    /// The moment is before the present one, or an allocation failed.
+    /// The moment is before the present one, a constant is not 1 to 16, or an allocation failed.
     #[error("{0}")]
     Host(KeepFault),
     /// The member still listens, and draws nothing.

@@ -12,7 +12,7 @@ ghost use Rattle.wb_judging.specs.declared.judged_fault.JudgedFault.TheVariants.
 
 use crate::call::Call;
 use crate::event::Event;
-use crate::handing::{draw, recall};
+use crate::handing::{perform, recall};
 use crate::hearing::hear_recalled;
 use crate::judged_fault::JudgedFault;
 use crate::judged_member::JudgedMember;
@@ -20,7 +20,7 @@ use crate::record::{Giver, RecordLine};
 use crate::telling::no_datagram;
 use std::alloc::Global;
 use wb_keeper::KeepFault;
-use wb_keeping::KeptFault;
+use wb_keeping::{KeptCall, KeptFault};
 use wb_names::{PageId, Shape, shape_of};
 
 /// A moment is before the present one.
@@ -100,7 +100,13 @@ impl JudgedMember {
             return Err(JudgedFault::Judge(fault));
         }
         let time = self.judge.time_of_day(now);
-        let did = draw(&mut self.kept, alloc, now, page, time, shape)?;
+        let call = KeptCall::Added {
+            now,
+            page,
+            time,
+            shape,
+        };
+        let did = perform(&mut self.kept, alloc, call)?;
         let mut events = Vec::new(alloc);
         self.tell(alloc, now, Giver::User, Vec::new(alloc), did, &mut events)?;
         Ok(events)

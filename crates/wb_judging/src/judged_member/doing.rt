@@ -15,7 +15,7 @@ ghost use Rattle.wb_judging.specs.declared.record.Giver.TheVariants.{Others};
 
 use crate::event::Event;
 use crate::facts::facts_of;
-use crate::handing::{Did, hand, tick};
+use crate::handing::{Did, hand, perform};
 use crate::hearing::{hear_fate, hear_sent};
 use crate::judged_fault::JudgedFault;
 use crate::judged_member::JudgedMember;
@@ -25,6 +25,7 @@ use crate::weighing::{Weighed, weigh};
 use std::alloc::{AllocError, Global};
 use wb_codec::Datagram;
 use wb_judge::Origin;
+use wb_keeping::KeptCall;
 
 impl JudgedMember {
     /// Tells what its kept member did for a line, after these lines of the record, and has its
@@ -71,7 +72,7 @@ impl JudgedMember {
         ensures does { IfOk result
             (λ events. Goes now [] Others (Ticked now) first.items self.old events.items self.new) }
     {
-        let did = tick(&mut self.kept, alloc, now)?;
+        let did = perform(&mut self.kept, alloc, KeptCall::Ticked { now })?;
         let mut events = first;
         self.tell(alloc, now, Giver::Others, Vec::new(alloc), did, &mut events)?;
         Ok(events)

@@ -44,12 +44,12 @@ returns-in_err-did-clause-refused c = λ h here some.
     let whole = drawn_fault now page op h c.is_drawing.result c.held-held.result c.self.inside.judge c.adding_fault.result c.adding_fault.ensures none c.is_drawing.ensures count at.judge in
     let some_kept = some_in (add_fault now page (time_of_day h.judge.clock now) op h.kept) (subst (λ (f : Option JudgedFault). IsTrue (is_some f)) whole some) in
     let back = subst (λ (t : ℕ). IsTrue (is_some (add_fault now page t op h.kept))) (sym time) some_kept in
-    ap (λ (k : KeptValue). let v : JudgedValue = record { kept = k; judge = c.self.inside.judge } in v) (c.draw.ensures.refused h.kept at.kept back) ∙ c.self.view_is
+    ap (λ (k : KeptValue). let v : JudgedValue = record { kept = k; judge = c.self.inside.judge } in v) (c.perform.ensures.refused h.kept at.kept back) ∙ c.self.view_is
 
 pub returns-clause-does : goal.returns-clause-does
 returns-clause-does c = λ h here.
     let at = subst (λ (v : JudgedValue). IsJudgedAt v h) (sym c.self.view_is) here in
-    drew c.args.now c.args.page (op_of c.args.shape) h c.self.inside.kept c.draw.new.kept c.self.inside.judge c.time_of_day-time.result c.in_ok-did.did.held
+    drew c.args.now c.args.page (op_of c.args.shape) h c.self.inside.kept c.perform.new.kept c.self.inside.judge c.time_of_day-time.result c.in_ok-did.did.held
     c.in_ok-did.did.sent.items c.in_ok-did.did.fate c.new.result.items c.new-events.result.items c.tell.new.events.items c.tell.new.self
     at c.time_of_day-time.ensures c.in_ok-did.ensures.does c.new.ensures.items c.new-events.ensures.items
     c.in_ok-tell.ensures.kept c.in_ok-tell.ensures.judge c.in_ok-tell.ensures.events

@@ -12,7 +12,7 @@ returns-clause-does c =
     let first = c.args.first.items in
     let events = c.tell.new.events.items in
     let old : JudgedValue = record { kept = c.self.inside.kept; judge = c.self.inside.judge } in
-    let mid : JudgedValue = record { kept = c.tick.new.kept; judge = c.self.inside.judge } in
+    let mid : JudgedValue = record { kept = c.perform.new.kept; judge = c.self.inside.judge } in
     let goes = went now c.new.result.items Others (Ticked now) old mid c.tell.new.self c.in_ok-did.did.held c.in_ok-did.did.sent.items c.in_ok-did.did.fate first events
     c.in_ok-did.ensures.does refl c.in_ok-tell.ensures.kept c.in_ok-tell.ensures.judge c.in_ok-tell.ensures.events in
     subst (λ (v : JudgedValue). Goes now [] Others (Ticked now) first v events c.tell.new.self) c.self.view_is

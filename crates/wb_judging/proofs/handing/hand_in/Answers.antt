@@ -1,5 +1,0 @@
-use Rattle.wb_judging.proofs.Kept.{refused_so}
-use Rattle.wb_judging.proofs.handing.hand_in.Goals as goal
-
-pub returns-in-Err-clause-fault : goal.returns-in-Err-clause-fault
-returns-in-Err-clause-fault c = λ k at. refused_so _ _ _ c.in-Err.fault (c.in-Err.ensures.fault k at)
