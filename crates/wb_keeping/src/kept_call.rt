@@ -7,9 +7,14 @@ use wb_recovery::Tuning;
 #[derive(Clone, Copy, Debug)]
 pub enum KeptCall<'a> {
     /// A datagram came in.
-    Came { now: u64, datagram: &'a Datagram },
+    Came {
+        now: u64,
+        datagram: &'a Datagram,
+    },
     /// Time goes on.
-    Ticked { now: u64 },
+    Ticked {
+        now: u64,
+    },
     /// Its user draws on a page, at a time of the user's clock.
     Added {
         now: u64,
