@@ -25,6 +25,13 @@ fn drawop(source: u32) -> Option<Drawop> {
     Drawop::new(name, 10, text).ok()
 }
 
+/// A report of the first drawop of this source.
+fn report(alloc: Global, source: u32) -> Option<Marks> {
+    let mark = Mark::new(source, 1).ok()?;
+    let list = [mark].to_vec(alloc).ok()?;
+    Marks::new(list).ok()
+}
+
 fn open(alloc: Global) -> Option<(Board, Desk)>
     ensures { IfSome result (λ t. IsPassOf t.0 t.1) }
 {
@@ -127,10 +134,10 @@ fn meet(board: &Board, one: &mut Desk, two: &mut Desk, count: usize) -> bool
 
 fn all_goes_well<R: Threads + Sync>(rt: &R, alloc: Global) -> Option<bool> {
     let drawops = [drawop(8)?, drawop(9)?];
+    let marks = report(alloc, 8)?;
     let (board, mut root) = open(alloc)?;
     let other = split(&board, alloc, &mut root, 4)?;
     let (well, mut one, mut two) = relay_on_threads(rt, alloc, &board, root, other, &drawops);
-    let marks = Marks::new([Mark::new(8, 1).ok()?].to_vec(alloc).ok()?).ok()?;
     let knows = lacks_nothing(&board, alloc, &mut one, &marks);
     Some(well && knows && meet(&board, &mut one, &mut two, 2))
 }
