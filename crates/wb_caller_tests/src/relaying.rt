@@ -25,6 +25,13 @@ fn drawop(source: u32) -> Option<Drawop> {
     Drawop::new(name, 10, text).ok()
 }
 
+/// A report of the first drawop of this source.
+fn report(alloc: Global, source: u32) -> Option<Marks> {
+    let mark = Mark::new(source, 1).ok()?;
+    let list = [mark].to_vec(alloc).ok()?;
+    Marks::new(list).ok()
+}
+
 fn open(alloc: Global) -> Option<(Board, Desk)>
     ensures { IfSome result (λ t. IsPassOf t.0 t.1) }
 {
@@ -125,14 +132,39 @@ fn meet(board: &Board, one: &mut Desk, two: &mut Desk, count: usize) -> bool
     met && one.list() == two.list() && one.list().len() == count
 }
 
+/// Whether a desk lacks nothing of a report, and then has one list with another desk, of two
+/// drawops.
+fn agree(board: &Board, alloc: Global, one: Desk, two: Desk, marks: &Marks) -> bool
+    requires { IsPassOf board.now one × IsPassOf board.now two }
+{
+    let (mut one, mut two) = (one, two);
+    let knows = lacks_nothing(board, alloc, &mut one, marks);
+    knows && meet(board, &mut one, &mut two, 2)
+}
+
+/// Whether two desks of a board relay these drawops and then agree.
+fn relay_and_meet<R: Threads + Sync>(
+    rt: &R,
+    alloc: Global,
+    board: &Board,
+    mut root: Desk,
+    drawops: &[Drawop; 2],
+    marks: &Marks,
+) -> bool
+    requires { IsPassOf board.now root }
+{
+    let Some(other) = split(board, alloc, &mut root, 4) else {
+        return false;
+    };
+    let (well, one, two) = relay_on_threads(rt, alloc, board, root, other, drawops);
+    well && agree(board, alloc, one, two, marks)
+}
+
 fn all_goes_well<R: Threads + Sync>(rt: &R, alloc: Global) -> Option<bool> {
     let drawops = [drawop(8)?, drawop(9)?];
-    let (board, mut root) = open(alloc)?;
-    let other = split(&board, alloc, &mut root, 4)?;
-    let (well, mut one, mut two) = relay_on_threads(rt, alloc, &board, root, other, &drawops);
-    let marks = Marks::new([Mark::new(8, 1).ok()?].to_vec(alloc).ok()?).ok()?;
-    let knows = lacks_nothing(&board, alloc, &mut one, &marks);
-    Some(well && knows && meet(&board, &mut one, &mut two, 2))
+    let marks = report(alloc, 8)?;
+    let (board, root) = open(alloc)?;
+    Some(relay_and_meet(rt, alloc, &board, root, &drawops, &marks))
 }
 
 #[test]
