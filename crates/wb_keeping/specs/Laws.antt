@@ -1,5 +1,5 @@
 -- Laws of a policy.
-use Rattle.std.specs.Prelude.{◌≡◌, ◌⊎◌, ℕ, ◌≤◌, ◌<◌, Bool, false, List, [], ◌∷◌, ◌++◌, IsTrue, Option, None, map, nat_le, ◌||◌}
+use Rattle.std.specs.Prelude.{◌≡◌, ◌⊎◌, ℕ, ◌≤◌, ◌<◌, Bool, false, List, [], ◌∷◌, ◌++◌, IsTrue, None, map, nat_le, ◌||◌}
 use Rattle.wb_names.specs.Drawing.{op_fault}
 use Rattle.wb_names.specs.Values.{NameValue, greatest_number}
 use Rattle.wb_names.specs.declared.name.PageId.{PageId}
