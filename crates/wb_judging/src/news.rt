@@ -15,9 +15,7 @@ pub enum News {
     /// What came in is not a datagram.
     Garbled,
     /// The time of day is this, in microseconds since 1970, below 2^62.
-    Day {
-        wall: u64,
-    },
+    Day { wall: u64 },
     /// The network says that whoever spoke from this origin is gone.
     Gone(Origin),
 }
