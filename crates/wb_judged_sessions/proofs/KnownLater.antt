@@ -29,7 +29,7 @@ use Rattle.wb_judging.specs.Laws.{sends_in}
 use Rattle.wb_judging.specs.News.{Gone, News}
 use Rattle.wb_judging.specs.Performing.{after_judged, after_kept_line, events_of, judging, sent_by_kept_line}
 use Rattle.wb_judging.proofs.AsKept.{sends_as_kept}
-use Rattle.wb_judging.proofs.News.{leaves_others}
+use Rattle.wb_judging.proofs.NewsTold.{leaves_others}
 use Rattle.wb_kept_progress.proofs.CallParts.{due_by_report}
 use Rattle.wb_judged_sessions.specs.Known.{ComeInTime, Comes, JudgedStayKnown, KnowEachOther, KnownBecomeWhole, moment_by, until}
 use Rattle.wb_judged_sessions.specs.Knowing.{HasRoom, IsKnownSince, LeavesKnown}

@@ -35,7 +35,7 @@ use Rattle.wb_judging.specs.declared.record.RecordLine.TheVariants.{Known, Mark,
 use Rattle.wb_judging.specs.Laws.{sends_in}
 use Rattle.wb_judging.specs.Performing.{after_judged, events_of, fate_by, judging, sent_by_kept_line}
 use Rattle.wb_judging.proofs.AsKept.{sends_as_kept}
-use Rattle.wb_judging.proofs.News.{news_keeps}
+use Rattle.wb_judging.proofs.NewsTold.{news_keeps}
 use Rattle.wb_judged_sessions.specs.Laws.{HasNotStarted}
 use Rattle.wb_judged_sessions.specs.Sessions.{JudgedCall, JudgedCallAt, Start, Starts, Takes, after_call, judged_at, sent_by}
 use Rattle.wb_judged_sessions.specs.Terms.{AreTaken}

@@ -32,7 +32,7 @@ use Rattle.wb_judging.specs.declared.event.Fate.{Fate}
 use Rattle.wb_judging.specs.declared.record.RecordLine.{RecordLine}
 use Rattle.wb_judging.specs.declared.record.RecordLine.TheVariants.{Known, Mark, Said, Strange, Tick}
 use Rattle.wb_judging.proofs.Followed.{at_now}
-use Rattle.wb_judging.proofs.News.{heard_stays, known_stays}
+use Rattle.wb_judging.proofs.NewsTold.{heard_stays, known_stays}
 use Rattle.wb_judged_sessions.specs.Knowing.{HasRoom, IsKnownSince, LeavesKnown, StaysKnown, is_heard_since, is_known_since}
 use Rattle.wb_judged_sessions.proofs.Numbers.{heard_now, heard_still}
 use Rattle.wb_judged_sessions.proofs.Origins.{known_now, known_still, knows_for}

@@ -41,7 +41,7 @@ use Rattle.wb_judging.specs.declared.call.Call.{Call}
 use Rattle.wb_judging.specs.declared.call.Call.TheVariants.{CameFrom, Held, Passed, UserDrew}
 use Rattle.wb_judging.specs.Laws.{sends_in}
 use Rattle.wb_judging.specs.Performing.{after_judged, events_of, fate_by, judging, sent_by_kept_line}
-use Rattle.wb_judging.proofs.News.{news_keeps}
+use Rattle.wb_judging.proofs.NewsTold.{news_keeps}
 use Rattle.wb_judging.proofs.Numbers.{me_judging}
 use Rattle.wb_kept_progress.proofs.Pauses.{lawful_echoes}
 use Rattle.wb_judged_sessions.specs.Sessions.{judged_at}

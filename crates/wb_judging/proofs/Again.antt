@@ -42,7 +42,7 @@ use Rattle.wb_judging.specs.declared.record.RecordLine.{RecordLine}
 use Rattle.wb_judging.specs.declared.record.RecordLine.TheVariants.{Known, Mark, Said, Strange, Tick}
 use Rattle.wb_judging.proofs.Boards.{IsOther, gained_heard, gained_kept, gained_ticked, gains_kept, held_drawn, held_recalled, takes_kept}
 use Rattle.wb_judging.proofs.Histories.{Of, after_both, all_held, fresh_is_new, holds_last, of_both, of_filter, of_so, taken_again}
-use Rattle.wb_judging.proofs.News.{news_keeps}
+use Rattle.wb_judging.proofs.NewsTold.{news_keeps}
 use Rattle.wb_judging.proofs.Recorded.{line_recorded, noted}
 use Rattle.wb_judging.proofs.StrangeNames.{Once, each_given, freed_names, has, has_is, less, less_all, less_none, more, named_none, names_less, names_more, none_has, not_held_has, not_held_none, once_filter, once_given, once_last}
 

@@ -19,7 +19,7 @@ use Rattle.wb_judging.specs.declared.event.Event.{Event}
 use Rattle.wb_judging.specs.declared.event.Event.TheVariants.{Became, Dropped, Drew, Fetch, NoDatagram, Record, Send, Warn}
 use Rattle.wb_judging.specs.declared.event.Fate.{Fate}
 use Rattle.wb_judging.specs.declared.record.RecordLine.{RecordLine}
-use Rattle.wb_judging.proofs.News.{news_aside}
+use Rattle.wb_judging.proofs.NewsTold.{news_aside}
 
 pub judged_members_are_kept : JudgedMembersAreKept
 unfolding after_kept_line

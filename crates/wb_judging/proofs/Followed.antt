@@ -26,7 +26,7 @@ use Rattle.wb_judging.specs.Laws.{MembersAreHandedIn, NobodyMovesOurTime, OnlyAn
 use Rattle.wb_judging.specs.Performing.{after_judged, fate_by, judging, sent_by_kept_line}
 use Rattle.wb_judging.specs.declared.event.Fate.{Fate}
 use Rattle.wb_judging.proofs.Handed.{alone, handed_fault}
-use Rattle.wb_judging.proofs.News.{clock_stays}
+use Rattle.wb_judging.proofs.NewsTold.{clock_stays}
 use Rattle.wb_judging.proofs.Numbers.{came_fixed, recalled_fixed, sends}
 
 -- ---- nothing is refused

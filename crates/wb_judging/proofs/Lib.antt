@@ -1,7 +1,7 @@
 pub mod Kept
 pub mod Placed
 pub mod Fixed
-pub mod News
+pub mod NewsTold
 pub mod Numbers
 pub mod Handed
 pub mod Performed

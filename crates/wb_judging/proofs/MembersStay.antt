@@ -34,7 +34,7 @@ use Rattle.wb_judging.specs.declared.event.Fate.{Fate}
 use Rattle.wb_judging.specs.declared.record.RecordLine.{RecordLine}
 use Rattle.wb_judging.specs.declared.record.RecordLine.TheVariants.{Known, Mark, Said, Strange, Tick}
 use Rattle.wb_judging.proofs.Followed.{at_now}
-use Rattle.wb_judging.proofs.News.{heard_stays, known_stays, news_keeps}
+use Rattle.wb_judging.proofs.NewsTold.{heard_stays, known_stays, news_keeps}
 use Rattle.wb_judging.proofs.Numbers.{came_fixed}
 
 -- ---- who is known, and who was heard

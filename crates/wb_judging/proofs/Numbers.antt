@@ -20,7 +20,7 @@ use Rattle.wb_judging.specs.declared.event.Fate.{Fate}
 use Rattle.wb_judging.specs.declared.record.RecordLine.{RecordLine}
 use Rattle.wb_judging.specs.declared.record.RecordLine.TheVariants.{Known, Mark, Said, Strange, Tick}
 use Rattle.wb_judging.proofs.Fixed.{Fixed, itself, judged, taken, then}
-use Rattle.wb_judging.proofs.News.{news_keeps}
+use Rattle.wb_judging.proofs.NewsTold.{news_keeps}
 
 -- ---- the board
 

@@ -20,7 +20,7 @@ use Rattle.wb_judging.specs.declared.event.Event.TheVariants.{Became, Dropped, D
 use Rattle.wb_judging.specs.declared.event.Fate.{Fate}
 use Rattle.wb_judging.specs.declared.record.RecordLine.{RecordLine}
 use Rattle.wb_judging.specs.declared.record.RecordLine.TheVariants.{Tick}
-use Rattle.wb_judging.proofs.News.{news_aside}
+use Rattle.wb_judging.proofs.NewsTold.{news_aside}
 
 lines_both : (one other : List Event) → lines_in (one ++ other) ≡ lines_in one ++ lines_in other
 lines_both [] other = refl

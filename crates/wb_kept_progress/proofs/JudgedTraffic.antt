@@ -31,7 +31,7 @@ use Rattle.wb_judging.specs.Laws.{expanded, sends_in}
 use Rattle.wb_judging.specs.Performing.{after_judged, after_kept_line, events_of, fate_by, judging, sent_by_kept_line}
 use Rattle.wb_judging.proofs.AsKept.{sends_as_kept}
 use Rattle.wb_judging.proofs.Histories.{fresh_is_new}
-use Rattle.wb_judging.proofs.News.{news_judged, news_steps, nothing_comes}
+use Rattle.wb_judging.proofs.NewsTold.{news_judged, news_steps, nothing_comes}
 use Rattle.wb_kept_progress.specs.Judged.{AreOfNow, JudgedMembersSendFewDrawops, came_at, drawing_count, sent_by_judged}
 use Rattle.wb_kept_progress.specs.Timed.{is_drawop}
 use Rattle.wb_kept_progress.specs.Traffic.{call_count, calls_for_drawop, how_many}
