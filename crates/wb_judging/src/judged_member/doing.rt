@@ -66,7 +66,7 @@ impl JudgedMember {
         now: u64,
         news: &News,
     ) -> Result<Vec<Event>, JudgedFault>
-        requires { IsMoment now }
+        requires moment { IsMoment now }
         requires told { IsTellable news.now }
         ensures fault { (h : Judged) → IsJudgedAt self.old h →
             nat_le (present h.kept.host) now ≡ true → IsRefusedAs None result }

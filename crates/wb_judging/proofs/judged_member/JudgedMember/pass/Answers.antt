@@ -21,5 +21,5 @@ returns-clause-does c =
     let goes = went now c.new.result.items Others (Ticked now) mid ticked new c.in_ok-did.did.held c.in_ok-did.did.sent.items c.in_ok-did.did.fate first events
     c.in_ok-did.ensures.does refl c.in_ok-tell.ensures.kept c.in_ok-tell.ensures.judge c.in_ok-tell.ensures.events in
     subst (λ (v : JudgedValue). Performs (Passed now news) v events new) c.self.view_is
-    (passed_on now news old mid new first events refl c.tell_news.ensures.judge c.in_ok-events.ensures
+    (passed_on now news old mid new first events refl c.tell_news.ensures.judge c.in_ok-events.ensures.events
     (subst (λ (lines : List RecordLine). Goes now lines Others (Ticked now) first mid events new) c.new.ensures.items goes))
