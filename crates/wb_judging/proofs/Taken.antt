@@ -1,5 +1,5 @@
 -- A datagram that came: what becomes of it, by what each part of the call does.
-use Rattle.std.proofs.Common.{◌≡◌, ◌∙◌, ℕ, List, [], ◌∷◌, ◌++◌, None, Vec, Global, IfOk, ap, append-nil, arith, drop, refl, subst, sym, true}
+use Rattle.std.proofs.Common.{◌≡◌, ◌∙◌, ℕ, List, [], ◌++◌, None, ap, append-nil, arith, drop, refl, subst, sym, true}
 use Rattle.std.specs.Prelude.{IsTrue, Option, Result, Ok, Err, Some, is_some, nat_le}
 use Rattle.std.specs.Option.{option_map}
 use Rattle.std.proofs.lemmas.Bool.Decides.{nat_tests}
@@ -19,7 +19,7 @@ use Rattle.wb_keeping.specs.declared.kept_fault.KeptFault.{KeptFault}
 use Rattle.wb_judging.specs.Events.{advice, dropped_events, gain_events, told}
 use Rattle.wb_judging.specs.Handing.{facts_of, handed, handed_for, judge_after, recalled, verdict_on}
 use Rattle.wb_judging.specs.Hearing.{after_fate, after_recalling, after_sends}
-use Rattle.wb_judging.specs.Judged.{Call, CameFrom, Held, Judged, Passed}
+use Rattle.wb_judging.specs.Judged.{CameFrom, Held, Judged, Passed}
 use Rattle.wb_judging.specs.News.{News, after_news, news_events}
 use Rattle.wb_judging.specs.Performing.{Goes, IsJudgedAt, JudgedValue, KeptDoes, Performs, after_judged, events_of, fate_by, first_lines}
 use Rattle.wb_judging.specs.Recording.{freed_lines, gain_lines, mark_lines}

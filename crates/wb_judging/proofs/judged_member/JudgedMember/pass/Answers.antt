@@ -1,4 +1,4 @@
-use Rattle.std.proofs.Common.{List, [], refl, subst}
+use Rattle.std.proofs.Common.{List, refl, subst}
 use Rattle.wb_keeping.specs.Laws.{Ticked}
 use Rattle.wb_judging.specs.Judged.{Passed}
 use Rattle.wb_judging.specs.Performing.{Goes, JudgedValue, Performs}
