@@ -10,7 +10,8 @@ use Rattle.wb_codec.specs.declared.datagram.Datagram.{Datagram}
 use Rattle.wb_codec.specs.declared.fault.ReadFault.{ReadFault}
 use Rattle.wb_judge.specs.declared.origin.Origin.{Origin}
 use Rattle.wb_judging.specs.declared.call.Call.{Call}
-use Rattle.wb_judging.specs.declared.call.Call.TheVariants.{CameFrom, Garbled}
+use Rattle.wb_judging.specs.declared.call.Call.TheVariants.{CameFrom, Passed}
+use Rattle.wb_judging.specs.declared.news.News.TheVariants.{Garbled}
 use Rattle.wb_judging.specs.Performing.{JudgedValue}
 use Rattle.wb_judged_dialog.specs.Doing.{JudgedDialogValue, member_in, with_kept, with_member}
 use Rattle.wb_c.specs.Judging.{Judges}
@@ -82,7 +83,7 @@ pub came_as_read : (now : ℕ) (o : Origin) (read : Result Datagram ReadFault) (
 came_as_read now o (Ok w) v is = let same : v ≡ w = cc in ap (λ (u : Datagram). CameFrom now o u) same
 came_as_read now o (Err fault) v is = absurd cc
 
-pub garbled_as_read : (now : ℕ) (o : Origin) (read : Result Datagram ReadFault) (status : ℕ) → Err status ≡ read_by read → Garbled now ≡ arrival now o read
+pub garbled_as_read : (now : ℕ) (o : Origin) (read : Result Datagram ReadFault) (status : ℕ) → Err status ≡ read_by read → Passed now Garbled ≡ arrival now o read
 garbled_as_read now o (Ok w) status is = absurd cc
 garbled_as_read now o (Err fault) status is = refl
 

@@ -16,7 +16,8 @@ use Rattle.wb_judged_dialog.specs.Doing.{IsAt, member_in, with_kept, with_member
 use Rattle.wb_judge.specs.declared.limits.TheConstants.{TIME_LIMIT}
 use Rattle.wb_judge.specs.declared.origin.Origin.{Origin}
 use Rattle.wb_judging.specs.declared.call.Call.{Call}
-use Rattle.wb_judging.specs.declared.call.Call.TheVariants.{CameFrom, DayTold, Garbled, GoneFrom, Passed, UserDrew}
+use Rattle.wb_judging.specs.declared.call.Call.TheVariants.{CameFrom, Passed, UserDrew}
+use Rattle.wb_judging.specs.declared.news.News.TheVariants.{Day, Garbled, Gone, Nothing}
 use Rattle.wb_judging.specs.Performing.{JudgedValue}
 use Rattle.wb_c.specs.Asking.{query_of}
 use Rattle.wb_c.specs.Blocks.{Writes}
@@ -87,7 +88,7 @@ Adds now (Ok v) old new status = Refuses no_drawop old new status
 Adds now (Err why) old new status = Refuses why old new status
 
 abbrev pub Ticks : ℕ → Room → Room → ℕ → Type 0
-Ticks now old new status = AtEither (is_some old.dialog.judge) (Passed now) (Performs (Ticked now)) old new status
+Ticks now old new status = AtEither (is_some old.dialog.judge) (Passed now Nothing) (Performs (Ticked now)) old new status
 
 abbrev pub CameBy : ℕ → Result Datagram ReadFault → Room → Room → ℕ → Type 0
 CameBy now read old new status = InTime (nat_lt now MOMENT_LIMIT) (Takes now (read_by read)) old new status
@@ -106,7 +107,7 @@ origin_of place owner false = record { place = place; owner = None }
 -- What came from an origin, if it is not a datagram, is handed in as that.
 abbrev pub arrival : ℕ → Origin → Result Datagram ReadFault → Call
 arrival now o (Ok v) = CameFrom now o v
-arrival now o (Err fault) = Garbled now
+arrival now o (Err fault) = Passed now Garbled
 
 abbrev pub CameFromBy : ℕ → Origin → Result Datagram ReadFault → Room → Room → ℕ → Type 0
 CameFromBy now o read old new status = InTime (nat_lt now MOMENT_LIMIT) (AtJudged (arrival now o read)) old new status
@@ -117,10 +118,10 @@ OfDay true does old new status = does old new status
 OfDay false does old new status = Refuses no_time old new status
 
 abbrev pub WallBy : ℕ → ℕ → Room → Room → ℕ → Type 0
-WallBy now wall old new status = InTime (nat_lt now MOMENT_LIMIT) (OfDay (nat_lt wall TIME_LIMIT) (AtJudged (DayTold now wall))) old new status
+WallBy now wall old new status = InTime (nat_lt now MOMENT_LIMIT) (OfDay (nat_lt wall TIME_LIMIT) (AtJudged (Passed now (Day wall)))) old new status
 
 abbrev pub GoneBy : ℕ → Origin → Room → Room → ℕ → Type 0
-GoneBy now o old new status = InTime (nat_lt now MOMENT_LIMIT) (AtJudged (GoneFrom now o)) old new status
+GoneBy now o old new status = InTime (nat_lt now MOMENT_LIMIT) (AtJudged (Passed now (Gone o))) old new status
 
 abbrev pub AsksBy : Option Query → Room → Room → ℕ → Type 0
 AsksBy (Some query) old new status = AtMember (Answers query) old new status

@@ -11,7 +11,7 @@ use crate::serving::datagram_of;
 use crate::status::{NO_MOMENT, NO_TIME, NOT_JUDGED};
 use std::alloc::{AllocError, Global};
 use wb_judge::{Origin, TIME_LIMIT};
-use wb_judging::Call;
+use wb_judging::{Call, News};
 use wb_names::MOMENT_LIMIT;
 
 /// What came in from an origin.
@@ -26,7 +26,10 @@ fn arrival(alloc: Global, now: u64, origin: Origin, bytes: &[u8]) -> Result<Call
             origin,
             datagram,
         }),
-        Err(_) => Ok(Call::Garbled { now }),
+        Err(_) => Ok(Call::Passed {
+            now,
+            news: News::Garbled,
+        }),
     }
 }
 
@@ -71,7 +74,8 @@ impl Room {
         if wall >= TIME_LIMIT {
             return Ok(NO_TIME);
         }
-        self.judge(alloc, &Call::DayTold { now, wall })
+        let news = News::Day { wall };
+        self.judge(alloc, &Call::Passed { now, news })
     }
 
     /// The network says that whoever spoke from an origin is gone.
@@ -86,6 +90,7 @@ impl Room {
         if now >= MOMENT_LIMIT {
             return Ok(NO_MOMENT);
         }
-        self.judge(alloc, &Call::GoneFrom { now, origin })
+        let news = News::Gone(origin);
+        self.judge(alloc, &Call::Passed { now, news })
     }
 }

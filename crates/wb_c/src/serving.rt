@@ -15,7 +15,7 @@ use crate::status::{
 };
 use std::alloc::{AllocError, Global};
 use wb_codec::{Datagram, ReadFault, read};
-use wb_judging::Call;
+use wb_judging::{Call, News};
 use wb_keeping::KeptCall;
 use wb_member::Query;
 use wb_names::{Drawop, MOMENT_LIMIT, PageId, shape_of};
@@ -82,7 +82,8 @@ impl Room {
             return Ok(NO_MOMENT);
         }
         if self.dialog.is_judged() {
-            return self.judge(alloc, &Call::Passed { now });
+            let news = News::Nothing;
+            return self.judge(alloc, &Call::Passed { now, news });
         }
         self.call_kept(alloc, KeptCall::Ticked { now })
     }

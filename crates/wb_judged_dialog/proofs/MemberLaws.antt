@@ -19,7 +19,7 @@ use Rattle.wb_judging.specs.Handing.{handed}
 use Rattle.wb_judging.specs.Calling.{call_fault}
 use Rattle.wb_judging.specs.Judged.{Judged, moment_of}
 use Rattle.wb_judging.specs.declared.call.Call.{Call}
-use Rattle.wb_judging.specs.declared.call.Call.TheVariants.{CameFrom, DayTold, Garbled, GoneFrom, Held, Passed, UserDrew}
+use Rattle.wb_judging.specs.declared.call.Call.TheVariants.{CameFrom, Held, Passed, UserDrew}
 use Rattle.wb_judging.specs.Performing.{after_judged, after_kept_line, events_of, judging, sent_by_kept_line}
 use Rattle.wb_judging.specs.Refusing.{held_fault}
 use Rattle.wb_judging.specs.declared.judged_fault.JudgedFault.{JudgedFault}
@@ -82,13 +82,10 @@ by_others now call h take none = take (not_back now h.kept (no_fault KeptBy (bac
 
 takes : (call : Call) (h : Judged) → Owns h → call_fault call h ≡ None → Takes h call
 takes (CameFrom now o v) h own none = by_others now (CameFrom now o v) h (the_network_refuses_nothing (CameFrom now o v) h own refl) none
-takes (Garbled now) h own none = by_others now (Garbled now) h (the_network_refuses_nothing (Garbled now) h own refl) none
-takes (Passed now) h own none = by_others now (Passed now) h (the_network_refuses_nothing (Passed now) h own refl) none
+takes (Passed now news) h own none = by_others now (Passed now news) h (the_network_refuses_nothing (Passed now news) h own refl) none
 takes (UserDrew now page op) h own none =
     let drawn = second_none (option_map Judge (adding_fault (draws op) (length h.kept.host.is.held) h.judge)) (option_map KeptBy (add_fault now page (time_of_day h.judge.clock now) op h.kept)) none in
     no_fault KeptBy (add_fault now page (time_of_day h.judge.clock now) op h.kept) drawn
-takes (DayTold now wall) h own none = by_others now (DayTold now wall) h (the_network_refuses_nothing (DayTold now wall) h own refl) none
-takes (GoneFrom now o) h own none = by_others now (GoneFrom now o) h (the_network_refuses_nothing (GoneFrom now o) h own refl) none
 takes (Held line) h own none = no_fault KeptBy (held_fault line h) none
 
 -- ---- and a self-managing host answers that line

@@ -20,7 +20,8 @@ use Rattle.wb_judge.specs.declared.limits.TheConstants.{TIME_LIMIT}
 use Rattle.wb_judge.specs.declared.origin.Origin.{Origin}
 use Rattle.wb_judging.specs.Calling.{IsWithin as IsCallWithin}
 use Rattle.wb_judging.specs.declared.call.Call.{Call}
-use Rattle.wb_judging.specs.declared.call.Call.TheVariants.{CameFrom, DayTold, Garbled, GoneFrom, Held, Passed, UserDrew}
+use Rattle.wb_judging.specs.declared.call.Call.TheVariants.{CameFrom, Held, Passed, UserDrew}
+use Rattle.wb_judging.specs.declared.news.News.TheVariants.{Day, Garbled, Gone, Nothing}
 use Rattle.wb_judging.specs.declared.record.RecordLine.{RecordLine}
 use Rattle.wb_judged_dialog.specs.declared.line.JudgeLine.{JudgeLine}
 use Rattle.wb_judged_dialog.specs.declared.line.JudgedLine.{JudgedLine}
@@ -69,7 +70,7 @@ abbrev pub arrival : List (List ℕ) → Result (Option Datagram) LineFault
 arrival arguments = arrived (datagram arguments)
 
 abbrev pub came_of : ℕ → Origin → Option Datagram → Call
-came_of now o None = Garbled now
+came_of now o None = Passed now Garbled
 came_of now o (Some v) = CameFrom now o v
 
 unfoldable pub came_by : List ℕ → List ℕ → List (List ℕ) → Result JudgedLine LineFault
@@ -86,21 +87,21 @@ unfoldable pub tick_line : List (List ℕ) → Result JudgedLine LineFault
 tick_line arguments = do
   word ← or_fault faults.Words (one_of arguments)
   now ← number 0 MAX_MOMENT word
-  Ok (Calls (Passed now))
+  Ok (Calls (Passed now Nothing))
 
 unfoldable pub wall_line : List (List ℕ) → Result JudgedLine LineFault
 wall_line arguments = do
   words' ← or_fault faults.Words (two_of arguments)
   now ← number 0 MAX_MOMENT words'.0
   wall ← day_time words'.1
-  Ok (Calls (DayTold now wall))
+  Ok (Calls (Passed now (Day wall)))
 
 unfoldable pub gone_line : List (List ℕ) → Result JudgedLine LineFault
 gone_line arguments = do
   words' ← or_fault faults.Words (two_of arguments)
   now ← number 0 MAX_MOMENT words'.0
   origin' ← origin words'.1
-  Ok (Calls (GoneFrom now origin'))
+  Ok (Calls (Passed now (Gone origin')))
 
 abbrev pub members_line : List (List ℕ) → Result JudgedLine LineFault
 members_line arguments = or_fault faults.Words (none_of arguments) >>= λ nothing. Ok Members

@@ -15,7 +15,7 @@ use wb_commands::{
 };
 use wb_display::Canvas;
 use wb_judge::{Origin, TIME_LIMIT};
-use wb_judging::{Call, RecordLine};
+use wb_judging::{Call, News, RecordLine};
 use wb_lines::next_word;
 use wb_names::{MAX_MOMENT, PageId};
 use wb_policy::limits::MAX_RATE;
@@ -82,7 +82,10 @@ fn came_of(now: u64, origin: Origin, datagram: Option<Datagram>) -> Call
     ensures { result ≡ came_of now origin datagram }
 {
     match datagram {
-        None => Call::Garbled { now },
+        None => Call::Passed {
+            now,
+            news: News::Garbled,
+        },
         Some(datagram) => Call::CameFrom {
             now,
             origin,
@@ -120,7 +123,8 @@ fn tick_line(rest: &[u8]) -> Result<JudgedLine, LineFault>
 {
     let word = one_word(rest).ok_or(LineFault::Words)?;
     let now = number_word(word, 0, MAX_MOMENT)?;
-    Ok(JudgedLine::Call(Call::Passed { now }))
+    let news = News::Nothing;
+    Ok(JudgedLine::Call(Call::Passed { now, news }))
 }
 
 /// The time of day.
@@ -132,7 +136,8 @@ fn wall_line(rest: &[u8]) -> Result<JudgedLine, LineFault>
     let (now, wall) = two_words(rest).ok_or(LineFault::Words)?;
     let now = number_word(now, 0, MAX_MOMENT)?;
     let wall = number_word(wall, 0, TIME_LIMIT - 1)?;
-    Ok(JudgedLine::Call(Call::DayTold { now, wall }))
+    let news = News::Day { wall };
+    Ok(JudgedLine::Call(Call::Passed { now, news }))
 }
 
 /// Whoever spoke from an origin is gone.
@@ -144,7 +149,8 @@ fn gone_line(rest: &[u8]) -> Result<JudgedLine, LineFault>
     let (now, place) = two_words(rest).ok_or(LineFault::Words)?;
     let now = number_word(now, 0, MAX_MOMENT)?;
     let origin = origin(place)?;
-    Ok(JudgedLine::Call(Call::GoneFrom { now, origin }))
+    let news = News::Gone(origin);
+    Ok(JudgedLine::Call(Call::Passed { now, news }))
 }
 
 /// Who was heard lately.

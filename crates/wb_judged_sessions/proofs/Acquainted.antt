@@ -19,6 +19,7 @@ use Rattle.wb_policy.specs.Words as words
 use Rattle.wb_keeping.specs.Kept.{leaps_on, turns_on}
 use Rattle.wb_judging.specs.Handing.{facts_of, judge_after, verdict_on}
 use Rattle.wb_judging.specs.declared.call.Call.TheVariants.{CameFrom, Passed}
+use Rattle.wb_judging.specs.declared.news.News.TheVariants.{Nothing}
 use Rattle.wb_judging.specs.Laws.{sends_in}
 use Rattle.wb_judging.specs.Performing.{after_kept_line, events_of, sent_by_kept_line}
 use Rattle.wb_judged_sessions.specs.Answering.{HasRoomFor, IsInTime, IsSentAfter, last_taken}
@@ -72,7 +73,7 @@ sent_11 : IsSentAfter (λ told. last_taken numbers 10 1 told ≡ Some first_repo
 sent_11 = record {
   later = [];
   call = at 2000001 1 (Takes (CameFrom 2000001 (origin_of 0) (reports 10 2000000 [])));
-  earlier = at 2000000 0 (Takes (Passed 2000000)) ∷ at 1 1 (Starts (start 2 1) []) ∷ at 1 0 (Starts (start 1 1) []) ∷ [];
+  earlier = at 2000000 0 (Takes (Passed 2000000 Nothing)) ∷ at 1 1 (Starts (start 2 1) []) ∷ at 1 0 (Starts (start 1 1) []) ∷ [];
   split = refl;
   here = refl;
   line = CameFrom 2000001 (origin_of 0) (reports 10 2000000 []);
@@ -100,12 +101,12 @@ is_answered = record {
 
 -- ---- what twins do
 
-twin_answers : sends_in (events_of (CameFrom 2000001 (origin_of 0) (reports 10 2000000 [])) (judged_at twins (at 2000000 0 (Takes (Passed 2000000)) ∷ at 1 1 (Starts (start 2 1) []) ∷ at 1 0 (Starts (start 1 1) []) ∷ []) 1)) ≡ AskPages 10 ∷ answer 10 ∷ []
+twin_answers : sends_in (events_of (CameFrom 2000001 (origin_of 0) (reports 10 2000000 [])) (judged_at twins (at 2000000 0 (Takes (Passed 2000000 Nothing)) ∷ at 1 1 (Starts (start 2 1) []) ∷ at 1 0 (Starts (start 1 1) []) ∷ []) 1)) ≡ AskPages 10 ∷ answer 10 ∷ []
 unfolding random_started word_of after_word words.started report_of gaps_of pages_of near_names leaps_on turns_on after_kept_line sent_by_kept_line
     verdict_on judge_after answers is_known known_from is_bound_elsewhere spoken other_with without_origin is_admitted after_admitting is_fetched speaking after_answer after_fetching after_hearing is_elsewhere admitted_verdict after_admitted report_verdict after_report own_verdict after_own
 twin_answers = refl
 
-one_reports : sends_in (events_of (Passed 4000000) (judged_at twins one_sees 0)) ≡ AskPages 10 ∷ second_answer ∷ []
+one_reports : sends_in (events_of (Passed 4000000 Nothing) (judged_at twins one_sees 0)) ≡ AskPages 10 ∷ second_answer ∷ []
 unfolding random_started word_of after_word words.started report_of gaps_of pages_of near_names leaps_on turns_on after_kept_line sent_by_kept_line
     verdict_on judge_after answers is_known known_from is_bound_elsewhere spoken other_with without_origin is_admitted after_admitting is_fetched speaking after_answer after_fetching after_hearing is_elsewhere admitted_verdict after_admitted report_verdict after_report own_verdict after_own
 one_reports = refl
@@ -160,7 +161,7 @@ unfolding random_started word_of after_word words.started report_of gaps_of page
     verdict_on judge_after answers is_known known_from is_bound_elsewhere spoken other_with without_origin is_admitted after_admitting is_fetched speaking after_answer after_fetching after_hearing is_elsewhere admitted_verdict after_admitted report_verdict after_report own_verdict after_own
 now_0 = refl
 
-now_1 : present (judged_at twins (at 2000000 0 (Takes (Passed 2000000)) ∷ at 1 1 (Starts (start 2 1) []) ∷ at 1 0 (Starts (start 1 1) []) ∷ []) 1).kept.host ≡ 1
+now_1 : present (judged_at twins (at 2000000 0 (Takes (Passed 2000000 Nothing)) ∷ at 1 1 (Starts (start 2 1) []) ∷ at 1 0 (Starts (start 1 1) []) ∷ []) 1).kept.host ≡ 1
 unfolding random_started word_of after_word words.started report_of gaps_of pages_of near_names leaps_on turns_on after_kept_line sent_by_kept_line
     verdict_on judge_after answers is_known known_from is_bound_elsewhere spoken other_with without_origin is_admitted after_admitting is_fetched speaking after_answer after_fetching after_hearing is_elsewhere admitted_verdict after_admitted report_verdict after_report own_verdict after_own
 now_1 = refl
@@ -182,7 +183,7 @@ sent_1 : IsSentAfter (RemembersTwin twins 1 first_report) twins 1 answered (answ
 sent_1 = record {
   later = [];
   call = at 2000001 1 (Takes (CameFrom 2000001 (origin_of 0) (reports 10 2000000 [])));
-  earlier = at 2000000 0 (Takes (Passed 2000000)) ∷ at 1 1 (Starts (start 2 1) []) ∷ at 1 0 (Starts (start 1 1) []) ∷ [];
+  earlier = at 2000000 0 (Takes (Passed 2000000 Nothing)) ∷ at 1 1 (Starts (start 2 1) []) ∷ at 1 0 (Starts (start 1 1) []) ∷ [];
   split = refl;
   here = refl;
   line = CameFrom 2000001 (origin_of 0) (reports 10 2000000 []);
@@ -194,11 +195,11 @@ sent_1 = record {
 sent_0 : IsSentAfter (RemembersTwin twins 0 second_report) twins 0 one_answers second_answer
 sent_0 = record {
   later = [];
-  call = at 4000000 0 (Takes (Passed 4000000));
+  call = at 4000000 0 (Takes (Passed 4000000 Nothing));
   earlier = one_sees;
   split = refl;
   here = refl;
-  line = Passed 4000000;
+  line = Passed 4000000 Nothing;
   takes = refl;
   sends = among (AskPages 10) second_answer _ one_reports;
   after = remembers_other;

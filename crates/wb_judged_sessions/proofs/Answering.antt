@@ -34,7 +34,7 @@ use Rattle.wb_keeping.specs.Laws.{Came}
 use Rattle.wb_judging.specs.Handing.{facts_of, handed_for, judge_after, verdict_on}
 use Rattle.wb_judging.specs.Judged.{Judged}
 use Rattle.wb_judging.specs.declared.call.Call.{Call}
-use Rattle.wb_judging.specs.declared.call.Call.TheVariants.{CameFrom, DayTold, Garbled, GoneFrom, Held, Passed, UserDrew}
+use Rattle.wb_judging.specs.declared.call.Call.TheVariants.{CameFrom, Held, Passed, UserDrew}
 use Rattle.wb_judging.specs.Performing.{after_judged}
 use Rattle.wb_judging.proofs.MembersIn.{each_kind_is_handed_in}
 use Rattle.wb_judged_sessions.specs.Answering.{AnswersAreHandedIn, AnswersMakeKnown, HasRoomFor, IsLeftKnown, KnownAreHandedIn, KnownGoOn, heard_at, heard_by_call, heard_by_line, is_report_of}
@@ -270,11 +270,8 @@ renews o number at now (Session s sent page marks echoes) h another soon is why 
 -- a line leaves it known since its last report
 line_goes_on : (o : Origin) (number at : ℕ) (line : Call) (h : Judged) → number ≢ h.judge.me → IsLeftKnown o number at (Takes line) h → IsKnownSince o number at h.judge
     → IsKnownSince o number (heard_by_line o number line h at) (after_judged line h).judge
-line_goes_on o number at (Garbled now) h another left m = stays_known (Garbled now) h o number at left.0 left.1 m
-line_goes_on o number at (Passed now) h another left m = stays_known (Passed now) h o number at left.0 left.1 m
+line_goes_on o number at (Passed now news) h another left m = stays_known (Passed now news) h o number at left.0 left.1 m
 line_goes_on o number at (UserDrew now page op) h another left m = stays_known (UserDrew now page op) h o number at left.0 left.1 m
-line_goes_on o number at (DayTold now wall) h another left m = stays_known (DayTold now wall) h o number at left.0 left.1 m
-line_goes_on o number at (GoneFrom now p) h another left m = stays_known (GoneFrom now p) h o number at left.0 left.1 m
 line_goes_on o number at (Held line) h another left m = stays_known (Held line) h o number at left.0 left.1 m
 line_goes_on o number at (CameFrom now p v) h another left m = choose (is_report_of number v && (same_origin p o && is_none (verdict_on now p v h).why)) refl where
   choose : (b : Bool) → (is_report_of number v && (same_origin p o && is_none (verdict_on now p v h).why)) ≡ b → IsKnownSince o number (cond b now at) (after_judged (CameFrom now p v) h).judge

@@ -11,7 +11,7 @@ use Rattle.wb_keeping.specs.Performing.{after_doing}
 use Rattle.wb_judging.specs.Handing.{handed, handed_for, verdict_on}
 use Rattle.wb_judging.specs.Judged.{Judged, moment_of}
 use Rattle.wb_judging.specs.declared.call.Call.{Call}
-use Rattle.wb_judging.specs.declared.call.Call.TheVariants.{CameFrom, DayTold, Garbled, GoneFrom, Held, Passed, UserDrew}
+use Rattle.wb_judging.specs.declared.call.Call.TheVariants.{CameFrom, Held, Passed, UserDrew}
 use Rattle.wb_judging.specs.Laws.{after_all}
 use Rattle.wb_judging.specs.Performing.{after_judged, after_kept_line}
 use Rattle.wb_judging.specs.declared.record.RecordLine.{RecordLine}
@@ -35,11 +35,8 @@ came_moment now v (Some why) = refl
 -- what is handed in says the moment of the line
 handed_moment : (line : Call) (h : Judged) → kept_moment (handed line h) ≡ moment_of line h
 handed_moment (CameFrom now o v) h = came_moment now v (verdict_on now o v h).why
-handed_moment (Garbled now) h = refl
-handed_moment (Passed now) h = refl
+handed_moment (Passed now news) h = refl
 handed_moment (UserDrew now page op) h = refl
-handed_moment (DayTold now wall) h = refl
-handed_moment (GoneFrom now o) h = refl
 handed_moment (Held line) h = recalled_now line (present h.kept.host)
 
 line_present : (line : Call) (h : Judged) (lag time : ℕ) → moment_of line h + lag ≤ time → present h.kept.host + lag ≤ time → present (after_judged line h).kept.host + lag ≤ time

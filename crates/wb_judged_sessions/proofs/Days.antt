@@ -22,8 +22,9 @@ use Rattle.wb_keeping.specs.Performing.{Keeping, after_doing, after_line, after_
 use Rattle.wb_judging.specs.Handing.{facts_of, handed, handed_for, verdict_on}
 use Rattle.wb_judging.specs.Judged.{Judged}
 use Rattle.wb_judging.specs.declared.call.Call.{Call}
-use Rattle.wb_judging.specs.declared.call.Call.TheVariants.{CameFrom, DayTold, Garbled, GoneFrom, Held, Passed, UserDrew}
+use Rattle.wb_judging.specs.declared.call.Call.TheVariants.{CameFrom, Held, Passed, UserDrew}
 use Rattle.wb_judging.specs.Laws.{drawops_in, drawops_of, is_told}
+use Rattle.wb_judging.specs.News.{is_day}
 use Rattle.wb_judging.specs.Performing.{after_judged, after_kept_line}
 use Rattle.wb_judging.specs.declared.record.RecordLine.{RecordLine}
 use Rattle.wb_judging.specs.declared.record.RecordLine.TheVariants.{Known, Mark, Said, Strange, Tick}
@@ -135,10 +136,7 @@ module _ (latest cells : ℕ) (held : List DrawopValue) (each : IsWithin latest 
 
 line_within : (latest : ℕ) (line : Call) (h : Judged) → day_of_record (recalled_by line) ≤ latest → keeps latest line h
 line_within latest (CameFrom now o v) h le each day = came_within latest now o v h each day
-line_within latest (Garbled now) h le each day = ticked_within latest now h.kept each
-line_within latest (Passed now) h le each day = ticked_within latest now h.kept each
-line_within latest (DayTold now wall) h le each day = ticked_within latest now h.kept each
-line_within latest (GoneFrom now o) h le each day = ticked_within latest now h.kept each
+line_within latest (Passed now news) h le each day = ticked_within latest now h.kept each
 line_within latest (UserDrew now page op) h le each day = drew_within latest now page op h each day
 line_within latest (Held line) h le each day =
     subst (IsWithin latest) (sym (held_recalled (present h.kept.host) line h.kept)) (recalled_within latest (cells_of h) (held_by h) each line le)
@@ -231,14 +229,17 @@ told_soon before h soon = omega (arith, soon)
 call_soon : (call : JudgedCall) (file : List RecordLine) (h : Judged) (latest : ℕ) → IsOwn h → IsTaken call h
     → (tells_day call ≡ true → IsSoon (latest_before call file latest) (after_call call h)) → IsSoon latest h → IsSoon (latest_after call file h latest) (after_call call h)
 call_soon (Starts start given) file h latest own taken told soon = told_soon (latest_before (Starts start given) file latest) (after_call (Starts start given) h) (told refl)
-call_soon (Takes (DayTold now wall)) file h latest own taken told soon = let line = DayTold now wall in told_soon (max latest 0) (after_judged line h) (told refl)
 call_soon (Takes (Held line)) file h latest own taken told soon =
     told_soon (max latest (day_of_record (drawops_in line))) (after_judged (Held line) h) (told refl)
 call_soon (Takes (CameFrom now o v)) file h latest own taken told soon = still_soon latest (CameFrom now o v) h own taken refl soon
-call_soon (Takes (Garbled now)) file h latest own taken told soon = still_soon latest (Garbled now) h own taken refl soon
-call_soon (Takes (Passed now)) file h latest own taken told soon = still_soon latest (Passed now) h own taken refl soon
+call_soon (Takes (Passed now news)) file h latest own taken told soon = by (is_day news) refl where
+  line : Call
+  line = Passed now news
+
+  by : (b : Bool) → is_day news ≡ b → IsSoon (max (max latest 0) (day_of (after_judged line h))) (after_judged line h)
+  by true is = told_soon (max latest 0) (after_judged line h) (told is)
+  by false is = still_soon latest line h own taken is soon
 call_soon (Takes (UserDrew now page op)) file h latest own taken told soon = still_soon latest (UserDrew now page op) h own taken refl soon
-call_soon (Takes (GoneFrom now o)) file h latest own taken told soon = still_soon latest (GoneFrom now o) h own taken refl soon
 
 -- ---- how many drawops a board holds
 
@@ -307,10 +308,7 @@ module _ (latest : ℕ) (h : Judged) (own : IsOwn h) (ours d : DrawopValue) (eac
   call_above (Starts start given) taken day c = absurd (Contains-none ours c)
   call_above (Takes (UserDrew now page op)) taken day c = line_above now page op taken day c
   call_above (Takes (CameFrom now o v)) taken day c = absurd (Contains-none ours c)
-  call_above (Takes (Garbled now)) taken day c = absurd (Contains-none ours c)
-  call_above (Takes (Passed now)) taken day c = absurd (Contains-none ours c)
-  call_above (Takes (DayTold now wall)) taken day c = absurd (Contains-none ours c)
-  call_above (Takes (GoneFrom now o)) taken day c = absurd (Contains-none ours c)
+  call_above (Takes (Passed now news)) taken day c = absurd (Contains-none ours c)
   call_above (Takes (Held line)) taken day c = absurd (Contains-none ours c)
 
 pub ours_lie_above : OursLieAbove

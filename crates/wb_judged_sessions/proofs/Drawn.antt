@@ -18,7 +18,7 @@ use Rattle.wb_judge.specs.Days.{time_of_day}
 use Rattle.wb_judging.specs.Handing.{handed, handed_for, recalled, verdict_on}
 use Rattle.wb_judging.specs.Judged.{Judged}
 use Rattle.wb_judging.specs.declared.call.Call.{Call}
-use Rattle.wb_judging.specs.declared.call.Call.TheVariants.{CameFrom, DayTold, Garbled, GoneFrom, Held, Passed, UserDrew}
+use Rattle.wb_judging.specs.declared.call.Call.TheVariants.{CameFrom, Held, Passed, UserDrew}
 use Rattle.wb_judging.specs.Laws.{expanded}
 use Rattle.wb_judging.specs.Performing.{after_judged, after_kept_line, gained}
 use Rattle.wb_judging.specs.declared.record.RecordLine.{RecordLine}
@@ -181,10 +181,7 @@ module _ (numbers : ℕ → ℕ) (time place : ℕ) (h : Judged) (older : List C
 
   line_draws : (line : Call) → Draws (Takes line)
   line_draws (CameFrom now o v) = nothing (plain_line (handed (CameFrom now o v) h)) (came_draws now v (verdict_on now o v h).why)
-  line_draws (Garbled now) = nothing (Ticked now) tt
-  line_draws (Passed now) = nothing (Ticked now) tt
-  line_draws (DayTold now wall) = nothing (Ticked now) tt
-  line_draws (GoneFrom now o) = nothing (Ticked now) tt
+  line_draws (Passed now news) = nothing (Ticked now) tt
   line_draws (Held line) = nothing (plain_line (recalled (present h.kept.host) line)) (plain_draws (recalled (present h.kept.host) line) (recalled_draws (present h.kept.host) line))
   line_draws (UserDrew now page op) =
       let told = time_of_day h.judge.clock now in

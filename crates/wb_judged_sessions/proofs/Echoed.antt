@@ -26,7 +26,7 @@ use Rattle.wb_judge.specs.declared.verdict.Why.{Why}
 use Rattle.wb_judging.specs.Handing.{handed, handed_for, recalled, verdict_on}
 use Rattle.wb_judging.specs.Judged.{Judged, moment_of}
 use Rattle.wb_judging.specs.declared.call.Call.{Call}
-use Rattle.wb_judging.specs.declared.call.Call.TheVariants.{CameFrom, DayTold, Garbled, GoneFrom, Held, Passed, UserDrew}
+use Rattle.wb_judging.specs.declared.call.Call.TheVariants.{CameFrom, Held, Passed, UserDrew}
 use Rattle.wb_judging.specs.Laws.{after_all, sends_in}
 use Rattle.wb_judging.specs.Performing.{after_judged, after_kept_line, events_of, judging, sent_by_kept_line}
 use Rattle.wb_judging.specs.declared.record.RecordLine.{RecordLine}
@@ -50,11 +50,8 @@ timed_line (CameFrom now o v) h = by (verdict_on now o v h).why where
   by : (why : Option Why) → IsTimed (handed_for now v why) × (moment_in (handed_for now v why) ≡ now)
   by None = (tt, refl)
   by (Some why) = (tt, refl)
-timed_line (Garbled now) h = (tt, refl)
-timed_line (Passed now) h = (tt, refl)
+timed_line (Passed now news) h = (tt, refl)
 timed_line (UserDrew now page op) h = (tt, refl)
-timed_line (DayTold now wall) h = (tt, refl)
-timed_line (GoneFrom now o) h = (tt, refl)
 timed_line (Held (Tick past)) h = (tt, refl)
 timed_line (Held (Said d)) h = (tt, refl)
 timed_line (Held (KnownLine d)) h = (tt, refl)

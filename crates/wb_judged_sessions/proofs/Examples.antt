@@ -18,7 +18,7 @@ use Rattle.wb_policy.specs.Choices.{near_names}
 use Rattle.wb_policy.specs.Words as words
 use Rattle.wb_judging.specs.Handing.{judge_after, verdict_on}
 use Rattle.wb_judging.specs.declared.call.Call.{Call}
-use Rattle.wb_judging.specs.declared.call.Call.TheVariants.{CameFrom, DayTold, Garbled, GoneFrom, Held, Passed, UserDrew}
+use Rattle.wb_judging.specs.declared.call.Call.TheVariants.{CameFrom, Held, Passed, UserDrew}
 use Rattle.wb_judging.specs.Laws.{drawops_of}
 use Rattle.wb_judging.specs.Performing.{after_kept_line, sent_by_kept_line}
 use Rattle.wb_judging.specs.declared.record.RecordLine.{RecordLine}
@@ -114,10 +114,7 @@ module _ (older : List JudgedCallAt) (place : ℕ) where
   abbrev KnowsAt : Call → Type 0
   KnowsAt (UserDrew now on op) = KnowsItsOwn numbers older place on
   KnowsAt (CameFrom now o v) = Unit {0}
-  KnowsAt (Garbled now) = Unit {0}
-  KnowsAt (Passed now) = Unit {0}
-  KnowsAt (DayTold now wall) = Unit {0}
-  KnowsAt (GoneFrom now o) = Unit {0}
+  KnowsAt (Passed now news) = Unit {0}
   KnowsAt (Held line) = Unit {0}
 
   abbrev Knows : JudgedCall → Type 0

@@ -8,7 +8,7 @@ use Rattle.wb_judge.specs.Firm.{is_firm_beside, turn_at, turns}
 use Rattle.wb_judge.proofs.Firmness.{names_take_turns}
 use Rattle.wb_member.specs.Opened.{present}
 use Rattle.wb_judging.specs.Judged.{Judged}
-use Rattle.wb_judging.specs.declared.call.Call.TheVariants.{CameFrom, DayTold, Garbled, GoneFrom, Held, Passed, UserDrew}
+use Rattle.wb_judging.specs.declared.call.Call.TheVariants.{CameFrom, Held, Passed, UserDrew}
 use Rattle.wb_codec.specs.declared.datagram.Datagram.{Datagram}
 use Rattle.wb_judge.specs.declared.origin.Origin.{Origin}
 use Rattle.wb_judged_sessions.specs.Laws.{HasNotStarted}
@@ -23,11 +23,8 @@ module _ (One Other : ℕ → Judged → Type 0) (until : ℕ) (n : NameValue) w
   comes_too : (call : JudgedCall) (h : Judged) → ((now : ℕ) (o : Origin) (v : Datagram) → call ≡ Takes (CameFrom now o v) → now < until → One now h → Other now h) → ComesWhen One until n call h → ComesWhen Other until n call h
   comes_too (Starts start given) h then is = is
   comes_too (Takes (CameFrom now o v)) h then is = λ lt. then now o v refl lt (is lt)
-  comes_too (Takes (Garbled now)) h then is = tt
-  comes_too (Takes (Passed now)) h then is = tt
+  comes_too (Takes (Passed now news)) h then is = tt
   comes_too (Takes (UserDrew now page op)) h then is = tt
-  comes_too (Takes (DayTold now wall)) h then is = tt
-  comes_too (Takes (GoneFrom now o)) h then is = tt
   comes_too (Takes (Held line)) h then is = is
 
 -- a name that is firm beside a number of others is firm at a member beside which they are

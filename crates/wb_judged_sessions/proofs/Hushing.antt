@@ -21,6 +21,7 @@ use Rattle.wb_policy.specs.Words as words
 use Rattle.wb_keeping.specs.Kept.{leaps_on, turns_on}
 use Rattle.wb_judging.specs.Handing.{judge_after, verdict_on}
 use Rattle.wb_judging.specs.declared.call.Call.TheVariants.{Passed}
+use Rattle.wb_judging.specs.declared.news.News.TheVariants.{Nothing}
 use Rattle.wb_judging.specs.Laws.{sends_in}
 use Rattle.wb_judging.specs.Performing.{after_kept_line, events_of, sent_by_kept_line}
 use Rattle.wb_laws_kept.specs.Openings.{IsOpening}
@@ -72,7 +73,7 @@ unfolding random_started word_of after_word words.started report_of gaps_of page
     drawop_verdict is_forged_drawop is_firm_beside is_ahead is_over is_wide with_given without_name held_verdict after_held is_repaired after_repair stranger_verdict after_stranger missed_verdict
 all_taken = (omega arith, (omega arith, (refl, (omega arith, (omega arith, (omega arith, (omega arith, (omega arith, ((is_opening 2, tt), ((is_opening 1, tt), tt))))))))))
 
-sends_all : sends_in (events_of (Passed answer.due) (judged_at numbers (copied ++ requested) 0)) ≡ Draw drawing ∷ []
+sends_all : sends_in (events_of (Passed answer.due Nothing) (judged_at numbers (copied ++ requested) 0)) ≡ Draw drawing ∷ []
 unfolding random_started word_of after_word words.started report_of gaps_of pages_of near_names leaps_on turns_on after_kept_line sent_by_kept_line
     verdict_on judge_after answers is_known known_from is_bound_elsewhere spoken other_with without_origin is_admitted after_admitting is_fetched speaking after_answer after_fetching after_hearing is_elsewhere admitted_verdict after_admitted report_verdict after_report
     drawop_verdict is_forged_drawop is_firm_beside is_ahead is_over is_wide with_given without_name held_verdict after_held is_repaired after_repair stranger_verdict after_stranger missed_verdict
@@ -116,7 +117,7 @@ unfolding random_started word_of after_word words.started report_of gaps_of page
     drawop_verdict is_forged_drawop is_firm_beside is_ahead is_over is_wide with_given without_name held_verdict after_held is_repaired after_repair stranger_verdict after_stranger missed_verdict
 told_taken = (omega arith, (omega arith, (omega arith, (omega arith, (omega arith, (omega arith, (omega arith, ((is_opening 2, tt), ((is_opening 1, tt), tt)))))))))
 
-sends_request : sends_in (events_of (Passed ask.due) (judged_at numbers (put_off ++ told) 0)) ≡ Request 10 missing ∷ []
+sends_request : sends_in (events_of (Passed ask.due Nothing) (judged_at numbers (put_off ++ told) 0)) ≡ Request 10 missing ∷ []
 unfolding random_started word_of after_word words.started report_of gaps_of pages_of near_names leaps_on turns_on after_kept_line sent_by_kept_line
     verdict_on judge_after answers is_known known_from is_bound_elsewhere spoken other_with without_origin is_admitted after_admitting is_fetched speaking after_answer after_fetching after_hearing is_elsewhere admitted_verdict after_admitted report_verdict after_report
     drawop_verdict is_forged_drawop is_firm_beside is_ahead is_over is_wide with_given without_name held_verdict after_held is_repaired after_repair stranger_verdict after_stranger missed_verdict

@@ -20,7 +20,7 @@ use Rattle.wb_judging.specs.Echoing.{echoing}
 use Rattle.wb_judging.specs.Handing.{handed, handed_for, verdict_on}
 use Rattle.wb_judging.specs.Judged.{Judged, moment_of}
 use Rattle.wb_judging.specs.declared.call.Call.{Call}
-use Rattle.wb_judging.specs.declared.call.Call.TheVariants.{CameFrom, DayTold, Garbled, GoneFrom, Held, Passed, UserDrew}
+use Rattle.wb_judging.specs.declared.call.Call.TheVariants.{CameFrom, Held, Passed, UserDrew}
 use Rattle.wb_judging.specs.Laws.{sends_in}
 use Rattle.wb_judging.specs.Members.{IsOfMember, needs}
 use Rattle.wb_judging.specs.Performing.{events_of, judging, sent_by_kept_line}
@@ -62,10 +62,7 @@ came_one now then v w e = (cc, cc)
 none_drawn : (line : Call) (h : Judged) → ((now : ℕ) (page : PageId) (op : Op) → line ≡ UserDrew now page op → ⊥) → ((recalled : RecordLine) → line ≡ Held recalled → ⊥)
     → DrawsNone (plain_line (handed line h))
 none_drawn (CameFrom now o v) h drew held = came_draws now v (verdict_on now o v h).why
-none_drawn (Garbled now) h drew held = tt
-none_drawn (Passed now) h drew held = tt
-none_drawn (DayTold now wall) h drew held = tt
-none_drawn (GoneFrom now o) h drew held = tt
+none_drawn (Passed now news) h drew held = tt
 none_drawn (UserDrew now page op) h drew held = absurd (drew now page op refl)
 none_drawn (Held line) h drew held = absurd (held line refl)
 
@@ -83,10 +80,7 @@ let_in (CameFrom then o w) h now v held e = by (verdict_on then o w h).why refl 
   by : (why : Option Why) → (verdict_on then o w h).why ≡ why → plain_line (handed_for then w why) ≡ Came now v → LetIn (CameFrom then o w) h v
   by None is e = record { now = then; origin = o; whole = w; is = refl; lets = ap (λ (why : Option Why). handed_for then w why) is; same = (came_one then now (plain w) v e).1 }
   by (Some why) is e = absurd cc
-let_in (Garbled then) h now v held e = absurd cc
-let_in (Passed then) h now v held e = absurd cc
-let_in (DayTold then wall) h now v held e = absurd cc
-let_in (GoneFrom then o) h now v held e = absurd cc
+let_in (Passed then news) h now v held e = absurd cc
 let_in (UserDrew then page op) h now v held e = absurd cc
 let_in (Held line) h now v held e = absurd (held line refl)
 

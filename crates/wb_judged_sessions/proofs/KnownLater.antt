@@ -1,7 +1,7 @@
 -- Members that know each other when nothing is lost any more know each other whenever something of one comes to another.
 use Rattle.std.proofs.Common.{◌≡◌, ◌⊎◌, ◌≤◌, ◌<◌, ◌+◌, ◌-◌, ◌∙◌, ℕ, Bool, true, false, cond, List, [], ◌∷◌, ◌++◌, ap, append_assoc, arith, eqb-true, inl, inr, refl, subst, sym, ⊎_elim}
 use Rattle.std.specs.Prelude.{◌≢◌, Contains, Some, nat_eq, nat_le}
-use Rattle.std.proofs.lemmas.Bool.{eq-eqb, leb-true}
+use Rattle.std.proofs.lemmas.Bool.{eq-eqb, false_from_ne_true, leb-true}
 use Rattle.std.proofs.lemmas.Bool.Decides.{leb_tells, nat_tests}
 use Rattle.std.proofs.lemmas.List.Elements.{Contains-append_cases, Contains-append_left, Contains-append_right}
 use Rattle.wb_names.proofs.Listings.{Contains-cases, Contains-here, Contains-map, Contains-none, Contains-there}
@@ -24,10 +24,12 @@ use Rattle.wb_judging.specs.Echoing.{echoing, with_echo}
 use Rattle.wb_judging.specs.Handing.{handed}
 use Rattle.wb_judging.specs.Judged.{Judged, moment_of}
 use Rattle.wb_judging.specs.declared.call.Call.{Call}
-use Rattle.wb_judging.specs.declared.call.Call.TheVariants.{CameFrom, DayTold, Garbled, GoneFrom, Held, Passed, UserDrew}
+use Rattle.wb_judging.specs.declared.call.Call.TheVariants.{CameFrom, Held, Passed, UserDrew}
 use Rattle.wb_judging.specs.Laws.{sends_in}
+use Rattle.wb_judging.specs.News.{Gone, News}
 use Rattle.wb_judging.specs.Performing.{after_judged, after_kept_line, events_of, judging, sent_by_kept_line}
 use Rattle.wb_judging.proofs.AsKept.{sends_as_kept}
+use Rattle.wb_judging.proofs.NewsTold.{leaves_others}
 use Rattle.wb_kept_progress.proofs.CallParts.{due_by_report}
 use Rattle.wb_judged_sessions.specs.Known.{ComeInTime, Comes, JudgedStayKnown, KnowEachOther, KnownBecomeWhole, moment_by, until}
 use Rattle.wb_judged_sessions.specs.Knowing.{HasRoom, IsKnownSince, LeavesKnown}
@@ -215,14 +217,11 @@ module _ (numbers : ℕ → ℕ) (origins : ℕ → ℕ → Origin) (terms : Ter
               let is : p ≡ origins x.place i = k.fixed newer older x now p v i split soon.0 takes live_i (λ e. apart (e ∙ here)) speaks
               (subst (λ (q : ℕ). is_answer v now (judged_at numbers older q).judge ≡ true) (sym here) answers) in
               ap (λ (q : Origin). same_origin q (origins j i)) (is ∙ ap (λ (q : ℕ). origins q i) here) ∙ same_itself (origins j i)
-    leaves newer older x (Garbled now) split soon here takes = tt
-    leaves newer older x (Passed now) split soon here takes = tt
+    leaves newer older x (Passed now news) split soon here takes = leaves_others (origins j i) news gone where
+      gone : (p : Origin) → news ≡ Gone p → same_origin p (origins j i) ≡ false
+      gone p is = false_from_ne_true (same_origin p (origins j i)) (λ same.
+          k.stay newer older x now p i split soon.0 (takes ∙ ap (λ (n : News). Takes (Passed now n)) is) live_i (λ e. apart (e ∙ here)) (same_origins p (origins j i) same ∙ ap (λ (q : ℕ). origins q i) (sym here)))
     leaves newer older x (UserDrew now page op) split soon here takes = tt
-    leaves newer older x (DayTold now wall) split soon here takes = tt
-    leaves newer older x (GoneFrom now p) split soon here takes = by (same_origin p (origins j i)) refl where
-      by : (b : Bool) → same_origin p (origins j i) ≡ b → b ≡ false
-      by false is = refl
-      by true is = absurd (k.stay newer older x now p i split soon.0 takes live_i (λ e. apart (e ∙ here)) (same_origins p (origins j i) is ∙ ap (λ (q : ℕ). origins q i) (sym here)))
     leaves newer older x (Held line) split soon here takes = tt
 
     step : (newer older : List JudgedCallAt) (x : JudgedCallAt) → calls ≡ newer ++ x ∷ older → (terms.quiet < x.time) × (time ≤ x.time) × (x.time + terms.drift ≤ time + PATIENCE)

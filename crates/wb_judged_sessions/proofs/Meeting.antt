@@ -25,7 +25,8 @@ use Rattle.wb_keeping.specs.Laws.{Came}
 use Rattle.wb_keeping.specs.Performing.{due}
 use Rattle.wb_judging.specs.Handing.{facts_of, handed, judge_after, verdict_on}
 use Rattle.wb_judging.specs.declared.call.Call.{Call}
-use Rattle.wb_judging.specs.declared.call.Call.TheVariants.{CameFrom, GoneFrom, Held, Passed, UserDrew}
+use Rattle.wb_judging.specs.declared.call.Call.TheVariants.{CameFrom, Held, Passed, UserDrew}
+use Rattle.wb_judging.specs.declared.news.News.TheVariants.{Gone, Nothing}
 use Rattle.wb_judging.specs.Laws.{sends_in}
 use Rattle.wb_judging.specs.Performing.{after_kept_line, events_of, sent_by_kept_line}
 use Rattle.wb_laws_kept.specs.Openings.{IsOpening, opened_host}
@@ -42,22 +43,22 @@ use Rattle.wb_judged_sessions.proofs.Staying.{known_since_earlier}
 
 -- ---- what they do
 
-first : sends_in (events_of (Passed 2000000) (judged_at numbers (at 1 1 (Starts (start 2 1) []) ∷ at 1 0 (Starts (start 1 1) []) ∷ []) 0)) ≡ AskPages 10 ∷ reports 10 2000000 [] ∷ []
+first : sends_in (events_of (Passed 2000000 Nothing) (judged_at numbers (at 1 1 (Starts (start 2 1) []) ∷ at 1 0 (Starts (start 1 1) []) ∷ []) 0)) ≡ AskPages 10 ∷ reports 10 2000000 [] ∷ []
 unfolding random_started word_of after_word words.started report_of gaps_of pages_of near_names leaps_on turns_on after_kept_line sent_by_kept_line
     verdict_on judge_after answers is_known known_from is_bound_elsewhere spoken other_with without_origin is_admitted after_admitting is_fetched speaking after_answer after_fetching after_hearing is_elsewhere admitted_verdict after_admitted report_verdict after_report
 first = refl
 
-pub second : sends_in (events_of (CameFrom 2000001 (origin_of 0) (reports 10 2000000 [])) (judged_at numbers (at 2000000 0 (Takes (Passed 2000000)) ∷ at 1 1 (Starts (start 2 1) []) ∷ at 1 0 (Starts (start 1 1) []) ∷ []) 1)) ≡ AskPages 11 ∷ reports 11 2000001 (echo 10 2000000 0 ∷ []) ∷ []
+pub second : sends_in (events_of (CameFrom 2000001 (origin_of 0) (reports 10 2000000 [])) (judged_at numbers (at 2000000 0 (Takes (Passed 2000000 Nothing)) ∷ at 1 1 (Starts (start 2 1) []) ∷ at 1 0 (Starts (start 1 1) []) ∷ []) 1)) ≡ AskPages 11 ∷ reports 11 2000001 (echo 10 2000000 0 ∷ []) ∷ []
 unfolding random_started word_of after_word words.started report_of gaps_of pages_of near_names leaps_on turns_on after_kept_line sent_by_kept_line
     verdict_on judge_after answers is_known known_from is_bound_elsewhere spoken other_with without_origin is_admitted after_admitting is_fetched speaking after_answer after_fetching after_hearing is_elsewhere admitted_verdict after_admitted report_verdict after_report
 second = refl
 
-third : sends_in (events_of (Passed 4000000) (judged_at numbers one_knows 0)) ≡ AskPages 10 ∷ reports 10 4000000 (echo 11 2000001 1999998 ∷ []) ∷ []
+third : sends_in (events_of (Passed 4000000 Nothing) (judged_at numbers one_knows 0)) ≡ AskPages 10 ∷ reports 10 4000000 (echo 11 2000001 1999998 ∷ []) ∷ []
 unfolding random_started word_of after_word words.started report_of gaps_of pages_of near_names leaps_on turns_on after_kept_line sent_by_kept_line
     verdict_on judge_after answers is_known known_from is_bound_elsewhere spoken other_with without_origin is_admitted after_admitting is_fetched speaking after_answer after_fetching after_hearing is_elsewhere admitted_verdict after_admitted report_verdict after_report
 third = refl
 
-fourth : sends_in (events_of (Passed 5000000) (judged_at numbers both_know 1)) ≡ again ∷ []
+fourth : sends_in (events_of (Passed 5000000 Nothing) (judged_at numbers both_know 1)) ≡ again ∷ []
 unfolding random_started word_of after_word words.started report_of gaps_of pages_of near_names leaps_on turns_on after_kept_line sent_by_kept_line
     verdict_on judge_after answers is_known known_from is_bound_elsewhere spoken other_with without_origin is_admitted after_admitting is_fetched speaking after_answer after_fetching after_hearing is_elsewhere admitted_verdict after_admitted report_verdict after_report
 fourth = refl
@@ -117,7 +118,7 @@ unfolding random_started word_of after_word words.started report_of gaps_of page
     verdict_on judge_after answers is_known known_from is_bound_elsewhere spoken other_with without_origin is_admitted after_admitting is_fetched speaking after_answer after_fetching after_hearing is_elsewhere admitted_verdict after_admitted report_verdict after_report
 now_2 = refl
 
-now_3 : present (judged_at numbers (at 2000000 0 (Takes (Passed 2000000)) ∷ at 1 1 (Starts (start 2 1) []) ∷ at 1 0 (Starts (start 1 1) []) ∷ []) 1).kept.host ≡ 1
+now_3 : present (judged_at numbers (at 2000000 0 (Takes (Passed 2000000 Nothing)) ∷ at 1 1 (Starts (start 2 1) []) ∷ at 1 0 (Starts (start 1 1) []) ∷ []) 1).kept.host ≡ 1
 unfolding random_started word_of after_word words.started report_of gaps_of pages_of near_names leaps_on turns_on after_kept_line sent_by_kept_line
     verdict_on judge_after answers is_known known_from is_bound_elsewhere spoken other_with without_origin is_admitted after_admitting is_fetched speaking after_answer after_fetching after_hearing is_elsewhere admitted_verdict after_admitted report_verdict after_report
 now_3 = refl
@@ -132,7 +133,7 @@ unfolding random_started word_of after_word words.started report_of gaps_of page
     verdict_on judge_after answers is_known known_from is_bound_elsewhere spoken other_with without_origin is_admitted after_admitting is_fetched speaking after_answer after_fetching after_hearing is_elsewhere admitted_verdict after_admitted report_verdict after_report
 now_5 = refl
 
-now_6 : present (judged_at numbers (at 4000000 0 (Takes (Passed 4000000)) ∷ one_knows) 1).kept.host ≡ 2000001
+now_6 : present (judged_at numbers (at 4000000 0 (Takes (Passed 4000000 Nothing)) ∷ one_knows) 1).kept.host ≡ 2000001
 unfolding random_started word_of after_word words.started report_of gaps_of pages_of near_names leaps_on turns_on after_kept_line sent_by_kept_line
     verdict_on judge_after answers is_known known_from is_bound_elsewhere spoken other_with without_origin is_admitted after_admitting is_fetched speaking after_answer after_fetching after_hearing is_elsewhere admitted_verdict after_admitted report_verdict after_report
 now_6 = refl
@@ -252,13 +253,13 @@ at_each : (P : List JudgedCallAt → JudgedCallAt → List JudgedCallAt → Type
 at_each P each newer older e split = of_split P [] told_again newer older e split each
 
 abbrev third_last : JudgedCallAt
-third_last = at 5000000 1 (Takes (Passed 5000000))
+third_last = at 5000000 1 (Takes (Passed 5000000 Nothing))
 
 abbrev second_last : JudgedCallAt
 second_last = at 5000001 0 (Takes (CameFrom 5000001 (origin_of 1) again))
 
 abbrev last : JudgedCallAt
-last = at 5000002 1 (Takes (Passed 5000002))
+last = at 5000002 1 (Takes (Passed 5000002 Nothing))
 
 late_calls : (P : List JudgedCallAt → JudgedCallAt → List JudgedCallAt → Type 0) → P [] last came_again → P (last ∷ []) second_last sent_again → P (last ∷ second_last ∷ []) third_last both_know
     → ((newer : List JudgedCallAt) (e : JudgedCallAt) (older : List JudgedCallAt) → e.time ≤ 4000001 → P newer e older) → EachCall P [] told_again
@@ -336,7 +337,7 @@ fit_1 = (
 came_one : (now : ℕ) (o : Origin) (v : Datagram) → Takes (CameFrom 5000001 (origin_of 1) again) ≡ Takes (CameFrom now o v) → (origin_of 1 ≡ o) × (again ≡ v)
 came_one now o v same = (cc, cc)
 
-line_one : (line : Call) → Takes (Passed 5000000) ≡ Takes line → Passed 5000000 ≡ line
+line_one : (line : Call) → Takes (Passed 5000000 Nothing) ≡ Takes line → Passed 5000000 Nothing ≡ line
 line_one line same = cc
 
 comes_again : Comes numbers (origin_of 1) (last ∷ second_last ∷ []) (third_last ∷ both_know) 0 5000001 again
@@ -349,7 +350,7 @@ was_sent = record {
   before = both_know;
   split = refl;
   soon = omega arith;
-  line = Passed 5000000;
+  line = Passed 5000000 Nothing;
   call = refl;
   sent = subst (λ (vs : List Datagram). Contains vs again) (sym fourth) (Contains-here again []);
 }
@@ -365,9 +366,9 @@ they_come = record {
   covered = omega arith;
   far = omega arith;
   fitting = by_place (λ i. AreFittingSince terms numbers i told_again) fit_0 fit_1;
-  alone = at_late (λ newer e older. terms.quiet < e.time → Contains terms.live e.place × ((line : Call) × (e.call ≡ Takes line))) (λ late. (live_1, (Passed 5000002, refl)))
+  alone = at_late (λ newer e older. terms.quiet < e.time → Contains terms.live e.place × ((line : Call) × (e.call ≡ Takes line))) (λ late. (live_1, (Passed 5000002 Nothing, refl)))
       (λ late. (live_0, (CameFrom 5000001 (origin_of 1) again, refl)))
-      (λ late. (live_1, (Passed 5000000, refl)))
+      (λ late. (live_1, (Passed 5000000 Nothing, refl)))
       (λ newer e older le late. absurd (omega (arith, le, late)));
   drawn = λ newer older e now page op split.
       at_late (λ newer e older. terms.quiet < e.time → e.call ≢ Takes (UserDrew now page op)) (λ late same. absurd cc) (λ late same. absurd cc) (λ late same. absurd cc)
@@ -396,7 +397,7 @@ they_come = record {
       (λ late same lets. absurd cc) (λ late same lets. subst (WasSentBy numbers sent_again 5000001 1) (came_one now o v same).1 was_sent) (λ late same lets. absurd cc)
       (λ newer e older le late. absurd (omega (arith, le, late))) newer older e split;
 } where
-  is_again : (line : Call) (v : Datagram) → Takes (Passed 5000000) ≡ Takes line → Contains (sends_in (events_of line (judged_at numbers both_know 1))) v → again ≡ v
+  is_again : (line : Call) (v : Datagram) → Takes (Passed 5000000 Nothing) ≡ Takes line → Contains (sends_in (events_of line (judged_at numbers both_know 1))) v → again ≡ v
   is_again line v takes sent =
       one_of again v
       (subst (λ (vs : List Datagram). Contains vs v) fourth (subst (λ (l : Call). Contains (sends_in (events_of l (judged_at numbers both_know 1))) v) (sym (line_one line takes)) sent))
@@ -453,7 +454,7 @@ they_know = record {
       (λ late same live other speaks answers. absurd cc)
       (λ newer e older le late. absurd (omega (arith, le, late))) newer older e split;
   stay = λ newer older e now o i split.
-      at_late (λ newer e older. terms.quiet < e.time → e.call ≡ Takes (GoneFrom now o) → Contains terms.live i → i ≢ e.place → o ≢ origin_of i) (λ late same. absurd cc) (λ late same. absurd cc) (λ late same. absurd cc)
+      at_late (λ newer e older. terms.quiet < e.time → e.call ≡ Takes (Passed now (Gone o)) → Contains terms.live i → i ≢ e.place → o ≢ origin_of i) (λ late same. absurd cc) (λ late same. absurd cc) (λ late same. absurd cc)
       (λ newer e older le late. absurd (omega (arith, le, late))) newer older e split;
   room = at_late (λ newer e older. terms.quiet < e.time → HasRoom (judged_at numbers older e.place).judge)
       (λ late. record { known = few _ _ knows_9 some_known; others = few _ _ heard_9 some_others })

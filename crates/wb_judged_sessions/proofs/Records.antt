@@ -13,7 +13,7 @@ use Rattle.wb_keeping.specs.Performing.{Keeping}
 use Rattle.wb_judging.specs.Handing.{handed}
 use Rattle.wb_judging.specs.Judged.{Judged}
 use Rattle.wb_judging.specs.declared.call.Call.{Call}
-use Rattle.wb_judging.specs.declared.call.Call.TheVariants.{CameFrom, DayTold, Garbled, GoneFrom, Held, Passed, UserDrew}
+use Rattle.wb_judging.specs.declared.call.Call.TheVariants.{CameFrom, Held, Passed, UserDrew}
 use Rattle.wb_judging.specs.Laws.{after_all, drawops_of, record_of}
 use Rattle.wb_judging.specs.Performing.{after_judged}
 use Rattle.wb_judging.specs.declared.record.RecordLine.{RecordLine}
@@ -93,10 +93,7 @@ line_keeps line h d c =
 
 line_gains : (line : Call) (h : Judged) (d : DrawopValue) → Contains (drawn_by_line line h) d → Contains (held_by (after_judged line h)) d
 line_gains (CameFrom now o v) h d c = absurd (Contains-none d c)
-line_gains (Garbled now) h d c = absurd (Contains-none d c)
-line_gains (Passed now) h d c = absurd (Contains-none d c)
-line_gains (DayTold now wall) h d c = absurd (Contains-none d c)
-line_gains (GoneFrom now o) h d c = absurd (Contains-none d c)
+line_gains (Passed now news) h d c = absurd (Contains-none d c)
 line_gains (Held line) h d c = absurd (Contains-none d c)
 line_gains (UserDrew now page op) h d c =
     let line = handed (UserDrew now page op) h in

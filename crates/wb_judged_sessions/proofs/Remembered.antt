@@ -28,13 +28,14 @@ use Rattle.wb_judging.specs.Handing.{facts_of, handed, judge_after}
 use Rattle.wb_judging.specs.Hearing.{after_fate, after_recalling, after_sending, after_sends, with_strange}
 use Rattle.wb_judging.specs.Judged.{Judged, moment_of}
 use Rattle.wb_judging.specs.declared.call.Call.{Call}
-use Rattle.wb_judging.specs.declared.call.Call.TheVariants.{CameFrom, DayTold, Garbled, GoneFrom, Held, Passed, UserDrew}
+use Rattle.wb_judging.specs.declared.call.Call.TheVariants.{CameFrom, Held, Passed, UserDrew}
 use Rattle.wb_judging.specs.declared.event.Fate.{Fate}
 use Rattle.wb_judging.specs.declared.record.RecordLine.{RecordLine}
 use Rattle.wb_judging.specs.declared.record.RecordLine.TheVariants.{Known, Mark, Said, Strange, Tick}
 use Rattle.wb_judging.specs.Laws.{sends_in}
 use Rattle.wb_judging.specs.Performing.{after_judged, events_of, fate_by, judging, sent_by_kept_line}
 use Rattle.wb_judging.proofs.AsKept.{sends_as_kept}
+use Rattle.wb_judging.proofs.NewsTold.{news_keeps}
 use Rattle.wb_judged_sessions.specs.Laws.{HasNotStarted}
 use Rattle.wb_judged_sessions.specs.Sessions.{JudgedCall, JudgedCallAt, Start, Starts, Takes, after_call, judged_at, sent_by}
 use Rattle.wb_judged_sessions.specs.Terms.{AreTaken}
@@ -179,11 +180,8 @@ judged_own now o v h =
 
 judging_own : (line : Call) (h : Judged) → (judging line h).own ≡ h.judge.own
 judging_own (CameFrom now o v) h = fated_own now o v (fate_by (handed (CameFrom now o v) h) h.kept) (judge_after now o v h) ∙ judged_own now o v h
-judging_own (Garbled now) h = refl
-judging_own (Passed now) h = refl
+judging_own (Passed now news) h = (news_keeps now news h.judge).own
 judging_own (UserDrew now page op) h = refl
-judging_own (DayTold now wall) h = refl
-judging_own (GoneFrom now o) h = refl
 judging_own (Held line) h = recalled_own line (fate_by (handed (Held line) h) h.kept) h.judge
 
 -- ---- calls

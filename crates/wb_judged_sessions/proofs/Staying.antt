@@ -26,13 +26,13 @@ use Rattle.wb_judging.specs.Handing.{facts_of, handed, judge_after}
 use Rattle.wb_judging.specs.Hearing.{after_fate, after_recalling, after_sending, after_sends, with_strange}
 use Rattle.wb_judging.specs.Judged.{Judged}
 use Rattle.wb_judging.specs.declared.call.Call.{Call}
-use Rattle.wb_judging.specs.declared.call.Call.TheVariants.{CameFrom, DayTold, Garbled, GoneFrom, Held, Passed, UserDrew}
+use Rattle.wb_judging.specs.declared.call.Call.TheVariants.{CameFrom, Held, Passed, UserDrew}
 use Rattle.wb_judging.specs.Performing.{after_judged, fate_by, judging, sent_by_kept_line}
 use Rattle.wb_judging.specs.declared.event.Fate.{Fate}
 use Rattle.wb_judging.specs.declared.record.RecordLine.{RecordLine}
 use Rattle.wb_judging.specs.declared.record.RecordLine.TheVariants.{Known, Mark, Said, Strange, Tick}
 use Rattle.wb_judging.proofs.Followed.{at_now}
-use Rattle.wb_judging.proofs.MembersStay.{found_still, other_origin}
+use Rattle.wb_judging.proofs.NewsTold.{heard_stays, known_stays}
 use Rattle.wb_judged_sessions.specs.Knowing.{HasRoom, IsKnownSince, LeavesKnown, StaysKnown, is_heard_since, is_known_since}
 use Rattle.wb_judged_sessions.proofs.Numbers.{heard_now, heard_still}
 use Rattle.wb_judged_sessions.proofs.Origins.{known_now, known_still, knows_for}
@@ -102,22 +102,6 @@ came now p o v h number at m =
     let fate = fate_by (handed line h) h.kept in
     and_sends line h o number at (alike o number at (judge_after now p v h) (judging line h) (fated now p v fate (judge_after now p v h)) m)
 
--- ---- somebody is gone
-
-known_left : (p o : Origin) (at : ℕ) (known : List KnownOrigin) → same_origin p o ≡ false → is_known_since o at known ≡ true → is_known_since o at (filter (λ k. not (same_origin k.origin p)) known) ≡ true
-known_left p o at known apart e =
-    any-filter_same (λ (k : KnownOrigin). same_origin k.origin o && nat_le at k.at) (λ (k : KnownOrigin). not (same_origin k.origin p)) true
-    (λ (k : KnownOrigin) is. other_origin p o k.origin apart (and_parts (same_origin k.origin o) (nat_le at k.at) is).0) known ∙ e
-
-heard_left : (p o : Origin) (number at : ℕ) (others : List Other) → same_origin p o ≡ false → is_heard_since o at (other_of number others) ≡ true
-    → is_heard_since o at (other_of number (filter (λ x. not (same_origin x.origin p)) others)) ≡ true
-heard_left p o number at others apart e = by (other_of number others) refl e where
-  by : (x : Option Other) → other_of number others ≡ x → is_heard_since o at x ≡ true → is_heard_since o at (other_of number (filter (λ x. not (same_origin x.origin p)) others)) ≡ true
-  by None is f = absurd (true≢false (sym f))
-  by (Some x) is f =
-      ap (is_heard_since o at)
-      (found_still (λ (y : Other). nat_eq y.number number) (λ (y : Other). not (same_origin y.origin p)) x others is (other_origin p o x.origin apart (and_parts (same_origin x.origin o) _ f).0)) ∙ f
-
 -- ---- any line
 
 datagram : (now : ℕ) (p o : Origin) (v : Datagram) (h : Judged) (number at : ℕ) → HasRoom h.judge → LeavesKnown o number at (CameFrom now p v) h → IsKnownSince o number at h.judge
@@ -136,12 +120,12 @@ datagram now p o v h number at room leaves m =
 
 pub stays_known : StaysKnown
 stays_known (CameFrom now p v) h o number at room leaves m = came now p o v h number at (datagram now p o v h number at room leaves m)
-stays_known (Garbled now) h o number at room leaves m = and_sends (Garbled now) h o number at m
-stays_known (Passed now) h o number at room leaves m = and_sends (Passed now) h o number at m
+stays_known (Passed now news) h o number at room leaves m =
+    and_sends (Passed now news) h o number at (record {
+      known = known_stays o (λ (k : KnownOrigin). same_origin k.origin o && nat_le at k.at) (λ (k : KnownOrigin) is. (and_parts (same_origin k.origin o) (nat_le at k.at) is).0) now news h.judge leaves ∙ m.known;
+      heard = heard_stays o number (is_heard_since o at) refl (λ (x : Other) is. (and_parts (same_origin x.origin o) _ is).0) now news h.judge leaves m.heard;
+    })
 stays_known (UserDrew now page op) h o number at room leaves m = and_sends (UserDrew now page op) h o number at m
-stays_known (DayTold now wall) h o number at room leaves m = and_sends (DayTold now wall) h o number at (record { known = m.known; heard = m.heard })
-stays_known (GoneFrom now p) h o number at room leaves m =
-    and_sends (GoneFrom now p) h o number at (record { known = known_left p o at h.judge.known leaves m.known; heard = heard_left p o number at h.judge.others leaves m.heard })
 stays_known (Held line) h o number at room leaves m =
     and_sends (Held line) h o number at (alike o number at h.judge (judging (Held line) h) (recalling line (fate_by (handed (Held line) h) h.kept) h.judge) m)
 

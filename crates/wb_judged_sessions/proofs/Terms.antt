@@ -21,7 +21,7 @@ use Rattle.wb_keeping.specs.declared.kept_fault.KeptFault.{KeptFault}
 use Rattle.wb_judging.specs.Handing.{handed, recalled, verdict_on}
 use Rattle.wb_judging.specs.Judged.{Judged}
 use Rattle.wb_judging.specs.declared.call.Call.{Call}
-use Rattle.wb_judging.specs.declared.call.Call.TheVariants.{CameFrom, DayTold, Garbled, GoneFrom, Held, Passed, UserDrew}
+use Rattle.wb_judging.specs.declared.call.Call.TheVariants.{CameFrom, Held, Passed, UserDrew}
 use Rattle.wb_judging.specs.Laws.{after_all, drawops_in, drawops_of, expanded}
 use Rattle.wb_judging.specs.Performing.{after_judged, after_kept_line}
 use Rattle.wb_judging.specs.declared.judged_fault.JudgedFault.{JudgedFault}
@@ -77,10 +77,7 @@ second_none (Some f) two e = absurd cc
 
 pub fault_none : (line : Call) (h : Judged) → IsOwn h → IsLineTaken line h → fault_of (handed line h) h.kept ≡ None
 fault_none (CameFrom now o v) h own le = the_network_refuses_nothing (CameFrom now o v) h own refl le
-fault_none (Garbled now) h own le = the_network_refuses_nothing (Garbled now) h own refl le
-fault_none (Passed now) h own le = the_network_refuses_nothing (Passed now) h own refl le
-fault_none (DayTold now wall) h own le = the_network_refuses_nothing (DayTold now wall) h own refl le
-fault_none (GoneFrom now o) h own le = the_network_refuses_nothing (GoneFrom now o) h own refl le
+fault_none (Passed now news) h own le = the_network_refuses_nothing (Passed now news) h own refl le
 fault_none (Held line) h own taken = taken
 fault_none (UserDrew now page op) h own taken =
     second_none (option_map OfJudge (adding_fault (draws op) _ h.judge)) (add_fault now page (time_of_day h.judge.clock now) op h.kept) taken
@@ -235,10 +232,7 @@ module _ (numbers : ℕ → ℕ) (time place : ℕ) where
   line_know : (line : Call) (h : Judged) (older : List CallAt)
       → ((now : ℕ) (page : PageId) (op : Op) → Takes line ≡ Takes (UserDrew now page op) → KeptKnowsItsOwn numbers older place page) → KnowsFor older (Handed (plain_line (handed line h)))
   line_know (CameFrom now o v) h older knows = none_for (plain_line (handed (CameFrom now o v) h)) older (came_draws now v (verdict_on now o v h).why)
-  line_know (Garbled now) h older knows = tt
-  line_know (Passed now) h older knows = tt
-  line_know (DayTold now wall) h older knows = tt
-  line_know (GoneFrom now o) h older knows = tt
+  line_know (Passed now news) h older knows = tt
   line_know (Held line) h older knows = none_for (plain_line (handed (Held line) h)) older (plain_draws (handed (Held line) h) (record_draws (line ∷ []) h).0)
   line_know (UserDrew now page op) h older knows = knows now page op refl
 

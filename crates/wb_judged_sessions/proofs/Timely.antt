@@ -13,7 +13,7 @@ use Rattle.wb_keeping.specs.Performing.{after_doing}
 use Rattle.wb_judging.specs.Handing.{handed, handed_for, recalled, verdict_on}
 use Rattle.wb_judging.specs.Judged.{Judged, moment_of}
 use Rattle.wb_judging.specs.declared.call.Call.{Call}
-use Rattle.wb_judging.specs.declared.call.Call.TheVariants.{CameFrom, DayTold, Garbled, GoneFrom, Held, Passed, UserDrew}
+use Rattle.wb_judging.specs.declared.call.Call.TheVariants.{CameFrom, Held, Passed, UserDrew}
 use Rattle.wb_judging.specs.Laws.{expanded}
 use Rattle.wb_judging.specs.Performing.{after_judged, after_kept_line}
 use Rattle.wb_judging.specs.declared.record.RecordLine.{RecordLine}
@@ -111,10 +111,7 @@ module _ (terms : Terms) (time place : ℕ) where
 
   fits_line : (line : Call) (h : Judged) → IsNowAt terms time place (moment_of line h) → IsFitting terms time place (plain_line (handed line h))
   fits_line (CameFrom now o v) h is = fits_came now v (verdict_on now o v h).why is
-  fits_line (Garbled now) h is = record { says = is; tuned = λ constants e. absurd cc }
-  fits_line (Passed now) h is = record { says = is; tuned = λ constants e. absurd cc }
-  fits_line (DayTold now wall) h is = record { says = is; tuned = λ constants e. absurd cc }
-  fits_line (GoneFrom now o) h is = record { says = is; tuned = λ constants e. absurd cc }
+  fits_line (Passed now news) h is = record { says = is; tuned = λ constants e. absurd cc }
   fits_line (UserDrew now page op) h is = record { says = is; tuned = λ constants e. absurd cc }
   fits_line (Held line) h is = fits_plain (recalled (present h.kept.host) line) (fits_recalled (present h.kept.host) line is)
 

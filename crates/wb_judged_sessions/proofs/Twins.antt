@@ -38,9 +38,10 @@ use Rattle.wb_judging.specs.declared.record.RecordLine.{RecordLine}
 use Rattle.wb_judging.specs.declared.record.RecordLine.TheVariants.{Known, Mark, Said, Strange, Tick}
 use Rattle.wb_judging.specs.Judged.{Judged, moment_of}
 use Rattle.wb_judging.specs.declared.call.Call.{Call}
-use Rattle.wb_judging.specs.declared.call.Call.TheVariants.{CameFrom, DayTold, Garbled, GoneFrom, Held, Passed, UserDrew}
+use Rattle.wb_judging.specs.declared.call.Call.TheVariants.{CameFrom, Held, Passed, UserDrew}
 use Rattle.wb_judging.specs.Laws.{sends_in}
 use Rattle.wb_judging.specs.Performing.{after_judged, events_of, fate_by, judging, sent_by_kept_line}
+use Rattle.wb_judging.proofs.NewsTold.{news_keeps}
 use Rattle.wb_judging.proofs.Numbers.{me_judging}
 use Rattle.wb_kept_progress.proofs.Pauses.{lawful_echoes}
 use Rattle.wb_judged_sessions.specs.Sessions.{judged_at}
@@ -185,11 +186,8 @@ before_sending : (line : Call) (h : Judged) → IsSeen h.judge → IsSeen (judgi
 unfolding judge_after
 before_sending (CameFrom now o v) h seen =
     after_becoming now o v (fate_by (handed (CameFrom now o v) h) h.kept) (judge_after now o v h) (after_datagram o v (facts_of now v h.kept) h.judge seen)
-before_sending (Garbled now) h seen = seen
-before_sending (Passed now) h seen = seen
+before_sending (Passed now news) h seen = (news_keeps now news h.judge).twin ∙ seen
 before_sending (UserDrew now page op) h seen = seen
-before_sending (DayTold now wall) h seen = seen
-before_sending (GoneFrom now o) h seen = seen
 before_sending (Held line) h seen = recalling line (fate_by (handed (Held line) h) h.kept) h.judge seen
 
 pub twins_stay : TwinsStay

@@ -30,7 +30,7 @@ use Rattle.wb_judging.specs.Echoing.{echoing}
 use Rattle.wb_judging.specs.Handing.{facts_of, handed, handed_for, recalled, verdict_on}
 use Rattle.wb_judging.specs.Judged.{Judged, moment_of}
 use Rattle.wb_judging.specs.declared.call.Call.{Call}
-use Rattle.wb_judging.specs.declared.call.Call.TheVariants.{CameFrom, DayTold, Garbled, GoneFrom, Held, Passed, UserDrew}
+use Rattle.wb_judging.specs.declared.call.Call.TheVariants.{CameFrom, Held, Passed, UserDrew}
 use Rattle.wb_judging.specs.Laws.{drawops_in}
 use Rattle.wb_judging.specs.Performing.{after_judged, after_kept_line, judging, sent_by_kept_line}
 use Rattle.wb_judging.specs.declared.record.RecordLine.{RecordLine}
@@ -98,11 +98,8 @@ module _ (d : DrawopValue) (a : AnswerTimer) where
     by : (why : Option Why) → (verdict_on now o v h).why ≡ why → Goes now (handed_for now v why) h
     by None none = came_answers d a now v h.kept (λ lt. came_other now o v h (firm lt) is.held none) once is
     by (Some why) e = ticked_answers d a now h.kept once is
-  line_answers (Garbled now) h firm once is = ticked_answers d a now h.kept once is
-  line_answers (Passed now) h firm once is = ticked_answers d a now h.kept once is
+  line_answers (Passed now news) h firm once is = ticked_answers d a now h.kept once is
   line_answers (UserDrew now page op) h firm once is = added_answers d a now page _ op h.kept once is
-  line_answers (DayTold now wall) h firm once is = ticked_answers d a now h.kept once is
-  line_answers (GoneFrom now o) h firm once is = ticked_answers d a now h.kept once is
   line_answers (Held line) h firm once is = by line firm where
     now : ℕ
     now = present h.kept.host
@@ -156,11 +153,8 @@ module _ (n : NameValue) (x : AskTimer) where
       same_datagram : (m asker : ℕ) → Came now v ≡ Came m (Request asker n) → v ≡ Request asker n
       same_datagram m asker e = cc
     by (Some why) e = ticked_asks n x now h.kept is
-  line_asks (Garbled now) h firm is = ticked_asks n x now h.kept is
-  line_asks (Passed now) h firm is = ticked_asks n x now h.kept is
+  line_asks (Passed now news) h firm is = ticked_asks n x now h.kept is
   line_asks (UserDrew now page op) h firm is = added_asks n x now page _ op h.kept is
-  line_asks (DayTold now wall) h firm is = ticked_asks n x now h.kept is
-  line_asks (GoneFrom now o) h firm is = ticked_asks n x now h.kept is
   line_asks (Held line) h firm is = by line where
     now : ℕ
     now = present h.kept.host

@@ -5,6 +5,7 @@ use Rattle.wb_keeper.specs.declared.keeper.Heard.{Heard}
 use Rattle.wb_judge.specs.Members.{IsFit}
 use Rattle.wb_judging.specs.Handing.{facts_of}
 use Rattle.wb_judging.specs.declared.call.Call.TheVariants.{CameFrom, Passed}
+use Rattle.wb_judging.specs.declared.news.News.TheVariants.{Nothing}
 use Rattle.wb_judged_sessions.specs.Answering.{HasRoomFor, IsInTime, IsSentAfter, last_taken}
 use Rattle.wb_judged_sessions.specs.Examples.{at, numbers}
 use Rattle.wb_judged_sessions.specs.Knowing.{IsKnownSince}
@@ -39,7 +40,7 @@ abbrev pub one_sees : List JudgedCallAt
 one_sees = at 2000002 0 (Takes (CameFrom 2000002 (origin_of 1) (answer 10))) ∷ answered
 
 abbrev pub one_answers : List JudgedCallAt
-one_answers = at 4000000 0 (Takes (Passed 4000000)) ∷ one_sees
+one_answers = at 4000000 0 (Takes (Passed 4000000 Nothing)) ∷ one_sees
 
 abbrev pub second_answer : Datagram
 second_answer = reports 10 4000000 (echo 10 2000001 1999998 ∷ [])

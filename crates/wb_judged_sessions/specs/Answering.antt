@@ -22,7 +22,7 @@ use Rattle.wb_keeping.specs.Performing.{Keeping}
 use Rattle.wb_judging.specs.Handing.{facts_of, handed, verdict_on}
 use Rattle.wb_judging.specs.Judged.{Judged}
 use Rattle.wb_judging.specs.declared.call.Call.{Call}
-use Rattle.wb_judging.specs.declared.call.Call.TheVariants.{CameFrom, DayTold, Garbled, GoneFrom, Held, Passed, UserDrew}
+use Rattle.wb_judging.specs.declared.call.Call.TheVariants.{CameFrom, Held, Passed, UserDrew}
 use Rattle.wb_judging.specs.Laws.{sends_in}
 use Rattle.wb_judging.specs.Performing.{after_judged, events_of}
 use Rattle.wb_laws_kept.specs.Listening.{heard_of}
@@ -147,11 +147,8 @@ is_report_of number (PageState s page marks) = false
 -- when a report under a number was last handed in from an origin, by a line or before it
 abbrev pub heard_by_line : Origin → ℕ → Call → Judged → ℕ → ℕ
 heard_by_line o number (CameFrom now p v) h before = if is_report_of number v && (same_origin p o && is_none (verdict_on now p v h).why) then now else before
-heard_by_line o number (Garbled now) h before = before
-heard_by_line o number (Passed now) h before = before
+heard_by_line o number (Passed now news) h before = before
 heard_by_line o number (UserDrew now page op) h before = before
-heard_by_line o number (DayTold now wall) h before = before
-heard_by_line o number (GoneFrom now p) h before = before
 heard_by_line o number (Held line) h before = before
 
 abbrev pub heard_by_call : Origin → ℕ → JudgedCall → Judged → ℕ → ℕ

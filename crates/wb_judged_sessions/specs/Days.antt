@@ -8,8 +8,9 @@ use Rattle.wb_judge.specs.declared.limits.TheConstants.{AHEAD_KNOWN}
 use Rattle.wb_member.specs.Opened.{present}
 use Rattle.wb_judging.specs.Judged.{Judged}
 use Rattle.wb_judging.specs.declared.call.Call.{Call}
-use Rattle.wb_judging.specs.declared.call.Call.TheVariants.{DayTold, Held}
+use Rattle.wb_judging.specs.declared.call.Call.TheVariants.{Held, Passed}
 use Rattle.wb_judging.specs.Laws.{drawops_in, drawops_of}
+use Rattle.wb_judging.specs.News.{is_day}
 use Rattle.wb_judging.specs.declared.record.RecordLine.{RecordLine}
 use Rattle.wb_judged_sessions.specs.Sessions.{Holds, JudgedCall, JudgedCallAt, Starts, Takes, after_call, drawn_at, drawn_by, judged_at}
 use Rattle.wb_judged_sessions.specs.Terms.{AreTaken, KeepFiles, file_at}
@@ -53,7 +54,7 @@ latest_at numbers (e ∷ older) i =
 
 -- its driver tells the time of day, or hands in a record
 abbrev pub is_day_told : Call → Bool
-is_day_told (DayTold now wall) = true
+is_day_told (Passed now news) = is_day news
 is_day_told (Held line) = true
 is_day_told line = false
 

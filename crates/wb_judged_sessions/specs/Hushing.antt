@@ -7,6 +7,7 @@ use Rattle.wb_recovery.specs.declared.timers.AnswerTimer.{AnswerTimer}
 use Rattle.wb_recovery.specs.declared.timers.AskTimer.{AskTimer}
 use Rattle.wb_judge.specs.Judge.{knows}
 use Rattle.wb_judging.specs.declared.call.Call.TheVariants.{CameFrom, Passed, UserDrew}
+use Rattle.wb_judging.specs.declared.news.News.TheVariants.{Nothing}
 use Rattle.wb_judged_sessions.specs.Examples.{at, deletes, numbers, page}
 use Rattle.wb_judged_sessions.specs.Meeting.{both_know, origin_of}
 use Rattle.wb_judged_sessions.specs.Sessions.{JudgedCallAt, Takes, judged_at}
@@ -34,7 +35,7 @@ pub record RepairsAllTheSame : Type 0 where
   pub known : knows (origin_of 1) 4200001 (judged_at numbers requested 0).judge ≡ true
   pub waits : IsToRepair drawing answer (judged_at numbers requested 0)
   pub firm : StaysFirm answer.due drawing.name numbers 0 copied requested
-  pub repairs : Sends (Draw drawing) (Passed answer.due) (judged_at numbers (copied ++ requested) 0)
+  pub repairs : Sends (Draw drawing) (Passed answer.due Nothing) (judged_at numbers (copied ++ requested) 0)
 
 -- ---- a request
 
@@ -57,4 +58,4 @@ pub record RequestsAllTheSame : Type 0 where
   pub known : knows (origin_of 1) 4100001 (judged_at numbers told 0).judge ≡ true
   pub waits : IsToRequest missing ask (judged_at numbers told 0)
   pub firm : StaysFirm ask.due missing numbers 0 put_off told
-  pub requests : Sends (Request 10 missing) (Passed ask.due) (judged_at numbers (put_off ++ told) 0)
+  pub requests : Sends (Request 10 missing) (Passed ask.due Nothing) (judged_at numbers (put_off ++ told) 0)

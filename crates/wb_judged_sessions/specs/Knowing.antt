@@ -11,7 +11,8 @@ use Rattle.wb_judge.specs.declared.origin.Origin.{Origin}
 use Rattle.wb_judge.specs.declared.others.Other.{Other}
 use Rattle.wb_judging.specs.Judged.{Judged}
 use Rattle.wb_judging.specs.declared.call.Call.{Call}
-use Rattle.wb_judging.specs.declared.call.Call.TheVariants.{CameFrom, DayTold, Garbled, GoneFrom, Held, Passed, UserDrew}
+use Rattle.wb_judging.specs.declared.call.Call.TheVariants.{CameFrom, Held, Passed, UserDrew}
+use Rattle.wb_judging.specs.News.{LeavesOrigin}
 use Rattle.wb_judging.specs.Performing.{after_judged}
 
 -- an origin is known, and something came from there at a moment or later
@@ -37,11 +38,8 @@ pub record HasRoom (j : Judge) : Type 0 where
 abbrev pub LeavesKnown : Origin → (number at : ℕ) → Call → Judged → Type 0
 LeavesKnown o number at (CameFrom now p v) h =
     (at ≤ now) × (now ≤ at + PATIENCE) × (speaker_in v ≡ Some number → is_answer v now h.judge ≡ true → same_origin p o ≡ true)
-LeavesKnown o number at (Garbled now) h = Unit {0}
-LeavesKnown o number at (Passed now) h = Unit {0}
+LeavesKnown o number at (Passed now news) h = LeavesOrigin o news
 LeavesKnown o number at (UserDrew now page op) h = Unit {0}
-LeavesKnown o number at (DayTold now wall) h = Unit {0}
-LeavesKnown o number at (GoneFrom now p) h = same_origin p o ≡ false
 LeavesKnown o number at (Held line) h = Unit {0}
 
 -- Such a line leaves it known, if the judge has room.

@@ -10,7 +10,8 @@ use Rattle.wb_policy.specs.declared.limits.TheConstants.{LONGEST_PAUSE}
 use Rattle.wb_progress.specs.Turns.{Terms}
 use Rattle.wb_member.specs.Judged.{holds}
 use Rattle.wb_judging.specs.Handing.{facts_of}
-use Rattle.wb_judging.specs.declared.call.Call.TheVariants.{CameFrom, GoneFrom}
+use Rattle.wb_judging.specs.declared.call.Call.TheVariants.{CameFrom, Passed}
+use Rattle.wb_judging.specs.declared.news.News.TheVariants.{Gone}
 use Rattle.wb_kept_progress.specs.Since.{hosts_of, since}
 use Rattle.wb_kept_progress.specs.Whole.{AreSoon, AreWithin, IsHeldBySome, LackAtMost, Sizes, WaitAtMost, minute, request_span, whole_by}
 use Rattle.wb_judged_sessions.specs.Knowing.{HasRoom, IsKnownSince}
@@ -51,7 +52,7 @@ pub record KnowEachOther (numbers : ℕ → ℕ) (origins : ℕ → ℕ → Orig
   pub known : (i j : ℕ) → Contains terms.live i → Contains terms.live j → i ≢ j → IsKnownSince (origins j i) (numbers i) (moment_by terms heard j) (judged_at numbers (until terms.quiet calls) j).judge
   pub fixed : (newer older : List JudgedCallAt) (e : JudgedCallAt) (now : ℕ) (o : Origin) (v : Datagram) (i : ℕ) → calls ≡ newer ++ e ∷ older → terms.quiet < e.time → e.call ≡ Takes (CameFrom now o v)
       → Contains terms.live i → i ≢ e.place → speaker_in v ≡ Some (numbers i) → is_answer v now (judged_at numbers older e.place).judge ≡ true → o ≡ origins e.place i
-  pub stay : (newer older : List JudgedCallAt) (e : JudgedCallAt) (now : ℕ) (o : Origin) (i : ℕ) → calls ≡ newer ++ e ∷ older → terms.quiet < e.time → e.call ≡ Takes (GoneFrom now o)
+  pub stay : (newer older : List JudgedCallAt) (e : JudgedCallAt) (now : ℕ) (o : Origin) (i : ℕ) → calls ≡ newer ++ e ∷ older → terms.quiet < e.time → e.call ≡ Takes (Passed now (Gone o))
       → Contains terms.live i → i ≢ e.place → o ≢ origins e.place i
   pub room : (newer older : List JudgedCallAt) (e : JudgedCallAt) → calls ≡ newer ++ e ∷ older → terms.quiet < e.time → HasRoom (judged_at numbers older e.place).judge
 

@@ -13,7 +13,7 @@ use Rattle.wb_keeping.specs.Performing.{Keeping, sees}
 use Rattle.wb_judging.specs.Handing.{handed}
 use Rattle.wb_judging.specs.Judged.{Judged}
 use Rattle.wb_judging.specs.declared.call.Call.{Call}
-use Rattle.wb_judging.specs.declared.call.Call.TheVariants.{Held, UserDrew, CameFrom, Garbled, Passed, DayTold, GoneFrom}
+use Rattle.wb_judging.specs.declared.call.Call.TheVariants.{Held, UserDrew, CameFrom, Passed}
 use Rattle.wb_judging.specs.Laws.{after_all, expanded, sends_in}
 use Rattle.wb_judging.specs.Opening.{opened as opened_judged}
 use Rattle.wb_judging.specs.Performing.{after_judged, events_of, gained}
@@ -86,10 +86,7 @@ judged_at numbers (e ∷ older) i =
 abbrev pub drawn_by_line : Call → Judged → List DrawopValue
 drawn_by_line (UserDrew now page op) h = gained (handed (UserDrew now page op) h) h.kept
 drawn_by_line (CameFrom now o v) h = []
-drawn_by_line (Garbled now) h = []
-drawn_by_line (Passed now) h = []
-drawn_by_line (DayTold now wall) h = []
-drawn_by_line (GoneFrom now o) h = []
+drawn_by_line (Passed now news) h = []
 drawn_by_line (Held line) h = []
 
 abbrev pub drawn_by : JudgedCall → Judged → List DrawopValue

@@ -9,7 +9,7 @@ use Rattle.wb_keeping.specs.Laws.{Added, Came, KeptLine, Ticked, Tuned}
 use Rattle.wb_judging.specs.Handing.{handed}
 use Rattle.wb_judging.specs.Judged.{Judged}
 use Rattle.wb_judging.specs.declared.call.Call.{Call}
-use Rattle.wb_judging.specs.declared.call.Call.TheVariants.{CameFrom, DayTold, Garbled, GoneFrom, Held, Passed, UserDrew}
+use Rattle.wb_judging.specs.declared.call.Call.TheVariants.{CameFrom, Held, Passed, UserDrew}
 use Rattle.wb_judging.specs.Laws.{drawops_of, record_of}
 use Rattle.wb_judging.specs.Performing.{after_judged}
 use Rattle.wb_judging.specs.Refusing.{draw_fault, held_fault}
@@ -25,10 +25,7 @@ use Rattle.wb_judged_sessions.specs.Sessions.{JudgedCall, JudgedCallAt, Start, S
 -- record no line has a number of ours that we would never reach. Nothing else is ever refused.
 abbrev pub IsLineTaken : Call → Judged → Type 0
 IsLineTaken (CameFrom now o v) h = present h.kept.host ≤ now
-IsLineTaken (Garbled now) h = present h.kept.host ≤ now
-IsLineTaken (Passed now) h = present h.kept.host ≤ now
-IsLineTaken (DayTold now wall) h = present h.kept.host ≤ now
-IsLineTaken (GoneFrom now o) h = present h.kept.host ≤ now
+IsLineTaken (Passed now news) h = present h.kept.host ≤ now
 IsLineTaken (UserDrew now page op) h = draw_fault now page op h ≡ None
 IsLineTaken (Held line) h = held_fault line h ≡ None
 

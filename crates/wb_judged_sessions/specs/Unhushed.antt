@@ -22,7 +22,7 @@ use Rattle.wb_keeping.specs.Performing.{after_lines, sees}
 use Rattle.wb_judging.specs.Handing.{handed}
 use Rattle.wb_judging.specs.Judged.{Judged}
 use Rattle.wb_judging.specs.declared.call.Call.{Call}
-use Rattle.wb_judging.specs.declared.call.Call.TheVariants.{CameFrom, DayTold, Garbled, GoneFrom, Held, Passed, UserDrew}
+use Rattle.wb_judging.specs.declared.call.Call.TheVariants.{CameFrom, Held, Passed, UserDrew}
 use Rattle.wb_judging.specs.Laws.{drawops_in, sends_in}
 use Rattle.wb_judging.specs.Performing.{after_judged, events_of}
 use Rattle.wb_judged_sessions.specs.Sessions.{JudgedCall, JudgedCallAt, Starts, Takes, judged_at}
@@ -50,11 +50,8 @@ pub record OneIs (Is : Call → Judged → Type 0) (numbers : ℕ → ℕ) (plac
 abbrev pub ComesWhen : (ℕ → Judged → Type 0) → (until : ℕ) → NameValue → JudgedCall → Judged → Type 0
 ComesWhen When until name (Starts start given) h = ⊥
 ComesWhen When until name (Takes (CameFrom now o v)) h = now < until → When now h
-ComesWhen When until name (Takes (Garbled now)) h = Unit {0}
-ComesWhen When until name (Takes (Passed now)) h = Unit {0}
+ComesWhen When until name (Takes (Passed now news)) h = Unit {0}
 ComesWhen When until name (Takes (UserDrew now page op)) h = Unit {0}
-ComesWhen When until name (Takes (DayTold now wall)) h = Unit {0}
-ComesWhen When until name (Takes (GoneFrom now o)) h = Unit {0}
 ComesWhen When until name (Takes (Held line)) h = All (λ d. same_name d.name name ≡ false) (drawops_in line)
 
 -- The name is firm then.

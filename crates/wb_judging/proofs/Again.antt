@@ -31,7 +31,7 @@ use Rattle.wb_member.specs.Opened.{Opened, last_number, present}
 use Rattle.wb_judging.specs.Events.{fate_of, is_new}
 use Rattle.wb_judging.specs.Handing.{facts_of, handed, handed_for, judge_after, verdict_on}
 use Rattle.wb_judging.specs.Hearing.{after_fate, after_recalling, after_sending, after_sends, with_strange}
-use Rattle.wb_judging.specs.Judged.{Call, CameFrom, DayTold, Garbled, GoneFrom, Held, Judged, Passed, UserDrew, giver_of, moment_of}
+use Rattle.wb_judging.specs.Judged.{Call, CameFrom, Held, Judged, Passed, UserDrew, giver_of, moment_of}
 use Rattle.wb_judging.specs.Laws.{ItBeginsAgain, TheRecordIsTheBoard, after_all, drawops_in, drawops_of, record_by, record_of}
 use Rattle.wb_judging.specs.Performing.{after_judged, fate_by, first_lines, gained, judging, lines_of, sent_by_kept_line}
 use Rattle.wb_judging.specs.Recording.{freed, gain_lines, line_of, mark_lines, named, new_mark, new_mark_of}
@@ -42,6 +42,7 @@ use Rattle.wb_judging.specs.declared.record.RecordLine.{RecordLine}
 use Rattle.wb_judging.specs.declared.record.RecordLine.TheVariants.{Known, Mark, Said, Strange, Tick}
 use Rattle.wb_judging.proofs.Boards.{IsOther, gained_heard, gained_kept, gained_ticked, gains_kept, held_drawn, held_recalled, takes_kept}
 use Rattle.wb_judging.proofs.Histories.{Of, after_both, all_held, fresh_is_new, holds_last, of_both, of_filter, of_so, taken_again}
+use Rattle.wb_judging.proofs.NewsTold.{news_keeps}
 use Rattle.wb_judging.proofs.Recorded.{line_recorded, noted}
 use Rattle.wb_judging.proofs.StrangeNames.{Once, each_given, freed_names, has, has_is, less, less_all, less_none, more, named_none, names_less, names_more, none_has, not_held_has, not_held_none, once_filter, once_given, once_last}
 
@@ -134,11 +135,8 @@ first_held (CameFrom now o v) h =
     ∙ ap (λ (es : List DrawopValue). drawops_of (map Known ds) ++ es) (no_drawops marks (are_marks now v (verdict_on now o v h).why h.kept))
     ∙ append-nil (drawops_of (map Known ds)) ∙ drawops_known ds in
     subst (AreHeld held) (sym same) (of_filter (λ (d : DrawopValue). holds held d.name ≡ true) _ held (all_held held))
-first_held (Garbled now) h = tt
-first_held (Passed now) h = tt
+first_held (Passed now news) h = tt
 first_held (UserDrew now page op) h = tt
-first_held (DayTold now wall) h = tt
-first_held (GoneFrom now o) h = tt
 first_held (Held line) h = tt
 
 first_again : (line : Call) (h : Judged) → history_after (cells_of h) (held_by h) (drawops_of (first_lines line h)) ≡ held_by h
@@ -168,11 +166,8 @@ others_all line h = drawops_given (judging line h).strange.given (gained (handed
 
 pub held_line : (line : Call) (h : Judged) → held_by (after_judged line h) ≡ history_after (cells_of h) (held_by h) (drawops_of (record_of line h))
 held_line (CameFrom now o v) h = let l = CameFrom now o v in held_noted l h (others_all l h) (record_of l h) (line_recorded l h)
-held_line (Garbled now) h = let l = Garbled now in held_noted l h (others_all l h) (record_of l h) (line_recorded l h)
-held_line (Passed now) h = let l = Passed now in held_noted l h (others_all l h) (record_of l h) (line_recorded l h)
+held_line (Passed now news) h = let l = Passed now news in held_noted l h (others_all l h) (record_of l h) (line_recorded l h)
 held_line (UserDrew now page op) h = let l = UserDrew now page op in held_noted l h (drawops_said (gained (handed l h) h.kept)) (record_of l h) (line_recorded l h)
-held_line (DayTold now wall) h = let l = DayTold now wall in held_noted l h (others_all l h) (record_of l h) (line_recorded l h)
-held_line (GoneFrom now o) h = let l = GoneFrom now o in held_noted l h (others_all l h) (record_of l h) (line_recorded l h)
 held_line (Held line) h =
     held_recalled (present h.kept.host) line h.kept ∙ ap (λ (ds : List DrawopValue). history_after (cells_of h) (held_by h) ds) (sym (append-nil (drawops_in line)))
 
@@ -528,10 +523,7 @@ names_line : (line : Call) (h : Judged) → SoundAt h → told_by (most_of h) (c
 names_line (CameFrom now o v) h s =
     let l = CameFrom now o v in
     told_line l h (names_of (judge_after now o v h).strange.given) (first_told now o v h s) (gain_told now o v h s) (record_of l h) (line_recorded l h)
-names_line (Garbled now) h s = let l = Garbled now in tick_told l h now refl refl refl refl (record_of l h) (line_recorded l h)
-names_line (Passed now) h s = let l = Passed now in tick_told l h now refl refl refl refl (record_of l h) (line_recorded l h)
-names_line (DayTold now wall) h s = let l = DayTold now wall in tick_told l h now refl refl refl refl (record_of l h) (line_recorded l h)
-names_line (GoneFrom now o) h s = let l = GoneFrom now o in tick_told l h now refl refl refl refl (record_of l h) (line_recorded l h)
+names_line (Passed now news) h s = let l = Passed now news in tick_told l h now refl refl refl (news_keeps now news h.judge).strange (record_of l h) (line_recorded l h)
 names_line (UserDrew now page op) h s =
     let l = UserDrew now page op in
     let g = gains_kept (handed l h) h.kept in
@@ -585,11 +577,8 @@ most_recalled (Mark speaker page mark) fate j = refl
 
 most_judging : (line : Call) (h : Judged) → (judging line h).strange.most ≡ most_of h
 most_judging (CameFrom now o v) h = most_fate now o v (fate_by (handed (CameFrom now o v) h) h.kept) (judge_after now o v h) ∙ most_judged now o v h
-most_judging (Garbled now) h = refl
-most_judging (Passed now) h = refl
+most_judging (Passed now news) h = ap (λ (s : Shares). s.most) (news_keeps now news h.judge).strange
 most_judging (UserDrew now page op) h = refl
-most_judging (DayTold now wall) h = refl
-most_judging (GoneFrom now o) h = refl
 most_judging (Held line) h = most_recalled line (fate_by (handed (Held line) h) h.kept) h.judge
 
 most_line : (line : Call) (h : Judged) → most_of (after_judged line h) ≡ most_of h

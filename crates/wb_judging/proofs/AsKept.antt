@@ -12,13 +12,14 @@ use Rattle.wb_keeping.specs.Laws.{Came, Ticked}
 use Rattle.wb_judging.specs.Echoing.{echoing}
 use Rattle.wb_judging.specs.Events.{became_events, drew_event, dropped_events, fetch_events, gain_events, record_events, send_event, told, warn_events}
 use Rattle.wb_judging.specs.Handing.{facts_of, handed, handed_for, verdict_on}
-use Rattle.wb_judging.specs.Judged.{Call, CameFrom, DayTold, Garbled, GoneFrom, Held, Judged, Passed, UserDrew, moment_of}
+use Rattle.wb_judging.specs.Judged.{Call, CameFrom, Held, Judged, Passed, UserDrew, moment_of}
 use Rattle.wb_judging.specs.Laws.{JudgedMembersAreKept, SendsAsKept, TheSameOrATick, sends_in}
 use Rattle.wb_judging.specs.Performing.{after_judged, after_kept_line, fate_by, first_events, gained, judging, last_events, lines_of, sent_by_kept_line}
 use Rattle.wb_judging.specs.declared.event.Event.{Event}
 use Rattle.wb_judging.specs.declared.event.Event.TheVariants.{Became, Dropped, Drew, Fetch, NoDatagram, Record, Send, Warn}
 use Rattle.wb_judging.specs.declared.event.Fate.{Fate}
 use Rattle.wb_judging.specs.declared.record.RecordLine.{RecordLine}
+use Rattle.wb_judging.proofs.NewsTold.{news_aside}
 
 pub judged_members_are_kept : JudgedMembersAreKept
 unfolding after_kept_line
@@ -92,20 +93,14 @@ sends_told gain echo sent fate none =
 
 sends_first : (line : Call) (h : Judged) → sends_in (first_events line h) ≡ []
 sends_first (CameFrom now o v) h = sends_dropped (verdict_on now o v h).why
-sends_first (Garbled now) h = refl
-sends_first (Passed now) h = refl
+sends_first (Passed now news) h = (news_aside news).sends
 sends_first (UserDrew now page op) h = refl
-sends_first (DayTold now wall) h = refl
-sends_first (GoneFrom now o) h = refl
 sends_first (Held line) h = refl
 
 sends_last : (line : Call) (h : Judged) → sends_in (last_events line h) ≡ []
 sends_last (CameFrom now o v) h = let verdict = verdict_on now o v h in sends_advice verdict.fetch verdict.warning (facts_of now v h.kept).lacking
-sends_last (Garbled now) h = refl
-sends_last (Passed now) h = refl
+sends_last (Passed now news) h = refl
 sends_last (UserDrew now page op) h = refl
-sends_last (DayTold now wall) h = refl
-sends_last (GoneFrom now o) h = refl
 sends_last (Held line) h = refl
 
 pub sends_as_kept : SendsAsKept

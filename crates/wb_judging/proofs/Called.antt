@@ -4,12 +4,12 @@ use Rattle.std.specs.Prelude.{IsTrue, Option, Result, Ok, Err, Some, is_some, na
 use Rattle.std.specs.Option.{option_map}
 use Rattle.std.proofs.lemmas.Bool.Decides.{nat_tests}
 use Rattle.wb_names.specs.Faults.{fault_unless}
-use Rattle.wb_keeper.specs.declared.keep_fault.KeepFault.TheVariants.{BackInTime, Memory}
+use Rattle.wb_keeper.specs.declared.keep_fault.KeepFault.TheVariants.{BackInTime}
 use Rattle.wb_member.specs.Opened.{present}
 use Rattle.wb_keeping.specs.Refusing.{back_in_time}
 use Rattle.wb_keeping.specs.declared.kept_fault.KeptFault.TheVariants.{Host}
 use Rattle.wb_judging.specs.Calling.{Answers, AnswersBy, call_fault, is_early}
-use Rattle.wb_judging.specs.Judged.{Call, CameFrom, DayTold, Garbled, GoneFrom, Held, Judged, Passed, UserDrew}
+use Rattle.wb_judging.specs.Judged.{Call, CameFrom, Held, Judged, Passed, UserDrew}
 use Rattle.wb_judging.specs.Performing.{IsJudgedAt, JudgedValue, Performs}
 use Rattle.wb_judging.specs.Refusing.{IsRefusedAs}
 use Rattle.wb_judging.specs.declared.event.Event.{Event}
@@ -49,11 +49,8 @@ back now call h v early = subst (IsBack now call h v) (sym (too_early now (prese
 
 pub refused_early : (call : Call) (h : Judged) (v : JudgedValue) → is_early call h ≡ true → AnswersBy {A = Global} (call_fault call h) call h v (Err (Kept (Host BackInTime))) v
 refused_early (CameFrom now o d) h v early = back now (CameFrom now o d) h v early
-refused_early (Garbled now) h v early = back now (Garbled now) h v early
-refused_early (Passed now) h v early = back now (Passed now) h v early
+refused_early (Passed now news) h v early = back now (Passed now news) h v early
 refused_early (UserDrew now page op) h v early = absurd cc
-refused_early (DayTold now wall) h v early = back now (DayTold now wall) h v early
-refused_early (GoneFrom now o) h v early = back now (GoneFrom now o) h v early
 refused_early (Held line) h v early = absurd cc
 
 -- a call that is refused for its moment alone, and is not before the present one
@@ -67,10 +64,3 @@ answers_in_time call x now old new r is fault early late refused gives = subst (
       let time = in_time now (present h.kept.host) (sym (early h) ∙ ap (λ (c : Call). is_early c h) (sym is) ∙ late h at) in
       let none : ◌≡◌ {A = Option JudgedFault} (call_fault x h) None = fault h ∙ ap (λ (b : Bool). option_map Kept (fault_unless b (Host BackInTime))) time in
       subst (λ (f : Option JudgedFault). AnswersBy f x h old r new) (sym none) (answers_by None x h old new r at (refused h at time) (λ some. absurd cc) gives)
-
--- memory ran out
-pub forgets : (X : Type 0) (r : Result X JudgedFault) → r ≡ Err (Kept (Host Memory)) → IsRefusedAs {X = X} None r
-forgets X r is = subst (λ (r : Result X JudgedFault). IsRefusedAs {X = X} None r) (sym is) refl
-
-pub gives_none : (call : Call) (old new : JudgedValue) (r : Result (Vec Event Global) JudgedFault) (e : JudgedFault) → r ≡ Err e → Gives call old r new
-gives_none call old new r e is = subst (λ (r : Result (Vec Event Global) JudgedFault). Gives call old r new) (sym is) tt

@@ -21,11 +21,12 @@ use Rattle.wb_keeping.specs.declared.kept_fault.KeptFault.TheVariants.{Host}
 use Rattle.wb_judging.specs.Events.{is_new}
 use Rattle.wb_judging.specs.Handing.{facts_of, handed, handed_for, judge_after, verdict_on}
 use Rattle.wb_judging.specs.Hearing.{after_fate, after_sending, after_sends}
-use Rattle.wb_judging.specs.Judged.{Call, CameFrom, DayTold, Garbled, GoneFrom, Held, Judged, Passed, UserDrew}
+use Rattle.wb_judging.specs.Judged.{Call, CameFrom, Held, Judged, Passed, UserDrew}
 use Rattle.wb_judging.specs.Laws.{MembersAreHandedIn, NobodyMovesOurTime, OnlyAnswersMakeKnown, StrangersHushNobody, TheNetworkRefusesNothing, is_told}
 use Rattle.wb_judging.specs.Performing.{after_judged, fate_by, judging, sent_by_kept_line}
 use Rattle.wb_judging.specs.declared.event.Fate.{Fate}
 use Rattle.wb_judging.proofs.Handed.{alone, handed_fault}
+use Rattle.wb_judging.proofs.NewsTold.{clock_stays}
 use Rattle.wb_judging.proofs.Numbers.{came_fixed, recalled_fixed, sends}
 
 -- ---- nothing is refused
@@ -39,10 +40,7 @@ timely now k later = in_time (nat_le (present k.host) now) (grind (arith, nat_te
 
 pub the_network_refuses_nothing : TheNetworkRefusesNothing
 the_network_refuses_nothing (CameFrom now o v) h own other later = handed_fault now o v h own ∙ timely now h.kept later
-the_network_refuses_nothing (Garbled now) h own other later = alone (back_in_time now h.kept) ∙ timely now h.kept later
-the_network_refuses_nothing (Passed now) h own other later = alone (back_in_time now h.kept) ∙ timely now h.kept later
-the_network_refuses_nothing (DayTold now wall) h own other later = alone (back_in_time now h.kept) ∙ timely now h.kept later
-the_network_refuses_nothing (GoneFrom now o) h own other later = alone (back_in_time now h.kept) ∙ timely now h.kept later
+the_network_refuses_nothing (Passed now news) h own other later = alone (back_in_time now h.kept) ∙ timely now h.kept later
 the_network_refuses_nothing (UserDrew now page op) h own other later = absurd cc
 the_network_refuses_nothing (Held line) h own other later = absurd cc
 
@@ -104,12 +102,9 @@ only_answers now o p v h later is =
 
 clock_after : (line : Call) (h : Judged) → is_told line ≡ false → (judging line h).clock ≡ h.judge.clock
 clock_after (CameFrom now o v) h other = (came_fixed now o v h).clock
-clock_after (Garbled now) h other = refl
-clock_after (Passed now) h other = refl
+clock_after (Passed now news) h other = clock_stays now news h.judge other
 clock_after (UserDrew now page op) h other = refl
-clock_after (GoneFrom now o) h other = refl
 clock_after (Held line) h other = (recalled_fixed line (fate_by (handed (Held line) h) h.kept) h.judge).clock
-clock_after (DayTold now wall) h other = absurd (true≢false other)
 
 pub nobody_moves_our_time : NobodyMovesOurTime
 nobody_moves_our_time line h later other =

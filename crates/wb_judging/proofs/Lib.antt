@@ -1,6 +1,7 @@
 pub mod Kept
 pub mod Placed
 pub mod Fixed
+pub mod NewsTold
 pub mod Numbers
 pub mod Handed
 pub mod Performed

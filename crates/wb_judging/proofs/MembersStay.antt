@@ -1,10 +1,7 @@
 -- Members stay members while only members speak.
-use Rattle.std.proofs.Common.{◌≡◌, ◌≤◌, ◌+◌, ◌-◌, ◌∙◌, ℕ, Bool, true, false, cond, List, [], ◌∷◌, ap, filter, refl, subst, sym, true≢false}
+use Rattle.std.proofs.Common.{◌≡◌, ◌≤◌, ◌+◌, ◌-◌, ◌∙◌, ℕ, Bool, true, false, cond, List, [], ◌∷◌, ap, refl, subst, sym, true≢false}
 use Rattle.std.proofs.lemmas.Bool.{and_parts}
-use Rattle.std.proofs.lemmas.Map.Views.{any-filter_same}
-use Rattle.std.proofs.lemmas.Option.{same_Some}
-use Rattle.std.specs.Prelude.{Option, None, Some, ◌&&◌, nat_eq, nat_le, not}
-use Rattle.std.specs.List.{find}
+use Rattle.std.specs.Prelude.{Option, Some, ◌&&◌, nat_le}
 use Rattle.wb_codec.specs.declared.datagram.Datagram.{Datagram}
 use Rattle.wb_codec.specs.declared.datagram.Datagram.TheVariants.{AskPages, Draw, PageState, Request, Session}
 use Rattle.wb_judge.specs.Judge.{Judge, after_taking, knows}
@@ -26,13 +23,15 @@ use Rattle.wb_judge.proofs.Sameness.{same_itself, same_origins}
 use Rattle.wb_judging.specs.Events.{is_new}
 use Rattle.wb_judging.specs.Handing.{facts_of, handed, judge_after}
 use Rattle.wb_judging.specs.Hearing.{after_fate, after_recalling, after_sending, after_sends, with_strange}
-use Rattle.wb_judging.specs.Judged.{Call, CameFrom, DayTold, Garbled, GoneFrom, Held, Judged, Passed, UserDrew}
+use Rattle.wb_judging.specs.Judged.{Call, CameFrom, Held, Judged, Passed, UserDrew}
 use Rattle.wb_judging.specs.Members.{IsMemberUntil, MembersAreKnownAgain, MembersStay}
+use Rattle.wb_judging.specs.News.{LeavesOrigin, News, after_news}
 use Rattle.wb_judging.specs.Performing.{after_judged, fate_by, judging, sent_by_kept_line}
 use Rattle.wb_judging.specs.declared.event.Fate.{Fate}
 use Rattle.wb_judging.specs.declared.record.RecordLine.{RecordLine}
 use Rattle.wb_judging.specs.declared.record.RecordLine.TheVariants.{Known, Mark, Said, Strange, Tick}
 use Rattle.wb_judging.proofs.Followed.{at_now}
+use Rattle.wb_judging.proofs.NewsTold.{heard_stays, known_stays, news_keeps}
 use Rattle.wb_judging.proofs.Numbers.{came_fixed}
 
 -- ---- who is known, and who was heard
@@ -139,37 +138,12 @@ members_are_known_again now o v h number until bounded known spoken speaks soon 
     came now o o v h number until bounded spoken speaks
     (known_after true now o o v h until (same_itself o) bounded known (λ same. soon) (λ other. absurd (true≢false other)))
 
--- ---- somebody is gone
+-- ---- news comes
 
--- who is found first stays, if it is not taken out
-pub found_still : (q p : Other → Bool) (x : Other) (xs : List Other) → find q xs ≡ Some x → p x ≡ true → find q (filter p xs) ≡ Some x
-found_still q p x [] found keeps = found
-found_still q p x (y ∷ ys) found keeps = by (q y) refl (p y) refl found (found_still q p x ys) where
-  by : (b : Bool) → q y ≡ b → (c : Bool) → p y ≡ c → cond b (Some y) (find q ys) ≡ Some x → (find q ys ≡ Some x → p x ≡ true → find q (filter p ys) ≡ Some x) → find q (cond c (y ∷ filter p ys) (filter p ys)) ≡ Some x
-  by true is true at e rest = ap (λ (d : Bool). cond d (Some y) (find q (filter p ys))) is ∙ e
-  by true is false at e rest = absurd (true≢false (sym keeps ∙ ap p (sym (same_Some y x e)) ∙ at))
-  by false is true at e rest = ap (λ (d : Bool). cond d (Some y) (find q (filter p ys))) is ∙ rest e keeps
-  by false is false at e rest = rest e keeps
-
-pub other_origin : (p o q : Origin) → same_origin p o ≡ false → same_origin q o ≡ true → not (same_origin q p) ≡ true
-other_origin p o q apart at = by (same_origin q p) refl where
-  by : (b : Bool) → same_origin q p ≡ b → not b ≡ true
-  by true is = absurd (true≢false (sym (same_itself o) ∙ ap (λ (x : Origin). same_origin x o) (sym (same_origins q o at) ∙ same_origins q p is) ∙ apart))
-  by false is = refl
-
-heard_left : (p o : Origin) (number : ℕ) (others : List Other) → same_origin p o ≡ false → is_heard o false (other_of number others) ≡ true
-    → is_heard o false (other_of number (filter (λ x. not (same_origin x.origin p)) others)) ≡ true
-heard_left p o number others apart e = by (other_of number others) refl e where
-  by : (x : Option Other) → other_of number others ≡ x → is_heard o false x ≡ true → is_heard o false (other_of number (filter (λ x. not (same_origin x.origin p)) others)) ≡ true
-  by None is f = absurd (true≢false (sym f))
-  by (Some x) is f =
-      ap (is_heard o false) (found_still (λ (y : Other). nat_eq y.number number) (λ (y : Other). not (same_origin y.origin p)) x others is (other_origin p o x.origin apart f)) ∙ f
-
-known_left : (p o : Origin) (until : ℕ) (known : List KnownOrigin) → same_origin p o ≡ false → is_known o until known ≡ true → is_known o until (filter (λ k. not (same_origin k.origin p)) known) ≡ true
+known_until : (o : Origin) (until now : ℕ) (news : News) (j : Judge) → LeavesOrigin o news → knows o until (after_news now news j) ≡ knows o until j
 unfolding is_known
-known_left p o until known apart e =
-    any-filter_same (λ (k : KnownOrigin). same_origin k.origin o && nat_le (until - k.at) SILENCE) (λ (k : KnownOrigin). not (same_origin k.origin p)) true
-    (λ (k : KnownOrigin) at. other_origin p o k.origin apart (and_parts (same_origin k.origin o) (nat_le (until - k.at) SILENCE) at).0) known ∙ e
+known_until o until now news j leaves =
+    known_stays o (λ (k : KnownOrigin). same_origin k.origin o && nat_le (until - k.at) SILENCE) (λ (k : KnownOrigin) is. (and_parts (same_origin k.origin o) (nat_le (until - k.at) SILENCE) is).0) now news j leaves
 
 -- ---- any line
 
@@ -180,12 +154,12 @@ pub members_stay : MembersStay
 members_stay (CameFrom now p v) h o number until bounded leaves m =
     came now p o v h number until bounded leaves.1 m.speaks
     (known_after (same_origin p o) now p o v h until refl bounded leaves.0 leaves.2 (λ other. m.known))
-members_stay (Garbled now) h o number until bounded leaves m = and_sends (Garbled now) h o number until (one_of h o number until m)
-members_stay (Passed now) h o number until bounded leaves m = and_sends (Passed now) h o number until (one_of h o number until m)
+members_stay (Passed now news) h o number until bounded leaves m =
+    and_sends (Passed now news) h o number until (record {
+      known = known_until o until now news h.judge leaves ∙ m.known;
+      another = λ e. m.speaks.another (e ∙ (news_keeps now news h.judge).me);
+      heard = heard_stays o number (is_heard o false) refl (λ (x : Other) is. is) now news h.judge leaves m.speaks.heard;
+    })
 members_stay (UserDrew now page op) h o number until bounded leaves m = and_sends (UserDrew now page op) h o number until (one_of h o number until m)
-members_stay (DayTold now wall) h o number until bounded leaves m =
-    and_sends (DayTold now wall) h o number until (record { known = m.known; another = m.speaks.another; heard = m.speaks.heard })
-members_stay (GoneFrom now p) h o number until bounded leaves m =
-    and_sends (GoneFrom now p) h o number until (record { known = known_left p o until h.judge.known leaves m.known; another = m.speaks.another; heard = heard_left p o number h.judge.others leaves m.speaks.heard })
 members_stay (Held line) h o number until bounded leaves m =
     and_sends (Held line) h o number until (same_one o number until h.judge (judging (Held line) h) (recalling line (fate_by (handed (Held line) h) h.kept) h.judge) (one_of h o number until m))

@@ -13,13 +13,14 @@ use Rattle.wb_keeping.specs.Laws.{KeptLine, doing_of}
 use Rattle.wb_keeping.specs.Performing.{Keeping, sees}
 use Rattle.wb_judging.specs.Events.{is_new}
 use Rattle.wb_judging.specs.Handing.{facts_of, handed, judge_after}
-use Rattle.wb_judging.specs.Judged.{Call, CameFrom, DayTold, Garbled, GoneFrom, Held, Judged, Passed, UserDrew}
+use Rattle.wb_judging.specs.Judged.{Call, CameFrom, Held, Judged, Passed, UserDrew}
 use Rattle.wb_judging.specs.Hearing.{after_fate, after_recalling, after_sending, after_sends, with_members, with_strange}
 use Rattle.wb_judging.specs.Performing.{after_judged, after_kept_line, fate_by, judging, sent_by_kept_line}
 use Rattle.wb_judging.specs.declared.event.Fate.{Fate}
 use Rattle.wb_judging.specs.declared.record.RecordLine.{RecordLine}
 use Rattle.wb_judging.specs.declared.record.RecordLine.TheVariants.{Known, Mark, Said, Strange, Tick}
 use Rattle.wb_judging.proofs.Fixed.{Fixed, itself, judged, taken, then}
+use Rattle.wb_judging.proofs.NewsTold.{news_keeps}
 
 -- ---- the board
 
@@ -100,11 +101,8 @@ recalled_fixed (Mark speaker page mark) fate j = itself j
 
 pub me_judging : (line : Call) (h : Judged) → (judging line h).me ≡ h.judge.me
 me_judging (CameFrom now o v) h = (came_fixed now o v h).me
-me_judging (Garbled now) h = refl
-me_judging (Passed now) h = refl
+me_judging (Passed now news) h = (news_keeps now news h.judge).me
 me_judging (UserDrew now page op) h = refl
-me_judging (DayTold now wall) h = refl
-me_judging (GoneFrom now o) h = refl
 me_judging (Held line) h = (recalled_fixed line (fate_by (handed (Held line) h) h.kept) h.judge).me
 
 pub own_stays : (line : Call) (h : Judged) → h.judge.me ≡ h.kept.host.is.number → (after_judged line h).judge.me ≡ (after_judged line h).kept.host.is.number

@@ -12,7 +12,7 @@ use Rattle.wb_judge.specs.declared.verdict.Warning.{Warning}
 use Rattle.wb_judge.specs.declared.verdict.Why.{Why}
 use Rattle.wb_judging.specs.Events.{became_events, drew_event, dropped_events, fetch_events, record_events, send_event, warn_events}
 use Rattle.wb_judging.specs.Handing.{facts_of, handed, verdict_on}
-use Rattle.wb_judging.specs.Judged.{Call, CameFrom, DayTold, Garbled, GoneFrom, Held, Judged, Passed, UserDrew, moment_of}
+use Rattle.wb_judging.specs.Judged.{Call, CameFrom, Held, Judged, Passed, UserDrew, moment_of}
 use Rattle.wb_judging.specs.Laws.{RecordsComeFirst, is_record, is_send, lines_in}
 use Rattle.wb_judging.specs.Performing.{events_of, fate_by, first_events, gained, judging, last_events, lines_of, sent_by_kept_line}
 use Rattle.wb_judging.specs.declared.event.Event.{Event}
@@ -20,6 +20,7 @@ use Rattle.wb_judging.specs.declared.event.Event.TheVariants.{Became, Dropped, D
 use Rattle.wb_judging.specs.declared.event.Fate.{Fate}
 use Rattle.wb_judging.specs.declared.record.RecordLine.{RecordLine}
 use Rattle.wb_judging.specs.declared.record.RecordLine.TheVariants.{Tick}
+use Rattle.wb_judging.proofs.NewsTold.{news_aside}
 
 lines_both : (one other : List Event) → lines_in (one ++ other) ≡ lines_in one ++ lines_in other
 lines_both [] other = refl
@@ -85,20 +86,14 @@ un_warn (Some warning) = un_one (Warn warning) refl
 
 un_first : (line : Call) (h : Judged) → Unrecorded (first_events line h)
 un_first (CameFrom now o v) h = un_dropped (verdict_on now o v h).why
-un_first (Garbled now) h = un_one NoDatagram refl
-un_first (Passed now) h = un_nil
+un_first (Passed now news) h = (news_aside news).unrecorded
 un_first (UserDrew now page op) h = un_nil
-un_first (DayTold now wall) h = un_nil
-un_first (GoneFrom now o) h = un_nil
 un_first (Held line) h = un_nil
 
 un_last : (line : Call) (h : Judged) → Unrecorded (last_events line h)
 un_last (CameFrom now o v) h = let r = verdict_on now o v h in un_both (fetch_events r.fetch (facts_of now v h.kept).lacking) (warn_events r.warning) (un_fetch r.fetch (facts_of now v h.kept).lacking) (un_warn r.warning)
-un_last (Garbled now) h = un_nil
-un_last (Passed now) h = un_nil
+un_last (Passed now news) h = un_nil
 un_last (UserDrew now page op) h = un_nil
-un_last (DayTold now wall) h = un_nil
-un_last (GoneFrom now o) h = un_nil
 un_last (Held line) h = un_nil
 
 -- ---- one line, and many
@@ -183,11 +178,8 @@ us_dropped (Some why) = us_one (Dropped why) refl
 
 us_first : (line : Call) (h : Judged) → Unsent (first_events line h)
 us_first (CameFrom now o v) h = us_dropped (verdict_on now o v h).why
-us_first (Garbled now) h = us_one NoDatagram refl
-us_first (Passed now) h = us_nil
+us_first (Passed now news) h = (news_aside news).unsent
 us_first (UserDrew now page op) h = us_nil
-us_first (DayTold now wall) h = us_nil
-us_first (GoneFrom now o) h = us_nil
 us_first (Held line) h = us_nil
 
 us_each : (lines : List RecordLine) → Unsent (map Record lines)

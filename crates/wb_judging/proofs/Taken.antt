@@ -1,11 +1,11 @@
 -- A datagram that came: what becomes of it, by what each part of the call does.
-use Rattle.std.proofs.Common.{◌≡◌, ◌∙◌, ℕ, List, [], ◌∷◌, ◌++◌, None, Vec, Global, IfOk, ap, append-nil, arith, drop, refl, subst, sym, true}
+use Rattle.std.proofs.Common.{◌≡◌, ◌∙◌, ℕ, List, [], ◌++◌, None, ap, append-nil, arith, drop, refl, subst, sym, true}
 use Rattle.std.specs.Prelude.{IsTrue, Option, Result, Ok, Err, Some, is_some, nat_le}
 use Rattle.std.specs.Option.{option_map}
 use Rattle.std.proofs.lemmas.Bool.Decides.{nat_tests}
 use Rattle.wb_codec.specs.declared.datagram.Datagram.{Datagram}
 use Rattle.wb_judge.specs.Adding.{own_echo}
-use Rattle.wb_judge.specs.Judge.{Judge, after_leaving}
+use Rattle.wb_judge.specs.Judge.{Judge}
 use Rattle.wb_judge.specs.Judging.{after_judging, verdict}
 use Rattle.wb_judge.specs.declared.facts.Facts.{Facts}
 use Rattle.wb_judge.specs.declared.origin.Origin.{Origin}
@@ -19,12 +19,12 @@ use Rattle.wb_keeping.specs.declared.kept_fault.KeptFault.{KeptFault}
 use Rattle.wb_judging.specs.Events.{advice, dropped_events, gain_events, told}
 use Rattle.wb_judging.specs.Handing.{facts_of, handed, handed_for, judge_after, recalled, verdict_on}
 use Rattle.wb_judging.specs.Hearing.{after_fate, after_recalling, after_sends}
-use Rattle.wb_judging.specs.Judged.{Call, CameFrom, DayTold, Garbled, GoneFrom, Held, Judged, Passed}
+use Rattle.wb_judging.specs.Judged.{CameFrom, Held, Judged, Passed}
+use Rattle.wb_judging.specs.News.{News, after_news, news_events}
 use Rattle.wb_judging.specs.Performing.{Goes, IsJudgedAt, JudgedValue, KeptDoes, Performs, after_judged, events_of, fate_by, first_lines}
 use Rattle.wb_judging.specs.Recording.{freed_lines, gain_lines, mark_lines}
 use Rattle.wb_judging.specs.Refusing.{IsRefusedAs}
 use Rattle.wb_judging.specs.declared.event.Event.{Event}
-use Rattle.wb_judging.specs.declared.event.Event.TheVariants.{NoDatagram}
 use Rattle.wb_judging.specs.declared.event.Fate.{Fate}
 use Rattle.wb_judging.specs.declared.judged_fault.JudgedFault.{JudgedFault}
 use Rattle.wb_judging.specs.declared.judged_fault.JudgedFault.TheVariants.{Kept}
@@ -33,33 +33,12 @@ use Rattle.wb_judging.specs.declared.record.RecordLine.{RecordLine}
 use Rattle.wb_judging.proofs.Drawn.{refused_as}
 use Rattle.wb_judging.proofs.Performed.{performed, went}
 
--- ---- lines in whose place a tick is handed in
+-- ---- time goes on
 
--- a call that gives events, or fails
-pub passes : {E : Type 0} (line : Call) (now : ℕ) (old mid new : JudgedValue) (first : List Event) (r : Result (Vec Event Global) E)
-    → IfOk r (λ (events : Vec Event Global). Goes now [] Others (Ticked now) first mid events.items new)
-    → ((events : List Event) → Goes now [] Others (Ticked now) first mid events new → Performs line old events new)
-    → IfOk r (λ (events : Vec Event Global). Performs line old events.items new)
-passes line now old mid new first (Ok events) goes so = so events.items goes
-passes line now old mid new first (Err e) goes so = tt
-
-pub time_passes : (now : ℕ) (old new : JudgedValue) (first events : List Event) → first ≡ [] → Goes now [] Others (Ticked now) first old events new → Performs (Passed now) old events new
-time_passes now old new first events empty goes h at =
-    performed (Passed now) h old old new [] first events events at refl at.judge refl empty goes (sym (append-nil events))
-
-pub noise_passes : (now : ℕ) (old new : JudgedValue) (first events : List Event) → first ≡ NoDatagram ∷ [] → Goes now [] Others (Ticked now) first old events new → Performs (Garbled now) old events new
-noise_passes now old new first events one goes h at =
-    performed (Garbled now) h old old new [] first events events at refl at.judge refl one goes (sym (append-nil events))
-
-pub day_passes : (now wall : ℕ) (old mid new : JudgedValue) (first events : List Event) → mid.kept ≡ old.kept → mid.judge ≡ record old.judge { clock = record { wall = wall; at = now } } → first ≡ []
-    → Goes now [] Others (Ticked now) first mid events new → Performs (DayTold now wall) old events new
-day_passes now wall old mid new first events kept judge empty goes h at =
-    performed (DayTold now wall) h old mid new [] first events events at kept (judge ∙ ap (λ (j : Judge). record j { clock = record { wall = wall; at = now } }) at.judge) refl empty goes (sym (append-nil events))
-
-pub leaving_passes : (now : ℕ) (o : Origin) (old mid new : JudgedValue) (first events : List Event) → mid.kept ≡ old.kept → mid.judge ≡ after_leaving o old.judge → first ≡ []
-    → Goes now [] Others (Ticked now) first mid events new → Performs (GoneFrom now o) old events new
-leaving_passes now o old mid new first events kept judge empty goes h at =
-    performed (GoneFrom now o) h old mid new [] first events events at kept (judge ∙ ap (λ (j : Judge). after_leaving o j) at.judge) refl empty goes (sym (append-nil events))
+pub passed_on : (now : ℕ) (news : News) (old mid new : JudgedValue) (first events : List Event) → mid.kept ≡ old.kept → mid.judge ≡ after_news now news old.judge → first ≡ news_events news
+    → Goes now [] Others (Ticked now) first mid events new → Performs (Passed now news) old events new
+passed_on now news old mid new first events kept judge gives goes h at =
+    performed (Passed now news) h old mid new [] first events events at kept (judge ∙ ap (λ (j : Judge). after_news now news j) at.judge) refl gives goes (sym (append-nil events))
 
 -- ---- a datagram
 

@@ -1,27 +1,24 @@
 -- Which calls a judged member takes, and what it answers.
-use Rattle.std.specs.Prelude.{◌≡◌, ◌<◌, Bool, false, Option, Some, None, Result, Ok, Err, Vec, nat_lt}
+use Rattle.std.specs.Prelude.{◌≡◌, Bool, false, Option, Some, None, Result, Ok, Err, Vec, nat_lt}
 use Rattle.std.specs.Option.{option_map}
 use Rattle.wb_names.specs.Moments.{IsMoment}
-use Rattle.wb_judge.specs.declared.limits.TheConstants.{TIME_LIMIT}
 use Rattle.wb_member.specs.Opened.{present}
 use Rattle.wb_keeper.specs.declared.keep_fault.KeepFault.TheVariants.{Memory}
 use Rattle.wb_keeping.specs.Refusing.{back_in_time}
 use Rattle.wb_keeping.specs.declared.kept_fault.KeptFault.TheVariants.{Host}
-use Rattle.wb_judging.specs.Judged.{Call, CameFrom, DayTold, Garbled, GoneFrom, Held, Judged, Passed, UserDrew, moment_of}
+use Rattle.wb_judging.specs.Judged.{Call, CameFrom, Held, Judged, Passed, UserDrew, moment_of}
+use Rattle.wb_judging.specs.News.{IsTellable}
 use Rattle.wb_judging.specs.Performing.{IsJudgedAt, JudgedValue, after_judged, events_of}
 use Rattle.wb_judging.specs.Refusing.{draw_fault, held_fault}
 use Rattle.wb_judging.specs.declared.event.Event.{Event}
 use Rattle.wb_judging.specs.declared.judged_fault.JudgedFault.{JudgedFault}
 use Rattle.wb_judging.specs.declared.judged_fault.JudgedFault.TheVariants.{Kept}
 
--- its moment is below 2^48, and a time of day below its limit
+-- its moment is below 2^48, and what news carries is within its limits
 abbrev pub IsWithin : Call → Type 0
 IsWithin (CameFrom now o v) = IsMoment now
-IsWithin (Garbled now) = IsMoment now
-IsWithin (Passed now) = IsMoment now
+IsWithin (Passed now news) = IsMoment now × IsTellable news
 IsWithin (UserDrew now page op) = IsMoment now
-IsWithin (DayTold now wall) = IsMoment now × (wall < TIME_LIMIT)
-IsWithin (GoneFrom now o) = IsMoment now
 IsWithin (Held line) = Unit {0}
 
 -- before the present moment, but for the user's drawings, whose other faults come first

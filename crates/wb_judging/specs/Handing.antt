@@ -17,7 +17,7 @@ use Rattle.wb_member.specs.Opened.{Opened, present}
 use Rattle.wb_policy.specs.declared.limits.TheConstants.{MOST_MARKS}
 use Rattle.wb_keeping.specs.Laws.{KeptLine, Added, Came, Ticked}
 use Rattle.wb_keeping.specs.Performing.{Keeping}
-use Rattle.wb_judging.specs.Judged.{Call, CameFrom, DayTold, Garbled, GoneFrom, Held, Judged, Passed, UserDrew}
+use Rattle.wb_judging.specs.Judged.{Call, CameFrom, Held, Judged, Passed, UserDrew}
 use Rattle.wb_judging.specs.declared.record.RecordLine.{RecordLine}
 use Rattle.wb_judging.specs.declared.record.RecordLine.TheVariants.{Known, Mark, Said, Strange, Tick}
 
@@ -79,9 +79,6 @@ recalled now (Mark speaker page mark) = Came now (PageState speaker page (mark �
 
 abbrev pub handed : Call → Judged → KeptLine
 handed (CameFrom now o v) h = handed_for now v (verdict_on now o v h).why
-handed (Garbled now) h = Ticked now
-handed (Passed now) h = Ticked now
+handed (Passed now news) h = Ticked now
 handed (UserDrew now page op) h = Added now page (time_of_day h.judge.clock now) op
-handed (DayTold now wall) h = Ticked now
-handed (GoneFrom now o) h = Ticked now
 handed (Held line) h = recalled (present h.kept.host) line

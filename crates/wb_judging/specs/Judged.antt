@@ -4,7 +4,7 @@ use Rattle.wb_judge.specs.Judge.{Judge}
 use Rattle.wb_member.specs.Opened.{present}
 use Rattle.wb_keeping.specs.Performing.{Keeping}
 pub use Rattle.wb_judging.specs.declared.call.Call.{Call}
-pub use Rattle.wb_judging.specs.declared.call.Call.TheVariants.{CameFrom, DayTold, Garbled, GoneFrom, Held, Passed, UserDrew}
+pub use Rattle.wb_judging.specs.declared.call.Call.TheVariants.{CameFrom, Held, Passed, UserDrew}
 use Rattle.wb_judging.specs.declared.record.Giver.{Giver}
 use Rattle.wb_judging.specs.declared.record.Giver.TheVariants.{Others, Past, User}
 
@@ -20,9 +20,6 @@ giver_of call = Others
 
 abbrev pub moment_of : Call → Judged → ℕ
 moment_of (CameFrom now o v) h = now
-moment_of (Garbled now) h = now
-moment_of (Passed now) h = now
+moment_of (Passed now news) h = now
 moment_of (UserDrew now page op) h = now
-moment_of (DayTold now wall) h = now
-moment_of (GoneFrom now o) h = now
 moment_of (Held line) h = present h.kept.host

@@ -19,7 +19,8 @@ use Rattle.wb_policy.specs.Choices.{own_echo as echo_of}
 use Rattle.wb_keeping.specs.Laws.{KeptLine, Came, Ticked, after_kept, fault_of}
 use Rattle.wb_judging.specs.Echoing.{echoing, with_echo}
 use Rattle.wb_judging.specs.Handing.{handed}
-use Rattle.wb_judging.specs.Judged.{Call, CameFrom, DayTold, Held, Judged, giver_of, moment_of}
+use Rattle.wb_judging.specs.Judged.{Call, CameFrom, Held, Judged, Passed, giver_of, moment_of}
+use Rattle.wb_judging.specs.News.{is_day}
 use Rattle.wb_judging.specs.Performing.{after_judged, events_of, judging, sent_by_kept_line}
 use Rattle.wb_judging.specs.declared.event.Event.{Event}
 use Rattle.wb_judging.specs.declared.record.Giver.TheVariants.{Others}
@@ -94,7 +95,7 @@ OnlyAnswersMakeKnown = (now : ℕ) (o p : Origin) (v : Datagram) (h : Judged) (l
 -- ---- the time of day
 
 abbrev pub is_told : Call → Bool
-is_told (DayTold now wall) = true
+is_told (Passed now news) = is_day news
 is_told call = false
 
 -- The driver alone tells the time of day, from which our drawings get their times.

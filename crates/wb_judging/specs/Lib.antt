@@ -1,4 +1,5 @@
 pub mod Judged
+pub mod News
 pub mod Echoing
 pub mod Handing
 pub mod Recording

@@ -17,7 +17,8 @@ use Rattle.wb_member.specs.Judged.{holds}
 use Rattle.wb_member.specs.Opened.{Opened}
 use Rattle.wb_keeping.specs.Laws.{Came}
 use Rattle.wb_judging.specs.Handing.{facts_of, handed}
-use Rattle.wb_judging.specs.Judged.{Call, CameFrom, GoneFrom, Judged}
+use Rattle.wb_judging.specs.Judged.{Call, CameFrom, Judged, Passed}
+use Rattle.wb_judging.specs.News.{LeavesOrigin}
 use Rattle.wb_judging.specs.Performing.{after_judged}
 
 -- What a kept member needs to have all that others hold, and to give what it holds: a drawop that it lacks, a request for what it holds, and each report.
@@ -63,7 +64,7 @@ pub record IsMemberUntil (o : Origin) (number until : ℕ) (h : Judged) : Type 0
 -- By a line only members speak, and whoever is gone is another. What comes from the member itself comes no longer than ten minutes before that moment.
 abbrev pub LeavesMember : Origin → ℕ → Call → Judged → Type 0
 LeavesMember o until (CameFrom now p v) h = (knows p now h.judge ≡ true) × IsSpoken p v h.judge × (same_origin p o ≡ true → until ≤ now + SILENCE)
-LeavesMember o until (GoneFrom now p) h = same_origin p o ≡ false
+LeavesMember o until (Passed now news) h = LeavesOrigin o news
 LeavesMember o until call h = Unit {0}
 
 -- Such a line leaves it a member.

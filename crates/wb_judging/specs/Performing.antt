@@ -1,10 +1,10 @@
 -- What a judged member does for a line, and which events it gives.
-use Rattle.std.specs.Prelude.{◌≡◌, ℕ, List, [], ◌∷◌, ◌++◌, Option, Some, None, drop, length}
+use Rattle.std.specs.Prelude.{◌≡◌, ℕ, List, [], ◌++◌, Option, Some, None, drop, length}
 use Rattle.wb_names.specs.Values.{DrawopValue}
 use Rattle.wb_codec.specs.declared.datagram.Datagram.{Datagram}
 use Rattle.wb_codec.specs.declared.datagram.Datagram.TheVariants.{AskPages, Draw, PageState, Request, Session}
 use Rattle.wb_judge.specs.Adding.{own_echo}
-use Rattle.wb_judge.specs.Judge.{Judge, after_leaving}
+use Rattle.wb_judge.specs.Judge.{Judge}
 use Rattle.wb_member.specs.Opened.{Opened, becomes}
 use Rattle.wb_keeping.specs.Laws.{KeptLine, Added, Came, Ticked, Tuned, doing_of}
 use Rattle.wb_keeping.specs.Performing.{IsKeptAt, Keeping, KeptValue, after_doing, sent_by_doing}
@@ -12,10 +12,10 @@ use Rattle.wb_keeping.specs.Refusing.{drawn_as}
 use Rattle.wb_judging.specs.Events.{advice, dropped_events, fate_of, gain_events, told}
 use Rattle.wb_judging.specs.Handing.{facts_of, handed, judge_after, verdict_on}
 use Rattle.wb_judging.specs.Hearing.{after_fate, after_recalling, after_sends}
-use Rattle.wb_judging.specs.Judged.{Call, CameFrom, DayTold, Garbled, GoneFrom, Held, Judged, giver_of, moment_of}
+use Rattle.wb_judging.specs.Judged.{Call, CameFrom, Held, Judged, Passed, giver_of, moment_of}
+use Rattle.wb_judging.specs.News.{after_news, news_events}
 use Rattle.wb_judging.specs.Recording.{freed_lines, gain_lines, mark_lines}
 use Rattle.wb_judging.specs.declared.event.Event.{Event}
-use Rattle.wb_judging.specs.declared.event.Event.TheVariants.{NoDatagram}
 use Rattle.wb_judging.specs.declared.event.Fate.{Fate}
 use Rattle.wb_judging.specs.declared.record.Giver.{Giver}
 use Rattle.wb_judging.specs.declared.record.RecordLine.{RecordLine}
@@ -51,8 +51,7 @@ gained line k = drop (length k.host.is.held) (after_kept_line line k).host.is.he
 -- the judge, before it hears what is sent
 abbrev pub judging : Call → Judged → Judge
 judging (CameFrom now o v) h = after_fate now o v (fate_by (handed (CameFrom now o v) h) h.kept) (judge_after now o v h)
-judging (DayTold now wall) h = record h.judge { clock = record { wall = wall; at = now } }
-judging (GoneFrom now o) h = after_leaving o h.judge
+judging (Passed now news) h = after_news now news h.judge
 judging (Held line) h = after_recalling line (fate_by (handed (Held line) h) h.kept) h.judge
 judging call h = h.judge
 
@@ -60,7 +59,7 @@ judging call h = h.judge
 
 abbrev pub first_events : Call → Judged → List Event
 first_events (CameFrom now o v) h = dropped_events (verdict_on now o v h).why
-first_events (Garbled now) h = NoDatagram ∷ []
+first_events (Passed now news) h = news_events news
 first_events call h = []
 
 abbrev pub last_events : Call → Judged → List Event

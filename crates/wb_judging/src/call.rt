@@ -1,4 +1,5 @@
 //! What happens to a judged member.
+use crate::news::News;
 use crate::record::RecordLine;
 use wb_codec::Datagram;
 use wb_judge::Origin;
@@ -13,13 +14,10 @@ pub enum Call {
         origin: Origin,
         datagram: Datagram,
     },
-    /// What came in is not a datagram.
-    Garbled {
-        now: u64,
-    },
-    /// Time goes on.
+    /// Time goes on, and the judge is told some news first.
     Passed {
         now: u64,
+        news: News,
     },
     /// The user draws on a page, at the time of day. The operation has no number yet, so nothing is
     /// its own target.
@@ -27,16 +25,6 @@ pub enum Call {
         now: u64,
         page: PageId,
         op: Op,
-    },
-    /// The time of day is this, in microseconds since 1970, below 2^62.
-    DayTold {
-        now: u64,
-        wall: u64,
-    },
-    /// The network says that whoever spoke from an origin is gone.
-    GoneFrom {
-        now: u64,
-        origin: Origin,
     },
     /// A line of its record, at the present moment. It is not judged, and not recorded again. A
     /// drawop that no known origin gave counts as a stranger's again, unless the user or a member

@@ -9,11 +9,12 @@
 //! are in microseconds. There is no clock, no network and no file: moments, datagrams and where
 //! these came from are handed in.
 //!
-//! In reading order: `call` has what happens to a member, and `event` what follows from it; `facts` is what the kept member says of
-//! a datagram, for the judge; `handing` hands it a line, and the judge hears in `hearing` what it
-//! did; `echoing` is the echo under our own number that a report has besides; `record` is what is
-//! recorded; `weighing` has a datagram judged; `telling` makes events; `since` compares what a
-//! page shows with what it showed, and `missing` counts what a page lacks; `judged_member` joins them.
+//! In reading order: `call` has what happens to a member, `news` what its judge is told as time goes
+//! on, and `event` what follows from it; `facts` is what the kept member says of a datagram, for the
+//! judge; `handing` hands it a line, and the judge hears in `hearing` what it did; `echoing` is the
+//! echo under our own number that a report has besides; `record` is what is recorded; `weighing` has
+//! a datagram judged; `telling` makes events; `since` compares what a page shows with what it showed,
+//! and `missing` counts what a page lacks; `judged_member` joins them.
 //! `laws` says what follows, and `specs/Handing.antt` and `specs/Performing.antt` what each call
 //! does.
 #![tactic(auto)]
@@ -28,6 +29,7 @@ mod judged_fault;
 mod judged_member;
 pub mod laws;
 mod missing;
+mod news;
 mod record;
 mod since;
 mod telling;
@@ -37,5 +39,6 @@ pub use call::Call;
 pub use event::{Event, Fate};
 pub use judged_fault::JudgedFault;
 pub use judged_member::{JudgedMember, Opening};
+pub use news::News;
 pub use record::RecordLine;
 pub use since::{ShownAt, Since};

@@ -1,5 +1,5 @@
 -- A judged member sends a drawop for a drawing, or once for a request that its judge let in; and a judge lets few in.
-use Rattle.std.proofs.Common.{◌≡◌, ℕ, ◌+◌, ◌-◌, ◌≤◌, Bool, true, false, cond, List, [], ◌∷◌, ◌++◌, ◌∙◌, Option, Some, None, ap, arith, map, refl, subst, sym}
+use Rattle.std.proofs.Common.{◌≡◌, ℕ, ◌+◌, ◌-◌, ◌≤◌, Bool, true, false, cond, List, [], ◌∷◌, ◌++◌, ◌∙◌, Option, Some, None, ap, append_assoc, arith, map, refl, subst, sym}
 use Rattle.std.specs.Prelude.{◌&&◌, filter, is_none, not}
 use Rattle.std.proofs.lemmas.Nat.{le-div}
 use Rattle.std.proofs.Math.Bool.{and-false}
@@ -11,7 +11,7 @@ use Rattle.wb_codec.specs.declared.datagram.Datagram.TheVariants.{AskPages, Draw
 use Rattle.wb_judge.specs.Judge.{Judge, after_taking, knows}
 use Rattle.wb_judge.specs.Judging.{after_judging, verdict}
 use Rattle.wb_judge.specs.Laws as judging_laws
-use Rattle.wb_judge.specs.Laws.{AreFrom, Comes, Leaves, Reports, Step, Tells, after_step, after_steps, is_asked_in, is_repaired_in, is_taken, moments_of}
+use Rattle.wb_judge.specs.Laws.{AreFrom, Comes, Reports, Step, after_step, after_steps, is_asked_in, is_repaired_in, is_taken, moments_of}
 use Rattle.wb_judge.specs.declared.facts.Facts.{Facts}
 use Rattle.wb_judge.specs.declared.origin.Origin.{Origin}
 use Rattle.wb_judge.specs.declared.verdict.Why.{Why}
@@ -26,11 +26,12 @@ use Rattle.wb_judging.specs.Handing.{facts_of, handed, handed_for, judge_after, 
 use Rattle.wb_judging.specs.Hearing.{after_fate, after_sending, after_sends}
 use Rattle.wb_judging.specs.Judged.{Judged}
 use Rattle.wb_judging.specs.declared.call.Call.{Call}
-use Rattle.wb_judging.specs.declared.call.Call.TheVariants.{CameFrom, DayTold, Garbled, GoneFrom, Held, Passed, UserDrew}
+use Rattle.wb_judging.specs.declared.call.Call.TheVariants.{CameFrom, Held, Passed, UserDrew}
 use Rattle.wb_judging.specs.Laws.{expanded, sends_in}
 use Rattle.wb_judging.specs.Performing.{after_judged, after_kept_line, events_of, fate_by, judging, sent_by_kept_line}
 use Rattle.wb_judging.proofs.AsKept.{sends_as_kept}
 use Rattle.wb_judging.proofs.Histories.{fresh_is_new}
+use Rattle.wb_judging.proofs.NewsTold.{news_judged, news_steps, nothing_comes}
 use Rattle.wb_kept_progress.specs.Judged.{AreOfNow, JudgedMembersSendFewDrawops, came_at, drawing_count, sent_by_judged}
 use Rattle.wb_kept_progress.specs.Timed.{is_drawop}
 use Rattle.wb_kept_progress.specs.Traffic.{call_count, calls_for_drawop, how_many}
@@ -75,11 +76,8 @@ coming now o (PageState sender page marks) h = Comes o (PageState sender page ma
 
 abbrev first_steps : Call → Judged → List Step
 first_steps (CameFrom now o v) h = coming now o v h ∷ []
-first_steps (Garbled now) h = []
-first_steps (Passed now) h = []
+first_steps (Passed now news) h = news_steps now news
 first_steps (UserDrew now page op) h = []
-first_steps (DayTold now wall) h = Tells (record { wall = wall; at = now }) ∷ []
-first_steps (GoneFrom now o) h = Leaves o ∷ []
 first_steps (Held line) h = []
 
 abbrev pub sent_then : Call → Judged → List Datagram
@@ -135,11 +133,8 @@ IsOfNow line = AreOfNow (line ∷ [])
 
 first_judged : (line : Call) (h : Judged) → IsOfNow line → after_steps (first_steps line h) h.judge ≡ judging line h
 first_judged (CameFrom now o v) h fine = came_judged now o v h
-first_judged (Garbled now) h fine = refl
-first_judged (Passed now) h fine = refl
+first_judged (Passed now news) h fine = news_judged now news h.judge
 first_judged (UserDrew now page op) h fine = refl
-first_judged (DayTold now wall) h fine = refl
-first_judged (GoneFrom now o) h fine = refl
 first_judged (Held line) h fine = absurd fine
 
 line_judged : (line : Call) (h : Judged) → IsOfNow line → after_steps (steps_of line h) h.judge ≡ (after_judged line h).judge
@@ -195,11 +190,8 @@ first_called (CameFrom now o (Request asker name)) h fine =
     let le = let_in (holds h.kept.host name) (knows o now h.judge) (is_none why) in
     let same = ap as_one (handed_calls now v h.kept why) in
     omega (arith, le, same)
-first_called (Garbled now) h fine = omega arith
-first_called (Passed now) h fine = omega arith
+first_called (Passed now news) h fine = omega arith
 first_called (UserDrew now page op) h fine = omega arith
-first_called (DayTold now wall) h fine = omega arith
-first_called (GoneFrom now o) h fine = omega arith
 first_called (Held line) h fine = absurd fine
 
 line_called : (line : Call) (h : Judged) → IsOfNow line → called line h ≤ drawing_count (line ∷ []) + many is_repaired_in (steps_of line h) h.judge + many is_asked_in (steps_of line h) h.judge
@@ -213,20 +205,14 @@ line_called line h fine =
 -- the first of some lines
 of_now : (line : Call) (lines : List Call) → AreOfNow (line ∷ lines) → IsOfNow line × AreOfNow lines
 of_now (CameFrom now o v) lines fine = (tt, fine)
-of_now (Garbled now) lines fine = (tt, fine)
-of_now (Passed now) lines fine = (tt, fine)
+of_now (Passed now news) lines fine = (tt, fine)
 of_now (UserDrew now page op) lines fine = (tt, fine)
-of_now (DayTold now wall) lines fine = (tt, fine)
-of_now (GoneFrom now o) lines fine = (tt, fine)
 of_now (Held line) lines fine = absurd fine
 
 drawings_more : (line : Call) (lines : List Call) → drawing_count (line ∷ lines) ≡ drawing_count (line ∷ []) + drawing_count lines
 drawings_more (CameFrom now o v) lines = omega arith
-drawings_more (Garbled now) lines = omega arith
-drawings_more (Passed now) lines = omega arith
+drawings_more (Passed now news) lines = omega arith
 drawings_more (UserDrew now page op) lines = omega arith
-drawings_more (DayTold now wall) lines = omega arith
-drawings_more (GoneFrom now o) lines = omega arith
 drawings_more (Held line) lines = omega arith
 
 lines_called : (lines : List Call) (h : Judged) → AreOfNow lines → call_count (expanded lines h) h.kept ≤ drawing_count lines + many is_repaired_in (all_steps lines h) h.judge + many is_asked_in (all_steps lines h) h.judge
@@ -256,11 +242,10 @@ line_moments line h lines more fine same = by line fine where
   by (CameFrom now o (Request asker name)) fine = ap (λ (ms : List ℕ). now ∷ ms) (later (sent_then (CameFrom now o (Request asker name)) h))
   by (CameFrom now o (AskPages asker)) fine = ap (λ (ms : List ℕ). now ∷ ms) (later (sent_then (CameFrom now o (AskPages asker)) h))
   by (CameFrom now o (PageState sender page marks)) fine = ap (λ (ms : List ℕ). now ∷ ms) (later (sent_then (CameFrom now o (PageState sender page marks)) h))
-  by (Garbled now) fine = later (sent_then (Garbled now) h)
-  by (Passed now) fine = later (sent_then (Passed now) h)
+  by (Passed now news) fine =
+      let reports = reports_in (sent_then (Passed now news) h) in
+      ap moments_of (append_assoc (news_steps now news) reports more) ∙ nothing_comes now news (reports ++ more) ∙ later (sent_then (Passed now news) h)
   by (UserDrew now page op) fine = later (sent_then (UserDrew now page op) h)
-  by (DayTold now wall) fine = later (sent_then (DayTold now wall) h)
-  by (GoneFrom now o) fine = later (sent_then (GoneFrom now o) h)
   by (Held line) fine = absurd fine
 
 all_moments : (lines : List Call) (h : Judged) → AreOfNow lines → moments_of (all_steps lines h) ≡ came_at lines

@@ -7,7 +7,7 @@ use Rattle.wb_member.specs.Opened.{present}
 use Rattle.wb_policy.specs.declared.limits.TheConstants.{ECHO_BYTES, FIRST_WAIT, MOST_REPORT_BYTES}
 use Rattle.wb_judging.specs.Judged.{Judged}
 use Rattle.wb_judging.specs.declared.call.Call.{Call}
-use Rattle.wb_judging.specs.declared.call.Call.TheVariants.{CameFrom, DayTold, Garbled, GoneFrom, Held, Passed, UserDrew}
+use Rattle.wb_judging.specs.declared.call.Call.TheVariants.{CameFrom, Held, Passed, UserDrew}
 use Rattle.wb_judging.specs.Laws.{after_all, expanded, sends_in}
 use Rattle.wb_judging.specs.Performing.{after_judged, events_of}
 use Rattle.wb_keeping.specs.Laws.{AreTaken}
@@ -25,21 +25,15 @@ abbrev pub AreOfNow : List Call → Type 0
 AreOfNow [] = Unit {0}
 AreOfNow (Held line ∷ lines) = ⊥
 AreOfNow (CameFrom now o v ∷ lines) = AreOfNow lines
-AreOfNow (Garbled now ∷ lines) = AreOfNow lines
-AreOfNow (Passed now ∷ lines) = AreOfNow lines
+AreOfNow (Passed now news ∷ lines) = AreOfNow lines
 AreOfNow (UserDrew now page op ∷ lines) = AreOfNow lines
-AreOfNow (DayTold now wall ∷ lines) = AreOfNow lines
-AreOfNow (GoneFrom now o ∷ lines) = AreOfNow lines
 
 -- the moments at which datagrams came
 abbrev pub came_at : List Call → List ℕ
 came_at [] = []
 came_at (CameFrom now o v ∷ lines) = now ∷ came_at lines
-came_at (Garbled now ∷ lines) = came_at lines
-came_at (Passed now ∷ lines) = came_at lines
+came_at (Passed now news ∷ lines) = came_at lines
 came_at (UserDrew now page op ∷ lines) = came_at lines
-came_at (DayTold now wall ∷ lines) = came_at lines
-came_at (GoneFrom now o ∷ lines) = came_at lines
 came_at (Held line ∷ lines) = came_at lines
 
 -- how often the user draws
@@ -47,10 +41,7 @@ abbrev pub drawing_count : List Call → ℕ
 drawing_count [] = 0
 drawing_count (UserDrew now page op ∷ lines) = 1 + drawing_count lines
 drawing_count (CameFrom now o v ∷ lines) = drawing_count lines
-drawing_count (Garbled now ∷ lines) = drawing_count lines
-drawing_count (Passed now ∷ lines) = drawing_count lines
-drawing_count (DayTold now wall ∷ lines) = drawing_count lines
-drawing_count (GoneFrom now o ∷ lines) = drawing_count lines
+drawing_count (Passed now news ∷ lines) = drawing_count lines
 drawing_count (Held line ∷ lines) = drawing_count lines
 
 -- how many requests a judge lets in from one moment to another: of members, and of strangers

@@ -17,7 +17,6 @@ use crate::hearing::hear_recalled;
 use crate::judged_fault::JudgedFault;
 use crate::judged_member::JudgedMember;
 use crate::record::{Giver, RecordLine};
-use crate::telling::no_datagram;
 use std::alloc::Global;
 use wb_keeper::KeepFault;
 use wb_keeping::{KeptCall, KeptFault};
@@ -47,20 +46,8 @@ impl JudgedMember {
                 origin,
                 datagram,
             } => self.take(alloc, *now, *origin, datagram),
-            Call::Garbled { now } => {
-                let first = no_datagram(alloc)?;
-                self.pass(alloc, *now, first)
-            }
-            Call::Passed { now } => self.pass(alloc, *now, Vec::new(alloc)),
+            Call::Passed { now, news } => self.pass(alloc, *now, news),
             Call::UserDrew { now, page, op } => self.add(alloc, *now, *page, shape_of(op)),
-            Call::DayTold { now, wall } => {
-                self.judge.tell_time(*now, *wall);
-                self.pass(alloc, *now, Vec::new(alloc))
-            }
-            Call::GoneFrom { now, origin } => {
-                self.judge.leave(*origin);
-                self.pass(alloc, *now, Vec::new(alloc))
-            }
             Call::Held(line) => self.held(alloc, line),
         }
     }
@@ -71,11 +58,9 @@ impl JudgedMember {
     {
         match call {
             Call::UserDrew { .. } | Call::Held(_) => false,
-            Call::CameFrom { now, .. }
-            | Call::Garbled { now }
-            | Call::Passed { now }
-            | Call::DayTold { now, .. }
-            | Call::GoneFrom { now, .. } => *now < self.kept.member().moment(),
+            Call::CameFrom { now, .. } | Call::Passed { now, .. } => {
+                *now < self.kept.member().moment()
+            }
         }
     }
 

@@ -3,15 +3,14 @@ ghost use Rattle.std.specs.Prelude.{◌≡◌, ◌++◌, [], drop, IfOk, OnOk, n
 ghost use Rattle.wb_names.specs.Moments.{IsMoment};
 ghost use Rattle.wb_judge.specs.Adding.{own_echo};
 ghost use Rattle.wb_member.specs.Opened.{present};
-ghost use Rattle.wb_keeping.specs.Laws.{Ticked};
 ghost use Rattle.wb_keeping.specs.Performing.{IsKeptAt, Keeping};
 ghost use Rattle.wb_judging.specs.Events.{gain_events, told};
-ghost use Rattle.wb_judging.specs.Judged.{CameFrom, Judged};
+ghost use Rattle.wb_judging.specs.Judged.{CameFrom, Judged, Passed};
+ghost use Rattle.wb_judging.specs.News.{IsTellable};
 ghost use Rattle.wb_judging.specs.Hearing.{after_sends};
-ghost use Rattle.wb_judging.specs.Performing.{Goes, IsJudgedAt, Performs};
+ghost use Rattle.wb_judging.specs.Performing.{IsJudgedAt, Performs};
 ghost use Rattle.wb_judging.specs.Recording.{gain_lines};
 ghost use Rattle.wb_judging.specs.Refusing.{IsRefusedAs};
-ghost use Rattle.wb_judging.specs.declared.record.Giver.TheVariants.{Others};
 
 use crate::event::Event;
 use crate::facts::facts_of;
@@ -19,6 +18,7 @@ use crate::handing::{Did, hand, perform};
 use crate::hearing::{hear_fate, hear_sent};
 use crate::judged_fault::JudgedFault;
 use crate::judged_member::JudgedMember;
+use crate::news::{News, tell_news};
 use crate::record::{Giver, RecordLine, add_gain_lines};
 use crate::telling::{add_advice, add_became, add_dropped, add_gain, add_sent, gained};
 use crate::weighing::{Weighed, weigh};
@@ -59,21 +59,23 @@ impl JudgedMember {
         add_became(events, fate)
     }
 
-    /// Time goes on to a moment that is not before the present one, after these events.
+    /// Time goes on to a moment that is not before the present one, and the judge is told some news
+    /// first.
     pub(super) fn pass(
         &mut self,
         alloc: Global,
         now: u64,
-        first: Vec<Event>,
+        news: &News,
     ) -> Result<Vec<Event>, JudgedFault>
-        requires { IsMoment now }
-        ensures fault { (k : Keeping) → IsKeptAt self.old.kept k →
-            nat_le (present k.host) now ≡ true → IsRefusedAs None result }
-        ensures does { IfOk result
-            (λ events. Goes now [] Others (Ticked now) first.items self.old events.items self.new) }
+        requires moment { IsMoment now }
+        requires told { IsTellable news.now }
+        ensures fault { (h : Judged) → IsJudgedAt self.old h →
+            nat_le (present h.kept.host) now ≡ true → IsRefusedAs None result }
+        ensures does { IfOk result (λ events.
+            Performs (Passed now news.now) self.old events.items self.new) }
     {
+        let mut events = tell_news(&mut self.judge, alloc, now, news)?;
         let did = perform(&mut self.kept, alloc, KeptCall::Ticked { now })?;
-        let mut events = first;
         self.tell(alloc, now, Giver::Others, Vec::new(alloc), did, &mut events)?;
         Ok(events)
     }
