@@ -1,22 +1,20 @@
 -- The view of then becomes the view of now.
-use Rattle.std.proofs.Common.{◌≡◌, ℕ, ◌+◌, List, [], ◌∷◌, ◌++◌, length, take, drop, refl, ap, ◌∙◌, sym, subst, append_assoc, append-nil, arith, ◌⊎◌, inl, inr, ⊎_elim, take-append-drop, length-append, get_or, ◌<◌, ◌≤◌, true≢false}
-use Rattle.std.specs.Prelude.{◌≢◌, Option, unwrap_or, Bool, true, false, not, cond, ◌&&◌, ◌||◌, Contains, IsTrue, filter, fold, map, Any}
+use Rattle.std.proofs.Common.{◌≡◌, ℕ, ◌+◌, List, [], ◌∷◌, ◌++◌, length, take, drop, refl, ap, ◌∙◌, sym, subst, append_assoc, append-nil, arith, ⊎_elim, take-append-drop, length-append, get_or, ◌<◌, ◌≤◌, true≢false}
+use Rattle.std.specs.Prelude.{Option, unwrap_or, Bool, true, false, not, cond, ◌&&◌, ◌||◌, Contains, filter, fold, map}
 use Rattle.std.specs.HashSet.{contains}
 use Rattle.std.specs.List.{list_any}
-use Rattle.std.specs.List.Sorted.{IsStrictlySortedBy}
 use Rattle.std.specs.Ordering.{is_lt}
 use Rattle.std.proofs.lemmas.Bool.{and_parts, and_from, and_right, false_from_ne_true, not-true, not_from_false}
 use Rattle.std.proofs.lemmas.Bool.Decides.{nat_tests}
-use Rattle.std.proofs.lemmas.Grind.{common_steps}
 use Rattle.std.proofs.lemmas.List.{get_or_append_left, take-append-le, drop-append-le, take_all, take_more, drop_all, drop_more}
-use Rattle.std.proofs.lemmas.List.Elements.{Contains-append_left, Contains-append_right, Contains-append_cases}
+use Rattle.std.proofs.lemmas.List.Elements.{Contains-append_left, Contains-append_cases}
 use Rattle.std.proofs.lemmas.List.Folds.{list_any-append, Any-from_list_any}
 use Rattle.std.proofs.lemmas.List.Kept.{IsStrictlySortedBy-filter}
 use Rattle.std.proofs.Math.Bool.{or-false}
 use Rattle.wb_names.specs.History.{IsHistory}
 use Rattle.wb_names.specs.Orders.{same_page, display_cmp}
 use Rattle.wb_names.specs.Same.{same_target, same_target-is}
-use Rattle.wb_names.specs.Values.{DrawopValue, NameValue}
+use Rattle.wb_names.specs.Values.{DrawopValue}
 use Rattle.wb_names.specs.declared.name.PageId.{PageId}
 use Rattle.wb_names.specs.declared.parts.Op.{Op}
 use Rattle.wb_names.specs.declared.parts.Op.TheVariants.{Aimed}
@@ -25,12 +23,12 @@ use Rattle.wb_names.proofs.Listings.{Contains-filter, Contains-from_filter, same
 use Rattle.wb_names.proofs.Orders.{name_parts, same_page-is}
 use Rattle.wb_display.specs.Display.{is_drawing, is_shown, is_hidden_in, is_delete, is_aimed_at, is_last_word, has_target, IsView}
 use Rattle.wb_display.specs.LastWord.{affected_target, aimed_target, own_target}
-use Rattle.wb_display.proofs.Deciding.{display_total, one_drawop, list_any_here, list_any_nowhere, nowhere_from}
+use Rattle.wb_display.proofs.Deciding.{display_total, one_drawop, list_any_here, list_any_nowhere}
 use Rattle.wb_display.proofs.Convergence.{list_any_agree}
 use Rattle.wb_display.proofs.Putting.{drawing_names_nothing}
 use Rattle.wb_member.specs.Queries.{view_of}
 use Rattle.wb_member.proofs.Queries.{view_of_page}
-use Rattle.wb_judging.specs.Since.{IsSince, SincePatches, hidden_since, is_among, is_touched, patched, placed_from, placed_if, put_in, shown_since, touched_by, without}
+use Rattle.wb_judging.specs.Since.{IsSince, SincePatches, hidden_since, is_among, is_touched, patched, placed_from, placed_if, put_in, touched_by, without}
 use Rattle.wb_judging.specs.declared.since.ShownAt.{ShownAt}
 use Rattle.wb_judging.specs.declared.since.Since.{Since}
 use Rattle.wb_judging.specs.declared.since.Touched.{Touched}

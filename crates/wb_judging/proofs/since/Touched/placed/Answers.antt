@@ -1,4 +1,4 @@
-use Rattle.std.proofs.Common.{◌∙◌, ◌++◌, ap, arith}
+use Rattle.std.proofs.Common.{◌∙◌, ◌++◌, ap}
 use Rattle.std.specs.Prelude.{Bool}
 use Rattle.wb_judging.specs.Since.{is_among, placed_if}
 use Rattle.wb_judging.proofs.Patching.{placed_end, placed_step}
