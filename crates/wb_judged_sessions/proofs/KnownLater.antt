@@ -25,8 +25,9 @@ use Rattle.wb_judging.specs.Handing.{handed}
 use Rattle.wb_judging.specs.Judged.{Judged, moment_of}
 use Rattle.wb_judging.specs.declared.call.Call.{Call}
 use Rattle.wb_judging.specs.declared.call.Call.TheVariants.{CameFrom, Held, Passed, UserDrew}
+use Rattle.wb_judging.specs.declared.news.News.{News}
+use Rattle.wb_judging.specs.declared.news.News.TheVariants.{Gone}
 use Rattle.wb_judging.specs.Laws.{sends_in}
-use Rattle.wb_judging.specs.News.{Gone, News}
 use Rattle.wb_judging.specs.Performing.{after_judged, after_kept_line, events_of, judging, sent_by_kept_line}
 use Rattle.wb_judging.proofs.AsKept.{sends_as_kept}
 use Rattle.wb_judging.proofs.NewsTold.{leaves_others}

@@ -1,8 +1,7 @@
 -- Whom a judge knows it knows after each line that leaves it so, and anew after each report.
-use Rattle.std.proofs.Common.{◌≡◌, ◌≤◌, ◌+◌, ◌∙◌, ℕ, Bool, true, false, cond, List, [], ◌∷◌, ap, arith, filter, refl, sym, true≢false}
-use Rattle.std.specs.Prelude.{◌&&◌, ◌||◌, Option, None, Some, nat_eq, nat_le, not}
+use Rattle.std.proofs.Common.{◌≡◌, ◌≤◌, ◌+◌, ◌∙◌, ℕ, Bool, true, false, cond, List, [], ◌∷◌, ap, arith, refl, sym, true≢false}
+use Rattle.std.specs.Prelude.{◌&&◌, ◌||◌, Option, None, Some, nat_eq, nat_le}
 use Rattle.std.proofs.lemmas.Bool.{and_parts, le-leb, leb-true}
-use Rattle.std.proofs.lemmas.Map.Views.{any-filter_same}
 use Rattle.wb_names.specs.Values.{MarkValue}
 use Rattle.wb_names.specs.declared.echo.Echo.{Echo}
 use Rattle.wb_names.specs.declared.name.PageId.{PageId}
