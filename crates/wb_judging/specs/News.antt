@@ -1,4 +1,4 @@
--- The news that a judge is told as time goes on: what it may carry, what becomes of the judge, and which events it gives.
+-- The news that a judge hears as time goes on: what it may carry, what becomes of the judge, and which events it gives.
 use Rattle.std.specs.Prelude.{◌≡◌, ◌<◌, ℕ, Bool, true, false, List, [], ◌∷◌}
 use Rattle.wb_judge.specs.Judge.{Judge, after_leaving}
 use Rattle.wb_judge.specs.Origins.{same_origin}
@@ -14,7 +14,7 @@ abbrev pub IsTellable : News → Type 0
 IsTellable (Day wall) = wall < TIME_LIMIT
 IsTellable news = Unit {0}
 
--- what becomes of the judge that is told it at a moment
+-- what becomes of the judge that hears it at a moment
 abbrev pub after_news : ℕ → News → Judge → Judge
 after_news now (Day wall) j = record j { clock = record { wall = wall; at = now } }
 after_news now (Gone o) j = after_leaving o j

@@ -14,7 +14,7 @@ pub enum Call {
         origin: Origin,
         datagram: Datagram,
     },
-    /// Time goes on, and the judge is told some news first.
+    /// Time goes on, and the judge hears some news first.
     Passed {
         now: u64,
         news: News,

@@ -9,7 +9,7 @@
 //! are in microseconds. There is no clock, no network and no file: moments, datagrams and where
 //! these came from are handed in.
 //!
-//! In reading order: `call` has what happens to a member, `news` what its judge is told as time goes
+//! In reading order: `call` has what happens to a member, `news` what its judge hears as time goes
 //! on, and `event` what follows from it; `facts` is what the kept member says of a datagram, for the
 //! judge; `handing` hands it a line, and the judge hears in `hearing` what it did; `echoing` is the
 //! echo under our own number that a report has besides; `record` is what is recorded; `weighing` has

@@ -1,4 +1,4 @@
-//! What a judge is told as time goes on.
+//! The news that a judge hears as time goes on.
 ghost use Rattle.std.specs.Prelude.{◌≡◌, IfOk};
 ghost use Rattle.wb_judging.specs.News.{IsTellable, after_news, news_events};
 
@@ -7,7 +7,7 @@ use crate::telling::no_datagram;
 use std::alloc::{AllocError, Global};
 use wb_judge::{Judge, Origin};
 
-/// What the judge is told first, when time goes on to a moment.
+/// What the judge hears first, when time goes on to a moment.
 #[derive(Debug, Drop)]
 pub enum News {
     /// Nothing.
@@ -20,7 +20,7 @@ pub enum News {
     Gone(Origin),
 }
 
-/// The judge is told some news at a moment, and the news gives these events.
+/// Tells the judge some news at a moment, and answers with the events that it gives.
 pub(crate) fn tell_news(
     judge: &mut Judge,
     alloc: Global,

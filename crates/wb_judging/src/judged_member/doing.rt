@@ -59,7 +59,7 @@ impl JudgedMember {
         add_became(events, fate)
     }
 
-    /// Time goes on to a moment that is not before the present one, and the judge is told some news
+    /// Time goes on to a moment that is not before the present one, and the judge hears some news
     /// first.
     pub(super) fn pass(
         &mut self,

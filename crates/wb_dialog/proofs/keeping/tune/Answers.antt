@@ -1,9 +1,8 @@
-use Rattle.std.proofs.Common.{◌≡◌, ℕ, List, Bool, Result, subst}
+use Rattle.std.proofs.Common.{[], Bool, subst}
 use Rattle.std.specs.Prelude.{Some}
 use Rattle.wb_names.specs.Faults.{fault_unless}
 use Rattle.wb_keeper.specs.declared.keep_fault.KeepFault.TheVariants.{Range}
 use Rattle.wb_keeping.specs.Kept.{Tunes, performs}
-use Rattle.wb_keeping.specs.Performing.{Keeping}
 use Rattle.wb_keeping.specs.declared.kept_fault.KeptFault.TheVariants.{Host}
 use Rattle.wb_dialog.specs.Doing.{DoesReply}
 use Rattle.wb_dialog.specs.Hosting.{Kept, kept_does}
