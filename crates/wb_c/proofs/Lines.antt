@@ -3,7 +3,6 @@ use Rattle.std.proofs.Common.{◌≡◌, ◌<◌, ◌≤◌, List, [], ◌∷◌
 use Rattle.std.proofs.lemmas.Bool.Decides.{nat_tests}
 use Rattle.std.specs.declared.convert.Infallible.{Infallible}
 use Rattle.wb_lines.specs.declared.handler.Stop.{Stop}
-use Rattle.wb_lines.specs.Input.{most_bytes}
 use Rattle.wb_lines.specs.Handling.{Met, whole, too_long, Does}
 use Rattle.wb_lines.specs.Taking.{met, is_short}
 use Rattle.wb_judged_dialog.specs.Dialog.{JudgedHosting}

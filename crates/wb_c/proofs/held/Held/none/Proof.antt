@@ -3,8 +3,7 @@ use mathlib.Core.Path.{refl, sym, subst}
 use mathlib.Core.List.{List, [], ◌∷◌, ◌++◌}
 use lib.Dec.{lit<}
 use seplogic.Ra.Ura.{Ura}
-use mir.Syntax.{w64}
-use mir.Val.{Val, vint, vstruct, vcons, vnil, has_ty}
+use mir.Val.{Val, vstruct, vcons, vnil, has_ty}
 use base.Logic.{SProp, ent, emp}
 use base.Fml.{ftrue, fsep}
 use prog.Memory.{Memory}
@@ -21,7 +20,6 @@ use types.ByLocal.{alloc_all, pass_all, free_all, look_at, get, sets}
 use denote.RattleType.{Valss}
 use denote.Exit.{yes}
 use denote.RawPtr.{null_ptr, ptr_val}
-use denote.Signature.{type_at}
 use denote.Steps.{nothing}
 use denote.Struct.Struct.{within}
 use denote.Struct.Owning.{shape, to, fields}

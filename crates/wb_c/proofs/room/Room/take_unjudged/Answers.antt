@@ -9,4 +9,4 @@ returns-then-is_judged c = refused_at_judged (AtMember (Performs (Came c.args.no
 
 pub returns : goal.returns
 returns c =
-    unjudged_did (AtMember (Performs (Came c.args.now c.args.datagram.now))) c.args.self.now c.take_datagram.new.self c.take_datagram.result c.is_judged.result c.is_judged.ensures c.if-is_judged.false c.take_datagram.ensures
+    unjudged_did (AtMember (Performs (Came c.args.now c.args.datagram.now))) c.args.self.now c.call_kept.new.self c.call_kept.result c.is_judged.result c.is_judged.ensures c.if-is_judged.false c.call_kept.ensures

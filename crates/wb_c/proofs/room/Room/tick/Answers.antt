@@ -17,5 +17,5 @@ returns-then-is_judged c =
 
 pub returns : goal.returns
 returns c =
-    all_in_time (Ticks c.args.now) c.args.self.now c.tick_kept.new.self c.args.now c.tick_kept.result (omega (arith, c.if-now-ge-MOMENT_LIMIT.false))
-    (either_kept (Passed c.args.now Nothing) (Performs (Ticked c.args.now)) c.args.self.now c.tick_kept.new.self c.tick_kept.result c.is_judged.result c.is_judged.ensures c.if-is_judged.false c.tick_kept.ensures)
+    all_in_time (Ticks c.args.now) c.args.self.now c.call_kept.new.self c.args.now c.call_kept.result (omega (arith, c.if-now-ge-MOMENT_LIMIT.false))
+    (either_kept (Passed c.args.now Nothing) (Performs (Ticked c.args.now)) c.args.self.now c.call_kept.new.self c.call_kept.result c.is_judged.result c.is_judged.ensures c.if-is_judged.false c.call_kept.ensures)
