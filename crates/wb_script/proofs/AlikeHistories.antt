@@ -146,7 +146,7 @@ module _ (one other : List DrawopValue) (a : AreAlike one other) where
 
   pub same_answer : (number : ℕ) (marks : PageId → List MarkValue) (heard : List PageId) (query : Query) → answer_by number marks heard one query ≡ answer_by number marks heard other query
   same_answer number marks heard Pages = simp same_readings
-  same_answer number marks heard query = simp same_readings
+  same_answer number marks heard query = search same_readings
 
 -- ---- laws of what is printed
 
