@@ -1,23 +1,24 @@
 -- What a host does and then is, from what its member answered.
-use Rattle.std.proofs.Common.{◌≡◌, ℕ, ◌<◌, ◌^◌, Bool, true, false, cond, List, [], ◌∷◌, ◌++◌, Option, Some, None, Result, Ok, Err, refl, sym, subst, ◌∙◌, arith, nat_le, nat_lt, append-nil}
-use Rattle.std.proofs.lemmas.Bool.Decides.{nat_tests}
-use Rattle.wb_names.specs.Faults.{first_of, fault_unless}
+use Rattle.std.proofs.Common.{◌≡◌, ℕ, List, [], ◌++◌, Option, Some, None, Result, Ok, Err, refl, sym, subst, ap, ◌∙◌, append-nil}
 use Rattle.wb_codec.specs.declared.datagram.Datagram.{Datagram}
 use Rattle.wb_keeper.specs.KeepFaults.{IsKeptBy}
 use Rattle.wb_keeper.specs.declared.keep_fault.KeepFault.{KeepFault}
 use Rattle.wb_keeper.specs.declared.keep_fault.KeepFault.TheVariants as keeping
+use Rattle.wb_member.specs.Calls.{after_call, fault_of as call_fault, found_by, sent_by_call}
 use Rattle.wb_member.specs.Holding.{IsOpenAt, MemberValue}
-use Rattle.wb_member.specs.Opened.{Opened, present, has_room_for, heard, heard_fault, answered, ticked_fault}
+use Rattle.wb_member.specs.Opened.{Opened}
+use Rattle.wb_member.specs.Questions.{Told, answer_to}
+use Rattle.wb_member.specs.declared.calls.Call.{Call}
+use Rattle.wb_member.specs.declared.calls.Found.{Found}
+use Rattle.wb_member.specs.declared.questions.Query.{Query}
+use Rattle.wb_commands.specs.declared.fault.LineFault.{LineFault}
 use Rattle.wb_commands.specs.declared.fault.LineFault.TheVariants as faults
 use Rattle.wb_commands.specs.declared.fault.Untaken.{Untaken}
 use Rattle.wb_commands.specs.declared.fault.Untaken.TheVariants as untaken
-use Rattle.wb_commands.specs.declared.command.Command.TheVariants as lines
-use Rattle.wb_member.specs.Questions.{Told, answer_to}
-use Rattle.wb_member.specs.declared.questions.Query.{Query}
 use Rattle.wb_commands.specs.Answers.{answer_text}
 use Rattle.wb_commands.specs.Doing.{DoesAct, PrintsAnswer, fault_of, printed}
-use Rattle.wb_commands.specs.Acts.{Act, does, fails, tells, asked, act}
-use Rattle.wb_commands.specs.SentLines.{sends_text}
+use Rattle.wb_commands.specs.Acts.{Act, asked, called, does, fails, tells, unless}
+use Rattle.wb_commands.specs.SentLines.{call_text, done_text}
 
 -- an allocation failed before anything was printed
 pub act_at_once : (host : Opened) (new : MemberValue) (a : Act) → DoesAct {U = Unit {0}} host new [] (Err untaken.Memory) a
@@ -49,26 +50,29 @@ err_is f g e = cc
 memory_alone : (host : Opened) (new : MemberValue) (a : Act) (f : KeepFault) → f ≡ keeping.Memory → DoesAct {U = Unit {0}} host new [] (Err (fault_of f)) a
 memory_alone host new a f is = subst (λ (g : KeepFault). DoesAct {U = Unit {0}} host new [] (Err (fault_of g)) a) (sym is) (act_at_once host new a)
 
--- ---- time goes on
+-- it was refused with the fault of the call, or an allocation failed
+pub call_refused : {X : Type 0} (v w : MemberValue) (host : Opened) (fault : Option KeepFault) (a : Act) (r : Result X KeepFault) (f : KeepFault) → r ≡ Err f → IsKeptBy fault r → w ≡ v → IsOpenAt v host
+    → DoesAct {U = Unit {0}} host w [] (Err (fault_of f)) (unless fault a)
+call_refused {X = X} v w host fault a r f is kept same at = by fault (subst (IsKeptBy fault) is kept) where
+  refused_so : (g : KeepFault) (e : LineFault) → fault_of g ≡ untaken.Line e → (let r : Result X KeepFault = Err f in r) ≡ Err g → DoesAct {U = Unit {0}} host w [] (Err (fault_of f)) (fails e)
+  refused_so g e as k =
+      subst (λ (u : Untaken). DoesAct {U = Unit {0}} host w [] (Err u) (fails e)) (sym (ap fault_of (err_is f g k) ∙ as)) (refl, subst (λ (m : MemberValue). IsOpenAt m host) (sym same) at, refl)
 
-pub tick_refused : {X : Type 0} (v w : MemberValue) (host : Opened) (now : ℕ) (r : Result X KeepFault) (f : KeepFault) → now < 2 ^ 48 → r ≡ Err f → IsKeptBy (ticked_fault now host) r → w ≡ v → IsOpenAt v host
-    → DoesAct {U = Unit {0}} host w [] (Err (fault_of f)) (act (lines.Tick now) host)
-tick_refused {X = X} v w host now r f soon is kept same at = by (nat_le (present host) now) (nat_lt now (2 ^ 48)) refl (grind (arith, nat_tests, soon)) (subst (IsKeptBy (ticked_fault now host)) is kept) where
-  by : (late early : Bool) → nat_le (present host) now ≡ late → early ≡ true → IsKeptBy {X = X} (first_of (fault_unless late keeping.BackInTime ∷ fault_unless early keeping.Range ∷ [])) (Err f) → DoesAct {U = Unit {0}} host w [] (Err (fault_of f)) (act (lines.Tick now) host)
-  by false early e b k =
-      let test : nat_lt now (present host) ≡ true = grind (arith, nat_tests, e) in
-      let there : IsOpenAt w host = subst (λ (m : MemberValue). IsOpenAt m host) (sym same) at in
-      subst (λ (g : KeepFault). DoesAct {U = Unit {0}} host w [] (Err (fault_of g)) (act (lines.Tick now) host)) (sym (err_is f keeping.BackInTime k)) (rw test (refl, there, refl))
-  by true true e b k = memory_alone host w (act (lines.Tick now) host) f k
-  by true false e b k = absurd cc
+  by : (fault : Option KeepFault) → IsKeptBy {X = X} fault (Err f) → DoesAct {U = Unit {0}} host w [] (Err (fault_of f)) (unless fault a)
+  by None k = memory_alone host w a f k
+  by (Some keeping.BackInTime) k = refused_so keeping.BackInTime faults.BackInTime refl k
+  by (Some keeping.Range) k = refused_so keeping.Range faults.Number refl k
+  by (Some keeping.TooMany) k = refused_so keeping.TooMany faults.TooMany refl k
+  by (Some keeping.Memory) k = memory_alone host w a f (err_is f keeping.Memory k)
 
--- ---- what is heard
+-- it was not refused
+pub not_refused : {X : Type 0} (fault : Option KeepFault) (r : Result X KeepFault) (x : X) → r ≡ Ok x → IsKeptBy fault r → (a : Act) → unless fault a ≡ a
+not_refused None r x is kept a = refl
+not_refused (Some f) r x is kept a = absurd (let same = sym is ∙ kept in cc)
 
-pub hear_refused : {X : Type 0} (v w : MemberValue) (host : Opened) (datagram : Datagram) (r : Result X KeepFault) (f : KeepFault) → r ≡ Err f → IsKeptBy (heard_fault datagram host) r → w ≡ v → IsOpenAt v host
-    → DoesAct {U = Unit {0}} host w [] (Err (fault_of f)) (act (lines.Hear datagram) host)
-hear_refused {X = X} v w host datagram r f is kept same at = by (has_room_for datagram host) (subst (IsKeptBy (heard_fault datagram host)) is kept) where
-  by : (room : Bool) → IsKeptBy {X = X} (fault_unless room keeping.TooMany) (Err f)
-      → DoesAct {U = Unit {0}} host w [] (Err (fault_of f)) (cond room (does (heard datagram host) (sends_text (answered datagram host))) (fails faults.TooMany))
-  by true k = memory_alone host w (does (heard datagram host) (sends_text (answered datagram host))) f k
-  by false k =
-      subst (λ (g : KeepFault). DoesAct {U = Unit {0}} host w [] (Err (fault_of g)) (fails faults.TooMany)) (sym (err_is f keeping.TooMany k)) (refl, subst (λ (m : MemberValue). IsOpenAt m host) (sym same) at, refl)
+-- it did what it was called to do
+pub call_done : {X : Type 0} (w : MemberValue) (host : Opened) (call : Call) (sent : List Datagram) (found : Found) (r : Result X KeepFault) (x : X) → r ≡ Ok x → IsKeptBy (call_fault call host) r
+    → (sent ≡ sent_by_call call host) × IsOpenAt w (after_call call host) → found ≡ found_by call host → DoesAct {U = Unit {0}} host w (done_text sent found) (Ok tt) (called call host)
+call_done w host call sent found r x is kept did finds =
+    rw (not_refused (call_fault call host) r x is kept (does (after_call call host) (call_text call host)))
+    (did.1, ap (λ (l : List Datagram). done_text l found) did.0 ∙ ap (done_text (sent_by_call call host)) finds)

@@ -23,7 +23,9 @@ use Rattle.wb_board.specs.Counts.{IsCellCount, MAX_CELLS}
 use Rattle.wb_board.specs.declared.board.TheConstants.{MAX_WORKERS}
 use Rattle.wb_commands.specs.Faults.{line_code}
 use Rattle.wb_commands.specs.declared.command.Command.{Command}
-use Rattle.wb_commands.specs.declared.command.Command.TheVariants.{Skip, Board, Arrive, Hear, Distance, Tune, Tick, Look, Session, Question}
+use Rattle.wb_commands.specs.declared.command.Command.TheVariants.{Skip, Board, Arrive, Call as Calls, Question}
+use Rattle.wb_member.specs.declared.calls.Call.{Call}
+use Rattle.wb_member.specs.declared.calls.Call.TheVariants.{Hear, SetDelay, Tune, Tick, Look, Session}
 use Rattle.wb_member.specs.Questions.{IsAnswerable}
 use Rattle.wb_member.specs.declared.questions.Query.{Query}
 use Rattle.wb_member.specs.declared.questions.Query.TheVariants.{Canvas, Gaps, Report, Pages}
@@ -85,7 +87,7 @@ distance arguments = do
   words' ← or_fault faults.Words (two_of arguments)
   source ← number 0 (2 ^ 32 - 1) words'.0
   micros ← number 0 MAX_DELAY words'.1
-  Ok (Distance source micros)
+  Ok (Calls (SetDelay source micros))
 
 -- four constants
 unfoldable pub tuning : List (List ℕ) → Result Command LineFault
@@ -95,14 +97,14 @@ tuning arguments = do
   c2 ← number 1 MAX_CONSTANT words'.1
   d1 ← number 1 MAX_CONSTANT words'.2
   d2 ← number 1 MAX_CONSTANT words'.3
-  Ok (Tune (record { c1 = c1; c2 = c2; d1 = d1; d2 = d2 }))
+  Ok (Calls (Tune (record { c1 = c1; c2 = c2; d1 = d1; d2 = d2 })))
 
 -- a moment in microseconds
 unfoldable pub tick : List (List ℕ) → Result Command LineFault
 tick arguments = do
   word ← or_fault faults.Words (one_of arguments)
   moment ← number 0 MAX_MOMENT word
-  Ok (Tick moment)
+  Ok (Calls (Tick moment))
 
 -- a page, by its creator and its number
 unfoldable pub page : List (List ℕ) → Result PageId LineFault
@@ -143,12 +145,12 @@ arrived v = Err (faults.Digits digit_faults.Kind)
 
 abbrev pub heard : Datagram → Result Command LineFault
 heard (datagrams.Draw d) = Err (faults.Digits digit_faults.Kind)
-heard v = Ok (Hear v)
+heard v = Ok (Calls (Hear v))
 
 -- If a line does not say which it is to be, a drawop arrives, and every other datagram is heard.
 abbrev pub handed_in : Datagram → Command
 handed_in (datagrams.Draw d) = Arrive d
-handed_in v = Hear v
+handed_in v = Calls (Hear v)
 
 abbrev pub arrive : List (List ℕ) → Result Command LineFault
 arrive arguments = datagram arguments >>= arrived
@@ -162,8 +164,8 @@ bytes_line arguments = datagram arguments >>= λ v. Ok (handed_in v)
 -- the line of a page with this first word, or a question
 unfoldable pub page_line : List ℕ → List (List ℕ) → Result Command LineFault
 page_line word arguments =
-    if bytes_eq word (codes "look") then page arguments >>= (λ p. Ok (Look p))
-    else (if bytes_eq word (codes "session") then page arguments >>= (λ p. Ok (Session p))
+    if bytes_eq word (codes "look") then page arguments >>= (λ p. Ok (Calls (Look p)))
+    else (if bytes_eq word (codes "session") then page arguments >>= (λ p. Ok (Calls (Session p)))
     else question word arguments >>= (λ query. Ok (Question query)))
 
 -- the line with this first word and these further ones
@@ -196,19 +198,24 @@ in_words (Err wrong) = Err (faults.Word wrong)
 abbrev pub line_of : List ℕ → Result Command LineFault
 line_of bytes = if begins_datagram bytes then in_words (reading_words bytes) else line_of_words (words bytes)
 
--- What a line carries is in its range: the cells of a board, the size of a canvas, constants, moments and delays.
+-- What a call carries is in its range: a moment, a delay, constants.
+abbrev pub IsCallWithin : Call → Type 0
+IsCallWithin (Tick now) = IsMoment now
+IsCallWithin (SetDelay source micros) = IsDelay micros
+IsCallWithin (Tune constants) = are_constants constants ≡ true
+IsCallWithin call = Unit {0}
+
+-- What a line carries is in its range: also the cells of a board, and the size of a canvas.
 abbrev pub IsWithin : Command → Type 0
 IsWithin (Board member cells workers seed) = IsCellCount cells
 IsWithin (Question query) = IsAnswerable query
-IsWithin (Distance source micros) = IsDelay micros
-IsWithin (Tune constants) = are_constants constants ≡ true
-IsWithin (Tick moment) = IsMoment moment
+IsWithin (Calls call) = IsCallWithin call
 IsWithin line = Unit {0}
 
 -- A line that carries a datagram, for which memory is taken.
 abbrev pub CarriesDatagram : Command → Type 0
 CarriesDatagram (Arrive d) = Unit {0}
-CarriesDatagram (Hear v) = Unit {0}
+CarriesDatagram (Calls (Hear v)) = Unit {0}
 CarriesDatagram line = ⊥
 
 -- What parsing answers to the words of a line: what they say, or the first fault; or an allocation failed, once the digits have been looked at.

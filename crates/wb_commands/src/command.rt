@@ -1,8 +1,6 @@
 //! The lines of a script, with their words as fields.
-use wb_codec::Datagram;
-use wb_member::Query;
-use wb_names::{Drawop, PageId};
-use wb_recovery::Tuning;
+use wb_member::{Call, Query};
+use wb_names::Drawop;
 
 /// A line of a script, with its words as fields.
 #[derive(Debug, Drop)]
@@ -19,24 +17,10 @@ pub enum Command {
     /// `arrive HEX` hands a drawop to the present batch. So do `datagram HEX` and the drawop in
     /// words.
     Arrive(Drawop),
-    /// `hear HEX` hands in any other datagram, at the present moment. So do `datagram HEX` and the
-    /// datagram in words.
-    Hear(Datagram),
-    /// `distance S MICROS` sets the delay to a source, in microseconds.
-    Distance {
-        source: u32,
-        micros: u64,
-    },
-    /// `tuning C1 C2 D1 D2` gives the timers other constants, each 1 to 16.
-    Tune(Tuning),
-    /// `tick MICROS` makes this the present moment, in microseconds.
-    Tick {
-        moment: u64,
-    },
-    /// `look C N` asks for what is missing of a page.
-    Look(PageId),
-    /// `session C N` prints the session message of a page.
-    Session(PageId),
+    /// Something happens to the member. A script says so by `hear HEX`, and by `datagram HEX` or in
+    /// words if that is no drawop; `distance S MICROS`, `tuning C1 C2 D1 D2`, `tick MICROS`, `look C
+    /// N` and `session C N`. The other calls are for the crates above to read.
+    Call(Call),
     /// A question: the answer is printed. A script asks by `show C N W H`, `gaps C N`, `report C N`
     /// and `pages`; the other questions are for the crates above to read.
     Question(Query),

@@ -12,7 +12,7 @@ use wb_board::{MAX_CELLS, MAX_WORKERS};
 use wb_codec::{Datagram, ReadFault, read};
 use wb_display::Canvas;
 use wb_lines::{next_word, number, unhex};
-use wb_member::Query;
+use wb_member::{Call, Query};
 use wb_names::{MAX_MOMENT, PageId};
 use wb_recovery::{MAX_CONSTANT, MAX_DELAY, Tuning};
 use wb_words::{DigitsFault, WordsFault, begins_datagram, read_words};
@@ -123,7 +123,7 @@ fn distance(rest: &[u8]) -> Result<Command, LineFault>
     let (source, micros) = two_words(rest).ok_or(LineFault::Words)?;
     let source = u32_word(source, 0, u32::MAX)?;
     let micros = number_word(micros, 0, MAX_DELAY)?;
-    Ok(Command::Distance { source, micros })
+    Ok(Command::Call(Call::SetDelay { source, micros }))
 }
 
 #[tactic(auto, unfolding(crate::specs::Parsing::tuning))]
@@ -136,7 +136,7 @@ fn tuning(rest: &[u8]) -> Result<Command, LineFault>
     let c2 = u32_word(c2, 1, MAX_CONSTANT)?;
     let d1 = u32_word(d1, 1, MAX_CONSTANT)?;
     let d2 = u32_word(d2, 1, MAX_CONSTANT)?;
-    Ok(Command::Tune(Tuning { c1, c2, d1, d2 }))
+    Ok(Command::Call(Call::Tune(Tuning { c1, c2, d1, d2 })))
 }
 
 #[tactic(auto, unfolding(crate::specs::Parsing::tick))]
@@ -145,8 +145,8 @@ fn tick(rest: &[u8]) -> Result<Command, LineFault>
     ensures within { IfOk result IsWithin }
 {
     let word = one_word(rest).ok_or(LineFault::Words)?;
-    let moment = number_word(word, 0, MAX_MOMENT)?;
-    Ok(Command::Tick { moment })
+    let now = number_word(word, 0, MAX_MOMENT)?;
+    Ok(Command::Call(Call::Tick { now }))
 }
 
 /// The page of the only two words, its creator and its number. The first fault is `Words` or
@@ -212,7 +212,7 @@ fn handed_in(datagram: Datagram) -> Command
 {
     match datagram {
         Datagram::Draw(drawop) => Command::Arrive(drawop),
-        heard => Command::Hear(heard),
+        heard => Command::Call(Call::Hear(heard)),
     }
 }
 
@@ -232,7 +232,7 @@ fn hear(alloc: Global, rest: &[u8]) -> Result<Command, Untaken>
 {
     match datagram(alloc, rest)? {
         Datagram::Draw(_) => Err(Untaken::Line(LineFault::Digits(DigitsFault::Kind))),
-        heard => Ok(Command::Hear(heard)),
+        heard => Ok(Command::Call(Call::Hear(heard))),
     }
 }
 
@@ -249,9 +249,9 @@ fn page_line(word: &[u8], rest: &[u8]) -> Result<Command, LineFault>
     ensures within { IfOk result IsWithin }
 {
     if word == b"look".as_slice() {
-        Ok(Command::Look(page(rest)?))
+        Ok(Command::Call(Call::Look(page(rest)?)))
     } else if word == b"session".as_slice() {
-        Ok(Command::Session(page(rest)?))
+        Ok(Command::Call(Call::Session(page(rest)?)))
     } else {
         Ok(Command::Question(question(word, rest)?))
     }

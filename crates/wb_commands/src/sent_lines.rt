@@ -1,11 +1,12 @@
-//! Lines that tell what a host sends, and what it looks for.
+//! Lines that tell what a host sends, and what it finds.
 ghost use Rattle.std.specs.Prelude.{◌≡◌, ◌++◌, IfOk, OnOk, OnErr};
 ghost use Rattle.std.specs.String.{string_bytes};
-ghost use Rattle.wb_commands.specs.SentLines.{send_line, sends_text, look_line};
+ghost use Rattle.wb_commands.specs.SentLines.{ask_line, done_text, found_text, send_line, sends_text, stop_line};
 
 use std::alloc::{AllocError, Global};
 use wb_codec::{Datagram, write};
 use wb_lines::Output;
+use wb_member::{Done, Found};
 
 /// The line of a datagram that is sent, with its bytes in hexadecimal.
 pub fn send_line(alloc: Global, datagram: &Datagram) -> Result<String, AllocError>
@@ -35,9 +36,40 @@ pub fn print_sends(alloc: Global, sent: &[Datagram], output: &mut Output) -> Res
     output.add(sends_text(alloc, sent)?.as_bytes())
 }
 
-/// The line of a look at a page that set timers for `count` missing drawops.
-pub fn look_line(alloc: Global, count: usize) -> Result<String, AllocError>
-    ensures { IfOk result (λ text. string_bytes text ≡ look_line count) }
+/// Whether it begins to miss a name.
+fn ask_line(begun: bool) -> &'static str
+    ensures { result.now ≡ ask_line begun }
 {
-    format!(in alloc; "look {count}\n")
+    if begun { "ask 1\n" } else { "ask 0\n" }
+}
+
+/// Whether it gave up asking for a name.
+fn stop_line(asked: bool) -> &'static str
+    ensures { result.now ≡ stop_line asked }
+{
+    if asked { "stop 1\n" } else { "stop 0\n" }
+}
+
+/// The line of what a member finds, if it looks for something.
+fn found_text(alloc: Global, found: Found) -> Result<String, AllocError>
+    ensures { IfOk result (λ text. string_bytes text ≡ found_text found) }
+{
+    match found {
+        Found::Nothing => Ok(String::new(alloc)),
+        Found::Missing(count) => format!(in alloc; "look {count}\n"),
+        Found::MayAsk(begun) => String::from_str(alloc, ask_line(begun)),
+        Found::WasAsked(asked) => String::from_str(alloc, stop_line(asked)),
+    }
+}
+
+/// Prints what a call of a member answers: what is sent, and what it finds. Without memory it prints
+/// nothing.
+pub(crate) fn print_done(alloc: Global, done: &Done, output: &mut Output) -> Result<(), AllocError>
+    ensures ok { OnOk result
+        (output.new ≡ output.old ++ done_text done.now.sent.items done.now.found) }
+    ensures err { OnErr result (output.new ≡ output.old) }
+{
+    let mut text = sends_text(alloc, &done.sent)?;
+    text.push_str(found_text(alloc, done.found)?.as_str())?;
+    output.add(text.as_bytes())
 }

@@ -4,3 +4,4 @@ pub mod Acts
 pub mod HeardActs
 pub mod OneArrival
 pub mod NextNumbers
+pub mod Calls

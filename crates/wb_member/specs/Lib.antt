@@ -3,6 +3,7 @@ pub mod Queries
 pub mod Random
 pub mod Members
 pub mod Opened
+pub mod Calls
 pub mod Lines
 pub mod Holding
 pub mod Judged
