@@ -18,7 +18,7 @@ use Rattle.wb_member.specs.Opened.{Opened, accepted, asks_for, doing, events, ha
 use Rattle.wb_member.specs.Board.{Held}
 use Rattle.wb_member.specs.Random.{word_of}
 use Rattle.wb_member.specs.declared.calls.Call.TheVariants.{Hear, Ask}
-use Rattle.wb_member.proofs.Calls.{calls_keep_boards}
+use Rattle.wb_member.proofs.KeptBoards.{calls_keep_boards}
 use Rattle.wb_keeping.specs.Kept.{Arrives, Asks, Hears, Line, Says, SetsDistance, Tunes, Stops, Ticks, Transition}
 use Rattle.wb_keeping.specs.Performing.{after_line, after_lines, Keeping, after_doing, sees}
 use Rattle.wb_laws_sessions.proofs.Once.{with_once}

@@ -16,7 +16,7 @@ use Rattle.wb_member.specs.Lines.{Line, Ticks, Arrives, Hears, Asks, Says, after
 use Rattle.wb_member.specs.Opened.{Opened, accepted}
 use Rattle.wb_member.specs.declared.calls.Call.{Call}
 use Rattle.wb_member.specs.declared.calls.Call.TheVariants.{Hear, Ask}
-use Rattle.wb_member.proofs.Calls.{calls_keep_boards}
+use Rattle.wb_member.proofs.KeptBoards.{calls_keep_boards}
 use Rattle.wb_keeping.specs.Kept.{Doing, Transition, and_then, came, learned, performs, takes, timed}
 use Rattle.wb_keeping.specs.Laws.{Came, after_kept}
 use Rattle.wb_keeping.specs.Performing.{Keeping, after_doing, sees}
