@@ -36,7 +36,7 @@ use Rattle.wb_keeper.proofs.KeptCalls.{holds_not}
 use Rattle.wb_member.specs.Calls.{after_call}
 use Rattle.wb_member.specs.Opened.{Opened, accepted, doing, events, has_room_for, heard, may_ask, present, wanted_of}
 use Rattle.wb_member.specs.Random.{word_of}
-use Rattle.wb_member.specs.declared.calls.Call.{Call}
+use Rattle.wb_member.specs.declared.calls.Call.{Call as MemberCall}
 use Rattle.wb_member.specs.declared.calls.Call.TheVariants as calls
 use Rattle.wb_progress.specs.Repairs.{timers_at}
 use Rattle.wb_progress.proofs.OneCall.{received_in, not_standing}
@@ -254,7 +254,7 @@ module _ (host : Opened) where
     accepts : (d : DrawopValue) → Tells (accepted d host).is
     accepts d = tells_after (Takes (present host) (d ∷ []) (d ∷ [])) host.is (All-cons (λ x. Contains (d ∷ []) x) d [] (Contains-here d []) (All-nil (λ x. Contains (d ∷ []) x))) is
 
-    call_tells : (call : Call) → Tells (after_call call host).is
+    call_tells : (call : MemberCall) → Tells (after_call call host).is
     call_tells (calls.Tick now) = tells_after (Ticks now _) host.is tt is
     call_tells (calls.Hear v) = by (has_room_for v host) where
       by : (b : Bool) → Tells (cond b (heard v host) host).is

@@ -14,7 +14,7 @@ sent_by_deed_of (Ticks now) host = refl
 sent_by_deed_of line host = refl
 
 -- the line that is this deed, and any other where none is
-line_of : Deed → Line
+abbrev line_of : Deed → Line
 line_of (Takes d) = Arrives d
 line_of (Speaks v) = Says v
 line_of (Calls (Tick now)) = Ticks now
