@@ -28,7 +28,7 @@ tells host None = fails faults.TooMany
 abbrev pub asked : Query → Opened → Act
 asked query host = tells host (answer_text (answer_to query host))
 
--- A call that the member refuses is not taken. Memory is no fault of a line.
+-- A call that the member refuses is not taken. If memory lacks, that says nothing of the line.
 abbrev pub unless : Option KeepFault → Act → Act
 unless None act = act
 unless (Some keeping.BackInTime) act = fails faults.BackInTime

@@ -13,7 +13,7 @@ pub sent_by_deed_of : (line : Line) (host : Opened) → sent_by_deed (deed_of li
 sent_by_deed_of (Ticks now) host = refl
 sent_by_deed_of line host = refl
 
--- the line that is this deed, and any other where none is
+-- the line that is this deed; if none is, any
 abbrev line_of : Deed → Line
 line_of (Takes d) = Arrives d
 line_of (Speaks v) = Says v

@@ -20,7 +20,7 @@ IsWithin (SetDelay source micros) = IsDelay micros
 IsWithin (Tune constants) = are_constants constants ≡ true
 IsWithin call = Unit {0}
 
--- Why it is refused, if it is: for a moment before the present one, or for marks by which a page would have too many.
+-- Why it is refused, if it is: its moment is before the present one, or a page would have too many marks.
 abbrev pub fault_of : Call → Opened → Option KeepFault
 fault_of (Tick now) host = fault_unless (nat_le (present host) now) BackInTime
 fault_of (Hear v) host = heard_fault v host

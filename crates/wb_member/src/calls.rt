@@ -58,9 +58,8 @@ pub struct Done {
 }
 
 impl Member {
-    /// Something happens to the member. Refused are, with `BackInTime`, a moment before the present
-    /// one; with `TooMany`, marks by which a page would have some of over 65,535 sources; and
-    /// anything with `Memory`.
+    /// Something happens to the member. Refused with `BackInTime`, before the present moment;
+    /// `TooMany`, if a page would have marks of over 65,535 sources; or `Memory`.
     pub fn call(&mut self, alloc: Global, call: &Call) -> Result<Done, KeepFault>
         requires { IsWithin call.now }
         ensures fault { (host : Opened) → IsOpenAt self.old host →
@@ -115,7 +114,7 @@ fn sending(sent: Vec<Datagram>) -> Done
     }
 }
 
-/// What a call answers by which nothing is sent.
+/// What a call answers that sends nothing.
 fn finding(alloc: Global, found: Found) -> Done
     ensures sent { result.sent.items ≡ [] }
     ensures found { result.found ≡ found }
