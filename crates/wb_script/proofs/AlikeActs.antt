@@ -24,7 +24,7 @@ use Rattle.wb_member.specs.declared.calls.Call.{Call}
 use Rattle.wb_member.specs.declared.calls.Call.TheVariants.{Tick, Hear as HearCall, Look, Session, Ask}
 use Rattle.wb_member.specs.declared.calls.Found.TheVariants.{Missing, MayAsk}
 use Rattle.wb_member.specs.declared.questions.Query.{Query}
-use Rattle.wb_member.proofs.Calls.{calls_keep_boards}
+use Rattle.wb_member.proofs.KeptBoards.{calls_keep_boards}
 use Rattle.wb_commands.specs.Acts.{Act, does, fails, unless, tells, asked, called, act}
 use Rattle.wb_commands.specs.Answers.{answer_text}
 use Rattle.wb_commands.specs.SentLines.{call_text, done_text}

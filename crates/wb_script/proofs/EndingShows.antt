@@ -33,7 +33,7 @@ use Rattle.wb_script.specs.Shows.{arrived_by, arrivals_of, cells_by, cells_of, E
 use Rattle.wb_script.proofs.FreeArrivals.{batches_are_one, free_on}
 use Rattle.wb_lines.proofs.InputLines.{input_lines-whole, whole_line}
 use Rattle.wb_script.proofs.Outcomes.{before-nil, before-before, too_many, text_of, end_of}
-use Rattle.wb_member.proofs.Calls.{calls_keep_boards}
+use Rattle.wb_member.proofs.KeptBoards.{calls_keep_boards}
 use Rattle.wb_member.proofs.Queries.{view_of_page}
 use Rattle.wb_script.proofs.Refusals.{unless_both}
 use Rattle.wb_script.proofs.ReorderedLines.{state}
