@@ -1,5 +1,5 @@
 -- Two hosts whose keepers learned the same names in other orders: each line prints the same there, and leads to two such hosts.
-use Rattle.std.proofs.Common.{◌≡◌, ℕ, Bool, true, false, cond, List, [], ◌∷◌, ◌++◌, length, Option, Some, None, refl, sym, ap, ap₂, ◌∙◌, subst, filter, map, not, ◌||◌}
+use Rattle.std.proofs.Common.{◌≡◌, ℕ, Bool, true, false, cond, List, [], ◌∷◌, ◌++◌, length, Option, Some, None, refl, sym, ap, ap₂, ◌∙◌, subst, filter, map, nat_le, not, ◌||◌}
 use Rattle.wb_names.specs.Faults.{fault_unless}
 use Rattle.wb_names.specs.Values.{NameValue, MarkValue}
 use Rattle.wb_names.specs.declared.name.PageId.{PageId}
@@ -14,14 +14,13 @@ use Rattle.wb_recovery.specs.declared.plan.Action.TheVariants as actions
 use Rattle.wb_recovery.specs.declared.timers.Timers.{Timers}
 use Rattle.wb_keeper.specs.GivingUp.{is_asked, is_timed}
 use Rattle.wb_keeper.specs.Hearing.{marks_heard, asks_for_held, answers_to, has_room}
-use Rattle.wb_keeper.specs.KeepFaults.{moment_fault}
 use Rattle.wb_keeper.specs.Keeper.{KeeperCall, Hear, Miss, GoOn, Report, GiveUp, SetDelay, SetConstants, delay_to, received_of, holds, is_own}
 use Rattle.wb_keeper.specs.Known.{pages_heard}
 use Rattle.wb_keeper.specs.Missing.{wanted, names_in_gaps}
 use Rattle.wb_keeper.specs.Sessions.{echoes_of}
 use Rattle.wb_keeper.specs.Ticks.{sends_for, stopped_after}
 use Rattle.wb_keeper.specs.declared.keep_fault.KeepFault.{KeepFault}
-use Rattle.wb_keeper.specs.declared.keep_fault.KeepFault.TheVariants.{TooMany}
+use Rattle.wb_keeper.specs.declared.keep_fault.KeepFault.TheVariants.{BackInTime, TooMany}
 use Rattle.wb_member.specs.Calls.{after_call, fault_of, found_by, sent_by_call}
 use Rattle.wb_member.specs.Members.{calling as told}
 use Rattle.wb_member.specs.Opened.{Opened, present, events, due_count, sent_by, wanted_of, has_room_for, heard, may_ask, words_for, word_at}
@@ -151,7 +150,7 @@ module _ (host : Opened) (others : List KeeperCall) (a : CallsAlike host.is.call
   call_retold (calls.Tick now) =
       let going : Opened → KeeperCall = λ h. GoOn now (words_of h.random (due_count now h)) (stopping h) in
       record {
-        fault = ap (λ (moment : ℕ). moment_fault moment now) same_present;
+        fault = ap (λ (moment : ℕ). fault_unless (nat_le moment now) BackInTime) same_present;
         after = told_alike (going host) (going other) (due_count now host) (due_count now other)
             (ap₂ (λ (count : ℕ) (stopped : List NameValue). GoOn now (words_of host.random count) stopped) (same_due now) same_stopping) (same_due now);
         sent = same_sent now;
