@@ -7,9 +7,9 @@ use Rattle.wb_names.specs.Values.{DrawopValue}
 use Rattle.wb_names.specs.declared.name.PageId.{PageId}
 use Rattle.wb_names.specs.declared.parts.Op.{Op}
 use Rattle.wb_codec.specs.declared.datagram.Datagram.{Datagram}
-use Rattle.wb_codec.specs.declared.datagram.Datagram.TheVariants.{AskPages, Draw, PageState, Request, Session}
+use Rattle.wb_codec.specs.declared.datagram.Datagram.TheVariants.{Draw}
 use Rattle.wb_member.specs.Opened.{Opened, becomes, present, ticked}
-use Rattle.wb_keeping.specs.Kept.{Line, Ticks, Arrives, Hears, Asks, Stops, SetsDistance, Tunes, Says, adds, and_then, drawing, ends_full, timed}
+use Rattle.wb_keeping.specs.Kept.{Line, Ticks, Says, adds, and_then, drawing, ends_full, timed}
 use Rattle.wb_keeping.specs.Laws.{KeptLine, Added, Came, Ticked, Tuned, doing_of}
 use Rattle.wb_keeping.specs.Performing.{Keeping, after_line, sees, view_of}
 use Rattle.wb_keeping.proofs.EachLine.{Each, each_both, ends_each, then_each}
@@ -28,8 +28,8 @@ use Rattle.wb_laws_kept.specs.Sessions.{Begins, CallAt, kept_at, steps_of}
 use Rattle.wb_laws_kept.proofs.Honest.{IsGiven, came_given, moments_given, of_policy, ticks_given, timed_given}
 use Rattle.wb_laws_kept.proofs.Replaying.{lines_stay, none}
 use Rattle.wb_laws_kept.proofs.Steps.{kept_is_session}
-use Rattle.wb_laws_sessions.specs.Drawn.{drawn_at as drawn_by_steps, drawn_by_line as drawn_in_line, new_where}
-use Rattle.wb_laws_sessions.specs.Sessions.{Opens, Performs, Step, host_at, steps_then}
+use Rattle.wb_laws_sessions.specs.Drawn.{drawn_at as drawn_by_steps, drawn_by as drawn_in_deed, new_where}
+use Rattle.wb_laws_sessions.specs.Sessions.{Opens, Step, deed_of, host_at, steps_then}
 use Rattle.wb_judged_sessions.specs.Sessions.{DrawsAsKept, JudgedCall, JudgedCallAt, Start, Starts, Takes, drawn_at, drawn_by, judged_at, kept_calls, kept_then, lines_then, plain_line, started}
 use Rattle.wb_judged_sessions.proofs.Kept.{at, judged_is_kept}
 
@@ -38,19 +38,9 @@ use Rattle.wb_judged_sessions.proofs.Kept.{at, judged_is_kept}
 abbrev pub any : DrawopValue → Type 0
 any d = Unit {0}
 
-draws_none : (comes : DrawopValue → Type 0) (line : Line) (host : Opened) → IsGiven comes line → drawn_in_line line host ≡ []
-draws_none comes (Ticks now) host is = refl
-draws_none comes (Arrives d) host is = refl
-draws_none comes (Hears v) host is = refl
-draws_none comes (Asks name) host is = refl
-draws_none comes (Stops name) host is = refl
-draws_none comes (SetsDistance source micros) host is = refl
-draws_none comes (Tunes constants) host is = refl
+draws_none : (comes : DrawopValue → Type 0) (line : Line) (host : Opened) → IsGiven comes line → drawn_in_deed (deed_of line) host ≡ []
 draws_none comes (Says (Draw d)) host is = absurd is
-draws_none comes (Says (Session sender sent page marks echoes)) host is = refl
-draws_none comes (Says (Request asker name)) host is = refl
-draws_none comes (Says (AskPages asker)) host is = refl
-draws_none comes (Says (PageState sender page marks)) host is = refl
+draws_none comes line host is = refl
 
 if_none : {X : Type 0} (b : Bool) (xs ys : List X) → xs ≡ [] → cond b (xs ++ ys) ys ≡ ys
 if_none {X} true xs ys e = ap (λ (zs : List X). zs ++ ys) e
@@ -58,11 +48,11 @@ if_none false xs ys e = refl
 
 module _ (numbers : ℕ → ℕ) (time place : ℕ) (comes : DrawopValue → Type 0) where
   given_draws : (lines : List Line) (older : List Step) (i : ℕ) → Each (IsGiven comes) lines
-      → drawn_by_steps numbers (steps_then time place (map Performs lines) older) i ≡ drawn_by_steps numbers older i
+      → drawn_by_steps numbers (steps_then time place (map deed_of lines) older) i ≡ drawn_by_steps numbers older i
   given_draws [] older i each = refl
   given_draws (line ∷ lines) older i each =
-      given_draws lines (record { time = time; place = place; deed = Performs line } ∷ older) i each.1
-      ∙ if_none (nat_eq place i) (drawn_in_line line (host_at numbers older i)) (drawn_by_steps numbers older i) (draws_none comes line (host_at numbers older i) each.0)
+      given_draws lines (record { time = time; place = place; deed = deed_of line } ∷ older) i each.1
+      ∙ if_none (nat_eq place i) (drawn_in_deed (deed_of line) (host_at numbers older i)) (drawn_by_steps numbers older i) (draws_none comes line (host_at numbers older i) each.0)
 
 -- ---- lines of self-managing members that draw nothing
 
@@ -152,11 +142,11 @@ module _ (now : ℕ) (page : PageId) (told : ℕ) (op : Op) (k : Keeping) where
     abbrev before : List DrawopValue
     before = drawn_by_steps numbers older i
 
-    added_draws : drawn_by_steps numbers (steps_then time place (map Performs (adds now page told op (sees k.host) k.policy).lines) older) i
+    added_draws : drawn_by_steps numbers (steps_then time place (map deed_of (adds now page told op (sees k.host) k.policy).lines) older) i
         ≡ cond (nat_eq place i) (gained (Added now page told op) k ++ before) before
     added_draws =
-        let tick : Step = record { time = time; place = place; deed = Performs (Ticks now) } in
-        let says : Step = record { time = time; place = place; deed = Performs (Says (Draw its)) } in
+        let tick : Step = record { time = time; place = place; deed = deed_of (Ticks now) } in
+        let says : Step = record { time = time; place = place; deed = deed_of (Says (Draw its)) } in
         given_draws numbers time place any more (says ∷ (tick ∷ older)) i (more_given any) ∙ by (nat_eq place i) refl where
           by : (b : Bool) → nat_eq place i ≡ b
               → cond b (new_where its (becomes its (cond b (ticked now (host_at numbers older i)) (host_at numbers older i))) ++ cond b before before) (cond b before before)
@@ -185,7 +175,7 @@ module _ (numbers : ℕ → ℕ) (time place : ℕ) (h : Judged) (older : List C
   line_draws (Held line) = nothing (plain_line (recalled (present h.kept.host) line)) (plain_draws (recalled (present h.kept.host) line) (recalled_draws (present h.kept.host) line))
   line_draws (UserDrew now page op) =
       let told = time_of_day h.judge.clock now in
-      ap (λ (k : Keeping). drawn_by_steps numbers (steps_then time place (map Performs (adds now page told op (sees k.host) k.policy).lines) (steps_of numbers older)) i) (sym same)
+      ap (λ (k : Keeping). drawn_by_steps numbers (steps_then time place (map deed_of (adds now page told op (sees k.host) k.policy).lines) (steps_of numbers older)) i) (sym same)
       ∙ added_draws now page told op h.kept numbers time place (steps_of numbers older) i (kept_is_session numbers older place ∙ ap (λ (k : Keeping). k.host) (sym same))
 
   pub call_draws : (call : JudgedCall) → Draws call

@@ -44,8 +44,7 @@ use Rattle.wb_keeping.proofs.Performed.{after_both}
 use Rattle.wb_keeping.proofs.Wanted.{lines_wanted}
 use Rattle.wb_judging.specs.Echoing.{echoing, placed, with_echo}
 use Rattle.wb_kept_progress.proofs.Counted.{echoes_listed}
-use Rattle.wb_laws_sessions.specs.Sessions.{Performs}
-use Rattle.wb_laws_sessions.proofs.Deeds.{number_after}
+use Rattle.wb_kept_progress.proofs.Lines.{line_of}
 use Rattle.wb_laws_sessions.proofs.Sending.{one_of}
 use Rattle.wb_judged_sessions.specs.Sessions.{plain}
 use Rattle.wb_judged_sessions.proofs.Plain.{of_others}
@@ -235,7 +234,7 @@ none_said (Tunes constants) host none = tt
 all_said : (lines : List Line) (host : Opened) → Each (NoReport host.is.number) lines → AreSaid host lines
 all_said [] host none = tt
 all_said (line ∷ lines) host none =
-    (none_said line host none.0, all_said lines (after_line line host) (subst (λ (me : ℕ). Each (NoReport me) lines) (sym (number_after (Performs line) host)) none.1))
+    (none_said line host none.0, all_said lines (after_line line host) (subst (λ (me : ℕ). Each (NoReport me) lines) (sym (line_of line host).number) none.1))
 
 said_both : (one other : List Line) (host : Opened) → AreSaid host one → AreSaid (after_lines one host) other → AreSaid host (one ++ other)
 said_both [] other host a b = b
@@ -333,7 +332,7 @@ lines_send [] host said v c = absurd (Contains-none v c)
 lines_send (line ∷ lines) host said v c = ⊎_elim
     (λ (now : Contains (sent_by_line line host) v). line_sends line host said.0 v now)
     (λ (later : Contains (sent_by_lines lines (after_line line host)) v).
-    subst (λ (me : ℕ). IsOfMember me v) (number_after (Performs line) host) (lines_send lines (after_line line host) said.1 v later))
+    subst (λ (me : ℕ). IsOfMember me v) (line_of line host).number (lines_send lines (after_line line host) said.1 v later))
     (Contains-append_cases (sent_by_line line host) (sent_by_lines lines (after_line line host)) v c)
 
 pub call_sends : (line : KeptLine) (k : Keeping) → fault_of line k ≡ None → (v : Datagram) → Contains (sent_by_doing (doing_of line) k) v → IsOfMember k.host.is.number v

@@ -31,7 +31,7 @@ use Rattle.wb_member.specs.Random.{word_of}
 use Rattle.wb_policy.specs.Choices.{distance_in, last_heard, own_echo as echo_of, told_names}
 use Rattle.wb_policy.specs.Policy.{Policy, after_wanting}
 use Rattle.wb_policy.specs.Wanting.{is_wanted}
-use Rattle.wb_keeping.specs.Kept.{Arrives, Asks, Doing, Hears, Line, Says, SetsDistance, Stops, Ticks, Transition, Tunes, and_then, came, hears, measures, performs, still, timed, want, want_told}
+use Rattle.wb_keeping.specs.Kept.{Arrives, Asks, Doing, Hears, Line, Says, SetsDistance, Stops, Ticks, Transition, Tunes, and_then, came, measures, performs, still, timed, want, want_told}
 use Rattle.wb_keeping.specs.Laws.{Added, Came, KeptLine, Ticked, Tuned, doing_of, fault_of}
 use Rattle.wb_keeping.specs.Performing.{Keeping, after_doing, after_line, after_lines, said_where, sees, sent_by_doing, sent_by_line, sent_by_lines, view_of}
 use Rattle.wb_keeping.specs.Views.{View, holds, is_full, is_known, level}

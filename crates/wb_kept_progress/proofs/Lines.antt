@@ -15,7 +15,10 @@ use Rattle.wb_recovery.specs.declared.timers.Timers.{Timers}
 use Rattle.wb_keeper.specs.Keeper.{delay_to, given_up, holds}
 use Rattle.wb_member.specs.Members.{Misses}
 use Rattle.wb_member.specs.Opened.{Opened, accepted, asks_for, doing, events, has_room_for, heard, may_ask, present}
+use Rattle.wb_member.specs.Board.{Held}
 use Rattle.wb_member.specs.Random.{word_of}
+use Rattle.wb_member.specs.declared.calls.Call.TheVariants.{Hear, Ask}
+use Rattle.wb_member.proofs.KeptBoards.{calls_keep_boards}
 use Rattle.wb_keeping.specs.Kept.{Arrives, Asks, Hears, Line, Says, SetsDistance, Tunes, Stops, Ticks, Transition}
 use Rattle.wb_keeping.specs.Performing.{after_line, after_lines, Keeping, after_doing, sees}
 use Rattle.wb_laws_sessions.proofs.Once.{with_once}
@@ -34,8 +37,6 @@ pub same_member : (host : Opened) → IsOf host host
 same_member host = record { number = refl; cells = refl; constants = refl }
 
 pub line_of : (line : Line) (host : Opened) → IsOf host (after_line line host)
-line_of (Ticks now) host = record { number = refl; cells = refl; constants = refl }
-line_of (Arrives d) host = record { number = refl; cells = refl; constants = refl }
 line_of (Hears v) host = by (has_room_for v host) where
   by : (b : Bool) → IsOf host (cond b (heard v host) host)
   by true = record { number = refl; cells = refl; constants = refl }
@@ -44,14 +45,8 @@ line_of (Asks name) host = by (may_ask name host) where
   by : (b : Bool) → IsOf host (cond b (doing (Misses (present host) (name ∷ []) (word_of host.random ∷ [])) 1 host) host)
   by true = record { number = refl; cells = refl; constants = refl }
   by false = same_member host
-line_of (Stops name) host = record { number = refl; cells = refl; constants = refl }
-line_of (SetsDistance source micros) host = record { number = refl; cells = refl; constants = refl }
-line_of (Tunes constants) host = record { number = refl; cells = refl; constants = refl }
 line_of (Says (Draw d)) host = record { number = refl; cells = refl; constants = refl }
-line_of (Says (Session sender sent page marks echoes)) host = same_member host
-line_of (Says (Request asker name)) host = same_member host
-line_of (Says (AskPages asker)) host = same_member host
-line_of (Says (PageState sender page marks)) host = same_member host
+line_of line host = record { number = refl; cells = refl; constants = refl }
 
 pub lines_of : (lines : List Line) (host : Opened) → IsOf host (after_lines lines host)
 lines_of [] host = same_member host
@@ -95,27 +90,11 @@ accepts d host = record {
 }
 
 pub line_grows : (line : Line) (host : Opened) → Grows host (after_line line host)
-line_grows (Ticks now) host = stays host (after_line (Ticks now) host) refl
 line_grows (Arrives d) host = accepts d host
-line_grows (Hears v) host = by (has_room_for v host) where
-  by : (b : Bool) → Grows host (cond b (heard v host) host)
-  by true = stays host (heard v host) refl
-  by false = stays host host refl
-line_grows (Asks name) host = by (may_ask name host) where
-  asking : Opened
-  asking = doing (Misses (present host) (name ∷ []) (word_of host.random ∷ [])) 1 host
-
-  by : (b : Bool) → Grows host (cond b asking host)
-  by true = stays host asking refl
-  by false = stays host host refl
-line_grows (Stops name) host = stays host (after_line (Stops name) host) refl
-line_grows (SetsDistance source micros) host = stays host (after_line (SetsDistance source micros) host) refl
-line_grows (Tunes constants) host = stays host (after_line (Tunes constants) host) refl
+line_grows (Hears v) host = stays host (after_line (Hears v) host) (ap (λ (b : Held). b.drawops) (calls_keep_boards (Hear v) host).board)
+line_grows (Asks name) host = stays host (after_line (Asks name) host) (ap (λ (b : Held). b.drawops) (calls_keep_boards (Ask name) host).board)
 line_grows (Says (Draw d)) host = accepts d host
-line_grows (Says (Session sender sent page marks echoes)) host = stays host host refl
-line_grows (Says (Request asker name)) host = stays host host refl
-line_grows (Says (AskPages asker)) host = stays host host refl
-line_grows (Says (PageState sender page marks)) host = stays host host refl
+line_grows line host = stays host (after_line line host) refl
 
 pub lines_grow : (lines : List Line) (host : Opened) → Grows host (after_lines lines host)
 lines_grow [] host = stays host host refl

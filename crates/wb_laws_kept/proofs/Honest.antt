@@ -7,7 +7,7 @@ use Rattle.wb_names.specs.declared.parts.Op.{Op}
 use Rattle.wb_names.proofs.Listings.{Contains-here, Contains-there}
 use Rattle.wb_codec.specs.declared.datagram.Datagram.{Datagram}
 use Rattle.wb_codec.specs.declared.datagram.Datagram.TheVariants.{Draw}
-use Rattle.wb_member.specs.Lines.{Line, Ticks, Arrives, Hears, Asks, Stops, SetsDistance, Tunes, Says, after_line}
+use Rattle.wb_member.specs.Lines.{Line, Ticks, Arrives, Tunes, Says, after_line}
 use Rattle.wb_member.specs.Opened.{Opened, last_number, present}
 use Rattle.wb_keeping.specs.Kept.{adds, came, drawing, ends_full, hears, ticks, timed}
 use Rattle.wb_keeping.specs.Laws.{Added, Came, Ticked, Tuned, expand}
@@ -16,7 +16,7 @@ use Rattle.wb_keeping.specs.Performing.{Keeping, after_doing, sees, view_of}
 use Rattle.wb_policy.specs.Policy.{Policy}
 use Rattle.wb_keeping.proofs.EachLine.{DoesEach, Each, OfPolicy, each_both, ends_each, hears_each, then_each, timed_each}
 use Rattle.wb_laws_sessions.specs.Drawn.{AreHonest, WasHeld, drawn_at}
-use Rattle.wb_laws_sessions.specs.Sessions.{Deed, Opens, Performs, Step, host_at, steps_then}
+use Rattle.wb_laws_sessions.specs.Sessions.{Deed, Opens, Step, deed_of, host_at, steps_then}
 use Rattle.wb_laws_sessions.proofs.Several.{number_at}
 use Rattle.wb_laws_sessions.proofs.Honest.{IsPlainSaying, arrival_is_honest, drawing_is_honest, opening_is_honest, plain_is_honest}
 use Rattle.wb_laws_kept.specs.Restarts.{KeptAreHonest, KnowTheirOwn, KnowsItsOwn}
@@ -27,14 +27,9 @@ use Rattle.wb_laws_kept.proofs.Steps.{kept_is_session}
 
 -- What arrives is of these, and no drawop is said.
 abbrev pub IsGiven : (DrawopValue → Type 0) → Line → Type 0
-IsGiven comes (Ticks now) = Unit {0}
 IsGiven comes (Arrives d) = comes d
-IsGiven comes (Hears v) = Unit {0}
-IsGiven comes (Asks name) = Unit {0}
-IsGiven comes (Stops name) = Unit {0}
-IsGiven comes (SetsDistance source micros) = Unit {0}
-IsGiven comes (Tunes constants) = Unit {0}
 IsGiven comes (Says v) = IsPlainSaying v
+IsGiven comes line = Unit {0}
 
 module _ (comes : DrawopValue → Type 0) where
   pub of_policy : OfPolicy (IsGiven comes)
@@ -76,25 +71,20 @@ module _ (numbers : ℕ → ℕ) where
 
   module _ (time place : ℕ) (comes : DrawopValue → Type 0) where
     abbrev step : Line → Step
-    step line = record { time = time; place = place; deed = Performs line }
+    step line = record { time = time; place = place; deed = deed_of line }
 
     one_honest : (line : Line) (older : List Step) → AreHonest numbers older → ((d : DrawopValue) → comes d → WasHeld numbers older d) → IsGiven comes line → AreHonest numbers (step line ∷ older)
-    one_honest (Ticks now) older honest held is = (plain_is_honest numbers older (step (Ticks now)) tt, honest)
     one_honest (Arrives d) older honest held is = (arrival_is_honest numbers older time place d (held d is), honest)
-    one_honest (Hears v) older honest held is = (plain_is_honest numbers older (step (Hears v)) tt, honest)
-    one_honest (Asks name) older honest held is = (plain_is_honest numbers older (step (Asks name)) tt, honest)
-    one_honest (Stops name) older honest held is = (plain_is_honest numbers older (step (Stops name)) tt, honest)
-    one_honest (SetsDistance source micros) older honest held is = (plain_is_honest numbers older (step (SetsDistance source micros)) tt, honest)
-    one_honest (Tunes constants) older honest held is = (plain_is_honest numbers older (step (Tunes constants)) tt, honest)
     one_honest (Says v) older honest held is = (plain_is_honest numbers older (step (Says v)) is, honest)
+    one_honest line older honest held is = (plain_is_honest numbers older (step line) tt, honest)
 
-    pub lines_honest : (lines : List Line) (older : List Step) → AreHonest numbers older → ((d : DrawopValue) → comes d → WasHeld numbers older d) → Each (IsGiven comes) lines → AreHonest numbers (steps_then time place (map Performs lines) older)
+    pub lines_honest : (lines : List Line) (older : List Step) → AreHonest numbers older → ((d : DrawopValue) → comes d → WasHeld numbers older d) → Each (IsGiven comes) lines → AreHonest numbers (steps_then time place (map deed_of lines) older)
     lines_honest [] older honest held each = honest
     lines_honest (line ∷ lines) older honest held each =
         lines_honest lines (step line ∷ older) (one_honest line older honest held each.0) (λ d is. held_later (step line) older d (held d is)) each.1
 
   -- a tick draws nothing
-  drawn_behind : (time place now : ℕ) (older : List Step) (d : DrawopValue) → Contains (drawn_at numbers (record { time = time; place = place; deed = Performs (Ticks now) } ∷ older) place) d → Contains (drawn_at numbers older place) d
+  drawn_behind : (time place now : ℕ) (older : List Step) (d : DrawopValue) → Contains (drawn_at numbers (record { time = time; place = place; deed = deed_of (Ticks now) } ∷ older) place) d → Contains (drawn_at numbers older place) d
   drawn_behind time place now older d c = by (nat_eq place place) c where
     by : (b : Bool) → Contains (cond b (drawn_at numbers older place) (drawn_at numbers older place)) d → Contains (drawn_at numbers older place) d
     by true c = c
@@ -111,7 +101,7 @@ module _ (numbers : ℕ → ℕ) where
     its = drawing (view_of ticked_host) page told op
 
     abbrev with_tick : List Step
-    with_tick = record { time = time; place = place; deed = Performs (Ticks now) } ∷ older
+    with_tick = record { time = time; place = place; deed = deed_of (Ticks now) } ∷ older
 
     its_own : its.name.source ≡ numbers place
     its_own = ap (λ (h : Opened). h.is.number) (sym there) ∙ number_at numbers older place
@@ -128,12 +118,12 @@ module _ (numbers : ℕ → ℕ) where
     abbrev none : DrawopValue → Type 0
     none d = ⊥
 
-    pub adds_honest : (p : Policy) → AreHonest numbers (steps_then time place (map Performs (adds now page told op (sees k.host) p).lines) older)
+    pub adds_honest : (p : Policy) → AreHonest numbers (steps_then time place (map deed_of (adds now page told op (sees k.host) p).lines) older)
     adds_honest p =
         let tick : AreHonest numbers with_tick = (plain_is_honest numbers older _ tt, honest) in
-        let says : AreHonest numbers (record { time = time; place = place; deed = Performs (Says (Draw its)) } ∷ with_tick) =
+        let says : AreHonest numbers (record { time = time; place = place; deed = deed_of (Says (Draw its)) } ∷ with_tick) =
         (drawing_is_honest numbers with_tick time place its its_own (omega arith) (inr is_above), tick) in
-        lines_honest time place none _ (record { time = time; place = place; deed = Performs (Says (Draw its)) } ∷ with_tick) says (λ d is. absurd is)
+        lines_honest time place none _ (record { time = time; place = place; deed = deed_of (Says (Draw its)) } ∷ with_tick) says (λ d is. absurd is)
         (then_each (IsGiven none) ends_full timed (ends_each (IsGiven none) (of_policy none)) (timed_given none) (λ (lines : List Line). sees k.host (Ticks now ∷ (Says (Draw its) ∷ lines))) p)
 
   -- ---- calls
@@ -143,7 +133,7 @@ module _ (numbers : ℕ → ℕ) where
     k = kept_at numbers older place
 
     abbrev deeds : Call → List Deed
-    deeds call = opens_of_call call ++ map Performs (lines_of_call call k)
+    deeds call = opens_of_call call ++ map deed_of (lines_of_call call k)
 
     call_honest : (call : Call) → IsTaken call k → WereHeld numbers older (record { time = time; place = place; call = call })
         → ((now : ℕ) (page : PageId) (told : ℕ) (op : Op) → call ≡ Handed (Added now page told op) → KnowsItsOwn numbers older place page) → AreHonest numbers (steps_then time place (deeds call) (steps_of numbers older))

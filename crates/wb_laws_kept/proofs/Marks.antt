@@ -43,9 +43,10 @@ use Rattle.wb_keeping.proofs.Performed.{after_both, sent_by_both}
 use Rattle.wb_keeping.proofs.Wanted.{is_wanted_here, lines_wanted}
 use Rattle.wb_board.specs.Counts.{MAX_CELLS}
 use Rattle.wb_laws_sessions.specs.Drawn.{WasHeld}
-use Rattle.wb_laws_sessions.specs.Sessions.{Deed, Opens, Performs, Step, after_deed, host_at, sent, sent_by_deed, sent_by_deeds, steps_then}
+use Rattle.wb_laws_sessions.specs.Sessions.{Deed, Opens, Step, after_deed, deed_of, host_at, sent, sent_by_deed, sent_by_deeds, steps_then}
 use Rattle.wb_laws_sessions.proofs.Deeds.{Fits, fits_after}
 use Rattle.wb_laws_sessions.proofs.Drawn.{once_held_was_drawn}
+use Rattle.wb_laws_sessions.proofs.Lines.{after_deed_of}
 use Rattle.wb_laws_sessions.proofs.Names.{holds_name, of_name}
 use Rattle.wb_laws_kept.specs.Openings.{Opening, opened}
 use Rattle.wb_laws_kept.specs.Restarts.{MarksWereDrawn}
@@ -149,9 +150,10 @@ lines_grow (line ∷ lines) host x c = lines_grow lines (after_line line host) x
 
 lines_fit : (lines : List Line) (host : Opened) → Fits host → Fits (after_lines lines host)
 lines_fit [] host f = f
-lines_fit (line ∷ lines) host f = lines_fit lines (after_line line host) (fits_after (Performs line) host (λ constants cells seed e. absurd (no_opening constants cells seed line e)) f) where
-  no_opening : (constants : Tuning) (cells seed : ℕ) (line : Line) → Performs line ≡ Opens constants cells seed → ⊥
-  no_opening constants cells seed line e = cc
+lines_fit (line ∷ lines) host f = lines_fit lines (after_line line host) (subst Fits (after_deed_of line host) (fits_after (deed_of line) host (λ constants cells seed e. absurd (no_opening line constants cells seed e)) f)) where
+  no_opening : (line : Line) (constants : Tuning) (cells seed : ℕ) → deed_of line ≡ Opens constants cells seed → ⊥
+  no_opening (Ticks now) constants cells seed e = cc
+  no_opening line constants cells seed e = cc
 
 names_grow : (lines : List Line) (host : Opened) (n : NameValue) → HoldsName host.is.held n → HoldsName (after_lines lines host).is.held n
 names_grow lines host n h =

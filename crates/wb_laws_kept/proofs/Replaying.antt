@@ -10,10 +10,13 @@ use Rattle.wb_names.specs.Values.{DrawopValue}
 use Rattle.wb_names.proofs.Listings.{Contains-cases, Contains-here, Contains-none, Contains-there}
 use Rattle.wb_codec.specs.declared.datagram.Datagram.{Datagram}
 use Rattle.wb_codec.specs.declared.datagram.Datagram.TheVariants.{Draw, Session, Request, AskPages, PageState}
-use Rattle.wb_member.specs.Lines.{Line, Ticks, Arrives, Hears, Asks, Stops, SetsDistance, Tunes, Says, after_line, after_lines}
-use Rattle.wb_member.specs.Members.{Misses}
-use Rattle.wb_member.specs.Opened.{Opened, accepted, doing, has_room_for, heard, may_ask, present}
-use Rattle.wb_member.specs.Random.{word_of}
+use Rattle.wb_member.specs.Board.{Held as HeldBoard}
+use Rattle.wb_member.specs.Calls.{after_call}
+use Rattle.wb_member.specs.Lines.{Line, Ticks, Arrives, Hears, Asks, Says, after_line, after_lines}
+use Rattle.wb_member.specs.Opened.{Opened, accepted}
+use Rattle.wb_member.specs.declared.calls.Call.{Call}
+use Rattle.wb_member.specs.declared.calls.Call.TheVariants.{Hear, Ask}
+use Rattle.wb_member.proofs.KeptBoards.{calls_keep_boards}
 use Rattle.wb_keeping.specs.Kept.{Doing, Transition, and_then, came, learned, performs, takes, timed}
 use Rattle.wb_keeping.specs.Laws.{Came, after_kept}
 use Rattle.wb_keeping.specs.Performing.{Keeping, after_doing, sees}
@@ -37,25 +40,16 @@ pub record Stays (host next : Opened) : Type 0 where
 still : (host : Opened) → Stays host host
 still host = record { held = refl; cells = refl }
 
+pub call_stays : (call : Call) (host : Opened) → Stays host (after_call call host)
+call_stays call host = let same = (calls_keep_boards call host).board in
+    record { held = ap (λ (b : HeldBoard). b.drawops) same; cells = ap (λ (b : HeldBoard). b.cells) same }
+
 line_stays : (line : Line) (host : Opened) → IsGiven none line → Stays host (after_line line host)
-line_stays (Ticks now) host is = record { held = refl; cells = refl }
 line_stays (Arrives d) host is = absurd is
-line_stays (Hears v) host is = by (has_room_for v host) where
-  by : (b : Bool) → Stays host (cond b (heard v host) host)
-  by true = record { held = refl; cells = refl }
-  by false = still host
-line_stays (Asks name) host is = by (may_ask name host) where
-  by : (b : Bool) → Stays host (cond b (doing (Misses (present host) (name ∷ []) (word_of host.random ∷ [])) 1 host) host)
-  by true = record { held = refl; cells = refl }
-  by false = still host
-line_stays (Stops name) host is = record { held = refl; cells = refl }
-line_stays (SetsDistance source micros) host is = record { held = refl; cells = refl }
-line_stays (Tunes constants) host is = record { held = refl; cells = refl }
+line_stays (Hears v) host is = call_stays (Hear v) host
+line_stays (Asks name) host is = call_stays (Ask name) host
 line_stays (Says (Draw d)) host is = absurd is
-line_stays (Says (Session sender sent page marks echoes)) host is = still host
-line_stays (Says (Request asker name)) host is = still host
-line_stays (Says (AskPages asker)) host is = still host
-line_stays (Says (PageState sender page marks)) host is = still host
+line_stays line host is = record { held = refl; cells = refl }
 
 pub lines_stay : (lines : List Line) (host : Opened) → Each (IsGiven none) lines → Stays host (after_lines lines host)
 lines_stay [] host each = still host

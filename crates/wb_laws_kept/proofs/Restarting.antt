@@ -7,20 +7,20 @@ use Rattle.wb_names.specs.Values.{DrawopValue}
 use Rattle.wb_names.specs.declared.name.PageId.{PageId}
 use Rattle.wb_names.proofs.Listings.{Contains-none}
 use Rattle.wb_codec.specs.declared.datagram.Datagram.{Datagram}
-use Rattle.wb_codec.specs.declared.datagram.Datagram.TheVariants.{Draw, Session, Request, AskPages, PageState}
+use Rattle.wb_codec.specs.declared.datagram.Datagram.TheVariants.{Draw}
 use Rattle.wb_recovery.specs.declared.tuning.Tuning.{Tuning}
-use Rattle.wb_member.specs.Lines.{Line, Ticks, Arrives, Hears, Asks, Stops, SetsDistance, Tunes, Says, after_line}
-use Rattle.wb_member.specs.Members.{Misses}
-use Rattle.wb_member.specs.Opened.{Opened, doing, has_room_for, heard, may_ask, opened_with, present}
-use Rattle.wb_member.specs.Random.{word_of}
+use Rattle.wb_member.specs.Lines.{Line, Ticks, Arrives, Hears, Asks, Says, after_line}
+use Rattle.wb_member.specs.Opened.{Opened, opened_with, present}
+use Rattle.wb_member.specs.declared.calls.Call.TheVariants.{Hear, Ask}
 use Rattle.wb_keeping.specs.Laws.{KeptLine, after_kept, doing_of, expand}
 use Rattle.wb_laws_kept.specs.Openings.{Opening, opened}
 use Rattle.wb_keeping.specs.Performing.{Keeping, sees}
 use Rattle.wb_keeping.proofs.EachLine.{Each, each_both}
 use Rattle.wb_laws_sessions.specs.Drawn.{AreHonest, WasDrawn, WasHeld, drawn_at, drawn_by}
-use Rattle.wb_laws_sessions.specs.Sessions.{AreApart, Deed, Opens, Performs, Step, host_at, steps_then}
+use Rattle.wb_laws_sessions.specs.Sessions.{AreApart, Deed, Opens, Step, after_deed, deed_of, host_at, steps_then}
 use Rattle.wb_laws_sessions.proofs.Deeds.{deed_draws}
 use Rattle.wb_laws_sessions.proofs.Drawn.{drawn_cases, names_mean_one, numbers_count, once_held_was_drawn}
+use Rattle.wb_laws_sessions.proofs.Lines.{after_deed_of, same_line}
 use Rattle.wb_laws_sessions.proofs.Names.{at_most_highest}
 use Rattle.wb_laws_sessions.proofs.Outcomes.{with_more}
 use Rattle.wb_laws_sessions.proofs.Several.{number_at}
@@ -28,33 +28,17 @@ use Rattle.wb_laws_kept.specs.Restarts.{IsWholeRecord, KnowTheirOwn, KnowsItsOwn
 use Rattle.wb_laws_kept.specs.Sessions.{AreTaken, Begins, Call, CallAt, DrawopsWereHeld, Handed, after_call, given_lines, kept_at, steps_of}
 use Rattle.wb_laws_kept.proofs.Agreeing.{kept_reports_tell_agreement}
 use Rattle.wb_laws_kept.proofs.Honest.{IsGiven, all_honest, moments_given, record_given}
-use Rattle.wb_laws_kept.proofs.Replaying.{Among, MeanOne, lines_stay, none, replayed}
+use Rattle.wb_laws_kept.proofs.Replaying.{Among, MeanOne, call_stays, lines_stay, none, replayed}
 use Rattle.wb_laws_kept.proofs.Steps.{kept_is_session}
-
-pub same_line : (line other : Line) → Performs line ≡ Performs other → line ≡ other
-same_line line other e = cc
 
 -- ---- a line keeps what is held
 
 pub line_grows : (line : Line) (host : Opened) (x : DrawopValue) → Contains host.is.held x → Contains (after_line line host).is.held x
-line_grows (Ticks now) host x c = c
 line_grows (Arrives d) host x c = with_more host.is.held d x (outcome_of host.is.cells host.is.held d) c
-line_grows (Hears v) host x c = by (has_room_for v host) where
-  by : (b : Bool) → Contains (cond b (heard v host) host).is.held x
-  by true = c
-  by false = c
-line_grows (Asks name) host x c = by (may_ask name host) where
-  by : (b : Bool) → Contains (cond b (doing (Misses (present host) (name ∷ []) (word_of host.random ∷ [])) 1 host) host).is.held x
-  by true = c
-  by false = c
-line_grows (Stops name) host x c = c
-line_grows (SetsDistance source micros) host x c = c
-line_grows (Tunes constants) host x c = c
+line_grows (Hears v) host x c = subst (λ (h : List DrawopValue). Contains h x) (sym (call_stays (Hear v) host).held) c
+line_grows (Asks name) host x c = subst (λ (h : List DrawopValue). Contains h x) (sym (call_stays (Ask name) host).held) c
 line_grows (Says (Draw d)) host x c = with_more host.is.held d x (outcome_of host.is.cells host.is.held d) c
-line_grows (Says (Session sender sent page marks echoes)) host x c = c
-line_grows (Says (Request asker name)) host x c = c
-line_grows (Says (AskPages asker)) host x c = c
-line_grows (Says (PageState sender page marks)) host x c = c
+line_grows line host x c = c
 
 module _ (numbers : ℕ → ℕ) where
   -- ---- steps
@@ -67,35 +51,35 @@ module _ (numbers : ℕ → ℕ) where
     abbrev step : Deed → Step
     step deed = record { time = time; place = place; deed = deed }
 
-    line_holds : (line : Line) (older : List Step) → HoldTheirOwn older → HoldTheirOwn (step (Performs line) ∷ older)
-    line_holds line older own i d c = by (nat_eq place i) refl (drawn_cases numbers (step (Performs line)) older i d c) where
+    line_holds : (line : Line) (older : List Step) → HoldTheirOwn older → HoldTheirOwn (step (deed_of line) ∷ older)
+    line_holds line older own i d c = by (nat_eq place i) refl (drawn_cases numbers (step (deed_of line)) older i d c) where
       host : Opened
       host = host_at numbers older i
 
-      by : (b : Bool) → nat_eq place i ≡ b → ((place ≡ i) × Contains (drawn_by (Performs line) host) d) ⊎ Contains (drawn_at numbers older i) d → Contains (cond b (after_line line host) host).is.held d
+      by : (b : Bool) → nat_eq place i ≡ b → ((place ≡ i) × Contains (drawn_by (deed_of line) host) d) ⊎ Contains (drawn_at numbers older i) d → Contains (cond b (after_deed (deed_of line) host) host).is.held d
       by true is a = ⊎_elim
-          (λ (now : (place ≡ i) × Contains (drawn_by (Performs line) host) d). (deed_draws (Performs line) host d now.1).held)
-          (λ (before : Contains (drawn_at numbers older i) d). line_grows line host d (own i d before))
+          (λ (now : (place ≡ i) × Contains (drawn_by (deed_of line) host) d). (deed_draws (deed_of line) host d now.1).held)
+          (λ (before : Contains (drawn_at numbers older i) d). subst (λ (h : Opened). Contains h.is.held d) (sym (after_deed_of line host)) (line_grows line host d (own i d before)))
           a
       by false is a = ⊎_elim
-          (λ (now : (place ≡ i) × Contains (drawn_by (Performs line) host) d). absurd (true≢false (sym (eq-eqb place i now.0) ∙ is)))
+          (λ (now : (place ≡ i) × Contains (drawn_by (deed_of line) host) d). absurd (true≢false (sym (eq-eqb place i now.0) ∙ is)))
           (λ (before : Contains (drawn_at numbers older i) d). own i d before)
           a
 
-    lines_hold : (lines : List Line) (older : List Step) → HoldTheirOwn older → HoldTheirOwn (steps_then time place (map Performs lines) older)
+    lines_hold : (lines : List Line) (older : List Step) → HoldTheirOwn older → HoldTheirOwn (steps_then time place (map deed_of lines) older)
     lines_hold [] older own = own
-    lines_hold (line ∷ lines) older own = lines_hold lines (step (Performs line) ∷ older) (line_holds line older own)
+    lines_hold (line ∷ lines) older own = lines_hold lines (step (deed_of line) ∷ older) (line_holds line older own)
 
     -- lines that say no drawop draw nothing
-    not_said : (comes : DrawopValue → Type 0) (line : Line) (d : DrawopValue) → IsGiven comes line → Performs line ≡ Performs (Says (Draw d)) → ⊥
+    not_said : (comes : DrawopValue → Type 0) (line : Line) (d : DrawopValue) → IsGiven comes line → deed_of line ≡ deed_of (Says (Draw d)) → ⊥
     not_said comes line d is e = subst (IsGiven comes) (same_line line (Says (Draw d)) e) is
 
-    given_draw_none : (comes : DrawopValue → Type 0) (lines : List Line) (older : List Step) → Each (IsGiven comes) lines → (i : ℕ) (d : DrawopValue) → Contains (drawn_at numbers (steps_then time place (map Performs lines) older) i) d → Contains (drawn_at numbers older i) d
+    given_draw_none : (comes : DrawopValue → Type 0) (lines : List Line) (older : List Step) → Each (IsGiven comes) lines → (i : ℕ) (d : DrawopValue) → Contains (drawn_at numbers (steps_then time place (map deed_of lines) older) i) d → Contains (drawn_at numbers older i) d
     given_draw_none comes [] older each i d c = c
     given_draw_none comes (line ∷ lines) older each i d c = ⊎_elim
-        (λ (now : (place ≡ i) × Contains (drawn_by (Performs line) (host_at numbers older i)) d). absurd (not_said comes line d each.0 (deed_draws (Performs line) (host_at numbers older i) d now.1).said))
+        (λ (now : (place ≡ i) × Contains (drawn_by (deed_of line) (host_at numbers older i)) d). absurd (not_said comes line d each.0 (deed_draws (deed_of line) (host_at numbers older i) d now.1).said))
         (λ (before : Contains (drawn_at numbers older i) d). before)
-        (drawn_cases numbers (step (Performs line)) older i d (given_draw_none comes lines (step (Performs line) ∷ older) each.1 i d c))
+        (drawn_cases numbers (step (deed_of line)) older i d (given_draw_none comes lines (step (deed_of line) ∷ older) each.1 i d c))
 
     opening_draws_none : (constants : Tuning) (cells seed : ℕ) (older : List Step) (i : ℕ) (d : DrawopValue) → Contains (drawn_at numbers (step (Opens constants cells seed) ∷ older) i) d → Contains (drawn_at numbers older i) d
     opening_draws_none constants cells seed older i d c = ⊎_elim

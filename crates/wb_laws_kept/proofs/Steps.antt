@@ -8,13 +8,13 @@ use Rattle.wb_laws_kept.specs.Openings.{opened}
 use Rattle.wb_keeping.specs.Performing.{Keeping, sees}
 use Rattle.wb_keeping.proofs.KeptHosts.{kept_hosts_are_hosts}
 use Rattle.wb_keeping.proofs.Performed.{after_both}
-use Rattle.wb_laws_sessions.specs.Sessions.{Deed, Performs, after_deeds, host_at, steps_then}
+use Rattle.wb_laws_sessions.specs.Sessions.{Deed, after_deeds, deed_of, host_at, steps_then}
 use Rattle.wb_laws_sessions.proofs.Several.{after_all, after_performed}
 use Rattle.wb_laws_kept.specs.Sessions.{Begins, Call, CallAt, Handed, KeptIsSession, after_call, given_lines, kept_at, lines_of_call, opens_of_call, steps_of}
 
 -- what a call does as deeds
 abbrev pub deeds_of_call : Call → Keeping → List Deed
-deeds_of_call call k = opens_of_call call ++ map Performs (lines_of_call call k)
+deeds_of_call call k = opens_of_call call ++ map deed_of (lines_of_call call k)
 
 call_is : (call : Call) (k : Keeping) → after_deeds (deeds_of_call call k) k.host ≡ (after_call call k).host
 call_is (Handed line) k = after_performed (doing_of line (sees k.host) k.policy).lines k.host

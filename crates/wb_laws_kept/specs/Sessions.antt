@@ -13,7 +13,7 @@ use Rattle.wb_laws_kept.specs.Openings.{IsOpening, Opening, opened}
 use Rattle.wb_keeping.specs.Performing.{Keeping, after_doing, sees}
 use Rattle.wb_policy.specs.Policy.{begun}
 use Rattle.wb_laws_sessions.specs.Drawn.{WasHeld}
-use Rattle.wb_laws_sessions.specs.Sessions.{Deed, Opens, Performs, Step, host_at, steps_then, unopened}
+use Rattle.wb_laws_sessions.specs.Sessions.{Deed, Opens, Step, deed_of, host_at, steps_then, unopened}
 
 -- a program starts with what its record has, or is handed a line: `came`, `tick`, `add`, `tuning`
 pub data Call : Type 0 where
@@ -63,7 +63,7 @@ abbrev pub steps_of : (ℕ → ℕ) → List CallAt → List Step
 steps_of numbers [] = []
 steps_of numbers (e ∷ older) =
     let lines = lines_of_call e.call (kept_at numbers older e.place) in
-    steps_then e.time e.place (opens_of_call e.call ++ map Performs lines) (steps_of numbers older)
+    steps_then e.time e.place (opens_of_call e.call ++ map deed_of lines) (steps_of numbers older)
 
 -- ---- what is asked of them
 

@@ -33,12 +33,14 @@ use Rattle.wb_keeper.specs.Hearing.{marks_heard}
 use Rattle.wb_keeper.specs.Missing.{IsWanted}
 use Rattle.wb_keeper.proofs.FirstWanted.{first_are_wanted}
 use Rattle.wb_keeper.proofs.KeptCalls.{holds_not}
-use Rattle.wb_member.specs.Lines as lines
+use Rattle.wb_member.specs.Calls.{after_call}
 use Rattle.wb_member.specs.Opened.{Opened, accepted, doing, events, has_room_for, heard, may_ask, present, wanted_of}
 use Rattle.wb_member.specs.Random.{word_of}
+use Rattle.wb_member.specs.declared.calls.Call.{Call as MemberCall}
+use Rattle.wb_member.specs.declared.calls.Call.TheVariants as calls
 use Rattle.wb_progress.specs.Repairs.{timers_at}
 use Rattle.wb_progress.proofs.OneCall.{received_in, not_standing}
-use Rattle.wb_laws_sessions.specs.Sessions.{Deed, Looks, Opens, Performs, Step, after_deed, host_at}
+use Rattle.wb_laws_sessions.specs.Sessions.{Deed, Step, after_deed, host_at}
 use Rattle.wb_laws_sessions.specs.Sessions as deeds
 use Rattle.wb_laws_sessions.specs.Timers.{AnswersAreOfHeld, NoneHeldIsAskedFor}
 use Rattle.wb_laws_sessions.proofs.Acts.{held_after, held_grows}
@@ -252,34 +254,28 @@ module _ (host : Opened) where
     accepts : (d : DrawopValue) → Tells (accepted d host).is
     accepts d = tells_after (Takes (present host) (d ∷ []) (d ∷ [])) host.is (All-cons (λ x. Contains (d ∷ []) x) d [] (Contains-here d []) (All-nil (λ x. Contains (d ∷ []) x))) is
 
-    says : (v : Datagram) → Tells (lines.after_saying v host).is
-    says (Draw d) = accepts d
-    says (Session sender sent page marks echoes) = is
-    says (Request asker name) = is
-    says (AskPages asker) = is
-    says (PageState sender page marks) = is
-
-    line_tells : (line : lines.Line) → Tells (lines.after_line line host).is
-    line_tells (lines.Ticks now) = tells_after (Ticks now _) host.is tt is
-    line_tells (lines.Arrives d) = accepts d
-    line_tells (lines.Hears v) = by (has_room_for v host) where
+    call_tells : (call : MemberCall) → Tells (after_call call host).is
+    call_tells (calls.Tick now) = tells_after (Ticks now _) host.is tt is
+    call_tells (calls.Hear v) = by (has_room_for v host) where
       by : (b : Bool) → Tells (cond b (heard v host) host).is
       by true = tells_after (Hears _ v _) host.is tt is
       by false = is
-    line_tells (lines.Asks name) = by (may_ask name host) refl where
+    call_tells (calls.SetDelay source micros) = tells_after (SetsDelay source micros) host.is tt is
+    call_tells (calls.Tune constants) = tells_after (SetsConstants constants) host.is tt is
+    call_tells (calls.Look page) = tells_after (Misses _ (wanted_of page host) _) host.is (wanted_lacking page) is
+    call_tells (calls.Session page) = tells_after (Reports _ page) host.is tt is
+    call_tells (calls.Ask name) = by (may_ask name host) refl where
       by : (b : Bool) → may_ask name host ≡ b → Tells (cond b (doing (Misses (present host) (name ∷ []) (word_of host.random ∷ [])) 1 host) host).is
       by true e = tells_after (Misses (present host) (name ∷ []) (word_of host.random ∷ [])) host.is (asked_lacking name e) is
       by false e = is
-    line_tells (lines.Stops name) = tells_after (GivesUp (present host) name) host.is tt is
-    line_tells (lines.SetsDistance source micros) = tells_after (SetsDelay source micros) host.is tt is
-    line_tells (lines.Tunes constants) = tells_after (SetsConstants constants) host.is tt is
-    line_tells (lines.Says v) = says v
+    call_tells (calls.Stop name) = tells_after (GivesUp (present host) name) host.is tt is
 
     deed_tells : (deed : Deed) → Tells (after_deed deed host).is
-    deed_tells (Performs line) = line_tells line
-    deed_tells (Looks page) = tells_after (Misses _ (wanted_of page host) _) host.is (wanted_lacking page) is
-    deed_tells (deeds.Reports page) = tells_after (Reports _ page) host.is tt is
-    deed_tells (Opens constants cells seed) = record { requests = λ n h. refl; answers = λ n h. absurd (true≢false (sym h)) }
+    deed_tells (deeds.Takes d) = accepts d
+    deed_tells (deeds.Speaks (Draw d)) = accepts d
+    deed_tells (deeds.Speaks v) = is
+    deed_tells (deeds.Calls call) = call_tells call
+    deed_tells (deeds.Opens constants cells seed) = record { requests = λ n h. refl; answers = λ n h. absurd (true≢false (sym h)) }
 
 host_tells : (numbers : ℕ → ℕ) (steps : List Step) (i : ℕ) → Tells (host_at numbers steps i).is
 host_tells numbers [] i = record { requests = λ n h. refl; answers = λ n h. absurd (true≢false (sym h)) }

@@ -6,6 +6,7 @@ pub mod Sharing
 pub mod Deeds
 pub mod Drawn
 pub mod Sending
+pub mod Lines
 pub mod Several
 pub mod Acts
 pub mod Holding

@@ -10,7 +10,7 @@ use Rattle.wb_names.specs.declared.echo.Echo.{Echo}
 use Rattle.wb_names.specs.declared.name.PageId.{PageId}
 use Rattle.wb_names.proofs.Listings.{Any-from_map, Contains-cases, Contains-here, Contains-none, Contains-there}
 use Rattle.wb_codec.specs.declared.datagram.Datagram.{Datagram}
-use Rattle.wb_codec.specs.declared.datagram.Datagram.TheVariants.{Draw, Session, Request, AskPages, PageState}
+use Rattle.wb_codec.specs.declared.datagram.Datagram.TheVariants.{Draw, Session, PageState}
 use Rattle.wb_gaps.specs.Answers.{reports_of}
 use Rattle.wb_gaps.specs.declared.page_reports.PageReport.{PageReport}
 use Rattle.wb_recovery.specs.declared.plan.Action.{Action}
@@ -18,10 +18,13 @@ use Rattle.wb_recovery.specs.declared.plan.Action.TheVariants.{Ask, Answer}
 use Rattle.wb_keeper.specs.Hearing.{answers_to, asks_for_pages, page_states}
 use Rattle.wb_keeper.specs.Ticks.{drawop_of, sent_for, sends_for}
 use Rattle.wb_keeper.proofs.TickSends.{sent_from}
-use Rattle.wb_member.specs.Lines.{Ticks, Arrives, Hears, Asks, Stops, SetsDistance, Tunes, Says, said_where}
+use Rattle.wb_member.specs.Calls.{sent_by_call}
+use Rattle.wb_member.specs.Lines.{said_where}
 use Rattle.wb_member.specs.Opened.{Opened, has_room_for}
+use Rattle.wb_member.specs.declared.calls.Call.{Call}
+use Rattle.wb_member.specs.declared.calls.Call.TheVariants as calls
 use Rattle.wb_laws_sessions.specs.Drawn.{SentWasHeld}
-use Rattle.wb_laws_sessions.specs.Sessions.{Deed, Looks, Opens, Performs, Reports, Step, after_deed, host_at, sent, sent_by_deed}
+use Rattle.wb_laws_sessions.specs.Sessions.{Calls, Deed, Speaks, Step, after_deed, host_at, sent, sent_by_deed}
 use Rattle.wb_laws_sessions.proofs.Outcomes.{Found, found}
 use Rattle.std.proofs.lemmas.Option.{same_Some}
 
@@ -66,39 +69,27 @@ said_held held x d (Again place) f c = subst (Contains held) (one_draw x d (one_
 said_held held x d (Clash place) f c = absurd (Contains-none (Draw d) c)
 said_held held x d Left f c = absurd (Contains-none (Draw d) c)
 
+-- a call sends only drawops that are held
+call_sends : (call : Call) (host : Opened) (d : DrawopValue) → Contains (sent_by_call call host) (Draw d) → Contains host.is.held d
+call_sends (calls.Tick now) host d c = answers_held host.is.number host.is.held _ d c
+call_sends (calls.Hear v) host d c = by (has_room_for v host) c where
+  by : (b : Bool) → Contains (cond b (answers_to host.is.number host.is.held v) []) (Draw d) → Contains host.is.held d
+  by true c = absurd (no_answer host.is.number host.is.held v d c)
+  by false c = absurd (Contains-none (Draw d) c)
+call_sends (calls.Session page) host d c = absurd (other host.is.number _ page _ _ (one_of _ _ c)) where
+  other : (sender now : ℕ) (page : PageId) (marks : List MarkValue) (echoes : List Echo) → Session sender now page marks echoes ≡ Draw d → ⊥
+  other sender now page marks echoes e = cc
+call_sends call host d c = absurd (Contains-none (Draw d) c)
+
 -- it was held before, or is then
 abbrev pub IsHeldBy : Deed → Opened → DrawopValue → Type 0
 IsHeldBy deed host d = Contains host.is.held d ⊎ Contains (after_deed deed host).is.held d
 
 pub deed_sends : (deed : Deed) (host : Opened) (d : DrawopValue) → Contains (sent_by_deed deed host) (Draw d) → IsHeldBy deed host d
-deed_sends (Performs (Ticks now)) host d c = inl (answers_held host.is.number host.is.held _ d c)
-deed_sends (Performs (Arrives x)) host d c = absurd (Contains-none (Draw d) c)
-deed_sends (Performs (Hears v)) host d c = by (has_room_for v host) c where
-  by : (b : Bool) → Contains (cond b (answers_to host.is.number host.is.held v) []) (Draw d) → IsHeldBy (Performs (Hears v)) host d
-  by true c = absurd (no_answer host.is.number host.is.held v d c)
-  by false c = absurd (Contains-none (Draw d) c)
-deed_sends (Performs (Asks name)) host d c = absurd (Contains-none (Draw d) c)
-deed_sends (Performs (Stops name)) host d c = absurd (Contains-none (Draw d) c)
-deed_sends (Performs (SetsDistance source micros)) host d c = absurd (Contains-none (Draw d) c)
-deed_sends (Performs (Tunes constants)) host d c = absurd (Contains-none (Draw d) c)
-deed_sends (Performs (Says (Draw x))) host d c = inr (said_held host.is.held x d (outcome_of host.is.cells host.is.held x) (found host.is.cells 0 host.is.held x) c)
-deed_sends (Performs (Says (Session sender sent page marks echoes))) host d c = absurd (other (one_of _ _ c)) where
-  other : Session sender sent page marks echoes ≡ Draw d → ⊥
-  other e = cc
-deed_sends (Performs (Says (Request asker name))) host d c = absurd (other (one_of _ _ c)) where
-  other : Request asker name ≡ Draw d → ⊥
-  other e = cc
-deed_sends (Performs (Says (AskPages asker))) host d c = absurd (other (one_of _ _ c)) where
-  other : AskPages asker ≡ Draw d → ⊥
-  other e = cc
-deed_sends (Performs (Says (PageState sender page marks))) host d c = absurd (other (one_of _ _ c)) where
-  other : PageState sender page marks ≡ Draw d → ⊥
-  other e = cc
-deed_sends (Looks page) host d c = absurd (Contains-none (Draw d) c)
-deed_sends (Reports page) host d c = absurd (other host.is.number _ page _ _ (one_of _ _ c)) where
-  other : (sender now : ℕ) (page : PageId) (marks : List MarkValue) (echoes : List Echo) → Session sender now page marks echoes ≡ Draw d → ⊥
-  other sender now page marks echoes e = cc
-deed_sends (Opens constants cells seed) host d c = absurd (Contains-none (Draw d) c)
+deed_sends (Speaks (Draw x)) host d c = inr (said_held host.is.held x d (outcome_of host.is.cells host.is.held x) (found host.is.cells 0 host.is.held x) c)
+deed_sends (Speaks v) host d c = let e = one_of _ _ c in absurd cc
+deed_sends (Calls call) host d c = inl (call_sends call host d c)
+deed_sends deed host d c = absurd (Contains-none (Draw d) c)
 
 pub there : (numbers : ℕ → ℕ) (e : Step) (older : List Step) → host_at numbers (e ∷ older) e.place ≡ after_deed e.deed (host_at numbers older e.place)
 there numbers e older = ap (λ (b : Bool). cond b (after_deed e.deed (host_at numbers older e.place)) (host_at numbers older e.place)) (eq-eqb e.place e.place refl)

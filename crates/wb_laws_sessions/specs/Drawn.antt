@@ -3,12 +3,11 @@ use Rattle.std.specs.Prelude.{◌≡◌, ◌⊎◌, ℕ, ◌<◌, ◌≤◌, Lis
 use Rattle.wb_names.specs.Arrivals.{Outcome, New, Again, Clash, Left}
 use Rattle.wb_names.specs.History.{IsHistory}
 use Rattle.wb_names.specs.Values.{DrawopValue, NameValue}
-use Rattle.wb_codec.specs.declared.datagram.Datagram.TheVariants.{Draw, Session, Request, AskPages, PageState}
+use Rattle.wb_codec.specs.declared.datagram.Datagram.TheVariants.{Draw}
 use Rattle.wb_board.specs.Counts.{MAX_CELLS}
 use Rattle.wb_recovery.specs.declared.tuning.Tuning.{Tuning}
-use Rattle.wb_member.specs.Lines.{Line, Ticks, Arrives, Hears, Asks, Stops, SetsDistance, Tunes, Says}
 use Rattle.wb_member.specs.Opened.{Opened, becomes}
-use Rattle.wb_laws_sessions.specs.Sessions.{AreApart, Deed, Looks, Opens, Performs, Reports, Step, host_at, sent}
+use Rattle.wb_laws_sessions.specs.Sessions.{AreApart, Calls, Deed, Opens, Speaks, Step, Takes, host_at, sent}
 
 -- a drawop that a member says is drawn if its board takes it anew
 abbrev pub new_where : DrawopValue → Outcome → List DrawopValue
@@ -17,26 +16,12 @@ new_where d (Again place) = []
 new_where d (Clash place) = []
 new_where d Left = []
 
--- what a member draws by a line
-abbrev pub drawn_by_line : Line → Opened → List DrawopValue
-drawn_by_line (Ticks now) host = []
-drawn_by_line (Arrives d) host = []
-drawn_by_line (Hears v) host = []
-drawn_by_line (Asks name) host = []
-drawn_by_line (Stops name) host = []
-drawn_by_line (SetsDistance source micros) host = []
-drawn_by_line (Tunes constants) host = []
-drawn_by_line (Says (Draw d)) host = new_where d (becomes d host)
-drawn_by_line (Says (Session sender sent page marks echoes)) host = []
-drawn_by_line (Says (Request asker name)) host = []
-drawn_by_line (Says (AskPages asker)) host = []
-drawn_by_line (Says (PageState sender page marks)) host = []
-
--- and by a deed
+-- what a member draws by a deed
 abbrev pub drawn_by : Deed → Opened → List DrawopValue
-drawn_by (Performs line) host = drawn_by_line line host
-drawn_by (Looks page) host = []
-drawn_by (Reports page) host = []
+drawn_by (Takes d) host = []
+drawn_by (Speaks (Draw d)) host = new_where d (becomes d host)
+drawn_by (Speaks v) host = []
+drawn_by (Calls call) host = []
 drawn_by (Opens constants cells seed) host = []
 
 -- all that the member at a place drew, by all runs of its program, the newest first
@@ -64,10 +49,10 @@ IsAbove drawn n = (x : DrawopValue) → Contains drawn x → x.name.page ≡ n.p
 pub record IsHonestStep (numbers : ℕ → ℕ) (older : List Step) (e : Step) : Type 0 where
   pub small : (constants : Tuning) (cells seed : ℕ) → e.deed ≡ Opens constants cells seed
       → cells ≤ MAX_CELLS
-  pub comes : (d : DrawopValue) → e.deed ≡ Performs (Arrives d) → WasHeld numbers older d
-  pub own : (d : DrawopValue) → e.deed ≡ Performs (Says (Draw d))
+  pub comes : (d : DrawopValue) → e.deed ≡ Takes d → WasHeld numbers older d
+  pub own : (d : DrawopValue) → e.deed ≡ Speaks (Draw d)
       → (d.name.source ≡ numbers e.place) × (1 ≤ d.name.seq)
-  pub new : (d : DrawopValue) → e.deed ≡ Performs (Says (Draw d))
+  pub new : (d : DrawopValue) → e.deed ≡ Speaks (Draw d)
       → Contains (host_at numbers older e.place).is.held d
       ⊎ IsAbove (drawn_at numbers older e.place) d.name
 
@@ -118,5 +103,5 @@ SentWasHeld = (numbers : ℕ → ℕ) (steps : List Step) (d : DrawopValue)
 -- What comes clashes with nothing that is held.
 abbrev pub NoneClashes : Type 0
 NoneClashes = (numbers : ℕ → ℕ) (older : List Step) (e : Step) (d : DrawopValue) (place : ℕ)
-    → AreApart numbers → AreHonest numbers (e ∷ older) → e.deed ≡ Performs (Arrives d)
+    → AreApart numbers → AreHonest numbers (e ∷ older) → e.deed ≡ Takes d
     → becomes d (host_at numbers older e.place) ≡ Clash place → ⊥
