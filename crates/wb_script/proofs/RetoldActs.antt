@@ -15,7 +15,6 @@ use Rattle.wb_recovery.specs.declared.timers.Timers.{Timers}
 use Rattle.wb_keeper.specs.GivingUp.{is_asked, is_timed}
 use Rattle.wb_keeper.specs.Hearing.{marks_heard, asks_for_held, answers_to, has_room}
 use Rattle.wb_keeper.specs.Keeper.{KeeperCall, Hear, Miss, GoOn, Report, GiveUp, SetDelay, SetConstants, delay_to, received_of, holds, is_own}
-use Rattle.wb_keeper.specs.Known.{pages_heard}
 use Rattle.wb_keeper.specs.Missing.{wanted, names_in_gaps}
 use Rattle.wb_keeper.specs.Sessions.{echoes_of}
 use Rattle.wb_keeper.specs.Ticks.{sends_for, stopped_after}
