@@ -15,14 +15,14 @@ use Rattle.wb_keeper.specs.Known.{pages_heard}
 use Rattle.wb_keeper.specs.Missing.{wanted, names_in_gaps}
 use Rattle.wb_keeper.specs.Sessions.{echoes_of}
 use Rattle.wb_keeper.specs.declared.keep_fault.KeepFault.{KeepFault}
-use Rattle.wb_member.specs.Calls.{after_call, fault_of, found_by, sent_by_call}
+use Rattle.wb_member.specs.Calls.{after_call, fault_of}
 use Rattle.wb_member.specs.Members.{calling as told}
 use Rattle.wb_member.specs.Opened.{Opened, present, board_of, events, due_count, wanted_of, has_room_for, heard, may_ask, words_for, word_at}
 use Rattle.wb_member.specs.Questions.{Told, answer_to}
 use Rattle.wb_member.specs.Random.{word_of, words_of, after_words}
 use Rattle.wb_member.specs.declared.calls.Call.{Call}
 use Rattle.wb_member.specs.declared.calls.Call.TheVariants.{Tick, Hear as HearCall, Look, Session, Ask}
-use Rattle.wb_member.specs.declared.calls.Found.TheVariants.{Missing, MayAsk}
+use Rattle.wb_member.specs.declared.calls.Found.TheVariants.{Nothing, Missing, MayAsk}
 use Rattle.wb_member.specs.declared.questions.Query.{Query}
 use Rattle.wb_member.proofs.KeptBoards.{calls_keep_boards}
 use Rattle.wb_commands.specs.Acts.{Act, does, fails, unless, tells, asked, called, act}
@@ -64,12 +64,11 @@ module _ (host : Opened) (drawops : List DrawopValue) (a : AreAlike host.is.held
 
   -- ---- calls
 
-  -- It is refused alike. But for the order of what is held, it leads to the same host, and it sends and finds the same.
+  -- It is refused alike. But for the order of what is held, it leads to the same host, and it prints the same.
   record CallAlike (call : Call) : Type 0 where
     fault : fault_of call host ≡ fault_of call other
     after : after_call call other ≡ holding (after_call call host) drawops
-    sent : sent_by_call call host ≡ sent_by_call call other
-    found : found_by call host ≡ found_by call other
+    text : call_text call host ≡ call_text call other
 
   -- once the keeper accepted a call, which each may have told something else of what it holds
   told_alike : (call call' : KeeperCall) (words : ℕ) → call ≡ call' → calling call' words other ≡ holding (calling call words host) drawops
@@ -95,8 +94,7 @@ module _ (host : Opened) (drawops : List DrawopValue) (a : AreAlike host.is.held
   call_alike (Tick now) = record {
     fault = refl;
     after = told_alike (ticking now (holds host.is.held)) (ticking now (holds drawops)) (due_count now host) (ap (ticking now) same_held);
-    sent = ap₂ (λ (sends : Action → Option Datagram) (held : NameValue → Bool). sent_with sends held now) (same_sent host.is.held drawops a host.is.number) same_held;
-    found = refl;
+    text = ap₂ (λ (sends : Action → Option Datagram) (held : NameValue → Bool). done_text (sent_with sends held now) Nothing) (same_sent host.is.held drawops a host.is.number) same_held;
   }
   call_alike (HearCall v) =
       let hear : Bool → KeeperCall = λ held. Hear (present host) v (word_at v host.random) held in
@@ -105,8 +103,7 @@ module _ (host : Opened) (drawops : List DrawopValue) (a : AreAlike host.is.held
         fault = refl;
         after = by_test (has_room_for v host) (heard v host) (heard v other)
             (told_alike (hear (asks_for_held host.is.held v)) (hear (asks_for_held drawops v)) (words_for v) (ap hear (same_asks host.is.held drawops a v)));
-        sent = ap (λ (reports : List PageReport). cond (has_room_for v host) (sent reports) []) (same_reports host.is.held drawops a);
-        found = refl;
+        text = ap (λ (reports : List PageReport). done_text (cond (has_room_for v host) (sent reports) []) Nothing) (same_reports host.is.held drawops a);
       }
   call_alike (Look page) =
       let wants : wanted_of page host ≡ wanted_of page other =
@@ -115,14 +112,12 @@ module _ (host : Opened) (drawops : List DrawopValue) (a : AreAlike host.is.held
       record {
         fault = refl;
         after = ap (λ (names : List NameValue). calling (Miss (present host) names (words_of host.random (length names))) (length names) other) (sym wants);
-        sent = refl;
-        found = ap (λ (names : List NameValue). Missing (length names)) wants;
+        text = ap (λ (names : List NameValue). done_text [] (Missing (length names))) wants;
       }
   call_alike (Session page) = record {
     fault = refl;
     after = refl;
-    sent = ap (λ (marks : List MarkValue). SessionMessage host.is.number (present host) page marks (echoes_of host.is.number host.is.calls (present host)) ∷ []) (same_report host.is.held drawops a page);
-    found = refl;
+    text = ap (λ (marks : List MarkValue). done_text (SessionMessage host.is.number (present host) page marks (echoes_of host.is.number host.is.calls (present host)) ∷ []) Nothing) (same_report host.is.held drawops a page);
   }
   call_alike (Ask name) =
       let missing : Opened → Opened = λ h. calling (Miss (present host) (name ∷ []) (word_of host.random ∷ [])) 1 h in
@@ -130,17 +125,16 @@ module _ (host : Opened) (drawops : List DrawopValue) (a : AreAlike host.is.held
       record {
         fault = refl;
         after = ap (λ (b : Bool). cond b (missing other) other) (sym may) ∙ by_test (may_ask name host) (missing host) (missing other) refl;
-        sent = refl;
-        found = ap MayAsk may;
+        text = ap (λ (begun : Bool). done_text [] (MayAsk begun)) may;
       }
-  call_alike call = record { fault = refl; after = refl; sent = refl; found = refl }
+  call_alike call = record { fault = refl; after = refl; text = refl }
 
   calls_alike : (call : Call) → DoAlike host drawops (called call host) (called call other)
   calls_alike call =
       let c = call_alike call in
       let does' : Opened → Act = λ h. does (after_call call h) (call_text call h) in
       subst (λ (fault : Option KeepFault). DoAlike host drawops (called call host) (unless fault (does' other))) c.fault
-      (unless_both (DoAlike host drawops) (λ e. refl) (fault_of call host) (does' host) (does' other) ((calls_keep_boards call host).board, c.after, ap₂ done_text c.sent c.found))
+      (unless_both (DoAlike host drawops) (λ e. refl) (fault_of call host) (does' host) (does' other) ((calls_keep_boards call host).board, c.after, c.text))
 
   -- ---- each line
 

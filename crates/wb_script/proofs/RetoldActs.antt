@@ -20,14 +20,14 @@ use Rattle.wb_keeper.specs.Sessions.{echoes_of}
 use Rattle.wb_keeper.specs.Ticks.{sends_for, stopped_after}
 use Rattle.wb_keeper.specs.declared.keep_fault.KeepFault.{KeepFault}
 use Rattle.wb_keeper.specs.declared.keep_fault.KeepFault.TheVariants.{BackInTime, TooMany}
-use Rattle.wb_member.specs.Calls.{after_call, fault_of, found_by, sent_by_call}
+use Rattle.wb_member.specs.Calls.{after_call, fault_of}
 use Rattle.wb_member.specs.Members.{calling as told}
 use Rattle.wb_member.specs.Opened.{Opened, present, events, due_count, sent_by, wanted_of, has_room_for, heard, may_ask, words_for, word_at}
 use Rattle.wb_member.specs.Questions.{Told, answer_by, answer_to}
 use Rattle.wb_member.specs.Random.{word_of, words_of, after_words}
 use Rattle.wb_member.specs.declared.calls.Call.{Call}
 use Rattle.wb_member.specs.declared.calls.Call.TheVariants as calls
-use Rattle.wb_member.specs.declared.calls.Found.TheVariants.{Missing, MayAsk, WasAsked}
+use Rattle.wb_member.specs.declared.calls.Found.TheVariants.{Nothing, Missing, MayAsk, WasAsked}
 use Rattle.wb_member.specs.declared.questions.Query.{Query}
 use Rattle.wb_commands.specs.Acts.{Act, does, fails, unless, tells, asked, called, act}
 use Rattle.wb_commands.specs.Answers.{answer_text}
@@ -90,12 +90,11 @@ module _ (host : Opened) (others : List KeeperCall) (a : CallsAlike host.is.call
 
   -- ---- calls
 
-  -- It is refused alike, leads to two such hosts, and sends and finds the same.
+  -- It is refused alike, leads to two such hosts, and prints the same.
   record CallRetold (call : Call) : Type 0 where
     fault : fault_of call host ≡ fault_of call other
     after : HostsRetold (after_call call host) (after_call call other)
-    sent : sent_by_call call host ≡ sent_by_call call other
-    found : found_by call host ≡ found_by call other
+    text : call_text call host ≡ call_text call other
 
   -- once the keeper accepted a call
   told_alike : (call call' : KeeperCall) (words words' : ℕ) → call ≡ call' → words ≡ words' → HostsRetold (calling call words host) (calling call' words' other)
@@ -152,8 +151,7 @@ module _ (host : Opened) (others : List KeeperCall) (a : CallsAlike host.is.call
         fault = ap (λ (moment : ℕ). fault_unless (nat_le moment now) BackInTime) same_present;
         after = told_alike (going host) (going other) (due_count now host) (due_count now other)
             (ap₂ (λ (count : ℕ) (stopped : List NameValue). GoOn now (words_of host.random count) stopped) (same_due now) same_stopping) (same_due now);
-        sent = same_sent now;
-        found = refl;
+        text = ap (λ (sent : List Datagram). done_text sent Nothing) (same_sent now);
       }
   call_retold (calls.Hear v) =
       let hearing : ℕ → KeeperCall = λ now. Hear now v (word_at v host.random) (asks_for_held host.is.held v) in
@@ -162,19 +160,17 @@ module _ (host : Opened) (others : List KeeperCall) (a : CallsAlike host.is.call
         fault = ap (λ (b : Bool). fault_unless b TooMany) room;
         after = by_test (has_room_for v host) (has_room_for v other) (heard v host) (heard v other) room
             (told_alike (hearing (present host)) (hearing (present other)) (words_for v) (words_for v) (ap hearing same_present) refl);
-        sent = ap (λ (b : Bool). cond b (answers_to host.is.number host.is.held v) []) room;
-        found = refl;
+        text = ap (λ (b : Bool). done_text (cond b (answers_to host.is.number host.is.held v) []) Nothing) room;
       }
-  call_retold (calls.SetDelay source micros) = record { fault = refl; after = told_alike (SetDelay source micros) (SetDelay source micros) 0 0 refl refl; sent = refl; found = refl }
-  call_retold (calls.Tune constants) = record { fault = refl; after = told_alike (SetConstants constants) (SetConstants constants) 0 0 refl refl; sent = refl; found = refl }
+  call_retold (calls.SetDelay source micros) = record { fault = refl; after = told_alike (SetDelay source micros) (SetDelay source micros) 0 0 refl refl; text = refl }
+  call_retold (calls.Tune constants) = record { fault = refl; after = told_alike (SetConstants constants) (SetConstants constants) 0 0 refl refl; text = refl }
   call_retold (calls.Look page) =
       let missing : ℕ → List NameValue → KeeperCall = λ now names. Miss now names (words_of host.random (length names)) in
       let count : length (wanted_of page host) ≡ length (wanted_of page other) = ap length (same_wanted page) in
       record {
         fault = refl;
         after = told_alike (missing (present host) (wanted_of page host)) (missing (present other) (wanted_of page other)) (length (wanted_of page host)) (length (wanted_of page other)) (ap₂ missing same_present (same_wanted page)) count;
-        sent = refl;
-        found = ap Missing count;
+        text = ap (λ (n : ℕ). done_text [] (Missing n)) count;
       }
   call_retold (calls.Session page) =
       let message : ℕ → List Echo → Datagram = λ now echoes. SessionMessage host.is.number now page (report_of host.is.held page) echoes in
@@ -183,8 +179,7 @@ module _ (host : Opened) (others : List KeeperCall) (a : CallsAlike host.is.call
       record {
         fault = refl;
         after = told_alike (Report (present host)) (Report (present other)) 0 0 (ap Report same_present) refl;
-        sent = ap₂ (λ (now : ℕ) (es : List Echo). message now es ∷ []) same_present echoes;
-        found = refl;
+        text = ap₂ (λ (now : ℕ) (es : List Echo). done_text (message now es ∷ []) Nothing) same_present echoes;
       }
   call_retold (calls.Ask name) =
       let missing : ℕ → KeeperCall = λ now. Miss now (name ∷ []) (word_of host.random ∷ []) in
@@ -193,16 +188,14 @@ module _ (host : Opened) (others : List KeeperCall) (a : CallsAlike host.is.call
         fault = refl;
         after = by_test (may_ask name host) (may_ask name other) (calling (missing (present host)) 1 host) (calling (missing (present other)) 1 other) may
             (told_alike (missing (present host)) (missing (present other)) 1 1 (ap missing same_present) refl);
-        sent = refl;
-        found = ap MayAsk may;
+        text = ap (λ (begun : Bool). done_text [] (MayAsk begun)) may;
       }
   call_retold (calls.Stop name) =
       let giving : ℕ → (NameValue → Timers) → KeeperCall = λ now timers. GiveUp now name (is_asked timers name) in
       record {
         fault = refl;
         after = told_alike (giving (present host) (timers_of host.is.constants (events host))) (giving (present other) (timers_of host.is.constants (events other))) 0 0 (ap₂ giving same_present same_timers) refl;
-        sent = refl;
-        found = ap (λ (timers : NameValue → Timers). WasAsked (is_asked timers name)) same_timers;
+        text = ap (λ (timers : NameValue → Timers). done_text [] (WasAsked (is_asked timers name))) same_timers;
       }
 
   calls_retold : (call : Call) → DoRetold (called call host) (called call other)
@@ -210,7 +203,7 @@ module _ (host : Opened) (others : List KeeperCall) (a : CallsAlike host.is.call
       let c = call_retold call in
       let does' : Opened → Act = λ h. does (after_call call h) (call_text call h) in
       subst (λ (fault : Option KeepFault). DoRetold (called call host) (unless fault (does' other))) c.fault
-      (unless_both DoRetold (λ e. refl) (fault_of call host) (does' host) (does' other) (c.after, ap₂ done_text c.sent c.found))
+      (unless_both DoRetold (λ e. refl) (fault_of call host) (does' host) (does' other) (c.after, c.text))
 
   pub act_retold : (line : Command) → DoRetold (act line host) (act line other)
   act_retold (Question query) = asks query
