@@ -252,14 +252,11 @@ line_so : (k : Option ℕ) (host : Option Opened) (waiting : List DrawopValue) (
     → DoesSo (part_of (Ok line)) (board k host waiting) (answer_to script_constants other (Script line)) (said_step (board k host waiting) waiting (Ok line))
 line_so k None waiting None lines.Skip b = (None, refl, refl, refl, tt)
 line_so k None waiting None (lines.Board member cells workers seed) b = let next = opened_with script_constants member cells seed in (Some next, [], refl, refl, refl, fresh next)
-line_so k None waiting None (lines.Arrive d) b = refl
-line_so k None waiting None (lines.Call call) b = refl
-line_so k None waiting None (lines.Question query) b = refl
+line_so k None waiting None line b = refl
 line_so k (Some host) waiting (Some other) lines.Skip b = (Some other, refl, refl, refl, b)
 line_so k (Some host) waiting (Some other) (lines.Board member cells workers seed) b = ended_is k host waiting
 line_so k (Some host) waiting (Some other) (lines.Arrive d) b = arrives_so k host waiting other d b
-line_so k (Some host) waiting (Some other) (lines.Call call) b = acts_so k host waiting other (Acts (lines.Call call)) (lines.Call call) b
-line_so k (Some host) waiting (Some other) (lines.Question query) b = acts_so k host waiting other (Acts (lines.Question query)) (lines.Question query) b
+line_so k (Some host) waiting (Some other) line b = acts_so k host waiting other (Acts line) line b
 line_so k None waiting (Some other) line b = absurd b
 line_so k (Some host) waiting None line b = absurd b
 
