@@ -15,7 +15,7 @@ use Rattle.wb_member.specs.Board.{Held}
 use Rattle.wb_member.specs.Opened.{Opened, last_number, present, ticked}
 use Rattle.wb_member.specs.Questions.{answer_to}
 use Rattle.wb_member.specs.declared.calls.Call.TheVariants as calls
-use Rattle.wb_member.proofs.Calls.{calls_keep_boards}
+use Rattle.wb_member.proofs.KeptBoards.{calls_keep_boards}
 use Rattle.wb_keeping.specs.Kept.{Asks, Hears, Line, Says, Tunes, Ticks, Transition, drawing}
 use Rattle.wb_keeping.specs.Laws.{Added, Came as CameIn, KeptLine, Ticked, doing_of, fault_of}
 use Rattle.wb_keeping.specs.Performing.{Keeping, after_line, after_lines, sees, view_of}

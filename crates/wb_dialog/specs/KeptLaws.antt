@@ -1,15 +1,15 @@
 -- A self-managing host is a host whose driver hands in other lines: those of its policy.
 use Rattle.std.specs.Prelude.{◌≡◌, ◌≤◌, ℕ, List, [], ◌∷◌, ◌++◌, Some, None}
+use Rattle.wb_names.specs.declared.name.PageId.{PageId}
+use Rattle.wb_names.specs.declared.parts.Op.{Op}
 use Rattle.wb_codec.specs.declared.datagram.Datagram.{Datagram}
 use Rattle.wb_codec.specs.declared.datagram.Datagram.TheVariants as datagrams
 use Rattle.wb_board.specs.Counts.{MAX_CELLS}
-use Rattle.wb_member.specs.Opened.{Opened, asks_for, becomes, may_ask, present}
+use Rattle.wb_member.specs.Opened.{Opened, asks_for, becomes, may_ask}
 use Rattle.wb_member.specs.declared.calls.Call.TheVariants as calls
-use Rattle.wb_keeping.specs.Calls.{IsWithin, KeptLine, doing_of, fault_of}
-use Rattle.wb_keeping.specs.Kept.{Line, Ticks, Arrives, Hears, Asks, Stops, SetsDistance, Tunes, Says}
-use Rattle.wb_keeping.specs.Performing.{Keeping, after_doing, after_line, sees, sent_by_line}
-use Rattle.wb_policy.specs.Policy.{begun}
-use Rattle.wb_policy.specs.declared.limits.TheConstants.{MOST_DISTANCE}
+use Rattle.wb_keeping.specs.Kept.{Line, Ticks, Arrives, Hears, Asks, Stops, SetsDistance, Tunes, Says, adds, came, performs, ticks}
+use Rattle.wb_keeping.specs.Performing.{Keeping, after_line, sees, sent_by_line}
+use Rattle.wb_keeping.specs.Refusing.{add_fault, came_fault, tick_fault}
 use Rattle.wb_commands.specs.SentLines.{ask_line, sends_text, stop_line}
 use Rattle.wb_commands.specs.declared.command.Command.TheVariants as lines
 use Rattle.wb_dialog.specs.declared.line.DriverLine.{DriverLine}
@@ -37,14 +37,20 @@ driver_line (Says v) = Say v
 -- what it prints beside the datagrams that it sends
 abbrev pub told_said : Datagram → Opened → List ℕ
 told_said (datagrams.Draw d) host = unsent_text (becomes d host)
-told_said v host = []
+told_said (datagrams.Session sender sent page marks echoes) host = []
+told_said (datagrams.Request asker name) host = []
+told_said (datagrams.AskPages asker) host = []
+told_said (datagrams.PageState sender page marks) host = []
 
 abbrev pub told_by : Line → Opened → List ℕ
+told_by (Ticks now) host = []
 told_by (Arrives d) host = batch_of (becomes d host)
+told_by (Hears v) host = []
 told_by (Asks name) host = ask_line (may_ask name host)
 told_by (Stops name) host = stop_line (asks_for name host)
+told_by (SetsDistance source micros) host = []
+told_by (Tunes constants) host = []
 told_by (Says v) host = told_said v host
-told_by line host = []
 
 -- A host that its driver hands these lines comes to the same hosts, and prints a `send` line for each datagram of theirs.
 abbrev pub IsDrivenBy : List Line → Opened → Type 0
@@ -53,15 +59,12 @@ IsDrivenBy (line ∷ lines') host =
     let a = answer_at (driver_line line) host in
     (after (Some host) a ≡ Some (after_line line host)) × (text_of a ≡ sends_text (sent_by_line line host) ++ told_by line host) × IsDrivenBy lines' (after_line line host)
 
--- The usual distance of its policy is at most a second.
-abbrev pub GoesNear : Keeping → Type 0
-GoesNear k = k.policy.usual ≤ MOST_DISTANCE
-
--- So it is with the lines of each call that a self-managing host does not refuse, from its beginning on.
+-- So it is with the lines of each call that a self-managing host does not refuse.
 pub record KeptIsDriven : Type 0 where
-  pub begins : (host : Opened) (rate listen seed : ℕ) → GoesNear (record { host = host; policy = begun (present host) rate listen seed })
-  pub goes_on : (line : KeptLine) (k : Keeping) → IsWithin line → GoesNear k → fault_of line k ≡ None
-      → IsDrivenBy (doing_of line (sees k.host) k.policy).lines k.host × GoesNear (after_doing (doing_of line) k)
+  pub ticked : (k : Keeping) (now : ℕ) → tick_fault now k ≡ None → IsDrivenBy (ticks now (sees k.host) k.policy).lines k.host
+  pub took : (k : Keeping) (now : ℕ) (v : Datagram) → came_fault now v k ≡ None → IsDrivenBy (came now v (sees k.host) k.policy).lines k.host
+  pub tuned : (k : Keeping) (constants : Tuning) → IsDrivenBy (performs (Tunes constants) (sees k.host) k.policy).lines k.host
+  pub drew : (k : Keeping) (now : ℕ) (page : PageId) (time : ℕ) (op : Op) → add_fault now page time op k ≡ None → IsDrivenBy (adds now page time op (sees k.host) k.policy).lines k.host
 
 -- On a board of no more cells than a line can tell no drawing is refused as too many, whatever was handed in
 -- before.
