@@ -1,15 +1,11 @@
 -- What a host does and then is, from what its member answered.
 use Rattle.std.proofs.Common.{◌≡◌, ℕ, List, [], ◌++◌, Option, Some, None, Result, Ok, Err, refl, sym, subst, ap, ◌∙◌, append-nil}
-use Rattle.wb_codec.specs.declared.datagram.Datagram.{Datagram}
 use Rattle.wb_keeper.specs.KeepFaults.{IsKeptBy}
 use Rattle.wb_keeper.specs.declared.keep_fault.KeepFault.{KeepFault}
 use Rattle.wb_keeper.specs.declared.keep_fault.KeepFault.TheVariants as keeping
-use Rattle.wb_member.specs.Calls.{after_call, fault_of as call_fault, found_by, sent_by_call}
 use Rattle.wb_member.specs.Holding.{IsOpenAt, MemberValue}
 use Rattle.wb_member.specs.Opened.{Opened}
 use Rattle.wb_member.specs.Questions.{Told, answer_to}
-use Rattle.wb_member.specs.declared.calls.Call.{Call}
-use Rattle.wb_member.specs.declared.calls.Found.{Found}
 use Rattle.wb_member.specs.declared.questions.Query.{Query}
 use Rattle.wb_commands.specs.declared.fault.LineFault.{LineFault}
 use Rattle.wb_commands.specs.declared.fault.LineFault.TheVariants as faults
@@ -17,8 +13,7 @@ use Rattle.wb_commands.specs.declared.fault.Untaken.{Untaken}
 use Rattle.wb_commands.specs.declared.fault.Untaken.TheVariants as untaken
 use Rattle.wb_commands.specs.Answers.{answer_text}
 use Rattle.wb_commands.specs.Doing.{DoesAct, PrintsAnswer, fault_of, printed}
-use Rattle.wb_commands.specs.Acts.{Act, asked, called, does, fails, tells, unless}
-use Rattle.wb_commands.specs.SentLines.{call_text, done_text}
+use Rattle.wb_commands.specs.Acts.{Act, asked, fails, tells, unless}
 
 -- an allocation failed before anything was printed
 pub act_at_once : (host : Opened) (new : MemberValue) (a : Act) → DoesAct {U = Unit {0}} host new [] (Err untaken.Memory) a
@@ -55,8 +50,8 @@ pub call_refused : {X : Type 0} (v w : MemberValue) (host : Opened) (fault : Opt
     → DoesAct {U = Unit {0}} host w [] (Err (fault_of f)) (unless fault a)
 call_refused {X = X} v w host fault a r f is kept same at = by fault (subst (IsKeptBy fault) is kept) where
   refused_so : (g : KeepFault) (e : LineFault) → fault_of g ≡ untaken.Line e → (let r : Result X KeepFault = Err f in r) ≡ Err g → DoesAct {U = Unit {0}} host w [] (Err (fault_of f)) (fails e)
-  refused_so g e as k =
-      subst (λ (u : Untaken). DoesAct {U = Unit {0}} host w [] (Err u) (fails e)) (sym (ap fault_of (err_is f g k) ∙ as)) (refl, subst (λ (m : MemberValue). IsOpenAt m host) (sym same) at, refl)
+  refused_so g e faulted k =
+      subst (λ (u : Untaken). DoesAct {U = Unit {0}} host w [] (Err u) (fails e)) (sym (ap fault_of (err_is f g k) ∙ faulted)) (refl, subst (λ (m : MemberValue). IsOpenAt m host) (sym same) at, refl)
 
   by : (fault : Option KeepFault) → IsKeptBy {X = X} fault (Err f) → DoesAct {U = Unit {0}} host w [] (Err (fault_of f)) (unless fault a)
   by None k = memory_alone host w a f k
@@ -64,15 +59,3 @@ call_refused {X = X} v w host fault a r f is kept same at = by fault (subst (IsK
   by (Some keeping.Range) k = refused_so keeping.Range faults.Number refl k
   by (Some keeping.TooMany) k = refused_so keeping.TooMany faults.TooMany refl k
   by (Some keeping.Memory) k = memory_alone host w a f (err_is f keeping.Memory k)
-
--- it was not refused
-pub not_refused : {X : Type 0} (fault : Option KeepFault) (r : Result X KeepFault) (x : X) → r ≡ Ok x → IsKeptBy fault r → (a : Act) → unless fault a ≡ a
-not_refused None r x is kept a = refl
-not_refused (Some f) r x is kept a = absurd (let same = sym is ∙ kept in cc)
-
--- it did what it was called to do
-pub call_done : {X : Type 0} (w : MemberValue) (host : Opened) (call : Call) (sent : List Datagram) (found : Found) (r : Result X KeepFault) (x : X) → r ≡ Ok x → IsKeptBy (call_fault call host) r
-    → (sent ≡ sent_by_call call host) × IsOpenAt w (after_call call host) → found ≡ found_by call host → DoesAct {U = Unit {0}} host w (done_text sent found) (Ok tt) (called call host)
-call_done w host call sent found r x is kept did finds =
-    rw (not_refused (call_fault call host) r x is kept (does (after_call call host) (call_text call host)))
-    (did.1, ap (λ (l : List Datagram). done_text l found) did.0 ∙ ap (done_text (sent_by_call call host)) finds)

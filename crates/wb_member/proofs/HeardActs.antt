@@ -1,19 +1,29 @@
 -- What a member sends at once for a datagram, and when it refuses one.
-use Rattle.std.proofs.Common.{◌≡◌, ℕ, Bool, false, cond, List, Result, Ok, Err, IfOk, OnOk, sym, ap, subst, ◌∙◌}
+use Rattle.std.proofs.Common.{◌≡◌, ℕ, Bool, true, false, cond, List, Result, Ok, Err, IfOk, OnOk, refl, sym, ap, subst, ◌∙◌}
+use Rattle.wb_names.specs.Faults.{fault_unless}
 use Rattle.wb_names.specs.Values.{DrawopValue}
 use Rattle.wb_codec.specs.declared.datagram.Datagram.{Datagram}
 use Rattle.wb_random.specs.Words.{Lcg}
 use Rattle.wb_keeper.specs.Hearing.{answers_to, asks_for_held}
 use Rattle.wb_keeper.specs.Keeper.{Hear}
 use Rattle.wb_keeper.specs.Keeping.{KeeperValue, Keeps}
+use Rattle.wb_keeper.specs.KeepFaults.{IsKeptBy}
 use Rattle.wb_keeper.specs.declared.keep_fault.KeepFault.{KeepFault}
+use Rattle.wb_keeper.specs.declared.keep_fault.KeepFault.TheVariants.{TooMany}
 use Rattle.wb_member.specs.Board.{Held}
 use Rattle.wb_member.specs.Holding.{IsOpenAt}
-use Rattle.wb_member.specs.Opened.{Opened, present, takes_word, words_for, word_at, heard, answered}
+use Rattle.wb_member.specs.Opened.{Opened, present, takes_word, words_for, word_at, has_room_for, heard, heard_fault, answered}
 use Rattle.wb_member.specs.Random.{word_of, after_words}
 use Rattle.wb_member.proofs.Acts.{member, same_history, called}
 
 -- ---- room for marks
+
+-- what was heard had room
+pub had_room : {X : Type 0} (v : Datagram) (host : Opened) (r : Result X KeepFault) (x : X) → r ≡ Ok x → IsKeptBy (heard_fault v host) r → has_room_for v host ≡ true
+had_room {X = X} v host r x is kept = by (has_room_for v host) (subst (IsKeptBy (heard_fault v host)) is kept) where
+  by : (room : Bool) → IsKeptBy {X = X} (fault_unless room TooMany) (Ok x) → room ≡ true
+  by true k = refl
+  by false k = absurd cc
 
 -- ---- what a member that heard a datagram does
 

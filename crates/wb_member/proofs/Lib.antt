@@ -4,4 +4,4 @@ pub mod Acts
 pub mod HeardActs
 pub mod OneArrival
 pub mod NextNumbers
-pub mod Calls
+pub mod KeptBoards

@@ -1,5 +1,5 @@
 -- What happens to a member beside the drawops that come to it: what it is then, what it answers, and why it refuses a call.
-use Rattle.std.specs.Prelude.{◌≡◌, ℕ, List, [], ◌∷◌, length, Option, None, if◌then◌else◌}
+use Rattle.std.specs.Prelude.{◌≡◌, List, [], ◌∷◌, length, Option, None, if◌then◌else◌}
 use Rattle.wb_names.specs.Faults.{fault_unless}
 use Rattle.wb_names.specs.Moments.{IsMoment}
 use Rattle.wb_codec.specs.declared.datagram.Datagram.{Datagram}

@@ -18,16 +18,11 @@ use wb_recovery::Tuning;
 #[derive(Debug, Drop)]
 pub enum Call {
     /// Time goes on to a moment, in microseconds below 2^48.
-    Tick {
-        now: u64,
-    },
+    Tick { now: u64 },
     /// It hears a datagram other than a drawop, at the present moment.
     Hear(Datagram),
     /// The delay to a source is set, in microseconds below 2^24.
-    SetDelay {
-        source: u32,
-        micros: u64,
-    },
+    SetDelay { source: u32, micros: u64 },
     /// Its timers are given other constants, each 1 to 16, for what is set or backed off from now
     /// on. A timer that stands keeps its moment.
     Tune(Tuning),

@@ -1,8 +1,8 @@
 -- What a call leaves as it was.
-use Rattle.std.proofs.Common.{◌≡◌, Bool, true, false, cond, [], ◌∷◌, refl}
-use Rattle.wb_member.specs.Calls.{CallsKeepBoards, KeepsBoard, after_call}
+use Rattle.std.proofs.Common.{Bool, true, false, cond, [], ◌∷◌, refl}
+use Rattle.wb_member.specs.Calls.{CallsKeepBoards, KeepsBoard}
 use Rattle.wb_member.specs.Members.{Misses}
-use Rattle.wb_member.specs.Opened.{Opened, doing, has_room_for, heard, may_ask, present}
+use Rattle.wb_member.specs.Opened.{doing, has_room_for, heard, may_ask, present}
 use Rattle.wb_member.specs.Random.{word_of}
 use Rattle.wb_member.specs.declared.calls.Call.TheVariants.{Tick, Hear, SetDelay, Tune, Look, Session, Ask, Stop}
 
