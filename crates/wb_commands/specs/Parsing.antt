@@ -1,6 +1,5 @@
 -- What a line of a script says, or its first fault.
-use Rattle.std.specs.Prelude.{◌≡◌, ◌≤◌, IfErr, MatchResult, ℕ, ◌-◌, ◌^◌, List, [], ◌∷◌, Bool, true, false, nat_eq, Option, Some, None, Result, Ok, Err, if◌then◌else◌, codes, bytes_eq}
-use Rattle.wb_names.specs.Moments.{IsMoment}
+use Rattle.std.specs.Prelude.{◌≡◌, ◌≤◌, IfErr, MatchResult, ℕ, ◌-◌, ◌^◌, List, [], ◌∷◌, Bool, false, nat_eq, Option, Some, None, Result, Ok, Err, if◌then◌else◌, codes, bytes_eq}
 use Rattle.wb_names.specs.declared.moment.TheConstants.{MAX_MOMENT}
 use Rattle.wb_names.specs.declared.name.PageId.{PageId}
 use Rattle.wb_codec.specs.Reading.{reading}
@@ -15,8 +14,6 @@ use Rattle.wb_commands.specs.declared.fault.LineFault.TheVariants as faults
 use Rattle.wb_commands.specs.declared.fault.Untaken.{Untaken}
 use Rattle.wb_commands.specs.declared.fault.Untaken.TheVariants as untaken
 use Rattle.wb_display.specs.declared.canvas.TheConstants.Canvas.{MAX_WIDTH, MAX_HEIGHT}
-use Rattle.wb_recovery.specs.Delays.{IsDelay}
-use Rattle.wb_recovery.specs.Timing.{are_constants}
 use Rattle.wb_recovery.specs.declared.fault.TheConstants.{MAX_DELAY}
 use Rattle.wb_recovery.specs.declared.tuning.TheConstants.{MAX_CONSTANT}
 use Rattle.wb_board.specs.Counts.{IsCellCount, MAX_CELLS}
@@ -24,7 +21,7 @@ use Rattle.wb_board.specs.declared.board.TheConstants.{MAX_WORKERS}
 use Rattle.wb_commands.specs.Faults.{line_code}
 use Rattle.wb_commands.specs.declared.command.Command.{Command}
 use Rattle.wb_commands.specs.declared.command.Command.TheVariants.{Skip, Board, Arrive, Call as Calls, Question}
-use Rattle.wb_member.specs.declared.calls.Call.{Call}
+use Rattle.wb_member.specs.Calls.{IsWithin as IsCallWithin}
 use Rattle.wb_member.specs.declared.calls.Call.TheVariants.{Hear, SetDelay, Tune, Tick, Look, Session}
 use Rattle.wb_member.specs.Questions.{IsAnswerable}
 use Rattle.wb_member.specs.declared.questions.Query.{Query}
@@ -198,14 +195,7 @@ in_words (Err wrong) = Err (faults.Word wrong)
 abbrev pub line_of : List ℕ → Result Command LineFault
 line_of bytes = if begins_datagram bytes then in_words (reading_words bytes) else line_of_words (words bytes)
 
--- What a call carries is in its range: a moment, a delay, constants.
-abbrev pub IsCallWithin : Call → Type 0
-IsCallWithin (Tick now) = IsMoment now
-IsCallWithin (SetDelay source micros) = IsDelay micros
-IsCallWithin (Tune constants) = are_constants constants ≡ true
-IsCallWithin call = Unit {0}
-
--- What a line carries is in its range: also the cells of a board, and the size of a canvas.
+-- What a line carries is in its range: the cells of a board, the size of a canvas, and the numbers of a call.
 abbrev pub IsWithin : Command → Type 0
 IsWithin (Board member cells workers seed) = IsCellCount cells
 IsWithin (Question query) = IsAnswerable query

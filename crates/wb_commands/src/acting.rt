@@ -1,9 +1,10 @@
 //! What lines do to a member, and what they print.
 ghost use Rattle.std.specs.Prelude.{◌≡◌};
+ghost use Rattle.wb_member.specs.Calls.{IsWithin as IsCallWithin};
 ghost use Rattle.wb_member.specs.Questions.{IsAnswerable};
 ghost use Rattle.wb_commands.specs.Doing.{DoesAt, fault_of};
 ghost use Rattle.wb_commands.specs.Acts.{act, asked, called};
-ghost use Rattle.wb_commands.specs.Parsing.{IsCallWithin, IsWithin};
+ghost use Rattle.wb_commands.specs.Parsing.{IsWithin};
 
 use crate::answers::print;
 use crate::command::Command;

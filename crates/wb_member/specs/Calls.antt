@@ -1,29 +1,31 @@
 -- What happens to a member beside the drawops that come to it: what it is then, what it answers, and why it refuses a call.
-use Rattle.std.specs.Prelude.{◌≡◌, List, [], ◌∷◌, length, Option, None, if◌then◌else◌}
+use Rattle.std.specs.Prelude.{◌≡◌, List, [], ◌∷◌, length, true, nat_le, Option, None, if◌then◌else◌}
 use Rattle.wb_names.specs.Faults.{fault_unless}
 use Rattle.wb_names.specs.Moments.{IsMoment}
 use Rattle.wb_codec.specs.declared.datagram.Datagram.{Datagram}
+use Rattle.wb_recovery.specs.Delays.{IsDelay}
 use Rattle.wb_recovery.specs.Timing.{are_constants}
-use Rattle.wb_keeper.specs.KeepFaults.{delay_fault}
 use Rattle.wb_keeper.specs.declared.keep_fault.KeepFault.{KeepFault}
-use Rattle.wb_keeper.specs.declared.keep_fault.KeepFault.TheVariants.{Range}
-use Rattle.wb_member.specs.Opened.{Opened, answered, asks_for, board_of, has_room_for, heard, heard_fault, looked, may_ask, message, reported, sent_by, ticked, ticked_fault, wanted_of, with_asked, with_constants, with_delay, with_stopped}
+use Rattle.wb_keeper.specs.declared.keep_fault.KeepFault.TheVariants.{BackInTime}
+use Rattle.wb_member.specs.Opened.{Opened, answered, asks_for, board_of, has_room_for, heard, heard_fault, looked, may_ask, message, present, reported, sent_by, ticked, wanted_of, with_asked, with_constants, with_delay, with_stopped}
 use Rattle.wb_member.specs.declared.calls.Call.{Call}
 use Rattle.wb_member.specs.declared.calls.Call.TheVariants.{Tick, Hear, SetDelay, Tune, Look, Session, Ask, Stop}
 use Rattle.wb_member.specs.declared.calls.Found.{Found}
 use Rattle.wb_member.specs.declared.calls.Found.TheVariants.{Nothing, Missing, MayAsk, WasAsked}
 
--- its moment is below 2^48
+-- Its numbers are in their ranges: a moment is below 2^48, a delay below 2^24, and each constant 1 to 16.
 abbrev pub IsWithin : Call → Type 0
 IsWithin (Tick now) = IsMoment now
+IsWithin (SetDelay source micros) = IsDelay micros
+IsWithin (Tune constants) = are_constants constants ≡ true
 IsWithin call = Unit {0}
 
--- why it is refused, if it is
+-- Why it is refused, if it is: for a moment before the present one, or for marks by which a page would have too many.
 abbrev pub fault_of : Call → Opened → Option KeepFault
-fault_of (Tick now) host = ticked_fault now host
+fault_of (Tick now) host = fault_unless (nat_le (present host) now) BackInTime
 fault_of (Hear v) host = heard_fault v host
-fault_of (SetDelay source micros) host = delay_fault micros
-fault_of (Tune constants) host = fault_unless (are_constants constants) Range
+fault_of (SetDelay source micros) host = None
+fault_of (Tune constants) host = None
 fault_of (Look page) host = None
 fault_of (Session page) host = None
 fault_of (Ask name) host = None

@@ -59,8 +59,8 @@ pub struct Done {
 
 impl Member {
     /// Something happens to the member. Refused are, with `BackInTime`, a moment before the present
-    /// one; with `Range`, a delay or constants out of their range; with `TooMany`, marks by which a
-    /// page would have some of over 65,535 sources; and anything with `Memory`.
+    /// one; with `TooMany`, marks by which a page would have some of over 65,535 sources; and
+    /// anything with `Memory`.
     pub fn call(&mut self, alloc: Global, call: &Call) -> Result<Done, KeepFault>
         requires { IsWithin call.now }
         ensures fault { (host : Opened) → IsOpenAt self.old host →
@@ -81,7 +81,7 @@ impl Member {
             }
             Call::Tune(constants) => match self.set_constants(*constants) {
                 Ok(()) => Ok(finding(alloc, Found::Nothing)),
-                Err(_) => Err(KeepFault::Range),
+                Err(_) => unreachable!(),
             },
             Call::Look(page) => Ok(finding(alloc, Found::Missing(self.look(alloc, *page)?))),
             Call::Session(page) => Ok(sending(self.session_alone(alloc, *page)?)),
