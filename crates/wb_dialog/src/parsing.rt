@@ -7,6 +7,7 @@ ghost use Rattle.wb_words.specs.Words.{split_once};
 ghost use Rattle.wb_words.specs.Adding.{adding_reading};
 ghost use Rattle.wb_words.specs.Reading.{reading as reading_words};
 ghost use Rattle.wb_lines.specs.Words.{words};
+ghost use Rattle.wb_member.specs.Calls.{IsWithin as IsCallWithin};
 ghost use Rattle.wb_member.specs.Questions.{IsAnswerable};
 ghost use Rattle.wb_commands.specs.Parsing.{line_of as script_line_of};
 ghost use Rattle.wb_dialog.specs.Lines.{Parses, IsWithin, by_words, unanswered_by, unanswered_words, part_behind, said_by, added_by, name, call, command, keep_line, question, call_or, script_or, moment_of, came_line, line_of_words, line_of};
@@ -141,7 +142,8 @@ fn command(alloc: Global, line: &[u8], word: &[u8], rest: &[u8]) -> Result<Drive
 /// The call with this first word that no script has.
 #[tactic(auto, unfolding(crate::specs::Lines::call))]
 fn call(word: &[u8], rest: &[u8]) -> Result<Call, LineFault>
-    ensures { result ≡ call word.now (words rest.now) }
+    ensures call { result ≡ call word.now (words rest.now) }
+    ensures within { IfOk result IsCallWithin }
 {
     if is_word(word, b"ask") {
         return Ok(Call::Ask(name(rest)?));
