@@ -15,7 +15,7 @@ use Rattle.wb_gaps.specs.Answers.{pages_of, report_of}
 use Rattle.wb_gaps.specs.Holes.{hole_after}
 use Rattle.wb_gaps.specs.declared.holes.Hole.{Hole}
 use Rattle.wb_member.specs.Members.{Misses}
-use Rattle.wb_member.specs.Opened.{Opened, answered, becomes, doing, has_room_for, heard, may_ask, present, sent_by}
+use Rattle.wb_member.specs.Opened.{Opened, becomes, doing, has_room_for, heard, may_ask, present}
 use Rattle.wb_member.specs.Random.{word_of}
 use Rattle.wb_policy.specs.Choices.{distance_in, near_names, own_echo, own_marks, told_names}
 use Rattle.wb_keeping.specs.Kept.{Doing, Line, Ticks, Arrives, Hears, Asks, Stops, SetsDistance, Tunes, Says, Transition, and_then, answers, asks_pages, draws_it, end, ends_full, hears, hears_session, hears_some, hears_state, is_begun, is_unasked, leap, leap_to, leaps_on, learned, measures, of_other, paid_for, performs, reports, reports_due, reports_rest, room_lines, state_of, still, stops_one, takes, takes_question, timed, turn, turn_if, turn_to, turns_due, turns_on, turns_past, want, want_near, want_told, hears_request, lending}
@@ -299,13 +299,13 @@ number_stays (Says v) host = number_said v host
 abbrev Drives : Line → Opened → Type 0
 Drives line host = let a = answer_at (driver_line line) host in (after (Some host) a ≡ Some (after_line line host)) × (text_of a ≡ sends_text (sent_by_line line host) ++ told_by line host)
 
-tick_drives : (now : ℕ) (host : Opened) → nat_lt now (present host) ≡ false → Drives (Ticks now) host
-tick_drives now host later = rw later (refl, sym (append-nil (sends_text (sent_by now host))))
+tick_drives : (now : ℕ) (host : Opened) → nat_le (present host) now ≡ true → Drives (Ticks now) host
+tick_drives now host later = rw later (refl, refl)
 
 hears_drives : (v : Datagram) (host : Opened) → Drives (Hears v) host
 hears_drives v host = at (has_room_for v host) refl where
   at : (b : Bool) → has_room_for v host ≡ b → Drives (Hears v) host
-  at true room = rw room (refl, sym (append-nil (sends_text (answered v host))))
+  at true room = rw room (refl, refl)
   at false room = rw room (refl, refl)
 
 one_send : (v : Datagram) → send_line v ≡ sends_text (v ∷ []) ++ []
@@ -355,7 +355,7 @@ driven_lines n (line ∷ lines) host same own =
     let d = drives_own n line host same own.0 in (d.0, d.1, driven_lines n lines (after_line line host) (number_stays line host ∙ same) own.1)
 
 -- Time goes on, and then a policy does something.
-driven_behind : (now : ℕ) (does : Transition) (k : Keeping) → Owns k.host.is.number does → nat_lt now (present k.host) ≡ false → IsDrivenBy (and_then (performs (Ticks now)) does (sees k.host) k.policy).lines k.host
+driven_behind : (now : ℕ) (does : Transition) (k : Keeping) → Owns k.host.is.number does → nat_le (present k.host) now ≡ true → IsDrivenBy (and_then (performs (Ticks now)) does (sees k.host) k.policy).lines k.host
 driven_behind now does k own later =
     let d = tick_drives now k.host later in
     let see : List Line → View = λ lines. sees k.host (Ticks now ∷ lines) in (
@@ -374,10 +374,8 @@ unless_true : (b : Bool) (f : KeptFault) → fault_unless b f ≡ None → b ≡
 unless_true true f none = refl
 unless_true false f none = absurd cc
 
-in_time : (now : ℕ) (k : Keeping) → back_in_time now k ≡ None → nat_lt now (present k.host) ≡ false
-in_time now k none =
-    let on : nat_le (present k.host) now ≡ true = unless_true (nat_le (present k.host) now) (kept_faults.Host BackInTime) none in
-    grind (arith, nat_tests)
+in_time : (now : ℕ) (k : Keeping) → back_in_time now k ≡ None → nat_le (present k.host) now ≡ true
+in_time now k none = unless_true (nat_le (present k.host) now) (kept_faults.Host BackInTime) none
 
 pub kept_is_driven : KeptIsDriven
 kept_is_driven = record {

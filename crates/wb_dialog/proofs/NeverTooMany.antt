@@ -1,5 +1,5 @@
 -- No drawing is refused since no number is left for it.
-use Rattle.std.proofs.Common.{◌≡◌, ◌≤◌, ◌<◌, ◌∙◌, ℕ, Bool, true, false, cond, List, [], ◌∷◌, Option, Some, None, Result, Ok, Err, arith, refl, subst, sym}
+use Rattle.std.proofs.Common.{◌≡◌, ◌≤◌, ◌<◌, ◌∙◌, ℕ, Bool, true, false, cond, List, [], ◌∷◌, Option, Some, None, Result, Ok, Err, ap, arith, refl, subst, sym}
 use Rattle.std.specs.Prelude.{nat_le, nat_lt, not}
 use Rattle.std.specs.Option.{option_map}
 use Rattle.std.proofs.lemmas.Bool.Decides.{nat_tests}
@@ -8,11 +8,14 @@ use Rattle.wb_names.specs.Faults.{fault_unless, first_of}
 use Rattle.wb_names.specs.declared.fault.FieldFault.{FieldFault}
 use Rattle.wb_codec.specs.declared.datagram.Datagram.TheVariants as datagrams
 use Rattle.wb_recovery.specs.declared.tuning.Tuning.{Tuning}
-use Rattle.wb_keeper.specs.declared.keep_fault.KeepFault.TheVariants.{BackInTime}
-use Rattle.wb_member.specs.Members.{Misses}
-use Rattle.wb_member.specs.Opened.{Opened, doing, has_room_for, heard, last_number, may_ask, present, sent_by, ticked}
+use Rattle.wb_keeper.specs.declared.keep_fault.KeepFault.{KeepFault}
+use Rattle.wb_keeper.specs.declared.keep_fault.KeepFault.TheVariants.{BackInTime, Memory}
+use Rattle.wb_member.specs.Calls.{fault_of as call_fault}
+use Rattle.wb_member.specs.Board.{Held}
+use Rattle.wb_member.specs.Opened.{Opened, last_number, present, ticked}
 use Rattle.wb_member.specs.Questions.{answer_to}
-use Rattle.wb_member.specs.Random.{word_of}
+use Rattle.wb_member.specs.declared.calls.Call.TheVariants as calls
+use Rattle.wb_member.proofs.KeptBoards.{calls_keep_boards}
 use Rattle.wb_keeping.specs.Kept.{Asks, Hears, Line, Says, Tunes, Ticks, Transition, drawing}
 use Rattle.wb_keeping.specs.Laws.{Added, Came as CameIn, KeptLine, Ticked, doing_of, fault_of}
 use Rattle.wb_keeping.specs.Performing.{Keeping, after_line, after_lines, sees, view_of}
@@ -21,16 +24,16 @@ use Rattle.wb_keeping.specs.declared.kept_fault.KeptFault.TheVariants as kept_fa
 use Rattle.wb_keeping.proofs.Unlocked.{IsBounded, bounded_kept, bounded_line, bounded_open, number_left}
 use Rattle.wb_lines.specs.Input.{InputLine}
 use Rattle.wb_lines.specs.Taking.{met}
-use Rattle.wb_commands.specs.Acts.{does, fails, tells}
+use Rattle.wb_commands.specs.Acts.{does, tells, unless}
 use Rattle.wb_commands.specs.Answers.{answer_text}
-use Rattle.wb_commands.specs.SentLines.{sends_text}
+use Rattle.wb_commands.specs.SentLines.{call_text}
 use Rattle.wb_commands.specs.declared.command.Command.{Command}
 use Rattle.wb_commands.specs.declared.command.Command.TheVariants as lines
 use Rattle.wb_commands.specs.declared.fault.LineFault.TheVariants as faults
 use Rattle.wb_dialog.specs.declared.fault.Refusal.{Refusal}
 use Rattle.wb_dialog.specs.declared.fault.Refusal.TheVariants as refusals
 use Rattle.wb_dialog.specs.declared.line.DriverLine.{DriverLine}
-use Rattle.wb_dialog.specs.declared.line.DriverLine.TheVariants.{Script, Say, Call as Calls, Keep, Came, Add}
+use Rattle.wb_dialog.specs.declared.line.DriverLine.TheVariants.{Script, Say, Keep, Came, Add}
 use Rattle.wb_dialog.specs.Dialog.{Answer, answer_at, answered, gives, refuses, says_line}
 use Rattle.wb_dialog.specs.Hosting.{Driven, Host, Hosting, Kept, Reply, as_driven, denies, host_after, hosting_after, hosting_from, is_acting, keep_reply, kept_does, kept_reply, kept_shows, reply, reply_of, reply_to, seed_after, taken_reply, unopened}
 use Rattle.wb_dialog.specs.KeptLaws.{AddIsNotTooMany}
@@ -49,14 +52,8 @@ Counts (Some (Kept k)) = MayCount k.host
 -- ---- cells stay
 
 cells_line : (line : Line) (host : Opened) → (after_line line host).is.cells ≡ host.is.cells
-cells_line (Hears v) host = by (has_room_for v host) where
-  by : (b : Bool) → (cond b (heard v host) host).is.cells ≡ host.is.cells
-  by true = refl
-  by false = refl
-cells_line (Asks name) host = by (may_ask name host) where
-  by : (b : Bool) → (cond b (doing (Misses (present host) (name ∷ []) (word_of host.random ∷ [])) 1 host) host).is.cells ≡ host.is.cells
-  by true = refl
-  by false = refl
+cells_line (Hears v) host = ap (λ (board : Held). board.cells) (calls_keep_boards (calls.Hear v) host).board
+cells_line (Asks name) host = ap (λ (board : Held). board.cells) (calls_keep_boards (calls.Ask name) host).board
 cells_line (Says (datagrams.Draw d)) host = refl
 cells_line line host = refl
 
@@ -76,8 +73,8 @@ shows_count k (gives next text) counts = counts
 shows_count k (refuses e) counts = counts
 
 kept_counts : (line : DriverLine) (k : Keeping) → MayCount k.host → Counts (host_after (Some (Kept k)) (kept_reply line k))
-kept_counts (Script (lines.Tick now)) k counts = does_count (Ticked now) [] k _ refl counts
-kept_counts (Script (lines.Tune constants)) k counts = λ few. bounded_line (Tunes constants) k.host (counts few) tt
+kept_counts (Script (lines.Call (calls.Tick now))) k counts = does_count (Ticked now) [] k _ refl counts
+kept_counts (Script (lines.Call (calls.Tune constants))) k counts = λ few. bounded_line (Tunes constants) k.host (counts few) tt
 kept_counts (Came now v) k counts = does_count (CameIn now v) _ k _ refl counts
 kept_counts (Add a) k counts = does_count (Added a.moment a.page a.time a.op) _ k _ refl counts
 kept_counts (Script (lines.Question query)) k counts = shows_count k (answer_at (Script (lines.Question query)) k.host) counts
@@ -96,11 +93,15 @@ acted host seed (gives None text) counts = tt
 acted host seed (gives (Some next) text) counts = tt
 acted host seed (refuses e) counts = counts
 
-ticks_count : (now seed : ℕ) (host : Opened) → MayCount host → Counts (host_after (Some (Driven host (Some seed))) (as_driven (Some seed) (answer_at (Script (lines.Tick now)) host)))
-ticks_count now seed host counts = by (nat_lt now (present host)) where
-  by : (b : Bool) → Counts (host_after (Some (Driven host (Some seed))) (as_driven (Some seed) (answered (cond b (fails faults.BackInTime) (does (ticked now host) (sends_text (sent_by now host)))))))
-  by true = counts
-  by false = λ few. bounded_line (Ticks now) host (counts few) tt
+ticks_count : (now seed : ℕ) (host : Opened) → MayCount host → Counts (host_after (Some (Driven host (Some seed))) (as_driven (Some seed) (answer_at (Script (lines.Call (calls.Tick now))) host)))
+ticks_count now seed host counts = by (call_fault (calls.Tick now) host) where
+  ticked_too : MayCount (ticked now host)
+  ticked_too few = bounded_line (Ticks now) host (counts few) tt
+
+  by : (fault : Option KeepFault) → Counts (host_after (Some (Driven host (Some seed))) (as_driven (Some seed) (answered (unless fault (does (ticked now host) (call_text (calls.Tick now) host))))))
+  by None = ticked_too
+  by (Some Memory) = ticked_too
+  by (Some e) = counts
 
 asks_count : (seed : ℕ) (host : Opened) (text : Option (List ℕ)) → MayCount host → Counts (host_after (Some (Driven host (Some seed))) (as_driven (Some seed) (answered (tells host text))))
 asks_count seed host None counts = counts
@@ -111,7 +112,7 @@ either_seed true seed = refl
 either_seed false seed = refl
 
 script_counts : (line : Command) (host : Opened) (seed : ℕ) → MayCount host → Counts (host_after (Some (Driven host (Some seed))) (as_driven (seed_after (Script line) (Some seed)) (answer_at (Script line) host)))
-script_counts (lines.Tick now) host seed counts = ticks_count now seed host counts
+script_counts (lines.Call (calls.Tick now)) host seed counts = ticks_count now seed host counts
 script_counts (lines.Question query) host seed counts = asks_count seed host (answer_text (answer_to query host)) counts
 script_counts lines.Skip host seed counts = counts
 script_counts (lines.Board member cells workers s) host seed counts = counts
@@ -121,7 +122,6 @@ driven_counts : (line : DriverLine) (host : Opened) (seed : Option ℕ) → Coun
 driven_counts line host None counts = subst (λ (s : Option ℕ). Counts (host_after (Some (Driven host None)) (as_driven s (answer_at line host)))) (sym (either_seed (is_acting line) None)) (unseeded host (answer_at line host))
 driven_counts (Script line) host (Some seed) counts = script_counts line host seed counts
 driven_counts (Say v) host (Some seed) counts = acted host (Some seed) (answer_at (Say v) host) counts
-driven_counts (Calls call) host (Some seed) counts = acted host (Some seed) (answer_at (Calls call) host) counts
 driven_counts (Keep rate listen) host (Some seed) counts = acted host (Some seed) (answer_at (Keep rate listen) host) counts
 driven_counts line host (Some seed) counts = counts
 

@@ -14,15 +14,12 @@ use Rattle.wb_commands.specs.declared.command.Command.{Command}
 use Rattle.wb_commands.specs.declared.command.Command.TheVariants as lines
 use Rattle.wb_commands.specs.declared.fault.LineFault.TheVariants as faults
 use Rattle.wb_commands.specs.Answers.{batch_line}
-use Rattle.wb_commands.specs.SentLines.{send_line, sends_text}
+use Rattle.wb_commands.specs.SentLines.{send_line}
 use Rattle.wb_commands.specs.Acts.{Act, does, fails, act}
-use Rattle.wb_member.specs.Lines.{Line, Asks, Stops, after_line, sent_by_line}
-use Rattle.wb_member.specs.Opened.{Opened, opened_with, becomes, accepted, next_due, may_ask, asks_for, by_host}
+use Rattle.wb_member.specs.Opened.{Opened, opened_with, becomes, accepted, next_due, by_host}
 use Rattle.wb_dialog.specs.declared.line.TheConstants.{LINES_VERSION}
-use Rattle.wb_dialog.specs.declared.line.Call.{Call}
-use Rattle.wb_dialog.specs.declared.line.Call.TheVariants.{Ask, Stop}
 use Rattle.wb_dialog.specs.declared.line.DriverLine.{DriverLine}
-use Rattle.wb_dialog.specs.declared.line.DriverLine.TheVariants.{Script, Say, Call as Calls, Keep, Came, Add, Version}
+use Rattle.wb_dialog.specs.declared.line.DriverLine.TheVariants.{Script, Say, Keep, Came, Add, Version}
 use Rattle.wb_dialog.specs.declared.fault.Refusal.{Refusal}
 use Rattle.wb_dialog.specs.declared.fault.Refusal.TheVariants as refusals
 use Rattle.wb_dialog.specs.Refusals.{refusal_text}
@@ -76,31 +73,11 @@ says v host = if nat_eq (speaker v) host.is.number then goes_out v host else ref
 
 -- ---- what a driver asks of a host
 
--- what a line of a script does at an open host, or a question
+-- what a line of a script does at an open host, or a question or a call that no script has
 abbrev pub script_answer : Command → Opened → Answer
 script_answer (lines.Arrive d) host = arrives d host
 script_answer (lines.Board member cells workers seed) host = refuses (refusals.Line faults.SecondBoard)
 script_answer line host = answered (act line host)
-
--- whether it began to ask for a name, and whether it gave up
-abbrev pub ask_line : Bool → List ℕ
-ask_line begun = if begun then codes "ask 1\n" else codes "ask 0\n"
-
-abbrev pub stop_line : Bool → List ℕ
-stop_line asked = if asked then codes "stop 1\n" else codes "stop 0\n"
-
--- which line of a member a call is
-abbrev pub line_of_call : Call → Line
-line_of_call (Ask name) = Asks name
-line_of_call (Stop name) = Stops name
-
--- what it prints beside the datagrams that the member sends
-abbrev pub told_by_call : Call → Opened → List ℕ
-told_by_call (Ask name) host = ask_line (may_ask name host)
-told_by_call (Stop name) host = stop_line (asks_for name host)
-
-abbrev pub call_answer : Call → Opened → Answer
-call_answer call host = gives (Some (after_line (line_of_call call) host)) (sends_text (sent_by_line (line_of_call call) host) ++ told_by_call call host)
 
 -- the number of the lines
 abbrev pub version_line : List ℕ
@@ -112,7 +89,6 @@ version_line = codes "version " ++ (decimal LINES_VERSION ++ codes "\n")
 abbrev pub answer_at : DriverLine → Opened → Answer
 answer_at (Script line) host = script_answer line host
 answer_at (Say v) host = says v host
-answer_at (Calls call) host = call_answer call host
 answer_at (Keep rate listen) host = refuses refusals.TooLate
 answer_at (Came now v) host = refuses refusals.NotKept
 answer_at (Add adding) host = refuses refusals.NotKept

@@ -9,6 +9,7 @@ use Rattle.wb_codec.specs.declared.datagram.Datagram.{Datagram as DatagramValue}
 use Rattle.wb_codec.specs.declared.datagram.Datagram.TheVariants as datagrams
 use Rattle.wb_recovery.specs.declared.tuning.Tuning.{Tuning}
 use Rattle.wb_member.specs.Opened.{Opened, next_due, present}
+use Rattle.wb_member.specs.declared.calls.Call.TheVariants as calls
 use Rattle.wb_keeping.specs.Calls.{KeptLine, became_of, doing_of, fault_of}
 use Rattle.wb_keeping.specs.Calls as kept_lines
 use Rattle.wb_keeping.specs.Kept.{Transition, Tunes, performs}
@@ -28,7 +29,7 @@ use Rattle.wb_commands.specs.declared.fault.LineFault.TheVariants as faults
 use Rattle.wb_dialog.specs.declared.fault.Refusal.{Refusal}
 use Rattle.wb_dialog.specs.declared.fault.Refusal.TheVariants as refusals
 use Rattle.wb_dialog.specs.declared.line.DriverLine.{DriverLine}
-use Rattle.wb_dialog.specs.declared.line.DriverLine.TheVariants.{Script, Say, Call as Calls, Keep, Came, Add}
+use Rattle.wb_dialog.specs.declared.line.DriverLine.TheVariants.{Script, Say, Keep, Came, Add}
 use Rattle.wb_dialog.specs.Dialog.{Answer, gives, refuses, answer_at, answer_first, batch_of, ok_line, refused_line, says_line, answered_lines}
 
 -- A host, once its board is open. If its driver judges, it may become self-managing, with the seed of its board, until a line
@@ -47,17 +48,13 @@ pub data Reply : Type 0 where
 -- A line that acts: after such a one a host can't become self-managing, and one that is takes none.
 abbrev pub acts_in_script : Command → Bool
 acts_in_script (lines.Arrive d) = true
-acts_in_script (lines.Hear v) = true
-acts_in_script (lines.Distance source micros) = true
-acts_in_script (lines.Tune constants) = true
-acts_in_script (lines.Look page) = true
-acts_in_script (lines.Session page) = true
+acts_in_script (lines.Call (calls.Tick now)) = false
+acts_in_script (lines.Call call) = true
 acts_in_script line = false
 
 abbrev pub is_acting : DriverLine → Bool
 is_acting (Script line) = acts_in_script line
 is_acting (Say v) = true
-is_acting (Calls call) = true
 is_acting (Keep rate listen) = true
 is_acting line = false
 
@@ -136,8 +133,8 @@ kept_shows k (refuses e) = denies e
 
 -- A line that acts is for its driver to judge no more, but for one that gives the timers other constants.
 abbrev pub kept_reply : DriverLine → Keeping → Reply
-kept_reply (Script (lines.Tick now)) k = kept_performs (kept_lines.Ticked now) k
-kept_reply (Script (lines.Tune constants)) k = kept_tunes constants k
+kept_reply (Script (lines.Call (calls.Tick now))) k = kept_performs (kept_lines.Ticked now) k
+kept_reply (Script (lines.Call (calls.Tune constants))) k = kept_tunes constants k
 kept_reply (Came now v) k = kept_performs (kept_lines.Came now v) k
 kept_reply (Add adding) k = kept_adds adding k
 kept_reply line k = if is_acting line then denies refusals.Kept else kept_shows k (answer_at line k.host)

@@ -6,10 +6,11 @@ use Rattle.wb_codec.specs.declared.datagram.Datagram.{Datagram}
 use Rattle.wb_codec.specs.declared.datagram.Datagram.TheVariants as datagrams
 use Rattle.wb_board.specs.Counts.{MAX_CELLS}
 use Rattle.wb_member.specs.Opened.{Opened, asks_for, becomes, may_ask}
+use Rattle.wb_member.specs.declared.calls.Call.TheVariants as calls
 use Rattle.wb_keeping.specs.Kept.{Line, Ticks, Arrives, Hears, Asks, Stops, SetsDistance, Tunes, Says, adds, came, performs, ticks}
 use Rattle.wb_keeping.specs.Performing.{Keeping, after_line, sees, sent_by_line}
 use Rattle.wb_keeping.specs.Refusing.{add_fault, came_fault, tick_fault}
-use Rattle.wb_commands.specs.SentLines.{sends_text}
+use Rattle.wb_commands.specs.SentLines.{ask_line, sends_text, stop_line}
 use Rattle.wb_commands.specs.declared.command.Command.TheVariants as lines
 use Rattle.wb_dialog.specs.declared.line.DriverLine.{DriverLine}
 use Rattle.wb_commands.specs.declared.fault.LineFault.TheVariants as faults
@@ -17,21 +18,20 @@ use Rattle.wb_lines.specs.Input.{InputLine}
 use Rattle.wb_words.specs.declared.adding.Adding.{Adding}
 use Rattle.wb_recovery.specs.declared.tuning.Tuning.{Tuning}
 use Rattle.wb_dialog.specs.declared.fault.Refusal.TheVariants as refusals
-use Rattle.wb_dialog.specs.declared.line.DriverLine.TheVariants.{Script, Say, Call as Calls, Add}
-use Rattle.wb_dialog.specs.declared.line.Call.TheVariants.{Ask, Stop}
-use Rattle.wb_dialog.specs.Dialog.{after, answer_at, ask_line, batch_of, stop_line}
+use Rattle.wb_dialog.specs.declared.line.DriverLine.TheVariants.{Script, Say, Add}
+use Rattle.wb_dialog.specs.Dialog.{after, answer_at, batch_of}
 use Rattle.wb_dialog.specs.Doing.{text_of}
 use Rattle.wb_dialog.specs.Hosting.{Kept, denies, hosting_from, kept_reply, unopened, unsent_text}
 
 -- the line of a driver that does the same
 abbrev pub driver_line : Line → DriverLine
-driver_line (Ticks now) = Script (lines.Tick now)
+driver_line (Ticks now) = Script (lines.Call (calls.Tick now))
 driver_line (Arrives d) = Script (lines.Arrive d)
-driver_line (Hears v) = Script (lines.Hear v)
-driver_line (Asks name) = Calls (Ask name)
-driver_line (Stops name) = Calls (Stop name)
-driver_line (SetsDistance source micros) = Script (lines.Distance source micros)
-driver_line (Tunes constants) = Script (lines.Tune constants)
+driver_line (Hears v) = Script (lines.Call (calls.Hear v))
+driver_line (Asks name) = Script (lines.Call (calls.Ask name))
+driver_line (Stops name) = Script (lines.Call (calls.Stop name))
+driver_line (SetsDistance source micros) = Script (lines.Call (calls.SetDelay source micros))
+driver_line (Tunes constants) = Script (lines.Call (calls.Tune constants))
 driver_line (Says v) = Say v
 
 -- what it prints beside the datagrams that it sends

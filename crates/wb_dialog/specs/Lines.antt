@@ -13,6 +13,8 @@ use Rattle.wb_words.specs.Adding.{adding_reading}
 use Rattle.wb_words.specs.Reading.{reading as reading_words}
 use Rattle.wb_words.specs.declared.adding.Adding.{Adding}
 use Rattle.wb_lines.specs.Words.{words}
+use Rattle.wb_member.specs.declared.calls.Call.{Call}
+use Rattle.wb_member.specs.declared.calls.Call.TheVariants.{Ask, Stop}
 use Rattle.wb_member.specs.declared.questions.Query.{Query}
 use Rattle.wb_member.specs.declared.questions.Query.TheVariants.{View, Known, Next}
 use Rattle.wb_commands.specs.declared.command.Command.{Command}
@@ -22,10 +24,8 @@ use Rattle.wb_commands.specs.declared.fault.LineFault.TheVariants as faults
 use Rattle.wb_commands.specs.declared.fault.Untaken.{Untaken}
 use Rattle.wb_commands.specs.declared.fault.Untaken.TheVariants as untaken
 use Rattle.wb_commands.specs.Parsing.{or_fault, number, none_of, two_of, four_of, page, datagram, ◌>>=◌, line_of as script_line_of, IsWithin as IsScriptWithin}
-use Rattle.wb_dialog.specs.declared.line.Call.{Call}
-use Rattle.wb_dialog.specs.declared.line.Call.TheVariants.{Ask, Stop}
 use Rattle.wb_dialog.specs.declared.line.DriverLine.{DriverLine}
-use Rattle.wb_dialog.specs.declared.line.DriverLine.TheVariants.{Script, Say, Call as Calls, Keep, Came, Add, Version}
+use Rattle.wb_dialog.specs.declared.line.DriverLine.TheVariants.{Script, Say, Keep, Came, Add, Version}
 use Rattle.wb_dialog.specs.declared.fault.Refusal.{Refusal}
 use Rattle.wb_dialog.specs.declared.fault.Refusal.TheVariants as refusals
 use Rattle.wb_dialog.specs.declared.fault.Unanswered.{Unanswered}
@@ -69,16 +69,19 @@ question word arguments =
 abbrev pub asks : Query → DriverLine
 asks query = Script (lines.Question query)
 
--- what the member is to do, by this first word
+-- the call with this first word that no script has
 unfoldable pub call : List ℕ → List (List ℕ) → Result Call LineFault
 call word arguments =
     if bytes_eq word (codes "ask") then name arguments >>= (λ n. Ok (Ask n))
     else (if bytes_eq word (codes "stop") then name arguments >>= (λ n. Ok (Stop n))
     else Err faults.Unknown)
 
+abbrev pub calls : Call → DriverLine
+calls call = Script (lines.Call call)
+
 -- a call; if none has this word, a question
 abbrev pub call_or : Result Query LineFault → Result Call LineFault → Result DriverLine Refusal
-call_or query (Ok call) = Ok (Calls call)
+call_or query (Ok call) = Ok (calls call)
 call_or query (Err faults.Unknown) = by_words asks query
 call_or query (Err e) = Err (refusals.Line e)
 

@@ -5,19 +5,19 @@ ghost use Rattle.wb_commands.specs.Acts.{act};
 ghost use Rattle.wb_commands.specs.Parsing.{IsWithin as IsScriptWithin};
 ghost use Rattle.wb_dialog.specs.Lines.{IsWithin};
 ghost use Rattle.wb_commands.specs.SentLines.{send_line};
-ghost use Rattle.wb_dialog.specs.Dialog.{answered, batch_of, goes_out, speaker, says, call_answer, answer_at};
+ghost use Rattle.wb_dialog.specs.Dialog.{answered, batch_of, goes_out, speaker, says, answer_at};
 ghost use Rattle.wb_dialog.specs.Doing.{DoesAt, Adds};
 
-use crate::blocks::{ask_line, print_version, stop_line};
+use crate::blocks::print_version;
 use crate::fault::{Refusal, Unanswered};
-use crate::line::{Call, DriverLine};
+use crate::line::DriverLine;
 use std::alloc::{AllocError, Global};
 use wb_board::Reply;
 use wb_codec::Datagram;
 use wb_commands::{Command, LineFault, Untaken, arrival_line, send_line};
 use wb_lines::Output;
 use wb_member::Member;
-use wb_names::{Drawop, Name};
+use wb_names::Drawop;
 
 /// What any other line of a script does here.
 fn act(
@@ -120,47 +120,6 @@ fn say(
     go_out(alloc, member, datagram, output)
 }
 
-/// The member begins to ask for a name.
-fn ask(
-    alloc: Global,
-    member: &mut Member,
-    name: &Name,
-    output: &mut Output,
-) -> Result<(), Unanswered>
-    ensures text { Adds output.old output.new (λ written.
-        DoesAt member.old member.new written result (call_answer (Call.Ask name.now))) }
-{
-    let begun = member.ask(alloc, name)?;
-    output.add(ask_line(begun))?;
-    Ok(())
-}
-
-/// It gives up asking for a name.
-fn stop(member: &mut Member, name: &Name, output: &mut Output) -> Result<(), Unanswered>
-    ensures text { Adds output.old output.new (λ written.
-        DoesAt member.old member.new written result (call_answer (Call.Stop name.now))) }
-{
-    let asked = member.stop(name);
-    output.add(stop_line(asked))?;
-    Ok(())
-}
-
-/// The member does what it is called to do.
-fn perform(
-    alloc: Global,
-    member: &mut Member,
-    call: &Call,
-    output: &mut Output,
-) -> Result<(), Unanswered>
-    ensures text { Adds output.old output.new (λ written.
-        DoesAt member.old member.new written result (call_answer call.now)) }
-{
-    match call {
-        Call::Ask(name) => ask(alloc, member, name, output),
-        Call::Stop(name) => stop(member, name, output),
-    }
-}
-
 /// It says the number of the lines.
 fn version(member: &mut Member, output: &mut Output) -> Result<(), Unanswered>
     ensures text { Adds output.old output.new (λ written.
@@ -194,7 +153,6 @@ pub(crate) fn answer(
         }
         DriverLine::Script(command) => act(alloc, member, command, output),
         DriverLine::Say(datagram) => say(alloc, member, datagram, output),
-        DriverLine::Call(call) => perform(alloc, member, call, output),
         DriverLine::Version => version(member, output),
         DriverLine::Keep { .. } => Err(Unanswered::Refused(Refusal::TooLate)),
         DriverLine::Came { .. } => Err(Unanswered::Refused(Refusal::NotKept)),

@@ -1,7 +1,7 @@
 //! The texts of a block.
 ghost use Rattle.std.specs.Prelude.{◌≡◌, Some, IfOk};
 ghost use Rattle.std.specs.String.{string_bytes};
-ghost use Rattle.wb_dialog.specs.Dialog.{ask_line, stop_line, version_line, ok_line, refused_line};
+ghost use Rattle.wb_dialog.specs.Dialog.{version_line, ok_line, refused_line};
 ghost use Rattle.wb_dialog.specs.Doing.{Adds, Prints};
 
 use crate::fault::Refusal;
@@ -9,20 +9,6 @@ use crate::line::LINES_VERSION;
 use itoa::Buffer;
 use std::alloc::{AllocError, Global};
 use wb_lines::Output;
-
-/// Whether it began to ask for a name.
-pub(crate) fn ask_line(begun: bool) -> &'static [u8]
-    ensures { result.now ≡ ask_line begun }
-{
-    if begun { b"ask 1\n" } else { b"ask 0\n" }
-}
-
-/// Whether it gave up asking for a name.
-pub(crate) fn stop_line(asked: bool) -> &'static [u8]
-    ensures { result.now ≡ stop_line asked }
-{
-    if asked { b"stop 1\n" } else { b"stop 0\n" }
-}
 
 /// Prints the number of the lines. If an allocation fails, it prints a front of that line.
 pub(crate) fn print_version(output: &mut Output) -> Result<(), AllocError>

@@ -21,7 +21,7 @@ use wb_commands::{Command, LineFault, arrival_line, print, print_sends};
 use wb_keeper::KeepFault;
 use wb_keeping::{Done, KeptCall, KeptFault, KeptMember};
 use wb_lines::Output;
-use wb_member::Query;
+use wb_member::{Call, Query};
 use wb_names::{FieldFault, shape_of};
 use wb_recovery::Tuning;
 use wb_words::{Adding, WordFault, WrongWord};
@@ -193,10 +193,12 @@ pub(crate) fn answer_kept(
         DriverLine::Script(Command::Board { .. }) => {
             Err(Unanswered::Refused(Refusal::Line(LineFault::SecondBoard)))
         }
-        DriverLine::Script(Command::Tick { moment: now }) => {
+        DriverLine::Script(Command::Call(Call::Tick { now })) => {
             perform(alloc, kept, KeptCall::Ticked { now: *now }, output)
         }
-        DriverLine::Script(Command::Tune(constants)) => tune(alloc, kept, *constants, output),
+        DriverLine::Script(Command::Call(Call::Tune(constants))) => {
+            tune(alloc, kept, *constants, output)
+        }
         DriverLine::Script(Command::Question(query)) => ask(alloc, kept, *query, output),
         DriverLine::Came { now, datagram } => {
             let now = *now;

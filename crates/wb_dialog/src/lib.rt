@@ -21,4 +21,4 @@ mod parsing;
 pub use dialog::Dialog;
 pub use fault::{HostFault, Refusal};
 pub use hosting::host;
-pub use line::{Call, DriverLine, LINES_VERSION};
+pub use line::{DriverLine, LINES_VERSION};

@@ -1,33 +1,22 @@
 //! The lines of a driver.
 use wb_codec::Datagram;
 use wb_commands::Command;
-use wb_names::Name;
 use wb_words::Adding;
 
 /// The number of the lines that a driver writes and a host prints. It changes only with a line that
 /// a driver of the number before would no longer write, or read, as it did.
 pub const LINES_VERSION: u32 = 1;
 
-/// What a driver has a member do that no script does. It is never refused.
-#[derive(Debug, Drop)]
-pub enum Call {
-    /// `ask C N SOURCE NUMBER` begins to miss a drawop.
-    Ask(Name),
-    /// `stop C N SOURCE NUMBER` gives up asking for a drawop.
-    Stop(Name),
-}
-
 /// A line of a driver, with its words as fields.
 #[derive(Debug, Drop)]
 pub enum DriverLine {
-    /// A line of a script, or a question that no script asks: `next C N`, the number of our next
-    /// drawop on a page; `view C N`, the drawops that a page shows; `known`, the pages that were
-    /// heard of.
+    /// A line of a script, or a question or a call that no script has: `next C N`, the number of
+    /// our next drawop on a page; `view C N`, the drawops that a page shows; `known`, the pages that
+    /// were heard of; `ask C N SOURCE NUMBER` begins to miss a drawop, and `stop C N SOURCE NUMBER`
+    /// gives up asking for one.
     Script(Command),
     /// `say WORDS`: a datagram of ours is to go out.
     Say(Datagram),
-    /// A driven host has its member do this.
-    Call(Call),
     /// `keep RATE LISTEN`: from now on the host is self-managing. The reports of all members
     /// together take RATE bytes a second, and for LISTEN microseconds nothing is added.
     Keep { rate: u32, listen: u32 },

@@ -16,7 +16,7 @@ use std::alloc::{AllocError, Global};
 use wb_commands::Command;
 use wb_keeping::KeptMember;
 use wb_lines::Output;
-use wb_member::Member;
+use wb_member::{Call, Member};
 use wb_names::MOMENT_LIMIT;
 use wb_recovery::Tuning;
 
@@ -36,11 +36,8 @@ fn acts_in_script(line: &Command) -> bool
 {
     match line {
         Command::Arrive(_) => true,
-        Command::Hear(_) => true,
-        Command::Distance { .. } => true,
-        Command::Tune(_) => true,
-        Command::Look(_) => true,
-        Command::Session(_) => true,
+        Command::Call(Call::Tick { .. }) => false,
+        Command::Call(_) => true,
         _ => false,
     }
 }
@@ -52,7 +49,6 @@ pub(crate) fn is_acting(line: &DriverLine) -> bool
     match line {
         DriverLine::Script(line) => acts_in_script(line),
         DriverLine::Say(_) => true,
-        DriverLine::Call(_) => true,
         DriverLine::Keep { .. } => true,
         _ => false,
     }

@@ -7,19 +7,20 @@ ghost use Rattle.wb_words.specs.Words.{split_once};
 ghost use Rattle.wb_words.specs.Adding.{adding_reading};
 ghost use Rattle.wb_words.specs.Reading.{reading as reading_words};
 ghost use Rattle.wb_lines.specs.Words.{words};
+ghost use Rattle.wb_member.specs.Calls.{IsWithin as IsCallWithin};
 ghost use Rattle.wb_member.specs.Questions.{IsAnswerable};
 ghost use Rattle.wb_commands.specs.Parsing.{line_of as script_line_of};
 ghost use Rattle.wb_dialog.specs.Lines.{Parses, IsWithin, by_words, unanswered_by, unanswered_words, part_behind, said_by, added_by, name, call, command, keep_line, question, call_or, script_or, moment_of, came_line, line_of_words, line_of};
 
 use crate::fault::{Refusal, Unanswered};
-use crate::line::{Call, DriverLine};
+use crate::line::DriverLine;
 use std::alloc::Global;
 use wb_commands::{
     Command, LineFault, Untaken, datagram, four_words, no_words, number_word, page, parse_line,
     two_words, u32_word,
 };
 use wb_lines::next_word;
-use wb_member::Query;
+use wb_member::{Call, Query};
 use wb_names::{MAX_MOMENT, Name, PageId};
 use wb_policy::limits::MAX_RATE;
 use wb_words::{WordsFault, read_adding, read_words, split_once};
@@ -138,10 +139,11 @@ fn command(alloc: Global, line: &[u8], word: &[u8], rest: &[u8]) -> Result<Drive
     script_or_own(alloc, line, word, rest)
 }
 
-/// What the member is to do, by this first word.
+/// The call with this first word that no script has.
 #[tactic(auto, unfolding(crate::specs::Lines::call))]
 fn call(word: &[u8], rest: &[u8]) -> Result<Call, LineFault>
-    ensures { result ≡ call word.now (words rest.now) }
+    ensures call { result ≡ call word.now (words rest.now) }
+    ensures within { IfOk result IsCallWithin }
 {
     if is_word(word, b"ask") {
         return Ok(Call::Ask(name(rest)?));
@@ -171,14 +173,14 @@ fn question(word: &[u8], rest: &[u8]) -> Result<Query, LineFault>
     Err(LineFault::Unknown)
 }
 
-/// What the member is to do, or, if no call has this word, a question.
+/// A call, or, if none has this word, a question.
 fn call_or_question(word: &[u8], rest: &[u8]) -> Result<DriverLine, Unanswered>
     ensures line { Parses result
         (call_or (question word.now (words rest.now)) (call word.now (words rest.now))) }
     ensures within { IfOk result IsWithin }
 {
     match call(word, rest) {
-        Ok(call) => Ok(DriverLine::Call(call)),
+        Ok(call) => Ok(DriverLine::Script(Command::Call(call))),
         Err(LineFault::Unknown) => {
             let query = question(word, rest)?;
             Ok(DriverLine::Script(Command::Question(query)))

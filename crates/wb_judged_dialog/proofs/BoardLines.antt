@@ -7,6 +7,7 @@ use Rattle.wb_words.specs.Adding.{adding_reading}
 use Rattle.wb_words.specs.Reading.{reading as reading_words}
 use Rattle.wb_words.specs.Words.{split_once}
 use Rattle.wb_lines.specs.Words.{words}
+use Rattle.wb_member.specs.declared.calls.Call.{Call}
 use Rattle.wb_member.specs.declared.questions.Query.{Query}
 use Rattle.wb_recovery.specs.declared.tuning.Tuning.{Tuning}
 use Rattle.wb_commands.specs.declared.command.Command.{Command}
@@ -15,7 +16,6 @@ use Rattle.wb_commands.specs.declared.fault.LineFault.{LineFault}
 use Rattle.wb_commands.specs.declared.fault.LineFault.TheVariants as faults
 use Rattle.wb_commands.specs.Parsing as script
 use Rattle.wb_commands.specs.Parsing.{line_of as script_line_of, datagram, number, or_fault, ◌>>=◌}
-use Rattle.wb_dialog.specs.declared.line.Call.{Call}
 use Rattle.wb_dialog.specs.declared.line.DriverLine.{DriverLine}
 use Rattle.wb_dialog.specs.declared.line.DriverLine.TheVariants.{Script, Say, Keep, Came, Add, Version}
 use Rattle.wb_dialog.specs.declared.fault.Refusal.{Refusal}
@@ -26,10 +26,11 @@ use Rattle.wb_judged_dialog.specs.declared.beginning.Board.{Board}
 use Rattle.wb_judged_dialog.specs.Dialog.{board_in, opens}
 use Rattle.wb_policy.specs.declared.limits.TheConstants.{MAX_RATE}
 
--- ---- a line of a script that is no question is one that a script has
+-- ---- a line of a script that is no question and no call is one that a script has
 
 abbrev pub IsRead : Result Command LineFault → Result DriverLine Refusal → Type 0
 IsRead read (Ok (Script (lines.Question query))) = Unit {0}
+IsRead read (Ok (Script (lines.Call call))) = Unit {0}
 IsRead read (Ok (Script line)) = read ≡ Ok line
 IsRead read said = Unit {0}
 
@@ -48,6 +49,7 @@ step (Err e) f h = tt
 
 script_read : (line : Command) → IsRead (Ok line) (Ok (Script line))
 script_read (lines.Question query) = tt
+script_read (lines.Call call) = tt
 script_read line = refl
 
 by_read : (r : Result Command LineFault) → IsRead r (by_words Script r)

@@ -10,6 +10,8 @@ use Rattle.wb_words.specs.Reading.{begins_datagram, reading as reading_words}
 use Rattle.wb_words.specs.Adding.{adding_reading}
 use Rattle.wb_words.specs.Words.{split_once}
 use Rattle.wb_lines.specs.Words.{words}
+use Rattle.wb_member.specs.declared.calls.Call.{Call}
+use Rattle.wb_member.specs.declared.calls.Call.TheVariants.{Tick}
 use Rattle.wb_member.specs.declared.questions.Query.{Query}
 use Rattle.wb_commands.specs.declared.command.Command.{Command}
 use Rattle.wb_commands.specs.declared.command.Command.TheVariants as lines
@@ -23,7 +25,6 @@ use Rattle.wb_recovery.specs.declared.fault.TheConstants.{MAX_DELAY}
 use Rattle.wb_recovery.specs.declared.tuning.TheConstants.{MAX_CONSTANT}
 use Rattle.wb_commands.specs.Parsing.{line_of as script_line_of, four_of, number, or_fault, two_of, ◌>>=◌}
 use Rattle.wb_judging.specs.declared.record.RecordLine.{RecordLine}
-use Rattle.wb_dialog.specs.declared.line.Call.{Call}
 use Rattle.wb_dialog.specs.declared.line.DriverLine.{DriverLine}
 use Rattle.wb_dialog.specs.declared.line.DriverLine.TheVariants.{Script, Say, Came, Add, Version}
 use Rattle.wb_dialog.specs.declared.fault.Refusal.{Refusal}
@@ -40,12 +41,12 @@ use Rattle.wb_policy.specs.declared.limits.TheConstants.{MAX_RATE}
 
 -- a line that sets no moment
 abbrev pub IsNoTick : Result Command LineFault → Type 0
-IsNoTick (Ok (lines.Tick now)) = ⊥
+IsNoTick (Ok (lines.Call (Tick now))) = ⊥
 IsNoTick r = Unit {0}
 
 -- a line that tells no moment
 abbrev pub TellsNone : Result DriverLine Refusal → Type 0
-TellsNone (Ok (Script (lines.Tick now))) = ⊥
+TellsNone (Ok (Script (lines.Call (Tick now)))) = ⊥
 TellsNone (Ok (Came now v)) = ⊥
 TellsNone (Ok (Add adding)) = ⊥
 TellsNone r = Unit {0}
@@ -146,18 +147,28 @@ in_none line (Ok a) h = h a
 in_none line (Err e) h = tt
 
 script_tells : (l : Command) → IsNoTick (Ok l) → TellsNone (Ok (Script l))
-script_tells (lines.Tick now) none = absurd none
+script_tells (lines.Call (Tick now)) none = absurd none
 script_tells line none = tt
 
-call_or_none : (query : Result Query LineFault) (call : Result Call LineFault) → TellsNone (common.call_or query call)
-call_or_none query (Ok call) = tt
-call_or_none query (Err faults.Unknown) = by_none common.asks query (λ q. tt)
-call_or_none query (Err e) = tt
+-- a call that sets no moment
+abbrev CallsNone : Result Call LineFault → Type 0
+CallsNone call = IsNoTick (call >>= λ c. Ok (lines.Call c))
 
-script_or_none : (query : Result Query LineFault) (call : Result Call LineFault) (r : Result Command LineFault) → IsNoTick r → TellsNone (common.script_or query call r)
-script_or_none query call (Ok l) none = script_tells l none
-script_or_none query call (Err faults.Unknown) none = call_or_none query call
-script_or_none query call (Err e) none = tt
+call_none : (word : List ℕ) (arguments : List (List ℕ)) → CallsNone (common.call word arguments)
+unfolding common.call
+call_none word arguments =
+    either CallsNone (bytes_eq word (codes "ask")) _ _ (step CallsNone (λ e. tt) (common.name arguments) _ (λ n. tt))
+    (either CallsNone (bytes_eq word (codes "stop")) _ _ (step CallsNone (λ e. tt) (common.name arguments) _ (λ n. tt)) tt)
+
+call_or_none : (query : Result Query LineFault) (call : Result Call LineFault) → CallsNone call → TellsNone (common.call_or query call)
+call_or_none query (Ok call) own = script_tells (lines.Call call) own
+call_or_none query (Err faults.Unknown) own = by_none common.asks query (λ q. tt)
+call_or_none query (Err e) own = tt
+
+script_or_none : (query : Result Query LineFault) (call : Result Call LineFault) (r : Result Command LineFault) → CallsNone call → IsNoTick r → TellsNone (common.script_or query call r)
+script_or_none query call (Ok l) own none = script_tells l none
+script_or_none query call (Err faults.Unknown) own none = call_or_none query call own
+script_or_none query call (Err e) own none = tt
 
 script_by_none : (r : Result Command LineFault) → IsNoTick r → TellsNone (common.by_words Script r)
 script_by_none (Ok l) none = script_tells l none
@@ -179,7 +190,7 @@ command_tells line word arguments other none =
     (second TellsNone (bytes_eq word (codes "came")) _ _ other
     (either TellsNone (bytes_eq word (codes "add")) _ _ tt
     (either TellsNone (bytes_eq word (codes "version")) _ _ (by_none (λ nothing. Version) (or_fault faults.Words (script.none_of arguments)) (λ nothing. tt))
-    (script_or_none (common.question word arguments) (common.call word arguments) (script_line_of line) none)))))
+    (script_or_none (common.question word arguments) (common.call word arguments) (script_line_of line) (call_none word arguments) none)))))
 
 -- ---- lines that a judged host has for itself
 

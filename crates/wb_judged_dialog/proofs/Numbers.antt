@@ -6,6 +6,7 @@ use Rattle.wb_keeping.specs.Performing.{Keeping, sees}
 use Rattle.wb_keeping.specs.declared.kept_fault.KeptFault.{KeptFault}
 use Rattle.wb_judging.proofs.Numbers.{number_through}
 use Rattle.wb_recovery.specs.declared.tuning.Tuning.{Tuning}
+use Rattle.wb_member.specs.declared.calls.Call.TheVariants as calls
 use Rattle.wb_commands.specs.declared.command.Command.{Command}
 use Rattle.wb_commands.specs.declared.command.Command.TheVariants as lines
 use Rattle.wb_dialog.specs.declared.fault.Refusal.{Refusal}
@@ -32,8 +33,8 @@ shown (refuses e) k = tt
 scripted : (line : Command) (k : Keeping) → IsKept k.host.is.number (kept_reply (Script line) k)
 scripted lines.Skip k = shown (answer_at (Script lines.Skip) k.host) k
 scripted (lines.Board member cells workers seed) k = shown (answer_at (Script (lines.Board member cells workers seed)) k.host) k
-scripted (lines.Tune constants) k = done None (performs (Tunes constants)) [] k
-scripted (lines.Tick now) k = done (tick_fault now k) (ticks now) [] k
+scripted (lines.Call (calls.Tune constants)) k = done None (performs (Tunes constants)) [] k
+scripted (lines.Call (calls.Tick now)) k = done (tick_fault now k) (ticks now) [] k
 scripted (lines.Question query) k = shown (answer_at (Script (lines.Question query)) k.host) k
 scripted line k = tt
 

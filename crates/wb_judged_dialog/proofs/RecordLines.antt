@@ -18,6 +18,7 @@ use Rattle.wb_words.specs.Spelling.{spelled}
 use Rattle.wb_words.proofs.SpellingLaws.{read_again, words_spelled}
 use Rattle.wb_words.proofs.Splitting.{decimal_lacks}
 use Rattle.wb_lines.specs.Words.{number_after, number_of, words, words_after}
+use Rattle.wb_member.specs.declared.calls.Call.TheVariants.{Tick}
 use Rattle.wb_commands.specs.declared.command.Command.{Command}
 use Rattle.wb_commands.specs.declared.command.Command.TheVariants as lines
 use Rattle.wb_commands.specs.Parsing.{command, handed_in, line_of as script_line_of, tick, ◌>>=◌}
@@ -82,7 +83,7 @@ draws d fits = ap first_is_kind (words_spelled (Draw d) fits)
 
 -- ---- each line
 
-tick_line : (now : ℕ) → now ≤ MAX_MOMENT → script_line_of (codes "tick " ++ decimal now) ≡ Ok (lines.Tick now)
+tick_line : (now : ℕ) → now ≤ MAX_MOMENT → script_line_of (codes "tick " ++ decimal now) ≡ Ok (lines.Call (Tick now))
 unfolding command tick
 tick_line now le = rw (ticks (decimal now), number_is_word now (omega (arith, le)), moment_again now le) refl
 
@@ -90,7 +91,7 @@ recorded_as : (line : List ℕ) (words' : Bool) (command' : Command) → script_
 recorded_as line words' command' one two = rw (one, two) refl
 
 again : (line : RecordLine) → IsRecord line → record_of (record_text line) ≡ Ok (Some line)
-again (records.Tick now) fits = recorded_as (codes "tick " ++ decimal now) false (lines.Tick now) (tick_line now (omega (arith, fits))) (ticks (decimal now))
+again (records.Tick now) fits = recorded_as (codes "tick " ++ decimal now) false (lines.Call (Tick now)) (tick_line now (omega (arith, fits))) (ticks (decimal now))
 again (records.Said d) fits = ap said (read_again (spelled (Draw d)) (Draw d) (fits, refl))
 again (records.Known d) fits = recorded_as (codes "datagram " ++ digits_of (Draw d)) false (lines.Arrive d) (taken (Draw d) fits).by_bytes (digits (digits_of (Draw d)))
 again (records.Strange d) fits = recorded_as (spelled (Draw d)) true (lines.Arrive d) (taken (Draw d) fits).by_words (draws d fits)

@@ -12,6 +12,7 @@ use Rattle.wb_judging.specs.Performing.{after_judged, events_of, judging}
 use Rattle.wb_lines.specs.Input.{InputLine, input_lines, content}
 use Rattle.wb_lines.specs.Handling.{Met, whole, too_long}
 use Rattle.wb_lines.specs.Taking.{met}
+use Rattle.wb_member.specs.declared.calls.Call.TheVariants as calls
 use Rattle.wb_commands.specs.SentLines.{sends_text}
 use Rattle.wb_commands.specs.declared.command.Command.TheVariants as lines
 use Rattle.wb_dialog.specs.declared.line.DriverLine.{DriverLine}
@@ -75,9 +76,9 @@ RecordBeforeSend = (call : Call) (h next : Judged) (text : List ℕ) → act (Ca
 -- the line with which a driver hands a self-managing host the same
 abbrev pub line_of_kept : KeptLine → DriverLine
 line_of_kept (CameIn now v) = driver.Came now v
-line_of_kept (Ticked now) = driver.Script (lines.Tick now)
+line_of_kept (Ticked now) = driver.Script (lines.Call (calls.Tick now))
 line_of_kept (Added now page time op) = driver.Add (record { moment = now; time = time; page = page; op = op })
-line_of_kept (Tuned constants) = driver.Script (lines.Tune constants)
+line_of_kept (Tuned constants) = driver.Script (lines.Call (calls.Tune constants))
 
 -- The self-managing host that is handed one line in its place, the same or a tick, comes to the same and sends the same, but for an echo that a
 -- report has besides.

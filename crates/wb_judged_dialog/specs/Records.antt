@@ -7,8 +7,9 @@ use Rattle.wb_words.specs.Reading.{begins_datagram, reading as reading_words}
 use Rattle.wb_words.specs.Words.{split_once}
 use Rattle.wb_words.specs.declared.digits_fault.DigitsFault.TheVariants as digit_faults
 use Rattle.wb_words.specs.declared.fault.WrongWord.{WrongWord}
+use Rattle.wb_member.specs.declared.calls.Call.TheVariants.{Hear, Tick}
 use Rattle.wb_commands.specs.declared.command.Command.{Command}
-use Rattle.wb_commands.specs.declared.command.Command.TheVariants.{Arrive, Board, Hear, Question, Skip, Tick}
+use Rattle.wb_commands.specs.declared.command.Command.TheVariants.{Arrive, Board, Call, Question, Skip}
 use Rattle.wb_commands.specs.declared.fault.LineFault.{LineFault}
 use Rattle.wb_commands.specs.declared.fault.LineFault.TheVariants as faults
 use Rattle.wb_commands.specs.declared.fault.Untaken.{Untaken}
@@ -37,10 +38,10 @@ abbrev pub recorded : Bool → Command → Result (Option RecordLine) LineFault
 recorded in_words Skip = Ok None
 recorded in_words (Board member cells workers seed) = Ok None
 recorded in_words (Question query) = Ok None
-recorded in_words (Tick moment) = Ok (Some (records.Tick moment))
 recorded in_words (Arrive d) = Ok (Some (given in_words d))
-recorded in_words (Hear v) = mark_of v >>= λ line. Ok (Some line)
-recorded in_words command = Err faults.Unknown
+recorded in_words (Call (Tick now)) = Ok (Some (records.Tick now))
+recorded in_words (Call (Hear v)) = mark_of v >>= λ line. Ok (Some line)
+recorded in_words (Call call) = Err faults.Unknown
 
 -- what the user drew
 abbrev pub drawn : Datagram → Result RecordLine LineFault

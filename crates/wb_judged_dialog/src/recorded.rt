@@ -8,6 +8,7 @@ use std::alloc::Global;
 use wb_codec::Datagram;
 use wb_commands::{Command, LineFault, Untaken, parse_line};
 use wb_judging::RecordLine;
+use wb_member::Call;
 use wb_names::Drawop;
 use wb_words::{DigitsFault, WordsFault, begins_datagram, read_words};
 
@@ -55,10 +56,10 @@ fn recorded(command: &Command, in_words: bool) -> Result<Option<RecordLine>, Lin
         Command::Skip => Ok(None),
         Command::Board { .. } => Ok(None),
         Command::Question(_) => Ok(None),
-        Command::Tick { moment } => Ok(Some(RecordLine::Tick(*moment))),
         Command::Arrive(drawop) => Ok(Some(given(*drawop, in_words))),
-        Command::Hear(datagram) => Ok(Some(mark_of(datagram)?)),
-        _ => Err(LineFault::Unknown),
+        Command::Call(Call::Tick { now }) => Ok(Some(RecordLine::Tick(*now))),
+        Command::Call(Call::Hear(datagram)) => Ok(Some(mark_of(datagram)?)),
+        Command::Call(_) => Err(LineFault::Unknown),
     }
 }
 

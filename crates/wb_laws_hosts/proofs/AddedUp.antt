@@ -252,24 +252,11 @@ line_so : (k : Option ℕ) (host : Option Opened) (waiting : List DrawopValue) (
     → DoesSo (part_of (Ok line)) (board k host waiting) (answer_to script_constants other (Script line)) (said_step (board k host waiting) waiting (Ok line))
 line_so k None waiting None lines.Skip b = (None, refl, refl, refl, tt)
 line_so k None waiting None (lines.Board member cells workers seed) b = let next = opened_with script_constants member cells seed in (Some next, [], refl, refl, refl, fresh next)
-line_so k None waiting None (lines.Arrive d) b = refl
-line_so k None waiting None (lines.Hear v) b = refl
-line_so k None waiting None (lines.Distance source micros) b = refl
-line_so k None waiting None (lines.Tune constants) b = refl
-line_so k None waiting None (lines.Tick moment) b = refl
-line_so k None waiting None (lines.Look page) b = refl
-line_so k None waiting None (lines.Session page) b = refl
-line_so k None waiting None (lines.Question query) b = refl
+line_so k None waiting None line b = refl
 line_so k (Some host) waiting (Some other) lines.Skip b = (Some other, refl, refl, refl, b)
 line_so k (Some host) waiting (Some other) (lines.Board member cells workers seed) b = ended_is k host waiting
 line_so k (Some host) waiting (Some other) (lines.Arrive d) b = arrives_so k host waiting other d b
-line_so k (Some host) waiting (Some other) (lines.Hear v) b = acts_so k host waiting other (Acts (lines.Hear v)) (lines.Hear v) b
-line_so k (Some host) waiting (Some other) (lines.Distance source micros) b = acts_so k host waiting other (Acts (lines.Distance source micros)) (lines.Distance source micros) b
-line_so k (Some host) waiting (Some other) (lines.Tune constants) b = acts_so k host waiting other (Acts (lines.Tune constants)) (lines.Tune constants) b
-line_so k (Some host) waiting (Some other) (lines.Tick moment) b = acts_so k host waiting other (Acts (lines.Tick moment)) (lines.Tick moment) b
-line_so k (Some host) waiting (Some other) (lines.Look page) b = acts_so k host waiting other (Acts (lines.Look page)) (lines.Look page) b
-line_so k (Some host) waiting (Some other) (lines.Session page) b = acts_so k host waiting other (Acts (lines.Session page)) (lines.Session page) b
-line_so k (Some host) waiting (Some other) (lines.Question query) b = acts_so k host waiting other (Acts (lines.Question query)) (lines.Question query) b
+line_so k (Some host) waiting (Some other) line b = acts_so k host waiting other (Acts line) line b
 line_so k None waiting (Some other) line b = absurd b
 line_so k (Some host) waiting None line b = absurd b
 

@@ -6,13 +6,14 @@ use Rattle.wb_names.specs.Arrivals.{Outcome, New}
 use Rattle.wb_keeping.specs.Performing.{Keeping}
 use Rattle.wb_keeping.specs.Refusing.{came_as, drawn_as}
 use Rattle.wb_lines.specs.Taking.{met}
+use Rattle.wb_member.specs.Calls.{found_by}
 use Rattle.wb_member.specs.Opened.{Opened, becomes}
 use Rattle.wb_commands.specs.SentLines.{sends_text}
 use Rattle.wb_commands.specs.declared.command.Command.{Command}
 use Rattle.wb_commands.specs.declared.command.Command.TheVariants as lines
 use Rattle.wb_dialog.specs.declared.fault.Refusal.{Refusal}
 use Rattle.wb_dialog.specs.declared.line.DriverLine.{DriverLine}
-use Rattle.wb_dialog.specs.declared.line.DriverLine.TheVariants.{Script, Say, Call as Calls, Came, Add}
+use Rattle.wb_dialog.specs.declared.line.DriverLine.TheVariants.{Script, Say, Came, Add}
 use Rattle.wb_dialog.specs.Dialog.{says_line}
 use Rattle.wb_dialog.specs.Doing.{text_in}
 use Rattle.wb_dialog.specs.Hosting.{Host, Driven, Kept, Reply, prints, denies, came_text, hosting_from, reply_of, unopened, unsent_text}
@@ -36,13 +37,13 @@ module _ (host : Opened) (held : AreOneLine host.is.held) where
   saying v = none
 
   in_script : (line : Command) → IsNoShow (Ok (Script line)) → Plain (told_in_script line host)
+  in_script (lines.Call call) shows = texts.found (found_by call host)
   in_script (lines.Question query) shows = texts.answer query host held shows
   in_script line shows = search plain_rules depth 20
 
   driven : (line : DriverLine) → IsNoShow (Ok line) → Plain (told_driven line host)
   driven (Script line) shows = in_script line shows
   driven (Say v) shows = saying v
-  driven (Calls call) shows = texts.called call host
   driven line shows = search plain_rules depth 20
 
 module _ (k : Keeping) (held : AreOneLine k.host.is.held) where

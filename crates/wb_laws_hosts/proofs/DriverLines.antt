@@ -16,15 +16,16 @@ use Rattle.wb_words.specs.declared.adding.Adding.{Adding}
 use Rattle.wb_words.specs.declared.fault.WrongWord.{WrongWord}
 use Rattle.wb_words.proofs.LineLaws.{reading_takes}
 use Rattle.wb_words.proofs.Splitting.{NoSpaces-words}
-use Rattle.wb_commands.specs.Parsing.{number, none_of, two_of, four_of, or_fault, datagram, handed_in, line_of as script_line_of}
+use Rattle.wb_commands.specs.Parsing.{number, none_of, two_of, or_fault, datagram, handed_in, line_of as script_line_of}
 use Rattle.wb_commands.specs.declared.command.Command.{Command}
+use Rattle.wb_commands.specs.declared.command.Command.TheVariants as lines
+use Rattle.wb_member.specs.declared.calls.Call.{Call}
 use Rattle.wb_member.specs.declared.questions.Query.{Query}
 use Rattle.wb_commands.specs.declared.fault.LineFault.{LineFault}
 use Rattle.wb_commands.specs.declared.fault.LineFault.TheVariants as faults
 use Rattle.wb_dialog.specs.Dialog.{says_line}
-use Rattle.wb_dialog.specs.Lines.{asks as asks_line, by_words, call, call_or, command, question, script_or, line_of_words, keep_line, came_line, moment_of, words_behind, said_by, said_part, added_by, added_part, line_behind, line_of}
+use Rattle.wb_dialog.specs.Lines.{asks as asks_line, by_words, call, call_or, name, command, question, script_or, line_of_words, keep_line, came_line, moment_of, words_behind, said_by, said_part, added_by, added_part, line_behind, line_of}
 use Rattle.wb_dialog.specs.declared.fault.Refusal.{Refusal}
-use Rattle.wb_dialog.specs.declared.line.Call.{Call}
 use Rattle.wb_dialog.specs.declared.line.DriverLine.{DriverLine}
 use Rattle.wb_dialog.specs.declared.line.DriverLine.TheVariants.{Script, Say, Keep, Came, Add, Version}
 use Rattle.wb_laws_hosts.proofs.AddedLines.{IsAdding, adding_fits}
@@ -102,15 +103,23 @@ module _ (P : Datagram → Type 0) where
   either true x y p q = p
   either false x y p q = q
 
-  call_or_fits : (query : Result Query LineFault) (call : Result Call LineFault) → IfOk (call_or query call) Has
-  call_or_fits query (Ok call) = tt
-  call_or_fits query (Err faults.Unknown) = free Has asks_line query (λ q. tt)
-  call_or_fits query (Err e) = tt
+  abbrev Calls : Call → Type 0
+  Calls call = scripts.Carries P (lines.Call call)
 
-  script_or_fits : (query : Result Query LineFault) (call : Result Call LineFault) (said : Result Command LineFault) → IfOk said (scripts.Carries P) → IfOk (script_or query call said) Has
-  script_or_fits query call (Ok line) has = has
-  script_or_fits query call (Err faults.Unknown) has = call_or_fits query call
-  script_or_fits query call (Err e) has = tt
+  call_fits : (word : List ℕ) (arguments : List (List ℕ)) → IfOk (call word arguments) Calls
+  unfolding call
+  call_fits word arguments = scripts.either Calls (bytes_eq word (codes "ask")) _ _ (behind Calls (name arguments) _ (λ n. tt))
+      (scripts.either Calls (bytes_eq word (codes "stop")) _ _ (behind Calls (name arguments) _ (λ n. tt)) tt)
+
+  call_or_fits : (query : Result Query LineFault) (call : Result Call LineFault) → IfOk call Calls → IfOk (call_or query call) Has
+  call_or_fits query (Ok call) has = has
+  call_or_fits query (Err faults.Unknown) has = free Has asks_line query (λ q. tt)
+  call_or_fits query (Err e) has = tt
+
+  script_or_fits : (query : Result Query LineFault) (call : Result Call LineFault) (said : Result Command LineFault) → IfOk call Calls → IfOk said (scripts.Carries P) → IfOk (script_or query call said) Has
+  script_or_fits query call (Ok line) calls has = has
+  script_or_fits query call (Err faults.Unknown) calls has = call_or_fits query call calls
+  script_or_fits query call (Err e) calls has = tt
 
   module _ (line : List ℕ) (asks : Asks P line) where
     script_fits : IfOk (by_words Script (script_line_of line)) Has
@@ -124,7 +133,7 @@ module _ (P : Datagram → Type 0) where
         (either (bytes_eq word (codes "came")) _ _ (by_words_fits IsKept Has (λ l. l) (came_line arguments) (came_line_fits arguments) (kept_carries P))
         (either (bytes_eq word (codes "add")) _ _ tt
         (either (bytes_eq word (codes "version")) _ _ (free Has (λ nothing. Version) (or_fault faults.Words (none_of arguments)) (λ nothing. tt))
-        (script_or_fits (question word arguments) (call word arguments) (script_line_of line) (line_fits P line asks))))))
+        (script_or_fits (question word arguments) (call word arguments) (script_line_of line) (call_fits word arguments) (line_fits P line asks))))))
 
     words_fit : (ws : List (List ℕ)) → IfOk (line_of_words line ws) Has
     words_fit [] = script_fits

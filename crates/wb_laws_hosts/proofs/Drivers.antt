@@ -7,8 +7,8 @@ use Rattle.wb_recovery.specs.declared.tuning.Tuning.{Tuning}
 use Rattle.wb_lines.specs.Input.{InputLine}
 use Rattle.wb_lines.specs.Taking.{met}
 use Rattle.wb_words.specs.declared.adding.Adding.{Adding}
-use Rattle.wb_member.specs.Lines.{Asks, Hears, Says, SetsDistance, Stops, Ticks, Tunes}
 use Rattle.wb_member.specs.Opened.{Opened}
+use Rattle.wb_member.specs.declared.calls.Call.TheVariants as calls
 use Rattle.wb_keeping.specs.Kept.{Transition, adds, came, ticks}
 use Rattle.wb_keeping.specs.Performing.{Keeping, sees}
 use Rattle.wb_keeping.specs.Refusing.{add_fault, came_fault, tick_fault}
@@ -18,12 +18,11 @@ use Rattle.wb_commands.specs.declared.command.Command.TheVariants as lines
 use Rattle.wb_dialog.specs.declared.fault.Refusal.{Refusal}
 use Rattle.wb_dialog.specs.declared.fault.Refusal.TheVariants as refusals
 use Rattle.wb_dialog.specs.declared.line.DriverLine.{DriverLine}
-use Rattle.wb_dialog.specs.declared.line.DriverLine.TheVariants.{Script, Say, Call as Calls, Keep, Came, Add}
-use Rattle.wb_dialog.specs.declared.line.Call.TheVariants.{Ask}
+use Rattle.wb_dialog.specs.declared.line.DriverLine.TheVariants.{Script, Say, Keep, Came, Add}
 use Rattle.wb_dialog.specs.Dialog.{goes_out, refuses, says_line}
 use Rattle.wb_dialog.specs.Hosting.{Host, Driven, Kept, Reply, prints, denies, as_driven, kept_does, kept_reply, reply, reply_to, seed_after}
 use Rattle.wb_laws_sessions.specs.Drawn.{AreHonest, IsAbove, WasHeld, drawn_at}
-use Rattle.wb_laws_sessions.specs.Sessions.{Deed, Looks, Performs, Reports, Step, host_at, steps_then}
+use Rattle.wb_laws_sessions.specs.Sessions.{Calls, Deed, Speaks, Step, host_at, steps_then}
 use Rattle.wb_laws_sessions.proofs.Honest.{IsPlain, arrival_is_honest, drawing_is_honest, opening_is_honest, plain_is_honest}
 use Rattle.wb_laws_sessions.proofs.Several.{number_at}
 use Rattle.wb_laws_kept.proofs.Honest.{adds_honest, came_given, lines_honest, ticks_given}
@@ -92,7 +91,7 @@ module _ (numbers : ℕ → ℕ) (place : ℕ) (older : List Step) (honest : Are
         new = subst (λ (h : Opened). IsHeldOrNext (drawn_at numbers older place) (Some (Driven h seed)) d) there (says d is)
 
         by : (b : Bool) → nat_eq d.name.source host.is.number ≡ b
-            → Goes (deeds_by (as_driven (seed_after (Say (datagrams.Draw d)) seed) (cond b (goes_out (datagrams.Draw d) host) (refuses refusals.Member))) (Performs (Says (datagrams.Draw d)) ∷ []))
+            → Goes (deeds_by (as_driven (seed_after (Say (datagrams.Draw d)) seed) (cond b (goes_out (datagrams.Draw d) host) (refuses refusals.Member))) (Speaks (datagrams.Draw d) ∷ []))
         by true own = (
           drawing_is_honest numbers older 0 place d
               (eqb-true d.name.source host.is.number own ∙ ap (λ (h : Opened). h.is.number) there ∙ number_at numbers older place) in_range.name.positive new,
@@ -103,7 +102,6 @@ module _ (numbers : ℕ → ℕ) (place : ℕ) (older : List Step) (honest : Are
       driven : (said : DriverLine) → line ≡ said → Does said
       driven (Script said) is = script said is
       driven (Say (datagrams.Draw d)) is = drawing d is
-      driven (Calls (Ask name)) is = plainly (Calls (Ask name)) tt
       driven said is = plainly said tt
 
     -- ---- at a self-managing host
@@ -117,9 +115,9 @@ module _ (numbers : ℕ → ℕ) (place : ℕ) (older : List Step) (honest : Are
       asked r = by_reply r [] honest
 
       kept_script : (said : Command) → Goes (deeds_by (kept_reply (Script said) k) (deeds_kept (Script said) k))
-      kept_script (lines.Tick now) = unless_denied (tick_fault now k) (ticks now) []
+      kept_script (lines.Call (calls.Tick now)) = unless_denied (tick_fault now k) (ticks now) []
           (lines_honest numbers 0 place (λ d. ⊥) (ticks now (sees k.host) k.policy).lines older honest (λ d is. absurd is) (ticks_given (λ d. ⊥) now (sees k.host) k.policy))
-      kept_script (lines.Tune constants) = plain (Performs (Tunes constants) ∷ []) tt
+      kept_script (lines.Call (calls.Tune constants)) = plain (Calls (calls.Tune constants) ∷ []) tt
       kept_script (lines.Question query) = asked (kept_reply (Script (lines.Question query)) k)
       kept_script said = honest
 

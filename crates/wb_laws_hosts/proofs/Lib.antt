@@ -2,8 +2,6 @@ pub mod ScriptLines
 pub mod AddedLines
 pub mod DriverLines
 pub mod BoardRanges
-pub mod CallRanges
-pub mod MessageRanges
 pub mod OneLines
 pub mod Lines
 pub mod TextSessions

@@ -1,33 +1,35 @@
 -- What one line makes of a host, and what is printed for it, as the deeds of a member.
-use Rattle.std.proofs.Common.{◌≡◌, ℕ, Bool, true, false, cond, List, [], ◌∷◌, ◌++◌, Option, Some, None, Result, Ok, Err, append-nil, ap, refl, sym, subst, ◌∙◌, nat_lt}
+use Rattle.std.proofs.Common.{◌≡◌, ℕ, Bool, true, false, cond, List, [], ◌∷◌, ◌++◌, Option, Some, None, Result, Ok, Err, append-nil, ap, refl, sym, subst, ◌∙◌}
 use Rattle.std.specs.Prelude.{nat_eq, unwrap_or}
 use Rattle.wb_names.specs.Arrivals.{Outcome, New, Again, Clash, Left}
 use Rattle.wb_names.specs.Values.{DrawopValue}
 use Rattle.wb_codec.specs.declared.datagram.Datagram.{Datagram}
 use Rattle.wb_codec.specs.declared.datagram.Datagram.TheVariants as datagrams
 use Rattle.wb_recovery.specs.declared.tuning.Tuning.{Tuning}
-use Rattle.wb_member.specs.Lines.{Line, Tunes, said_where, sent_by_line}
-use Rattle.wb_member.specs.Opened.{Opened, answered as answers, becomes, has_room_for, heard, message, present, sent_by, ticked}
+use Rattle.wb_member.specs.Calls.{after_call, fault_of, found_by, sent_by_call}
+use Rattle.wb_member.specs.Lines.{Line, Tunes, said_where}
+use Rattle.wb_member.specs.Opened.{Opened, becomes}
 use Rattle.wb_member.specs.Questions.{answer_to}
 use Rattle.wb_keeping.specs.Kept.{Transition, adds, came, performs, ticks}
 use Rattle.wb_keeping.specs.Performing.{Keeping, sees}
 use Rattle.wb_keeping.specs.Refusing.{add_fault, came_as, came_fault, drawn_as, tick_fault}
 use Rattle.wb_keeping.specs.declared.kept_fault.KeptFault.{KeptFault}
-use Rattle.wb_commands.specs.Acts.{does, fails, tells}
+use Rattle.wb_member.specs.declared.calls.Call.{Call}
+use Rattle.wb_member.specs.declared.calls.Call.TheVariants as calls
+use Rattle.wb_commands.specs.Acts.{Act, does, tells}
 use Rattle.wb_commands.specs.Answers.{answer_text}
-use Rattle.wb_commands.specs.SentLines.{send_line, sends_text}
+use Rattle.wb_commands.specs.SentLines.{call_text, found_text, send_line, sends_text}
 use Rattle.wb_commands.specs.declared.command.Command.{Command}
 use Rattle.wb_commands.specs.declared.command.Command.TheVariants as lines
-use Rattle.wb_commands.specs.declared.fault.LineFault.TheVariants as faults
 use Rattle.wb_dialog.specs.declared.fault.Refusal.{Refusal}
 use Rattle.wb_dialog.specs.declared.fault.Refusal.TheVariants as refusals
-use Rattle.wb_dialog.specs.declared.line.Call.{Call}
 use Rattle.wb_dialog.specs.declared.line.DriverLine.{DriverLine}
-use Rattle.wb_dialog.specs.declared.line.DriverLine.TheVariants.{Script, Say, Call as Calls, Keep, Came, Add}
-use Rattle.wb_dialog.specs.Dialog.{Answer, answer_at, answered, goes_out, line_of_call, refuses, said_text, speaker, told_by_call}
+use Rattle.wb_dialog.specs.declared.line.DriverLine.TheVariants.{Script, Say, Keep, Came, Add}
+use Rattle.wb_dialog.specs.Dialog.{Answer, answer_at, answered, goes_out, refuses, said_text, speaker}
 use Rattle.wb_dialog.specs.Hosting.{Host, Driven, Kept, Reply, prints, denies, as_driven, begins, came_text, host_after, kept_does, kept_reply, kept_shows, reply, reply_to, seed_after, unsent_text}
 use Rattle.wb_laws_sessions.specs.Sessions.{Deed, Opens, after_deeds, sent_by_deeds}
 use Rattle.wb_laws_sessions.proofs.Several.{after_performed, sent_performed}
+use Rattle.wb_script.proofs.Refusals.{unless_both}
 use Rattle.wb_laws_hosts.specs.Texts.{IsMemberAt, IsOf, deeds_by, deeds_doing, deeds_driven, deeds_kept, deeds_of, deeds_said}
 use Rattle.wb_laws_hosts.specs.Telling.{told_driven, told_first, told_kept, told_of, told_said, told_saying}
 
@@ -44,10 +46,7 @@ LedTo later sent (denies e) told = Unit {0}
 abbrev pub Led : Opened → Reply → List Deed → List ℕ → Type 0
 Led host r deeds told = LedTo (after_deeds deeds host) (sent_by_deeds deeds host) r told
 
--- one deed sends these, and no answer follows them
-alone : (sent : List Datagram) → sends_text sent ≡ sends_text (sent ++ []) ++ []
-alone sent = sym (append-nil (sends_text (sent ++ [])) ∙ ap sends_text (append-nil sent))
-
+-- one datagram is sent, and no answer follows it
 one : (v : Datagram) → send_line v ≡ sends_text (v ∷ []) ++ []
 one v = sym (append-nil (sends_text (v ∷ [])) ∙ append-nil (send_line v))
 
@@ -57,17 +56,11 @@ module _ (host : Opened) (seed : Option ℕ) where
   abbrev Leads : Answer → List Deed → List ℕ → Type 0
   Leads a deeds told = Led host (as_driven seed a) deeds told
 
-  hears : (v : Datagram) → Leads (answer_at (Script (lines.Hear v)) host) (deeds_driven (Script (lines.Hear v))) []
-  hears v = by (has_room_for v host) where
-    by : (b : Bool) → LedTo (cond b (heard v host) host) (cond b (answers v host) [] ++ []) (as_driven seed (answered (cond b (does (heard v host) (sends_text (answers v host))) (fails faults.TooMany)))) []
-    by true = (refl, alone (answers v host))
-    by false = tt
-
-  ticks_on : (now : ℕ) → Leads (answer_at (Script (lines.Tick now)) host) (deeds_driven (Script (lines.Tick now))) []
-  ticks_on now = at (nat_lt now (present host)) where
-    at : (b : Bool) → Leads (answered (cond b (fails faults.BackInTime) (does (ticked now host) (sends_text (sent_by now host))))) (deeds_driven (Script (lines.Tick now))) []
-    at true = tt
-    at false = (refl, alone (sent_by now host))
+  call_led : (call : Call) → Leads (answer_at (Script (lines.Call call)) host) (deeds_driven (Script (lines.Call call))) (found_text (found_by call host))
+  call_led call =
+      let done : Act = does (after_call call host) (call_text call host) in
+      unless_both (λ (a b : Act). Leads (answered a) (deeds_driven (Script (lines.Call call))) (found_text (found_by call host))) (λ e. tt) (fault_of call host) done done
+      (refl, ap (λ (sent : List Datagram). sends_text sent ++ found_text (found_by call host)) (sym (append-nil (sent_by_call call host))))
 
   tells_it : (text : Option (List ℕ)) → Leads (answered (tells host text)) [] (unwrap_or text [])
   tells_it (Some text) = (refl, refl)
@@ -75,9 +68,7 @@ module _ (host : Opened) (seed : Option ℕ) where
 
   script_led : (line : Command) → Leads (answer_at (Script line) host) (deeds_driven (Script line)) (told_driven (Script line) host)
   script_led (lines.Board member cells workers seed) = tt
-  script_led (lines.Hear v) = hears v
-  script_led (lines.Tick now) = ticks_on now
-  script_led (lines.Session page) = (refl, alone (message page host ∷ []))
+  script_led (lines.Call call) = call_led call
   script_led (lines.Question query) = tells_it (answer_text (answer_to query host))
   script_led line = (refl, refl)
 
@@ -97,13 +88,9 @@ module _ (host : Opened) (seed : Option ℕ) where
     from true = goes_led v
     from false = tt
 
-  call_led : (call : Call) → Leads (answer_at (Calls call) host) (deeds_driven (Calls call)) (told_driven (Calls call) host)
-  call_led call = (refl, ap (λ (sent : List Datagram). sends_text sent ++ told_by_call call host) (sym (append-nil (sent_by_line (line_of_call call) host))))
-
   driven_led : (line : DriverLine) → Leads (answer_at line host) (deeds_driven line) (told_driven line host)
   driven_led (Script line) = script_led line
   driven_led (Say v) = says_led v
-  driven_led (Calls call) = call_led call
   driven_led line = search
 
 -- ---- at a self-managing host
@@ -120,8 +107,8 @@ module _ (k : Keeping) where
   shows_led None = tt
 
   kept_script_led : (line : Command) → Led k.host (kept_reply (Script line) k) (deeds_kept (Script line) k) (told_kept (Script line) k)
-  kept_script_led (lines.Tick now) = does_led (tick_fault now k) (ticks now) []
-  kept_script_led (lines.Tune constants) = does_led None (performs (Tunes constants)) []
+  kept_script_led (lines.Call (calls.Tick now)) = does_led (tick_fault now k) (ticks now) []
+  kept_script_led (lines.Call (calls.Tune constants)) = does_led None (performs (Tunes constants)) []
   kept_script_led (lines.Question query) = shows_led (answer_text (answer_to query k.host))
   kept_script_led lines.Skip = (refl, refl)
   kept_script_led line = tt

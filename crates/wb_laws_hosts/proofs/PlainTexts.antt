@@ -26,15 +26,14 @@ use Rattle.wb_lines.specs.Ahead.{NoLineFeed}
 use Rattle.wb_lines.proofs.LineBytes.{NoLineFeed-append}
 use Rattle.wb_member.specs.Queries.{view_of}
 use Rattle.wb_member.specs.Opened.{Opened, next_number, shown}
+use Rattle.wb_member.specs.declared.calls.Found.{Found}
+use Rattle.wb_member.specs.declared.calls.Found.TheVariants.{Missing}
 use Rattle.wb_member.specs.declared.questions.Query.{Query}
 use Rattle.wb_member.specs.declared.questions.Query.TheVariants.{Canvas, Gaps, Report, Pages, View, Known, Next}
 use Rattle.wb_commands.specs.declared.command.Command.TheVariants.{Question}
-use Rattle.wb_dialog.specs.declared.line.Call.{Call}
-use Rattle.wb_dialog.specs.declared.line.Call.TheVariants.{Ask}
 use Rattle.wb_dialog.specs.declared.line.DriverLine.TheVariants.{Script}
 use Rattle.wb_commands.specs.Answers.{batch_line, pair_line, gap_line, mark_line, page_line, gaps_text, known_text, next_line, pages_text, report_text, view_text, words_line}
-use Rattle.wb_commands.specs.SentLines.{digits_of, send_line, sends_text, look_line}
-use Rattle.wb_dialog.specs.Dialog.{told_by_call}
+use Rattle.wb_commands.specs.SentLines.{digits_of, found_text, send_line, sends_text, look_line}
 use Rattle.wb_laws_hosts.specs.Closings.{IsOneLine, AreOneLine, IsNoShow}
 use Rattle.wb_laws_hosts.specs.Telling.{answered}
 use Rattle.wb_laws_hosts.proofs.PlainLines.{Plain, both, ended, further, none, number_free, plain_rules, worded}
@@ -53,9 +52,9 @@ free_of (b ∷ word) e =
 pub sends : (vs : List Datagram) → Plain (sends_text vs)
 sends vs = search plain_rules depth 20
 
-pub called : (call : Call) (host : Opened) → Plain (told_by_call call host)
-called (Ask name) host = search plain_rules depth 20
-called call host = search plain_rules depth 20
+pub found : (it : Found) → Plain (found_text it)
+found (Missing count) = search plain_rules depth 20
+found it = search plain_rules depth 20
 
 -- ---- drawops in words
 

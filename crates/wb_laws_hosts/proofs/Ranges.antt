@@ -13,8 +13,9 @@ use Rattle.wb_codec.specs.declared.datagram.Datagram.TheVariants as datagrams
 use Rattle.wb_recovery.specs.declared.tuning.Tuning.{Tuning}
 use Rattle.wb_lines.specs.Input.{InputLine}
 use Rattle.wb_lines.specs.Taking.{met}
-use Rattle.wb_member.specs.Lines.{Line, Ticks, Arrives, Says}
+use Rattle.wb_member.specs.Lines.{Line, Ticks, Says}
 use Rattle.wb_member.specs.Opened.{Opened, last_number}
+use Rattle.wb_member.specs.declared.calls.Call.TheVariants as calls
 use Rattle.wb_keeping.specs.Kept.{Transition, adds, came, drawing, ends_full, hears, ticks, timed}
 use Rattle.wb_keeping.specs.Performing.{Keeping, sees, view_of}
 use Rattle.wb_keeping.specs.Refusing.{add_fault, came_fault, drawing_fault, tick_fault, waits_fault}
@@ -26,12 +27,11 @@ use Rattle.wb_commands.specs.declared.command.Command.TheVariants as lines
 use Rattle.wb_words.specs.declared.adding.Adding.{Adding}
 use Rattle.wb_dialog.specs.declared.fault.Refusal.{Refusal}
 use Rattle.wb_dialog.specs.declared.line.DriverLine.{DriverLine}
-use Rattle.wb_dialog.specs.declared.line.DriverLine.TheVariants.{Script, Say, Call as Calls, Keep, Came, Add}
-use Rattle.wb_dialog.specs.declared.line.Call.TheVariants.{Ask}
+use Rattle.wb_dialog.specs.declared.line.DriverLine.TheVariants.{Script, Say, Keep, Came, Add}
 use Rattle.wb_dialog.specs.Dialog.{says_line}
 use Rattle.wb_dialog.specs.Hosting.{Host, Driven, Kept, Hosting, Reply, prints, denies, host_after, hosting_after, hosting_from, kept_does, kept_reply, reply, reply_of, reply_to, unopened}
 use Rattle.wb_laws_sessions.specs.Drawn.{drawn_by}
-use Rattle.wb_laws_sessions.specs.Sessions.{Deed, Performs, after_deed, after_deeds}
+use Rattle.wb_laws_sessions.specs.Sessions.{Deed, Speaks, Takes as TakesDrawop, after_deed, after_deeds, deed_of}
 use Rattle.wb_laws_sessions.proofs.Deeds.{ComesBy, deed_brings, deed_draws, number_after}
 use Rattle.wb_laws_hosts.specs.Closings.{HoldsLines}
 use Rattle.wb_laws_hosts.specs.Laws.{BoardsAreInRange, IsOpenHost}
@@ -50,14 +50,13 @@ abbrev BringsSaying : Datagram → Type 0
 BringsSaying (datagrams.Draw d) = IsDrawop d
 BringsSaying v = Unit {0}
 
-abbrev pub Brings : Line → Type 0
-Brings (Arrives d) = IsDrawop d
-Brings (Says v) = BringsSaying v
-Brings line = Unit {0}
-
 abbrev pub BringsBy : Deed → Type 0
-BringsBy (Performs line) = Brings line
+BringsBy (TakesDrawop d) = IsDrawop d
+BringsBy (Speaks v) = BringsSaying v
 BringsBy deed = Unit {0}
+
+abbrev pub Brings : Line → Type 0
+Brings line = BringsBy (deed_of line)
 
 -- its number and what it holds are in range
 pub record InRange (host : Opened) : Type 0 where
@@ -70,7 +69,7 @@ deed_in_range deed host brings f = record {
   board = all_from IsDrawop (after_deed deed host).is.held (λ d c. ⊎_elim
       (λ (was : Contains host.is.held d). All-contains IsDrawop host.is.held d f.board was)
       (λ (comes : ComesBy deed host d). ⊎_elim
-      (λ (arrives : deed ≡ Performs (Arrives d)). subst BringsBy arrives brings)
+      (λ (arrives : deed ≡ TakesDrawop d). subst BringsBy arrives brings)
       (λ (draws : Contains (drawn_by deed host) d). subst BringsBy (deed_draws deed host d draws).said brings)
       comes)
       (deed_brings deed host d c));
@@ -84,7 +83,7 @@ deeds_in_range : (deeds : List Deed) (host : Opened) → EachBrings deeds → In
 deeds_in_range [] host brings f = f
 deeds_in_range (deed ∷ deeds) host brings f = deeds_in_range deeds (after_deed deed host) brings.1 (deed_in_range deed host brings.0 f)
 
-performed_bring : (performed : List Line) → Each Brings performed → EachBrings (map Performs performed)
+performed_bring : (performed : List Line) → Each Brings performed → EachBrings (map deed_of performed)
 performed_bring [] each = tt
 performed_bring (line ∷ performed) each = (each.0, performed_bring performed each.1)
 
@@ -93,17 +92,13 @@ performed_bring (line ∷ performed) each = (each.0, performed_bring performed e
 driven_brings : (line : DriverLine) → drivers.Fits line → EachBrings (deeds_driven line)
 driven_brings (Script line) fit = script line fit where
   script : (line : Command) → drivers.Fits (Script line) → EachBrings (deeds_driven (Script line))
-  script (lines.Board member cells workers seed) fit = tt
   script (lines.Arrive d) fit = (fit, tt)
-  script (lines.Question query) fit = tt
-  script lines.Skip fit = tt
-  script line fit = (tt, tt)
+  script (lines.Call call) fit = (tt, tt)
+  script line fit = tt
 driven_brings (Say v) fit = (says v fit, tt) where
   says : (v : Datagram) → IsDatagram v → BringsSaying v
   says (datagrams.Draw d) fit = fit
   says v fit = tt
-driven_brings (Calls (Ask name)) fit = (tt, tt)
-driven_brings (Calls call) fit = (tt, tt)
 driven_brings line fit = tt
 
 -- ---- lines of a policy
@@ -169,8 +164,8 @@ module _ (k : Keeping) (f : InRange k.host) where
   no_deeds (denies e) = tt
 
   kept_script_brings : (line : Command) → EachBrings (deeds_by (kept_reply (Script line) k) (deeds_kept (Script line) k))
-  kept_script_brings (lines.Tick now) = unless_denied (tick_fault now k) (ticks now) [] (λ none. ticks_bring now (sees k.host) k.policy)
-  kept_script_brings (lines.Tune constants) = (tt, tt)
+  kept_script_brings (lines.Call (calls.Tick now)) = unless_denied (tick_fault now k) (ticks now) [] (λ none. ticks_bring now (sees k.host) k.policy)
+  kept_script_brings (lines.Call (calls.Tune constants)) = (tt, tt)
   kept_script_brings (lines.Question query) = no_deeds (kept_reply (Script (lines.Question query)) k)
   kept_script_brings line = tt
 

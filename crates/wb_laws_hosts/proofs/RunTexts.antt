@@ -62,25 +62,12 @@ acts_as k s (fails e) host = append-nil (closing s)
 line_as : (k : Option ℕ) (host : Option Opened) (waiting : List DrawopValue) (line : Command) → ((d : DrawopValue) → part_of (Ok line) ≡ Arrival d → waiting ≡ []) → DoesAs (board k host waiting) (answer_to script_constants (host_of (board k host waiting)) (Script line)) (said_step (board k host waiting) waiting (Ok line))
 line_as k None waiting lines.Skip none = ([], refl, refl)
 line_as k None waiting (lines.Board member cells workers seed) none = ([], refl, refl)
-line_as k None waiting (lines.Arrive d) none = refl
-line_as k None waiting (lines.Hear v) none = refl
-line_as k None waiting (lines.Distance source micros) none = refl
-line_as k None waiting (lines.Tune constants) none = refl
-line_as k None waiting (lines.Tick moment) none = refl
-line_as k None waiting (lines.Look page) none = refl
-line_as k None waiting (lines.Session page) none = refl
-line_as k None waiting (lines.Question query) none = refl
+line_as k None waiting line none = refl
 line_as k (Some host) waiting lines.Skip none = ([], refl, sym (append-nil (closing (board k (Some host) waiting))))
 line_as k (Some host) waiting (lines.Board member cells workers seed) none = append-nil (closing (board k (Some host) waiting))
 line_as k (Some host) waiting (lines.Arrive d) none =
     subst (λ (w : List DrawopValue). DoesAs (board k (Some host) w) (arrives d (taken w host)) (goes (board k (Some host) (w ++ d ∷ [])) [])) (sym (none d refl)) (arrives_as k host d)
-line_as k (Some host) waiting (lines.Hear v) none = let next = taken waiting host in acts_as k (board k (Some host) waiting) (act (lines.Hear v) next) next
-line_as k (Some host) waiting (lines.Distance source micros) none = let next = taken waiting host in acts_as k (board k (Some host) waiting) (act (lines.Distance source micros) next) next
-line_as k (Some host) waiting (lines.Tune constants) none = let next = taken waiting host in acts_as k (board k (Some host) waiting) (act (lines.Tune constants) next) next
-line_as k (Some host) waiting (lines.Tick moment) none = let next = taken waiting host in acts_as k (board k (Some host) waiting) (act (lines.Tick moment) next) next
-line_as k (Some host) waiting (lines.Look page) none = let next = taken waiting host in acts_as k (board k (Some host) waiting) (act (lines.Look page) next) next
-line_as k (Some host) waiting (lines.Session page) none = let next = taken waiting host in acts_as k (board k (Some host) waiting) (act (lines.Session page) next) next
-line_as k (Some host) waiting (lines.Question query) none = let next = taken waiting host in acts_as k (board k (Some host) waiting) (act (lines.Question query) next) next
+line_as k (Some host) waiting line none = let next = taken waiting host in acts_as k (board k (Some host) waiting) (act line next) next
 
 -- what a host answers to a line that is not too long, and that a script takes
 pub answer_is : (s : State) (line : InputLine) (said : Command) → is_short line ≡ true → script_line_of (content line) ≡ Ok said → answer_of s (met line) ≡ answer_to s.tuning s.host (Script said)

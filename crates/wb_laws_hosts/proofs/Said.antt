@@ -7,7 +7,6 @@ use Rattle.wb_codec.specs.declared.datagram.Datagram.{Datagram}
 use Rattle.wb_codec.specs.declared.datagram.Datagram.TheVariants.{Draw}
 use Rattle.wb_recovery.specs.declared.tuning.Tuning.{Tuning}
 use Rattle.wb_lines.specs.Taking.{met}
-use Rattle.wb_member.specs.Lines.{Line, Says}
 use Rattle.wb_member.specs.Opened.{Opened}
 use Rattle.wb_commands.specs.declared.command.Command.TheVariants as lines
 use Rattle.wb_dialog.specs.declared.fault.Refusal.{Refusal}
@@ -16,7 +15,7 @@ use Rattle.wb_dialog.specs.declared.line.DriverLine.TheVariants.{Script}
 use Rattle.wb_dialog.specs.Dialog.{says_line}
 use Rattle.wb_dialog.specs.Hosting.{Host, Driven, Kept, Hosting, reply}
 use Rattle.wb_laws_sessions.specs.Drawn.{WasDrawn, drawn_at}
-use Rattle.wb_laws_sessions.specs.Sessions.{Deed, Opens, Performs, Step, host_at, sent, sent_by_deeds, steps_then}
+use Rattle.wb_laws_sessions.specs.Sessions.{Deed, Opens, Speaks, Step, host_at, sent, sent_by_deeds, steps_then}
 use Rattle.wb_laws_sessions.proofs.Drawn.{held_was_drawn, names_mean_one, once_held_was_drawn}
 use Rattle.wb_laws_sessions.proofs.Sending.{sent_was_held}
 use Rattle.wb_laws_sessions.proofs.Several.{DrawnThen, drawn_then, sent_longer, sent_then}
@@ -52,18 +51,18 @@ module _ (numbers : ℕ → ℕ) where
     said = w.said;
   }
 
-  -- before a board is open nothing is performed
-  first_none : (tuning : Tuning) (said : Result DriverLine Refusal) (line : Line) → Contains (deeds_by (reply tuning None said) (deeds_said tuning None said)) (Performs line) → ⊥
-  first_none tuning (Ok (Script (lines.Board member cells workers seed))) line c = ⊎_elim (λ (e : Opens tuning cells seed ≡ Performs line). other e) (λ (none : Contains [] (Performs line)). Contains-none (Performs line) none) (Contains-cases (Opens tuning cells seed) (Performs line) [] c) where
-    other : Opens tuning cells seed ≡ Performs line → ⊥
+  -- before a board is open nothing is said
+  first_none : (tuning : Tuning) (said : Result DriverLine Refusal) (v : Datagram) → Contains (deeds_by (reply tuning None said) (deeds_said tuning None said)) (Speaks v) → ⊥
+  first_none tuning (Ok (Script (lines.Board member cells workers seed))) v c = ⊎_elim (λ (e : Opens tuning cells seed ≡ Speaks v). other e) (λ (none : Contains [] (Speaks v)). Contains-none (Speaks v) none) (Contains-cases (Opens tuning cells seed) (Speaks v) [] c) where
+    other : Opens tuning cells seed ≡ Speaks v → ⊥
     other e = cc
-  first_none tuning said line c = Contains-none (Performs line) c
+  first_none tuning said v c = Contains-none (Speaks v) c
 
-  sent_here : (tuning : Tuning) (s : Option Host) (said : Result DriverLine Refusal) (member : Opened) (line : Line) (v : Datagram) → IsMemberAt member s
-      → let deeds = deeds_by (reply tuning s said) (deeds_said tuning s said) in Contains deeds (Performs line) → Contains (sent_by_deeds deeds member) v → Contains (sent_at_host s deeds) v
-  sent_here tuning None said member line v is by c = absurd (first_none tuning said line by)
-  sent_here tuning (Some (Driven host seed)) said member line v is by c = subst (λ (m : Opened). Contains (sent_by_deeds (deeds_by (reply tuning (Some (Driven host seed)) said) (deeds_said tuning (Some (Driven host seed)) said)) m) v) (sym is) c
-  sent_here tuning (Some (Kept k)) said member line v is by c = subst (λ (m : Opened). Contains (sent_by_deeds (deeds_by (reply tuning (Some (Kept k)) said) (deeds_said tuning (Some (Kept k)) said)) m) v) (sym is) c
+  sent_here : (tuning : Tuning) (s : Option Host) (said : Result DriverLine Refusal) (member : Opened) (v : Datagram) → IsMemberAt member s
+      → let deeds = deeds_by (reply tuning s said) (deeds_said tuning s said) in Contains deeds (Speaks v) → Contains (sent_by_deeds deeds member) v → Contains (sent_at_host s deeds) v
+  sent_here tuning None said member v is by c = absurd (first_none tuning said v by)
+  sent_here tuning (Some (Driven host seed)) said member v is by c = subst (λ (m : Opened). Contains (sent_by_deeds (deeds_by (reply tuning (Some (Driven host seed)) said) (deeds_said tuning (Some (Driven host seed)) said)) m) v) (sym is) c
+  sent_here tuning (Some (Kept k)) said member v is by c = subst (λ (m : Opened). Contains (sent_by_deeds (deeds_by (reply tuning (Some (Kept k)) said) (deeds_said tuning (Some (Kept k)) said)) m) v) (sym is) c
 
   pub drawn_was_said : (events : List EventAt) → HaveNumbers numbers events → (k : ℕ) (d : DrawopValue) → d.name.source ≡ numbers k → Contains (drawn_at numbers (steps_of_texts events) k) d → WasSaid numbers events d
   drawn_was_said [] numbered k d own c = absurd (Contains-none d c)
@@ -75,7 +74,7 @@ module _ (numbers : ℕ → ℕ) where
         s = hosting_at older e.place
 
         by : (event : Event) → e.event ≡ event → DrawnThen numbers 0 e.place (deeds_of_event event s) (steps_of_texts older) k d → WasSaid numbers (e ∷ older) d
-        by (Starts tuning) is now = absurd (Contains-none (Performs (Says (Draw d))) now.said)
+        by (Starts tuning) is now = absurd (Contains-none (Speaks (Draw d)) now.said)
         by (Takes line) is now = record {
           sent = record {
             newer = [];
@@ -84,7 +83,7 @@ module _ (numbers : ℕ → ℕ) where
             split = refl;
             line = line;
             takes = is;
-            out = sent_here s.tuning s.host (says_line (met line)) (host_at numbers (steps_of_texts older) e.place) (Says (Draw d)) (Draw d) (texts_are_sessions numbers older numbered.1 e.place) now.said now.sent;
+            out = sent_here s.tuning s.host (says_line (met line)) (host_at numbers (steps_of_texts older) e.place) (Draw d) (texts_are_sessions numbers older numbered.1 e.place) now.said now.sent;
           };
           source = own ∙ ap numbers (sym now.here);
           said = now.said;

@@ -7,7 +7,7 @@ use Rattle.hex.specs.Hex.{decode_of, IsBytes}
 use Rattle.hex.specs.declared.error.FromHexError.{FromHexError}
 use Rattle.hex.proofs.HexLemmas.{decode_of-ok}
 use Rattle.wb_names.proofs.Orders.{and_both}
-use Rattle.wb_codec.specs.Ranges.{IsPage, IsDatagram}
+use Rattle.wb_codec.specs.Ranges.{IsDatagram}
 use Rattle.wb_codec.specs.Reading.{reading}
 use Rattle.wb_codec.specs.Spelling.{spelling}
 use Rattle.wb_codec.specs.declared.datagram.Datagram.{Datagram}
@@ -18,13 +18,12 @@ use Rattle.wb_words.specs.Reading.{begins_datagram, reading as reading_words}
 use Rattle.wb_words.specs.declared.fault.WrongWord.{WrongWord}
 use Rattle.wb_words.specs.declared.digits_fault.DigitsFault.TheVariants as digit_faults
 use Rattle.wb_lines.specs.Words.{words, is_digit, number_after, number_of, unhex}
-use Rattle.wb_recovery.specs.Timing.{are_constants, is_constant}
+use Rattle.wb_member.specs.declared.calls.Call.TheVariants as calls
 use Rattle.wb_commands.specs.Parsing.{◌>>=◌, or_fault, number, one_of, two_of, four_of, board, distance, tuning, tick, page, question, spelled, datagram, arrived, heard, arrive, hear, handed_in, bytes_line, page_line, command, begins_comment, line_of_words, in_words, line_of}
 use Rattle.wb_commands.specs.declared.fault.LineFault.{LineFault}
 use Rattle.wb_commands.specs.declared.fault.LineFault.TheVariants as faults
 use Rattle.wb_commands.specs.declared.command.Command.{Command}
 use Rattle.wb_commands.specs.declared.command.Command.TheVariants as lines
-use Rattle.std.proofs.lemmas.Bool.{le-leb, and_from}
 use Rattle.wb_board.specs.Counts.{MAX_CELLS}
 
 -- ---- steps
@@ -39,11 +38,11 @@ pub behind : {A B : Type 0} (Q : B → Type 0) (r : Result A LineFault) (f : A �
 behind Q (Ok x) f q = q x
 behind Q (Err e) f q = tt
 
-either : {A : Type 0} (P : A → Type 0) (b : Bool) (x y : Result A LineFault) → IfOk x P → IfOk y P → IfOk (if b then x else y) P
+pub either : {A : Type 0} (P : A → Type 0) (b : Bool) (x y : Result A LineFault) → IfOk x P → IfOk y P → IfOk (if b then x else y) P
 either P true x y p q = p
 either P false x y p q = q
 
--- ---- numbers and pages
+-- ---- numbers
 
 abbrev pub IsWithin : ℕ → ℕ → ℕ → Type 0
 IsWithin low high n = (low ≤ n) × (n ≤ high)
@@ -70,15 +69,6 @@ or_fault_fits P e None p = tt
 
 pub number_fits : (low high : ℕ) (word : List ℕ) → IfOk (number low high word) (IsWithin low high)
 number_fits low high word = or_fault_fits (IsWithin low high) faults.Number (number_of low high word) (number_of_fits low high word)
-
-pub page_fits : (arguments : List (List ℕ)) → IfOk (page arguments) IsPage
-unfolding page
-page_fits arguments = behind IsPage (or_fault faults.Words (two_of arguments)) _ (λ ws.
-    bound (IsWithin 0 (2 ^ 32 - 1)) IsPage (number 0 (2 ^ 32 - 1) ws.0) _ (number_fits 0 (2 ^ 32 - 1) ws.0) (λ creator c.
-    bound (IsWithin 0 (2 ^ 32 - 1)) IsPage (number 0 (2 ^ 32 - 1) ws.1) _ (number_fits 0 (2 ^ 32 - 1) ws.1) (λ n d.
-    let a = c.1 in
-    let b = d.1 in
-    record { creator = omega arith; number = omega arith })))
 
 -- ---- datagrams
 
@@ -131,16 +121,11 @@ datagram_digits arguments =
 
 -- ---- lines
 
--- a datagram that a line of a script carries has a property, and all else that it carries is in range
+-- A datagram that a line of a script carries has a property, and a board that it opens is in range.
 abbrev pub Carries : (Datagram → Type 0) → Command → Type 0
 Carries P (lines.Board member cells workers seed) = (member < 2 ^ 32) × (cells ≤ MAX_CELLS)
 Carries P (lines.Arrive d) = P (datagrams.Draw d)
-Carries P (lines.Hear v) = P v
-Carries P (lines.Tick moment) = moment < 2 ^ 48
-Carries P (lines.Distance source micros) = micros < 2 ^ 24
-Carries P (lines.Tune constants) = are_constants constants ≡ true
-Carries P (lines.Look page) = IsPage page
-Carries P (lines.Session page) = IsPage page
+Carries P (lines.Call (calls.Hear v)) = P v
 Carries P line = Unit {0}
 
 -- what it carries is in range
@@ -167,28 +152,17 @@ module _ (P : Datagram → Type 0) where
 
   tick_fits : (arguments : List (List ℕ)) → IfOk (tick arguments) Has
   unfolding tick
-  tick_fits arguments = behind Has (or_fault faults.Words (one_of arguments)) _ (λ word.
-      bound (IsWithin 0 (2 ^ 48 - 1)) Has (number 0 (2 ^ 48 - 1) word) _ (number_fits 0 (2 ^ 48 - 1) word) (λ moment m.
-      let a = m.1 in omega arith))
+  tick_fits arguments = behind Has (or_fault faults.Words (one_of arguments)) _ (λ word. behind Has (number 0 (2 ^ 48 - 1) word) _ (λ moment. tt))
 
   distance_fits : (arguments : List (List ℕ)) → IfOk (distance arguments) Has
   unfolding distance
   distance_fits arguments = behind Has (or_fault faults.Words (two_of arguments)) _ (λ ws.
-      behind Has (number 0 (2 ^ 32 - 1) ws.0) _ (λ source.
-      bound (IsWithin 0 (2 ^ 24 - 1)) Has (number 0 (2 ^ 24 - 1) ws.1) _ (number_fits 0 (2 ^ 24 - 1) ws.1) (λ micros m.
-      let a = m.1 in omega arith)))
-
-  constant_fits : (n : ℕ) → IsWithin 1 16 n → is_constant n ≡ true
-  constant_fits n fit = and_from (nat_le 1 n) (nat_le n 16) (le-leb 1 n fit.0) (le-leb n 16 fit.1)
+      behind Has (number 0 (2 ^ 32 - 1) ws.0) _ (λ source. behind Has (number 0 (2 ^ 24 - 1) ws.1) _ (λ micros. tt)))
 
   tuning_fits : (arguments : List (List ℕ)) → IfOk (tuning arguments) Has
   unfolding tuning
   tuning_fits arguments = behind Has (or_fault faults.Words (four_of arguments)) _ (λ ws.
-      bound (IsWithin 1 16) Has (number 1 16 ws.0) _ (number_fits 1 16 ws.0) (λ c1 one.
-      bound (IsWithin 1 16) Has (number 1 16 ws.1) _ (number_fits 1 16 ws.1) (λ c2 two.
-      bound (IsWithin 1 16) Has (number 1 16 ws.2) _ (number_fits 1 16 ws.2) (λ d1 three.
-      bound (IsWithin 1 16) Has (number 1 16 ws.3) _ (number_fits 1 16 ws.3) (λ d2 four.
-      and_from _ (is_constant d2) (and_from _ (is_constant d1) (and_from (is_constant c1) (is_constant c2) (constant_fits c1 one) (constant_fits c2 two)) (constant_fits d1 three)) (constant_fits d2 four))))))
+      behind Has (number 1 16 ws.0) _ (λ c1. behind Has (number 1 16 ws.1) _ (λ c2. behind Has (number 1 16 ws.2) _ (λ d1. behind Has (number 1 16 ws.3) _ (λ d2. tt)))))
 
   arrived_fits : (v : Datagram) → P v → IfOk (arrived v) Has
   arrived_fits (datagrams.Draw d) fit = fit
@@ -220,8 +194,8 @@ module _ (P : Datagram → Type 0) where
   page_line_fits : (word : List ℕ) (arguments : List (List ℕ)) → IfOk (page_line word arguments) Has
   unfolding page_line
   page_line_fits word arguments =
-      either Has (bytes_eq word (codes "look")) _ _ (bound IsPage Has (page arguments) (λ p. Ok (lines.Look p)) (page_fits arguments) (λ p fit. fit))
-      (either Has (bytes_eq word (codes "session")) _ _ (bound IsPage Has (page arguments) (λ p. Ok (lines.Session p)) (page_fits arguments) (λ p fit. fit))
+      either Has (bytes_eq word (codes "look")) _ _ (behind Has (page arguments) (λ p. Ok (lines.Call (calls.Look p))) (λ p. tt))
+      (either Has (bytes_eq word (codes "session")) _ _ (behind Has (page arguments) (λ p. Ok (lines.Call (calls.Session p))) (λ p. tt))
       (behind Has (question word arguments) (λ query. Ok (lines.Question query)) (λ query. tt)))
 
   command_fits : (word : List ℕ) (arguments : List (List ℕ)) → IfOk (datagram arguments) P → IfOk (command word arguments) Has

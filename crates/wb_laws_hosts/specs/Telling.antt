@@ -1,23 +1,24 @@
 -- What a host prints for a line: a `send` line of each datagram that it sends, and then what else it
 -- tells.
-use Rattle.std.specs.Prelude.{◌≡◌, ℕ, List, [], ◌++◌, length, Option, Some, None, Result, Ok, Err, unwrap_or}
+use Rattle.std.specs.Prelude.{◌≡◌, ℕ, List, [], ◌++◌, Option, Some, None, Result, Ok, Err, unwrap_or}
 use Rattle.wb_codec.specs.declared.datagram.Datagram.{Datagram}
 use Rattle.wb_codec.specs.declared.datagram.Datagram.TheVariants as datagrams
 use Rattle.wb_lines.specs.Input.{InputLine}
 use Rattle.wb_lines.specs.Taking.{met}
 use Rattle.wb_commands.specs.Answers.{answer_text}
-use Rattle.wb_commands.specs.SentLines.{look_line, sends_text}
+use Rattle.wb_commands.specs.SentLines.{found_text, sends_text}
 use Rattle.wb_commands.specs.declared.command.Command.{Command}
 use Rattle.wb_commands.specs.declared.command.Command.TheVariants as lines
-use Rattle.wb_member.specs.Opened.{Opened, becomes, wanted_of}
+use Rattle.wb_member.specs.Calls.{found_by}
+use Rattle.wb_member.specs.Opened.{Opened, becomes}
 use Rattle.wb_member.specs.Questions.{answer_to}
 use Rattle.wb_member.specs.declared.questions.Query.{Query}
 use Rattle.wb_keeping.specs.Performing.{Keeping}
 use Rattle.wb_keeping.specs.Refusing.{came_as, drawn_as}
 use Rattle.wb_dialog.specs.declared.fault.Refusal.{Refusal}
 use Rattle.wb_dialog.specs.declared.line.DriverLine.{DriverLine}
-use Rattle.wb_dialog.specs.declared.line.DriverLine.TheVariants.{Script, Say, Call as Calls, Came, Add, Version}
-use Rattle.wb_dialog.specs.Dialog.{batch_of, says_line, told_by_call, version_line}
+use Rattle.wb_dialog.specs.declared.line.DriverLine.TheVariants.{Script, Say, Came, Add, Version}
+use Rattle.wb_dialog.specs.Dialog.{batch_of, says_line, version_line}
 use Rattle.wb_dialog.specs.Doing.{text_in}
 use Rattle.wb_dialog.specs.Hosting.{Host, Driven, Kept, Hosting, Reply, prints, denies, came_text, reply_of, unsent_text}
 use Rattle.wb_laws_hosts.specs.Texts.{sent_at}
@@ -30,7 +31,7 @@ answered query host = unwrap_or (answer_text (answer_to query host)) []
 
 abbrev pub told_in_script : Command → Opened → List ℕ
 told_in_script (lines.Arrive d) host = batch_of (becomes d host)
-told_in_script (lines.Look page) host = look_line (length (wanted_of page host))
+told_in_script (lines.Call call) host = found_text (found_by call host)
 told_in_script (lines.Question query) host = answered query host
 told_in_script line host = []
 
@@ -41,7 +42,6 @@ told_saying v host = []
 abbrev pub told_driven : DriverLine → Opened → List ℕ
 told_driven (Script line) host = told_in_script line host
 told_driven (Say v) host = told_saying v host
-told_driven (Calls call) host = told_by_call call host
 told_driven Version host = version_line
 told_driven line host = []
 

@@ -1,7 +1,6 @@
 -- Two hosts that differ in the order of what they hold, at most: each line prints the same there, and leads to two such hosts.
-use Rattle.std.proofs.Common.{◌≡◌, ℕ, Bool, true, false, cond, List, [], ◌∷◌, length, Option, Some, None, refl, sym, ap, ap₂, subst, filter, map, nat_lt, filter_map}
+use Rattle.std.proofs.Common.{◌≡◌, ℕ, Bool, true, false, cond, List, [], ◌∷◌, length, Option, Some, None, refl, sym, ap, ap₂, ◌∙◌, subst, filter, map, not, ◌||◌, filter_map}
 use Rattle.wb_names.specs.Values.{NameValue, DrawopValue, MarkValue}
-use Rattle.wb_names.specs.declared.name.PageId.{PageId}
 use Rattle.wb_names.specs.declared.gap.Gap.{Gap}
 use Rattle.wb_codec.specs.declared.datagram.Datagram.{Datagram}
 use Rattle.wb_codec.specs.declared.datagram.Datagram.TheVariants.{PageState, Session as SessionMessage}
@@ -9,24 +8,31 @@ use Rattle.wb_gaps.specs.declared.page_reports.PageReport.{PageReport}
 use Rattle.wb_recovery.specs.declared.plan.Action.{Action}
 use Rattle.wb_recovery.specs.Events.{asking, actions_of, timers_of, names_of as timer_names}
 use Rattle.wb_recovery.specs.Stopping.{receipts}
+use Rattle.wb_keeper.specs.GivingUp.{is_timed}
 use Rattle.wb_keeper.specs.Keeper.{KeeperCall, Hear, Miss, GoOn, delay_to, received_of, holds}
-use Rattle.wb_keeper.specs.Hearing.{marks_heard, asks_for_held, asks_for_pages, answers_to}
-use Rattle.wb_keeper.specs.Sessions.{echoes_of}
-use Rattle.wb_keeper.specs.Missing.{wanted, names_in_gaps}
-use Rattle.wb_commands.specs.declared.fault.LineFault.TheVariants as faults
-use Rattle.wb_commands.specs.declared.command.Command.{Command}
-use Rattle.wb_commands.specs.declared.command.Command.TheVariants.{Hear as HearLine, Tick, Look, Session, Question}
-use Rattle.wb_commands.specs.Answers.{answer_text}
+use Rattle.wb_keeper.specs.Hearing.{marks_heard, asks_for_held, asks_for_pages}
 use Rattle.wb_keeper.specs.Known.{pages_heard}
-use Rattle.wb_member.specs.Questions.{Told, answer_to}
-use Rattle.wb_member.specs.declared.questions.Query.{Query}
+use Rattle.wb_keeper.specs.Missing.{wanted, names_in_gaps}
+use Rattle.wb_keeper.specs.Sessions.{echoes_of}
+use Rattle.wb_keeper.specs.declared.keep_fault.KeepFault.{KeepFault}
+use Rattle.wb_member.specs.Calls.{after_call, fault_of}
 use Rattle.wb_member.specs.Members.{calling as told}
-use Rattle.wb_member.specs.Opened.{Opened, present, board_of, events, due_count, sent_by, wanted_of, has_room_for, words_for, word_at}
-use Rattle.wb_commands.specs.Acts.{Act, does, fails, tells, asked, act}
-use Rattle.wb_member.specs.Random.{words_of, after_words}
-use Rattle.wb_commands.specs.SentLines.{sends_text, look_line}
+use Rattle.wb_member.specs.Opened.{Opened, present, board_of, events, due_count, wanted_of, has_room_for, heard, may_ask, words_for, word_at}
+use Rattle.wb_member.specs.Questions.{Told, answer_to}
+use Rattle.wb_member.specs.Random.{word_of, words_of, after_words}
+use Rattle.wb_member.specs.declared.calls.Call.{Call}
+use Rattle.wb_member.specs.declared.calls.Call.TheVariants.{Tick, Hear as HearCall, Look, Session, Ask}
+use Rattle.wb_member.specs.declared.calls.Found.TheVariants.{Nothing, Missing, MayAsk}
+use Rattle.wb_member.specs.declared.questions.Query.{Query}
+use Rattle.wb_member.proofs.KeptBoards.{calls_keep_boards}
+use Rattle.wb_commands.specs.Acts.{Act, does, fails, unless, tells, asked, called, act}
+use Rattle.wb_commands.specs.Answers.{answer_text}
+use Rattle.wb_commands.specs.SentLines.{call_text, done_text}
+use Rattle.wb_commands.specs.declared.command.Command.{Command}
+use Rattle.wb_commands.specs.declared.command.Command.TheVariants.{Call as Calls, Question}
 use Rattle.wb_script.proofs.AlikeHistories.{same_holds, same_sent, same_asks, same_gaps, same_report, same_reports, same_answer}
 use Rattle.wb_script.proofs.FreeArrivals.{AreAlike}
+use Rattle.wb_script.proofs.Refusals.{unless_both}
 
 -- a host that holds these in place of what it held
 abbrev pub holding : Opened → List DrawopValue → Opened
@@ -46,13 +52,7 @@ module _ (host : Opened) (drawops : List DrawopValue) (a : AreAlike host.is.held
   abbrev other : Opened
   other = holding host drawops
 
-  by_test : (b : Bool) (x x' y y' : Act) → DoAlike host drawops x x' → DoAlike host drawops y y' → DoAlike host drawops (cond b x y) (cond b x' y')
-  by_test true x x' y y' p q = p
-  by_test false x x' y y' p q = q
-
-  -- a call of the keeper, which each may have told something else of what it holds
-  calls_alike : (call call' : KeeperCall) (words : ℕ) (text text' : List ℕ) → call ≡ call' → text ≡ text' → DoAlike host drawops (does (calling call words host) text) (does (calling call' words other) text')
-  calls_alike call call' words text text' same printed = (refl, ap (λ (c : KeeperCall). calling c words other) (sym same), printed)
+  -- ---- questions
 
   asks : (query : Query) → DoAlike host drawops (asked query host) (asked query other)
   asks query = subst (λ (said : Told). DoAlike host drawops (asked query host) (tells other (answer_text said)))
@@ -62,7 +62,24 @@ module _ (host : Opened) (drawops : List DrawopValue) (a : AreAlike host.is.held
         told (Some text) = (refl, refl, refl)
         told None = refl
 
-  -- ---- as time goes on
+  -- ---- calls
+
+  -- It is refused alike. But for the order of what is held, it leads to the same host, and it prints the same.
+  record CallAlike (call : Call) : Type 0 where
+    fault : fault_of call host ≡ fault_of call other
+    after : after_call call other ≡ holding (after_call call host) drawops
+    text : call_text call host ≡ call_text call other
+
+  -- once the keeper accepted a call, which each may have told something else of what it holds
+  told_alike : (call call' : KeeperCall) (words : ℕ) → call ≡ call' → calling call' words other ≡ holding (calling call words host) drawops
+  told_alike call call' words same = ap (λ (c : KeeperCall). calling c words other) (sym same)
+
+  by_test : (b : Bool) (next next' : Opened) → next' ≡ holding next drawops → cond b next' other ≡ holding (cond b next host) drawops
+  by_test true next next' same = same
+  by_test false next next' same = refl
+
+  same_held : holds host.is.held ≡ holds drawops
+  same_held = same_holds host.is.held drawops a
 
   abbrev stopping : (NameValue → Bool) → List NameValue
   stopping held = filter held (asking (timer_names (events host)) (timers_of host.is.constants (events host)))
@@ -73,51 +90,55 @@ module _ (host : Opened) (drawops : List DrawopValue) (a : AreAlike host.is.held
   abbrev ticking : ℕ → (NameValue → Bool) → KeeperCall
   ticking now held = GoOn now (words_of host.random (due_count now host)) (stopping held)
 
-  ticks : (now : ℕ) → DoAlike host drawops (act (Tick now) host) (act (Tick now) other)
-  ticks now =
-      let held = same_holds host.is.held drawops a in
-      by_test (nat_lt now (present host)) (fails faults.BackInTime) (fails faults.BackInTime)
-      (does (calling (ticking now (holds host.is.held)) (due_count now host) host) (sends_text (sent_by now host))) (does (calling (ticking now (holds drawops)) (due_count now host) other) (sends_text (sent_by now other))) refl
-      (calls_alike (ticking now (holds host.is.held)) (ticking now (holds drawops)) (due_count now host) (sends_text (sent_by now host)) (sends_text (sent_by now other)) (ap (ticking now) held)
-      (ap₂ (λ (sends : Action → Option Datagram) (held : NameValue → Bool). sends_text (sent_with sends held now)) (same_sent host.is.held drawops a host.is.number) held))
-
-  -- ---- a look at a page
-
-  looks : (page : PageId) → DoAlike host drawops (act (Look page) host) (act (Look page) other)
-  looks page =
-      let wants : wanted_of page host ≡ wanted_of page other =
-      ap (λ (gaps : List Gap). wanted (timers_of host.is.constants (events host)) (length (asking (timer_names (events host)) (timers_of host.is.constants (events host)))) (names_in_gaps page gaps))
-      (same_gaps host.is.held drawops a page (marks_heard host.is.number host.is.calls page)) in (
-        refl,
-        ap (λ (names : List NameValue). calling (Miss (present host) names (words_of host.random (length names))) (length names) other) (sym wants),
-        ap (λ (names : List NameValue). look_line (length names)) wants,
-      )
-
-  -- ---- what is heard
-
-  hears : (v : Datagram) → DoAlike host drawops (act (HearLine v) host) (act (HearLine v) other)
-  hears v =
+  call_alike : (call : Call) → CallAlike call
+  call_alike (Tick now) = record {
+    fault = refl;
+    after = told_alike (ticking now (holds host.is.held)) (ticking now (holds drawops)) (due_count now host) (ap (ticking now) same_held);
+    text = ap₂ (λ (sends : Action → Option Datagram) (held : NameValue → Bool). done_text (sent_with sends held now) Nothing) (same_sent host.is.held drawops a host.is.number) same_held;
+  }
+  call_alike (HearCall v) =
       let hear : Bool → KeeperCall = λ held. Hear (present host) v (word_at v host.random) held in
       let sent : List PageReport → List Datagram = λ reports. cond (asks_for_pages host.is.number v) (map (λ r. PageState host.is.number r.page r.marks) reports) [] in
-      by_test (has_room_for v host) (does (calling (hear (asks_for_held host.is.held v)) (words_for v) host) (sends_text (answers_to host.is.number host.is.held v))) (does (calling (hear (asks_for_held drawops v)) (words_for v) other) (sends_text (answers_to host.is.number drawops v)))
-      (fails faults.TooMany) (fails faults.TooMany)
-      (calls_alike (hear (asks_for_held host.is.held v)) (hear (asks_for_held drawops v)) (words_for v) (sends_text (answers_to host.is.number host.is.held v)) (sends_text (answers_to host.is.number drawops v))
-      (ap hear (same_asks host.is.held drawops a v)) (ap (λ (reports : List PageReport). sends_text (sent reports)) (same_reports host.is.held drawops a)))
-      refl
+      record {
+        fault = refl;
+        after = by_test (has_room_for v host) (heard v host) (heard v other)
+            (told_alike (hear (asks_for_held host.is.held v)) (hear (asks_for_held drawops v)) (words_for v) (ap hear (same_asks host.is.held drawops a v)));
+        text = ap (λ (reports : List PageReport). done_text (cond (has_room_for v host) (sent reports) []) Nothing) (same_reports host.is.held drawops a);
+      }
+  call_alike (Look page) =
+      let wants : wanted_of page host ≡ wanted_of page other =
+      ap (λ (gaps : List Gap). wanted (timers_of host.is.constants (events host)) (length (asking (timer_names (events host)) (timers_of host.is.constants (events host)))) (names_in_gaps page gaps))
+      (same_gaps host.is.held drawops a page (marks_heard host.is.number host.is.calls page)) in
+      record {
+        fault = refl;
+        after = ap (λ (names : List NameValue). calling (Miss (present host) names (words_of host.random (length names))) (length names) other) (sym wants);
+        text = ap (λ (names : List NameValue). done_text [] (Missing (length names))) wants;
+      }
+  call_alike (Session page) = record {
+    fault = refl;
+    after = refl;
+    text = ap (λ (marks : List MarkValue). done_text (SessionMessage host.is.number (present host) page marks (echoes_of host.is.number host.is.calls (present host)) ∷ []) Nothing) (same_report host.is.held drawops a page);
+  }
+  call_alike (Ask name) =
+      let missing : Opened → Opened = λ h. calling (Miss (present host) (name ∷ []) (word_of host.random ∷ [])) 1 h in
+      let may : may_ask name host ≡ may_ask name other = ap (λ (held : NameValue → Bool). not (held name || is_timed (timers_of host.is.constants (events host)) name)) same_held in
+      record {
+        fault = refl;
+        after = ap (λ (b : Bool). cond b (missing other) other) (sym may) ∙ by_test (may_ask name host) (missing host) (missing other) refl;
+        text = ap (λ (begun : Bool). done_text [] (MayAsk begun)) may;
+      }
+  call_alike call = record { fault = refl; after = refl; text = refl }
+
+  calls_alike : (call : Call) → DoAlike host drawops (called call host) (called call other)
+  calls_alike call =
+      let c = call_alike call in
+      let does' : Opened → Act = λ h. does (after_call call h) (call_text call h) in
+      subst (λ (fault : Option KeepFault). DoAlike host drawops (called call host) (unless fault (does' other))) c.fault
+      (unless_both (DoAlike host drawops) (λ e. refl) (fault_of call host) (does' host) (does' other) ((calls_keep_boards call host).board, c.after, c.text))
 
   -- ---- each line
 
-  session : (page : PageId) → DoAlike host drawops (act (Session page) host) (act (Session page) other)
-  session page = (
-    refl,
-    refl,
-    ap (λ (marks : List MarkValue). sends_text (SessionMessage host.is.number (present host) page marks (echoes_of host.is.number host.is.calls (present host)) ∷ [])) (same_report host.is.held drawops a page),
-  )
-
   pub act_alike : (line : Command) → DoAlike host drawops (act line host) (act line other)
   act_alike (Question query) = asks query
-  act_alike (HearLine v) = hears v
-  act_alike (Tick moment) = ticks moment
-  act_alike (Look page) = looks page
-  act_alike (Session page) = session page
+  act_alike (Calls call) = calls_alike call
   act_alike line = (refl, refl, refl)

@@ -18,8 +18,9 @@ use Rattle.wb_words.specs.declared.digits_fault.DigitsFault.TheVariants as digit
 use Rattle.wb_commands.specs.declared.fault.LineFault.{LineFault}
 use Rattle.wb_commands.specs.declared.fault.LineFault.TheVariants as faults
 use Rattle.wb_commands.specs.declared.command.Command.{Command}
-use Rattle.wb_commands.specs.declared.command.Command.TheVariants.{Arrive, Skip, Board, Distance, Tune, Tick, Look, Session, Question}
+use Rattle.wb_commands.specs.declared.command.Command.TheVariants.{Arrive, Skip, Board, Call, Question}
 use Rattle.wb_commands.specs.Parsing.{◌>>=◌, or_fault, number, one_of, two_of, four_of, page, spelled, datagram, board, arrived, heard, arrive, hear, handed_in, bytes_line, distance, tuning, tick, question, page_line, command, begins_comment, line_of_words, in_words, line_of}
+use Rattle.wb_member.specs.declared.calls.Call.TheVariants.{SetDelay, Tune, Tick, Look, Session}
 use Rattle.wb_script.specs.Script.{Arrival, part_of}
 use Rattle.wb_board.specs.Counts.{MAX_CELLS}
 
@@ -81,7 +82,7 @@ unfolding distance
 no_distance ws =
     none_then (or_fault faults.Words (two_of ws)) _ (λ w.
     none_then (number 0 (2 ^ 32 - 1) w.0) _ (λ source.
-    none_then (number 0 (2 ^ 24 - 1) w.1) (λ micros. Ok (Distance source micros)) (λ micros. tt)))
+    none_then (number 0 (2 ^ 24 - 1) w.1) (λ micros. Ok (Call (SetDelay source micros))) (λ micros. tt)))
 
 no_tuning : (ws : List (List ℕ)) → HandsInNone (tuning ws)
 unfolding tuning
@@ -90,13 +91,13 @@ no_tuning ws =
     none_then (number 1 16 w.0) _ (λ c1.
     none_then (number 1 16 w.1) _ (λ c2.
     none_then (number 1 16 w.2) _ (λ d1.
-    none_then (number 1 16 w.3) (λ d2. Ok (Tune (record { c1 = c1; c2 = c2; d1 = d1; d2 = d2 }))) (λ d2. tt)))))
+    none_then (number 1 16 w.3) (λ d2. Ok (Call (Tune (record { c1 = c1; c2 = c2; d1 = d1; d2 = d2 })))) (λ d2. tt)))))
 
 no_tick : (ws : List (List ℕ)) → HandsInNone (tick ws)
 unfolding tick
 no_tick ws =
     none_then (or_fault faults.Words (one_of ws)) _ (λ w.
-    none_then (number 0 (2 ^ 48 - 1) w) (λ moment. Ok (Tick moment)) (λ moment. tt))
+    none_then (number 0 (2 ^ 48 - 1) w) (λ moment. Ok (Call (Tick moment))) (λ moment. tt))
 
 none_heard : (v : Datagram) → HandsInNone (heard v)
 none_heard (datagrams.Draw e) = tt
@@ -105,9 +106,9 @@ none_heard v = tt
 no_page : (word : List ℕ) (ws : List (List ℕ)) → HandsInNone (page_line word ws)
 unfolding page_line
 no_page word ws = at (bytes_eq word (codes "look")) (bytes_eq word (codes "session")) where
-  at : (a b : Bool) → HandsInNone (cond a (page ws >>= (λ p. Ok (Look p))) (cond b (page ws >>= (λ p. Ok (Session p))) (question word ws >>= (λ query. Ok (Question query)))))
-  at true b = none_then (page ws) (λ p. Ok (Look p)) (λ p. tt)
-  at false true = none_then (page ws) (λ p. Ok (Session p)) (λ p. tt)
+  at : (a b : Bool) → HandsInNone (cond a (page ws >>= (λ p. Ok (Call (Look p)))) (cond b (page ws >>= (λ p. Ok (Call (Session p)))) (question word ws >>= (λ query. Ok (Question query)))))
+  at true b = none_then (page ws) (λ p. Ok (Call (Look p))) (λ p. tt)
+  at false true = none_then (page ws) (λ p. Ok (Call (Session p))) (λ p. tt)
   at false false = none_then (question word ws) (λ query. Ok (Question query)) (λ query. tt)
 
 -- a datagram is one word of digits

@@ -1,5 +1,5 @@
 -- What a script shows at its end is the canvas of all its arrivals.
-use Rattle.std.proofs.Common.{◌≡◌, ℕ, ◌+◌, Bool, true, false, cond, List, [], ◌∷◌, ◌++◌, Result, Ok, refl, sym, ap, ◌∙◌, subst, append_assoc, Option, Some, None, IsPermutation, nat_lt, unwrap_or, append-nil}
+use Rattle.std.proofs.Common.{◌≡◌, ℕ, ◌+◌, Bool, true, false, List, [], ◌∷◌, ◌++◌, Result, Ok, refl, sym, ap, ◌∙◌, subst, append_assoc, Option, Some, None, IsPermutation, unwrap_or, append-nil}
 use Rattle.std.specs.Str.Lines.{strip_carriage_return}
 use Rattle.wb_names.specs.Values.{DrawopValue}
 use Rattle.wb_names.specs.Arrivals.{history_after}
@@ -11,14 +11,15 @@ use Rattle.wb_commands.specs.declared.fault.LineFault.TheVariants as faults
 use Rattle.wb_script.specs.declared.fault.RunFault.{RunFault}
 use Rattle.wb_script.specs.declared.fault.RunFault.TheVariants as run_faults
 use Rattle.wb_commands.specs.declared.command.Command.{Command}
-use Rattle.wb_commands.specs.declared.command.Command.TheVariants.{Hear, Distance, Tune, Tick, Look, Session, Question}
+use Rattle.wb_commands.specs.declared.command.Command.TheVariants.{Call, Question}
 use Rattle.wb_member.specs.Questions.{answer_to}
 use Rattle.wb_member.specs.declared.questions.Query.TheVariants.{Canvas}
 use Rattle.wb_commands.specs.Answers.{answer_text}
 use Rattle.wb_script.specs.declared.running.Summary.{Summary}
-use Rattle.wb_commands.specs.SentLines.{sends_text}
+use Rattle.wb_commands.specs.SentLines.{call_text}
 use Rattle.wb_member.specs.Board.{Held}
-use Rattle.wb_member.specs.Opened.{Opened, present, board_of, has_room_for, heard, answered, with_constants, with_delay, ticked, sent_by, looked, reported}
+use Rattle.wb_member.specs.Calls.{after_call, fault_of}
+use Rattle.wb_member.specs.Opened.{Opened, board_of}
 use Rattle.wb_script.specs.Hosts.{opened, taken, batch_text}
 use Rattle.wb_commands.specs.Acts.{Act, does, fails, tells, act}
 use Rattle.wb_member.specs.Holding.{board_after}
@@ -32,7 +33,9 @@ use Rattle.wb_script.specs.Shows.{arrived_by, arrivals_of, cells_by, cells_of, E
 use Rattle.wb_script.proofs.FreeArrivals.{batches_are_one, free_on}
 use Rattle.wb_lines.proofs.InputLines.{input_lines-whole, whole_line}
 use Rattle.wb_script.proofs.Outcomes.{before-nil, before-before, too_many, text_of, end_of}
+use Rattle.wb_member.proofs.KeptBoards.{calls_keep_boards}
 use Rattle.wb_member.proofs.Queries.{view_of_page}
+use Rattle.wb_script.proofs.Refusals.{unless_both}
 use Rattle.wb_script.proofs.ReorderedLines.{state}
 use Rattle.wb_script.proofs.ScriptLaws.{state_of, one_line, split, fit, err_end}
 
@@ -62,18 +65,10 @@ same_host : (host next : Opened) (text printed : List ℕ) → does host text �
 same_host host next text printed e = cc
 
 pub act_board : (line : Command) (host next : Opened) (printed : List ℕ) → act line host ≡ does next printed → board_of next ≡ board_of host
-act_board (Hear v) host next printed e = at (has_room_for v host) e where
-  at : (room : Bool) → cond room (does (heard v host) (sends_text (answered v host))) (fails faults.TooMany) ≡ does next printed → board_of next ≡ board_of host
-  at true f = ap board_of (sym (same_host (heard v host) next _ printed f))
-  at false f = absurd cc
-act_board (Distance source micros) host next printed e = ap board_of (sym (same_host (with_delay source micros host) next _ printed e))
-act_board (Tune constants) host next printed e = ap board_of (sym (same_host (with_constants constants host) next _ printed e))
-act_board (Tick moment) host next printed e = at (nat_lt moment (present host)) e where
-  at : (early : Bool) → cond early (fails faults.BackInTime) (does (ticked moment host) (sends_text (sent_by moment host))) ≡ does next printed → board_of next ≡ board_of host
-  at true f = absurd cc
-  at false f = ap board_of (sym (same_host (ticked moment host) next _ printed f))
-act_board (Look page) host next printed e = ap board_of (sym (same_host (looked page host) next _ printed e))
-act_board (Session page) host next printed e = ap board_of (sym (same_host (reported page host) next _ printed e))
+act_board (Call call) host next printed e =
+    let called : Act = does (after_call call host) (call_text call host) in
+    unless_both (λ (a b : Act). a ≡ does next printed → board_of next ≡ board_of host) (λ fault f. absurd cc) (fault_of call host) called called
+    (λ f. ap board_of (sym (same_host (after_call call host) next (call_text call host) printed f)) ∙ (calls_keep_boards call host).board) e
 act_board (Question query) host next printed e = at (answer_text (answer_to query host)) e where
   at : (text : Option (List ℕ)) → tells host text ≡ does next printed → board_of next ≡ board_of host
   at (Some text) f = ap board_of (sym (same_host host next text printed f))

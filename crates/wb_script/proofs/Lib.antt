@@ -11,6 +11,7 @@ pub mod CheckEnds
 pub mod CountLaws
 pub mod BatchLaws
 pub mod ScriptLaws
+pub mod Refusals
 pub mod EndingShows
 pub mod Simulations
 pub mod OneWorker

@@ -7,7 +7,7 @@ use Rattle.wb_script.specs.declared.fault.RunFault.{RunFault}
 use Rattle.wb_script.specs.declared.fault.RunFault.TheVariants as run_faults
 use Rattle.wb_script.specs.declared.running.Summary.{Summary}
 use Rattle.wb_commands.specs.declared.command.Command.{Command}
-use Rattle.wb_commands.specs.declared.command.Command.TheVariants.{Skip, Board, Arrive, Hear, Distance, Tune, Tick, Look, Session, Question}
+use Rattle.wb_commands.specs.declared.command.Command.TheVariants.{Skip, Board, Arrive, Call, Question}
 use Rattle.wb_lines.specs.Input.{InputLine, input_lines, content, most_bytes, BeginsWith}
 use Rattle.wb_member.specs.Opened.{Opened, board_of, by_host}
 use Rattle.wb_script.specs.Hosts.{opened, taken, batch_text}
@@ -69,12 +69,7 @@ abbrev pub part_of : Result Command LineFault → Part
 part_of (Ok Skip) = Nothing
 part_of (Ok (Arrive d)) = Arrival d
 part_of (Ok (Board member cells workers seed)) = End (Opens member cells workers seed)
-part_of (Ok (Hear v)) = End (Acts (Hear v))
-part_of (Ok (Distance source micros)) = End (Acts (Distance source micros))
-part_of (Ok (Tune constants)) = End (Acts (Tune constants))
-part_of (Ok (Tick moment)) = End (Acts (Tick moment))
-part_of (Ok (Look page)) = End (Acts (Look page))
-part_of (Ok (Session page)) = End (Acts (Session page))
+part_of (Ok (Call call)) = End (Acts (Call call))
 part_of (Ok (Question query)) = End (Acts (Question query))
 part_of (Err e) = End (Faulty e)
 
