@@ -75,7 +75,8 @@ def recording(folder: Path, number: int) -> Path:
 
 def shown(folder: Path, number: int) -> str:
     """What a host shows of the page after what it was given, as far as its record goes."""
-    record = (folder / f"record-{number}").read_text()
+    path = folder / f"record-{number}"
+    record = path.read_text() if path.exists() else ""  # a driver may take long to start its host
     whole = record[: record.rfind("\n") + 1]
     printed = host(f"{whole}report 1 1\ngaps 1 1\nshow 1 1 40 12\n").rpartition("report ")[2]
     return "".join(line for line in printed.splitlines(keepends=True) if not line.startswith("ok "))
