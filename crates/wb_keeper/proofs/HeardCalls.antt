@@ -25,7 +25,7 @@ use Rattle.wb_recovery.specs.Events.{Event, Asked}
 use Rattle.wb_recovery.specs.Accepted as timers
 use Rattle.wb_recovery.specs.Values.{RecoveryValue}
 use Rattle.wb_recovery.specs.declared.tuning.Tuning.{Tuning}
-use Rattle.wb_keeper.specs.Keeper.{KeeperCall, Hear, newest, is_own, high_in, high_reported, high_heard, delay_in, delay_given, delay_to, session_in, session_heard, senders_of, remember, heard_by, last_heard, distance_by, asked_by, events_of}
+use Rattle.wb_keeper.specs.Keeper.{KeeperCall, Hear, newest, is_own, high_in, high_reported, high_heard, delay_in, delay_given, delay_to, session_in, session_heard, senders_of, remember, heard_by, last_heard, delay_by, asked_by, events_of}
 use Rattle.wb_keeper.specs.Hearing.{marks_in, marks_reported, marks_heard}
 use Rattle.wb_keeper.specs.Keeping.{KeeperValue, StandsFor, Keeps, delay_at, heard_at, marks_at}
 use Rattle.wb_keeper.specs.declared.keeper.Heard.{Heard}
@@ -231,7 +231,7 @@ delay_put old sender (Some d) rest source same = ap (λ (o : Option ℕ). unwrap
 
 -- a session message
 pub keeps_session : (old new : KeeperValue) (now sender sent : ℕ) (page : PageId) (marks : List MarkValue) (merged : Option (List MarkValue)) (echoes : List Echo) (delay : Option ℕ) (word : ℕ) (held : Bool) → nat_eq sender old.me ≡ false
-    → delay ≡ distance_by now (find (λ e. nat_eq e.source old.me) echoes)
+    → delay ≡ delay_by now (find (λ e. nat_eq e.source old.me) echoes)
     → new ≡ record old { moment = now; delays = delays_with sender delay old.delays; heard = heard_with sender (record { sent = sent; at = now }) old.heard; marks = marks_with page merged old.marks }
     → length new.heard ≡ count_with sender old.heard
     → IsMerged (marks_at old.marks page) marks merged → Keeps (Hear now (Session sender sent page marks echoes) word held) old new
@@ -241,7 +241,7 @@ keeps_session old new now sender sent page marks merged echoes delay word held e
   recovery = s.recovery;
   delays = λ source. delay_put old.delays sender delay (newest (delay_given old.me source) calls) source (s.delays source)
       ∙ ap (λ (o : Option ℕ). unwrap_or (option_or (cond (nat_eq sender source) o None) (newest (delay_given old.me source) calls)) 100000) told
-      ∙ sym (ap (λ (b : Bool). unwrap_or (option_or (cond b None (cond (nat_eq sender source) (distance_by now (find (λ e. nat_eq e.source old.me) echoes)) None)) (newest (delay_given old.me source) calls)) 100000) e);
+      ∙ sym (ap (λ (b : Bool). unwrap_or (option_or (cond b None (cond (nat_eq sender source) (delay_by now (find (λ e. nat_eq e.source old.me) echoes)) None)) (newest (delay_given old.me source) calls)) 100000) e);
   heard = λ source. heard_put old.me calls old.heard sender (record { sent = sent; at = now }) s.heard s.senders source
       ∙ sym (ap (λ (b : Bool). cond (list_any (nat_eq source) (remember (cond b None (Some (sender, record { sent = sent; at = now }))) (senders_of old.me calls))) (option_or (heard_by source (cond b None (Some (sender, record { sent = sent; at = now })))) (heard_last old.me calls source)) None) e);
   senders = sym (ap (λ (v : KeeperValue). length v.heard) is) ∙ counted ∙ count_put old.me calls old.heard sender (record { sent = sent; at = now }) s.heard s.senders

@@ -10,7 +10,7 @@ use Rattle.wb_names.specs.declared.name.PageId.{PageId}
 use Rattle.wb_names.specs.declared.echo.Echo.{Echo}
 use Rattle.wb_codec.specs.declared.datagram.Datagram.{Datagram}
 use Rattle.wb_codec.specs.declared.datagram.Datagram.TheVariants.{Draw, Session, Request, AskPages, PageState}
-use Rattle.wb_recovery.specs.Distance.{distance_of}
+use Rattle.wb_recovery.specs.RoundTrip.{delay_from}
 use Rattle.wb_recovery.specs.Events.{Event, Asked, Tick, Tune}
 use Rattle.wb_recovery.specs.Noticing.{notices}
 use Rattle.wb_recovery.specs.Stopping.{receipts}
@@ -18,7 +18,7 @@ use Rattle.wb_recovery.specs.declared.missed.Missed.{Missed}
 use Rattle.wb_recovery.specs.declared.missed.Received.{Received}
 use Rattle.wb_recovery.specs.declared.tuning.Tuning.{Tuning}
 use Rattle.wb_keeper.specs.declared.keeper.Heard.{Heard}
-use Rattle.wb_recovery.specs.declared.limits.TheConstants.{UNKNOWN_DISTANCE}
+use Rattle.wb_recovery.specs.declared.limits.TheConstants.{UNKNOWN_DELAY}
 
 -- An accepted call, with what it found on the desk: whether a name that was asked for was held; which of the names
 -- that arrived were held; which names with a request timer were; whether a name that is given up had a request timer.
@@ -95,13 +95,13 @@ high_heard me calls page source = greatest (high_reported me page source) calls
 -- ---- delays
 
 -- the delay that an echo tells, if it tells one
-abbrev pub distance_by : ℕ → Option Echo → Option ℕ
-distance_by now None = None
-distance_by now (Some echo) = distance_of echo.sent echo.held now
+abbrev pub delay_by : ℕ → Option Echo → Option ℕ
+delay_by now None = None
+delay_by now (Some echo) = delay_from echo.sent echo.held now
 
 -- the delay to a source that a session message of it tells, by its echo of me
 abbrev pub delay_in : ℕ → ℕ → ℕ → Datagram → Option ℕ
-delay_in me now source (Session sender sent page marks echoes) = if nat_eq sender source then distance_by now (find (λ e. nat_eq e.source me) echoes) else None
+delay_in me now source (Session sender sent page marks echoes) = if nat_eq sender source then delay_by now (find (λ e. nat_eq e.source me) echoes) else None
 delay_in me now source (Draw d) = None
 delay_in me now source (Request asker name) = None
 delay_in me now source (AskPages asker) = None
@@ -114,7 +114,7 @@ delay_given me source call = None
 
 -- the delay to a source that was last set or heard, else a tenth of a second
 abbrev pub delay_to : ℕ → List KeeperCall → ℕ → ℕ
-delay_to me calls source = unwrap_or (newest (delay_given me source) calls) UNKNOWN_DISTANCE
+delay_to me calls source = unwrap_or (newest (delay_given me source) calls) UNKNOWN_DELAY
 
 -- ---- the senders of session messages
 

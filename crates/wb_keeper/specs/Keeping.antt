@@ -16,7 +16,7 @@ use Rattle.wb_recovery.specs.declared.tuning.Tuning.{Tuning}
 use Rattle.wb_keeper.specs.Keeper.{KeeperCall, moment_at, high_heard, delay_to, senders_of, last_heard, events_of}
 use Rattle.wb_keeper.specs.Hearing.{marks_heard}
 use Rattle.wb_keeper.specs.declared.keeper.Heard.{Heard}
-use Rattle.wb_recovery.specs.declared.limits.TheConstants.{UNKNOWN_DISTANCE}
+use Rattle.wb_recovery.specs.declared.limits.TheConstants.{UNKNOWN_DELAY}
 
 -- its member's number, the moment of its last call, its timers, and by source or page the delays, the session messages
 -- and the marks that it heard
@@ -29,7 +29,7 @@ pub record KeeperValue : Type 0 where
   pub marks : List (PageId × List MarkValue)
 
 abbrev pub delay_at : List (ℕ × ℕ) → ℕ → ℕ
-delay_at delays source = unwrap_or (lookup (is_at (nat_cmp source)) delays) UNKNOWN_DISTANCE
+delay_at delays source = unwrap_or (lookup (is_at (nat_cmp source)) delays) UNKNOWN_DELAY
 
 abbrev pub heard_at : List (ℕ × Heard) → ℕ → Option Heard
 heard_at heard source = lookup (is_at (nat_cmp source)) heard

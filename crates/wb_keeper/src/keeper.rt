@@ -2,7 +2,7 @@
 //!
 //! It follows Floyd, Jacobson, Liu, McCanne and Zhang, "A Reliable Multicast Framework for
 //! Light-weight Sessions and Application Level Framing", 1997: `session` and `hear` its part on
-//! session messages, which tell the state of a page and the distances of members; `notice`,
+//! session messages, which tell the state of a page and the delays of members; `notice`,
 //! `arrived` and `tick` its part on loss recovery, by requests and repairs; `missing` its rule that
 //! a gap in the numbers of a source, or a number that is reported and not held, is a loss.
 
@@ -34,7 +34,7 @@ use std::alloc::Global;
 use std::collections::BTreeMap;
 use std::marker::Model;
 use wb_names::{MOMENT_LIMIT, Marks, PageId};
-use wb_recovery::{DELAY_LIMIT, Recovery, Tuning, TuningFault, UNKNOWN_DISTANCE};
+use wb_recovery::{DELAY_LIMIT, Recovery, Tuning, TuningFault, UNKNOWN_DELAY};
 
 /// Of a session message: the moment of its sender's clock that it named, and the moment at which it
 /// was heard, both in microseconds.
@@ -107,7 +107,7 @@ impl Keeper {
     }
 
     /// Sets the delay to a source, in microseconds below 2^24, until another is set or heard. The
-    /// unknown distance takes no room, since each source has it that has no other.
+    /// unknown delay takes no room, since each source has it that has no other.
     ///
     /// Refused with `Range` or `Memory`, in this order.
     pub fn set_delay(&mut self, source: u32, micros: u64) -> Result<(), KeepFault>
@@ -118,7 +118,7 @@ impl Keeper {
         if micros >= DELAY_LIMIT {
             return Err(KeepFault::Range);
         }
-        if micros == UNKNOWN_DISTANCE {
+        if micros == UNKNOWN_DELAY {
             self.delays.remove(&source);
             return Ok(());
         }
@@ -157,13 +157,13 @@ impl Keeper {
         self.me
     }
 
-    /// The delay to a source, in microseconds: the unknown distance if none was set or heard.
+    /// The delay to a source, in microseconds: the unknown delay if none was set or heard.
     pub fn delay(&self, source: u32) -> u64
         ensures delay { result ≡ delay_at self.now.delays source }
         ensures near { IsDelay result }
     {
         let delay = self.delays.get(&source).copied();
-        delay.unwrap_or(UNKNOWN_DISTANCE)
+        delay.unwrap_or(UNKNOWN_DELAY)
     }
 
     /// The greatest numbers that others told of a page. Empty if none did.

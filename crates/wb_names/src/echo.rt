@@ -4,7 +4,7 @@ ghost use Rattle.std.specs.Prelude.{◌≡◌};
 
 use crate::entries::Entry;
 
-/// What a member tells a source that it heard, so that the source can estimate its distance to the
+/// What a member tells a source that it heard, so that the source can estimate its delay to the
 /// member: `sent` is the moment that the source's last session message named, `held` how long ago
 /// it was heard, both in microseconds.
 #[derive(Clone, Copy, Debug, PartialEq, Eq)]

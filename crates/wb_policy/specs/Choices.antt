@@ -6,7 +6,7 @@ use Rattle.wb_names.specs.History.{name_of}
 use Rattle.wb_names.specs.Values.{MarkValue, NameValue}
 use Rattle.wb_names.specs.declared.echo.Echo.{Echo}
 use Rattle.wb_names.specs.declared.name.PageId.{PageId}
-use Rattle.wb_recovery.specs.Distance.{distance_of}
+use Rattle.wb_recovery.specs.RoundTrip.{delay_from}
 use Rattle.wb_names.specs.declared.name.TheConstants.{FIRST_FORGED}
 use Rattle.wb_policy.specs.declared.limits.TheConstants.{MOST_ECHOES, REACH}
 
@@ -17,10 +17,10 @@ own_marks me listens marks = filter (λ m. nat_eq m.source me && (listens && nat
 abbrev pub own_echo : ℕ → List Echo → List Echo
 own_echo me echoes = filter (λ e. nat_eq e.source me) echoes
 
--- the distance that an echo of this member tells, if it tells one
-abbrev pub distance_in : ℕ → List Echo → Option ℕ
-distance_in now [] = None
-distance_in now (e ∷ echoes) = distance_of e.sent e.held now
+-- the delay that an echo of this member tells, if it tells one
+abbrev pub echoed_delay : ℕ → List Echo → Option ℕ
+echoed_delay now [] = None
+echoed_delay now (e ∷ echoes) = delay_from e.sent e.held now
 
 -- the names of the marks of a page, but for numbers of this member from 2^31 on
 abbrev pub told_names : ℕ → PageId → List MarkValue → List NameValue

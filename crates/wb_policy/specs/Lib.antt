@@ -1,6 +1,6 @@
 pub mod Words
 pub mod Credit
-pub mod Distances
+pub mod Delays
 pub mod Questions
 pub mod Reports
 pub mod Pace

@@ -3,7 +3,7 @@ use Rattle.std.specs.Prelude.{ℕ, ◌+◌, Option, Some, None, min}
 use Rattle.wb_names.specs.declared.name.PageId.{PageId}
 use Rattle.wb_gaps.specs.declared.holes.Hole.{Hole}
 use Rattle.wb_policy.specs.Credit.{repaid, spent}
-use Rattle.wb_policy.specs.Distances.{bounded, usual_with}
+use Rattle.wb_policy.specs.Delays.{bounded, usual_with}
 use Rattle.wb_policy.specs.Leaps.{after_leap, next_leaps}
 use Rattle.wb_policy.specs.Pace.{begun_pace, hurried, next_pace}
 use Rattle.wb_policy.specs.Questions.{answered_at, asked_at, heard_at, opened_at, to_answer}
@@ -11,14 +11,14 @@ use Rattle.wb_policy.specs.Reports.{mean_time, next_report}
 use Rattle.wb_policy.specs.Turns.{after_hole, next_round, nowhere}
 use Rattle.wb_policy.specs.Words.{Lcg, after_word, drawn, started}
 use Rattle.wb_policy.specs.declared.leaps.Leaps.{Leaps}
-use Rattle.wb_policy.specs.declared.limits.TheConstants.{ANSWER, FIRST_DISTANCE, FIRST_QUESTION, FIRST_REPORT}
+use Rattle.wb_policy.specs.declared.limits.TheConstants.{ANSWER, FIRST_DELAY, FIRST_QUESTION, FIRST_REPORT}
 use Rattle.wb_policy.specs.declared.pace.Pace.{Pace}
 use Rattle.wb_policy.specs.declared.questions.Questions.{Questions}
 use Rattle.wb_policy.specs.declared.reports.Reports.{Reports}
 use Rattle.wb_policy.specs.declared.turns.Turns.{Turns}
 
 -- A fixed number of integers. Nothing is added before `ready`; `told_page` and `told` are the page and the last source of the last
--- report, `until` is the last source that the page had when its telling began, `owed` is the moment up to which names are paid for, and `usual` the usual distance.
+-- report, `until` is the last source that the page had when its telling began, `owed` is the moment up to which names are paid for, and `usual` the usual delay.
 pub record Policy : Type 0 where
   pub ready : ℕ
   pub reports : Reports
@@ -55,7 +55,7 @@ begun now rate listen seed =
       told = None;
       until = 0;
       owed = 0;
-      usual = FIRST_DISTANCE;
+      usual = FIRST_DELAY;
       words = after_word (after_word words);
     }
 
@@ -86,9 +86,9 @@ in_next_leaps p = record p { leaps = next_leaps p.leaps }
 abbrev pub after_beat : ℕ → Policy → Policy
 after_beat now p = record p { pace = next_pace now p.pace }
 
--- an echo told a distance
-abbrev pub with_distance : ℕ → Policy → Policy
-with_distance micros p = record p { usual = usual_with p.usual (bounded micros) }
+-- an echo told a delay
+abbrev pub after_echo : ℕ → Policy → Policy
+after_echo micros p = record p { usual = usual_with p.usual (bounded micros) }
 
 -- it asked for pages; it took up a question, and answered it; somebody answered
 abbrev pub after_question : ℕ → Policy → Policy

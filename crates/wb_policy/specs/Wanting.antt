@@ -21,7 +21,7 @@ is_paid true owed now = has_credit owed now
 is_paid false owed now = leaves_some owed now
 
 -- A name that is not held is asked for if the board has room for it, no timer of it goes on, and there is credit. Neighbours of what
--- came come last if their source told no distance, so that drawops that are forged with holes leave room for what members draw and report.
+-- came come last if their source told no delay, so that drawops that are forged with holes leave room for what members draw and report.
 abbrev pub is_wanted : Bool → Bool → Bool → Bool → Option ℕ → ℕ → ℕ → Bool
 is_wanted held full anew known level owed now = not held && (not full && (not (goes_on anew level) && is_paid (anew || known) owed now))
 

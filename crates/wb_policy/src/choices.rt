@@ -3,7 +3,7 @@ ghost use Rattle.std.specs.Prelude.{◌≡◌, ◌≤◌, ◌<◌, ◌++◌, IfO
 ghost use Rattle.wb_names.specs.History.{name_of};
 ghost use Rattle.std.specs.List.{count_by};
 ghost use Rattle.std.specs.Ordering.{is_lt};
-ghost use Rattle.wb_policy.specs.Choices.{distance_in, heard_later, if_below, last_heard, last_source, near_names, own_echo, own_marks, told_names};
+ghost use Rattle.wb_policy.specs.Choices.{echoed_delay, heard_later, if_below, last_heard, last_source, near_names, own_echo, own_marks, told_names};
 ghost use Rattle.wb_names.specs.declared.name.TheConstants.{FIRST_FORGED};
 ghost use Rattle.wb_policy.specs.declared.limits.TheConstants.{MOST_ECHOES};
 ghost use Rattle.std.specs.Prelude.{None};
@@ -53,9 +53,9 @@ fn echoes_of(alloc: Global, me: u32, echoes: &[Echo]) -> Result<Vec<Echo>, Alloc
     own.copied().collect(alloc)
 }
 
-/// The distance that the first of some echoes gives, if it gives one.
-pub fn distance_in(now: u64, echoes: &[Echo]) -> Option<u64>
-    ensures { result ≡ distance_in now echoes.now }
+/// The delay that the first of some echoes gives, if it gives one.
+pub fn echoed_delay(now: u64, echoes: &[Echo]) -> Option<u64>
+    ensures { result ≡ echoed_delay now echoes.now }
 {
     match echoes {
         [echo, ..] => distance(echo.sent, echo.held, now),

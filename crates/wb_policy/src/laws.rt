@@ -4,7 +4,7 @@
 ghost use Rattle.std.specs.Prelude.{◌≡◌, ◌^◌};
 ghost use Rattle.wb_policy.specs.Fairness.{EachHoleHasItsTurn, EachMarkIsTold, EachNumberHasItsTurn, EachNumberHasItsTurnSoon, TellingsRise};
 ghost use Rattle.wb_policy.specs.Laws.{FewAreAsked, IdleTurnsAreRare, NearIsAmong, NumbersAreNear, ReportsAreSmall, SlicesAreShort, SuccessHurries, TurnsArePaced};
-ghost use Rattle.wb_policy.specs.declared.limits.TheConstants.{ANSWER, COST, ECHO_BYTES, FIRST_DISTANCE, FIRST_QUESTION, FIRST_REPORT, FIRST_WAIT, HEAD_BYTES, HEARD, LEAST_DISTANCE, LISTEN_LIMIT, LONGEST_GAP, LONGEST_MEAN, LONGEST_PAUSE, MARK_BYTES, MAX_RATE, MEMBERS, MOST_BYTES, MOST_DISTANCE, MOST_ECHOES, MOST_MARKS, MOST_PAGES, MOST_REPORT_BYTES, MOST_WAIT, OLD_LEVEL, PAYS, PLACES, PLACES_OF_LAST, QUIET, REACH, ROUND_LIMIT, SECOND, SHORTEST_GAP, SHORTEST_MEAN, SHORTEST_PAUSE, STEADINESS, STREAM, STRIDE, TIMERS_BEFORE_TURNS, WINDOW};
+ghost use Rattle.wb_policy.specs.declared.limits.TheConstants.{ANSWER, COST, ECHO_BYTES, FIRST_DELAY, FIRST_QUESTION, FIRST_REPORT, FIRST_WAIT, HEAD_BYTES, HEARD, LEAST_DELAY, LISTEN_LIMIT, LONGEST_GAP, LONGEST_MEAN, LONGEST_PAUSE, MARK_BYTES, MAX_RATE, MEMBERS, MOST_BYTES, MOST_DELAY, MOST_ECHOES, MOST_MARKS, MOST_PAGES, MOST_REPORT_BYTES, MOST_WAIT, OLD_LEVEL, PAYS, PLACES, PLACES_OF_LAST, QUIET, REACH, ROUND_LIMIT, SECOND, SHORTEST_GAP, SHORTEST_MEAN, SHORTEST_PAUSE, STEADINESS, STREAM, STRIDE, TIMERS_BEFORE_TURNS, WINDOW};
 
 /// From one moment to another at most 64 names are asked for, one more for each quarter of a
 /// second, and two more for each that was asked for and came.
@@ -54,11 +54,11 @@ pub fn each_mark_is_told()
     ensures rise { TellingsRise }
 {}
 
-/// The limits: of rounds; of distances; of reports, their parts and bytes; of questions for pages;
+/// The limits: of rounds; of delays; of reports, their parts and bytes; of questions for pages;
 /// and of the time in which a member listens.
 pub fn limits()
     ensures rounds { ROUND_LIMIT ≡ 2 ^ 32 }
-    ensures distances { (FIRST_DISTANCE ≡ 20000) × (MOST_DISTANCE ≡ 1000000) }
+    ensures delays { (FIRST_DELAY ≡ 20000) × (MOST_DELAY ≡ 1000000) }
     ensures reports { (FIRST_REPORT ≡ 1000000) × (MOST_MARKS ≡ 64) × (MOST_ECHOES ≡ 32) }
     ensures bytes { (MOST_BYTES ≡ 2000000) × (MOST_REPORT_BYTES ≡ 1184) × (MAX_RATE ≡ 1000000) }
     ensures questions { (FIRST_QUESTION ≡ 200000) × (FIRST_WAIT ≡ 1000000) }
@@ -67,7 +67,7 @@ pub fn limits()
 {}
 
 /// The other numbers: what a name costs and pays, and how many are asked for at once; when a timer
-/// is old, how far neighbours reach, and beside how many timers turns pass over what is asked for; the times between turns; distances; the times between
+/// is old, how far neighbours reach, and beside how many timers turns pass over what is asked for; the times between turns; delays; the times between
 /// reports, and for how long a member counts; the bytes of a report; the times of answers; and the
 /// stream of the words.
 pub fn numbers()
@@ -75,7 +75,7 @@ pub fn numbers()
     ensures wanting { (OLD_LEVEL ≡ 4) × (REACH ≡ 64) × (STRIDE ≡ 19) × (WINDOW ≡ 64) }
     ensures passing { TIMERS_BEFORE_TURNS ≡ 56 }
     ensures turns { (SHORTEST_GAP ≡ 1000000) × (LONGEST_GAP ≡ 16000000) × (STEADINESS ≡ 128) }
-    ensures distances { LEAST_DISTANCE ≡ 10000 }
+    ensures delays { LEAST_DELAY ≡ 10000 }
     ensures means { (SHORTEST_MEAN ≡ 2000000) × (LONGEST_MEAN ≡ 64000000) }
     ensures pauses { (SHORTEST_PAUSE ≡ 1000000) × (LONGEST_PAUSE ≡ 96000000) }
     ensures members { (HEARD ≡ 192000000) × (MEMBERS ≡ 65536) }

@@ -1,5 +1,5 @@
 //! What a self-managing host decides: when it reports, how much of a page at a time, what it asks
-//! for and how fast, and which distance it takes for one that it does not know.
+//! for and how fast, and which delay it takes for one that it does not know.
 //!
 //! It follows Floyd, Jacobson, Liu, McCanne and Zhang, "A Reliable Multicast Framework for
 //! Light-weight Sessions and Application Level Framing", 1997, where that leaves the choice to the
@@ -11,13 +11,13 @@
 //! which names, `turns` which hole comes next, `pace` when, and `leaps` which beside what came;
 //! `questions` asks for pages and answers others; `reports` says when a report is due, and which
 //! marks it has;
-//! `distances` bounds what echoes give; `choices` takes parts of what was heard and is held;
+//! `delays` bounds what echoes give; `choices` takes parts of what was heard and is held;
 //! `policy` joins what is remembered. `laws` says what follows.
 #![tactic(auto)]
 
 mod choices;
 mod credit;
-mod distances;
+mod delays;
 pub mod laws;
 mod leaps;
 pub mod limits;
@@ -29,10 +29,10 @@ mod turns;
 mod wanting;
 
 pub use choices::{
-    distance_in, last_heard, last_source, near_names, own_echo, own_marks, told_names,
+    echoed_delay, last_heard, last_source, near_names, own_echo, own_marks, told_names,
 };
 pub use credit::Credit;
-pub use distances::Distances;
+pub use delays::Delays;
 pub use leaps::Leaps;
 pub use pace::Pace;
 pub use policy::{Policy, sooner};

@@ -1,4 +1,4 @@
-//! The numbers of the policy. Times and distances are in microseconds.
+//! The numbers of the policy. Times and delays are in microseconds.
 
 use wb_names::MAX_ENTRIES;
 
@@ -24,7 +24,7 @@ pub const PLACES_OF_LAST: u64 = 48;
 /// old timers alone.
 pub const TIMERS_BEFORE_TURNS: usize = 56;
 
-/// The level from which a timer is old: it has then waited 15 to 30 times its distance, times the
+/// The level from which a timer is old: it has then waited 15 to 30 times its delay, times the
 /// first constant of requests.
 pub const OLD_LEVEL: u32 = 4;
 
@@ -53,15 +53,15 @@ pub const STEADINESS: u64 = 128;
 
 // ---- what is believed
 
-/// The usual distance at first. If it is too small, that costs some more requests; if it is too
+/// The usual delay at first. If it is too small, that costs some more requests; if it is too
 /// great, it costs seconds.
-pub const FIRST_DISTANCE: u64 = 20_000;
+pub const FIRST_DELAY: u64 = 20_000;
 
-/// The least distance that is believed.
-pub const LEAST_DISTANCE: u64 = 10_000;
+/// The least delay that is believed.
+pub const LEAST_DELAY: u64 = 10_000;
 
-/// The greatest distance that is believed.
-pub const MOST_DISTANCE: u64 = 1_000_000;
+/// The greatest delay that is believed.
+pub const MOST_DELAY: u64 = 1_000_000;
 
 // ---- what is reported
 

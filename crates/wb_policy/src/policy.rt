@@ -3,9 +3,9 @@
 
 ghost use Rattle.std.specs.Prelude.{◌≡◌, ◌≤◌, ◌<◌, ◌+◌, if◌then◌else◌, nat_le, nat_lt};
 ghost use Rattle.wb_names.specs.Moments.{IsMoment};
-ghost use Rattle.wb_policy.specs.declared.limits.TheConstants.{LISTEN_LIMIT, LONGEST_GAP, LONGEST_PAUSE, MEMBERS, MOST_BYTES, MOST_DISTANCE, SHORTEST_GAP, SHORTEST_PAUSE};
-ghost use Rattle.wb_policy.specs.Distances.{bounded};
-ghost use Rattle.wb_policy.specs.Policy.{after_answer, after_beat, after_came, after_leaping, after_question, after_report, after_state, after_taking_up, after_turn, after_wanting, begun, in_next_leaps, in_next_round, next_moment, sooner, with_distance};
+ghost use Rattle.wb_policy.specs.declared.limits.TheConstants.{LISTEN_LIMIT, LONGEST_GAP, LONGEST_PAUSE, MEMBERS, MOST_BYTES, MOST_DELAY, SHORTEST_GAP, SHORTEST_PAUSE};
+ghost use Rattle.wb_policy.specs.Delays.{bounded};
+ghost use Rattle.wb_policy.specs.Policy.{after_answer, after_beat, after_came, after_leaping, after_question, after_report, after_state, after_taking_up, after_turn, after_wanting, begun, in_next_leaps, in_next_round, next_moment, sooner, after_echo};
 ghost use Rattle.wb_policy.specs.Leaps.{far_name};
 ghost use Rattle.wb_policy.specs.Questions.{is_due, is_to_answer};
 ghost use Rattle.wb_policy.specs.Reports.{is_telling};
@@ -13,7 +13,7 @@ ghost use Rattle.wb_policy.specs.Turns.{name_in};
 ghost use Rattle.wb_policy.specs.Wanting.{is_wanted, passes_on};
 
 use crate::credit::Credit;
-use crate::distances::Distances;
+use crate::delays::Delays;
 use crate::leaps::Leaps;
 use crate::limits::{ANSWER, FIRST_QUESTION, FIRST_REPORT, STREAM, TIMERS_BEFORE_TURNS};
 use crate::pace::Pace;
@@ -44,7 +44,7 @@ pub struct Policy {
     /// The last source that its page had when its telling began.
     until: u32,
     credit: Credit,
-    distances: Distances,
+    delays: Delays,
     words: RandomWords,
 }
 
@@ -66,7 +66,7 @@ impl Model for Policy {
       told = p.told;
       until = p.until;
       owed = p.credit.owed;
-      usual = p.distances;
+      usual = p.delays;
       words = p.words;
     } };
 
@@ -101,7 +101,7 @@ impl Policy {
             told: None,
             until: 0,
             credit: Credit::WHOLE,
-            distances: Distances::new(),
+            delays: Delays::new(),
             words,
         }
     }
@@ -216,12 +216,12 @@ impl Policy {
         self.leaps.begin_again();
     }
 
-    /// An echo gave a distance: which one is to be set.
+    /// An echo gave a delay: which one is to be set.
     pub fn measure(&mut self, micros: u64) -> u64
         ensures bounded { result ≡ bounded micros }
-        ensures usual { self.new ≡ with_distance micros self.old }
+        ensures usual { self.new ≡ after_echo micros self.old }
     {
-        self.distances.told(micros)
+        self.delays.told(micros)
     }
 
     /// Whether it is to ask for pages now, and when again.
@@ -325,12 +325,12 @@ impl Policy {
         self.until = until;
     }
 
-    /// The usual distance: at most a second.
+    /// The usual delay: at most a second.
     pub fn usual(&self) -> u64
         ensures usual { result ≡ self.now.usual }
-        ensures near { result ≤ MOST_DISTANCE }
+        ensures near { result ≤ MOST_DELAY }
     {
-        self.distances.usual()
+        self.delays.usual()
     }
 }
 

@@ -15,7 +15,7 @@ pub struct Candidate {
     pub is_held: bool,
     /// Whether the board has no room for it.
     pub is_full: bool,
-    /// Whether the distance to its source is known.
+    /// Whether the delay to its source is known.
     pub is_known: bool,
     /// How often its request timer was backed off. None if none stands.
     pub level: Option<u32>,
@@ -24,7 +24,7 @@ pub struct Candidate {
 impl Candidate {
     /// Whether it is asked for at this moment, at this credit: a timer that stands goes on, unless
     /// it is old and may start anew. A neighbour of what came, which starts nothing anew, comes
-    /// last if the distance to its source is not known.
+    /// last if the delay to its source is not known.
     pub fn is_wanted(&self, credit: &Credit, may_start_anew: bool, now: u64) -> bool
         ensures { result ≡ is_wanted self.now.is_held self.now.is_full may_start_anew
             self.now.is_known self.now.level credit.now.owed now }

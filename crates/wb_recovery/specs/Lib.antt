@@ -2,7 +2,7 @@ pub mod Delays
 pub mod Faults
 pub mod Timing
 pub mod Alarms
-pub mod Distance
+pub mod RoundTrip
 pub mod Events
 pub mod Values
 pub mod Consistent

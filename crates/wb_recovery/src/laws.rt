@@ -3,7 +3,7 @@
 
 ghost use Rattle.std.specs.Prelude.{◌≡◌, ◌^◌, ◌-◌};
 ghost use Rattle.wb_recovery.specs.declared.fault.TheConstants.{DELAY_LIMIT, MAX_DELAY};
-ghost use Rattle.wb_recovery.specs.declared.limits.TheConstants.{MOST_TIMERS, UNKNOWN_DISTANCE};
+ghost use Rattle.wb_recovery.specs.declared.limits.TheConstants.{MOST_TIMERS, UNKNOWN_DELAY};
 ghost use Rattle.wb_recovery.specs.declared.tuning.TheConstants.{MAX_CONSTANT};
 ghost use Rattle.wb_recovery.specs.Laws.{RequestStands, AnswerStands, LevelCounts, RequestStays, AnswerStays, QuietStays, DeafStays, QuietIsNotAnswered, UnnamedHasNone};
 
@@ -57,10 +57,10 @@ pub fn quiet_is_not_answered()
 {}
 
 /// The limits: of delays in microseconds, of the constants of the timers, and of how many stand; and
-/// the distance that is not known, in microseconds.
+/// the delay that is not known, in microseconds.
 pub fn limits()
     ensures delays { (DELAY_LIMIT ≡ 2 ^ 24) × (MAX_DELAY ≡ 2 ^ 24 - 1) }
     ensures constants { MAX_CONSTANT ≡ 16 }
     ensures timers { MOST_TIMERS ≡ 64 }
-    ensures distance { UNKNOWN_DISTANCE ≡ 100000 }
+    ensures unknown { UNKNOWN_DELAY ≡ 100000 }
 {}

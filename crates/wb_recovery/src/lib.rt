@@ -31,7 +31,7 @@ mod timers;
 mod tuning;
 
 pub use fault::{DELAY_LIMIT, MAX_DELAY, RecoveryFault, TuningFault};
-pub use limits::{MOST_TIMERS, UNKNOWN_DISTANCE};
+pub use limits::{MOST_TIMERS, UNKNOWN_DELAY};
 pub use missed::{Missed, Received};
 pub use plan::{Action, Plan};
 pub use recovery::Recovery;

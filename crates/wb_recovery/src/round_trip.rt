@@ -1,6 +1,6 @@
 //! The delay to another member, from an exchange of session messages.
 ghost use Rattle.std.specs.Prelude.{◌≡◌};
-ghost use Rattle.wb_recovery.specs.Distance.{distance_of};
+ghost use Rattle.wb_recovery.specs.RoundTrip.{delay_from};
 
 use crate::fault::DELAY_LIMIT;
 
@@ -9,7 +9,7 @@ use crate::fault::DELAY_LIMIT;
 /// of the time on the way. None if the times do not fit together, or the delay would not be below
 /// 2^24.
 pub fn distance(sent: u64, held: u64, now: u64) -> Option<u64>
-    ensures { result ≡ distance_of sent held now }
+    ensures { result ≡ delay_from sent held now }
 {
     let left = sent.checked_add(held)?;
     let delay = now.checked_sub(left)? / 2;

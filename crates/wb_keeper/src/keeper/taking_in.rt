@@ -8,7 +8,7 @@ ghost use Rattle.wb_names.specs.Moments.{IsMoment};
 ghost use Rattle.wb_recovery.specs.Delays.{IsDelay};
 ghost use Rattle.wb_codec.specs.declared.datagram.Datagram.TheVariants.{Request};
 ghost use Rattle.wb_keeper.specs.Hearing.{asks_for_held};
-ghost use Rattle.wb_keeper.specs.Keeper.{Hear, distance_by, holds, is_own};
+ghost use Rattle.wb_keeper.specs.Keeper.{Hear, delay_by, holds, is_own};
 ghost use Rattle.wb_keeper.specs.Keeping.{Keeps, marks_at};
 ghost use Rattle.wb_keeper.specs.TakingIn.{AreMerged, count_with, delays_with, has_place, heard_with, marks_with, restored};
 
@@ -64,7 +64,7 @@ impl Keeper {
 
     /// The delay that the echo of this member tells, if there is one and it tells a delay.
     fn delay_given(&self, echoes: &Echoes, now: u64) -> Option<u64>
-        ensures { result ≡ distance_by now (find (λ e. nat_eq e.source self.now.me) echoes.now) }
+        ensures { result ≡ delay_by now (find (λ e. nat_eq e.source self.now.me) echoes.now) }
     {
         let echo = self.echo_of_me(echoes)?;
         distance(echo.sent, echo.held, now)

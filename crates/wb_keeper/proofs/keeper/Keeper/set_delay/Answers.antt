@@ -13,7 +13,7 @@ returns-clause-ok c =
     keeps_delay c.args.source c.args.micros (Some c.args.micros) c.args.self.now _ c.insert.new.self.entries refl (ap (λ (v : KeeperValue). record v { delays = c.insert.new.self.entries }) c.self.view_is)
     (λ q. updates.0 q ∙ ap (λ (v : KeeperValue). cond (is_at (nat_cmp c.args.source) q) (Some c.args.micros) (lookup (is_at (nat_cmp q)) v.delays)) c.self.view_is)
 
-pub returns-then-micros-eq-UNKNOWN_DISTANCE-clause-ok : goal.returns-then-micros-eq-UNKNOWN_DISTANCE-clause-ok
-returns-then-micros-eq-UNKNOWN_DISTANCE-clause-ok c =
-    keeps_delay c.args.source c.args.micros None c.args.self.now _ c.remove.new.self.entries (sym c.if-micros-eq-UNKNOWN_DISTANCE.true) (ap (λ (v : KeeperValue). record v { delays = c.remove.new.self.entries }) c.self.view_is)
+pub returns-then-micros-eq-UNKNOWN_DELAY-clause-ok : goal.returns-then-micros-eq-UNKNOWN_DELAY-clause-ok
+returns-then-micros-eq-UNKNOWN_DELAY-clause-ok c =
+    keeps_delay c.args.source c.args.micros None c.args.self.now _ c.remove.new.self.entries (sym c.if-micros-eq-UNKNOWN_DELAY.true) (ap (λ (v : KeeperValue). record v { delays = c.remove.new.self.entries }) c.self.view_is)
     (λ q. c.remove.ensures.updates.0 q ∙ ap (λ (v : KeeperValue). cond (is_at (nat_cmp c.args.source) q) None (lookup (is_at (nat_cmp q)) v.delays)) c.self.view_is)

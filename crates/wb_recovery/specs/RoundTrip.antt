@@ -3,7 +3,7 @@ use Rattle.std.specs.Prelude.{ℕ, ◌+◌, ◌-◌, ◌/◌, ◌&&◌, nat_le, 
 use Rattle.wb_recovery.specs.Faults.{is_delay}
 
 -- half of the time on the way, where that is below 2^24 microseconds
-abbrev pub distance_of : ℕ → ℕ → ℕ → Option ℕ
-distance_of sent held now =
+abbrev pub delay_from : ℕ → ℕ → ℕ → Option ℕ
+delay_from sent held now =
     let delay = (now - sent - held) / 2 in
     if nat_le (sent + held) now && is_delay delay then Some delay else None
