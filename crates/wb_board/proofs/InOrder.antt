@@ -9,7 +9,7 @@ use Rattle.std.proofs.Math.Seq.{take-suc, take-length}
 use Rattle.wb_names.specs.Values.{DrawopValue}
 use Rattle.wb_board.specs.declared.reply.Reply.TheVariants.{New}
 use Rattle.wb_board.specs.Board.{Call, Accept, AskGaps, AskReport, AskPages, AskView, Answer, Replied, Step, IsAnswer, after_call, IsLegalFrom}
-use Rattle.wb_board.specs.Runs.{Answered, is_new, IsMember, Precedes, IsAnsweredSince, is_new_at, rank, placed, in_order, steps_of, end_of, OneRun}
+use Rattle.wb_board.specs.Runs.{Answered, is_new, HasNew, Precedes, IsAnsweredSince, is_new_at, rank, placed, in_order, steps_of, end_of, OneRun}
 
 -- P holds of each, element by element
 abbrev pub Each : (Answered → Type 0) → List Answered → Type 0
@@ -134,7 +134,7 @@ steps_filter caller (t ∷ ts) = ap (λ (l : List Step). cond (of_caller caller 
     either true = refl
     either false = refl
 
--- what is of a higher rank than the member i is not that member
+-- what is of a higher rank than the drawop i is not that drawop
 not_new : (i : ℕ) (u : Answered) (b : Bool) → is_new_at i u ≡ b → 2 * i + 1 < rank u → b ≡ false
 not_new i u false e less = refl
 not_new i u true e less = let p = new_parts i u e in let r = rank_new u p.0 in let at = p.1 in absurd (omega arith)
@@ -172,7 +172,7 @@ skip_other i t ts below = by (is_new_at i t) refl
 take_new : (i : ℕ) (t : Answered) (ts : List Answered) → is_new t.step.answer ≡ true → t.point ≡ i → length (filter (is_new_at i) (t ∷ ts)) ≡ suc (length (filter (is_new_at i) ts))
 take_new i t ts new at = ap (λ (b : Bool). length (cond b (t ∷ filter (is_new_at i) ts) (filter (is_new_at i) ts))) (ap (λ (b : Bool). b && nat_eq t.point i) new ∙ eq-eqb t.point i at)
 
--- where the member p was new to none of them, and none is of a lower rank, all were answered later
+-- where the drawop p was new to none of them, and none is of a lower rank, all were answered later
 answered_later : (history : List DrawopValue) (p : ℕ) (u : Answered) (a b : Bool) → is_new u.step.answer ≡ a → is_new_at p u ≡ b → b ≡ false → 2 * p + 1 ≤ rank u → p + 1 ≤ u.point
 answered_later history p u false b old e other low = let r = rank_old u old in omega arith
 answered_later history p u true b new e other low =
@@ -189,7 +189,7 @@ all_later history p [] none low answered = tt
 all_later history p (u ∷ us) none low answered =
     let n = no_more p u us (is_new_at p u) refl none in
     let u_answered = answered.0 in (
-      record { since = answered_later history p u (is_new u.step.answer) (is_new_at p u) refl refl n.0 low.0; within = u_answered.within; answer = u_answered.answer; member = u_answered.member },
+      record { since = answered_later history p u (is_new u.step.answer) (is_new_at p u) refl refl n.0 low.0; within = u_answered.within; answer = u_answered.answer; new = u_answered.new },
       all_later history p us n.1 low.1 answered.1,
     )
 
@@ -198,8 +198,8 @@ after_old : (history : List DrawopValue) (call : Call) (answer : Answer) → is_
 after_old history (Accept d) (Replied (New i)) e = cc
 after_old history call answer e = refl
 
--- a new drawop makes it one member longer
-after_new : (history : List DrawopValue) (p : ℕ) (call : Call) (answer : Answer) → p ≤ length history → is_new answer ≡ true → IsAnswer (take p history) call answer → IsMember history call answer
+-- a new drawop makes the history one longer
+after_new : (history : List DrawopValue) (p : ℕ) (call : Call) (answer : Answer) → p ≤ length history → is_new answer ≡ true → IsAnswer (take p history) call answer → HasNew history call answer
     → (after_call (take p history) call answer ≡ take (p + 1) history) × (p < length history)
 after_new history p (Accept d) (Replied (New i)) within e a m =
     let at : i ≡ p = a.0 ∙ length-take-le p history within in
@@ -235,7 +235,7 @@ runs_step history p t ts true new w later =
     let answered = w.each.0 in
     let at = first_point history p t ts answered w.rising.0 (w.once p (omega arith)) in
     let answer = subst (λ (q : ℕ). IsAnswer (take q history) t.step.call t.step.answer) at answered.answer in
-    let longer = after_new history p t.step.call t.step.answer w.within new answer answered.member in
+    let longer = after_new history p t.step.call t.step.answer w.within new answer answered.new in
     let less = longer.1 in
     let one = sym (take_new p t ts new at) ∙ w.once p (omega arith) less in
     let none : length (filter (is_new_at p) ts) ≡ 0 = omega arith in

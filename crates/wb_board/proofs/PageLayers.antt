@@ -16,11 +16,11 @@ use Rattle.wb_display.proofs.Pages.{stands_alone, holds_its_page}
 use Rattle.wb_board.specs.Layers.{HasTakenIn, AreLayersOf, IsUpTo, layer_of}
 use Rattle.wb_board.specs.declared.layers.PageLayer.{PageLayer}
 
--- the first members, and then the rest
+-- the first drawops, and then the rest
 take_in : (page : PageId) (list : List DrawopValue) (n : ℕ) → fold (held_with page) (held_after page (take n list)) (drop n list) ≡ held_after page list
 take_in page list n = sym (fold-append (held_with page) [] (take n list) (drop n list)) ∙ ap (held_after page) (take-append-drop n list)
 
--- all that comes after the first members
+-- all that comes after the first drawops
 rest_is : (list : List DrawopValue) (n : ℕ) → take (length list - n) (drop n list) ≡ drop n list
 rest_is list n = ap (λ (k : ℕ). take k (drop n list)) (sym (length-drop n list)) ∙ take-length (drop n list)
 

@@ -35,7 +35,7 @@ abbrev pub NotAccepted : PassValue → DrawopValue → PassValue → BoardFault 
 NotAccepted p d q NoRow = Becomes p d Left q
 NotAccepted p d q Memory = AddsNothing p q
 
--- how many steps on words the call took: 13 for each member of others that it brought, and at most 14 more
+-- how many steps on words the call took: 13 for each drawop of others that it brought, and at most 14 more
 abbrev pub AcceptSteps : PassValue → PassValue → Reply → Type 0
 AcceptSteps p q reply = OutcomeSteps p q (outcome reply)
 

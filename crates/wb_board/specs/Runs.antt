@@ -4,7 +4,7 @@ use Rattle.wb_names.specs.Values.{DrawopValue}
 use Rattle.wb_board.specs.declared.reply.Reply.TheVariants.{New}
 use Rattle.wb_board.specs.Board.{Call, Accept, Answer, Replied, Step, IsAnswer, after_call, IsLegalFrom}
 
--- a call with its answer, and the point at which it was answered: how many members the history had there
+-- a call with its answer, and the point at which it was answered: how many drawops the history had there
 pub record Answered : Type 0 where
   pub step : Step
   pub point : ℕ
@@ -14,10 +14,10 @@ abbrev pub is_new : Answer → Bool
 is_new (Replied (New i)) = true
 is_new answer = false
 
--- what was new became the member at its place
-abbrev pub IsMember : List DrawopValue → Call → Answer → Type 0
-IsMember history (Accept d) (Replied (New i)) = slice_get history i ≡ Some d
-IsMember history call answer = Unit {0}
+-- the history has what was new, at its place
+abbrev pub HasNew : List DrawopValue → Call → Answer → Type 0
+HasNew history (Accept d) (Replied (New i)) = slice_get history i ≡ Some d
+HasNew history call answer = Unit {0}
 
 -- t was answered to a caller before u: the points of a caller never fall, and after a new drawop they have risen
 abbrev pub Precedes : Answered → Answered → Type 0
@@ -28,14 +28,14 @@ pub record IsAnsweredSince (history : List DrawopValue) (k : ℕ) (t : Answered)
   pub since : k ≤ t.point
   pub within : t.point ≤ length history
   pub answer : IsAnswer (take t.point history) t.step.call t.step.answer
-  pub member : IsMember history t.step.call t.step.answer
+  pub new : HasNew history t.step.call t.step.answer
 
--- the member i was new to this caller
+-- the drawop i was new to this caller
 abbrev pub is_new_at : ℕ → Answered → Bool
 is_new_at i t = is_new t.step.answer && nat_eq t.point i
 
--- What all callers were answered since the history had k members, the calls of each caller in their order, as when one caller's
--- calls stand after another's. Each member from k on was new to exactly one of them.
+-- What all callers were answered since the history had k drawops, the calls of each caller in their order, as when one caller's
+-- calls stand after another's. Each drawop from k on was new to exactly one of them.
 pub record AreAnsweredSince (history : List DrawopValue) (k : ℕ) (answered : List Answered) : Type 0 where
   pub each : All (IsAnsweredSince history k) answered
   pub once : (i : ℕ) → k ≤ i → i < length history → length (filter (is_new_at i) answered) ≡ 1
@@ -66,7 +66,7 @@ abbrev pub end_of : List DrawopValue → List Step → List DrawopValue
 end_of history [] = history
 end_of history (step ∷ steps) = end_of (after_call history step.call step.answer) steps
 
--- The run is legal from the first k members on, ends at the whole history, and has the calls of each caller, each once, in their order.
+-- The run is legal from the first k drawops on, ends at the whole history, and has the calls of each caller, each once, in their order.
 pub record IsOneRun (history : List DrawopValue) (k : ℕ) (answered : List Answered) (run : List Step) : Type 0 where
   pub legal : IsLegalFrom (take k history) run
   pub end : end_of (take k history) run ≡ history

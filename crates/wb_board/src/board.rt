@@ -97,8 +97,8 @@ impl Board {
         self.history.meet(&mut first.pass, &mut second.pass)
     }
 
-    /// Accepts a drawop: it becomes the next member, unless a member has its name. Then the reply
-    /// tells where, and whether that member is the same drawop. A name that the desk has seen is
+    /// Accepts a drawop: it becomes the next of the history, unless one there has its name. Then
+    /// the reply tells where, and whether that is the same drawop. A name that the desk has seen is
     /// answered without a step and without memory.
     ///
     /// Refused with `NoRow`, if no row is free and the name stands nowhere, or `Memory`. The desk

@@ -8,7 +8,7 @@ ghost use Rattle.wb_board.specs.declared.board.TheConstants.{MAX_WORKERS};
 
 /// The replies of a board to all callers are one run of a whiteboard of one thread. Let each reply
 /// be the answer at its point of the history, let the points of a caller never fall, and rise after
-/// a new drawop, and let each member be new to one of them. Then the calls by their points, at each
+/// a new drawop, and let each drawop be new to one of them. Then the calls by their points, at each
 /// point the new drawop last, make a run in which each answer is that of the whiteboard at the
 /// history so far, and in which each caller's calls stand, each once, in their order.
 pub fn one_run()

@@ -3,7 +3,7 @@ ghost use Rattle.std.specs.Prelude.{◌≡◌};
 
 use thiserror::Error;
 
-/// What became of a drawop that was accepted, with the place of the member that has its name.
+/// What became of a drawop that was accepted, with the place of that which has its name.
 #[derive(Clone, Copy, Debug, PartialEq, Eq)]
 pub enum Reply {
     /// It was new, and stands at this place now.

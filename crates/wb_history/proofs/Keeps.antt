@@ -23,12 +23,12 @@ use Rattle.std.proofs.lemmas.List.Elements.{All-push, Contains-append_left, Cont
 use Rattle.wb_history.proofs.Words.{all_are, all_at, at_contained, history_is, one_place}
 use Rattle.wb_codec.specs.Rows.{row}
 use Rattle.wb_codec.specs.Ranges.{IsDrawop}
-use Rattle.wb_history.specs.Views.{HasAllRows, after_look, after_read, after_member, after_store, after_win, after_loss, after_confirm}
+use Rattle.wb_history.specs.Views.{HasAllRows, after_look, after_read, after_drawop, after_store, after_win, after_loss, after_confirm}
 use Rattle.wb_history.specs.Lawful.{address, Knows, Lawful, IsConsistent}
 use Rattle.wb_history.specs.Plays.{SeatState, looked, read_word, read_last, stored_word, published, confirmed}
 use Rattle.wb_codec.proofs.RowLaws.{row_length}
 use Rattle.wb_history.proofs.Rows.{nothing_remembered, seats}
-use Rattle.wb_history.proofs.Lists.{at-lt, at_same, at_nothing, at_some, at_append, at_end, at_map_back, once_append, once_one, once_take, same_list, starts-le, starts_more, next_member, starts_whole, at_read, few, at_take, both_start}
+use Rattle.wb_history.proofs.Lists.{at-lt, at_same, at_nothing, at_some, at_append, at_end, at_map_back, once_append, once_one, once_take, same_list, starts-le, starts_more, next_item, starts_whole, at_read, few, at_take, both_start}
 
 abbrev TableState : Type 0
 TableState = State DrawopValue Knowledge
@@ -40,7 +40,7 @@ module _ (cells : ℕ) (s : TableState) (r : Lawful cells s) where
   rows_few : length r.rows ≤ cells
   rows_few = few r.rows cells r.rows_once (λ p q e. (r.filled p q e).0)
 
-  -- a cell is free, or it names the row of a member
+  -- a cell is free, or it names the row of a drawop
   cell_holds : (p : ℕ) → p < cells → (get_or s.words p 0 ≡ 0) ⊎ ((q : ℕ) × (get_elem? r.rows p ≡ some q) × (q < cells) × (get_or s.words p 0 ≡ suc q))
   cell_holds p inside =
       elim (dec_le (length r.rows) p) [
@@ -132,7 +132,7 @@ module _ (cells : ℕ) (s : TableState) (r : Lawful cells s) where
     each_pass = seats (Knows cells s.words r.log r.rows r.owner) s.views me w known (λ j u _ e. r.each_pass j u e);
   }
 
--- the pass looks at a cell, which it finds free, or which names the row of the next member
+-- the pass looks at a cell, which it finds free, or which names the row of the next drawop
 looking_at : (cells : ℕ) (words : List ℕ) (log : List DrawopValue) (rows : List ℕ) (owner : ℕ → ℕ) (j : ℕ) (v : Knowledge) → Knows cells words log rows owner j v → (word found : ℕ)
     → (found ≡ 0) ⊎ ((q : ℕ) × (get_elem? rows (length v.seen) ≡ some q) × (q < cells) × (found ≡ suc q)) → Knows cells words log rows owner j (after_look v word found)
 looking_at cells words log rows owner j v known word found holds = record {
@@ -207,11 +207,11 @@ reads_last cells slots id m word unspent some_row long is s r _ at small =
     let row_there = known.looks some_row in
     let inside = at-lt r.rows (length v.seen) (v.looking - 1) row_there in
     let same = r.long in
-    let member = at_some r.log (length v.seen) (omega arith) in
-    let d = member.0 in
-    let w = after_member v d word found in
+    let next = at_some r.log (length v.seen) (omega arith) in
+    let d = next.0 in
+    let w = after_drawop v d word found in
     let knows : Knows cells s.words r.log r.rows r.owner id w = record {
-      sees = record { sized = known.sized; begins = next_member r.log v.seen d known.begins member.1; joined_begins = known.joined_begins };
+      sees = record { sized = known.sized; begins = next_item r.log v.seen d known.begins next.1; joined_begins = known.joined_begins };
       owns = record {
         free_is = known.free_is;
         free_once = known.free_once;
@@ -222,7 +222,7 @@ reads_last cells slots id m word unspent some_row long is s r _ at small =
       remembers = record { looks = λ h. absurd (omega arith); reads = λ k n e. absurd (at_nothing k n e); stores = known.stores };
     } in
     let read_so : (k a b : ℕ) → get_elem? (row d) k ≡ some a → get_elem? (v.read ++ found ∷ []) k ≡ some b → a ≡ b = λ k a b x y.
-    let stands = r.records (length v.seen) (v.looking - 1) d row_there member.1 k a x in
+    let stands = r.records (length v.seen) (v.looking - 1) d row_there next.1 k a x in
     ⊎_elim (λ h. sym stands ∙ (known.reads k b h).2) (λ t. sym stands ∙ (ap (λ z. get_or s.words (address cells (v.looking - 1) z) 0) t.0 ∙ (ap (λ z. get_or s.words z 0) (sym is) ∙ t.1))) (at_end v.read found k b y) in (
       w,
       keeps,
@@ -230,7 +230,7 @@ reads_last cells slots id m word unspent some_row long is s r _ at small =
       unmoved cells s r word id m.1 w knows,
       (
         refl,
-        (d, same_list (row d) (v.read ++ found ∷ []) (let wide = row_length d in omega (arith, length-append v.read (found ∷ []))) read_so, all_at IsDrawop r.log (length v.seen) d r.valid member.1, refl),
+        (d, same_list (row d) (v.read ++ found ∷ []) (let wide = row_length d in omega (arith, length-append v.read (found ∷ []))) read_so, all_at IsDrawop r.log (length v.seen) d r.valid next.1, refl),
         unmoved_consistent cells slots id m unspent s r at word w unspent knows,
       ),
     )
@@ -366,7 +366,7 @@ wins cells slots id m d q unspent inside last stored_is valid_d lacks s r at fou
     let log' = log_after cells s r id q d mine.1 mine.0 mine.2 inside' in
     let rows' = rows_after cells s r id q d mine.1 mine.0 mine.2 inside' in
     let word' = other_word cells s r id q d mine.1 mine.0 mine.2 inside' in
-    let begins' : IsPrefix (v.seen ++ d ∷ []) log' = next_member log' v.seen d (starts_more r.log v.seen (d ∷ []) known.begins) (at_last' r.log d (length v.seen) (omega arith)) in
+    let begins' : IsPrefix (v.seen ++ d ∷ []) log' = next_item log' v.seen d (starts_more r.log v.seen (d ∷ []) known.begins) (at_last' r.log d (length v.seen) (omega arith)) in
     let knows : Knows cells words' log' rows' r.owner id w = record {
       sees = record { sized = known.sized; begins = begins'; joined_begins = starts_more r.log v.joined (d ∷ []) known.joined_begins };
       owns = record {

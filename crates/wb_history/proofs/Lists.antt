@@ -84,15 +84,15 @@ module _ {A : Type 0} where
   pub starts_more : (whole start more : List A) → IsPrefix start whole → IsPrefix start (whole ++ more)
   starts_more whole start more b = (b.0 ++ more, sym (append_assoc start b.0 more) ∙ ap (λ l. l ++ more) b.1)
 
-  pub next_member : (whole start : List A) (x : A) → IsPrefix start whole → get_elem? whole (length start) ≡ some x → IsPrefix (start ++ x ∷ []) whole
-  next_member whole [] x b e = next whole b.0 (sym b.1) e
+  pub next_item : (whole start : List A) (x : A) → IsPrefix start whole → get_elem? whole (length start) ≡ some x → IsPrefix (start ++ x ∷ []) whole
+  next_item whole [] x b e = next whole b.0 (sym b.1) e
     where
       next : (w r : List A) → w ≡ r → get_elem? w zero ≡ some x → IsPrefix (x ∷ []) w
       next [] r same e = absurd (some-ne-none x (sym e))
       next (y ∷ ys) r same e = (ys, λ i. sym (some-injective y x e) i ∷ ys)
-  next_member [] (y ∷ ys) x b e = absurd (some-ne-none x (sym e))
-  next_member (z ∷ zs) (y ∷ ys) x b e =
-      let t = next_member zs ys x (b.0, cc (b.1)) e in (t.0, cc (b.1, t.1))
+  next_item [] (y ∷ ys) x b e = absurd (some-ne-none x (sym e))
+  next_item (z ∷ zs) (y ∷ ys) x b e =
+      let t = next_item zs ys x (b.0, cc (b.1)) e in (t.0, cc (b.1, t.1))
 
   pub starts_whole : (whole start : List A) → IsPrefix start whole → length whole ≤ length start → whole ≡ start
   starts_whole whole start b few = grind (arith, common_steps)

@@ -1,4 +1,4 @@
--- The index of names tells the places of members.
+-- The index of names tells the places of drawops.
 use Rattle.std.proofs.lemmas.Grind.{common_steps}
 use Rattle.std.proofs.Common.{◌≡◌, ℕ, ◌<◌, ◌≤◌, Bool, true, false, List, [], ◌∷◌, ◌++◌, map, length, get_or, sym, ap, ◌∙◌, subst, arith, Option}
 use Rattle.std.specs.Prelude.{MatchOption, nat_eq, ◌&&◌, if◌then◌else◌}
@@ -17,7 +17,7 @@ use Rattle.wb_names.specs.Orders.{same_page}
 use Rattle.wb_names.proofs.Orders.{same_name-is}
 use Rattle.wb_names.specs.History.{HoldsName}
 use Rattle.wb_history.proofs.Lists.{at-lt, at_same, at_some, at_read}
-use Rattle.wb_history.proofs.Words.{member_named, named_at}
+use Rattle.wb_history.proofs.Words.{drawop_named, named_at}
 
 abbrev names : List DrawopValue → List NameValue
 names l = map (λ d. d.name) l
@@ -82,4 +82,4 @@ put_name l l' d keys keys' absent indexed put inserted =
         let long = length-map l (λ e. e.name) in
         let m = at_some l k (omega arith) in
         let there = at_map (λ (f : DrawopValue). f.name) l k m.0 m.1 in
-        absurd (absent (member_named l d.name k m.0 m.1 (at_same (names l) k m.0.name (get_or (names l) k e) there (at_read (names l) k e h) ∙ sym (alike-is d.name (get_or (names l) k e) same)))))
+        absurd (absent (drawop_named l d.name k m.0 m.1 (at_same (names l) k m.0.name (get_or (names l) k e) there (at_read (names l) k e h) ∙ sym (alike-is d.name (get_or (names l) k e) same)))))

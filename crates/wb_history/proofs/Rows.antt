@@ -9,7 +9,7 @@ use Rattle.wb_history.specs.declared.knowledge.Knowledge.{Knowledge}
 use Rattle.wb_names.specs.Values.{DrawopValue}
 use Rattle.wb_codec.specs.Rows.{row}
 use Rattle.wb_history.specs.Lawful.{Owns, Remembers}
-use Rattle.wb_history.specs.Views.{after_member, IsMember}
+use Rattle.wb_history.specs.Views.{after_drawop, IsRead}
 use Rattle.atomic_table.proofs.Lists.{at_set}
 use Rattle.wb_history.proofs.Lists.{at_nothing, once_nothing}
 
@@ -65,5 +65,5 @@ read_row_is w words found d i last long is e =
     let all : take (i + 1) (set words i found) ≡ set words i found = ap (λ n. take n (set words i found)) (last ∙ sym (length-set words i found ∙ long)) ∙ take_all (set words i found) in
     e ∙ (ap (λ (l : List ℕ). l ++ found ∷ []) is ∙ (sym (take_more_set words i found (omega arith)) ∙ (all ∙ ap (λ n. set words n found) back)))
 
-pub read_all : (v w w' : Knowledge) (word found : ℕ) (words : List ℕ) (i : ℕ) (d : DrawopValue) → i + 1 ≡ row_words → length words ≡ row_words → ReadSo v (take i words) w → w' ≡ after_member w d word found → IsMember v d w'
+pub read_all : (v w w' : Knowledge) (word found : ℕ) (words : List ℕ) (i : ℕ) (d : DrawopValue) → i + 1 ≡ row_words → length words ≡ row_words → ReadSo v (take i words) w → w' ≡ after_drawop w d word found → IsRead v d w'
 read_all v w w' word found words i d i_is long s e = grind (arith, common_steps)

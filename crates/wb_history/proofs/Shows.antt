@@ -1,6 +1,6 @@
 -- What the parts of a pass show of it.
 use Rattle.std.proofs.lemmas.Grind.{common_steps}
-use Rattle.wb_history.specs.Sizes.{row_stride, member_steps}
+use Rattle.wb_history.specs.Sizes.{row_stride, drawop_steps}
 use Rattle.std.proofs.Common.{◌≡◌, ℕ, ◌+◌, ◌-◌, ◌*◌, ◌<◌, ◌≤◌, List, [], ◌∷◌, ◌++◌, length, refl, sym, ap, ◌∙◌, subst, arith, length-append, length-take-le, Result, Ok, Err, OnOk, OnErr, MatchResult}
 use Rattle.std.proofs.lemmas.List.{append-nil, length-replicate}
 use Rattle.std.specs.Prelude.{replicate, All, Contains}
@@ -22,7 +22,7 @@ use Rattle.wb_history.specs.declared.claim.ClaimFault.TheVariants.{NoRow, Memory
 use mathlib.Core.List.{IsPrefix}
 use Rattle.wb_history.specs.Lists.{Once}
 use Rattle.wb_names.specs.History.{IsHistory}
-use Rattle.wb_history.specs.Indexed.{MembersValue, AreFronts}
+use Rattle.wb_history.specs.Indexed.{SeenValue, AreFronts}
 use Rattle.wb_history.proofs.Fronts.{fronts_on}
 use Rattle.wb_history.specs.Lawful.{IsConsistent}
 use Rattle.wb_history.specs.declared.cells.CellTable.{CellTable}
@@ -65,7 +65,7 @@ on_ok (Ok a) p = p
 on_ok (Err e) p = tt
 
 -- more room for the list is not seen
-pub roomier : (h : Cursor) (m : MembersValue) → m.items ≡ h.seen.items → PartsAgree h → PartsAgree (record h { seen = m })
+pub roomier : (h : Cursor) (m : SeenValue) → m.items ≡ h.seen.items → PartsAgree h → PartsAgree (record h { seen = m })
 roomier h m same i = grind (arith, common_steps)
 
 -- a pass hears what another has seen, or both stay as they were
@@ -95,7 +95,7 @@ added h more d i extra h' o w =
     let last : length h'.seen.items ≡ i + 1 = omega arith in
     let at : get_elem? h'.seen.items i ≡ some d = subst (λ (l : List DrawopValue). get_elem? l i ≡ some d) (sym w.seen) (at_last (h.seen.items ++ more) d i (omega arith)) in record {
       new = (sym (length-take-le i h'.seen.items (omega arith)), none_before h'.seen.items i d (subst IsHistory w.matches.seen w.matches.consistent.names_once) at);
-      member = get_is h'.seen.items i d at;
+      drawop = get_is h'.seen.items i d at;
       last = last;
       later = omega arith;
       gains = w.mine;
@@ -108,7 +108,7 @@ abbrev pub GoesOn : Cursor → Cursor → Type 0
 GoesOn h h' = PartsAgree h' × (h'.seat.me.0.cells ≡ h.seat.me.0.cells) × IsPrefix h.seen.items h'.seen.items
 
 -- what is so of all parts of a pass stays so, where they go on
-pub pass_on : (lists : List MembersValue) (cells : ℕ) (h h' : Cursor) → PartsAgree h × (cells ≡ h.seat.me.0.cells) × AreFronts lists h.seen.items → GoesOn h h' → PartsAgree h' × (cells ≡ h'.seat.me.0.cells) × AreFronts lists h'.seen.items
+pub pass_on : (lists : List SeenValue) (cells : ℕ) (h h' : Cursor) → PartsAgree h × (cells ≡ h.seat.me.0.cells) × AreFronts lists h.seen.items → GoesOn h h' → PartsAgree h' × (cells ≡ h'.seat.me.0.cells) × AreFronts lists h'.seen.items
 pass_on lists cells h h' i on = (on.0, i.1 ∙ sym on.1, fronts_on lists h.seen.items h'.seen.items on.2 i.2)
 
 pub walked_agree : (h : Cursor) (more : List DrawopValue) (k : ℕ) (h' : Cursor) → PartsAgree h → Walked (record h { steps = 0 }) more k h' → GoesOn h h'
@@ -119,7 +119,7 @@ end_agrees cells h more h' i e = grind (arith, common_steps)
 
 -- the parts of a pass after a claim
 pub parts_after : (cells : ℕ) (h : Cursor) (d : DrawopValue) (h' : Cursor) (r : Result Claim ClaimFault) → PartsAgree h
-    → MatchResult r (λ c. (extra : ℕ) × (extra ≤ member_steps) × Answered (record h { steps = 0 }) d extra h' c) (Refused cells (record h { steps = 0 }) d h') → GoesOn h h'
+    → MatchResult r (λ c. (extra : ℕ) × (extra ≤ drawop_steps) × Answered (record h { steps = 0 }) d extra h' c) (Refused cells (record h { steps = 0 }) d h') → GoesOn h h'
 parts_after cells h d h' (Ok (Added k)) i m = grind (arith, common_steps)
 parts_after cells h d h' (Ok (Present k)) i m = walked_agree h m.2.0 m.0 h' i m.2.1
 parts_after cells h d h' (Ok (Clash k)) i m = walked_agree h m.2.0 m.0 h' i m.2.1
@@ -128,7 +128,7 @@ parts_after cells h d h' (Err Memory) i m = walked_agree h m.0 m.1 h' i m.3
 
 -- what a claim with a cursor says of what is seen of the cursor
 pub shown : (cells : ℕ) (h : Cursor) (d : DrawopValue) (h' : Cursor) (r : Result Claim ClaimFault) → MatchesSeat h → h.seat.me.0.cells ≡ cells
-    → MatchResult r (λ c. (extra : ℕ) × (extra ≤ member_steps) × Answered (record h { steps = 0 }) d extra h' c) (Refused cells (record h { steps = 0 }) d h')
+    → MatchResult r (λ c. (extra : ℕ) × (extra ≤ drawop_steps) × Answered (record h { steps = 0 }) d extra h' c) (Refused cells (record h { steps = 0 }) d h')
     → MatchResult r (Claimed (view_of h) d (view_of h')) (NotClaimed (view_of h) d (view_of h'))
 shown cells h d h' (Ok (Added i)) o same m = added h m.2.0 d i (m.0 + 1) h' o m.2.1
 shown cells h d h' (Ok (Present i)) o same m = (m.2.2, grind (arith, common_steps))

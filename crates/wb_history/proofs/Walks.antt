@@ -24,7 +24,7 @@ win_on h a b d place j k h' h'' o v w = grind (arith, common_steps)
 pub lacks_more : (l : List DrawopValue) (d : DrawopValue) (name : NameValue) → (HoldsName l name → ⊥) → d.name ≢ name → HoldsName (l ++ d ∷ []) name → ⊥
 lacks_more l d name lacks other held = grind (arith, common_steps)
 
--- a member was read that has another name
+-- a drawop was read that has another name
 pub lacks_read : (h : Cursor) (place : ℕ) (h' : Cursor) (name : NameValue) → ReadsOne h place h' → (HoldsName h.seen.items name → ⊥) → ((d : DrawopValue) → slice_get h'.seen.items place ≡ Some d → d.name ≢ name) → HoldsName h'.seen.items name → ⊥
 lacks_read h place h' name r lacks other =
     let d = r.0 in
@@ -45,7 +45,7 @@ answer_on h a d j k h' h'' (Clash i) o v s = (a ++ s.0, walk_on h a s.0 j k h' h
 pub free_end : (t : CellTable) (h : Cursor) (more : List DrawopValue) (h' : Cursor) → SitsAt t h.seat → AtEnd t.cells h more h' → 0 < length h'.free.items → Walked h more 1 h' × FoundFree h'
 free_end t h more h' s e some_free = grind (arith, common_steps)
 
--- of a history, no member before the last has its name
+-- of a history, no drawop before the last has its name
 pub new_name : (l : List DrawopValue) (d : DrawopValue) → IsHistory (l ++ d ∷ []) → HoldsName l d.name → ⊥
 new_name l d once held =
     let t = named_at l d.name held in

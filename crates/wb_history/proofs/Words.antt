@@ -45,13 +45,13 @@ one_place l p q d e once x y same =
     apart i k a b lt x y same =
         once i k a lt (at-lt l k b y) (ap (λ (o : DrawopValue). o.name) (read_is l i a a x) ∙ (same ∙ sym (ap (λ (o : DrawopValue). o.name) (read_is l k b a y))))
 
-pub member_named : (l : List DrawopValue) (n : NameValue) (p : ℕ) (d : DrawopValue) → get_elem? l p ≡ some d → d.name ≡ n → HoldsName l n
-member_named l n p d at same = (p, d, at-lt l p d at, read_is l p d d at, same)
+pub drawop_named : (l : List DrawopValue) (n : NameValue) (p : ℕ) (d : DrawopValue) → get_elem? l p ≡ some d → d.name ≡ n → HoldsName l n
+drawop_named l n p d at same = (p, d, at-lt l p d at, read_is l p d d at, same)
 
 pub named_at : (l : List DrawopValue) (n : NameValue) → HoldsName l n → (p : ℕ) × (d : DrawopValue) × (get_elem? l p ≡ some d) × (d.name ≡ n)
 named_at l n h = (h.0, h.1, at_read l h.0 h.1 h.2 ∙ ap some h.3, h.4)
 
--- of a history, no member before a place has the name of the member there
+-- of a history, no drawop before a place has the name of the one there
 pub none_before : (l : List DrawopValue) (i : ℕ) (d : DrawopValue) → IsHistory l → get_elem? l i ≡ some d → HoldsName (take i l) d.name → ⊥
 none_before l i d once at held =
     let t = named_at (take i l) d.name held in let there = at_take i l t.0 t.1 t.2 in let lt = there.0 in let is = one_place l t.0 i t.1 d once there.1 at t.3 in absurd (omega arith)

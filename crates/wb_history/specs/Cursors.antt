@@ -1,5 +1,5 @@
 -- What a clause says of a cursor.
-use Rattle.wb_history.specs.Sizes.{row_words, member_steps}
+use Rattle.wb_history.specs.Sizes.{row_words, drawop_steps}
 use Rattle.std.specs.Prelude.{◌≡◌, ◌⊎◌, ℕ, ◌+◌, ◌*◌, ◌≤◌, List, [], ◌∷◌, ◌++◌, length, Option, Some, None}
 use Rattle.wb_names.specs.Values.{DrawopValue}
 use Rattle.wb_names.specs.History.{HoldsName, IsAgainAt, IsClashAt}
@@ -23,7 +23,7 @@ pub record MatchesSeat (h : Cursor) : Type 0 where
   pub free : h.seat.me.0.free ≡ h.free.items
   pub consistent : IsConsistent h.seat.me.0
 
--- the cursor after it has read these members, and has made some more steps. A cursor with all rows reads none
+-- the cursor after it has read these drawops, and has made some more steps. A cursor with all rows reads none
 pub record Walked (h : Cursor) (more : List DrawopValue) (extra : ℕ) (h' : Cursor) : Type 0 where
   pub matches : MatchesSeat h'
   pub seat : SameSeat h.seat h'.seat
@@ -32,10 +32,10 @@ pub record Walked (h : Cursor) (more : List DrawopValue) (extra : ℕ) (h' : Cur
   pub free : h'.free.items ≡ h.free.items
   pub seen : h'.seen.items ≡ h.seen.items ++ more
   pub whole : HasAllRows h.seat.me.0 → more ≡ []
-  pub made : h'.seat.me.0.made ≡ h.seat.me.0.made + member_steps * length more + extra
-  pub steps : h'.steps ≡ h.steps + member_steps * length more + extra
+  pub made : h'.seat.me.0.made ≡ h.seat.me.0.made + drawop_steps * length more + extra
+  pub steps : h'.steps ≡ h.steps + drawop_steps * length more + extra
 
--- the cursor after it has read one member, which stands at this place
+-- the cursor after it has read one drawop, which stands at this place
 abbrev pub ReadsOne : Cursor → ℕ → Cursor → Type 0
 ReadsOne h place h' = (d : DrawopValue) × Walked h (d ∷ []) 0 h' × (place ≡ length h.seen.items)
 
@@ -43,7 +43,7 @@ ReadsOne h place h' = (d : DrawopValue) × Walked h (d ∷ []) 0 h' × (place �
 abbrev pub FoundFree : Cursor → Type 0
 FoundFree h = (h.seat.me.0.last_word ≡ length h.seen.items) × (h.seat.me.0.last_found ≡ 0) × (h.seat.me.0.stored ≡ [])
 
--- the cursor after it has read all members to the end: the last step found the next cell free, or the history is full
+-- the cursor after it has read all drawops to the end: the last step found the next cell free, or the history is full
 abbrev pub AtEnd : ℕ → Cursor → List DrawopValue → Cursor → Type 0
 AtEnd cells h more h' = (Walked h more 1 h' × FoundFree h') ⊎ (Walked h more 0 h' × (length h'.seen.items ≡ cells))
 
@@ -57,7 +57,7 @@ abbrev pub Sought : ℕ → Cursor → DrawopValue → Cursor → Option Claim �
 Sought cells h d h' None = (more : List DrawopValue) × AtEnd cells h more h' × ¬ HoldsName h'.seen.items d.name
 Sought cells h d h' (Some c) = (more : List DrawopValue) × Walked h more 0 h' × TellsNamesake h'.seen.items d c
 
--- the cursor after it has read these members and added d at a place
+-- the cursor after it has read these drawops and added d at a place
 pub record Won (h : Cursor) (more : List DrawopValue) (d : DrawopValue) (place extra : ℕ) (h' : Cursor) : Type 0 where
   pub matches : MatchesSeat h'
   pub seat : SameSeat h.seat h'.seat
@@ -67,16 +67,16 @@ pub record Won (h : Cursor) (more : List DrawopValue) (d : DrawopValue) (place e
   pub free : length h.free.items ≡ length h'.free.items + 1
   pub seen : h'.seen.items ≡ (h.seen.items ++ more) ++ d ∷ []
   pub whole : HasAllRows h.seat.me.0 → more ≡ []
-  pub made : h'.seat.me.0.made ≡ h.seat.me.0.made + member_steps * length more + extra
-  pub steps : h'.steps ≡ h.steps + member_steps * length more + extra
+  pub made : h'.seat.me.0.made ≡ h.seat.me.0.made + drawop_steps * length more + extra
+  pub steps : h'.steps ≡ h.steps + drawop_steps * length more + extra
 
--- the claim of d was answered: it was added, or a member has its name
+-- the claim of d was answered: it was added, or a drawop of the history has its name
 abbrev pub Answered : Cursor → DrawopValue → ℕ → Cursor → Claim → Type 0
 Answered h d extra h' (Added i) = (more : List DrawopValue) × Won h more d i (extra + 1) h'
 Answered h d extra h' (Present i) = (more : List DrawopValue) × Walked h more extra h' × TellsNamesake h'.seen.items d (Present i)
 Answered h d extra h' (Clash i) = (more : List DrawopValue) × Walked h more extra h' × TellsNamesake h'.seen.items d (Clash i)
 
--- a claim of d was refused: the pass has no free row and has read to the end, where no member has the name; or memory ran out
+-- a claim of d was refused: the pass has no free row and has read to the end, where no drawop has the name; or memory ran out
 abbrev pub Refused : ℕ → Cursor → DrawopValue → Cursor → ClaimFault → Type 0
 Refused cells h d h' NoRow = (more : List DrawopValue) × AtEnd cells h more h' × ¬ HoldsName h'.seen.items d.name × (h.free.items ≡ [])
 Refused cells h d h' Memory = (more : List DrawopValue) × (extra : ℕ) × (extra ≤ row_words + 2) × Walked h more extra h'

@@ -49,7 +49,7 @@ pub record Knows (cells : ℕ) (words : List ℕ) (log : List DrawopValue) (rows
   pub remembers : Remembers cells words rows (length v.seen) v.free v.looking v.read v.stored
   pub open remembers use *
 
--- the words have this history: each filled cell names the row that has the record of its member
+-- the words have this history: each filled cell names the row that has the record of its drawop
 pub record HasHistory (cells : ℕ) (words : List ℕ) (log : List DrawopValue) (rows : List ℕ) : Type 0 where
   pub wide : length words ≡ cells + cells * row_stride
   pub long : length rows ≡ length log

@@ -5,7 +5,7 @@ use Rattle.atomic_table.specs.Seated.{TableId}
 use Rattle.wb_names.specs.Values.{DrawopValue}
 use Rattle.wb_names.specs.History.{IsHistory}
 use Rattle.wb_codec.specs.Ranges.{IsDrawop}
-use Rattle.wb_history.specs.Sizes.{member_steps}
+use Rattle.wb_history.specs.Sizes.{drawop_steps}
 use Rattle.wb_history.specs.declared.history.TheConstants.{MAX_CELLS}
 
 -- a history: which table it is, and how many cells it has, which is also the number of its rows
@@ -43,7 +43,7 @@ KeepsRows p q = (q.mine ≡ p.mine) × (q.free ≡ p.free)
 abbrev pub IsWhole : PassValue → Type 0
 IsWhole p = p.free + length p.mine ≡ p.cells
 
--- a call that added nothing: the rows stay, and a pass that has all of them learned of no member
+-- a call that added nothing: the rows stay, and a pass that has all of them learned of no drawop
 abbrev pub AddsNothing : PassValue → PassValue → Type 0
 AddsNothing p q = KeepsRows p q × (IsWhole p → q.seen ≡ p.seen)
 
@@ -65,7 +65,7 @@ pub record IsSound (p : PassValue) : Type 0 where
 abbrev pub IsCaughtUp : PassValue → PassValue → Type 0
 IsCaughtUp p q = ((p.made < q.made) × (q.last_word ≡ length q.seen) × (q.last_found ≡ 0)) ⊎ (length q.seen ≡ q.cells)
 
--- a history of `cells` cells, which has no member, and the pass that owns all its rows
+-- a history of `cells` cells, which has no drawop, and the pass that owns all its rows
 pub record IsOpened (cells : ℕ) (h : HistoryValue) (p : PassValue) : Type 0 where
   pub pass : IsPassOf h p
   pub sound : IsSound p
@@ -82,7 +82,7 @@ pub record HearsMore (p q : PassValue) : Type 0 where
   pub grows : IsPrefix p.seen q.seen
   pub steps : q.steps ≡ p.steps
 
--- how many members more the pass has seen
+-- how many drawops more the pass has seen
 abbrev pub brought : PassValue → PassValue → ℕ
 brought p q = length q.seen - length p.seen
 
@@ -93,4 +93,4 @@ pub record ReadsOn (p q : PassValue) : Type 0 where
   pub grows : IsPrefix p.seen q.seen
   pub nothing : AddsNothing p q
   pub steps : q.made ≡ p.made + q.steps
-  pub few_steps : q.steps ≤ member_steps * brought p q + 1
+  pub few_steps : q.steps ≤ drawop_steps * brought p q + 1

@@ -8,7 +8,7 @@ use Rattle.wb_names.specs.Values.{DrawopValue}
 use Rattle.wb_codec.specs.Rows.{row}
 use Rattle.wb_codec.specs.Ranges.{IsDrawop}
 use Rattle.wb_history.specs.Lawful.{IsConsistent}
-use Rattle.wb_history.specs.Views.{HasAllRows, after_look, after_read, after_member, after_store, after_win, after_loss, after_confirm}
+use Rattle.wb_history.specs.Views.{HasAllRows, after_look, after_read, after_drawop, after_store, after_win, after_loss, after_confirm}
 
 -- what a seat knows, and its slots
 abbrev pub SeatState : Type 0
@@ -21,7 +21,7 @@ abbrev pub read_word : Step DrawopValue → SeatState → ℕ → SeatState → 
 read_word st m found m' = (m'.1 ≡ m.1) × (m'.0 ≡ after_read m.0 st.word found) × IsConsistent m'.0
 
 abbrev pub read_last : Step DrawopValue → SeatState → ℕ → SeatState → Type 0
-read_last st m found m' = (m'.1 ≡ m.1) × ((d : DrawopValue) × (row d ≡ m.0.read ++ found ∷ []) × IsDrawop d × (m'.0 ≡ after_member m.0 d st.word found)) × IsConsistent m'.0
+read_last st m found m' = (m'.1 ≡ m.1) × ((d : DrawopValue) × (row d ≡ m.0.read ++ found ∷ []) × IsDrawop d × (m'.0 ≡ after_drawop m.0 d st.word found)) × IsConsistent m'.0
 
 abbrev pub stored_word : Step DrawopValue → SeatState → ℕ → SeatState → Type 0
 stored_word st m n m' = (m'.1 ≡ m.1) × (m'.0 ≡ after_store m.0 st.word n) × IsConsistent m'.0

@@ -3,7 +3,7 @@ use Rattle.std.specs.Prelude.{◌≡◌, ℕ, ◌+◌, ◌-◌, ◌*◌, ◌≤�
 use Rattle.wb_names.specs.Values.{DrawopValue}
 use Rattle.wb_names.specs.History.{HoldsName, IsNewAt, IsAgainAt, IsClashAt}
 use Rattle.wb_names.specs.Arrivals.{Outcome, New, Again, Clash, Left}
-use Rattle.wb_history.specs.Sizes.{row_words, member_steps}
+use Rattle.wb_history.specs.Sizes.{row_words, drawop_steps}
 use Rattle.wb_history.specs.Passes.{PassValue, IsWhole, AddsNothing, IsCaughtUp, brought}
 use Rattle.wb_history.specs.declared.claim.Claim.{Claim}
 use Rattle.wb_history.specs.declared.claim.Claim.TheVariants.{Added, Present}
@@ -11,10 +11,10 @@ use Rattle.wb_history.specs.declared.claim.Claim.TheVariants as claims
 use Rattle.wb_history.specs.declared.claim.ClaimFault.{ClaimFault}
 use Rattle.wb_history.specs.declared.claim.ClaimFault.TheVariants.{NoRow, Memory}
 
--- d was new to the history before place i, and is its member i. The pass gained that place for one of its rows
+-- d was new to the history before place i, and is its drawop i. The pass gained that place for one of its rows
 pub record IsAdded (p : PassValue) (d : DrawopValue) (i : ℕ) (q : PassValue) : Type 0 where
   pub new : IsNewAt (take i q.seen) d i
-  pub member : slice_get q.seen i ≡ Some d
+  pub drawop : slice_get q.seen i ≡ Some d
   pub last : length q.seen ≡ i + 1
   pub later : length p.seen ≤ i
   pub gains : q.mine ≡ p.mine ++ i ∷ []
@@ -35,17 +35,17 @@ Becomes p d (Again i) q = IsAgainAt q.seen d i × AddsNothing p q
 Becomes p d (Clash i) q = IsClashAt q.seen d i × AddsNothing p q
 Becomes p d Left q = HasNoRow p d q
 
--- A member of others is read by one load of its cell, or a lost exchange, and a load of each word of its row. A drawop is added by a
+-- A drawop of others is read by one load of its cell, or a lost exchange, and a load of each word of its row. A drawop is added by a
 -- load that finds the end, a store of each word, and an exchange.
 abbrev pub most_steps : ℕ → ℕ
-most_steps others = member_steps * others + row_words + 2
+most_steps others = drawop_steps * others + row_words + 2
 
 -- how many steps on words it took, by what became of d
 abbrev pub OutcomeSteps : PassValue → PassValue → Outcome → Type 0
 OutcomeSteps p q (New i) = q.steps ≤ most_steps (i - length p.seen)
 OutcomeSteps p q (Again i) = q.steps ≤ most_steps (brought p q)
 OutcomeSteps p q (Clash i) = q.steps ≤ most_steps (brought p q)
-OutcomeSteps p q Left = q.steps ≤ member_steps * brought p q + 1
+OutcomeSteps p q Left = q.steps ≤ drawop_steps * brought p q + 1
 
 -- ---- a claim
 

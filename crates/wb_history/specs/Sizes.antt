@@ -7,6 +7,6 @@ pub use Rattle.wb_codec.specs.Rows.{row_words}
 abbrev pub row_stride : ℕ
 row_stride = 16
 
--- the steps that read one member: a load of its cell, and one of each word of its row
-abbrev pub member_steps : ℕ
-member_steps = row_words + 1
+-- the steps that read one drawop: a load of its cell, and one of each word of its row
+abbrev pub drawop_steps : ℕ
+drawop_steps = row_words + 1

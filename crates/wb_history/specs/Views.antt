@@ -23,8 +23,8 @@ after_look v word found = record v { looking = found; read = []; stored = []; ma
 abbrev pub after_read : Knowledge → ℕ → ℕ → Knowledge
 after_read v word found = record v { read = v.read ++ found ∷ []; made = v.made + 1; last_word = word; last_found = found }
 
-abbrev pub after_member : Knowledge → DrawopValue → ℕ → ℕ → Knowledge
-after_member v d word found = record v { seen = v.seen ++ d ∷ []; looking = 0; read = []; made = v.made + 1; last_word = word; last_found = found }
+abbrev pub after_drawop : Knowledge → DrawopValue → ℕ → ℕ → Knowledge
+after_drawop v d word found = record v { seen = v.seen ++ d ∷ []; looking = 0; read = []; made = v.made + 1; last_word = word; last_found = found }
 
 abbrev pub after_store : Knowledge → ℕ → ℕ → Knowledge
 after_store v word n = record v { stored = v.stored ++ n ∷ []; made = v.made + 1; last_word = word; last_found = n }
@@ -46,7 +46,7 @@ abbrev pub after_loss : Knowledge → ℕ → ℕ → Knowledge
 after_loss v word found = record v { looking = found; read = []; made = v.made + 1; last_word = word; last_found = found }
 
 -- the view w after all words of the row of d were read
-pub record IsMember (v : Knowledge) (d : DrawopValue) (w : Knowledge) : Type 0 where
+pub record IsRead (v : Knowledge) (d : DrawopValue) (w : Knowledge) : Type 0 where
   pub cells : w.cells ≡ v.cells
   pub seen : w.seen ≡ v.seen ++ d ∷ []
   pub mine : w.mine ≡ v.mine

@@ -3,7 +3,7 @@ ghost use Rattle.std.specs.Prelude.{◌≡◌};
 
 use thiserror::Error;
 
-/// The answer to a claim, with the place of the member that has the name.
+/// The answer to a claim, with the place of the drawop that has the name.
 #[derive(Clone, Copy, Debug, PartialEq, Eq)]
 pub enum Claim {
     /// The drawop was new, and stands at this place now.

@@ -1,6 +1,6 @@
 //! How a cursor claims a place for a drawop: its record goes into a free row, and then the next
-//! cells are tried one after another with that row, until one is won or names a member of its name.
-ghost use Rattle.wb_history.specs.Sizes.{row_words, member_steps};
+//! cells are tried one after another with that row, until one is won or names a drawop of its name.
+ghost use Rattle.wb_history.specs.Sizes.{row_words, drawop_steps};
 ghost use Rattle.std.specs.Prelude.{◌≡◌, ℕ, ◌+◌, ◌-◌, ◌*◌, ◌<◌, ◌≤◌, List, [], ◌∷◌, length, IsOk, MatchOption, MatchResult};
 ghost use mathlib.Core.Option.{some};
 ghost use lib.ListN.{get_elem?};
@@ -15,7 +15,7 @@ ghost use Rattle.wb_history.specs.declared.history.TheConstants.{MAX_CELLS};
 use crate::cells::CellTable;
 use crate::claim::{Claim, ClaimFault};
 use crate::cursor::Cursor;
-use crate::members::Members;
+use crate::seen::Seen;
 use crate::walk::{answer, answer_at};
 use std::alloc::AllocError;
 use wb_codec::ROW_WORDS;
@@ -23,7 +23,7 @@ use wb_names::Drawop;
 
 impl CellTable {
     /// Exchanges the next cell for the row, in which the record of the drawop stands. Or else reads
-    /// the member whose cell it is, and answers its place. Room for the drawop is made before, so
+    /// the drawop whose cell it is, and answers its place. Room for the drawop is made before, so
     /// that nothing can be refused after the exchange is won; it is put into the list and the index
     /// after, since every moment between the look at a cell and its exchange is one in which
     /// another thread may win the cell.
@@ -34,7 +34,7 @@ impl CellTable {
         drawop: &Drawop,
     ) -> Result<Option<usize>, AllocError>
         requires cursor { SitsAt self.now cursor.old.seat × MatchesSeat cursor.old ×
-            (cursor.old.steps ≤ member_steps * length cursor.old.seen.items + member_steps) }
+            (cursor.old.steps ≤ drawop_steps * length cursor.old.seen.items + drawop_steps) }
         requires row { get_elem? cursor.old.free.items (length cursor.old.free.items - 1) ≡
             some row }
         requires stored { cursor.old.seat.me.0.stored ≡ record_of drawop.now }
@@ -56,14 +56,14 @@ impl CellTable {
             cursor.free.take_last();
             return Ok(None);
         }
-        self.take_member(cursor, found)?;
+        self.take_drawop(cursor, found)?;
         Ok(Some(place))
     }
 
-    /// Exchanges the next cell for the row until it wins or a member has the name.
+    /// Exchanges the next cell for the row until it wins or a drawop of the history has the name.
     fn contend(&self, cursor: &mut Cursor, row: u32, drawop: &Drawop) -> Result<Claim, AllocError>
         requires cursor { SitsAt self.now cursor.old.seat × MatchesSeat cursor.old ×
-            (cursor.old.steps ≤ member_steps * length cursor.old.seen.items + member_steps) }
+            (cursor.old.steps ≤ drawop_steps * length cursor.old.seen.items + drawop_steps) }
         requires row { get_elem? cursor.old.free.items (length cursor.old.free.items - 1) ≡
             some row }
         requires stored { cursor.old.seat.me.0.stored ≡ record_of drawop.now }
@@ -83,7 +83,7 @@ impl CellTable {
     /// Stores the record of the drawop into the last free row.
     fn store(&self, cursor: &mut Cursor, row: u32, drawop: &Drawop)
         requires cursor { SitsAt self.now cursor.old.seat × MatchesSeat cursor.old ×
-            (cursor.old.steps ≤ member_steps * length cursor.old.seen.items + 1) }
+            (cursor.old.steps ≤ drawop_steps * length cursor.old.seen.items + 1) }
         requires row { get_elem? cursor.old.free.items (length cursor.old.free.items - 1) ≡
             some row }
         requires stored { cursor.old.seat.me.0.stored ≡ [] }
@@ -94,7 +94,7 @@ impl CellTable {
         cursor.steps += ROW_WORDS as u32;
     }
 
-    /// Publishes the row with the record of the drawop, unless a member has the name.
+    /// Publishes the row with the record of the drawop, unless one of the history has its name.
     fn publish_or_find(
         &self,
         cursor: &mut Cursor,
@@ -102,20 +102,20 @@ impl CellTable {
         drawop: &Drawop,
     ) -> Result<Claim, AllocError>
         requires cursor { SitsAt self.now cursor.old.seat × MatchesSeat cursor.old ×
-            (cursor.old.steps ≤ member_steps * length cursor.old.seen.items + 1) }
+            (cursor.old.steps ≤ drawop_steps * length cursor.old.seen.items + 1) }
         requires row { get_elem? cursor.old.free.items (length cursor.old.free.items - 1) ≡
             some row }
         requires stored { cursor.old.seat.me.0.stored ≡ [] }
         requires new { ¬ HoldsName cursor.old.seen.items drawop.now.name }
         ensures done { MatchResult result (Answered cursor.old drawop.now row_words cursor.new)
-            (λ _. (more : List DrawopValue) × (extra : ℕ) × (extra ≤ member_steps) ×
+            (λ _. (more : List DrawopValue) × (extra : ℕ) × (extra ≤ drawop_steps) ×
             Walked cursor.old more extra cursor.new) }
     {
         self.store(cursor, row, drawop);
         self.contend(cursor, row, drawop)
     }
 
-    /// Claims a place for the drawop: by the list, by the members that came since, and then with a
+    /// Claims a place for the drawop: by the list, by the drawops that came since, and then with a
     /// row. A row is looked for only once the end was found, so that a name that others added is
     /// answered without one.
     pub(crate) fn claim_with(
@@ -126,7 +126,7 @@ impl CellTable {
         requires cursor { SitsAt self.now cursor.old.seat × MatchesSeat cursor.old ×
             (cursor.old.steps ≡ 0) }
         ensures done { MatchResult result (λ c. (extra : ℕ) ×
-            (extra ≤ member_steps) × Answered cursor.old drawop.now extra cursor.new c)
+            (extra ≤ drawop_steps) × Answered cursor.old drawop.now extra cursor.new c)
             (Refused self.now.cells cursor.old drawop.now cursor.new) }
         ensures known { HoldsName cursor.old.seen.items drawop.now.name →
             IsOk result × (cursor.new ≡ cursor.old) }
@@ -149,13 +149,13 @@ impl CellTable {
     }
 }
 
-/// The answer to a claim of a drawop whose name one of these members has.
+/// The answer to a claim of a drawop whose name one of those that were seen has.
 #[tactic(auto, using(atomic_table::proofs::Lists::at_index, crate::proofs::Lists::at_same, crate::proofs::Words::get_is))]
-fn known(members: &Members, drawop: &Drawop) -> Option<Claim>
-    requires { length members.now.items ≤ MAX_CELLS }
-    ensures { MatchOption result (¬ HoldsName members.now.items drawop.now.name)
-        (λ c. TellsNamesake members.now.items drawop.now c) }
+fn known(seen: &Seen, drawop: &Drawop) -> Option<Claim>
+    requires { length seen.now.items ≤ MAX_CELLS }
+    ensures { MatchOption result (¬ HoldsName seen.now.items drawop.now.name)
+        (λ c. TellsNamesake seen.now.items drawop.now c) }
 {
-    let place = members.place_of(&drawop.name())?;
-    Some(answer(drawop, &members.as_slice()[place], place))
+    let place = seen.place_of(&drawop.name())?;
+    Some(answer(drawop, &seen.as_slice()[place], place))
 }

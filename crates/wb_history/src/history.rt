@@ -9,9 +9,9 @@ ghost use Rattle.wb_history.specs.declared.history.OpenFault.TheVariants as faul
 use crate::cells::CellTable;
 use crate::claim::{Claim, ClaimFault};
 use crate::cursor::Cursor;
-use crate::members::Members;
 use crate::pass::Pass;
 use crate::ranges::Rows;
+use crate::seen::Seen;
 use std::alloc::{AllocError, Global};
 use std::marker::Model;
 use thiserror::Error;
@@ -79,7 +79,7 @@ impl History {
         };
         let cursor = Cursor {
             seat,
-            seen: Members::new(alloc),
+            seen: Seen::new(alloc),
             mine: Vec::new(alloc),
             free,
             steps: 0,
@@ -92,10 +92,10 @@ impl History {
         Ok((History { cells: table }, pass))
     }
 
-    /// Adds a drawop at the next place, unless a member has its name: then it tells where, and
-    /// whether that member is the same drawop. A name that the pass has seen is answered without a
-    /// step and without memory. Otherwise the pass reads what came since; after a fault it may have
-    /// seen more, and nothing of this call stands in the history.
+    /// Adds a drawop at the next place, unless one of the history has its name: then it tells
+    /// where, and whether that is the same drawop. A name that the pass has seen is answered
+    /// without a step and without memory. Otherwise the pass reads what came since; after a fault
+    /// it may have seen more, and nothing of this call stands in the history.
     pub fn claim(&self, pass: &mut Pass, drawop: &Drawop) -> Result<Claim, ClaimFault>
         requires pass { IsPassOf self.now pass.old }
         ensures same { IsSamePass pass.old pass.new }

@@ -6,15 +6,15 @@ use wb_names::Drawop;
 pub struct Knowledge {
     /// The number of cells of the table, or 0 once the pass was joined to another.
     pub cells: u64,
-    /// The members of the history that were seen.
+    /// The drawops of the history that were seen.
     pub seen: LinkedList<Drawop>,
     /// The shorter of the two lists at the last join, until the next step.
     pub joined: LinkedList<Drawop>,
-    /// The places of the members that this pass added.
+    /// The places of the drawops that this pass added.
     pub mine: LinkedList<u64>,
     /// The rows that it owns and has not published. The last one is used next.
     pub free: LinkedList<u64>,
-    /// What the cell after the last member that was seen was found to hold.
+    /// What the cell after the last drawop that was seen was found to hold.
     pub looking: u64,
     /// The words read so far of the row that this cell names.
     pub read: LinkedList<u64>,

@@ -12,8 +12,8 @@ ghost use Rattle.wb_history.specs.declared.parts.SplitFault.TheVariants as fault
 use crate::cells::{CellTable, HistorySeat};
 use crate::cursor::Cursor;
 use crate::history::History;
-use crate::members::Members;
 use crate::pass::Pass;
+use crate::seen::Seen;
 use crate::spares::{another, keep};
 use std::alloc::{AllocError, Global};
 use std::marker::Brand;
@@ -120,7 +120,7 @@ impl CellTable {
     /// Makes two cursors one. The load of the first cell tells what the join of the seats does not:
     /// that the longer list begins with the shorter, and that no place was of both. The shorter
     /// comes back.
-    fn take_in(&self, cursor: &mut Cursor, other: Cursor) -> Members
+    fn take_in(&self, cursor: &mut Cursor, other: Cursor) -> Seen
         requires cursor { SitsAt self.now cursor.old.seat × MatchesSeat cursor.old }
         requires other { SitsAt self.now other.seat × MatchesSeat other }
         requires room { (vec_len cursor.old.mine + vec_len other.mine ≤

@@ -5,7 +5,7 @@ ghost use Rattle.wb_names.specs.History.{HoldsName};
 ghost use Rattle.wb_history.specs.Passes.{IsSound, IsWhole};
 
 use crate::cursor::Cursor;
-use crate::members::Members;
+use crate::seen::Seen;
 use std::marker::Model;
 use wb_names::{Drawop, Name};
 
@@ -20,7 +20,7 @@ use wb_names::{Drawop, Name};
 pub struct Pass {
     pub(crate) cursor: Cursor,
     /// Lists that joined passes brought back, each a front of its own.
-    pub(crate) spares: Vec<Members>,
+    pub(crate) spares: Vec<Seen>,
     pub(crate) cells: u32,
 }
 
@@ -64,9 +64,9 @@ impl Pass {
     pub fn at(&self, place: u32) -> Option<&Drawop>
         ensures { option_copied result ≡ slice_get self.now.seen place }
     {
-        let members = self.cursor.seen.as_slice();
-        if (place as usize) < members.len() {
-            Some(&members[place as usize])
+        let seen = self.cursor.seen.as_slice();
+        if (place as usize) < seen.len() {
+            Some(&seen[place as usize])
         } else {
             None
         }

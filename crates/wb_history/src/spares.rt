@@ -6,20 +6,20 @@ ghost use Rattle.wb_names.specs.Values.{DrawopValue};
 ghost use Rattle.wb_names.specs.History.{IsHistory};
 ghost use Rattle.wb_history.specs.Indexed.{AreFronts};
 
-use crate::members::Members;
+use crate::seen::Seen;
 use std::alloc::AllocError;
 
 /// How many lists a pass keeps: as many as a batch has workers.
 const MOST: usize = 8;
 
-/// How many members the lists have together, at most, when one more is kept. A member takes some
+/// How many drawops the lists have together, at most, when one more is kept. A drawop takes some
 /// 150 bytes with its name in the index, so that all lists that are kept take about 40 MB: eight of
-/// 32,768 members, or four of all.
-const MOST_MEMBERS: usize = 262_144;
+/// 32,768 drawops, or four of all.
+const MOST_DRAWOPS: usize = 262_144;
 
-/// Another list of the members that were seen: a spare one with what came since, or a copy if there
+/// Another list of the drawops that were seen: a spare one with what came since, or a copy if there
 /// is none. After a fault the spare is gone.
-pub(crate) fn another(spares: &mut Vec<Members>, seen: &Members) -> Result<Members, AllocError>
+pub(crate) fn another(spares: &mut Vec<Seen>, seen: &Seen) -> Result<Seen, AllocError>
     requires spares { AreFronts spares.old.items seen.now.items }
     requires once { IsHistory seen.now.items }
     ensures list { IfOk result (λ list. list.items ≡ seen.now.items) }
@@ -34,12 +34,12 @@ pub(crate) fn another(spares: &mut Vec<Members>, seen: &Members) -> Result<Membe
 }
 
 /// Keeps a list for a later split, while there are few and memory lasts. Otherwise it goes. So many
-/// members were seen, and no list that is kept has more.
-pub(crate) fn keep(spares: &mut Vec<Members>, list: Members, seen: usize)
+/// drawops were seen, and no list that is kept has more.
+pub(crate) fn keep(spares: &mut Vec<Seen>, list: Seen, seen: usize)
     ensures { (seen : List DrawopValue) → AreFronts spares.old.items seen →
         IsPrefix list.items seen → AreFronts spares.new.items seen }
 {
-    if spares.len() < MOST && seen <= MOST_MEMBERS / (spares.len() + 1) {
+    if spares.len() < MOST && seen <= MOST_DRAWOPS / (spares.len() + 1) {
         let _kept = spares.push(list);
     }
 }

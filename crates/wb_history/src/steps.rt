@@ -11,7 +11,7 @@ ghost use Rattle.wb_names.specs.History.{HoldsName};
 ghost use Rattle.wb_codec.specs.Rows.{row as record_of};
 ghost use Rattle.wb_codec.specs.Ranges.{IsDrawop};
 ghost use Rattle.wb_history.specs.Seats.{SitsAt, SameSeat};
-ghost use Rattle.wb_history.specs.Views.{IsMember, IsStored, left_part, right_part, united};
+ghost use Rattle.wb_history.specs.Views.{IsRead, IsStored, left_part, right_part, united};
 
 use crate::cells::{CellTable, HistorySeat, ROW_STRIDE};
 use crate::rule::{Confirm, Cut, Look, Portion, Publish, ReadLast, ReadWord, StoreWord, Unite};
@@ -47,7 +47,7 @@ impl CellTable {
         requires row { (row < self.now.cells) × (seat.old.me.0.looking ≡ row + 1) ×
             (seat.old.me.0.read ≡ []) }
         ensures seat { SameSeat seat.old seat.new }
-        ensures member { IsMember seat.old.me.0 result seat.new.me.0 × IsDrawop result ×
+        ensures drawop { IsRead seat.old.me.0 result seat.new.me.0 × IsDrawop result ×
             IsConsistent seat.new.me.0 }
     {
         let start = self.row_start(row);

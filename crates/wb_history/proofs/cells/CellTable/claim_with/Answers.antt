@@ -1,5 +1,5 @@
 use Rattle.std.proofs.lemmas.Grind.{common_steps}
-use Rattle.wb_history.specs.Sizes.{row_words, member_steps}
+use Rattle.wb_history.specs.Sizes.{row_words, drawop_steps}
 use Rattle.std.proofs.Common.{◌+◌, ◌++◌, arith, subst, Option}
 use Rattle.wb_history.specs.declared.claim.Claim.{Claim}
 use Rattle.wb_history.specs.Cursors.{Sought}
@@ -15,7 +15,7 @@ returns-in-Ok-clause-done c =
     let s = subst (λ (o : Option Claim). Sought c.args.self.now.cells c.args.cursor.now c.args.drawop.now c.seek.new.cursor o) c.in-Ok-None.field-0-is c.in-Ok-None.ensures.done in
     let some_free = at-lt c.seek.new.cursor.free.items _ _ c.in-Some-last.ensures in
     let e = free_end c.args.self.now c.args.cursor.now s.0 c.seek.new.cursor c.requires.cursor.0 s.1 (omega arith) in
-    (member_steps, (omega arith), answer_on c.args.cursor.now s.0 c.args.drawop.now 1 row_words c.seek.new.cursor c.publish_or_find.new.cursor c.in-Ok.claim c.requires.cursor.1 e.0 c.in-Ok.ensures.done)
+    (drawop_steps, (omega arith), answer_on c.args.cursor.now s.0 c.args.drawop.now 1 row_words c.seek.new.cursor c.publish_or_find.new.cursor c.in-Ok.claim c.requires.cursor.1 e.0 c.in-Ok.ensures.done)
 
 pub returns-in-Err-publish_or_find-clause-done : goal.returns-in-Err-publish_or_find-clause-done
 returns-in-Err-publish_or_find-clause-done c =

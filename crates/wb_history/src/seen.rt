@@ -1,4 +1,4 @@
-//! The members of a history that a pass has seen, with an index of their names.
+//! The drawops of a history that a pass has seen, with an index of their names.
 ghost use Rattle.std.specs.Prelude.{◌≡◌, ◌+◌, ◌<◌, ◌≤◌, [], ◌∷◌, ◌++◌, length, IfOk, OnOk, MatchOption};
 ghost use mathlib.Core.List.{IsPrefix};
 ghost use mathlib.Core.Option.{some};
@@ -11,30 +11,30 @@ use std::alloc::{AllocError, Global};
 use std::marker::Model;
 use wb_names::{Drawop, Name};
 
-/// Members of a history in order of place. Their names stand in an index in the same order, so that
+/// Drawops of a history in order of place. Their names stand in an index in the same order, so that
 /// one look-up tells a place.
 #[derive(Drop)]
-pub(crate) struct Members {
+pub(crate) struct Seen {
     list: Vec<Drawop>,
     names: IndexSet<Name>,
 }
 
-impl Model for Members {
-    ghost use Rattle.wb_history.specs.Indexed.{MembersValue, IsIndexed, members_of};
+impl Model for Seen {
+    ghost use Rattle.wb_history.specs.Indexed.{SeenValue, IsIndexed, seen_of};
 
-    ghost Value = { MembersValue };
+    ghost Value = { SeenValue };
 
-    ghost view = { λ m. members_of m };
+    ghost view = { λ m. seen_of m };
 
     ghost invariant = { λ m. IsIndexed m };
 }
 
-impl Members {
-    /// No members.
-    pub(crate) fn new(alloc: Global) -> Members
+impl Seen {
+    /// No drawops.
+    pub(crate) fn new(alloc: Global) -> Seen
         ensures { result.items ≡ [] }
     {
-        Members {
+        Seen {
             list: Vec::new(alloc),
             names: IndexSet::new(alloc),
         }
@@ -56,7 +56,7 @@ impl Members {
         self.list.as_slice()
     }
 
-    /// The place of the member with this name.
+    /// The place of the drawop with this name.
     #[tactic(auto, using(crate::proofs::Names::place_found))]
     pub(crate) fn place_of(&self, name: &Name) -> Option<usize>
         ensures { MatchOption result (¬ HoldsName self.now.items name.now)
@@ -66,7 +66,7 @@ impl Members {
         self.names.get_index_of(name)
     }
 
-    /// Makes room for `more` members, in the list and in the index.
+    /// Makes room for `more` drawops, in the list and in the index.
     pub(crate) fn reserve(&mut self, more: usize) -> Result<(), AllocError>
         ensures items { self.new.items ≡ self.old.items }
         ensures room { OnOk result (more ≤ self.new.room) }
@@ -75,7 +75,7 @@ impl Members {
         self.names.reserve(more)
     }
 
-    /// Puts a member at the end.
+    /// Puts a drawop at the end.
     pub(crate) fn put(&mut self, drawop: &Drawop)
         requires room { 0 < self.old.room }
         requires new { ¬ HoldsName self.old.items drawop.now.name }
@@ -100,11 +100,11 @@ impl Members {
         }
     }
 
-    /// The same members again. The copied index keeps the hashes that it has.
-    pub(crate) fn copied(&self) -> Result<Members, AllocError>
+    /// The same drawops again. The copied index keeps the hashes that it has.
+    pub(crate) fn copied(&self) -> Result<Seen, AllocError>
         ensures { IfOk result (λ copy. copy.items ≡ self.now.items) }
     {
-        Ok(Members {
+        Ok(Seen {
             list: self.list.clone()?,
             names: self.names.clone()?,
         })
