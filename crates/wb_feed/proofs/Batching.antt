@@ -23,7 +23,7 @@ use Rattle.wb_feed.specs.Marks.{unmarked, Marks, told_at, told_outcomes, AreOnce
 use Rattle.wb_feed.specs.Served.{Spot, is_left, entries, accepted_at, offered, told_of, OffersRight, times_offered, Serves}
 use Rattle.wb_board.proofs.InOrder.{one_run}
 use Rattle.wb_feed.proofs.Log.{is_taken, chosen, taken_or_left, tally-append, left_many, AreAnswered, Gathers, gathers_none, gathers_run, runs_empty, runs_sound}
-use Rattle.wb_feed.proofs.Members.{nothing, at_named}
+use Rattle.wb_feed.proofs.Drawops.{nothing, at_named}
 use Rattle.wb_feed.proofs.Numbers.{times}
 use Rattle.wb_feed.proofs.OneThread.{counted_as, same_counts}
 use Rattle.wb_feed.proofs.OneWorker.{in_given_order}

@@ -5,7 +5,7 @@ use Rattle.wb_names.specs.History.{IsHistory}
 use Rattle.wb_names.specs.Arrivals.{Outcome, New, Again, Clash, Left, IsTaken, history_with, AreTaken}
 use Rattle.wb_board.specs.Desks.{PassValue, IsSound, IsWhole}
 use Rattle.wb_feed.specs.Accepts.{Entry, Accepts, drawops, outcomes, Runs}
-use Rattle.wb_feed.proofs.Members.{history_mid}
+use Rattle.wb_feed.proofs.Drawops.{history_mid}
 use Rattle.wb_feed.proofs.Log.{accept_leaves, leaves_whole}
 
 -- what was there already, or is left

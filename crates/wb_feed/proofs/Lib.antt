@@ -1,6 +1,6 @@
 pub mod Prefixes
 pub mod Numbers
-pub mod Members
+pub mod Drawops
 pub mod Log
 pub mod OneThread
 pub mod WholeDesks

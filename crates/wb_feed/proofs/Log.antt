@@ -155,7 +155,7 @@ leaves_rows p q d o none zero k a says = record {
 }
 
 pub accept_leaves : (p q : PassValue) (d : DrawopValue) (o : Outcome) → Accepts p d o q → Leaves p ((d, o) ∷ []) q
-accept_leaves p q d (New i) a = record { kept = a.kept; mine = a.becomes.gains; free = a.becomes.row; answered = (a.becomes.member, tt) }
+accept_leaves p q d (New i) a = record { kept = a.kept; mine = a.becomes.gains; free = a.becomes.row; answered = (a.becomes.drawop, tt) }
 accept_leaves p q d (Again i) a = leaves_rows p q d (Again i) refl refl a.kept a.becomes.1 a.becomes.0
 accept_leaves p q d (Clash i) a = leaves_rows p q d (Clash i) refl refl a.kept a.becomes.1 a.becomes.0
 accept_leaves p q d Left a = leaves_rows p q d Left refl refl a.kept a.becomes.kept tt

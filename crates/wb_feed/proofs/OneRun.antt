@@ -26,7 +26,7 @@ use Rattle.wb_feed.specs.Calls.{answered, answered_of, answered_by, answered_wor
 use Rattle.wb_feed.specs.Served.{Spot, entries}
 use Rattle.wb_feed.specs.Workers.{Workers, nobody, worker, Work}
 use Rattle.wb_feed.proofs.Log.{is_taken, chosen, place, places, places-append, runs_leave, Gathers, gathers_none, gathers_run, moved_drawops, tally_moved, taken_tally}
-use Rattle.wb_feed.proofs.Members.{nothing}
+use Rattle.wb_feed.proofs.Drawops.{nothing}
 use Rattle.wb_feed.proofs.Numbers.{times, times-append, once_under, once_past}
 use Rattle.wb_feed.proofs.OneThread.{Lacks, takes_none, both_batches, counted_as, same_counts, plus}
 use Rattle.wb_feed.proofs.Placing.{workers_gather}
@@ -54,17 +54,17 @@ one_answered : (h : List DrawopValue) (k caller : ℕ) (e : Entry) (p r : PassVa
 one_answered h k caller (d, New i) p r a le g =
     let b = a.becomes in
     let answer = subst (λ (l : List DrawopValue). IsNewAt l d i) (sym (take_within r.seen h i g (omega (arith, b.last)))) b.new in
-    let since : IsAnsweredSince h k (answered caller d (replies.New i) i) = record { since = omega (arith, le, b.later); within = omega (arith, b.last, prefix_length r.seen h g); answer = answer; member = prefix_get r.seen h i d g b.member } in
+    let since : IsAnsweredSince h k (answered caller d (replies.New i) i) = record { since = omega (arith, le, b.later); within = omega (arith, b.last, prefix_length r.seen h g); answer = answer; new = prefix_get r.seen h i d g b.drawop } in
     single (IsOne h k (λ c. c ≡ caller)) (answered caller d (replies.New i) i) (record { since = since; by = refl; drawop = d; reply = replies.New i; call = refl; answer = refl })
 one_answered h k caller (d, Again i) p r a le g =
     let n = length r.seen in
     let answer = subst (λ (l : List DrawopValue). IsAgainAt l d i) (sym (prefix_take r.seen h g)) a.becomes.0 in
-    let since : IsAnsweredSince h k (answered caller d (replies.Again i) n) = record { since = omega (arith, le, prefix_length p.seen r.seen a.kept.seen); within = prefix_length r.seen h g; answer = answer; member = tt } in
+    let since : IsAnsweredSince h k (answered caller d (replies.Again i) n) = record { since = omega (arith, le, prefix_length p.seen r.seen a.kept.seen); within = prefix_length r.seen h g; answer = answer; new = tt } in
     single (IsOne h k (λ c. c ≡ caller)) (answered caller d (replies.Again i) n) (record { since = since; by = refl; drawop = d; reply = replies.Again i; call = refl; answer = refl })
 one_answered h k caller (d, Clash i) p r a le g =
     let n = length r.seen in
     let answer = subst (λ (l : List DrawopValue). IsClashAt l d i) (sym (prefix_take r.seen h g)) a.becomes.0 in
-    let since : IsAnsweredSince h k (answered caller d (replies.Clash i) n) = record { since = omega (arith, le, prefix_length p.seen r.seen a.kept.seen); within = prefix_length r.seen h g; answer = answer; member = tt } in
+    let since : IsAnsweredSince h k (answered caller d (replies.Clash i) n) = record { since = omega (arith, le, prefix_length p.seen r.seen a.kept.seen); within = prefix_length r.seen h g; answer = answer; new = tt } in
     single (IsOne h k (λ c. c ≡ caller)) (answered caller d (replies.Clash i) n) (record { since = since; by = refl; drawop = d; reply = replies.Clash i; call = refl; answer = refl })
 one_answered h k caller (d, Left) p r a le g = All-nil (IsOne h k (λ c. c ≡ caller))
 
@@ -154,7 +154,7 @@ outcome_in answer = Left
 abbrev entry : Answered → Entry
 entry t = (drawop_in t.step.call, outcome_in t.step.answer)
 
--- the members among what was answered are the places of these entries, and the replies are those to what was taken
+-- the drawops among what was answered are the places of these entries, and the replies are those to what was taken
 record Answers (es : List Entry) (ts : List Answered) : Type 0 where
   many : (i : ℕ) → length (filter (is_new_at i) ts) ≡ times i (places es)
   taken : map entry ts ≡ chosen is_taken es

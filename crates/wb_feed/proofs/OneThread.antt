@@ -7,7 +7,7 @@ use Rattle.wb_names.specs.Arrivals.{Outcome, New, Again, Clash, Left, Counts, co
 pub same_counts : {f f' g g' c c' l l' : ℕ} → f ≡ f' → g ≡ g' → c ≡ c' → l ≡ l' → counts f g c l ≡ counts f' g' c' l'
 same_counts p q r s = λ i. counts (p i) (q i) (r i) (s i)
 
--- no member has one of these names
+-- no drawop has one of these names
 abbrev pub Lacks : List DrawopValue → List DrawopValue → Type 0
 Lacks h [] = Unit {0}
 Lacks h (d ∷ ds) = (HoldsName h d.name → ⊥) × Lacks h ds

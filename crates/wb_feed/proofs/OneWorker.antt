@@ -12,7 +12,7 @@ use Rattle.wb_feed.proofs.Log.{chosen, AreAnswered, runs_leave, leaves_whole, ru
 use Rattle.wb_feed.proofs.WholeDesks.{left_lacks}
 use Rattle.wb_feed.proofs.OneThread.{Lacks, both_batches, counted_as, same_counts, plus, zero_plus}
 use Rattle.wb_feed.proofs.InOrder.{in_order}
-use Rattle.wb_feed.proofs.Members.{at_named}
+use Rattle.wb_feed.proofs.Drawops.{at_named}
 use Rattle.wb_feed.specs.declared.channel.Message.{Message}
 use Rattle.wb_feed.specs.Channel.{once_below}
 use Rattle.wb_feed.specs.Served.{Spot, is_left, entries, accepted_at, offered, OffersRight, times_offered, Rises, Serves}

@@ -14,7 +14,7 @@ use Rattle.wb_feed.specs.Accepts.{drawops}
 use Rattle.wb_feed.proofs.Prefixes.{prefix_get}
 use Rattle.wb_feed.proofs.Numbers.{times, times-append, times_apart, test_same, once_under, once_past, IsPermutation-times, times-range}
 use Rattle.std.proofs.Math.Seq.{get_or-append_seam}
-use Rattle.wb_feed.proofs.Members.{nothing, map_range}
+use Rattle.wb_feed.proofs.Drawops.{nothing, map_range}
 use Rattle.wb_feed.proofs.Log.{is_taken, chosen, Gathers, gathers_none, gathers_level}
 use Rattle.wb_feed.proofs.OneThread.{zero_plus}
 use Rattle.wb_feed.specs.declared.channel.Message.{Message}

@@ -11,7 +11,7 @@ use Rattle.wb_feed.specs.Accepts.{Loses, LosesAtMost}
 use Rattle.wb_feed.specs.declared.channel.ChannelView.{ChannelView}
 use Rattle.wb_feed.specs.declared.sender.Feeding.{Feeding}
 use Rattle.wb_feed.specs.declared.worker.Told.{Told}
-use Rattle.wb_feed.specs.declared.worker.Done.{Done}
+use Rattle.wb_feed.specs.declared.worker.GivenBack.{GivenBack}
 use Rattle.wb_feed.specs.declared.workers.WorkFault.{WorkFault}
 use Rattle.wb_feed.specs.declared.workers.WorkFault.TheVariants.{Start, Memory}
 use Rattle.wb_feed.specs.Channel.{channel_view}
@@ -47,7 +47,7 @@ back_loses n m p rest back q desk done s l d b =
 dropped : (n m : ℕ) (p rest back q desk : PassValue) → IsSplit p n rest desk → Loses m rest back → q ≡ back → Loses (n + m) p q
 dropped n m p rest back q desk s l e = lost_both n m p rest q (split_loses n p rest desk s) (subst (λ (x : PassValue). Loses m rest x) (sym e) l)
 
-pub several_kept : (rows n m : ℕ) (p rest back q desk : PassValue) (d : Done) (j : ChannelView) (others r : Result Told WorkFault) → m ≡ suc n → IsSplit p rows rest desk → Served desk d.desk j d.told.replies.items d.failed
+pub several_kept : (rows n m : ℕ) (p rest back q desk : PassValue) (d : GivenBack) (j : ChannelView) (others r : Result Told WorkFault) → m ≡ suc n → IsSplit p rows rest desk → Served desk d.desk j d.told.replies.items d.failed
     → MayLose (rows * n) rest others back → TakesBack back rows d others q r → MayLose (rows * m) p r q
 several_kept rows n m p rest back q desk d j others (Ok all) next s w l t =
     let none : lost_in others ≡ 0 = ap lost_in t.3 in
@@ -98,13 +98,13 @@ fed_within gives most ended f f' g' g v w a b o r cut h back ok start = record {
   untouched = λ e. h.untouched (start e);
 }
 
-pub several_fed : {A : Type 0} (gives : A → List DrawopValue → A → Type 0) (most : A → ℕ) (ended : A → Bool) (f f' g' g : Feeding) (v w : ChannelView) (a b : A) (p q : PassValue) (rows : ℕ) (d : Done) (others r : Result Told WorkFault)
+pub several_fed : {A : Type 0} (gives : A → List DrawopValue → A → Type 0) (most : A → ℕ) (ended : A → Bool) (f f' g' g : Feeding) (v w : ChannelView) (a b : A) (p q : PassValue) (rows : ℕ) (d : GivenBack) (others r : Result Told WorkFault)
     → IsWith f v f' → HasFed gives most ended f' a g' b others → IsWith g' w g → TakesBack p rows d others q r → HasFed gives most ended f a g b r
 several_fed gives most ended f f' g' g v w a b p q rows d others (Ok all) cut h back t = fed_within gives most ended f f' g' g v w a b others (Ok all) cut h back (subst (λ o. OnOk o (ended b ≡ true)) t.3 h.ended) (λ e. absurd (cc (e)))
 several_fed gives most ended f f' g' g v w a b p q rows d others (Err Start) cut h back t = fed_within gives most ended f f' g' g v w a b others (Err Start) cut h back tt (λ e. t.0)
 several_fed gives most ended f f' g' g v w a b p q rows d others (Err (Memory lost)) cut h back t = fed_within gives most ended f f' g' g v w a b others (Err (Memory lost)) cut h back tt (λ e. absurd (cc (e)))
 
-pub one_fed : {A : Type 0} (gives : A → List DrawopValue → A → Type 0) (most : A → ℕ) (ended : A → Bool) (f f' g' g : Feeding) (v w : ChannelView) (a b : A) (q : PassValue) (d : Done) (fed r : Result Told WorkFault)
+pub one_fed : {A : Type 0} (gives : A → List DrawopValue → A → Type 0) (most : A → ℕ) (ended : A → Bool) (f f' g' g : Feeding) (v w : ChannelView) (a b : A) (q : PassValue) (d : GivenBack) (fed r : Result Told WorkFault)
     → IsWith f v f' → HasFed gives most ended f' a g' b fed → IsWith g' w g → ComesBack d fed q r → HasFed gives most ended f a g b r
 one_fed gives most ended f f' g' g v w a b q d fed (Ok all) cut h back t = fed_within gives most ended f f' g' g v w a b fed (Ok all) cut h back (subst (λ o. OnOk o (ended b ≡ true)) t.4 h.ended) (λ e. absurd (cc (e)))
 one_fed gives most ended f f' g' g v w a b q d fed (Err Start) cut h back t = fed_within gives most ended f f' g' g v w a b fed (Err Start) cut h back tt (λ e. t.1)
@@ -122,7 +122,7 @@ nobody_worked rows n p g h told none parts got t = record {
   tells = t;
 }
 
-pub several_worked : (rows n m : ℕ) (p rest back q desk : PassValue) (d : Done) (f f' g' g : Feeding) (others r : Result Told WorkFault) → m ≡ suc n → 1 < (view f.pass).parts → IsSplit p rows rest desk
+pub several_worked : (rows n m : ℕ) (p rest back q desk : PassValue) (d : GivenBack) (f f' g' g : Feeding) (others r : Result Told WorkFault) → m ≡ suc n → 1 < (view f.pass).parts → IsSplit p rows rest desk
     → IsWith f (channel_view ((view f.pass).parts - 1) (view f.pass).sends (view f.pass).sent (view f.pass).got) f' → Served desk d.desk (view d.pass) d.told.replies.items d.failed
     → IfOk others (λ told. Worked (λ log gots. Workers rows n rest log gots back) (view f'.pass) (view g'.pass) told.replies.items) → IsMerged g' (view d.pass) g → TakesBack back rows d others q r
     → IfOk r (λ told. Worked (λ log gots. Workers rows m p log gots q) (view f.pass) (view g.pass) told.replies.items)
@@ -140,17 +140,17 @@ several_worked rows n m p rest back q desk d f f' g' g others (Ok all) next some
       tells = t.4 ∙ (ap₂ (λ a b. a ++ b) k.tells o.tells ∙ sym (flat_map-append (λ (s : Spot). noted s.0 s.1.1) k.log o.log));
     }
 
-pub one_kept : (p q : PassValue) (d : Done) (j : ChannelView) (fed r : Result Told WorkFault) → Served p d.desk j d.told.replies.items d.failed → lost_in fed ≡ 0 → ComesBack d fed q r → MayLose 0 p r q
+pub one_kept : (p q : PassValue) (d : GivenBack) (j : ChannelView) (fed r : Result Told WorkFault) → Served p d.desk j d.told.replies.items d.failed → lost_in fed ≡ 0 → ComesBack d fed q r → MayLose 0 p r q
 one_kept p q d j fed (Ok all) s none t = kept_whole 0 p q (Ok all) refl (subst (λ (x : PassValue). LosesAtMost 0 p x) (sym t.0) s.kept)
 one_kept p q d j fed (Err Start) s none t = kept_whole 0 p q (Err Start) refl (subst (λ (x : PassValue). LosesAtMost 0 p x) (sym t.0) s.kept)
 one_kept p q d j fed (Err (Memory lost)) s none t = kept_whole 0 p q (Err (Memory lost)) (t.1 ∙ none) (subst (λ (x : PassValue). LosesAtMost 0 p x) (sym t.0) s.kept)
 
 -- a worker whose thread was refused did nothing that counts
-pub refused_worked : (P : Told → Type 0) (d : Done) (q : PassValue) (f : WorkFault) (r : Result Told WorkFault) → ComesBack d (Err f) q r → IfOk r P
+pub refused_worked : (P : Told → Type 0) (d : GivenBack) (q : PassValue) (f : WorkFault) (r : Result Told WorkFault) → ComesBack d (Err f) q r → IfOk r P
 refused_worked P d q f (Ok all) t = absurd (cc (t.4))
 refused_worked P d q f (Err e) t = tt
 
-pub refused_back : (P : Told → Type 0) (p : PassValue) (rows : ℕ) (d : Done) (q : PassValue) (f : WorkFault) (r : Result Told WorkFault) → TakesBack p rows d (Err f) q r → IfOk r P
+pub refused_back : (P : Told → Type 0) (p : PassValue) (rows : ℕ) (d : GivenBack) (q : PassValue) (f : WorkFault) (r : Result Told WorkFault) → TakesBack p rows d (Err f) q r → IfOk r P
 refused_back P p rows d q f (Ok all) t = absurd (cc (t.3))
 refused_back P p rows d q f (Err e) t = tt
 

@@ -16,7 +16,7 @@ use Rattle.wb_feed.proofs.Log.{keeps_is}
 use Rattle.wb_feed.proofs.Prefixes.{prefix_get}
 
 stands : (p q : PassValue) (d : DrawopValue) (r : Reply) → Accepted p d q r → StandsAt q.seen d r
-stands p q d (New i) a = a.member
+stands p q d (New i) a = a.drawop
 stands p q d (Again i) a = a.0
 stands p q d (Clash i) a = a.0
 

@@ -14,11 +14,11 @@ use Rattle.wb_feed.specs.Served.{Spot, entries}
 use Rattle.wb_feed.specs.Workers.{Workers, nobody, worker, Work}
 use Rattle.wb_feed.specs.Batches.{IsShared}
 
--- the caller was given this reply to d when the history had `point` members
+-- the caller was given this reply to d when the history had `point` drawops
 abbrev pub answered : ℕ → DrawopValue → Reply → ℕ → Answered
 answered caller d reply point = record { step = record { caller = caller; call = Accept d; answer = Replied reply }; point = point }
 
--- one accept: a new drawop is answered at its place, another at the `seen` members of the desk, and what was left not at all
+-- one accept: a new drawop is answered at its place, another at the `seen` drawops of the desk, and what was left not at all
 abbrev pub answered_of : ℕ → Entry → ℕ → List Answered
 answered_of caller (d, New i) seen = answered caller d (replies.New i) i ∷ []
 answered_of caller (d, Again i) seen = answered caller d (replies.Again i) seen ∷ []

@@ -10,7 +10,7 @@ use Rattle.wb_board.specs.declared.reply.Reply.TheVariants.{New, Again, Clash}
 use Rattle.wb_feed.specs.declared.relays.RelayFault.{RelayFault}
 use Rattle.wb_feed.specs.declared.relays.RelayFault.TheVariants.{NoRow, Memory}
 
--- the member at the place of the reply is the drawop, or after a clash another one of its name
+-- the history has the drawop at the place of the reply, or after a clash another one of its name
 abbrev pub StandsAt : List DrawopValue → DrawopValue → Reply → Type 0
 StandsAt history d (New i) = IsAgainAt history d i
 StandsAt history d (Again i) = IsAgainAt history d i

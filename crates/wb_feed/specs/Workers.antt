@@ -6,7 +6,7 @@ use Rattle.wb_board.specs.declared.reply.Reply.{Reply}
 use Rattle.wb_feed.specs.declared.channel.Message.{Message}
 use Rattle.wb_feed.specs.declared.channel.ChannelView.{ChannelView}
 use Rattle.wb_feed.specs.declared.sender.Feeding.{Feeding}
-use Rattle.wb_feed.specs.declared.worker.Done.{Done}
+use Rattle.wb_feed.specs.declared.worker.GivenBack.{GivenBack}
 use Rattle.wb_feed.specs.declared.worker.Told.{Told}
 use Rattle.wb_feed.specs.declared.workers.WorkFault.{WorkFault}
 use Rattle.wb_feed.specs.declared.workers.WorkFault.TheVariants.{Start, Memory}
@@ -61,13 +61,13 @@ pub record MayLose {X : Type 0} (out : ℕ) (p : PassValue) (r : Result X WorkFa
 
 -- The desk p took back a worker's, and is q; or an allocation failed, and the rows of the worker are lost. others is what the others
 -- were told, and the last what all were
-abbrev pub TakesBack : PassValue → ℕ → Done → Result Told WorkFault → PassValue → Result Told WorkFault → Type 0
+abbrev pub TakesBack : PassValue → ℕ → GivenBack → Result Told WorkFault → PassValue → Result Told WorkFault → Type 0
 TakesBack p rows d others q (Ok all) = (d.failed ≡ false) × IsBack p d.desk q × (o : Told) × (others ≡ Ok o) × (all.replies.items ≡ d.told.replies.items ++ o.replies.items)
 TakesBack p rows d others q (Err Start) = (others ≡ Err Start) × IsBack p d.desk q
 TakesBack p rows d others q (Err (Memory lost)) = (IsBack p d.desk q × (lost ≡ lost_in others)) ⊎ ((q ≡ p) × (lost ≡ rows + lost_in others))
 
 -- the desk of the one worker comes back as q; fed is what feeding it answered, and the last has the replies to the worker
-abbrev pub ComesBack : Done → Result Told WorkFault → PassValue → Result Told WorkFault → Type 0
+abbrev pub ComesBack : GivenBack → Result Told WorkFault → PassValue → Result Told WorkFault → Type 0
 ComesBack d fed q (Ok all) = (q ≡ d.desk) × (d.failed ≡ false) × (all ≡ d.told) × (o : Told) × (fed ≡ Ok o)
 ComesBack d fed q (Err Start) = (q ≡ d.desk) × (fed ≡ Err Start)
 ComesBack d fed q (Err (Memory lost)) = (q ≡ d.desk) × (lost ≡ lost_in fed)

@@ -9,9 +9,9 @@ ghost use Rattle.wb_feed.specs.Workers.{HasWorked, MayLose, ComesBack};
 
 use crate::arrivals::Arrivals;
 use crate::gate::Gate;
-use crate::place::Place;
 use crate::sender::Feeding;
-use crate::worker::{Done, Told, serve};
+use crate::shared::Shared;
+use crate::worker::{GivenBack, Told, serve};
 use crate::workers::{WorkFault, WorkerServes, feed_all};
 use std::mem::replace;
 use std::snapshot::Snapshot;
@@ -22,14 +22,14 @@ use wb_board::{Board, Desk};
 /// The desk that a worker's thread gives back, and the replies to the worker.
 fn give_back(
     feeding: &mut Feeding,
-    done: Done,
+    done: GivenBack,
     fed: Result<Told, WorkFault>,
 ) -> (Desk, Result<Told, WorkFault>)
     requires seat { IsSeatAt (sends_on feeding.old.channel) done.pass }
     ensures pass { IsMerged feeding.old (view done.pass) feeding.new }
     ensures back { ComesBack done fed result.0 result.1 }
 {
-    let Done {
+    let GivenBack {
         desk,
         pass,
         told,
@@ -48,13 +48,13 @@ fn give_back(
 /// back.
 fn work_with<'s, 'e: 's, R: Threads + Wait + Sync, S: Arrivals, G: Gate + Sync>(
     scope: &'s Scope<'s, &'e ()>,
-    place: Place<'e, R, G>,
+    shared: Shared<'e, R, G>,
     desk: Desk,
     feeding: &mut Feeding,
     arrivals: &mut S,
 ) -> (Desk, Result<Told, WorkFault>)
-    requires desk { IsPassOf place.board.now desk }
-    requires channel { receives_on place.end.now ≡ sends_on feeding.old.channel }
+    requires desk { IsPassOf shared.board.now desk }
+    requires channel { receives_on shared.end.now ≡ sends_on feeding.old.channel }
     requires ready { IsReady 1 feeding.old }
     requires few { S.most_to_come arrivals.old < 2 ^ 32 }
     ensures kept { MayLose 0 desk result.1 result.0 }
@@ -65,20 +65,20 @@ fn work_with<'s, 'e: 's, R: Threads + Wait + Sync, S: Arrivals, G: Gate + Sync>(
     let theirs = feeding.cut();
     let promise = WorkerServes {
         desk: Snapshot::of(&desk),
-        end: place.end,
+        end: shared.end,
     };
     // Taken apart, since the proof sees what a closure captures only if it is not a struct of type
     // parameters.
-    let Place {
+    let Shared {
         rt,
         alloc,
         board,
         end,
         gate,
         workers,
-    } = place;
+    } = shared;
     let work = move || {
-        let place = Place {
+        let shared = Shared {
             rt,
             alloc,
             board,
@@ -86,15 +86,15 @@ fn work_with<'s, 'e: 's, R: Threads + Wait + Sync, S: Arrivals, G: Gate + Sync>(
             gate,
             workers,
         };
-        serve(place, desk, theirs, 0)
+        serve(shared, desk, theirs, 0)
     };
     match scope.spawn_with(promise, work) {
         Ok(child) => {
-            let fed = feed_all(place, feeding, arrivals);
-            give_back(feeding, child.join(place.rt), fed)
+            let fed = feed_all(shared, feeding, arrivals);
+            give_back(feeding, child.join(shared.rt), fed)
         }
         Err(refused) => {
-            feeding.end_all(place.rt, 1);
+            feeding.end_all(shared.rt, 1);
             let work = refused.value;
             give_back(feeding, work(), Err(WorkFault::Start))
         }
@@ -105,13 +105,13 @@ fn work_with<'s, 'e: 's, R: Threads + Wait + Sync, S: Arrivals, G: Gate + Sync>(
 /// in its place.
 pub(crate) fn run_one<'s, 'e: 's, R: Threads + Wait + Sync, S: Arrivals, G: Gate + Sync>(
     scope: &'s Scope<'s, &'e ()>,
-    place: Place<'e, R, G>,
+    shared: Shared<'e, R, G>,
     root: &mut Desk,
     feeding: &mut Feeding,
     arrivals: &mut S,
 ) -> Result<Told, WorkFault>
-    requires root { IsPassOf place.board.now root.old }
-    requires channel { receives_on place.end.now ≡ sends_on feeding.old.channel }
+    requires root { IsPassOf shared.board.now root.old }
+    requires channel { receives_on shared.end.now ≡ sends_on feeding.old.channel }
     requires ready { IsReady 1 feeding.old }
     requires few { S.most_to_come arrivals.old < 2 ^ 32 }
     ensures kept { MayLose 0 root.old result root.new }
@@ -119,11 +119,11 @@ pub(crate) fn run_one<'s, 'e: 's, R: Threads + Wait + Sync, S: Arrivals, G: Gate
         feeding.new arrivals.new result }
     ensures ok { HasWorked (Serves root.old) feeding.old feeding.new root.new result }
 {
-    let Ok((_, stand_in)) = Board::open(place.alloc, 1) else {
+    let Ok((_, stand_in)) = Board::open(shared.alloc, 1) else {
         return Err(WorkFault::Memory { lost: 0 });
     };
     let desk = replace(root, stand_in);
-    let (desk, told) = work_with(scope, place, desk, feeding, arrivals);
+    let (desk, told) = work_with(scope, shared, desk, feeding, arrivals);
     *root = desk;
     told
 }

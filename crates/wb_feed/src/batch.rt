@@ -17,8 +17,8 @@ use crate::arrivals::Arrivals;
 use crate::channel::{ChannelView, EachOnce, Message};
 use crate::fault::FeedFault;
 use crate::gate::Gate;
-use crate::place::Place;
 use crate::sender::Feeding;
+use crate::shared::Shared;
 use crate::workers::{WorkFault, run_all};
 use crossbeam_channel::bounded_with;
 use std::alloc::{AllocError, Global};
@@ -107,7 +107,7 @@ pub fn run_batch<R: Threads + Wait + Sync, S: Arrivals, G: Gate + Sync>(
     ) else {
         return Err(FeedFault::Memory { lost: 0 });
     };
-    let place = Place {
+    let shared = Shared {
         rt,
         alloc,
         board,
@@ -116,7 +116,7 @@ pub fn run_batch<R: Threads + Wait + Sync, S: Arrivals, G: Gate + Sync>(
         workers,
     };
     let mut feeding = Feeding::new(alloc, channel, pass);
-    let taken = take_batch(place, desk, &mut feeding, arrivals);
+    let taken = take_batch(shared, desk, &mut feeding, arrivals);
     let _sound = desk.rows_left();
     match taken {
         Ok(batch) => Ok((batch, feeding.into_arrived())),
@@ -127,33 +127,33 @@ pub fn run_batch<R: Threads + Wait + Sync, S: Arrivals, G: Gate + Sync>(
 
 /// Has the workers take what the source gives, and takes again what none of them accepted.
 fn take_batch<R: Threads + Wait + Sync, S: Arrivals, G: Gate + Sync>(
-    place: Place<R, G>,
+    shared: Shared<R, G>,
     desk: &mut Desk,
     feeding: &mut Feeding,
     arrivals: &mut S,
 ) -> Result<Batch, WorkFault>
-    requires desk { IsPassOf place.board.now desk.old }
-    requires workers { IsWorkerCount place.workers }
-    requires channel { receives_on place.end.now ≡ sends_on feeding.old.channel }
+    requires desk { IsPassOf shared.board.now desk.old }
+    requires workers { IsWorkerCount shared.workers }
+    requires channel { receives_on shared.end.now ≡ sends_on feeding.old.channel }
     requires first { (view feeding.old.pass ≡ channel_view 16 true [] [])
         × (feeding.old.arrived.items ≡ []) × (feeding.old.going ≡ true) }
     requires few { S.most_to_come arrivals.old < 2 ^ 32 }
-    ensures kept { MayLose (handed_out place.entry.workers desk.old.free) desk.old result
+    ensures kept { MayLose (handed_out shared.entry.workers desk.old.free) desk.old result
         desk.new }
     ensures fed { HasFed S.gives S.most_to_come S.has_ended feeding.old arrivals.old
         feeding.new arrivals.new result }
     ensures settled { IfOk result
-        (IsSettled place.entry.workers desk.old feeding.new.arrived.items desk.new) }
+        (IsSettled shared.entry.workers desk.old feeding.new.arrived.items desk.new) }
 {
-    let rows = desk.rows_left() / place.workers;
-    let told = run_all(place, desk, rows, feeding, arrivals)?;
+    let rows = desk.rows_left() / shared.workers;
+    let told = run_all(shared, desk, rows, feeding, arrivals)?;
     feeding.learn_all();
     let count = feeding.arrived.len();
-    let Ok(filed) = file(place.alloc, told.replies.as_slice(), count) else {
+    let Ok(filed) = file(shared.alloc, told.replies.as_slice(), count) else {
         return Err(WorkFault::Memory { lost: 0 });
     };
     let arrived = feeding.arrived.as_slice();
-    match settle(place.board, desk, filed.as_slice(), arrived) {
+    match settle(shared.board, desk, filed.as_slice(), arrived) {
         Ok(batch) => Ok(batch),
         Err(_) => Err(WorkFault::Memory { lost: 0 }),
     }

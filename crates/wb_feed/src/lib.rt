@@ -14,8 +14,8 @@
 //!
 //! In reading order: where drawops come from (`arrivals`, or a list: `listed`) and what is called
 //! round each accept (`gate`); the call (`batch`), its workers (`workers`) or the one (`alone`),
-//! what each does (`worker`) and where (`place`), and the sender's part (`sender`); the `channel`
-//! with its messages; `relays`; and the law of its replies (`laws`).
+//! what each does (`worker`) and what they share (`shared`), and the sender's part (`sender`); the
+//! `channel` with its messages; `relays`; and the law of its replies (`laws`).
 #![tactic(auto)]
 
 mod alone;
@@ -26,9 +26,9 @@ mod fault;
 mod gate;
 pub mod laws;
 mod listed;
-mod place;
 mod relays;
 mod sender;
+mod shared;
 mod worker;
 mod workers;
 

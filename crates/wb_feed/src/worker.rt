@@ -10,7 +10,7 @@ ghost use Rattle.wb_feed.specs.Served.{NotesOne, Served};
 
 use crate::channel::{ChannelPass, ChannelReceiver, Message, Receives};
 use crate::gate::Gate;
-use crate::place::Place;
+use crate::shared::Shared;
 use std::alloc::{AllocError, Global};
 use std::sync::Wait;
 use wb_board::{Board, BoardFault, Desk, Reply};
@@ -48,7 +48,7 @@ impl Told {
 
 /// What a worker's thread gives back.
 #[derive(Drop)]
-pub(crate) struct Done {
+pub(crate) struct GivenBack {
     pub(crate) desk: Desk,
     pub(crate) pass: ChannelPass,
     pub(crate) told: Told,
@@ -106,7 +106,7 @@ fn next_arrival<R: Wait>(
 
 /// Accepts the arrival, unless an allocation failed before. Answers whether one failed.
 fn take_turn<R, G: Gate>(
-    place: Place<R, G>,
+    shared: Shared<R, G>,
     desk: &mut Desk,
     told: &mut Told,
     failed: bool,
@@ -114,7 +114,7 @@ fn take_turn<R, G: Gate>(
     worker: u32,
     nth: u32,
 ) -> bool
-    requires desk { IsPassOf place.board.now desk.old }
+    requires desk { IsPassOf shared.board.now desk.old }
     ensures kept { LosesAtMost 0 desk.old desk.new }
     ensures took { result ≡ false → (failed ≡ false) × NotesOne desk.old arrival.0 arrival.1
         desk.new told.old.replies.items told.new.replies.items }
@@ -122,9 +122,9 @@ fn take_turn<R, G: Gate>(
     if failed {
         return true;
     }
-    place.gate.before(worker, nth);
-    let taken = accept_one(place.board, desk, told, arrival.0, &arrival.1);
-    place.gate.after(worker, nth);
+    shared.gate.before(worker, nth);
+    let taken = accept_one(shared.board, desk, told, arrival.0, &arrival.1);
+    shared.gate.after(worker, nth);
     match taken {
         Ok(()) => false,
         Err(_) => true,
@@ -134,31 +134,31 @@ fn take_turn<R, G: Gate>(
 /// Takes what the channel gives, until the end message. A worker that was refused memory goes on
 /// receiving, so that the sender never waits for one that is gone.
 pub(crate) fn serve<R: Wait, G: Gate>(
-    place: Place<R, G>,
+    shared: Shared<R, G>,
     desk: Desk,
     pass: ChannelPass,
     worker: u32,
-) -> Done
-    requires desk { IsPassOf place.board.now desk }
-    requires seat { IsSeatAt (receives_on place.end.now) pass
+) -> GivenBack
+    requires desk { IsPassOf shared.board.now desk }
+    requires seat { IsSeatAt (receives_on shared.end.now) pass
         × (view pass ≡ channel_view 1 false [] []) }
-    ensures seat { IsSeatAt (receives_on place.entry.end.now) result.pass }
+    ensures seat { IsSeatAt (receives_on shared.entry.end.now) result.pass }
     ensures served { Served desk result.desk (view result.pass) result.told.replies.items
         result.failed }
 {
     let mut desk = desk;
     let mut pass = pass;
-    let mut told = Told::new(place.alloc);
+    let mut told = Told::new(shared.alloc);
     let mut failed = false;
     let mut nth = 0u32;
-    for _ in place.rt.forever() {
-        let Some(arrival) = next_arrival(place.rt, place.end, &mut pass) else {
+    for _ in shared.rt.forever() {
+        let Some(arrival) = next_arrival(shared.rt, shared.end, &mut pass) else {
             break;
         };
-        failed = take_turn(place, &mut desk, &mut told, failed, arrival, worker, nth);
+        failed = take_turn(shared, &mut desk, &mut told, failed, arrival, worker, nth);
         nth = nth.wrapping_add(1);
     }
-    Done {
+    GivenBack {
         desk,
         pass,
         told,

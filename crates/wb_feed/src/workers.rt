@@ -14,9 +14,9 @@ use crate::alone::run_one;
 use crate::arrivals::Arrivals;
 use crate::channel::ChannelReceiver;
 use crate::gate::Gate;
-use crate::place::Place;
 use crate::sender::Feeding;
-use crate::worker::{Done, Told, serve};
+use crate::shared::Shared;
+use crate::worker::{GivenBack, Told, serve};
 use std::snapshot::Snapshot;
 use std::sync::Wait;
 use std::thread;
@@ -50,7 +50,7 @@ pub(crate) struct WorkerServes<'a> {
     pub(crate) end: &'a ChannelReceiver,
 }
 
-impl<'a> Promise<Done> for WorkerServes<'a> {
+impl<'a> Promise<GivenBack> for WorkerServes<'a> {
     ghost use Rattle.crossbeam_channel.specs.Claims.{view, IsSeatAt};
     ghost use Rattle.crossbeam_channel.specs.Ends.{receives_on};
     ghost use Rattle.wb_feed.specs.Served.{Served};
@@ -61,7 +61,7 @@ impl<'a> Promise<Done> for WorkerServes<'a> {
 
 /// Feeds the workers, who are all started, and ends their work.
 pub(crate) fn feed_all<R: Wait, S: Arrivals, G>(
-    place: Place<R, G>,
+    shared: Shared<R, G>,
     feeding: &mut Feeding,
     arrivals: &mut S,
 ) -> Result<Told, WorkFault>
@@ -73,10 +73,10 @@ pub(crate) fn feed_all<R: Wait, S: Arrivals, G>(
     ensures none { IfOk result (λ told. told.replies.items ≡ []) }
     ensures every_row { lost_in result ≡ 0 }
 {
-    let fed = feeding.feed(place.rt, arrivals);
-    feeding.end_all(place.rt, place.workers);
+    let fed = feeding.feed(shared.rt, arrivals);
+    feeding.end_all(shared.rt, shared.workers);
     match fed {
-        Ok(()) => Ok(Told::new(place.alloc)),
+        Ok(()) => Ok(Told::new(shared.alloc)),
         Err(_) => Err(WorkFault::Memory { lost: 0 }),
     }
 }
@@ -88,7 +88,7 @@ fn take_back(
     root: &mut Desk,
     rows: u32,
     feeding: &mut Feeding,
-    done: Done,
+    done: GivenBack,
     others: Result<Told, WorkFault>,
 ) -> Result<Told, WorkFault>
     requires desks { IsPassOf board.now root.old × IsPassOf board.now done.desk }
@@ -97,7 +97,7 @@ fn take_back(
     ensures pass { IsMerged feeding.old (view done.pass) feeding.new }
     ensures back { TakesBack root.old rows done others root.new result }
 {
-    let Done {
+    let GivenBack {
         desk,
         pass,
         told,
@@ -123,17 +123,17 @@ fn take_back(
 /// its desk comes back too.
 fn run_several<'s, 'e: 's, R: Threads + Wait + Sync, S: Arrivals, G: Gate + Sync>(
     scope: &'s Scope<'s, &'e ()>,
-    place: Place<'e, R, G>,
+    shared: Shared<'e, R, G>,
     root: &mut Desk,
     rows: u32,
     left: u32,
     feeding: &mut Feeding,
     arrivals: &mut S,
 ) -> Result<Told, WorkFault>
-    requires root { IsPassOf place.board.now root.old }
+    requires root { IsPassOf shared.board.now root.old }
     requires rows { rows * left ≤ root.old.free }
-    requires workers { (left ≤ place.workers) × (place.workers ≤ MAX_WORKERS) }
-    requires channel { receives_on place.end.now ≡ sends_on feeding.old.channel }
+    requires workers { (left ≤ shared.workers) × (shared.workers ≤ MAX_WORKERS) }
+    requires channel { receives_on shared.end.now ≡ sends_on feeding.old.channel }
     requires ready { IsReady left feeding.old }
     requires few { S.most_to_come arrivals.old < 2 ^ 32 }
     ensures kept { MayLose (rows * left) root.old result root.new }
@@ -142,34 +142,34 @@ fn run_several<'s, 'e: 's, R: Threads + Wait + Sync, S: Arrivals, G: Gate + Sync
     ensures ok { HasWorked (Workers rows left root.old) feeding.old feeding.new root.new result }
 {
     if left == 0 {
-        return feed_all(place, feeding, arrivals);
+        return feed_all(shared, feeding, arrivals);
     }
-    let worker = place.workers - left;
-    let desk = match place.board.split(place.alloc, root, rows) {
+    let worker = shared.workers - left;
+    let desk = match shared.board.split(shared.alloc, root, rows) {
         Ok(desk) => desk,
         Err(SplitFault::TooMany(_)) => unreachable!(),
         Err(SplitFault::Memory) => {
-            feeding.end_all(place.rt, worker);
+            feeding.end_all(shared.rt, worker);
             return Err(WorkFault::Memory { lost: 0 });
         }
     };
     let theirs = feeding.cut();
     let promise = WorkerServes {
         desk: Snapshot::of(&desk),
-        end: place.end,
+        end: shared.end,
     };
     // Taken apart, since the proof sees what a closure captures only if it is not a struct of type
     // parameters.
-    let Place {
+    let Shared {
         rt,
         alloc,
         board,
         end,
         gate,
         workers,
-    } = place;
+    } = shared;
     let work = move || {
-        let place = Place {
+        let shared = Shared {
             rt,
             alloc,
             board,
@@ -177,25 +177,25 @@ fn run_several<'s, 'e: 's, R: Threads + Wait + Sync, S: Arrivals, G: Gate + Sync
             gate,
             workers,
         };
-        serve(place, desk, theirs, worker)
+        serve(shared, desk, theirs, worker)
     };
     match scope.spawn_with(promise, work) {
         Ok(child) => {
-            let others = run_several(scope, place, root, rows, left - 1, feeding, arrivals);
+            let others = run_several(scope, shared, root, rows, left - 1, feeding, arrivals);
             take_back(
-                place.board,
+                shared.board,
                 root,
                 rows,
                 feeding,
-                child.join(place.rt),
+                child.join(shared.rt),
                 others,
             )
         }
         Err(refused) => {
-            feeding.end_all(place.rt, worker + 1);
+            feeding.end_all(shared.rt, worker + 1);
             let work = refused.value;
             take_back(
-                place.board,
+                shared.board,
                 root,
                 rows,
                 feeding,
@@ -209,72 +209,72 @@ fn run_several<'s, 'e: 's, R: Threads + Wait + Sync, S: Arrivals, G: Gate + Sync
 /// The workers of a batch: one has the desk itself, and of more each gets `rows` rows.
 fn run_some<'s, 'e: 's, R: Threads + Wait + Sync, S: Arrivals, G: Gate + Sync>(
     scope: &'s Scope<'s, &'e ()>,
-    place: Place<'e, R, G>,
+    shared: Shared<'e, R, G>,
     root: &mut Desk,
     rows: u32,
     feeding: &mut Feeding,
     arrivals: &mut S,
 ) -> Result<Told, WorkFault>
-    requires root { IsPassOf place.board.now root.old }
-    requires workers { IsWorkerCount place.workers }
-    requires rows { rows ≡ root.old.free / place.workers }
-    requires channel { receives_on place.end.now ≡ sends_on feeding.old.channel }
-    requires ready { IsReady place.workers feeding.old }
+    requires root { IsPassOf shared.board.now root.old }
+    requires workers { IsWorkerCount shared.workers }
+    requires rows { rows ≡ root.old.free / shared.workers }
+    requires channel { receives_on shared.end.now ≡ sends_on feeding.old.channel }
+    requires ready { IsReady shared.workers feeding.old }
     requires few { S.most_to_come arrivals.old < 2 ^ 32 }
-    ensures kept { MayLose (handed_out place.entry.workers root.old.free) root.old result
+    ensures kept { MayLose (handed_out shared.entry.workers root.old.free) root.old result
         root.new }
     ensures fed { HasFed S.gives S.most_to_come S.has_ended feeding.old arrivals.old
         feeding.new arrivals.new result }
     ensures ok { HasWorked
-        (Work place.entry.workers root.old) feeding.old feeding.new root.new result }
+        (Work shared.entry.workers root.old) feeding.old feeding.new root.new result }
 {
-    if place.workers == 1 {
-        return run_one(scope, place, root, feeding, arrivals);
+    if shared.workers == 1 {
+        return run_one(scope, shared, root, feeding, arrivals);
     }
-    run_several(scope, place, root, rows, place.workers, feeding, arrivals)
+    run_several(scope, shared, root, rows, shared.workers, feeding, arrivals)
 }
 
 /// All workers, each on a thread of its own, fed from this one. One has the desk itself; of more
 /// each gets `rows` rows, an equal part of those that are free.
 pub(crate) fn run_all<R: Threads + Wait + Sync, S: Arrivals, G: Gate + Sync>(
-    place: Place<R, G>,
+    shared: Shared<R, G>,
     root: &mut Desk,
     rows: u32,
     feeding: &mut Feeding,
     arrivals: &mut S,
 ) -> Result<Told, WorkFault>
-    requires root { IsPassOf place.board.now root.old }
-    requires workers { IsWorkerCount place.workers }
-    requires rows { rows ≡ root.old.free / place.workers }
-    requires channel { receives_on place.end.now ≡ sends_on feeding.old.channel }
-    requires ready { IsReady place.workers feeding.old }
+    requires root { IsPassOf shared.board.now root.old }
+    requires workers { IsWorkerCount shared.workers }
+    requires rows { rows ≡ root.old.free / shared.workers }
+    requires channel { receives_on shared.end.now ≡ sends_on feeding.old.channel }
+    requires ready { IsReady shared.workers feeding.old }
     requires few { S.most_to_come arrivals.old < 2 ^ 32 }
-    ensures kept { MayLose (handed_out place.entry.workers root.old.free) root.old result
+    ensures kept { MayLose (handed_out shared.entry.workers root.old.free) root.old result
         root.new }
     ensures fed { HasFed S.gives S.most_to_come S.has_ended feeding.old arrivals.old
         feeding.new arrivals.new result }
     ensures ok { HasWorked
-        (Work place.entry.workers root.old) feeding.old feeding.new root.new result }
+        (Work shared.entry.workers root.old) feeding.old feeding.new root.new result }
 {
     let (root, feeding, arrivals, told) = thread::scope(
         thread::scope_env(),
-        place.rt,
+        shared.rt,
         move |scope| -> (&mut Desk, &mut Feeding, &mut S, Result<Told, WorkFault>)
-            requires { IsSync R.row × IsSync G.row × IsPassOf place.board.now root.now
-                × IsWorkerCount place.workers × (rows ≡ root.now.free / place.workers)
-                × (receives_on place.end.now ≡ sends_on feeding.now.channel)
-                × IsReady place.workers feeding.now × (S.most_to_come arrivals.now < 2 ^ 32) }
+            requires { IsSync R.row × IsSync G.row × IsPassOf shared.board.now root.now
+                × IsWorkerCount shared.workers × (rows ≡ root.now.free / shared.workers)
+                × (receives_on shared.end.now ≡ sends_on feeding.now.channel)
+                × IsReady shared.workers feeding.now × (S.most_to_come arrivals.now < 2 ^ 32) }
             ensures names { (result.0.ghost_name ≡ root.entry.ghost_name)
                 × (result.1.ghost_name ≡ feeding.entry.ghost_name)
                 × (result.2.ghost_name ≡ arrivals.entry.ghost_name) }
-            ensures kept { MayLose (handed_out place.entry.workers root.entry.now.free)
+            ensures kept { MayLose (handed_out shared.entry.workers root.entry.now.free)
                 root.entry.now result.3 result.0.now }
             ensures fed { HasFed S.gives S.most_to_come S.has_ended feeding.entry.now
                 arrivals.entry.now result.1.now result.2.now result.3 }
-            ensures ok { HasWorked (Work place.entry.workers root.entry.now) feeding.entry.now
+            ensures ok { HasWorked (Work shared.entry.workers root.entry.now) feeding.entry.now
                 result.1.now result.0.now result.3 }
         {
-            let told = run_some(scope, place, root, rows, feeding, arrivals);
+            let told = run_some(scope, shared, root, rows, feeding, arrivals);
             (root, feeding, arrivals, told)
         },
     );

@@ -8,7 +8,7 @@ use Rattle.wb_lines.proofs.Moments.{Reads-none, Reads-then, Reads-prints}
 use Rattle.wb_script.specs.declared.part.Part.{Part as ReadPart}
 use Rattle.wb_script.specs.declared.part.Part.TheVariants as parts
 use Rattle.wb_script.specs.declared.said.Said.{Said}
-use Rattle.wb_script.specs.declared.taking.Untaken.{Untaken}
+use Rattle.wb_script.specs.declared.taking.BatchFault.{BatchFault}
 use Rattle.wb_feed.specs.declared.batch.Batch.{Batch}
 use Rattle.wb_feed.specs.Batches.{counts_in}
 use Rattle.wb_member.specs.Holding.{MemberValue}
@@ -117,7 +117,7 @@ pub gathered : (old new : BatchReading) (arrived : List DrawopValue) (d : Drawop
 gathered old new arrived d r is over =
     sym (append-nil arrived) ∙ ap (λ (o : Option DrawopValue). arrived ++ listed o) (sym (r.ended over).0) ∙ sym r.gathers.2 ∙ ap (λ (o : Option DrawopValue). listed o ++ arrivals_of r.gathers.0) is
 
-pub takes_arrivals : (member : MemberValue) (workers : ℕ) (old new : BatchReading) (first : DrawopValue) (arrived : List DrawopValue) (r : ReadsOn old arrived new) (result : Result (MemberValue × Batch) Untaken) → old.first ≡ Some first → TakesFrom member workers arrived new.over result
+pub takes_arrivals : (member : MemberValue) (workers : ℕ) (old new : BatchReading) (first : DrawopValue) (arrived : List DrawopValue) (r : ReadsOn old arrived new) (result : Result (MemberValue × Batch) BatchFault) → old.first ≡ Some first → TakesFrom member workers arrived new.over result
     → TakesArrivals member workers first r.gathers.0 new.at.lines result
 takes_arrivals member workers old new first arrived r (Ok p) is t = record {
   taken = subst (λ (l : List DrawopValue). TakesAll member workers l (counts_in p.1) p.0) (gathered old new arrived first r is t.1) t.0;
@@ -126,7 +126,7 @@ takes_arrivals member workers old new first arrived r (Ok p) is t = record {
 takes_arrivals member workers old new first arrived r (Err e) is t = tt
 
 -- and its counts were printed, which changes nothing of the lines
-pub takes_printed : (member : MemberValue) (workers : ℕ) (first : DrawopValue) (joined : List InputLine) (printed : List ℕ) (old new : LinesValue Said) (taken : Result (MemberValue × Batch) Untaken) (result : Result MemberValue Untaken)
+pub takes_printed : (member : MemberValue) (workers : ℕ) (first : DrawopValue) (joined : List InputLine) (printed : List ℕ) (old new : LinesValue Said) (taken : Result (MemberValue × Batch) BatchFault) (result : Result MemberValue BatchFault)
     → new ≡ old → TakesArrivals member workers first joined old taken → PrintsTaken (is_broken old.seen) printed result taken → TakesBatch member workers first joined printed new result
 takes_printed member workers first joined printed old new (Ok r) (Ok after) same t p =
     rw (same, p.0) (counts_in r.1, t, p.1)

@@ -29,7 +29,7 @@ use Rattle.wb_keeper.specs.Known.{page_named, pages_heard}
 use Rattle.wb_keeper.specs.Sessions.{echo_cmp, echo_to, echoes_of}
 use Rattle.wb_keeper.specs.declared.keeper.Heard.{Heard}
 use Rattle.wb_keeper.proofs.FreeArrivals.{timers_alike}
-use Rattle.wb_recovery.specs.declared.limits.TheConstants.{UNKNOWN_DISTANCE}
+use Rattle.wb_recovery.specs.declared.limits.TheConstants.{UNKNOWN_DELAY}
 use Rattle.wb_script.proofs.Members.{Among}
 use Rattle.wb_script.proofs.Telling.{comes_alike}
 
@@ -135,7 +135,7 @@ pub moment_alike : (calls others : List KeeperCall) → CallsAlike calls others 
 moment_alike calls others a = ap (λ (o : Option ℕ). unwrap_or o 0) a.moment
 
 pub delays_alike : (me : ℕ) (calls others : List KeeperCall) → CallsAlike calls others → delay_to me calls ≡ delay_to me others
-delays_alike me calls others a = fun_ext (λ source. ap (λ (o : Option ℕ). unwrap_or o UNKNOWN_DISTANCE) (a.delays me source))
+delays_alike me calls others a = fun_ext (λ source. ap (λ (o : Option ℕ). unwrap_or o UNKNOWN_DELAY) (a.delays me source))
 
 pub marks_alike : (me : ℕ) (calls others : List KeeperCall) → CallsAlike calls others → marks_heard me calls ≡ marks_heard me others
 marks_alike me calls others a = fun_ext (a.marks me)

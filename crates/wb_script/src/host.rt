@@ -14,9 +14,9 @@ ghost use Rattle.wb_script.specs.Inside.Parts.{by_batches, EndsBatchAt, Says};
 ghost use Rattle.wb_script.specs.Inside.Steps.{IsAt, MayDoStep, may_take, faulted};
 
 use crate::part::Part;
-use crate::place::Place;
 use crate::said::Said;
-use crate::taking::{Untaken as UntakenBatch, take_batch};
+use crate::taking::{BatchFault, take_batch};
+use crate::workplace::Workplace;
 use std::alloc::Global;
 use std::marker::Model;
 use std::sync::Wait;
@@ -35,7 +35,7 @@ use wb_recovery::Tuning;
 /// state of a script at which the host may be, and say at which it is afterwards.
 #[derive(Drop)]
 pub struct Host<'a, T, G> {
-    place: Place<'a, T, G>,
+    workplace: Workplace<'a, T, G>,
     member: Option<Member>,
     workers: Option<u32>,
     /// Whether a thread was refused.
@@ -63,11 +63,11 @@ fn faulted(taken: Result<(), Untaken>) -> Result<(), Stop<LineFault>>
 
 impl<'a, T, G> Host<'a, T, G> {
     /// No board is open. The number of workers, if there is one, goes before that of the board.
-    pub fn new(place: Place<'a, T, G>, workers: Option<u32>) -> Self
+    pub fn new(workplace: Workplace<'a, T, G>, workers: Option<u32>) -> Self
         ensures { result ≡ record { member = None; workers = workers; refused = false } }
     {
         Host {
-            place,
+            workplace,
             member: None,
             workers,
             refused: false,
@@ -209,13 +209,21 @@ impl<T: Threads + Wait + Sync, G: Gate + Sync> Host<'_, T, G> {
             return Err(Stop::Fault(LineFault::NoBoard));
         };
         let workers = worker_count(self.workers);
-        match take_batch(&self.place, member, workers, drawop, progress, source, sink) {
+        match take_batch(
+            &self.workplace,
+            member,
+            workers,
+            drawop,
+            progress,
+            source,
+            sink,
+        ) {
             Ok(member) => {
                 self.member = Some(member);
                 Ok(())
             }
-            Err(untaken) => {
-                self.refused = matches!(&untaken, UntakenBatch::Start);
+            Err(fault) => {
+                self.refused = matches!(&fault, BatchFault::Start);
                 Err(Stop::Memory)
             }
         }

@@ -14,10 +14,10 @@ mod fault;
 mod host;
 pub mod laws;
 mod part;
-mod place;
 mod running;
 mod said;
 mod taking;
+mod workplace;
 
 pub use checking::check;
 pub use fault::RunFault;

@@ -11,8 +11,8 @@ ghost use Rattle.wb_script.specs.Script.{most_lines};
 use crate::driving::take_lines;
 use crate::fault::RunFault;
 use crate::host::Host;
-use crate::place::Place;
 use crate::said::MAX_LINES;
+use crate::workplace::Workplace;
 use std::alloc::Global;
 use std::sync::Wait;
 use std::thread::Threads;
@@ -88,7 +88,7 @@ pub fn run<T: Threads + Wait + Sync, R: Source, W: Sink, G: Gate + Sync>(
     ensures read { result ≡ Err RunFault.Read → R.has_failed source.new ≡ true }
     ensures write { result ≡ Err RunFault.Write → W.has_failed sink.new ≡ true }
 {
-    let mut host = Host::new(Place { rt, alloc, gate }, workers);
+    let mut host = Host::new(Workplace { rt, alloc, gate }, workers);
     let most_lines = u64::from(MAX_LINES);
     let ending = take_lines(alloc, most_lines, &mut host, source, sink);
     ended_with(host.held(), host.is_refused(), ending)

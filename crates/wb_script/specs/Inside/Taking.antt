@@ -10,7 +10,7 @@ use Rattle.wb_commands.specs.Answers.{batch_line}
 use Rattle.wb_member.specs.Holding.{MemberValue, IsOpenAt}
 use Rattle.wb_member.specs.Opened.{Opened, batched}
 use Rattle.wb_script.specs.declared.said.Said.{Said}
-use Rattle.wb_script.specs.declared.taking.Untaken.{Untaken}
+use Rattle.wb_script.specs.declared.taking.BatchFault.{BatchFault}
 use Rattle.wb_script.specs.Script.{MayBeTaken}
 use Rattle.wb_script.specs.Shows.{arrivals_of}
 use Rattle.wb_script.specs.Inside.Parts.{by_batches}
@@ -23,7 +23,7 @@ pub record TakesAll (member : MemberValue) (workers : ℕ) (batch : List DrawopV
   pub leads : (host : Opened) → IsOpenAt member host → IsOpenAt after (batched batch order host)
 
 -- These came, and the batch is at its end.
-abbrev pub TakesFrom : MemberValue → ℕ → List DrawopValue → Bool → Result (MemberValue × Batch) Untaken → Type 0
+abbrev pub TakesFrom : MemberValue → ℕ → List DrawopValue → Bool → Result (MemberValue × Batch) BatchFault → Type 0
 TakesFrom member workers arrived over (Ok r) = TakesAll member workers arrived (counts_in r.1) r.0 × (over ≡ true)
 TakesFrom member workers arrived over (Err e) = Unit {0}
 
@@ -32,7 +32,7 @@ pub record TakesLines (member : MemberValue) (workers : ℕ) (first : DrawopValu
   pub taken : TakesAll member workers (first ∷ arrivals_of joined) counted after
   pub behind : IsBehind by_batches lines.line lines.seen
 
-abbrev pub TakesArrivals : MemberValue → ℕ → DrawopValue → List InputLine → LinesValue Said → Result (MemberValue × Batch) Untaken → Type 0
+abbrev pub TakesArrivals : MemberValue → ℕ → DrawopValue → List InputLine → LinesValue Said → Result (MemberValue × Batch) BatchFault → Type 0
 TakesArrivals member workers first joined lines (Ok r) = TakesLines member workers first joined lines (counts_in r.1) r.0
 TakesArrivals member workers first joined lines (Err e) = Unit {0}
 
@@ -41,13 +41,13 @@ abbrev pub Prints : Bool → List ℕ → Counts → Type 0
 Prints true printed counted = printed ≡ []
 Prints false printed counted = printed ≡ batch_line counted
 
-abbrev pub TakesBatch : MemberValue → ℕ → DrawopValue → List InputLine → List ℕ → LinesValue Said → Result MemberValue Untaken → Type 0
+abbrev pub TakesBatch : MemberValue → ℕ → DrawopValue → List InputLine → List ℕ → LinesValue Said → Result MemberValue BatchFault → Type 0
 TakesBatch member workers first joined printed lines (Ok after) =
     (counted : Counts) × TakesLines member workers first joined lines counted after × Prints (is_broken lines.seen) printed counted
 TakesBatch member workers first joined printed lines (Err e) = printed ≡ []
 
 -- What is printed of a batch, where the member is answered that took it: nothing, unless it was taken.
-abbrev pub PrintsTaken : Bool → List ℕ → Result MemberValue Untaken → Result (MemberValue × Batch) Untaken → Type 0
+abbrev pub PrintsTaken : Bool → List ℕ → Result MemberValue BatchFault → Result (MemberValue × Batch) BatchFault → Type 0
 PrintsTaken broken printed (Ok after) (Ok taken) = (after ≡ taken.0) × Prints broken printed (counts_in taken.1)
 PrintsTaken broken printed (Ok after) (Err e) = ⊥
 PrintsTaken broken printed (Err e) taken = printed ≡ []

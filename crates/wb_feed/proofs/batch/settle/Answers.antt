@@ -1,6 +1,6 @@
 use Rattle.std.proofs.Common.{rules, arith, ◌≡◌, ◌∙◌, get_or, None}
 use Rattle.wb_feed.proofs.Log.{loses_trans}
-use Rattle.wb_feed.proofs.Members.{nothing}
+use Rattle.wb_feed.proofs.Drawops.{nothing}
 use Rattle.wb_feed.proofs.Filing.{rest_more, rest_filed, rest_keeps}
 use Rattle.wb_feed.proofs.batch.settle.Goals as goal
 

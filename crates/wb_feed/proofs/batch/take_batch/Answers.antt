@@ -10,7 +10,7 @@ use Rattle.wb_feed.proofs.batch.take_batch.Goals as goal
 pub returns-in-Ok-settle-clause-settled : goal.returns-in-Ok-settle-clause-settled
 returns-in-Ok-settle-clause-settled g c =
     let arrived = c.learn_all.new.self.arrived.items in
-    let done : AllWorked c.args.place.workers c.args.desk.now c.run_all.new.root (view c.args.feeding.now.pass) (view c.run_all.new.feeding.pass) c.in_ok-told.told.replies.items = c.in_ok-told.ensures.ok in
+    let done : AllWorked c.args.shared.workers c.args.desk.now c.run_all.new.root (view c.args.feeding.now.pass) (view c.run_all.new.feeding.pass) c.in_ok-told.told.replies.items = c.in_ok-told.ensures.ok in
     let files : Files c.in_ok-told.told.replies.items (length arrived) c.in-Ok.filed.items = search rules in
     let settled : Settles c.run_all.new.root c.in-Ok.filed.items arrived c.settle.new.desk c.in-Ok-settle.batch = search rules in
     let sent : IsPrefix (view c.run_all.new.feeding.pass).sent arrived =

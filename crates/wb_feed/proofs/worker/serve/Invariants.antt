@@ -4,4 +4,4 @@ use Rattle.wb_feed.specs.Served.{Served}
 use Rattle.wb_feed.proofs.worker.serve.Given as goal
 
 abbrev pub invariant-loop : goal.invariant-loop
-invariant-loop g l = IsSeatAt (receives_on l.place.end.now) l.pass × Served l.initial.desk l.desk (view l.pass) l.told.replies.items l.failed
+invariant-loop g l = IsSeatAt (receives_on l.shared.end.now) l.pass × Served l.initial.desk l.desk (view l.pass) l.told.replies.items l.failed

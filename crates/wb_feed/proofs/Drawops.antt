@@ -1,4 +1,4 @@
--- Members of a history, and names that stand nowhere in it.
+-- Drawops of a history, and names that stand nowhere in it.
 use Rattle.std.proofs.Common.{◌≡◌, ℕ, ◌+◌, ◌<◌, List, [], ◌∷◌, ◌++◌, length, map, get_or, Some, slice_get, refl, ap, ap₂, sym, ◌∙◌, arith, append_assoc, length-append}
 use Rattle.std.specs.List.{range_with_len}
 use Rattle.std.proofs.Math.Seq.{get_or-append_seam}
@@ -25,11 +25,11 @@ map_range a (x ∷ r) n e =
     ap (λ l. map (λ i. get_or l i nothing) (range_with_len (n + 1) (length r))) (sym same') ∙ map_range b r (n + 1) more in
     ap₂ (λ y ys. y ∷ ys) here rest
 
--- the name of a member is held
+-- the name of a drawop of the history is held
 pub at_named : (h : List DrawopValue) (i : ℕ) (e d : DrawopValue) → slice_get h i ≡ Some e → e.name ≡ d.name → HoldsName h d.name
 at_named h i e d at same = (i, e, slice_get_within h i e at, get_or_from_slice_get h i e e at, same)
 
--- in a history the name of a member does not stand before it
+-- in a history the name of a drawop does not stand before it
 pub history_mid : (a r : List DrawopValue) (d : DrawopValue) → IsHistory (a ++ d ∷ r) → HoldsName a d.name → ⊥
 history_mid a r d once (k, x, lt, at, same) =
     let here : get_or (a ++ d ∷ r) k x ≡ x = get_or_append_left a (d ∷ r) x k lt ∙ at in
