@@ -12,7 +12,7 @@ use std::alloc::{AllocError, Global};
 use std::collections::VecDeque;
 use wb_board::Reply;
 use wb_codec::Datagram;
-use wb_keeping::{Done, KeptCall, KeptMember};
+use wb_keeping::{KeptCall, KeptDone, KeptMember};
 use wb_member::Query;
 
 /// Adds the event that says what became of the drawop that came in or was drawn, if there is one.
@@ -46,7 +46,7 @@ pub(crate) fn perform(
         events.old.items events.new.items) }
 {
     match kept.call(alloc, call) {
-        Ok(Done { sent, became }) => {
+        Ok(KeptDone { sent, became }) => {
             add_sent(events, sent)?;
             add_became(events, call, became)?;
             Ok(DONE)

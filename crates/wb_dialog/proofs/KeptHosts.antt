@@ -8,22 +8,22 @@ use Rattle.wb_names.specs.declared.name.PageId.{PageId}
 use Rattle.wb_codec.specs.declared.datagram.Datagram.{Datagram}
 use Rattle.wb_codec.specs.declared.datagram.Datagram.TheVariants as datagrams
 use Rattle.wb_gaps.specs.Answers.{pages_of, report_of}
-use Rattle.wb_recovery.specs.declared.limits.TheConstants.{UNKNOWN_DISTANCE}
+use Rattle.wb_recovery.specs.declared.limits.TheConstants.{UNKNOWN_DELAY}
 use Rattle.wb_member.specs.Opened.{Opened, becomes, has_room_for, present}
 use Rattle.wb_member.specs.declared.calls.Call.TheVariants as calls
 use Rattle.wb_member.proofs.KeptBoards.{calls_keep_boards}
 use Rattle.wb_policy.specs.Choices.{last_heard}
-use Rattle.wb_policy.specs.Distances.{bounded}
+use Rattle.wb_policy.specs.Delays.{bounded}
 use Rattle.wb_policy.specs.Policy.{Policy, after_wanting}
 use Rattle.wb_policy.specs.Reports.{slice_after}
 use Rattle.wb_policy.specs.Wanting.{is_wanted}
 use Rattle.wb_keeping.specs.Calls.{Added, Came, KeptLine, Ticked, Tuned, doing_of, fault_of}
-use Rattle.wb_keeping.specs.Kept.{Doing, Line, Ticks, Arrives, Hears, Asks, Stops, SetsDistance, Tunes, Says, drawing, ends_full, hears, state_of, still, timed, want}
+use Rattle.wb_keeping.specs.Kept.{Doing, Line, Arrives, Says, drawing, ends_full, hears, state_of, still, timed, want, Calls}
 use Rattle.wb_keeping.specs.Performing.{Keeping, after_doing, after_line, after_lines, after_saying, said, said_where, sees, sent_by_line, view_of}
 use Rattle.wb_keeping.specs.Views.{View, holds, is_full, is_known, level}
 use Rattle.wb_keeping.proofs.EachLine.{DoesEach, Each, OfPolicy, ends_each, hears_each, then_each, timed_each, wanted_each}
 use Rattle.wb_keeping.proofs.EachStep.{HoldsOfSteps, line_holds, with_policy}
-use Rattle.wb_keeping.proofs.KeptDistances.{all_both}
+use Rattle.wb_keeping.proofs.KeptDelays.{all_both}
 use Rattle.wb_keeping.proofs.Performed.{after_both}
 use Rattle.wb_keeping.proofs.SpacedLines.{AreAll}
 use Rattle.wb_keeping.proofs.Wanted.{lines_wanted}
@@ -39,12 +39,12 @@ use Rattle.wb_dialog.specs.KeptLaws.{IsDrivenBy, KeptIsDriven, driver_line, told
 abbrev Drives : Line → Opened → Type 0
 Drives line host = let a = answer_at (driver_line line) host in (after (Some host) a ≡ Some (after_line line host)) × (text_of a ≡ sends_text (sent_by_line line host) ++ told_by line host)
 
-tick_drives : (now : ℕ) (host : Opened) → present host ≤ now → Drives (Ticks now) host
+tick_drives : (now : ℕ) (host : Opened) → present host ≤ now → Drives (Calls (calls.Tick now)) host
 tick_drives now host later = let on : nat_le (present host) now ≡ true = grind (arith, nat_tests) in rw on (refl, refl)
 
-hears_drives : (v : Datagram) (host : Opened) → Drives (Hears v) host
+hears_drives : (v : Datagram) (host : Opened) → Drives (Calls (calls.Hear v)) host
 hears_drives v host = at (has_room_for v host) refl where
-  at : (b : Bool) → has_room_for v host ≡ b → Drives (Hears v) host
+  at : (b : Bool) → has_room_for v host ≡ b → Drives (Calls (calls.Hear v)) host
   at true room = rw room (refl, refl)
   at false room = rw room (refl, refl)
 
@@ -84,8 +84,7 @@ abbrev MayDrive : Line → Opened → Type 0
 MayDrive line host = IsOwn host.is.number line → Drives line host
 
 number_stays : (line : Line) (host : Opened) → (after_line line host).is.number ≡ host.is.number
-number_stays (Hears v) host = (calls_keep_boards (calls.Hear v) host).number
-number_stays (Asks name) host = (calls_keep_boards (calls.Ask name) host).number
+number_stays (Calls call) host = (calls_keep_boards call host).number
 number_stays (Says (datagrams.Draw d)) host = refl
 number_stays line host = refl
 
@@ -145,15 +144,15 @@ steps_go = record {
     asks_pages = λ k is. one_line _ k _ (λ own. says_drives (datagrams.AskPages k.host.is.number) k.host refl);
     reports = λ page until told k is. record { at = refl; drive = (λ own. says_drives (datagrams.Session k.host.is.number (present k.host) page (slice_after told (report_of k.host.is.held page)) (last_heard (view_of k.host).echoes)) k.host refl, tt) };
   };
-  ticks = λ now k later. one_line (Ticks now) k k.policy (λ own. tick_drives now k.host later);
+  ticks = λ now k later. one_line (Calls (calls.Tick now)) k k.policy (λ own. tick_drives now k.host later);
   arrives = λ d k. one_line (Arrives d) k k.policy (λ own. (refl, refl));
   answered = λ d k lacks asked. one_line (Arrives d) k _ (λ own. (refl, refl));
-  hears = λ v k. one_line (Hears v) k k.policy (λ own. hears_drives v k.host);
-  stops = λ name k full. one_line (Stops name) k k.policy (λ own. (refl, refl));
-  sets = λ source micros k. one_line (SetsDistance source (bounded micros)) k k.policy (λ own. (refl, refl));
-  lends = λ source k. one_line (SetsDistance source k.policy.usual) k k.policy (λ own. (refl, refl));
-  takes_back = λ source k. one_line (SetsDistance source UNKNOWN_DISTANCE) k k.policy (λ own. (refl, refl));
-  tunes = λ constants k within. one_line (Tunes constants) k k.policy (λ own. (refl, refl));
+  hears = λ v k. one_line (Calls (calls.Hear v)) k k.policy (λ own. hears_drives v k.host);
+  stops = λ name k full. one_line (Calls (calls.Stop name)) k k.policy (λ own. (refl, refl));
+  sets = λ source micros k. one_line (Calls (calls.SetDelay source (bounded micros))) k k.policy (λ own. (refl, refl));
+  lends = λ source k. one_line (Calls (calls.SetDelay source k.policy.usual)) k k.policy (λ own. (refl, refl));
+  takes_back = λ source k. one_line (Calls (calls.SetDelay source UNKNOWN_DELAY)) k k.policy (λ own. (refl, refl));
+  tunes = λ constants k within. one_line (Calls (calls.Tune constants)) k k.policy (λ own. (refl, refl));
   draws = λ d k. one_line (Says (datagrams.Draw d)) k k.policy (λ own. says_drives (datagrams.Draw d) k.host own);
   measured = λ micros k. rests k _;
   told = λ k. rests k _;
@@ -179,12 +178,12 @@ timed_owns n = timed_each (IsOwn n) (policy_owns n)
 lines_own : (line : KeptLine) (k : Keeping) → Each (IsOwn k.host.is.number) (doing_of line (sees k.host) k.policy).lines
 lines_own (Came now v) k =
     let n : ℕ = k.host.is.number in
-    (tt, then_each (IsOwn n) (hears v) timed (hears_each (IsOwn n) (policy_owns n) (λ v. tt) v (λ d e. tt)) (timed_owns n) (λ lines. sees k.host (Ticks now ∷ lines)) k.policy)
-lines_own (Ticked now) k = (tt, timed_owns k.host.is.number (λ lines. sees k.host (Ticks now ∷ lines)) k.policy)
+    (tt, then_each (IsOwn n) (hears v) timed (hears_each (IsOwn n) (policy_owns n) (λ v. tt) v (λ d e. tt)) (timed_owns n) (λ lines. sees k.host (Calls (calls.Tick now) ∷ lines)) k.policy)
+lines_own (Ticked now) k = (tt, timed_owns k.host.is.number (λ lines. sees k.host (Calls (calls.Tick now) ∷ lines)) k.policy)
 lines_own (Added now page time op) k =
     let n : ℕ = k.host.is.number in
-    let d : DrawopValue = drawing (sees k.host (Ticks now ∷ [])) page time op in
-    (tt, (refl, then_each (IsOwn n) ends_full timed (ends_each (IsOwn n) (policy_owns n)) (timed_owns n) (λ lines. sees k.host (Ticks now ∷ Says (datagrams.Draw d) ∷ lines)) k.policy))
+    let d : DrawopValue = drawing (sees k.host (Calls (calls.Tick now) ∷ [])) page time op in
+    (tt, (refl, then_each (IsOwn n) ends_full timed (ends_each (IsOwn n) (policy_owns n)) (timed_owns n) (λ lines. sees k.host (Calls (calls.Tick now) ∷ Says (datagrams.Draw d) ∷ lines)) k.policy))
 lines_own (Tuned constants) k = (tt, tt)
 
 goes : (line : KeptLine) (k : Keeping) → fault_of line k ≡ None → IsDrivenBy (doing_of line (sees k.host) k.policy).lines k.host

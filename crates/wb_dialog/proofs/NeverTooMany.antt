@@ -16,7 +16,7 @@ use Rattle.wb_member.specs.Opened.{Opened, last_number, present, ticked}
 use Rattle.wb_member.specs.Questions.{answer_to}
 use Rattle.wb_member.specs.declared.calls.Call.TheVariants as calls
 use Rattle.wb_member.proofs.KeptBoards.{calls_keep_boards}
-use Rattle.wb_keeping.specs.Kept.{Asks, Hears, Line, Says, Tunes, Ticks, Transition, drawing}
+use Rattle.wb_keeping.specs.Kept.{Line, Says, Transition, drawing, Calls}
 use Rattle.wb_keeping.specs.Laws.{Added, Came as CameIn, KeptLine, Ticked, doing_of, fault_of}
 use Rattle.wb_keeping.specs.Performing.{Keeping, after_line, after_lines, sees, view_of}
 use Rattle.wb_keeping.specs.declared.kept_fault.KeptFault.{KeptFault}
@@ -52,8 +52,7 @@ Counts (Some (Kept k)) = MayCount k.host
 -- ---- cells stay
 
 cells_line : (line : Line) (host : Opened) → (after_line line host).is.cells ≡ host.is.cells
-cells_line (Hears v) host = ap (λ (board : Held). board.cells) (calls_keep_boards (calls.Hear v) host).board
-cells_line (Asks name) host = ap (λ (board : Held). board.cells) (calls_keep_boards (calls.Ask name) host).board
+cells_line (Calls call) host = ap (λ (board : Held). board.cells) (calls_keep_boards call host).board
 cells_line (Says (datagrams.Draw d)) host = refl
 cells_line line host = refl
 
@@ -74,7 +73,7 @@ shows_count k (refuses e) counts = counts
 
 kept_counts : (line : DriverLine) (k : Keeping) → MayCount k.host → Counts (host_after (Some (Kept k)) (kept_reply line k))
 kept_counts (Script (lines.Call (calls.Tick now))) k counts = does_count (Ticked now) [] k _ refl counts
-kept_counts (Script (lines.Call (calls.Tune constants))) k counts = λ few. bounded_line (Tunes constants) k.host (counts few) tt
+kept_counts (Script (lines.Call (calls.Tune constants))) k counts = λ few. bounded_line (Calls (calls.Tune constants)) k.host (counts few) tt
 kept_counts (Came now v) k counts = does_count (CameIn now v) _ k _ refl counts
 kept_counts (Add a) k counts = does_count (Added a.moment a.page a.time a.op) _ k _ refl counts
 kept_counts (Script (lines.Question query)) k counts = shows_count k (answer_at (Script (lines.Question query)) k.host) counts
@@ -96,7 +95,7 @@ acted host seed (refuses e) counts = counts
 ticks_count : (now seed : ℕ) (host : Opened) → MayCount host → Counts (host_after (Some (Driven host (Some seed))) (as_driven (Some seed) (answer_at (Script (lines.Call (calls.Tick now))) host)))
 ticks_count now seed host counts = by (call_fault (calls.Tick now) host) where
   ticked_too : MayCount (ticked now host)
-  ticked_too few = bounded_line (Ticks now) host (counts few) tt
+  ticked_too few = bounded_line (Calls (calls.Tick now)) host (counts few) tt
 
   by : (fault : Option KeepFault) → Counts (host_after (Some (Driven host (Some seed))) (as_driven (Some seed) (answered (unless fault (does (ticked now host) (call_text (calls.Tick now) host))))))
   by None = ticked_too

@@ -12,7 +12,7 @@ use Rattle.wb_member.specs.Opened.{Opened, next_due, present}
 use Rattle.wb_member.specs.declared.calls.Call.TheVariants as calls
 use Rattle.wb_keeping.specs.Calls.{KeptLine, became_of, doing_of, fault_of}
 use Rattle.wb_keeping.specs.Calls as kept_lines
-use Rattle.wb_keeping.specs.Kept.{Transition, Tunes, performs}
+use Rattle.wb_keeping.specs.Kept.{Calls, Transition, performs}
 use Rattle.wb_keeping.specs.Performing.{Keeping, after_doing, due as kept_due, sent_by_doing}
 use Rattle.wb_policy.specs.Policy.{begun}
 use Rattle.wb_keeping.specs.declared.kept_fault.KeptFault.{KeptFault}
@@ -121,7 +121,7 @@ kept_performs line k = kept_does (fault_of line k) (doing_of line) (kept_batch l
 
 -- Its timers are given other constants.
 abbrev pub kept_tunes : Tuning → Keeping → Reply
-kept_tunes constants k = kept_does None (performs (Tunes constants)) [] k
+kept_tunes constants k = kept_does None (performs (Calls (calls.Tune constants))) [] k
 
 abbrev pub kept_adds : Adding → Keeping → Reply
 kept_adds a k = kept_performs (kept_lines.Added a.moment a.page a.time a.op) k

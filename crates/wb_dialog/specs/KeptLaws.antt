@@ -5,12 +5,13 @@ use Rattle.wb_names.specs.declared.parts.Op.{Op}
 use Rattle.wb_codec.specs.declared.datagram.Datagram.{Datagram}
 use Rattle.wb_codec.specs.declared.datagram.Datagram.TheVariants as datagrams
 use Rattle.wb_board.specs.Counts.{MAX_CELLS}
-use Rattle.wb_member.specs.Opened.{Opened, asks_for, becomes, may_ask}
+use Rattle.wb_member.specs.Calls.{found_by}
+use Rattle.wb_member.specs.Opened.{Opened, becomes}
 use Rattle.wb_member.specs.declared.calls.Call.TheVariants as calls
-use Rattle.wb_keeping.specs.Kept.{Line, Ticks, Arrives, Hears, Asks, Stops, SetsDistance, Tunes, Says, adds, came, performs, ticks}
+use Rattle.wb_keeping.specs.Kept.{Arrives, Calls, Line, Says, adds, came, performs, ticks}
 use Rattle.wb_keeping.specs.Performing.{Keeping, after_line, sees, sent_by_line}
 use Rattle.wb_keeping.specs.Refusing.{add_fault, came_fault, tick_fault}
-use Rattle.wb_commands.specs.SentLines.{ask_line, sends_text, stop_line}
+use Rattle.wb_commands.specs.SentLines.{found_text, sends_text}
 use Rattle.wb_commands.specs.declared.command.Command.TheVariants as lines
 use Rattle.wb_dialog.specs.declared.line.DriverLine.{DriverLine}
 use Rattle.wb_commands.specs.declared.fault.LineFault.TheVariants as faults
@@ -25,31 +26,18 @@ use Rattle.wb_dialog.specs.Hosting.{Kept, denies, hosting_from, kept_reply, unop
 
 -- the line of a driver that does the same
 abbrev pub driver_line : Line → DriverLine
-driver_line (Ticks now) = Script (lines.Call (calls.Tick now))
 driver_line (Arrives d) = Script (lines.Arrive d)
-driver_line (Hears v) = Script (lines.Call (calls.Hear v))
-driver_line (Asks name) = Script (lines.Call (calls.Ask name))
-driver_line (Stops name) = Script (lines.Call (calls.Stop name))
-driver_line (SetsDistance source micros) = Script (lines.Call (calls.SetDelay source micros))
-driver_line (Tunes constants) = Script (lines.Call (calls.Tune constants))
+driver_line (Calls call) = Script (lines.Call call)
 driver_line (Says v) = Say v
 
 -- what it prints beside the datagrams that it sends
 abbrev pub told_said : Datagram → Opened → List ℕ
 told_said (datagrams.Draw d) host = unsent_text (becomes d host)
-told_said (datagrams.Session sender sent page marks echoes) host = []
-told_said (datagrams.Request asker name) host = []
-told_said (datagrams.AskPages asker) host = []
-told_said (datagrams.PageState sender page marks) host = []
+told_said v host = []
 
 abbrev pub told_by : Line → Opened → List ℕ
-told_by (Ticks now) host = []
 told_by (Arrives d) host = batch_of (becomes d host)
-told_by (Hears v) host = []
-told_by (Asks name) host = ask_line (may_ask name host)
-told_by (Stops name) host = stop_line (asks_for name host)
-told_by (SetsDistance source micros) host = []
-told_by (Tunes constants) host = []
+told_by (Calls call) host = found_text (found_by call host)
 told_by (Says v) host = told_said v host
 
 -- A host that its driver hands these lines comes to the same hosts, and prints a `send` line for each datagram of theirs.
@@ -63,7 +51,7 @@ IsDrivenBy (line ∷ lines') host =
 pub record KeptIsDriven : Type 0 where
   pub ticked : (k : Keeping) (now : ℕ) → tick_fault now k ≡ None → IsDrivenBy (ticks now (sees k.host) k.policy).lines k.host
   pub took : (k : Keeping) (now : ℕ) (v : Datagram) → came_fault now v k ≡ None → IsDrivenBy (came now v (sees k.host) k.policy).lines k.host
-  pub tuned : (k : Keeping) (constants : Tuning) → IsDrivenBy (performs (Tunes constants) (sees k.host) k.policy).lines k.host
+  pub tuned : (k : Keeping) (constants : Tuning) → IsDrivenBy (performs (Calls (calls.Tune constants)) (sees k.host) k.policy).lines k.host
   pub drew : (k : Keeping) (now : ℕ) (page : PageId) (time : ℕ) (op : Op) → add_fault now page time op k ≡ None → IsDrivenBy (adds now page time op (sees k.host) k.policy).lines k.host
 
 -- On a board of no more cells than a line can tell no drawing is refused as too many, whatever was handed in

@@ -19,7 +19,7 @@ use wb_board::Reply;
 use wb_codec::Datagram;
 use wb_commands::{Command, LineFault, arrival_line, print, print_sends};
 use wb_keeper::KeepFault;
-use wb_keeping::{Done, KeptCall, KeptFault, KeptMember};
+use wb_keeping::{KeptCall, KeptDone, KeptFault, KeptMember};
 use wb_lines::Output;
 use wb_member::{Call, Query};
 use wb_names::{FieldFault, shape_of};
@@ -109,7 +109,7 @@ fn perform(
         DoesKept kept.old kept.new written result (kept_performs (line_of call.entry))) }
 {
     match kept.call(alloc, call) {
-        Ok(Done { sent, became }) => tell(alloc, &sent, batch(call, became), output),
+        Ok(KeptDone { sent, became }) => tell(alloc, &sent, batch(call, became), output),
         Err(fault) => Err(refused(fault)),
     }
 }

@@ -1,6 +1,6 @@
 -- A self-managing host stays one, and keeps its number, whatever its driver tells it.
 use Rattle.std.proofs.Common.{◌≡◌, ℕ, List, [], Option, Some, None, Result, Ok, refl}
-use Rattle.wb_keeping.specs.Kept.{Transition, Tunes, adds, came, performs, ticks}
+use Rattle.wb_keeping.specs.Kept.{Calls, Transition, adds, came, performs, ticks}
 use Rattle.wb_keeping.specs.Refusing.{add_fault, came_as, came_fault, drawn_as, tick_fault}
 use Rattle.wb_keeping.specs.Performing.{Keeping, sees}
 use Rattle.wb_keeping.specs.declared.kept_fault.KeptFault.{KeptFault}
@@ -33,7 +33,7 @@ shown (refuses e) k = tt
 scripted : (line : Command) (k : Keeping) → IsKept k.host.is.number (kept_reply (Script line) k)
 scripted lines.Skip k = shown (answer_at (Script lines.Skip) k.host) k
 scripted (lines.Board member cells workers seed) k = shown (answer_at (Script (lines.Board member cells workers seed)) k.host) k
-scripted (lines.Call (calls.Tune constants)) k = done None (performs (Tunes constants)) [] k
+scripted (lines.Call (calls.Tune constants)) k = done None (performs (Calls (calls.Tune constants))) [] k
 scripted (lines.Call (calls.Tick now)) k = done (tick_fault now k) (ticks now) [] k
 scripted (lines.Question query) k = shown (answer_at (Script (lines.Question query)) k.host) k
 scripted line k = tt

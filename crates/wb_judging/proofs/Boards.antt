@@ -3,13 +3,15 @@ use Rattle.std.proofs.Common.{◌≡◌, ◌∙◌, ℕ, Bool, true, false, cond
 use Rattle.std.specs.Prelude.{◌||◌}
 use Rattle.std.proofs.lemmas.List.{drop_at}
 use Rattle.wb_names.specs.Arrivals.{history_after, history_with, outcome_of}
-use Rattle.wb_names.specs.Values.{DrawopValue, NameValue}
+use Rattle.wb_names.specs.Values.{DrawopValue}
 use Rattle.wb_codec.specs.declared.datagram.Datagram.{Datagram}
-use Rattle.wb_codec.specs.declared.datagram.Datagram.TheVariants.{AskPages, Draw, PageState, Request, Session}
-use Rattle.wb_member.specs.Lines.{Arrives, Asks, Hears, Line, Says, SetsDistance, Stops, Ticks, Tunes, after_line, after_lines, after_saying}
-use Rattle.wb_member.specs.Members.{Misses}
-use Rattle.wb_member.specs.Opened.{Opened, doing, has_room_for, heard, may_ask, present, ticked}
-use Rattle.wb_member.specs.Random.{word_of}
+use Rattle.wb_codec.specs.declared.datagram.Datagram.TheVariants.{Draw, PageState}
+use Rattle.wb_member.specs.Board.{Held}
+use Rattle.wb_member.specs.Lines.{Arrives, Calls, Line, Says, after_line, after_lines}
+use Rattle.wb_member.specs.Opened.{Opened, ticked}
+use Rattle.wb_member.specs.declared.calls.Call.{Call}
+use Rattle.wb_member.specs.declared.calls.Call.TheVariants as calls
+use Rattle.wb_member.proofs.KeptBoards.{calls_keep_boards}
 use Rattle.wb_keeping.specs.Kept.{Transition, and_then, came, hears, learned, performs, takes, ticks, timed}
 use Rattle.wb_keeping.specs.Laws.{Came, KeptLine, Ticked, doing_of}
 use Rattle.wb_keeping.specs.Performing.{Keeping, sees}
@@ -32,33 +34,16 @@ pub record Takes (host after : Opened) : Type 0 where
   pub held : after.is.held ≡ history_after host.is.cells host.is.held ds
   pub cells : after.is.cells ≡ host.is.cells
 
-takes_none : (host : Opened) → Takes host host
-takes_none host = record { ds = []; held = refl; cells = refl }
-
-takes_if : (b : Bool) (host one other : Opened) → Takes host one → Takes host other → Takes host (cond b one other)
-takes_if true host one other t u = t
-takes_if false host one other t u = u
-
-takes_said : (v : Datagram) (host : Opened) → Takes host (after_saying v host)
-takes_said (Draw d) host = record { ds = d ∷ []; held = refl; cells = refl }
-takes_said (Session sender sent page marks echoes) host = takes_none host
-takes_said (Request asker name) host = takes_none host
-takes_said (AskPages asker) host = takes_none host
-takes_said (PageState sender page marks) host = takes_none host
-
 takes_line : (line : Line) (host : Opened) → Takes host (after_line line host)
-takes_line (Ticks now) host = record { ds = []; held = refl; cells = refl }
+takes_line (Calls call) host =
+    let same = (calls_keep_boards call host).board in
+    record { ds = []; held = ap (λ (board : Held). board.drawops) same; cells = ap (λ (board : Held). board.cells) same }
 takes_line (Arrives d) host = record { ds = d ∷ []; held = refl; cells = refl }
-takes_line (Hears v) host = takes_if (has_room_for v host) host (heard v host) host (record { ds = []; held = refl; cells = refl }) (takes_none host)
-takes_line (Asks name) host =
-    takes_if (may_ask name host) host (doing (Misses (present host) (name ∷ []) (word_of host.random ∷ [])) 1 host) host (record { ds = []; held = refl; cells = refl }) (takes_none host)
-takes_line (Stops name) host = record { ds = []; held = refl; cells = refl }
-takes_line (SetsDistance source micros) host = record { ds = []; held = refl; cells = refl }
-takes_line (Tunes constants) host = record { ds = []; held = refl; cells = refl }
-takes_line (Says v) host = takes_said v host
+takes_line (Says (Draw d)) host = record { ds = d ∷ []; held = refl; cells = refl }
+takes_line (Says v) host = record { ds = []; held = refl; cells = refl }
 
 takes_through : (lines : List Line) (host : Opened) → Takes host (after_lines lines host)
-takes_through [] host = takes_none host
+takes_through [] host = record { ds = []; held = refl; cells = refl }
 takes_through (line ∷ lines) host =
     let one = takes_line line host in
     let rest = takes_through lines (after_line line host) in
@@ -93,19 +78,12 @@ all_still : (lines : List Line) (host : Opened) → Each IsStill lines → (afte
 all_still [] host each = refl
 all_still (line ∷ lines) host each = all_still lines (after_line line host) each.1 ∙ each.0 host
 
-held_if : (b : Bool) (one other : Opened) → one.is.held ≡ other.is.held → (cond b one other).is.held ≡ other.is.held
-held_if true one other e = e
-held_if false one other e = refl
-
-still_hears : (v : Datagram) → IsStill (Hears v)
-still_hears v host = held_if (has_room_for v host) (heard v host) host refl
-
-still_asks : (name : NameValue) → IsStill (Asks name)
-still_asks name host = held_if (may_ask name host) (doing (Misses (present host) (name ∷ []) (word_of host.random ∷ [])) 1 host) host refl
+still_call : (call : Call) → IsStill (Calls call)
+still_call call host = ap (λ (board : Held). board.drawops) (calls_keep_boards call host).board
 
 still_policy : OfPolicy IsStill
 still_policy = record {
-  asks = still_asks;
+  asks = λ name. still_call (calls.Ask name);
   stops = λ name host. refl;
   sets = λ source micros host. refl;
   states = λ v page host. refl;
@@ -113,7 +91,7 @@ still_policy = record {
   reports = λ sender sent page marks echoes host. refl;
 }
 
-still_ticks : (now : ℕ) → DoesEach IsStill (performs (Ticks now))
+still_ticks : (now : ℕ) → DoesEach IsStill (performs (Calls (calls.Tick now)))
 still_ticks now see p = (λ host. refl, tt)
 
 still_timed : DoesEach IsStill timed
@@ -122,7 +100,7 @@ still_timed = timed_each IsStill still_policy
 pub held_ticked : (now : ℕ) (k : Keeping) → (after_kept_line (Ticked now) k).host.is.held ≡ k.host.is.held
 unfolding after_kept_line
 held_ticked now k =
-    all_still (ticks now (sees k.host) k.policy).lines k.host (then_each IsStill (performs (Ticks now)) timed (still_ticks now) still_timed (sees k.host) k.policy)
+    all_still (ticks now (sees k.host) k.policy).lines k.host (then_each IsStill (performs (Calls (calls.Tick now))) timed (still_ticks now) still_timed (sees k.host) k.policy)
 
 -- it is another datagram than a drawop
 abbrev pub IsOther : Datagram → Type 0
@@ -132,8 +110,8 @@ pub held_heard : (now : ℕ) (v : Datagram) (k : Keeping) → IsOther v → (aft
 unfolding after_kept_line
 held_heard now v k other =
     all_still (came now v (sees k.host) k.policy).lines k.host
-    (then_each IsStill (performs (Ticks now)) (and_then (hears v) timed) (still_ticks now)
-    (then_each IsStill (hears v) timed (hears_each IsStill still_policy still_hears v (λ d is. absurd (other d is))) still_timed) (sees k.host) k.policy)
+    (then_each IsStill (performs (Calls (calls.Tick now))) (and_then (hears v) timed) (still_ticks now)
+    (then_each IsStill (hears v) timed (hears_each IsStill still_policy (λ v. still_call (calls.Hear v)) v (λ d is. absurd (other d is))) still_timed) (sees k.host) k.policy)
 
 held_takes : (d : DrawopValue) (see : List Line → View) (p : Policy) (host : Opened) → (after_lines (takes d see p).lines host).is.held ≡ (after_line (Arrives d) host).is.held
 held_takes d see p host = by (holds (see []) d.name || is_full (see [])) where
@@ -149,7 +127,7 @@ held_takes d see p host = by (holds (see []) d.name || is_full (see [])) where
 pub held_drawn : (now : ℕ) (d : DrawopValue) (k : Keeping) → (after_kept_line (Came now (Draw d)) k).host.is.held ≡ history_with k.host.is.held d (outcome_of k.host.is.cells k.host.is.held d)
 unfolding after_kept_line
 held_drawn now d k =
-    let see : List Line → View = λ lines. sees k.host (Ticks now ∷ lines) in
+    let see : List Line → View = λ lines. sees k.host (Calls (calls.Tick now) ∷ lines) in
     let one = takes d see k.policy in
     let two = timed (λ (lines : List Line). see (one.lines ++ lines)) one.policy in
     let host = ticked now k.host in

@@ -5,10 +5,9 @@ use Rattle.wb_codec.specs.declared.datagram.Datagram.{Datagram}
 use Rattle.wb_codec.specs.declared.datagram.Datagram.TheVariants.{AskPages, Draw, PageState, Request, Session}
 use Rattle.wb_judge.specs.Judge.{Judge}
 use Rattle.wb_judge.specs.declared.origin.Origin.{Origin}
-use Rattle.wb_member.specs.Lines.{Arrives, Asks, Hears, Line, Says, SetsDistance, Stops, Ticks, Tunes, after_line, after_lines, after_saying}
-use Rattle.wb_member.specs.Members.{Misses}
-use Rattle.wb_member.specs.Opened.{Opened, doing, has_room_for, heard, may_ask, present}
-use Rattle.wb_member.specs.Random.{word_of}
+use Rattle.wb_member.specs.Lines.{Calls, Line, Says, after_line, after_lines}
+use Rattle.wb_member.specs.Opened.{Opened}
+use Rattle.wb_member.proofs.KeptBoards.{calls_keep_boards}
 use Rattle.wb_keeping.specs.Laws.{KeptLine, doing_of}
 use Rattle.wb_keeping.specs.Performing.{Keeping, sees}
 use Rattle.wb_judging.specs.Events.{is_new}
@@ -24,26 +23,10 @@ use Rattle.wb_judging.proofs.NewsTold.{news_keeps}
 
 -- ---- the board
 
-number_if : (b : Bool) (one other : Opened) → one.is.number ≡ other.is.number → (cond b one other).is.number ≡ other.is.number
-number_if true one other e = e
-number_if false one other e = refl
-
-number_said : (v : Datagram) (host : Opened) → (after_saying v host).is.number ≡ host.is.number
-number_said (Draw d) host = refl
-number_said (Session sender sent page marks echoes) host = refl
-number_said (Request asker name) host = refl
-number_said (AskPages asker) host = refl
-number_said (PageState sender page marks) host = refl
-
 number_stays : (line : Line) (host : Opened) → (after_line line host).is.number ≡ host.is.number
-number_stays (Ticks now) host = refl
-number_stays (Arrives d) host = refl
-number_stays (Hears v) host = number_if (has_room_for v host) (heard v host) host refl
-number_stays (Asks name) host = number_if (may_ask name host) (doing (Misses (present host) (name ∷ []) (word_of host.random ∷ [])) 1 host) host refl
-number_stays (Stops name) host = refl
-number_stays (SetsDistance source micros) host = refl
-number_stays (Tunes constants) host = refl
-number_stays (Says v) host = number_said v host
+number_stays (Calls call) host = (calls_keep_boards call host).number
+number_stays (Says (Draw d)) host = refl
+number_stays line host = refl
 
 pub number_through : (lines : List Line) (host : Opened) → (after_lines lines host).is.number ≡ host.is.number
 number_through [] host = refl

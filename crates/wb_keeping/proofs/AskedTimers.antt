@@ -13,11 +13,12 @@ use Rattle.std.proofs.lemmas.List.Folds.{list_any_at}
 use Rattle.std.proofs.lemmas.List.{length-map}
 use Rattle.wb_member.specs.Judged.{asked_names, level as member_level}
 use Rattle.wb_member.specs.Opened.{Opened, events}
+use Rattle.wb_member.specs.declared.calls.Call.TheVariants.{Stop}
 use Rattle.wb_keeping.specs.Views.{level}
 use Rattle.wb_recovery.specs.declared.timers.AskTimer.{AskTimer}
 use Rattle.wb_recovery.specs.declared.timers.Timers.{Timers}
 use Rattle.wb_keeper.specs.GivingUp.{level as level_in}
-use Rattle.wb_keeping.specs.Kept.{Line, Stops}
+use Rattle.wb_keeping.specs.Kept.{Calls, Line, stops_for}
 use Rattle.wb_keeping.specs.Performing.{asked_name, asked_with, view_of}
 use Rattle.wb_policy.specs.declared.wanting.AskedName.{AskedName}
 
@@ -89,9 +90,9 @@ pub counted : (timers : NameValue → Timers) (names : List NameValue) → lengt
 counted timers names = sym (length-map (asked_with timers names) (λ (a : AskedName). a.name)) ∙ ap (λ (ns : List NameValue). length ns) (named timers names)
 
 -- the lines that stop them
-pub stops_named : (asked : List AskedName) → map (λ (a : AskedName). Stops a.name) asked ≡ map Stops (map (λ (a : AskedName). a.name) asked)
+pub stops_named : (asked : List AskedName) → map (λ (a : AskedName). Calls (Stop a.name)) asked ≡ stops_for (map (λ (a : AskedName). a.name) asked)
 stops_named [] = refl
-stops_named (a ∷ asked) = ap (λ (lines : List Line). Stops a.name ∷ lines) (stops_named asked)
+stops_named (a ∷ asked) = ap (λ (lines : List Line). Calls (Stop a.name) ∷ lines) (stops_named asked)
 
 -- ---- of a host
 
@@ -108,5 +109,5 @@ asked_seen host = again (timers_of host.is.constants (events host)) (names_of (e
 pub count_seen : (host : Opened) → length (view_of host).asked ≡ length (asked_names host)
 count_seen host = counted (timers_of host.is.constants (events host)) (names_of (events host))
 
-pub stops_seen : (host : Opened) → map (λ (a : AskedName). Stops a.name) (view_of host).asked ≡ map Stops (asked_names host)
-stops_seen host = stops_named (view_of host).asked ∙ ap (λ (ns : List NameValue). map Stops ns) (named (timers_of host.is.constants (events host)) (names_of (events host)))
+pub stops_seen : (host : Opened) → map (λ (a : AskedName). Calls (Stop a.name)) (view_of host).asked ≡ stops_for (asked_names host)
+stops_seen host = stops_named (view_of host).asked ∙ ap (λ (ns : List NameValue). stops_for ns) (named (timers_of host.is.constants (events host)) (names_of (events host)))

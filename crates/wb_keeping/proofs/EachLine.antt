@@ -8,10 +8,11 @@ use Rattle.wb_codec.specs.declared.datagram.Datagram.TheVariants.{Session, AskPa
 use Rattle.wb_gaps.specs.Answers.{pages_of, report_of}
 use Rattle.wb_gaps.specs.Holes.{hole_after}
 use Rattle.wb_gaps.specs.declared.holes.Hole.{Hole}
-use Rattle.wb_policy.specs.Distances.{bounded}
-use Rattle.wb_recovery.specs.declared.limits.TheConstants.{UNKNOWN_DISTANCE}
-use Rattle.wb_policy.specs.Choices.{distance_in, own_echo, own_marks, told_names}
-use Rattle.wb_keeping.specs.Kept.{Asks, Doing, Line, Says, SetsDistance, Stops, Transition, and_then, answers, asks_pages, end, ends_full, is_begun, is_unasked, leap, leap_to, leaps_on, learned, measures, paid_for, reports, reports_due, reports_rest, room_lines, state_of, still, stops_one, timed, turn, turn_if, turn_to, turns_due, turns_on, turns_past, want, want_near, want_told, Arrives, Hears, hears, hears_session, hears_some, hears_state, of_other, performs, takes, takes_question, lending, hears_request}
+use Rattle.wb_policy.specs.Delays.{bounded}
+use Rattle.wb_recovery.specs.declared.limits.TheConstants.{UNKNOWN_DELAY}
+use Rattle.wb_policy.specs.Choices.{echoed_delay, own_echo, own_marks, told_names}
+use Rattle.wb_member.specs.declared.calls.Call.TheVariants.{Hear, SetDelay, Ask, Stop}
+use Rattle.wb_keeping.specs.Kept.{Doing, Line, Says, Transition, and_then, answers, asks_pages, end, ends_full, is_begun, is_unasked, leap, leap_to, leaps_on, learned, measures, paid_for, reports, reports_due, reports_rest, room_lines, state_of, still, stops_one, timed, turn, turn_if, turn_to, turns_due, turns_on, turns_past, want, want_near, want_told, Arrives, hears, hears_session, hears_some, hears_state, of_other, performs, takes, takes_question, lending, hears_request, Calls}
 use Rattle.wb_policy.specs.Policy.{Policy, after_answer, after_beat, after_leaping, after_question, after_turn, after_wanting, in_next_leaps, in_next_round, after_state, after_taking_up}
 use Rattle.wb_keeping.specs.Views.{View, is_asked, is_full, holds}
 use Rattle.wb_policy.specs.Leaps.{far_name}
@@ -46,30 +47,30 @@ module _ (P : Line → Type 0) where
 
   -- ---- the lines for a name that is wanted
 
-  pub one_each : ((name : NameValue) → P (Stops name)) → (o : Option AskedName) → Each P (stops_one o)
+  pub one_each : ((name : NameValue) → P (Calls (Stop name))) → (o : Option AskedName) → Each P (stops_one o)
   one_each stops None = tt
   one_each stops (Some a) = (stops a.name, tt)
 
-  pub room_each : ((name : NameValue) → P (Stops name)) → (name : NameValue) (v : View) → Each P (room_lines name v)
+  pub room_each : ((name : NameValue) → P (Calls (Stop name))) → (name : NameValue) (v : View) → Each P (room_lines name v)
   room_each stops name v = by (is_asked v name) where
-    by : (a : Bool) → Each P (cond a (Stops name ∷ []) (stops_one (giving_way v.asked)))
+    by : (a : Bool) → Each P (cond a (Calls (Stop name) ∷ []) (stops_one (giving_way v.asked)))
     by true = (stops name, tt)
     by false = one_each stops (giving_way v.asked)
 
-  -- a line to which the usual distance is lent
-  pub lent_each : (source distance usual : ℕ) (line : Line) → P (SetsDistance source usual) → P line → P (SetsDistance source UNKNOWN_DISTANCE)
-      → Each P (lending source distance usual line)
-  lent_each source distance usual line lends is takes = by (nat_eq distance UNKNOWN_DISTANCE) where
-    by : (b : Bool) → Each P (cond b (SetsDistance source usual ∷ line ∷ SetsDistance source UNKNOWN_DISTANCE ∷ []) (line ∷ []))
+  -- a line to which the usual delay is lent
+  pub lent_each : (source delay usual : ℕ) (line : Line) → P (Calls (SetDelay source usual)) → P line → P (Calls (SetDelay source UNKNOWN_DELAY))
+      → Each P (lending source delay usual line)
+  lent_each source delay usual line lends is takes = by (nat_eq delay UNKNOWN_DELAY) where
+    by : (b : Bool) → Each P (cond b (Calls (SetDelay source usual) ∷ line ∷ Calls (SetDelay source UNKNOWN_DELAY) ∷ []) (line ∷ []))
     by true = (lends, (is, (takes, tt)))
     by false = (is, tt)
 
-  pub wanted_each : ((name : NameValue) → P (Stops name)) → (name : NameValue) → P (Asks name) → (anew : Bool) (see : List Line → View) (p : Policy)
-      → P (SetsDistance name.source p.usual) → P (SetsDistance name.source UNKNOWN_DISTANCE) → Each P (lines_wanted name anew see p)
+  pub wanted_each : ((name : NameValue) → P (Calls (Stop name))) → (name : NameValue) → P (Calls (Ask name)) → (anew : Bool) (see : List Line → View) (p : Policy)
+      → P (Calls (SetDelay name.source p.usual)) → P (Calls (SetDelay name.source UNKNOWN_DELAY)) → Each P (lines_wanted name anew see p)
   wanted_each stops name asks anew see p lends takes =
       let v = see [] in
-      each_both (room_lines name v) (lending name.source (v.distance name.source) p.usual (Asks name)) (room_each stops name v)
-      (lent_each name.source (v.distance name.source) p.usual (Asks name) lends asks takes)
+      each_both (room_lines name v) (lending name.source (v.delay name.source) p.usual (Calls (Ask name))) (room_each stops name v)
+      (lent_each name.source (v.delay name.source) p.usual (Calls (Ask name)) lends asks takes)
 
   -- ---- the pages that it tells
 
@@ -82,9 +83,9 @@ module _ (P : Line → Type 0) where
 
 -- of each line but those with which time goes on, something comes in, constants change, or its user draws
 pub record OfPolicy (P : Line → Type 0) : Type 0 where
-  pub asks : (name : NameValue) → P (Asks name)
-  pub stops : (name : NameValue) → P (Stops name)
-  pub sets : (source micros : ℕ) → P (SetsDistance source micros)
+  pub asks : (name : NameValue) → P (Calls (Ask name))
+  pub stops : (name : NameValue) → P (Calls (Stop name))
+  pub sets : (source micros : ℕ) → P (Calls (SetDelay source micros))
   pub states : (v : View) (page : PageId) → P (Says (state_of v page))
   pub asks_pages : (asker : ℕ) → P (Says (AskPages asker))
   pub reports : (sender sent : ℕ) (page : PageId) (marks : List MarkValue) (echoes : List Echo) → P (Says (Session sender sent page marks echoes))
@@ -93,7 +94,7 @@ module _ (P : Line → Type 0) (is : OfPolicy P) where
   pub want_each : (name : NameValue) (anew : Bool) → DoesEach P (want name anew)
   want_each name anew see p =
       choose P (is_wanted_here name anew see p) (record { policy = after_wanting (see []).now p; lines = lines_wanted name anew see p }) (still see p)
-      (wanted_each P is.stops name (is.asks name) anew see p (is.sets name.source p.usual) (is.sets name.source UNKNOWN_DISTANCE)) tt
+      (wanted_each P is.stops name (is.asks name) anew see p (is.sets name.source p.usual) (is.sets name.source UNKNOWN_DELAY)) tt
 
   pub told_each : (names : List NameValue) → DoesEach P (want_told names)
   told_each [] see p = tt
@@ -116,7 +117,7 @@ module _ (P : Line → Type 0) (is : OfPolicy P) where
   pub turn_each : DoesEach P turn
   turn_each see p = turn_to_each (hole_after (see []).held p.turns.page p.turns.source p.turns.number) (hole_after (see []).held nowhere 0 0) see p
 
-  stops_each : (asked : List AskedName) → Each P (map (λ (a : AskedName). Stops a.name) asked)
+  stops_each : (asked : List AskedName) → Each P (map (λ (a : AskedName). Calls (Stop a.name)) asked)
   stops_each [] = tt
   stops_each (a ∷ asked) = (is.stops a.name, stops_each asked)
 
@@ -162,10 +163,10 @@ module _ (P : Line → Type 0) (is : OfPolicy P) where
       choose P (is_full (see [])) (end see p) (with_room_done name was see p) (end_each see p)
       (then_each P (want_near near) (turn_if was) (near_each near) (turn_if_each was) see paid)
 
-  pub measures_each : (sender : ℕ) (distance : Option ℕ) → DoesEach P (measures sender distance)
+  pub measures_each : (sender : ℕ) (delay : Option ℕ) → DoesEach P (measures sender delay)
   measures_each sender None see p = tt
   measures_each sender (Some micros) see p = by (nat_eq (bounded micros) micros) where
-    by : (b : Bool) → Each P (cond b [] (SetsDistance sender (bounded micros) ∷ []))
+    by : (b : Bool) → Each P (cond b [] (Calls (SetDelay sender (bounded micros)) ∷ []))
     by true = tt
     by false = (is.sets sender (bounded micros), tt)
 
@@ -207,7 +208,7 @@ module _ (P : Line → Type 0) (is : OfPolicy P) where
 
 -- ---- what comes in
 
-module _ (P : Line → Type 0) (is : OfPolicy P) (heard : (v : Datagram) → P (Hears v)) where
+module _ (P : Line → Type 0) (is : OfPolicy P) (heard : (v : Datagram) → P (Calls (Hear v))) where
   takes_each : (d : DrawopValue) → P (Arrives d) → DoesEach P (takes d)
   takes_each d arrives see p =
       let v = see [] in
@@ -220,10 +221,10 @@ module _ (P : Line → Type 0) (is : OfPolicy P) (heard : (v : Datagram) → P (
       let v = see [] in
       let echo = own_echo v.me echoes in
       let hearing = Session sender sent page (own_marks v.me (nat_lt v.now p.ready) marks) echo in
-      let second = measures sender (distance_in v.now echo) in
+      let second = measures sender (echoed_delay v.now echo) in
       let third = want_told (told_names v.me page marks) in
-      then_each P (performs (Hears hearing)) (and_then second third) (λ see p. (heard hearing, tt))
-      (then_each P second third (measures_each P is sender (distance_in v.now echo)) (told_each P is (told_names v.me page marks))) see p
+      then_each P (performs (Calls (Hear hearing))) (and_then second third) (λ see p. (heard hearing, tt))
+      (then_each P second third (measures_each P is sender (echoed_delay v.now echo)) (told_each P is (told_names v.me page marks))) see p
 
   some_each : (sender : ℕ) (page : PageId) (marks : List MarkValue) → DoesEach P (hears_some sender page marks)
   some_each sender page [] see p = tt
@@ -240,7 +241,7 @@ module _ (P : Line → Type 0) (is : OfPolicy P) (heard : (v : Datagram) → P (
   request_each asker name see p =
       let v = see [] in
       let source = cond (holds v name) asker name.source in
-      lent_each P source (v.distance source) p.usual (Hears (Request asker name)) (is.sets source p.usual) (heard (Request asker name)) (is.sets source UNKNOWN_DISTANCE)
+      lent_each P source (v.delay source) p.usual (Calls (Hear (Request asker name))) (is.sets source p.usual) (heard (Request asker name)) (is.sets source UNKNOWN_DELAY)
 
   question_each : DoesEach P takes_question
   question_each see p =

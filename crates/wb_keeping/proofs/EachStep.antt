@@ -12,15 +12,16 @@ use Rattle.wb_gaps.specs.Answers.{pages_of, report_of}
 use Rattle.wb_gaps.specs.Holes.{hole_after}
 use Rattle.wb_gaps.specs.declared.holes.Hole.{Hole}
 use Rattle.wb_member.specs.Opened.{Opened, present}
-use Rattle.wb_policy.specs.Distances.{bounded}
-use Rattle.wb_recovery.specs.declared.limits.TheConstants.{UNKNOWN_DISTANCE}
+use Rattle.wb_member.specs.declared.calls.Call.TheVariants.{Tick, Hear, SetDelay, Tune, Stop}
+use Rattle.wb_policy.specs.Delays.{bounded}
+use Rattle.wb_recovery.specs.declared.limits.TheConstants.{UNKNOWN_DELAY}
 use Rattle.wb_recovery.specs.Timing.{are_constants}
 use Rattle.wb_recovery.specs.declared.tuning.Tuning.{Tuning}
-use Rattle.wb_policy.specs.Choices.{distance_in, own_echo, own_marks, told_names, until_in}
-use Rattle.wb_keeping.specs.Kept.{Arrives, Doing, Hears, Line, Says, SetsDistance, Tunes, Stops, Ticks, Transition, and_then, answers, asks_pages, draws_it, drawing, end, ends_full, hears, hears_session, hears_some, hears_state, is_begun, is_unasked, leap, leap_to, leaps_on, learned, measures, performs, reports, reports_due, reports_page, reports_rest, state_of, still, takes, takes_question, timed, turn, turn_if, turn_to, turns_due, turns_on, turns_past, want, want_near, want_told, hears_request}
+use Rattle.wb_policy.specs.Choices.{echoed_delay, own_echo, own_marks, told_names, until_in}
+use Rattle.wb_keeping.specs.Kept.{Arrives, Doing, Line, Says, Transition, and_then, answers, asks_pages, draws_it, drawing, end, ends_full, hears, hears_session, hears_some, hears_state, is_begun, is_unasked, leap, leap_to, leaps_on, learned, measures, performs, reports, reports_due, reports_page, reports_rest, state_of, still, takes, takes_question, timed, turn, turn_if, turn_to, turns_due, turns_on, turns_past, want, want_near, want_told, hears_request, Calls}
 use Rattle.wb_keeping.specs.Laws.{Added, AreTaken, Came, KeptLine, Ticked, Tuned, after_kept, doing_of, expand, fault_of}
 use Rattle.wb_keeping.specs.Performing.{Keeping, after_doing, after_line, after_lines, sees, view_of}
-use Rattle.wb_policy.specs.Policy.{Policy, after_answer, after_beat, after_came, after_leaping, after_question, after_state, after_taking_up, after_turn, in_next_leaps, in_next_round, with_distance}
+use Rattle.wb_policy.specs.Policy.{Policy, after_answer, after_beat, after_came, after_leaping, after_question, after_state, after_taking_up, after_turn, in_next_leaps, in_next_round, after_echo}
 use Rattle.wb_keeping.specs.Views.{View, holds, is_asked, is_full}
 use Rattle.wb_policy.specs.Leaps.{far_name}
 use Rattle.wb_policy.specs.Questions.{is_due, is_to_answer}
@@ -64,53 +65,53 @@ pub record HoldsOfDue (R : Keeping → List Line → Keeping → Type 0) : Type 
 -- It holds of each step of a policy.
 pub record HoldsOfSteps (R : Keeping → List Line → Keeping → Type 0) : Type 0 where
   pub due : HoldsOfDue R
-  pub ticks : (now : ℕ) (k : Keeping) → present k.host ≤ now → R k (Ticks now ∷ []) (having (Ticks now) k)
+  pub ticks : (now : ℕ) (k : Keeping) → present k.host ≤ now → R k (Calls (Tick now) ∷ []) (having (Calls (Tick now)) k)
   pub arrives : (d : DrawopValue) (k : Keeping) → R k (Arrives d ∷ []) (having (Arrives d) k)
   pub answered : (d : DrawopValue) (k : Keeping) → holds (view_of k.host) d.name ≡ false → is_asked (view_of k.host) d.name ≡ true → R k (Arrives d ∷ []) (with_policy (after_came k.policy) (having (Arrives d) k))
-  pub hears : (v : Datagram) (k : Keeping) → R k (Hears v ∷ []) (having (Hears v) k)
+  pub hears : (v : Datagram) (k : Keeping) → R k (Calls (Hear v) ∷ []) (having (Calls (Hear v)) k)
   -- outside of `wants` only a full board gives names up
-  pub stops : (name : NameValue) (k : Keeping) → is_full (view_of k.host) ≡ true → R k (Stops name ∷ []) (having (Stops name) k)
-  pub sets : (source micros : ℕ) (k : Keeping) → R k (SetsDistance source (bounded micros) ∷ []) (having (SetsDistance source (bounded micros)) k)
-  pub lends : (source : ℕ) (k : Keeping) → R k (SetsDistance source k.policy.usual ∷ []) (having (SetsDistance source k.policy.usual) k)
-  pub takes_back : (source : ℕ) (k : Keeping) → R k (SetsDistance source UNKNOWN_DISTANCE ∷ []) (having (SetsDistance source UNKNOWN_DISTANCE) k)
-  pub tunes : (constants : Tuning) (k : Keeping) → are_constants constants ≡ true → R k (Tunes constants ∷ []) (having (Tunes constants) k)
+  pub stops : (name : NameValue) (k : Keeping) → is_full (view_of k.host) ≡ true → R k (Calls (Stop name) ∷ []) (having (Calls (Stop name)) k)
+  pub sets : (source micros : ℕ) (k : Keeping) → R k (Calls (SetDelay source (bounded micros)) ∷ []) (having (Calls (SetDelay source (bounded micros))) k)
+  pub lends : (source : ℕ) (k : Keeping) → R k (Calls (SetDelay source k.policy.usual) ∷ []) (having (Calls (SetDelay source k.policy.usual)) k)
+  pub takes_back : (source : ℕ) (k : Keeping) → R k (Calls (SetDelay source UNKNOWN_DELAY) ∷ []) (having (Calls (SetDelay source UNKNOWN_DELAY)) k)
+  pub tunes : (constants : Tuning) (k : Keeping) → are_constants constants ≡ true → R k (Calls (Tune constants) ∷ []) (having (Calls (Tune constants)) k)
   pub draws : (d : DrawopValue) (k : Keeping) → R k (Says (Draw d) ∷ []) (having (Says (Draw d)) k)
-  pub measured : (micros : ℕ) (k : Keeping) → R k [] (with_policy (with_distance micros k.policy) k)
+  pub measured : (micros : ℕ) (k : Keeping) → R k [] (with_policy (after_echo micros k.policy) k)
   pub told : (k : Keeping) → R k [] (with_policy (after_state (present k.host) k.policy) k)
   pub takes_up : (k : Keeping) → is_to_answer (present k.host) (nat_lt 0 (length k.host.is.held)) k.policy.questions ≡ true → R k [] (with_policy (after_taking_up (present k.host) k.policy) k)
 
--- The same, where a session message of another is one step with the distance that it tells.
+-- The same, where a session message of another is one step with the delay that it tells.
 pub record HoldsOfParts (R : Keeping → List Line → Keeping → Type 0) : Type 0 where
   pub due : HoldsOfDue R
-  pub ticks : (now : ℕ) (k : Keeping) → present k.host ≤ now → R k (Ticks now ∷ []) (having (Ticks now) k)
+  pub ticks : (now : ℕ) (k : Keeping) → present k.host ≤ now → R k (Calls (Tick now) ∷ []) (having (Calls (Tick now)) k)
   pub arrives : (d : DrawopValue) (k : Keeping) → R k (Arrives d ∷ []) (having (Arrives d) k)
   pub answered : (d : DrawopValue) (k : Keeping) → holds (view_of k.host) d.name ≡ false → is_asked (view_of k.host) d.name ≡ true → R k (Arrives d ∷ []) (with_policy (after_came k.policy) (having (Arrives d) k))
-  pub hears_request : (asker : ℕ) (name : NameValue) (k : Keeping) → R k (Hears (Request asker name) ∷ []) (having (Hears (Request asker name)) k)
-  pub lends : (source : ℕ) (k : Keeping) → R k (SetsDistance source k.policy.usual ∷ []) (having (SetsDistance source k.policy.usual) k)
-  pub takes_back : (source : ℕ) (k : Keeping) → R k (SetsDistance source UNKNOWN_DISTANCE ∷ []) (having (SetsDistance source UNKNOWN_DISTANCE) k)
-  pub hears_marks : (sender : ℕ) (page : PageId) (marks : List MarkValue) (k : Keeping) → R k (Hears (PageState sender page marks) ∷ []) (having (Hears (PageState sender page marks)) k)
-  pub hears_distance : (sender sent : ℕ) (page : PageId) (marks : List MarkValue) (echoes : List Echo) (k : Keeping) → nat_eq sender k.host.is.number ≡ false
+  pub hears_request : (asker : ℕ) (name : NameValue) (k : Keeping) → R k (Calls (Hear (Request asker name)) ∷ []) (having (Calls (Hear (Request asker name))) k)
+  pub lends : (source : ℕ) (k : Keeping) → R k (Calls (SetDelay source k.policy.usual) ∷ []) (having (Calls (SetDelay source k.policy.usual)) k)
+  pub takes_back : (source : ℕ) (k : Keeping) → R k (Calls (SetDelay source UNKNOWN_DELAY) ∷ []) (having (Calls (SetDelay source UNKNOWN_DELAY)) k)
+  pub hears_marks : (sender : ℕ) (page : PageId) (marks : List MarkValue) (k : Keeping) → R k (Calls (Hear (PageState sender page marks)) ∷ []) (having (Calls (Hear (PageState sender page marks))) k)
+  pub hears_delay : (sender sent : ℕ) (page : PageId) (marks : List MarkValue) (echoes : List Echo) (k : Keeping) → nat_eq sender k.host.is.number ≡ false
       → let echo = own_echo k.host.is.number echoes in
-      let m = having (Hears (Session sender sent page marks echo)) k in
-      let d = measures sender (distance_in (present k.host) echo) (sees m.host) k.policy in
-      R k (Hears (Session sender sent page marks echo) ∷ d.lines) (having_done d m)
-  pub stops : (name : NameValue) (k : Keeping) → is_full (view_of k.host) ≡ true → R k (Stops name ∷ []) (having (Stops name) k)
-  pub tunes : (constants : Tuning) (k : Keeping) → are_constants constants ≡ true → R k (Tunes constants ∷ []) (having (Tunes constants) k)
+      let m = having (Calls (Hear (Session sender sent page marks echo))) k in
+      let d = measures sender (echoed_delay (present k.host) echo) (sees m.host) k.policy in
+      R k (Calls (Hear (Session sender sent page marks echo)) ∷ d.lines) (having_done d m)
+  pub stops : (name : NameValue) (k : Keeping) → is_full (view_of k.host) ≡ true → R k (Calls (Stop name) ∷ []) (having (Calls (Stop name)) k)
+  pub tunes : (constants : Tuning) (k : Keeping) → are_constants constants ≡ true → R k (Calls (Tune constants) ∷ []) (having (Calls (Tune constants)) k)
   pub draws : (d : DrawopValue) (k : Keeping) → R k (Says (Draw d) ∷ []) (having (Says (Draw d)) k)
   pub told : (k : Keeping) → R k [] (with_policy (after_state (present k.host) k.policy) k)
   pub takes_up : (k : Keeping) → is_to_answer (present k.host) (nat_lt 0 (length k.host.is.held)) k.policy.questions ≡ true → R k [] (with_policy (after_taking_up (present k.host) k.policy) k)
 
 -- what is so of each step is so of these
 module _ (R : Keeping → List Line → Keeping → Type 0) (is : HoldsOfSteps R) where
-  measured_holds : (sender : ℕ) (distance : Option ℕ) (k : Keeping) → let d = measures sender distance (sees k.host) k.policy in R k d.lines (having_done d k)
+  measured_holds : (sender : ℕ) (delay : Option ℕ) (k : Keeping) → let d = measures sender delay (sees k.host) k.policy in R k d.lines (having_done d k)
   measured_holds sender None k = is.due.nothing k
   measured_holds sender (Some micros) k = by (nat_eq (bounded micros) micros) where
     p : Policy
-    p = with_distance micros k.policy
+    p = after_echo micros k.policy
 
-    by : (b : Bool) → let d = doing p (cond b [] (SetsDistance sender (bounded micros) ∷ [])) in R k d.lines (having_done d k)
+    by : (b : Bool) → let d = doing p (cond b [] (Calls (SetDelay sender (bounded micros)) ∷ [])) in R k d.lines (having_done d k)
     by true = is.measured micros k
-    by false = is.due.both k (with_policy p k) (having_done (doing p (SetsDistance sender (bounded micros) ∷ [])) k) [] (SetsDistance sender (bounded micros) ∷ []) (is.measured micros k) (is.sets sender micros (with_policy p k))
+    by false = is.due.both k (with_policy p k) (having_done (doing p (Calls (SetDelay sender (bounded micros)) ∷ [])) k) [] (Calls (SetDelay sender (bounded micros)) ∷ []) (is.measured micros k) (is.sets sender micros (with_policy p k))
 
   parts_hold : HoldsOfParts R
   parts_hold = record {
@@ -122,12 +123,12 @@ module _ (R : Keeping → List Line → Keeping → Type 0) (is : HoldsOfSteps R
     lends = is.lends;
     takes_back = is.takes_back;
     hears_marks = λ sender page marks k. is.hears (PageState sender page marks) k;
-    hears_distance = λ sender sent page marks echoes k other.
+    hears_delay = λ sender sent page marks echoes k other.
         let echo = own_echo k.host.is.number echoes in
         let v = Session sender sent page marks echo in
-        let m = having (Hears v) k in
-        let d = measures sender (distance_in (present k.host) echo) (sees m.host) k.policy in
-        is.due.both k m (having_done d m) (Hears v ∷ []) d.lines (is.hears v k) (measured_holds sender (distance_in (present k.host) echo) m);
+        let m = having (Calls (Hear v)) k in
+        let d = measures sender (echoed_delay (present k.host) echo) (sees m.host) k.policy in
+        is.due.both k m (having_done d m) (Calls (Hear v) ∷ []) d.lines (is.hears v k) (measured_holds sender (echoed_delay (present k.host) echo) m);
     stops = is.stops;
     tunes = is.tunes;
     draws = is.draws;
@@ -273,9 +274,9 @@ module _ (R : Keeping → List Line → Keeping → Type 0) (is : HoldsOfDue R) 
       (then_holds asks_pages (and_then reports_due turns_due) asks_pages_hold (then_holds reports_due turns_due reports_due_hold turns_due_hold))
 
 module _ (R : Keeping → List Line → Keeping → Type 0) (is : HoldsOfParts R) where
-  stops_hold : (asked : List AskedName) (k : Keeping) → is_full (view_of k.host) ≡ true → HoldsOf R k (doing k.policy (map (λ (a : AskedName). Stops a.name) asked))
+  stops_hold : (asked : List AskedName) (k : Keeping) → is_full (view_of k.host) ≡ true → HoldsOf R k (doing k.policy (map (λ (a : AskedName). Calls (Stop a.name)) asked))
   stops_hold [] k full = is.due.nothing k
-  stops_hold (a ∷ asked) k full = is.due.both k (having (Stops a.name) k) (having_done (doing k.policy (map (λ (a : AskedName). Stops a.name) (a ∷ asked))) k) (Stops a.name ∷ []) (map (λ (a : AskedName). Stops a.name) asked) (is.stops a.name k full) (stops_hold asked (having (Stops a.name) k) full)
+  stops_hold (a ∷ asked) k full = is.due.both k (having (Calls (Stop a.name)) k) (having_done (doing k.policy (map (λ (a : AskedName). Calls (Stop a.name)) (a ∷ asked))) k) (Calls (Stop a.name) ∷ []) (map (λ (a : AskedName). Calls (Stop a.name)) asked) (is.stops a.name k full) (stops_hold asked (having (Calls (Stop a.name)) k) full)
 
   end_holds : (k : Keeping) → is_full (view_of k.host) ≡ true → HoldsAt R end k
   end_holds k full = stops_hold (view_of k.host).asked k full
@@ -332,13 +333,13 @@ module _ (R : Keeping → List Line → Keeping → Type 0) (is : HoldsOfParts R
       let v = view_of k.host in
       let own = own_marks v.me (nat_lt v.now k.policy.ready) marks in
       let echo = own_echo v.me echoes in
-      let line = Hears (Session sender sent page own echo) in
+      let line = Calls (Hear (Session sender sent page own echo)) in
       let names = told_names v.me page marks in
       let m = having line k in
-      let two = measures sender (distance_in v.now echo) (sees m.host) k.policy in
+      let two = measures sender (echoed_delay v.now echo) (sees m.host) k.policy in
       let behind = having_done two m in
       let three = want_told names (sees behind.host) two.policy in
-      let joined : R k (line ∷ (two.lines ++ three.lines)) (having_done three behind) = is.due.both k behind (having_done three behind) (line ∷ two.lines) three.lines (is.hears_distance sender sent page own echoes k other) (told_holds R is.due names behind) in
+      let joined : R k (line ∷ (two.lines ++ three.lines)) (having_done three behind) = is.due.both k behind (having_done three behind) (line ∷ two.lines) three.lines (is.hears_delay sender sent page own echoes k other) (told_holds R is.due names behind) in
       let there = subst (λ (h : Opened). R k (line ∷ (two.lines ++ three.lines)) (record { host = h; policy = three.policy })) (sym (after_both two.lines three.lines m.host)) joined in
       subst (λ (see : List Line → View). let e = want_told names see two.policy in HoldsOf R k (doing e.policy (line ∷ (two.lines ++ e.lines)))) (sym (seen_then two.lines m.host)) there
 
@@ -361,20 +362,20 @@ module _ (R : Keeping → List Line → Keeping → Type 0) (is : HoldsOfParts R
       (λ takes. is.takes_up k takes) (λ not_taken. is.due.nothing k)
 
   request_holds : (asker : ℕ) (name : NameValue) → Holds R (hears_request asker name)
-  request_holds asker name k = by (nat_eq ((view_of k.host).distance source) UNKNOWN_DISTANCE) where
+  request_holds asker name k = by (nat_eq ((view_of k.host).delay source) UNKNOWN_DELAY) where
     source : ℕ
     source = cond (holds (view_of k.host) name) asker name.source
 
     v : Datagram
     v = Request asker name
 
-    by : (b : Bool) → HoldsOf R k (doing k.policy (cond b (SetsDistance source k.policy.usual ∷ Hears v ∷ SetsDistance source UNKNOWN_DISTANCE ∷ []) (Hears v ∷ [])))
+    by : (b : Bool) → HoldsOf R k (doing k.policy (cond b (Calls (SetDelay source k.policy.usual) ∷ Calls (Hear v) ∷ Calls (SetDelay source UNKNOWN_DELAY) ∷ []) (Calls (Hear v) ∷ [])))
     by true =
-        let one = having (SetsDistance source k.policy.usual) k in
-        let two = having (Hears v) one in
-        let three = having (SetsDistance source UNKNOWN_DISTANCE) two in
-        is.due.both k one three (SetsDistance source k.policy.usual ∷ []) (Hears v ∷ SetsDistance source UNKNOWN_DISTANCE ∷ []) (is.lends source k)
-        (is.due.both one two three (Hears v ∷ []) (SetsDistance source UNKNOWN_DISTANCE ∷ []) (is.hears_request asker name one) (is.takes_back source two))
+        let one = having (Calls (SetDelay source k.policy.usual)) k in
+        let two = having (Calls (Hear v)) one in
+        let three = having (Calls (SetDelay source UNKNOWN_DELAY)) two in
+        is.due.both k one three (Calls (SetDelay source k.policy.usual) ∷ []) (Calls (Hear v) ∷ Calls (SetDelay source UNKNOWN_DELAY) ∷ []) (is.lends source k)
+        (is.due.both one two three (Calls (Hear v) ∷ []) (Calls (SetDelay source UNKNOWN_DELAY) ∷ []) (is.hears_request asker name one) (is.takes_back source two))
     by false = is.hears_request asker name k
 
   of_other_holds : (sender : ℕ) (does : Transition) (k : Keeping) → (nat_eq sender k.host.is.number ≡ false → HoldsAt R does k) → HoldsOf R k (cond (nat_eq sender k.host.is.number) (still (sees k.host) k.policy) (does (sees k.host) k.policy))
@@ -391,14 +392,14 @@ module _ (R : Keeping → List Line → Keeping → Type 0) (is : HoldsOfParts R
 
   pub line_of_parts : (line : KeptLine) (k : Keeping) → fault_of line k ≡ None → HoldsAt R (doing_of line) k
   line_of_parts (Came now v) k none =
-      let first = performs (Ticks now) in
+      let first = performs (Calls (Tick now)) in
       let later = leb-true _ _ (unless_true (nat_le (present k.host) now) _ (first_none _ _ none)) in
       then_at R is.due first (and_then (hears v) timed) k (is.ticks now k later) (then_holds R is.due (hears v) timed (hears_holds v) (timed_holds R is.due) (after_doing first k))
   line_of_parts (Ticked now) k none =
       let later = leb-true _ _ (unless_true (nat_le (present k.host) now) _ (first_none _ _ none)) in
-      then_at R is.due (performs (Ticks now)) timed k (is.ticks now k later) (timed_holds R is.due (after_doing (performs (Ticks now)) k))
+      then_at R is.due (performs (Calls (Tick now))) timed k (is.ticks now k later) (timed_holds R is.due (after_doing (performs (Calls (Tick now))) k))
   line_of_parts (Added now page time op) k none =
-      let first = performs (Ticks now) in
+      let first = performs (Calls (Tick now)) in
       let second = draws_it page time op in
       let later = leb-true _ _ (unless_true (nat_le (present k.host) now) _ (first_none _ _ (first_none _ _ none))) in
       then_at R is.due first (and_then second (and_then ends_full timed)) k (is.ticks now k later)

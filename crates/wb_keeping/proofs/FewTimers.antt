@@ -10,9 +10,10 @@ use Rattle.wb_recovery.specs.Events.{timers_of}
 use Rattle.wb_recovery.specs.declared.tuning.Tuning.{Tuning}
 use Rattle.wb_member.specs.Judged.{asked_names}
 use Rattle.wb_member.specs.Opened.{Opened, events, opened_with, present}
+use Rattle.wb_member.specs.declared.calls.Call.TheVariants.{Tick, SetDelay, Ask, Stop}
 use Rattle.wb_keeping.specs.Bounds.{FewRequestsAtOnce, FewTimersStand, is_ask, new_keeping, timer_count}
-use Rattle.wb_recovery.specs.declared.limits.TheConstants.{UNKNOWN_DISTANCE}
-use Rattle.wb_keeping.specs.Kept.{Asks, Line, Stops, Ticks, room_lines, still, stops_one, want, lending, SetsDistance}
+use Rattle.wb_recovery.specs.declared.limits.TheConstants.{UNKNOWN_DELAY}
+use Rattle.wb_keeping.specs.Kept.{Line, room_lines, still, stops_one, want, lending, Calls, ticks_at}
 use Rattle.wb_keeping.specs.Laws.{AreTaken, KeptLine, expand}
 use Rattle.wb_keeping.specs.Performing.{Keeping, after_line, after_lines, sees, view_of}
 use Rattle.wb_policy.specs.Policy.{Policy, after_wanting}
@@ -68,18 +69,18 @@ few_quietly (line ∷ lines) host none few = let le = no_more line host none.0 i
 
 -- ---- a name that is wanted
 
-asks_one : (name : NameValue) (host : Opened) → timer_count host ≤ 63 → (timer_count host ≤ 64) × (timer_count (after_line (Asks name) host) ≤ 64)
+asks_one : (name : NameValue) (host : Opened) → timer_count host ≤ 63 → (timer_count host ≤ 64) × (timer_count (after_line (Calls (Ask name)) host) ≤ 64)
 asks_one name host few = let le = one_more name host in (omega (arith, few), omega (arith, le, few))
 
-lent_few : (source distance usual : ℕ) (name : NameValue) (host : Opened) → timer_count host ≤ 63 → AreFew (lending source distance usual (Asks name)) host
-lent_few source distance usual name host few = by (nat_eq distance UNKNOWN_DISTANCE) where
-  by : (b : Bool) → AreFew (cond b (SetsDistance source usual ∷ Asks name ∷ SetsDistance source UNKNOWN_DISTANCE ∷ []) (Asks name ∷ [])) host
+lent_few : (source delay usual : ℕ) (name : NameValue) (host : Opened) → timer_count host ≤ 63 → AreFew (lending source delay usual (Calls (Ask name))) host
+lent_few source delay usual name host few = by (nat_eq delay UNKNOWN_DELAY) where
+  by : (b : Bool) → AreFew (cond b (Calls (SetDelay source usual) ∷ Calls (Ask name) ∷ Calls (SetDelay source UNKNOWN_DELAY) ∷ []) (Calls (Ask name) ∷ [])) host
   by false = asks_one name host few
   by true =
-      let one = after_line (SetsDistance source usual) host in
-      let less = no_more (SetsDistance source usual) host refl in
+      let one = after_line (Calls (SetDelay source usual)) host in
+      let less = no_more (Calls (SetDelay source usual)) host refl in
       let asks = asks_one name one (omega (arith, less, few)) in
-      let then = no_more (SetsDistance source UNKNOWN_DISTANCE) (after_line (Asks name) one) refl in
+      let then = no_more (Calls (SetDelay source UNKNOWN_DELAY)) (after_line (Calls (Ask name)) one) refl in
       let last = asks.1 in
       (omega (arith, few), (asks.0, (asks.1, omega (arith, then, last))))
 
@@ -129,7 +130,7 @@ way_made host (a ∷ later) e few = by (gives_way (length (a ∷ later)) (fold o
 room_made : (name : NameValue) (host : Opened) → timer_count host ≤ 64 → AreFew (room_lines name (view_of host)) host × (timer_count (after_lines (room_lines name (view_of host)) host) ≤ 63)
 room_made name host few = by (is_asked (view_of host) name) refl where
   lines_by : Bool → List Line
-  lines_by a = cond a (Stops name ∷ []) (stops_one (giving_way (view_of host).asked))
+  lines_by a = cond a (Calls (Stop name) ∷ []) (stops_one (giving_way (view_of host).asked))
 
   by : (a : Bool) → is_asked (view_of host) name ≡ a → AreFew (lines_by a) host × (timer_count (after_lines (lines_by a) host) ≤ 63)
   by true e = let lt = one_less name host (stands_asked host name e) in ((few, omega (arith, lt, few)), omega (arith, lt, few))
@@ -141,8 +142,8 @@ wanted_few name anew k few = by (is_wanted (holds (view_of k.host) name) (is_ful
   by false = few
   by true =
       let room = room_made name k.host few in
-      few_both (room_lines name (view_of k.host)) (lending name.source ((view_of k.host).distance name.source) k.policy.usual (Asks name)) k.host room.0
-      (lent_few name.source ((view_of k.host).distance name.source) k.policy.usual name (after_lines (room_lines name (view_of k.host)) k.host) room.1)
+      few_both (room_lines name (view_of k.host)) (lending name.source ((view_of k.host).delay name.source) k.policy.usual (Calls (Ask name))) k.host room.0
+      (lent_few name.source ((view_of k.host).delay name.source) k.policy.usual name (after_lines (room_lines name (view_of k.host)) k.host) room.1)
 
 -- ---- all that a kept host does
 
@@ -174,7 +175,7 @@ steps_keep_few = record {
     asks_pages = λ k is. quietly k _ _ (refl, tt);
     reports = λ page until told k is. quietly k _ _ (refl, tt);
   };
-  ticks = λ now k later. quietly k (Ticks now ∷ []) k.policy (refl, tt);
+  ticks = λ now k later. quietly k (Calls (Tick now) ∷ []) k.policy (refl, tt);
   arrives = λ d k. quietly k _ k.policy (refl, tt);
   answered = λ d k lacks asked. quietly k _ _ (refl, tt);
   hears = λ v k. quietly k _ k.policy (refl, tt);
@@ -190,14 +191,14 @@ steps_keep_few = record {
 }
 
 -- none stands at first
-ticks_ask_nothing : (moments : List ℕ) → AskNothing (map Ticks moments)
+ticks_ask_nothing : (moments : List ℕ) → AskNothing (ticks_at moments)
 ticks_ask_nothing [] = tt
 ticks_ask_nothing (moment ∷ moments) = (refl, ticks_ask_nothing moments)
 
 few_from_new : (constants : Tuning) (number cells seed : ℕ) (moments : List ℕ) (policy : Policy) (lines : List KeptLine) → let start = new_keeping constants number cells seed moments policy in AreTaken lines start → AreFew (expand lines start) start.host
 few_from_new constants number cells seed moments policy lines taken =
     let start = new_keeping constants number cells seed moments policy in
-    let none = none_more (map Ticks moments) (opened_with constants number cells seed) 0 (ticks_ask_nothing moments) (omega arith) in
+    let none = none_more (ticks_at moments) (opened_with constants number cells seed) 0 (ticks_ask_nothing moments) (omega arith) in
     (all_hold KeepsFew steps_keep_few lines start taken).few (omega (arith, none))
 
 pub few_timers_stand : FewTimersStand

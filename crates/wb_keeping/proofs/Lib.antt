@@ -12,6 +12,7 @@ pub mod KeptHosts
 pub mod Unlocked
 pub mod Refused
 pub mod Saying
+pub mod PolicyCalls
 pub mod EachStep
 pub mod StandingTimers
 pub mod FewTimers
@@ -21,7 +22,7 @@ pub mod ToldReports
 pub mod WantedNames
 pub mod BackedOff
 pub mod SpacedLines
-pub mod KeptDistances
+pub mod KeptDelays
 pub mod AptLines
 pub mod SeldomRequested
 pub mod ToldParts

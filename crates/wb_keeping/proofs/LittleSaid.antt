@@ -13,12 +13,13 @@ use Rattle.wb_gaps.specs.Answers.{pages_of, report_of}
 use Rattle.wb_member.specs.Members.{Misses}
 use Rattle.wb_member.specs.Opened.{Opened, doing as doing_act, has_room_for, heard, may_ask, present}
 use Rattle.wb_member.specs.Random.{word_of}
+use Rattle.wb_member.specs.declared.calls.Call.TheVariants.{Tick, Hear, SetDelay, Tune, Look, Ask, Stop}
 use Rattle.wb_keeping.specs.Bounds.{FewNamesAreAsked, LittleIsSaid, answer_count, ask_count, is_ask, is_question, is_report, is_state}
 use Rattle.wb_policy.specs.Credit.{has_credit}
-use Rattle.wb_policy.specs.Distances.{bounded}
-use Rattle.wb_recovery.specs.declared.limits.TheConstants.{UNKNOWN_DISTANCE}
+use Rattle.wb_policy.specs.Delays.{bounded}
+use Rattle.wb_recovery.specs.declared.limits.TheConstants.{UNKNOWN_DELAY}
 use Rattle.wb_policy.specs.Choices.{last_heard}
-use Rattle.wb_keeping.specs.Kept.{Arrives, Asks, Doing, Hears, Line, Says, SetsDistance, Tunes, Stops, Ticks, reports_page, room_lines, state_of, still, want, lending}
+use Rattle.wb_keeping.specs.Kept.{Arrives, Doing, Line, Says, reports_page, room_lines, state_of, still, want, lending, Calls}
 use Rattle.wb_keeping.specs.Laws.{AreTaken, KeptLine, after_kept, expand}
 use Rattle.wb_keeping.specs.Performing.{Keeping, after_doing, after_line, after_lines, sees, view_of}
 use Rattle.wb_policy.specs.Policy.{Policy, after_answer, after_came, after_question, after_state, after_taking_up, after_wanting, draws}
@@ -142,13 +143,11 @@ recount start wait now owed due q c d a b e f g w = record {
 -- ---- lines of which nothing is counted
 
 abbrev IsPlain : Line → Type 0
-IsPlain (Ticks now) = ⊥
+IsPlain (Calls (Tick now)) = ⊥
 IsPlain (Arrives d) = ⊥
-IsPlain (Hears v) = Unit {0}
-IsPlain (Asks name) = ⊥
-IsPlain (Stops name) = Unit {0}
-IsPlain (SetsDistance source micros) = Unit {0}
-IsPlain (Tunes constants) = Unit {0}
+IsPlain (Calls (Ask name)) = ⊥
+IsPlain (Calls (Look page)) = ⊥
+IsPlain (Calls call) = Unit {0}
 IsPlain (Says v) = ⊥
 
 abbrev ArePlain : List Line → Type 0
@@ -158,7 +157,7 @@ present_heard : (v : Datagram) (host : Opened) (b : Bool) → present (cond b (h
 present_heard v host true = refl
 present_heard v host false = refl
 
-present_asks : (name : NameValue) (host : Opened) → present (after_line (Asks name) host) ≡ present host
+present_asks : (name : NameValue) (host : Opened) → present (after_line (Calls (Ask name)) host) ≡ present host
 present_asks name host = by (may_ask name host) where
   by : (b : Bool) → present (cond b (doing_act (Misses (present host) (name ∷ []) (word_of host.random ∷ [])) 1 host) host) ≡ present host
   by true = refl
@@ -166,13 +165,11 @@ present_asks name host = by (may_ask name host) where
 
 present_plain : (lines : List Line) (host : Opened) → ArePlain lines → present (after_lines lines host) ≡ present host
 present_plain [] host plain = refl
-present_plain (Hears v ∷ lines) host plain = present_plain lines (after_line (Hears v) host) plain.1 ∙ present_heard v host (has_room_for v host)
-present_plain (Stops name ∷ lines) host plain = present_plain lines (after_line (Stops name) host) plain.1
-present_plain (SetsDistance source micros ∷ lines) host plain = present_plain lines (after_line (SetsDistance source micros) host) plain.1
-present_plain (Tunes constants ∷ lines) host plain = present_plain lines (after_line (Tunes constants) host) plain.1
-present_plain (Ticks now ∷ lines) host plain = absurd plain.0
+present_plain (Calls (Hear v) ∷ lines) host plain = present_plain lines (after_line (Calls (Hear v)) host) plain.1 ∙ present_heard v host (has_room_for v host)
+present_plain (Calls (Tick now) ∷ lines) host plain = absurd plain.0
 present_plain (Arrives d ∷ lines) host plain = absurd plain.0
-present_plain (Asks name ∷ lines) host plain = absurd plain.0
+present_plain (Calls (Ask name) ∷ lines) host plain = absurd plain.0
+present_plain (Calls call ∷ lines) host plain = present_plain lines (after_line (Calls call) host) plain.1
 present_plain (Says v ∷ lines) host plain = absurd plain.0
 
 record CountsNothing (lines : List Line) (host : Opened) : Type 0 where
@@ -184,13 +181,11 @@ record CountsNothing (lines : List Line) (host : Opened) : Type 0 where
 
 plain_nothing : (lines : List Line) (host : Opened) → ArePlain lines → CountsNothing lines host
 plain_nothing [] host plain = record { asks = refl; comes = refl; reports = refl; states = refl; questions = refl }
-plain_nothing (Hears v ∷ lines) host plain = let n = plain_nothing lines (after_line (Hears v) host) plain.1 in record { asks = n.asks; comes = let c = n.comes in omega (arith, c); reports = n.reports; states = n.states; questions = n.questions }
-plain_nothing (Stops name ∷ lines) host plain = let n = plain_nothing lines (after_line (Stops name) host) plain.1 in record { asks = n.asks; comes = let c = n.comes in omega (arith, c); reports = n.reports; states = n.states; questions = n.questions }
-plain_nothing (SetsDistance source micros ∷ lines) host plain = let n = plain_nothing lines (after_line (SetsDistance source micros) host) plain.1 in record { asks = n.asks; comes = let c = n.comes in omega (arith, c); reports = n.reports; states = n.states; questions = n.questions }
-plain_nothing (Tunes constants ∷ lines) host plain = let n = plain_nothing lines (after_line (Tunes constants) host) plain.1 in record { asks = n.asks; comes = let c = n.comes in omega (arith, c); reports = n.reports; states = n.states; questions = n.questions }
-plain_nothing (Ticks now ∷ lines) host plain = absurd plain.0
+plain_nothing (Calls (Tick now) ∷ lines) host plain = absurd plain.0
 plain_nothing (Arrives d ∷ lines) host plain = absurd plain.0
-plain_nothing (Asks name ∷ lines) host plain = absurd plain.0
+plain_nothing (Calls (Ask name) ∷ lines) host plain = absurd plain.0
+plain_nothing (Calls (Look page) ∷ lines) host plain = absurd plain.0
+plain_nothing (Calls call ∷ lines) host plain = let n = plain_nothing lines (after_line (Calls call) host) plain.1 in record { asks = n.asks; comes = let c = n.comes in omega (arith, c); reports = n.reports; states = n.states; questions = n.questions }
 plain_nothing (Says v ∷ lines) host plain = absurd plain.0
 
 -- nothing is counted, time stands, and of the policy nothing changes that is looked at
@@ -275,7 +270,7 @@ some_pass : (start now then gap spent : ℕ) (o : Option ℕ) → now ≤ then �
 some_pass start now then gap spent None le s = tt
 some_pass start now then gap spent (Some moment) le s = time_passes start now then moment gap spent le s
 
-ticks_keep : (now : ℕ) (k : Keeping) → present k.host ≤ now → Keeps k (Ticks now ∷ []) (having (Ticks now) k)
+ticks_keep : (now : ℕ) (k : Keeping) → present k.host ≤ now → Keeps k (Calls (Tick now) ∷ []) (having (Calls (Tick now)) k)
 ticks_keep now k later = record {
   at = refl;
   within = λ start wait c d up w.
@@ -308,7 +303,7 @@ ticks_keep now k later = record {
 -- ---- a name is wanted
 
 -- the name is asked for last, and paid for
-asks_keep : (name : NameValue) (k : Keeping) → IsTrue (has_credit k.policy.owed (present k.host)) → Keeps k (Asks name ∷ []) (with_policy (after_wanting (present k.host) k.policy) (having (Asks name) k))
+asks_keep : (name : NameValue) (k : Keeping) → IsTrue (has_credit k.policy.owed (present k.host)) → Keeps k (Calls (Ask name) ∷ []) (with_policy (after_wanting (present k.host) k.policy) (having (Calls (Ask name)) k))
 asks_keep name k credit = record {
   at = refl;
   within = λ start wait c d up w.
@@ -330,21 +325,21 @@ asks_keep name k credit = record {
       });
 }
 
--- and so where a distance is lent for that
-lent_keeps : (source distance : ℕ) (name : NameValue) (k : Keeping) → IsTrue (has_credit k.policy.owed (present k.host))
-    → Keeps k (lending source distance k.policy.usual (Asks name)) (having_done (doing (after_wanting (present k.host) k.policy) (lending source distance k.policy.usual (Asks name))) k)
-lent_keeps source distance name k credit = by (nat_eq distance UNKNOWN_DISTANCE) where
+-- and so where a delay is lent for that
+lent_keeps : (source delay : ℕ) (name : NameValue) (k : Keeping) → IsTrue (has_credit k.policy.owed (present k.host))
+    → Keeps k (lending source delay k.policy.usual (Calls (Ask name))) (having_done (doing (after_wanting (present k.host) k.policy) (lending source delay k.policy.usual (Calls (Ask name)))) k)
+lent_keeps source delay name k credit = by (nat_eq delay UNKNOWN_DELAY) where
   p : Policy
   p = after_wanting (present k.host) k.policy
 
-  by : (b : Bool) → let lines = cond b (SetsDistance source k.policy.usual ∷ Asks name ∷ SetsDistance source UNKNOWN_DISTANCE ∷ []) (Asks name ∷ []) in Keeps k lines (having_done (doing p lines) k)
+  by : (b : Bool) → let lines = cond b (Calls (SetDelay source k.policy.usual) ∷ Calls (Ask name) ∷ Calls (SetDelay source UNKNOWN_DELAY) ∷ []) (Calls (Ask name) ∷ []) in Keeps k lines (having_done (doing p lines) k)
   by false = asks_keep name k credit
   by true =
-      let one = having (SetsDistance source k.policy.usual) k in
-      let two = with_policy p (having (Asks name) one) in
-      let three = having (SetsDistance source UNKNOWN_DISTANCE) two in
-      both_keep k one three (SetsDistance source k.policy.usual ∷ []) (Asks name ∷ SetsDistance source UNKNOWN_DISTANCE ∷ []) (plainly k (SetsDistance source k.policy.usual ∷ []) (tt, tt))
-      (both_keep one two three (Asks name ∷ []) (SetsDistance source UNKNOWN_DISTANCE ∷ []) (asks_keep name one credit) (plainly two (SetsDistance source UNKNOWN_DISTANCE ∷ []) (tt, tt)))
+      let one = having (Calls (SetDelay source k.policy.usual)) k in
+      let two = with_policy p (having (Calls (Ask name)) one) in
+      let three = having (Calls (SetDelay source UNKNOWN_DELAY)) two in
+      both_keep k one three (Calls (SetDelay source k.policy.usual) ∷ []) (Calls (Ask name) ∷ Calls (SetDelay source UNKNOWN_DELAY) ∷ []) (plainly k (Calls (SetDelay source k.policy.usual) ∷ []) (tt, tt))
+      (both_keep one two three (Calls (Ask name) ∷ []) (Calls (SetDelay source UNKNOWN_DELAY) ∷ []) (asks_keep name one credit) (plainly two (Calls (SetDelay source UNKNOWN_DELAY) ∷ []) (tt, tt)))
 
 wants_keep : (name : NameValue) (anew : Bool) (k : Keeping) → Keeps k (want name anew (sees k.host) k.policy).lines (after_doing (want name anew) k)
 wants_keep name anew k = by (is_wanted (holds v name) (is_full v) anew (is_known v name.source) (level v name) k.policy.owed (present k.host)) refl where
@@ -355,7 +350,7 @@ wants_keep name anew k = by (is_wanted (holds v name) (is_full v) anew (is_known
   room = room_lines name v
 
   last : List Line
-  last = lending name.source (v.distance name.source) k.policy.usual (Asks name)
+  last = lending name.source (v.delay name.source) k.policy.usual (Calls (Ask name))
 
   room_plain : ArePlain room
   room_plain = room_each IsPlain (λ name. tt) name v
@@ -369,7 +364,7 @@ wants_keep name anew k = by (is_wanted (holds v name) (is_full v) anew (is_known
       let credit = has_place (anew || is_known v name.source) k.policy.owed (present k.host) (all_four (holds v name) (is_full v) (goes_on anew (level v name)) (is_paid (anew || is_known v name.source) k.policy.owed (present k.host)) e).0 in
       let one = having_done (doing k.policy room) k in
       let stands : present one.host ≡ present k.host = present_plain room k.host room_plain in
-      let asked = lent_keeps name.source (v.distance name.source) name one (subst (λ (n : ℕ). IsTrue (has_credit k.policy.owed n)) (sym stands) credit) in
+      let asked = lent_keeps name.source (v.delay name.source) name one (subst (λ (n : ℕ). IsTrue (has_credit k.policy.owed n)) (sym stands) credit) in
       let end = having_done (doing (after_wanting (present one.host) k.policy) last) one in
       let all = both_keep k one end room last (plainly k room room_plain) asked in
       let there : end.host ≡ after_lines (room ++ last) k.host = all.at in
@@ -559,12 +554,12 @@ steps_keep = record {
   ticks = ticks_keep;
   arrives = arrives_keep;
   answered = answered_keep;
-  hears = λ v k. plainly k (Hears v ∷ []) (tt, tt);
-  stops = λ name k full. plainly k (Stops name ∷ []) (tt, tt);
-  sets = λ source micros k. plainly k (SetsDistance source (bounded micros) ∷ []) (tt, tt);
-  lends = λ source k. plainly k (SetsDistance source k.policy.usual ∷ []) (tt, tt);
-  takes_back = λ source k. plainly k (SetsDistance source UNKNOWN_DISTANCE ∷ []) (tt, tt);
-  tunes = λ constants k within. plainly k (Tunes constants ∷ []) (tt, tt);
+  hears = λ v k. plainly k (Calls (Hear v) ∷ []) (tt, tt);
+  stops = λ name k full. plainly k (Calls (Stop name) ∷ []) (tt, tt);
+  sets = λ source micros k. plainly k (Calls (SetDelay source (bounded micros)) ∷ []) (tt, tt);
+  lends = λ source k. plainly k (Calls (SetDelay source k.policy.usual) ∷ []) (tt, tt);
+  takes_back = λ source k. plainly k (Calls (SetDelay source UNKNOWN_DELAY) ∷ []) (tt, tt);
+  tunes = λ constants k within. plainly k (Calls (Tune constants) ∷ []) (tt, tt);
   draws = draws_keep;
   measured = λ micros k. quietly k [] _ (plain_nothing [] k.host tt) refl refl refl refl;
   told = told_keep;

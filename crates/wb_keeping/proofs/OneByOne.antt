@@ -2,7 +2,8 @@
 use Rattle.std.proofs.Common.{◌≡◌, ℕ, ◌+◌, ◌<◌, ◌≤◌, Bool, true, false, cond, List, [], ◌∷◌, ◌∙◌, ap, drop, get_or, length, map, subst, sym}
 use Rattle.std.proofs.lemmas.List.{drop_all, drop_more}
 use Rattle.wb_names.specs.Values.{NameValue}
-use Rattle.wb_keeping.specs.Kept.{Doing, Line, Stops, and_then, is_begun, is_unasked, still, want, want_near, want_told}
+use Rattle.wb_member.specs.declared.calls.Call.TheVariants.{Stop}
+use Rattle.wb_keeping.specs.Kept.{Calls, Doing, Line, and_then, is_begun, is_unasked, still, stops_for, want, want_near, want_told}
 use Rattle.wb_keeping.specs.Performing.{DoesQuietly, IsKeptAt, Keeping, KeptValue, sees, view_of}
 use Rattle.wb_policy.specs.Policy.{Policy}
 use Rattle.wb_keeping.specs.Views.{View}
@@ -21,8 +22,8 @@ at_end P xs i le p = subst P (sym (drop_all i xs le)) p
 
 -- ---- names that are stopped, and wanted
 
-pub stop_next : (names : List NameValue) (i : ℕ) (d : NameValue) {a b c : KeptValue} → i < length names → DoesQuietly (performs_all (Stops (get_or names i d) ∷ [])) a b → DoesQuietly (performs_all (map Stops (drop (i + 1) names))) b c → DoesQuietly (performs_all (map Stops (drop i names))) a c
-stop_next names i d {a} {b} {c} lt one rest = at_next (λ (ns : List NameValue). DoesQuietly (performs_all (map Stops ns)) a c) names i d lt (quiet_more (Stops (get_or names i d) ∷ []) (map Stops (drop (i + 1) names)) one rest)
+pub stop_next : (names : List NameValue) (i : ℕ) (d : NameValue) {a b c : KeptValue} → i < length names → DoesQuietly (performs_all (Calls (Stop (get_or names i d)) ∷ [])) a b → DoesQuietly (performs_all (stops_for (drop (i + 1) names))) b c → DoesQuietly (performs_all (stops_for (drop i names))) a c
+stop_next names i d {a} {b} {c} lt one rest = at_next (λ (ns : List NameValue). DoesQuietly (performs_all (stops_for ns)) a c) names i d lt (quiet_more (Calls (Stop (get_or names i d)) ∷ []) (stops_for (drop (i + 1) names)) one rest)
 
 pub told_next : (names : List NameValue) (i : ℕ) (d : NameValue) {a b c : KeptValue} → i < length names → DoesQuietly (want (get_or names i d) true) a b → DoesQuietly (want_told (drop (i + 1) names)) b c → DoesQuietly (want_told (drop i names)) a c
 told_next names i d {a} {b} {c} lt one rest = at_next (λ (ns : List NameValue). DoesQuietly (want_told ns) a c) names i d lt (quiet_then (want (get_or names i d) true) (want_told (drop (i + 1) names)) one rest)

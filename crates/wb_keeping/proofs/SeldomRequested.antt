@@ -11,8 +11,9 @@ use Rattle.wb_names.proofs.Listings.{Contains-here, Contains-there}
 use Rattle.wb_codec.specs.declared.datagram.Datagram.{Datagram}
 use Rattle.wb_recovery.specs.declared.timers.AskTimer.{AskTimer}
 use Rattle.wb_member.specs.Opened.{Opened, present}
+use Rattle.wb_member.specs.declared.calls.Call.TheVariants.{Ask}
 use Rattle.wb_keeping.specs.Bounds.{NamesAreSeldomRequested, new_keeping, request_count, requests}
-use Rattle.wb_keeping.specs.Kept.{Asks, Line}
+use Rattle.wb_keeping.specs.Kept.{Calls, Line}
 use Rattle.wb_keeping.specs.Performing.{after_line, after_lines, sent_by_line, sent_by_lines}
 use Rattle.wb_keeping.proofs.AptLines.{apt_from_new, apt_parts, new_spaced}
 use Rattle.wb_keeping.proofs.BackedOff.{Backs, Rests}
@@ -99,16 +100,16 @@ module _ (n : NameValue) (begin end : ℕ) (short : end ≤ begin + 600000000) w
         by true e later = let lt = ltb-true times 15 e in omega (arith, lt)
         by false e later = let ge = ltb-false times 15 e in absurd (too_late times now later within (omega (arith, ge, most)))
 
-  moved : (times now count : ℕ) (line : Line) (old new : Option AskTimer) → times ≤ 15 → begin + passed times ≤ now → now ≤ end → IsAfter times old → (line ≡ Asks n → ⊥)
+  moved : (times now count : ℕ) (line : Line) (old new : Option AskTimer) → times ≤ 15 → begin + passed times ≤ now → now ≤ end → IsAfter times old → (line ≡ Calls (Ask n) → ⊥)
       → Moves n line now count old new → Requested times count now new
   moved times now count line old new most late within is other moves = ⊎_elim
       (λ (r : Rests old new × (count ≡ 0)).
       let none = r.1 in
       record { then = times; most = most; more = omega (arith, none); late = late; after = rests_after times old new is r.0 })
-      (λ (rest : ((b : Backs now old new) × (count ≤ 1) × ((count ≡ 0) ⊎ (b.x.due ≤ now))) ⊎ (line ≡ Asks n)). ⊎_elim
+      (λ (rest : ((b : Backs now old new) × (count ≤ 1) × ((count ≡ 0) ⊎ (b.x.due ≤ now))) ⊎ (line ≡ Calls (Ask n))). ⊎_elim
       (λ (b : (b : Backs now old new) × (count ≤ 1) × ((count ≡ 0) ⊎ (b.x.due ≤ now))).
       backs times now count old new b.0 most late within b.1 b.2 (subst (IsAfter times) b.0.was is))
-      (λ (asks : line ≡ Asks n). absurd (other asks))
+      (λ (asks : line ≡ Calls (Ask n)). absurd (other asks))
       rest)
       moves
 
@@ -121,7 +122,7 @@ module _ (n : NameValue) (begin end : ℕ) (short : end ≤ begin + 600000000) w
   late_next times [] host apt late = tt
   late_next times (line ∷ lines) host apt late = let later = line_later line host apt.0 in omega (arith, later, late)
 
-  seldom : (lines : List Line) (host : Opened) (times : ℕ) → AreApt lines host → IsSpacedHost host → (Contains lines (Asks n) → ⊥) → IsLate times lines host
+  seldom : (lines : List Line) (host : Opened) (times : ℕ) → AreApt lines host → IsSpacedHost host → (Contains lines (Calls (Ask n)) → ⊥) → IsLate times lines host
       → present (after_lines lines host) ≤ end → times ≤ 15 → IsAfter times (ask_at n host) → request_count n (sent_by_lines lines host) + times ≤ 15
   seldom [] host times apt spaced none late within most is = omega (arith, most)
   seldom (line ∷ lines) host times apt spaced none late within most is =
@@ -129,9 +130,9 @@ module _ (n : NameValue) (begin end : ℕ) (short : end ≤ begin + 600000000) w
       let later = lines_later lines next apt.1 in
       let count = request_count n (sent_by_line line host) in
       let moves = line_moves n line host apt.0 spaced in
-      let other = λ (e : line ≡ Asks n). none (subst (λ (l : Line). Contains (line ∷ lines) l) e (Contains-here line lines)) in
+      let other = λ (e : line ≡ Calls (Ask n)). none (subst (λ (l : Line). Contains (line ∷ lines) l) e (Contains-here line lines)) in
       let one = moved times (present next) count line (ask_at n host) (ask_at n next) most late (omega (arith, later, within)) is other moves in
-      let none_later = λ (c : Contains lines (Asks n)). none (Contains-there line (Asks n) lines c) in
+      let none_later = λ (c : Contains lines (Calls (Ask n))). none (Contains-there line (Calls (Ask n)) lines c) in
       let after = line_spaced line host apt.0 spaced in
       let rest = seldom lines next one.then apt.1 after none_later (late_next one.then lines next apt.1 one.late) within one.most one.after in
       let more = one.more in

@@ -29,27 +29,28 @@ use Rattle.wb_member.specs.Judged.{delay}
 use Rattle.wb_member.specs.Members.{Misses}
 use Rattle.wb_member.specs.Opened.{Opened, accepted, asks_for, becomes, doing, due_count, events, has_room_for, heard, may_ask, present, word_at}
 use Rattle.wb_member.specs.Random.{word_of, words_of}
+use Rattle.wb_member.specs.declared.calls.Call.TheVariants as calls
 use Rattle.wb_keeping.specs.Bounds.{is_request, request_count, requests}
-use Rattle.wb_keeping.specs.Kept.{Arrives, Asks, Hears, Line, Says, SetsDistance, Stops, Ticks, Tunes}
+use Rattle.wb_keeping.specs.Kept.{Arrives, Calls, Line, Says}
 use Rattle.wb_keeping.specs.Performing.{after_line, after_lines, said_where, sent_by_line}
 use Rattle.wb_keeping.proofs.StandingTimers.{answers_in, drawn_requests, heard_requests}
 use Rattle.wb_keeping.proofs.BackedOff.{AreSpaced, Backs, IsLong, Rests, asked_backs, fired_backs, receipts_rest, spaced_constants, spaced_long, spaced_receipts}
 
 -- ---- lines that bring no delay below 10 milliseconds to a timer
 
--- Time does not go back. If a timer is set or may be backed off, the distance is not below 10 milliseconds.
+-- Time does not go back. If a timer is set or may be backed off, the delay is not below 10 milliseconds.
 abbrev pub IsApt : Line → Opened → Type 0
-IsApt (Ticks now) host = present host ≤ now
+IsApt (Calls (calls.Tick now)) host = present host ≤ now
 IsApt (Arrives d) host = Unit {0}
-IsApt (Hears (Draw d)) host = Unit {0}
-IsApt (Hears (Session sender sent page marks echoes)) host = Unit {0}
-IsApt (Hears (Request asker name)) host = 10000 ≤ delay host name.source
-IsApt (Hears (AskPages asker)) host = Unit {0}
-IsApt (Hears (PageState sender page marks)) host = Unit {0}
-IsApt (Asks name) host = 10000 ≤ delay host name.source
-IsApt (Stops name) host = Unit {0}
-IsApt (SetsDistance source micros) host = Unit {0}
-IsApt (Tunes constants) host = 1 ≤ constants.c1
+IsApt (Calls (calls.Hear (Draw d))) host = Unit {0}
+IsApt (Calls (calls.Hear (Session sender sent page marks echoes))) host = Unit {0}
+IsApt (Calls (calls.Hear (Request asker name))) host = 10000 ≤ delay host name.source
+IsApt (Calls (calls.Hear (AskPages asker))) host = Unit {0}
+IsApt (Calls (calls.Hear (PageState sender page marks))) host = Unit {0}
+IsApt (Calls (calls.Ask name)) host = 10000 ≤ delay host name.source
+IsApt (Calls (calls.Tune constants)) host = 1 ≤ constants.c1
+IsApt (Calls (calls.Look page)) host = ⊥
+IsApt (Calls call) host = Unit {0}
 IsApt (Says (Draw d)) host = Unit {0}
 IsApt (Says (Session sender sent page marks echoes)) host = Unit {0}
 IsApt (Says (Request asker name)) host = ⊥
@@ -93,31 +94,32 @@ pub either_host : (P : Opened → Type 0) (b : Bool) (one other : Opened) → P 
 either_host P true one other p q = p
 either_host P false one other p q = q
 
-pub tick_spaced : (now : ℕ) (host : Opened) → IsSpacedHost host → IsSpacedHost (after_line (Ticks now) host)
+pub tick_spaced : (now : ℕ) (host : Opened) → IsSpacedHost host → IsSpacedHost (after_line (Calls (calls.Tick now)) host)
 tick_spaced now host is = (is.0, (tt, spaced_receipts now (events host) (come_by_tick host) is.1))
 
 pub line_spaced : (line : Line) (host : Opened) → IsApt line host → IsSpacedHost host → IsSpacedHost (after_line line host)
-line_spaced (Ticks now) host apt is = tick_spaced now host is
+line_spaced (Calls (calls.Tick now)) host apt is = tick_spaced now host is
 line_spaced (Arrives d) host apt is = arrival_spaced d host is
-line_spaced (Hears (Draw d)) host apt is = either_host IsSpacedHost (has_room_for (Draw d) host) (heard (Draw d) host) host is is
-line_spaced (Hears (Session sender sent page marks echoes)) host apt is =
+line_spaced (Calls (calls.Hear (Draw d))) host apt is = either_host IsSpacedHost (has_room_for (Draw d) host) (heard (Draw d) host) host is is
+line_spaced (Calls (calls.Hear (Session sender sent page marks echoes))) host apt is =
     let v = Session sender sent page marks echoes in
     either_host IsSpacedHost (has_room_for v host) (heard v host) host is is
-line_spaced (Hears (Request asker name)) host apt is =
+line_spaced (Calls (calls.Hear (Request asker name))) host apt is =
     let v = Request asker name in
     either_host IsSpacedHost (has_room_for v host) (heard v host) host
     (is.0, asked_spaced host.is.number (present host) (delay host) asker name (word_at v host.random) (asks_for_held host.is.held v) (events host) apt is.1) is
-line_spaced (Hears (AskPages asker)) host apt is = either_host IsSpacedHost (has_room_for (AskPages asker) host) (heard (AskPages asker) host) host is is
-line_spaced (Hears (PageState sender page marks)) host apt is =
+line_spaced (Calls (calls.Hear (AskPages asker))) host apt is = either_host IsSpacedHost (has_room_for (AskPages asker) host) (heard (AskPages asker) host) host is is
+line_spaced (Calls (calls.Hear (PageState sender page marks))) host apt is =
     let v = PageState sender page marks in
     either_host IsSpacedHost (has_room_for v host) (heard v host) host is is
-line_spaced (Asks name) host apt is = either_host IsSpacedHost (may_ask name host) (missing name host) host (is.0, (apt, is.1)) is
-line_spaced (Stops name) host apt is = (is.0, by (asks_for name host)) where
+line_spaced (Calls (calls.Ask name)) host apt is = either_host IsSpacedHost (may_ask name host) (missing name host) host (is.0, (apt, is.1)) is
+line_spaced (Calls (calls.Stop name)) host apt is = (is.0, by (asks_for name host)) where
   by : (b : Bool) → AreSpaced (given_up (present host) name b (events host))
   by true = spaced_receipts (present host) (events host) (received_of (λ source. 0) (name ∷ [])) is.1
   by false = is.1
-line_spaced (SetsDistance source micros) host apt is = is
-line_spaced (Tunes constants) host apt is = (is.0, (apt, is.1))
+line_spaced (Calls (calls.Tune constants)) host apt is = (is.0, (apt, is.1))
+line_spaced (Calls (calls.Look page)) host apt is = absurd apt
+line_spaced (Calls call) host apt is = is
 line_spaced (Says (Draw d)) host apt is = arrival_spaced d host is
 line_spaced (Says (Session sender sent page marks echoes)) host apt is = is
 line_spaced (Says (Request asker name)) host apt is = absurd apt
@@ -137,13 +139,11 @@ same_moment : (host : Opened) → IsNotBefore host host
 same_moment host = omega arith
 
 pub line_later : (line : Line) (host : Opened) → IsApt line host → present host ≤ present (after_line line host)
-line_later (Ticks now) host apt = apt
+line_later (Calls (calls.Tick now)) host apt = apt
 line_later (Arrives d) host apt = same_moment host
-line_later (Hears v) host apt = either_host (IsNotBefore host) (has_room_for v host) (heard v host) host (same_moment host) (same_moment host)
-line_later (Asks name) host apt = either_host (IsNotBefore host) (may_ask name host) (missing name host) host (same_moment host) (same_moment host)
-line_later (Stops name) host apt = same_moment host
-line_later (SetsDistance source micros) host apt = same_moment host
-line_later (Tunes constants) host apt = same_moment host
+line_later (Calls (calls.Hear v)) host apt = either_host (IsNotBefore host) (has_room_for v host) (heard v host) host (same_moment host) (same_moment host)
+line_later (Calls (calls.Ask name)) host apt = either_host (IsNotBefore host) (may_ask name host) (missing name host) host (same_moment host) (same_moment host)
+line_later (Calls call) host apt = same_moment host
 line_later (Says (Draw d)) host apt = same_moment host
 line_later (Says (Session sender sent page marks echoes)) host apt = same_moment host
 line_later (Says (Request asker name)) host apt = same_moment host
@@ -217,22 +217,22 @@ module _ (n : NameValue) where
     abbrev due : List NameValue
     due = due_asks (names_of then_calls) (timers_of host.is.constants then_calls) now
 
-    tick_count : request_count n (sent_by_line (Ticks now) host) ≡ length (filter (λ m. same_name m n) due)
+    tick_count : request_count n (sent_by_line (Calls (calls.Tick now)) host) ≡ length (filter (λ m. same_name m n) due)
     tick_count =
         let me = host.is.number in
         let history = host.is.held in
         let answering = due_answers (names_of then_calls) (timers_of host.is.constants then_calls) now in
         let answers = filter_map (sent_for me history) (map Answer answering) in
-        let sent : sent_by_line (Ticks now) host ≡ filter_map (sent_for me history) (map Ask due) ++ answers = filter_map-append (sent_for me history) (map Ask due) (map Answer answering) in
+        let sent : sent_by_line (Calls (calls.Tick now)) host ≡ filter_map (sent_for me history) (map Ask due) ++ answers = filter_map-append (sent_for me history) (map Ask due) (map Answer answering) in
         ap (request_count n) sent ∙ asks_in me history due answers (none_for answers (answers_in me history answering))
 
-    tick_once : request_count n (sent_by_line (Ticks now) host) ≤ 1
+    tick_once : request_count n (sent_by_line (Calls (calls.Tick now)) host) ≤ 1
     tick_once =
         let rising = listed_of (λ (s : Timers). is_ask_due now s.ask) refl host.is.constants then_calls in
         let once = once_in due rising.rising in
         subst (λ (k : ℕ). k ≤ 1) (sym tick_count) once
 
-    tick_none : is_ask_due now (timers_of host.is.constants then_calls n).ask ≡ false → request_count n (sent_by_line (Ticks now) host) ≡ 0
+    tick_none : is_ask_due now (timers_of host.is.constants then_calls n).ask ≡ false → request_count n (sent_by_line (Calls (calls.Tick now)) host) ≡ 0
     tick_none later = tick_count ∙ none_in due (λ z c. other z c (same_name z n) refl) where
       other : (z : NameValue) → Contains due z → (b : Bool) → same_name z n ≡ b → b ≡ false
       other z c false e = refl
@@ -248,7 +248,7 @@ module _ (n : NameValue) where
 
   -- the timer rests, and it is not requested; or it is backed off, and requested once at most, if it was due; or it is asked for
   abbrev pub Moves : Line → ℕ → ℕ → Option AskTimer → Option AskTimer → Type 0
-  Moves line now count old new = (Rests old new × (count ≡ 0)) ⊎ (((b : Backs now old new) × (count ≤ 1) × ((count ≡ 0) ⊎ (b.x.due ≤ now))) ⊎ (line ≡ Asks n))
+  Moves line now count old new = (Rests old new × (count ≡ 0)) ⊎ (((b : Backs now old new) × (count ≤ 1) × ((count ≡ 0) ⊎ (b.x.due ≤ now))) ⊎ (line ≡ Calls (calls.Ask n)))
 
   quietly : (line : Line) (now count : ℕ) (old new : Option AskTimer) → count ≡ 0 → Rests old new ⊎ Backs now old new → Moves line now count old new
   quietly line now count old new none moved = ⊎_elim
@@ -259,7 +259,7 @@ module _ (n : NameValue) where
   -- what came stops it, or not; then it fires, or not
   fired_moves : (t : Tuning) (now word count : ℕ) (old mid : Option AskTimer) → Rests old mid → 1 ≤ t.c1 → IsLong mid → count ≤ 1
       → (is_ask_due now mid ≡ false → count ≡ 0)
-      → Moves (Ticks now) now count old (fired_ask t now word mid)
+      → Moves (Calls (calls.Tick now)) now count old (fired_ask t now word mid)
   fired_moves t now word count old mid rests one long few none = ⊎_elim
       (λ (r : Rests mid (fired_ask t now word mid) × (is_ask_due now mid ≡ false)). inl (
         ⊎_elim
@@ -277,17 +277,17 @@ module _ (n : NameValue) where
         none_some x e = cc
 
   tick_moves : (now : ℕ) (host : Opened) → IsSpacedHost host
-      → Moves (Ticks now) now (request_count n (sent_by_line (Ticks now) host)) (ask_at host) (ask_at (after_line (Ticks now) host))
+      → Moves (Calls (calls.Tick now)) now (request_count n (sent_by_line (Calls (calls.Tick now)) host)) (ask_at host) (ask_at (after_line (Calls (calls.Tick now)) host))
   tick_moves now host is =
       let stopped = come_by_tick host in
-      let calls = receipts now (events host) stopped in
+      let events_now = receipts now (events host) stopped in
       let spaced = spaced_receipts now (events host) stopped is.1 in
-      fired_moves (constants_after host.is.constants calls) now
-      (word_for (words_of host.random (due_count now host)) (due_asks (names_of calls) (λ m. timers_of host.is.constants calls m) now) n)
-      (request_count n (sent_by_line (Ticks now) host)) (ask_at host) (timers_of host.is.constants calls n).ask
+      fired_moves (constants_after host.is.constants events_now) now
+      (word_for (words_of host.random (due_count now host)) (due_asks (names_of events_now) (λ m. timers_of host.is.constants events_now m) now) n)
+      (request_count n (sent_by_line (Calls (calls.Tick now)) host)) (ask_at host) (timers_of host.is.constants events_now n).ask
       (receipts_rest host.is.constants now (events host) stopped n)
-      (spaced_constants host.is.constants calls is.0 spaced)
-      (spaced_long host.is.constants calls n is.0 spaced)
+      (spaced_constants host.is.constants events_now is.0 spaced)
+      (spaced_long host.is.constants events_now n is.0 spaced)
       (tick_once now host) (tick_none now host)
 
   -- by what is heard
@@ -330,7 +330,7 @@ module _ (n : NameValue) where
     by true held = inl (inl refl)
     by false held = named held (same_name name n)
 
-  hears_turns : (v : Datagram) (host : Opened) → IsApt (Hears v) host → IsSpacedHost host → Turns host (after_line (Hears v) host)
+  hears_turns : (v : Datagram) (host : Opened) → IsApt (Calls (calls.Hear v)) host → IsSpacedHost host → Turns host (after_line (Calls (calls.Hear v)) host)
   hears_turns (Draw d) host apt is = either_host (Turns host) (has_room_for (Draw d) host) (heard (Draw d) host) host (inl (inl refl)) (as_before host)
   hears_turns (Session sender sent page marks echoes) host apt is =
       let v = Session sender sent page marks echoes in
@@ -345,7 +345,7 @@ module _ (n : NameValue) where
 
   -- by a line that asks
   asks_moves : (name : NameValue) (host : Opened)
-      → Moves (Asks name) (present (after_line (Asks name) host)) 0 (ask_at host) (ask_at (after_line (Asks name) host))
+      → Moves (Calls (calls.Ask name)) (present (after_line (Calls (calls.Ask name)) host)) 0 (ask_at host) (ask_at (after_line (Calls (calls.Ask name)) host))
   asks_moves name host = by (same_name name n) refl where
     s : Timers
     s = timers_of host.is.constants (events host) n
@@ -356,11 +356,11 @@ module _ (n : NameValue) where
         ap (λ (b : Bool). (cond b (noticed t (present host) (delay host name.source) (word_of host.random) s) s).ask) e
     other e false = refl
 
-    by : (b : Bool) → same_name name n ≡ b → Moves (Asks name) (present (after_line (Asks name) host)) 0 (ask_at host) (ask_at (after_line (Asks name) host))
-    by true e = inr (inr (ap Asks (same_name-is name n e)))
+    by : (b : Bool) → same_name name n ≡ b → Moves (Calls (calls.Ask name)) (present (after_line (Calls (calls.Ask name)) host)) 0 (ask_at host) (ask_at (after_line (Calls (calls.Ask name)) host))
+    by true e = inr (inr (ap (λ (x : NameValue). Calls (calls.Ask x)) (same_name-is name n e)))
     by false e = inl (inl (other e (may_ask name host)), refl)
 
-  stops_rest : (name : NameValue) (host : Opened) → Rests (ask_at host) (ask_at (after_line (Stops name) host))
+  stops_rest : (name : NameValue) (host : Opened) → Rests (ask_at host) (ask_at (after_line (Calls (calls.Stop name)) host))
   stops_rest name host = by (asks_for name host) where
     by : (b : Bool) → Rests (ask_at host) (timers_of host.is.constants (given_up (present host) name b (events host)) n).ask
     by true = receipts_rest host.is.constants (present host) (events host) (received_of (λ source. 0) (name ∷ [])) n
@@ -371,16 +371,16 @@ module _ (n : NameValue) where
 
   pub line_moves : (line : Line) (host : Opened) → IsApt line host → IsSpacedHost host
       → Moves line (present (after_line line host)) (request_count n (sent_by_line line host)) (ask_at host) (ask_at (after_line line host))
-  line_moves (Ticks now) host apt is = tick_moves now host is
+  line_moves (Calls (calls.Tick now)) host apt is = tick_moves now host is
   line_moves (Arrives d) host apt is = inl (arrival_rests d host, refl)
-  line_moves (Hears v) host apt is =
-      let next = after_line (Hears v) host in
-      let sent = sent_by_line (Hears v) host in
-      quietly (Hears v) (present next) (request_count n sent) (ask_at host) (ask_at next) (none_for sent (heard_requests v host (has_room_for v host))) (hears_turns v host apt is)
-  line_moves (Asks name) host apt is = asks_moves name host
-  line_moves (Stops name) host apt is = inl (stops_rest name host, refl)
-  line_moves (SetsDistance source micros) host apt is = inl (inl refl, refl)
-  line_moves (Tunes constants) host apt is = inl (inl refl, refl)
+  line_moves (Calls (calls.Hear v)) host apt is =
+      let next = after_line (Calls (calls.Hear v)) host in
+      let sent = sent_by_line (Calls (calls.Hear v)) host in
+      quietly (Calls (calls.Hear v)) (present next) (request_count n sent) (ask_at host) (ask_at next) (none_for sent (heard_requests v host (has_room_for v host))) (hears_turns v host apt is)
+  line_moves (Calls (calls.Ask name)) host apt is = asks_moves name host
+  line_moves (Calls (calls.Stop name)) host apt is = inl (stops_rest name host, refl)
+  line_moves (Calls (calls.Look page)) host apt is = absurd apt
+  line_moves (Calls call) host apt is = inl (inl refl, refl)
   line_moves (Says (Draw d)) host apt is = inl (arrival_rests d host, none_for (said_where d (becomes d host)) (drawn_requests d (becomes d host)))
   line_moves (Says (Session sender sent page marks echoes)) host apt is = inl (inl refl, refl)
   line_moves (Says (Request asker name)) host apt is = absurd apt

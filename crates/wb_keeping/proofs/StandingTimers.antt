@@ -38,8 +38,9 @@ use Rattle.wb_member.specs.Judged.{asked_names}
 use Rattle.wb_member.specs.Members.{Misses}
 use Rattle.wb_member.specs.Opened.{Opened, becomes, doing, events, has_room_for, heard, may_ask, present, word_at}
 use Rattle.wb_member.specs.Random.{word_of}
+use Rattle.wb_member.specs.declared.calls.Call.TheVariants as calls
 use Rattle.wb_keeping.specs.Bounds.{is_ask, is_request, timer_count}
-use Rattle.wb_keeping.specs.Kept.{Arrives, Asks, Hears, Line, Says, SetsDistance, Tunes, Stops, Ticks}
+use Rattle.wb_keeping.specs.Kept.{Arrives, Line, Says, Calls}
 use Rattle.wb_keeping.specs.Performing.{after_line, said_where, sent_by_line, view_of}
 use Rattle.wb_keeping.specs.Views.{is_asked as is_asked_by}
 use Rattle.wb_names.specs.Arrivals.{Outcome, New, Again, Clash, Left}
@@ -161,17 +162,17 @@ heard_keeps : (v : Datagram) (host : Opened) (room : Bool) (n : NameValue) → S
 heard_keeps v host true = stood_by host (heard v host) (λ n missed. asked_same n host.is.number (present host) (delay_to host.is.number host.is.calls) v (word_at v host.random) (asks_for_held host.is.held v) (events host) missed)
 heard_keeps v host false = λ n stands. stands
 
-tick_keeps : (now : ℕ) (host : Opened) (n : NameValue) → Stands (after_line (Ticks now) host) n → Stands host n
-tick_keeps now host = stood_by host (after_line (Ticks now) host) (λ n missed. received n now (events host) (received_of (delay_to host.is.number host.is.calls) (stopped_after host.is.number host.is.constants host.is.calls host.is.held)) missed)
+tick_keeps : (now : ℕ) (host : Opened) (n : NameValue) → Stands (after_line (Calls (calls.Tick now)) host) n → Stands host n
+tick_keeps now host = stood_by host (after_line (Calls (calls.Tick now)) host) (λ n missed. received n now (events host) (received_of (delay_to host.is.number host.is.calls) (stopped_after host.is.number host.is.constants host.is.calls host.is.held)) missed)
 
 pub keeps : (line : Line) (host : Opened) → is_ask line ≡ false → (n : NameValue) → Stands (after_line line host) n → Stands host n
-keeps (Ticks now) host other = tick_keeps now host
+keeps (Calls (calls.Tick now)) host other = tick_keeps now host
 keeps (Arrives d) host other = arrival_keeps d host
-keeps (Hears v) host other = heard_keeps v host (has_room_for v host)
-keeps (Asks name) host other = absurd (true≢false other)
-keeps (Stops name) host other = stood_by host (after_line (Stops name) host) (λ n missed. given n (present host) name (is_asked (timers_of host.is.constants (events host)) name) (events host) missed)
-keeps (SetsDistance source micros) host other = λ n stands. stands
-keeps (Tunes constants) host other = λ n stands. stands
+keeps (Calls (calls.Hear v)) host other = heard_keeps v host (has_room_for v host)
+keeps (Calls (calls.Ask name)) host other = absurd (true≢false other)
+keeps (Calls (calls.Look page)) host other = absurd (true≢false other)
+keeps (Calls (calls.Stop name)) host other = stood_by host (after_line (Calls (calls.Stop name)) host) (λ n missed. given n (present host) name (is_asked (timers_of host.is.constants (events host)) name) (events host) missed)
+keeps (Calls call) host other = λ n stands. stands
 keeps (Says (Draw d)) host other = arrival_keeps d host
 keeps (Says (Session sender sent page marks echoes)) host other = λ n stands. stands
 keeps (Says (Request asker name)) host other = λ n stands. stands
@@ -183,9 +184,9 @@ no_more line host other = no_more_stand host (after_line line host) (keeps line 
 
 -- ---- one that stops a timer, and one that asks
 
-pub one_less : (name : NameValue) (host : Opened) → Stands host name → timer_count (after_line (Stops name) host) < timer_count host
-one_less name host stands = one_less_stands host (after_line (Stops name) host) name stands (λ n there.
-    let missed = come n name (events host) (subst (λ (b : Bool). IsMissed n (given_up (present host) name b (events host))) stands (missed_from (after_line (Stops name) host) n there)) in
+pub one_less : (name : NameValue) (host : Opened) → Stands host name → timer_count (after_line (Calls (calls.Stop name)) host) < timer_count host
+one_less name host stands = one_less_stands host (after_line (Calls (calls.Stop name)) host) name stands (λ n there.
+    let missed = come n name (events host) (subst (λ (b : Bool). IsMissed n (given_up (present host) name b (events host))) stands (missed_from (after_line (Calls (calls.Stop name)) host) n there)) in
     (missed_to host n missed.0, missed.1))
 
 asked_or : (n name : NameValue) (calls : List Event) → (same_name name n || since (notices n) (arrives n) calls) ≡ true → (name ≡ n) ⊎ IsMissed n calls
@@ -194,7 +195,7 @@ asked_or n name calls e = by (same_name name n) refl e where
   by true same e = inl (same_name-is name n same)
   by false other e = inr e
 
-pub one_more : (name : NameValue) (host : Opened) → timer_count (after_line (Asks name) host) ≤ timer_count host + 1
+pub one_more : (name : NameValue) (host : Opened) → timer_count (after_line (Calls (calls.Ask name)) host) ≤ timer_count host + 1
 one_more name host = by (may_ask name host) where
   asking_host : Opened
   asking_host = doing (Misses (present host) (name ∷ []) (word_of host.random ∷ [])) 1 host
@@ -220,19 +221,19 @@ states_in : (f : PageReport → Datagram) → ((r : PageReport) → is_request (
 states_in f none [] = refl
 states_in f none (r ∷ reports) = ap (λ (b : Bool). length (cond b (f r ∷ filter is_request (map f reports)) (filter is_request (map f reports)))) (none r) ∙ states_in f none reports
 
-tick_requests : (now : ℕ) (host : Opened) → length (filter is_request (sent_by_line (Ticks now) host)) ≤ timer_count host
+tick_requests : (now : ℕ) (host : Opened) → length (filter is_request (sent_by_line (Calls (calls.Tick now)) host)) ≤ timer_count host
 tick_requests now host =
     let me = host.is.number in
     let t = host.is.constants in
     let history = host.is.held in
     let stopped = received_of (delay_to me host.is.calls) (stopped_after me t host.is.calls history) in
-    let calls = receipts now (events host) stopped in
-    let due = due_asks (names_of calls) (timers_of t calls) now in
-    let answering = due_answers (names_of calls) (timers_of t calls) now in
-    let rising = listed_of (λ (s : Timers). is_ask_due now s.ask) refl t calls in
+    let events_now = receipts now (events host) stopped in
+    let due = due_asks (names_of events_now) (timers_of t events_now) now in
+    let answering = due_answers (names_of events_now) (timers_of t events_now) now in
+    let rising = listed_of (λ (s : Timers). is_ask_due now s.ask) refl t events_now in
     let few = as_many due (asked_names host) rising.rising (λ z c.
-    ((listed host).members z).1 (missed_to host z (received z now (events host) stopped (sym (request_stands t calls z) ∙ due_stands now (timers_of t calls z).ask ((rising.members z).0 c))))) in
-    let sent : sent_by_line (Ticks now) host ≡ filter_map (sent_for me history) (map Ask due) ++ filter_map (sent_for me history) (map Answer answering) = filter_map-append (sent_for me history) (map Ask due) (map Answer answering) in
+    ((listed host).members z).1 (missed_to host z (received z now (events host) stopped (sym (request_stands t events_now z) ∙ due_stands now (timers_of t events_now z).ask ((rising.members z).0 c))))) in
+    let sent : sent_by_line (Calls (calls.Tick now)) host ≡ filter_map (sent_for me history) (map Ask due) ++ filter_map (sent_for me history) (map Answer answering) = filter_map-append (sent_for me history) (map Ask due) (map Answer answering) in
     let count = ap (λ (ds : List Datagram). length (filter is_request ds)) sent ∙ asks_in me history due (filter_map (sent_for me history) (map Answer answering)) (answers_in me history answering) in
     omega (arith, few, count)
 
@@ -251,13 +252,10 @@ drawn_requests d Left = refl
 
 -- as many as timers stand, and one where a driver says so
 pub few_requests : (line : Line) (host : Opened) → timer_count host ≤ 64 → length (filter is_request (sent_by_line line host)) ≤ 64
-few_requests (Ticks now) host few = let sent = tick_requests now host in omega (arith, few, sent)
+few_requests (Calls (calls.Tick now)) host few = let sent = tick_requests now host in omega (arith, few, sent)
 few_requests (Arrives d) host few = omega arith
-few_requests (Hears v) host few = let none = heard_requests v host (has_room_for v host) in omega (arith, none)
-few_requests (Asks name) host few = omega arith
-few_requests (Stops name) host few = omega arith
-few_requests (SetsDistance source micros) host few = omega arith
-few_requests (Tunes constants) host few = omega arith
+few_requests (Calls (calls.Hear v)) host few = let none = heard_requests v host (has_room_for v host) in omega (arith, none)
+few_requests (Calls call) host few = omega arith
 few_requests (Says (Draw d)) host few = let none = drawn_requests d (becomes d host) in omega (arith, none)
 few_requests (Says (Session sender sent page marks echoes)) host few = omega arith
 few_requests (Says (Request asker name)) host few = omega arith

@@ -23,9 +23,10 @@ use Rattle.wb_keeper.specs.declared.keep_fault.KeepFault.TheVariants.{BackInTime
 use Rattle.wb_member.specs.Members.{Misses}
 use Rattle.wb_member.specs.Opened.{Opened, accepted, doing, has_room_for, heard, last_number, may_ask, opened_with, present, ticked, word_at}
 use Rattle.wb_member.specs.Random.{word_of}
-use Rattle.wb_recovery.specs.declared.limits.TheConstants.{UNKNOWN_DISTANCE}
-use Rattle.wb_policy.specs.Choices.{distance_in, own_echo, own_marks, told_names}
-use Rattle.wb_keeping.specs.Kept.{Arrives, Asks, Doing, Hears, Line, Says, SetsDistance, Tunes, Stops, Ticks, Transition, and_then, draws_it, drawing, ends_full, hears, hears_session, hears_some, hears_state, learned, measures, performs, still, takes, takes_question, timed, want_told, hears_request}
+use Rattle.wb_member.specs.declared.calls.Call.TheVariants as calls
+use Rattle.wb_recovery.specs.declared.limits.TheConstants.{UNKNOWN_DELAY}
+use Rattle.wb_policy.specs.Choices.{echoed_delay, own_echo, own_marks, told_names}
+use Rattle.wb_keeping.specs.Kept.{Arrives, Doing, Line, Says, Transition, and_then, draws_it, drawing, ends_full, hears, hears_session, hears_some, hears_state, learned, measures, performs, still, takes, takes_question, timed, want_told, hears_request, Calls, ticks_at}
 use Rattle.wb_keeping.specs.Laws.{ANumberIsLeft, Added, AreTaken, Came, KeptLine, Ticked, Tuned, after_kept, doing_of, fault_of}
 use Rattle.wb_keeping.specs.Performing.{Keeping, after_doing, after_line, after_lines, sees, view_of}
 use Rattle.wb_policy.specs.Policy.{after_state, after_taking_up}
@@ -128,13 +129,9 @@ pub record IsBounded (host : Opened) : Type 0 where
   pub cells : host.is.cells ≤ MAX_CELLS
 
 abbrev pub IsTame : Opened → Line → Type 0
-IsTame host (Ticks now) = Unit {0}
 IsTame host (Arrives d) = d.name.source ≡ host.is.number → (d.name.seq ≤ 2147483647) ⊎ (holds host.is.held d.name ≡ true)
-IsTame host (Hears v) = (page : PageId) → OwnBelow host.is.number 2147483647 (marks_in page v)
-IsTame host (Asks name) = Unit {0}
-IsTame host (Stops name) = Unit {0}
-IsTame host (SetsDistance source micros) = Unit {0}
-IsTame host (Tunes constants) = Unit {0}
+IsTame host (Calls (calls.Hear v)) = (page : PageId) → OwnBelow host.is.number 2147483647 (marks_in page v)
+IsTame host (Calls call) = Unit {0}
 IsTame host (Says (Draw d)) = d.name.seq ≤ last_number d.name.page host + 1
 IsTame host (Says (Session sender sent page marks echoes)) = Unit {0}
 IsTame host (Says (Request asker name)) = Unit {0}
@@ -159,19 +156,16 @@ drawn : (d : DrawopValue) (host : Opened) (page : PageId) → IsBounded host →
 drawn d host page b next = let left = number_left d.name.page host b in omega (arith, left, next)
 
 pub bounded_line : (line : Line) (host : Opened) → IsBounded host → IsTame host line → IsBounded (after_line line host)
-bounded_line (Ticks now) host b tame = record { marks = b.marks; held = b.held; room = b.room; cells = b.cells }
 bounded_line (Arrives d) host b tame = taken d host b (λ page i fresh of. arrival d host page i tame fresh of)
-bounded_line (Hears v) host b tame = by (has_room_for v host) where
+bounded_line (Calls (calls.Hear v)) host b tame = by (has_room_for v host) where
   by : (room : Bool) → IsBounded (cond room (heard v host) host)
   by true = record { marks = heard_below host.is.number 2147483647 (present host) v (word_at v host.random) (asks_for_held host.is.held v) host.is.calls tame b.marks; held = b.held; room = b.room; cells = b.cells }
   by false = b
-bounded_line (Asks name) host b tame = by (may_ask name host) where
+bounded_line (Calls (calls.Ask name)) host b tame = by (may_ask name host) where
   by : (may : Bool) → IsBounded (cond may (doing (Misses (present host) (name ∷ []) (word_of host.random ∷ [])) 1 host) host)
   by true = record { marks = b.marks; held = b.held; room = b.room; cells = b.cells }
   by false = b
-bounded_line (Stops name) host b tame = record { marks = b.marks; held = b.held; room = b.room; cells = b.cells }
-bounded_line (SetsDistance source micros) host b tame = record { marks = b.marks; held = b.held; room = b.room; cells = b.cells }
-bounded_line (Tunes constants) host b tame = record { marks = b.marks; held = b.held; room = b.room; cells = b.cells }
+bounded_line (Calls call) host b tame = record { marks = b.marks; held = b.held; room = b.room; cells = b.cells }
 bounded_line (Says (Draw d)) host b tame = taken d host b (λ page i fresh of. drawn d host page b tame)
 bounded_line (Says (Session sender sent page marks echoes)) host b tame = b
 bounded_line (Says (Request asker name)) host b tame = b
@@ -181,13 +175,9 @@ bounded_line (Says (PageState sender page marks)) host b tame = b
 -- ---- lines that touch no number of its own
 
 abbrev pub IsQuiet : Line → Type 0
-IsQuiet (Ticks now) = Unit {0}
 IsQuiet (Arrives d) = ⊥
-IsQuiet (Hears v) = ⊥
-IsQuiet (Asks name) = Unit {0}
-IsQuiet (Stops name) = Unit {0}
-IsQuiet (SetsDistance source micros) = Unit {0}
-IsQuiet (Tunes constants) = Unit {0}
+IsQuiet (Calls (calls.Hear v)) = ⊥
+IsQuiet (Calls call) = Unit {0}
 IsQuiet (Says (Draw d)) = ⊥
 IsQuiet (Says (Session sender sent page marks echoes)) = Unit {0}
 IsQuiet (Says (Request asker name)) = Unit {0}
@@ -195,13 +185,9 @@ IsQuiet (Says (AskPages asker)) = Unit {0}
 IsQuiet (Says (PageState sender page marks)) = Unit {0}
 
 tame_quiet : (line : Line) (host : Opened) → IsQuiet line → IsTame host line
-tame_quiet (Ticks now) host q = tt
 tame_quiet (Arrives d) host q = absurd q
-tame_quiet (Hears v) host q = absurd q
-tame_quiet (Asks name) host q = tt
-tame_quiet (Stops name) host q = tt
-tame_quiet (SetsDistance source micros) host q = tt
-tame_quiet (Tunes constants) host q = tt
+tame_quiet (Calls (calls.Hear v)) host q = absurd q
+tame_quiet (Calls call) host q = tt
 tame_quiet (Says (Draw d)) host q = absurd q
 tame_quiet (Says (Session sender sent page marks echoes)) host q = tt
 tame_quiet (Says (Request asker name)) host q = tt
@@ -266,15 +252,15 @@ bounded_session sender sent page marks echoes k b =
     let v = view_of k.host in
     let own = own_marks v.me (nat_lt v.now k.policy.ready) marks in
     let echo = own_echo v.me echoes in
-    let first = performs (Hears (Session sender sent page own echo)) in
-    let second = measures sender (distance_in v.now echo) in
+    let first = performs (Calls (calls.Hear (Session sender sent page own echo))) in
+    let second = measures sender (echoed_delay v.now echo) in
     let third = want_told (told_names v.me page marks) in
-    let heard : IsBounded (after_line (Hears (Session sender sent page own echo)) k.host) = bounded_line (Hears (Session sender sent page own echo)) k.host b (λ p. on_page v.me (same_page page p) own (own_below v.me (nat_lt v.now k.policy.ready) marks)) in
-    bounded_then first (and_then second third) k (bounded_doing (and_then second third) (then_each IsQuiet second third (measures_each IsQuiet are_quiet sender (distance_in v.now echo)) (told_each IsQuiet are_quiet (told_names v.me page marks))) (after_doing first k) heard)
+    let heard : IsBounded (after_line (Calls (calls.Hear (Session sender sent page own echo))) k.host) = bounded_line (Calls (calls.Hear (Session sender sent page own echo))) k.host b (λ p. on_page v.me (same_page page p) own (own_below v.me (nat_lt v.now k.policy.ready) marks)) in
+    bounded_then first (and_then second third) k (bounded_doing (and_then second third) (then_each IsQuiet second third (measures_each IsQuiet are_quiet sender (echoed_delay v.now echo)) (told_each IsQuiet are_quiet (told_names v.me page marks))) (after_doing first k) heard)
 
 bounded_some : (sender : ℕ) (page : PageId) (own : List MarkValue) (k : Keeping) → OwnBelow k.host.is.number 2147483647 own → IsBounded k.host → IsBounded (after_doing (hears_some sender page own) k).host
 bounded_some sender page [] k below b = b
-bounded_some sender page (m ∷ marks) k below b = bounded_line (Hears (PageState sender page (m ∷ marks))) k.host b (λ p. on_page k.host.is.number (same_page page p) (m ∷ marks) below)
+bounded_some sender page (m ∷ marks) k below b = bounded_line (Calls (calls.Hear (PageState sender page (m ∷ marks)))) k.host b (λ p. on_page k.host.is.number (same_page page p) (m ∷ marks) below)
 
 bounded_state : (sender : ℕ) (page : PageId) (marks : List MarkValue) (k : Keeping) → IsBounded k.host → IsBounded (after_doing (hears_state sender page marks) k).host
 bounded_state sender page marks k b =
@@ -285,18 +271,18 @@ bounded_state sender page marks k b =
     bounded_then (hears_some sender page own) third there (bounded_doing third (told_each IsQuiet are_quiet (told_names v.me page marks)) (after_doing (hears_some sender page own) there) (bounded_some sender page own there (own_below v.me (nat_lt v.now k.policy.ready) marks) b))
 
 bounded_request : (asker : ℕ) (name : NameValue) (k : Keeping) → IsBounded k.host → IsBounded (after_doing (hears_request asker name) k).host
-bounded_request asker name k b = by (nat_eq ((view_of k.host).distance source) UNKNOWN_DISTANCE) where
+bounded_request asker name k b = by (nat_eq ((view_of k.host).delay source) UNKNOWN_DELAY) where
   source : ℕ
   source = cond (holds_in (view_of k.host) name) asker name.source
 
   line : Line
-  line = Hears (Request asker name)
+  line = Calls (calls.Hear (Request asker name))
 
-  by : (lends : Bool) → IsBounded (after_lines (cond lends (SetsDistance source k.policy.usual ∷ line ∷ SetsDistance source UNKNOWN_DISTANCE ∷ []) (line ∷ [])) k.host)
+  by : (lends : Bool) → IsBounded (after_lines (cond lends (Calls (calls.SetDelay source k.policy.usual) ∷ line ∷ Calls (calls.SetDelay source UNKNOWN_DELAY) ∷ []) (line ∷ [])) k.host)
   by true =
-      let one = after_line (SetsDistance source k.policy.usual) k.host in
+      let one = after_line (Calls (calls.SetDelay source k.policy.usual)) k.host in
       let two = after_line line one in
-      bounded_line (SetsDistance source UNKNOWN_DISTANCE) two (bounded_line line one (bounded_line (SetsDistance source k.policy.usual) k.host b (tame_quiet (SetsDistance source k.policy.usual) k.host tt)) (λ p. tt)) (tame_quiet (SetsDistance source UNKNOWN_DISTANCE) two tt)
+      bounded_line (Calls (calls.SetDelay source UNKNOWN_DELAY)) two (bounded_line line one (bounded_line (Calls (calls.SetDelay source k.policy.usual)) k.host b (tame_quiet (Calls (calls.SetDelay source k.policy.usual)) k.host tt)) (λ p. tt)) (tame_quiet (Calls (calls.SetDelay source UNKNOWN_DELAY)) two tt)
   by false = bounded_line line k.host b (λ p. tt)
 
 bounded_hears : (v : Datagram) (k : Keeping) → is_unknown_of_ours v k.host ≡ false → IsBounded k.host → IsBounded (after_doing (hears v) k).host
@@ -309,10 +295,10 @@ bounded_hears (AskPages asker) k known b = bounded_either (nat_eq asker k.host.i
 
 -- ---- its lines
 
-none_of : (past UNKNOWN_DISTANCE : Bool) → first_of (fault_unless past (Host BackInTime) ∷ fault_unless (not UNKNOWN_DISTANCE) Ours ∷ []) ≡ None → UNKNOWN_DISTANCE ≡ false
+none_of : (past unknown : Bool) → first_of (fault_unless past (Host BackInTime) ∷ fault_unless (not unknown) Ours ∷ []) ≡ None → unknown ≡ false
 none_of true false e = refl
 none_of true true e = absurd cc
-none_of false UNKNOWN_DISTANCE e = absurd cc
+none_of false unknown e = absurd cc
 
 later_known : (v : Datagram) (now : ℕ) (host : Opened) → is_unknown_of_ours v (ticked now host) ≡ is_unknown_of_ours v host
 later_known (Draw d) now host = refl
@@ -323,25 +309,25 @@ later_known (PageState sender page marks) now host = refl
 
 pub bounded_kept : (line : KeptLine) (k : Keeping) → fault_of line k ≡ None → IsBounded k.host → IsBounded (after_doing (doing_of line) k).host
 bounded_kept (Came now v) k none b =
-    let first = performs (Ticks now) in
+    let first = performs (Calls (calls.Tick now)) in
     let one = after_doing first k in
-    let there : IsBounded one.host = bounded_line (Ticks now) k.host b tt in
+    let there : IsBounded one.host = bounded_line (Calls (calls.Tick now)) k.host b tt in
     bounded_then first (and_then (hears v) timed) k (bounded_then (hears v) timed one (bounded_doing timed (timed_each IsQuiet are_quiet) (after_doing (hears v) one) (bounded_hears v one (later_known v now k.host ∙ none_of _ _ none) there)))
-bounded_kept (Ticked now) k none b = bounded_then (performs (Ticks now)) timed k (bounded_doing timed (timed_each IsQuiet are_quiet) (after_doing (performs (Ticks now)) k) (bounded_line (Ticks now) k.host b tt))
+bounded_kept (Ticked now) k none b = bounded_then (performs (Calls (calls.Tick now))) timed k (bounded_doing timed (timed_each IsQuiet are_quiet) (after_doing (performs (Calls (calls.Tick now))) k) (bounded_line (Calls (calls.Tick now)) k.host b tt))
 bounded_kept (Added now page time op) k none b =
-    let first = performs (Ticks now) in
+    let first = performs (Calls (calls.Tick now)) in
     let one = after_doing first k in
     let second = draws_it page time op in
-    let there : IsBounded one.host = bounded_line (Ticks now) k.host b tt in
+    let there : IsBounded one.host = bounded_line (Calls (calls.Tick now)) k.host b tt in
     let drew : IsBounded (after_doing second one).host = bounded_line (Says (Draw (drawing (view_of one.host) page time op))) one.host there (omega arith) in
     bounded_then first (and_then second (and_then ends_full timed)) k (bounded_then second (and_then ends_full timed) one (bounded_doing (and_then ends_full timed) (then_each IsQuiet ends_full timed (ends_each IsQuiet are_quiet) (timed_each IsQuiet are_quiet)) (after_doing second one) drew))
-bounded_kept (Tuned constants) k none b = bounded_line (Tunes constants) k.host b tt
+bounded_kept (Tuned constants) k none b = bounded_line (Calls (calls.Tune constants)) k.host b tt
 
 bounded_all : (lines : List KeptLine) (k : Keeping) → AreTaken lines k → IsBounded k.host → IsBounded (after_kept lines k).host
 bounded_all [] k taken b = b
 bounded_all (line ∷ lines) k taken b = bounded_all lines (after_doing (doing_of line) k) taken.1 (bounded_kept line k taken.0 b)
 
-ticks_quiet : (moments : List ℕ) → AreQuiet (map Ticks moments)
+ticks_quiet : (moments : List ℕ) → AreQuiet (ticks_at moments)
 ticks_quiet [] = tt
 ticks_quiet (moment ∷ moments) = (tt, ticks_quiet moments)
 
@@ -350,8 +336,8 @@ bounded_open constants number cells seed few = record { marks = λ page. tt; hel
 
 pub a_number_is_left : ANumberIsLeft
 a_number_is_left constants number cells seed moments policy lines few taken page =
-    let start : Keeping = record { host = after_lines (map Ticks moments) (opened_with constants number cells seed); policy = policy } in
-    let b = bounded_all lines start taken (bounded_lines (map Ticks moments) (opened_with constants number cells seed) (ticks_quiet moments) (bounded_open constants number cells seed few)) in
+    let start : Keeping = record { host = after_lines (ticks_at moments) (opened_with constants number cells seed); policy = policy } in
+    let b = bounded_all lines start taken (bounded_lines (ticks_at moments) (opened_with constants number cells seed) (ticks_quiet moments) (bounded_open constants number cells seed few)) in
     let most = number_left page (after_kept lines start).host b in
     let room = b.room in
     let cells = b.cells in

@@ -7,27 +7,28 @@ use Rattle.wb_names.specs.History.{highest}
 use Rattle.wb_gaps.specs.Holes.{hole_after}
 use Rattle.wb_gaps.specs.declared.holes.Hole.{Hole}
 use Rattle.wb_policy.specs.Choices.{near_names}
-use Rattle.wb_keeping.specs.Kept.{Asks, Doing, Line, SetsDistance, Stops, and_then, end, is_begun, leap, leap_to, leaps_on, learned, measures, paid_for, performs, room_lines, still, stops_one, turn, turn_if, turn_to, turns_on, want, want_near, lending}
-use Rattle.wb_policy.specs.Distances.{bounded}
-use Rattle.wb_recovery.specs.declared.limits.TheConstants.{UNKNOWN_DISTANCE}
-use Rattle.wb_policy.specs.Policy.{Policy, after_wanting, with_distance}
+use Rattle.wb_member.specs.declared.calls.Call.TheVariants.{SetDelay, Ask, Stop}
+use Rattle.wb_keeping.specs.Kept.{Doing, Line, and_then, end, is_begun, leap, leap_to, leaps_on, learned, measures, paid_for, performs, room_lines, still, stops_one, turn, turn_if, turn_to, turns_on, want, want_near, lending, Calls}
+use Rattle.wb_policy.specs.Delays.{bounded}
+use Rattle.wb_recovery.specs.declared.limits.TheConstants.{UNKNOWN_DELAY}
+use Rattle.wb_policy.specs.Policy.{Policy, after_wanting, after_echo}
 use Rattle.wb_keeping.proofs.NearNames.{near_wanted}
 use Rattle.wb_keeping.specs.Views.{View, holds, is_asked, is_full, level, is_known}
 use Rattle.wb_keeping.specs.Steps.{AreNear, leap_in, makes_room, performs_all, want_in}
 use Rattle.wb_policy.specs.Turns.{nowhere}
 use Rattle.wb_policy.specs.Wanting.{giving_way, is_wanted}
 
--- ---- a line to which a distance is lent, and those before it and behind it
+-- ---- a line to which a delay is lent, and those before it and behind it
 
 abbrev pub lent_first : ℕ → ℕ → ℕ → List Line
-lent_first source distance usual = cond (nat_eq distance UNKNOWN_DISTANCE) (SetsDistance source usual ∷ []) []
+lent_first source delay usual = cond (nat_eq delay UNKNOWN_DELAY) (Calls (SetDelay source usual) ∷ []) []
 
 abbrev pub taken_back : ℕ → ℕ → List Line
-taken_back source distance = cond (nat_eq distance UNKNOWN_DISTANCE) (SetsDistance source UNKNOWN_DISTANCE ∷ []) []
+taken_back source delay = cond (nat_eq delay UNKNOWN_DELAY) (Calls (SetDelay source UNKNOWN_DELAY) ∷ []) []
 
-pub lending_parts : (source distance usual : ℕ) (line : Line) → lending source distance usual line ≡ lent_first source distance usual ++ line ∷ taken_back source distance
-lending_parts source distance usual line = by (nat_eq distance UNKNOWN_DISTANCE) where
-  by : (b : Bool) → cond b (SetsDistance source usual ∷ line ∷ SetsDistance source UNKNOWN_DISTANCE ∷ []) (line ∷ []) ≡ cond b (SetsDistance source usual ∷ []) [] ++ line ∷ cond b (SetsDistance source UNKNOWN_DISTANCE ∷ []) []
+pub lending_parts : (source delay usual : ℕ) (line : Line) → lending source delay usual line ≡ lent_first source delay usual ++ line ∷ taken_back source delay
+lending_parts source delay usual line = by (nat_eq delay UNKNOWN_DELAY) where
+  by : (b : Bool) → cond b (Calls (SetDelay source usual) ∷ line ∷ Calls (SetDelay source UNKNOWN_DELAY) ∷ []) (line ∷ []) ≡ cond b (Calls (SetDelay source usual) ∷ []) [] ++ line ∷ cond b (Calls (SetDelay source UNKNOWN_DELAY) ∷ []) []
   by true = refl
   by false = refl
 
@@ -38,7 +39,7 @@ module _ (name : NameValue) (anew : Bool) (see : List Line → View) (p : Policy
   is_wanted_here = is_wanted (holds (see []) name) (is_full (see [])) anew (is_known (see []) name.source) (level (see []) name) p.owed (see []).now
 
   abbrev pub lines_wanted : List Line
-  lines_wanted = room_lines name (see []) ++ lending name.source ((see []).distance name.source) p.usual (Asks name)
+  lines_wanted = room_lines name (see []) ++ lending name.source ((see []).delay name.source) p.usual (Calls (Ask name))
 
   abbrev wanted : Doing
   wanted = record { policy = after_wanting (see []).now p; lines = lines_wanted }
@@ -54,7 +55,7 @@ module _ (name : NameValue) (anew : Bool) (see : List Line → View) (p : Policy
   some_lines one false first line last = let a = length-append one (line ∷ []) in lt-ltb _ _ (omega (arith, a))
 
   pub begun : is_wanted_here ≡ true → is_begun (want name anew see p) ≡ true
-  begun e = ap is_begun (is_asked_for e) ∙ some_lines (room_lines name (see [])) (nat_eq ((see []).distance name.source) UNKNOWN_DISTANCE) _ _ _
+  begun e = ap is_begun (is_asked_for e) ∙ some_lines (room_lines name (see [])) (nat_eq ((see []).delay name.source) UNKNOWN_DELAY) _ _ _
 
   pub not_begun : is_begun (want name anew see p) ≡ false → want name anew see p ≡ still see p
   not_begun e = by is_wanted_here refl where
@@ -68,11 +69,11 @@ module _ (name : NameValue) (see : List Line → View) (p : Policy) where
   abbrev lines_to : List Line → Doing
   lines_to lines = record { policy = p; lines = lines }
 
-  pub room_asked : is_asked (see []) name ≡ true → makes_room name see p ≡ performs (Stops name) see p
-  room_asked e = ap (λ (b : Bool). lines_to (cond b (Stops name ∷ []) (stops_one (giving_way (see []).asked)))) e
+  pub room_asked : is_asked (see []) name ≡ true → makes_room name see p ≡ performs (Calls (Stop name)) see p
+  room_asked e = ap (λ (b : Bool). lines_to (cond b (Calls (Stop name) ∷ []) (stops_one (giving_way (see []).asked)))) e
 
   pub room_made : is_asked (see []) name ≡ false → makes_room name see p ≡ performs_all (stops_one (giving_way (see []).asked)) see p
-  room_made e = ap (λ (b : Bool). lines_to (cond b (Stops name ∷ []) (stops_one (giving_way (see []).asked)))) e
+  room_made e = ap (λ (b : Bool). lines_to (cond b (Calls (Stop name) ∷ []) (stops_one (giving_way (see []).asked)))) e
 
 -- ---- a drawop that is new
 
@@ -155,11 +156,11 @@ module _ (more : ℕ) (see : List Line → View) (p : Policy) where
 
 -- ---- what an echo tells
 
-pub measured : (sender : ℕ) (distance : Option ℕ) (micros near : ℕ) (see : List Line → View) (p : Policy) → Some micros ≡ distance → near ≡ bounded micros → (near ≡ micros → ⊥) → measures sender distance see p ≡ performs (SetsDistance sender near) see (with_distance micros p)
-measured sender distance micros near see p d n ne =
+pub measured : (sender : ℕ) (delay : Option ℕ) (micros near : ℕ) (see : List Line → View) (p : Policy) → Some micros ≡ delay → near ≡ bounded micros → (near ≡ micros → ⊥) → measures sender delay see p ≡ performs (Calls (SetDelay sender near)) see (after_echo micros p)
+measured sender delay micros near see p d n ne =
     ap (λ (o : Option ℕ). measures sender o see p) (sym d)
-    ∙ ap (λ (b : Bool). let d : Doing = record { policy = with_distance micros p; lines = cond b [] (SetsDistance sender (bounded micros) ∷ []) } in d) (ne_eqb (bounded micros) micros (λ e. ne (n ∙ e)))
-    ∙ ap (λ (m : ℕ). let d : Doing = record { policy = with_distance micros p; lines = SetsDistance sender m ∷ [] } in d) (sym n)
+    ∙ ap (λ (b : Bool). let d : Doing = record { policy = after_echo micros p; lines = cond b [] (Calls (SetDelay sender (bounded micros)) ∷ []) } in d) (ne_eqb (bounded micros) micros (λ e. ne (n ∙ e)))
+    ∙ ap (λ (m : ℕ). let d : Doing = record { policy = after_echo micros p; lines = Calls (SetDelay sender m) ∷ [] } in d) (sym n)
 
 pub same_wanted : (held here full room anew known told : Bool) (old new : Option ℕ) (owed due then now : ℕ) → held ≡ here → full ≡ room → known ≡ told → old ≡ new → owed ≡ due → then ≡ now
     → is_wanted held full anew known old owed then ≡ is_wanted here room anew told new due now

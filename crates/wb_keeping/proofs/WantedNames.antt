@@ -1,30 +1,35 @@
 -- A name that is wanted has a request timer then, where there is credit.
 use Rattle.std.proofs.Common.{◌≡◌, ℕ, Bool, true, false, cond, List, [], ◌∷◌, ◌++◌, ◌∙◌, Option, Some, None, ap, inl, inr, refl, subst, sym, true≢false, ⊎_elim}
 use Rattle.std.proofs.lemmas.Bool.{false_from_ne_true}
-use Rattle.std.specs.Prelude.{◌⊎◌, ◌&&◌, ◌||◌, filter, is_none, is_some, nat_eq, nat_le, not}
+use Rattle.std.specs.Prelude.{◌⊎◌, ◌&&◌, ◌||◌, filter, is_none, is_some, length, nat_eq, nat_le, not}
 use Rattle.wb_names.specs.Arrivals.{Outcome, New, Again, Clash, Left, history_with, outcome_of}
 use Rattle.wb_names.specs.Orders.{same_name}
 use Rattle.wb_names.specs.Values.{DrawopValue, NameValue}
 use Rattle.wb_names.proofs.Orders.{same_name-is, same_name-itself}
 use Rattle.wb_codec.specs.declared.datagram.Datagram.{Datagram}
 use Rattle.wb_codec.specs.declared.datagram.Datagram.TheVariants.{Draw, Session, Request, AskPages, PageState}
-use Rattle.wb_recovery.specs.Events.{Asked, Event, Got, timers_of}
+use Rattle.wb_recovery.specs.Events.{Asked, Event, Got, Notice, timers_of}
 use Rattle.wb_recovery.specs.Laws.{arrives, ends_answer, notices, sets_answer, since}
+use Rattle.wb_recovery.specs.Noticing.{notices as after_notices}
 use Rattle.wb_recovery.specs.Stopping.{receipts}
 use Rattle.wb_recovery.specs.Timing.{is_answer_due}
+use Rattle.wb_recovery.specs.declared.missed.Missed.{Missed}
 use Rattle.wb_recovery.specs.declared.missed.Received.{Received}
 use Rattle.wb_recovery.specs.declared.tuning.Tuning.{Tuning}
 use Rattle.wb_recovery.proofs.TimerLaws.{answer_stands}
 use Rattle.wb_keeper.specs.GivingUp.{is_asked as is_asked_in}
 use Rattle.wb_keeper.specs.Hearing.{asks_for_held}
-use Rattle.wb_keeper.specs.Keeper.{asked_by, delay_to, given_up, holds, received_of}
+use Rattle.wb_keeper.specs.Keeper.{asked_by, delay_to, given_up, holds, missed_of, received_of}
 use Rattle.wb_keeper.specs.Ticks.{stopped_after}
+use Rattle.wb_member.specs.Board.{Held}
 use Rattle.wb_member.specs.Members.{Misses}
-use Rattle.wb_member.specs.Opened.{Opened, doing as doing_act, events, has_room_for, heard, may_ask, opened_with, present, word_at}
-use Rattle.wb_member.specs.Random.{word_of}
+use Rattle.wb_member.specs.Opened.{Opened, doing as doing_act, events, has_room_for, heard, looked, may_ask, opened_with, present, wanted_of, word_at}
+use Rattle.wb_member.specs.Random.{word_of, words_of}
+use Rattle.wb_member.specs.declared.calls.Call.TheVariants.{Tick, Hear, SetDelay, Tune, Look, Ask, Stop}
+use Rattle.wb_member.proofs.KeptBoards.{calls_keep_boards}
 use Rattle.wb_keeping.specs.Fairness.{OnlyHeldIsAnswered, WantedIsAsked, is_answering}
-use Rattle.wb_recovery.specs.declared.limits.TheConstants.{UNKNOWN_DISTANCE}
-use Rattle.wb_keeping.specs.Kept.{Arrives, Asks, Doing, Hears, Line, Says, SetsDistance, Tunes, Stops, Ticks, room_lines, still, stops_one, lending}
+use Rattle.wb_recovery.specs.declared.limits.TheConstants.{UNKNOWN_DELAY}
+use Rattle.wb_keeping.specs.Kept.{Arrives, Doing, Line, Says, room_lines, still, stops_one, lending, Calls}
 use Rattle.wb_keeping.specs.Performing.{after_line, after_lines, sees, view_of}
 use Rattle.wb_policy.specs.Policy.{after_wanting}
 use Rattle.wb_keeping.specs.Views.{View, is_asked, is_full, level, is_known}
@@ -48,6 +53,10 @@ ends false b e = e
 received : (t : Tuning) (n : NameValue) (now : ℕ) (calls : List Event) (came : List Received) → IsAnswered t n (receipts now calls came) → IsAnswered t n calls
 received t n now calls [] is = is
 received t n now calls (c ∷ came) is = ends (same_name c.name n) (since (sets_answer t n) (ends_answer t n) calls) (received t n now (Got c.name now c.delay ∷ calls) came is)
+
+noticed : (t : Tuning) (n : NameValue) (now : ℕ) (calls : List Event) (missed : List Missed) → IsAnswered t n (after_notices now calls missed) → IsAnswered t n calls
+noticed t n now calls [] is = is
+noticed t n now calls (m ∷ missed) is = noticed t n now (Notice m.name now m.delay m.word ∷ calls) missed is
 
 -- one that is set is set for the name, which was held
 set_or : (same some old : Bool) → ((same && some) || old) ≡ true → (same ≡ true) ⊎ (old ≡ true)
@@ -103,26 +112,28 @@ module _ (n : NameValue) where
       held_with host.is.held d (outcome_of host.is.cells host.is.held d) n (old (to host is))
 
   pub answers_held : (line : Line) (host : Opened) → (is_answering host n ≡ true → holds host.is.held n ≡ true) → is_answering (after_line line host) n ≡ true → holds (after_line line host).is.held n ≡ true
-  answers_held (Ticks now) host old e =
+  answers_held (Calls (Tick now)) host old e =
       let calls = receipts now (events host) (received_of (delay_to host.is.number host.is.calls) (stopped_after host.is.number host.is.constants host.is.calls host.is.held)) in
-      let ticked_is = ends (is_answer_due now (timers_of host.is.constants calls n).answer) (since (sets_answer host.is.constants n) (ends_answer host.is.constants n) calls) (from (after_line (Ticks now) host) e) in
+      let ticked_is = ends (is_answer_due now (timers_of host.is.constants calls n).answer) (since (sets_answer host.is.constants n) (ends_answer host.is.constants n) calls) (from (after_line (Calls (Tick now)) host) e) in
       old (to host (received host.is.constants n now (events host) (received_of (delay_to host.is.number host.is.calls) (stopped_after host.is.number host.is.constants host.is.calls host.is.held)) ticked_is))
   answers_held (Arrives d) host old e = arrival d host old e
-  answers_held (Hears v) host old e = by (has_room_for v host) e where
+  answers_held (Calls (Hear v)) host old e = by (has_room_for v host) e where
     by : (b : Bool) → is_answering (cond b (heard v host) host) n ≡ true → holds (cond b (heard v host) host).is.held n ≡ true
     by true e = ⊎_elim (λ (is : IsAnswered host.is.constants n (events host)). old (to host is)) (λ (h : holds host.is.held n ≡ true). h)
         (asked_held host.is.constants n host.is.number (present host) (delay_to host.is.number host.is.calls) v (word_at v host.random) host.is.held (events host) (from (heard v host) e))
     by false e = old e
-  answers_held (Asks name) host old e = by (may_ask name host) e where
+  answers_held (Calls (Ask name)) host old e = by (may_ask name host) e where
     asking : Opened
     asking = doing_act (Misses (present host) (name ∷ []) (word_of host.random ∷ [])) 1 host
 
     by : (b : Bool) → is_answering (cond b asking host) n ≡ true → holds (cond b asking host).is.held n ≡ true
     by true e = old (to host (from asking e))
     by false e = old e
-  answers_held (Stops name) host old e = old (to host (given host.is.constants n (present host) name (is_asked_in (timers_of host.is.constants (events host)) name) (events host) (from (after_line (Stops name) host) e)))
-  answers_held (SetsDistance source micros) host old e = old e
-  answers_held (Tunes constants) host old e = old e
+  answers_held (Calls (Look page)) host old e =
+      let missed = missed_of (delay_to host.is.number host.is.calls) (wanted_of page host) (words_of host.random (length (wanted_of page host))) in
+      old (to host (noticed host.is.constants n (present host) (events host) missed (from (looked page host) e)))
+  answers_held (Calls (Stop name)) host old e = old (to host (given host.is.constants n (present host) name (is_asked_in (timers_of host.is.constants (events host)) name) (events host) (from (after_line (Calls (Stop name)) host) e)))
+  answers_held (Calls call) host old e = old e
   answers_held (Says (Draw d)) host old e = arrival d host old e
   answers_held (Says (Session sender sent page marks echoes)) host old e = old e
   answers_held (Says (Request asker name)) host old e = old e
@@ -138,11 +149,11 @@ only_held_is_answered constants number cells seed lines name = lines_answer_held
 
 -- ---- a name that is wanted
 
--- it stops a timer, or sets a distance or the constants
+-- it stops a timer, or sets a delay or the constants
 abbrev pub IsSetting : Line → Type 0
-IsSetting (Stops name) = Unit {0}
-IsSetting (SetsDistance source micros) = Unit {0}
-IsSetting (Tunes constants) = Unit {0}
+IsSetting (Calls (SetDelay source micros)) = Unit {0}
+IsSetting (Calls (Tune constants)) = Unit {0}
+IsSetting (Calls (Stop name)) = Unit {0}
 IsSetting line = ⊥
 
 abbrev pub AreSettings : List Line → Type 0
@@ -150,31 +161,24 @@ AreSettings lines = Each IsSetting lines
 
 settings_hold : (lines : List Line) (host : Opened) → AreSettings lines → (after_lines lines host).is.held ≡ host.is.held
 settings_hold [] host small = refl
-settings_hold (Stops name ∷ lines) host small = settings_hold lines (after_line (Stops name) host) small.1
-settings_hold (SetsDistance source micros ∷ lines) host small = settings_hold lines (after_line (SetsDistance source micros) host) small.1
-settings_hold (Tunes constants ∷ lines) host small = settings_hold lines (after_line (Tunes constants) host) small.1
-settings_hold (Ticks now ∷ lines) host small = absurd small.0
 settings_hold (Arrives d ∷ lines) host small = absurd small.0
-settings_hold (Hears v ∷ lines) host small = absurd small.0
-settings_hold (Asks name ∷ lines) host small = absurd small.0
+settings_hold (Calls call ∷ lines) host small = settings_hold lines (after_line (Calls call) host) small.1 ∙ ap (λ (board : Held). board.drawops) (calls_keep_boards call host).board
 settings_hold (Says v ∷ lines) host small = absurd small.0
 
 settings_stand : (lines : List Line) (host : Opened) (n : NameValue) → AreSettings lines → Stands (after_lines lines host) n → Stands host n
 settings_stand [] host n small stands = stands
-settings_stand (Stops name ∷ lines) host n small stands = keeps (Stops name) host refl n (settings_stand lines (after_line (Stops name) host) n small.1 stands)
-settings_stand (SetsDistance source micros ∷ lines) host n small stands = settings_stand lines (after_line (SetsDistance source micros) host) n small.1 stands
-settings_stand (Tunes constants ∷ lines) host n small stands = settings_stand lines (after_line (Tunes constants) host) n small.1 stands
-settings_stand (Ticks now ∷ lines) host n small stands = absurd small.0
+settings_stand (Calls (Stop name) ∷ lines) host n small stands = keeps (Calls (Stop name)) host refl n (settings_stand lines (after_line (Calls (Stop name)) host) n small.1 stands)
+settings_stand (Calls (SetDelay source micros) ∷ lines) host n small stands = settings_stand lines (after_line (Calls (SetDelay source micros)) host) n small.1 stands
+settings_stand (Calls (Tune constants) ∷ lines) host n small stands = settings_stand lines (after_line (Calls (Tune constants)) host) n small.1 stands
 settings_stand (Arrives d ∷ lines) host n small stands = absurd small.0
-settings_stand (Hears v ∷ lines) host n small stands = absurd small.0
-settings_stand (Asks name ∷ lines) host n small stands = absurd small.0
+settings_stand (Calls call ∷ lines) host n small stands = absurd small.0
 settings_stand (Says v ∷ lines) host n small stands = absurd small.0
 
 -- behind the lines that make room, no request timer of the name stands
 room_clears : (name : NameValue) (host : Opened) → Stands (after_lines (room_lines name (view_of host)) host) name → ⊥
 room_clears name host = by (is_asked (view_of host) name) refl where
   lines_by : Bool → List Line
-  lines_by a = cond a (Stops name ∷ []) (stops_one (giving_way (view_of host).asked))
+  lines_by a = cond a (Calls (Stop name) ∷ []) (stops_one (giving_way (view_of host).asked))
 
   away : is_asked (view_of host) name ≡ false → Stands host name → ⊥
   away e stands = true≢false (sym (ap is_some (level_seen host name) ∙ is_some_level (timers_of host.is.constants (events host) name).ask ∙ stands) ∙ e)
@@ -182,14 +186,14 @@ room_clears name host = by (is_asked (view_of host) name) refl where
   by : (a : Bool) → is_asked (view_of host) name ≡ a → Stands (after_lines (lines_by a) host) name → ⊥
   by true e stands =
       let asked = stands_asked host name e in
-      let missed = missed_from (after_line (Stops name) host) name stands in
+      let missed = missed_from (after_line (Calls (Stop name)) host) name stands in
       let came = come name name (events host) (subst (λ (b : Bool). since (notices name) (arrives name) (given_up (present host) name b (events host)) ≡ true) asked missed) in
       true≢false (sym (same_name-itself name) ∙ came.1)
   by false e stands =
       let first = giving_way (view_of host).asked in
       away e (settings_stand (stops_one first) host name (one_each IsSetting (λ name. tt) first) stands)
 
-asks_stand : (name : NameValue) (host : Opened) → holds host.is.held name ≡ false → (Stands host name → ⊥) → (is_answering host name ≡ true → ⊥) → Stands (after_line (Asks name) host) name
+asks_stand : (name : NameValue) (host : Opened) → holds host.is.held name ≡ false → (Stands host name → ⊥) → (is_answering host name ≡ true → ⊥) → Stands (after_line (Calls (Ask name)) host) name
 asks_stand name host lacks unasked unanswered =
     let s = timers_of host.is.constants (events host) name in
     let may : may_ask name host ≡ true =
@@ -200,18 +204,18 @@ asks_stand name host lacks unasked unanswered =
       asking : Opened
       asking = doing_act (Misses (present host) (name ∷ []) (word_of host.random ∷ [])) 1 host
 
--- a name that is asked for while a distance is lent
-lent_stands : (source distance usual : ℕ) (name : NameValue) (host : Opened) → holds host.is.held name ≡ false → (Stands host name → ⊥) → (is_answering host name ≡ true → ⊥)
-    → is_asked (view_of (after_lines (lending source distance usual (Asks name)) host)) name ≡ true
-lent_stands source distance usual name host lacks unasked unanswered = by (nat_eq distance UNKNOWN_DISTANCE) where
+-- a name that is asked for while a delay is lent
+lent_stands : (source delay usual : ℕ) (name : NameValue) (host : Opened) → holds host.is.held name ≡ false → (Stands host name → ⊥) → (is_answering host name ≡ true → ⊥)
+    → is_asked (view_of (after_lines (lending source delay usual (Calls (Ask name))) host)) name ≡ true
+lent_stands source delay usual name host lacks unasked unanswered = by (nat_eq delay UNKNOWN_DELAY) where
   asked_at : (host : Opened) → Stands host name → is_asked (view_of host) name ≡ true
   asked_at host stands = ap is_some (level_seen host name) ∙ is_some_level (timers_of host.is.constants (events host) name).ask ∙ stands
 
-  by : (b : Bool) → is_asked (view_of (after_lines (cond b (SetsDistance source usual ∷ Asks name ∷ SetsDistance source UNKNOWN_DISTANCE ∷ []) (Asks name ∷ [])) host)) name ≡ true
-  by false = asked_at (after_line (Asks name) host) (asks_stand name host lacks unasked unanswered)
+  by : (b : Bool) → is_asked (view_of (after_lines (cond b (Calls (SetDelay source usual) ∷ Calls (Ask name) ∷ Calls (SetDelay source UNKNOWN_DELAY) ∷ []) (Calls (Ask name) ∷ [])) host)) name ≡ true
+  by false = asked_at (after_line (Calls (Ask name)) host) (asks_stand name host lacks unasked unanswered)
   by true =
-      let one = after_line (SetsDistance source usual) host in
-      asked_at (after_line (SetsDistance source UNKNOWN_DISTANCE) (after_line (Asks name) one)) (asks_stand name one lacks unasked unanswered)
+      let one = after_line (Calls (SetDelay source usual)) host in
+      asked_at (after_line (Calls (SetDelay source UNKNOWN_DELAY)) (after_line (Calls (Ask name)) one)) (asks_stand name one lacks unasked unanswered)
 
 wanted_or : (full on credit : Bool) → full ≡ false → credit ≡ true → (not full && (not on && credit)) ≡ false → on ≡ true
 wanted_or false true true a b e = refl
@@ -232,7 +236,7 @@ wanted_is_asked name anew k answers lacks room credit = by (is_wanted (holds k.h
   first = room_lines name v
 
   last : List Line
-  last = lending name.source (v.distance name.source) k.policy.usual (Asks name)
+  last = lending name.source (v.delay name.source) k.policy.usual (Calls (Ask name))
 
   wanted : Doing
   wanted = doing (after_wanting (present k.host) k.policy) (first ++ last)
@@ -247,4 +251,4 @@ wanted_is_asked name anew k answers lacks room credit = by (is_wanted (holds k.h
       let lacks_then : holds one.is.held name ≡ false = ap (λ (h : List DrawopValue). holds h name) held ∙ lacks in
       let unanswered : is_answering one name ≡ true → ⊥ = λ is. true≢false (sym (lines_answer_held name first k.host (answers name) is) ∙ lacks_then) in
       subst (λ (h : Opened). is_asked (view_of h) name ≡ true) (sym (after_both first last k.host))
-      (lent_stands name.source (v.distance name.source) k.policy.usual name one lacks_then (room_clears name k.host) unanswered)
+      (lent_stands name.source (v.delay name.source) k.policy.usual name one lacks_then (room_clears name k.host) unanswered)

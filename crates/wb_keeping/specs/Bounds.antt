@@ -8,9 +8,10 @@ use Rattle.wb_recovery.specs.Timing.{are_constants}
 use Rattle.wb_recovery.specs.declared.tuning.Tuning.{Tuning}
 use Rattle.wb_member.specs.Judged.{asked_names}
 use Rattle.wb_member.specs.Opened.{Opened, opened_with, present}
+use Rattle.wb_member.specs.declared.calls.Call.TheVariants as calls
 use Rattle.wb_recovery.specs.declared.limits.TheConstants.{MOST_TIMERS}
-use Rattle.wb_policy.specs.declared.limits.TheConstants.{COST, FIRST_WAIT, LEAST_DISTANCE, MOST_PAGES, PAYS, PLACES, QUIET, SHORTEST_PAUSE}
-use Rattle.wb_keeping.specs.Kept.{Line, Ticks, Arrives, Asks, Says}
+use Rattle.wb_policy.specs.declared.limits.TheConstants.{COST, FIRST_WAIT, LEAST_DELAY, MOST_PAGES, PAYS, PLACES, QUIET, SHORTEST_PAUSE}
+use Rattle.wb_keeping.specs.Kept.{Line, Arrives, Says, Calls, ticks_at}
 use Rattle.wb_keeping.specs.Calls.{KeptLine}
 use Rattle.wb_keeping.specs.Laws.{AreTaken, after_kept, expand}
 use Rattle.wb_keeping.specs.Performing.{Keeping, after_line, after_lines, sent_by_line, sent_by_lines, view_of}
@@ -27,7 +28,7 @@ timer_count host = length (asked_names host)
 -- a member that was opened, and to which nothing came but ticks, with a policy
 abbrev pub new_keeping : Tuning → ℕ → ℕ → ℕ → List ℕ → Policy → Keeping
 new_keeping constants number cells seed moments policy = record {
-  host = after_lines (map Ticks moments) (opened_with constants number cells seed);
+  host = after_lines (ticks_at moments) (opened_with constants number cells seed);
   policy = policy;
 }
 
@@ -59,20 +60,22 @@ abbrev pub request_count : NameValue → List Datagram → ℕ
 request_count n sent = length (filter (requests n) sent)
 
 -- Whatever comes in, a name is requested at most 15 times in ten minutes in which it is not asked for anew. They are counted from the moment
--- of the first of some lines to that of the last. The constants are 1 to 16, and the usual distance is not below 10 milliseconds at first.
+-- of the first of some lines to that of the last. The constants are 1 to 16, and the usual delay is not below 10 milliseconds at first.
 abbrev pub NamesAreSeldomRequested : Type 0
 NamesAreSeldomRequested = (constants : Tuning) (number cells seed : ℕ) (moments : List ℕ) (policy : Policy) (lines : List KeptLine) (before : List Line) (first : Line) (part later : List Line) (n : NameValue)
     → let start = new_keeping constants number cells seed moments policy in
     let host = after_lines before start.host in
-    are_constants constants ≡ true → LEAST_DISTANCE ≤ policy.usual → AreTaken lines start
-    → expand lines start ≡ before ++ ((first ∷ part) ++ later) → ¬ Contains (first ∷ part) (Asks n)
+    are_constants constants ≡ true → LEAST_DELAY ≤ policy.usual → AreTaken lines start
+    → expand lines start ≡ before ++ ((first ∷ part) ++ later) → ¬ Contains (first ∷ part) (Calls (calls.Ask n))
     → present (after_lines (first ∷ part) host) ≤ present (after_line first host) + MINUTES
     → request_count n (sent_by_lines (first ∷ part) host) ≤ MOST_REQUESTS
 
 -- ---- names that are asked for
 
+-- a line that asks for a name, or for all that a page lacks
 abbrev pub is_ask : Line → Bool
-is_ask (Asks name) = true
+is_ask (Calls (calls.Ask name)) = true
+is_ask (Calls (calls.Look page)) = true
 is_ask line = false
 
 -- how many lines ask for a name

@@ -10,8 +10,9 @@ use Rattle.wb_codec.specs.declared.datagram.Datagram.{Datagram}
 use Rattle.wb_recovery.specs.Timing.{are_constants}
 use Rattle.wb_recovery.specs.declared.tuning.Tuning.{Tuning}
 use Rattle.wb_member.specs.Opened.{Opened}
+use Rattle.wb_member.specs.declared.calls.Call.TheVariants.{Tune}
 use Rattle.wb_keeper.specs.declared.keep_fault.KeepFault.TheVariants.{Range}
-use Rattle.wb_keeping.specs.Kept.{Transition, Tunes, adds, came, performs, ticks}
+use Rattle.wb_keeping.specs.Kept.{Calls, Transition, adds, came, performs, ticks}
 use Rattle.wb_keeping.specs.Performing.{Keeping}
 use Rattle.wb_keeping.specs.Refusing.{add_fault, came_as, came_fault, drawn_as, tick_fault}
 use Rattle.wb_keeping.specs.declared.kept_call.KeptCall.{KeptCall}
@@ -45,7 +46,7 @@ abbrev pub doing_of : KeptLine → Transition
 doing_of (Came now v) = came now v
 doing_of (Ticked now) = ticks now
 doing_of (Added now page time op) = adds now page time op
-doing_of (Tuned constants) = performs (Tunes constants)
+doing_of (Tuned constants) = performs (Calls (Tune constants))
 
 -- why it refuses the line, if it does
 abbrev pub fault_of : KeptLine → Keeping → Option KeptFault

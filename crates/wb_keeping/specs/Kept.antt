@@ -11,13 +11,14 @@ use Rattle.wb_codec.specs.declared.datagram.Datagram.TheVariants.{Draw, Session,
 use Rattle.wb_gaps.specs.Answers.{pages_of, report_of}
 use Rattle.wb_gaps.specs.Holes.{hole_after}
 use Rattle.wb_gaps.specs.declared.holes.Hole.{Hole}
-pub use Rattle.wb_member.specs.Lines.{Line, Ticks, Arrives, Hears, Asks, Stops, SetsDistance, Tunes, Says}
-use Rattle.wb_policy.specs.Choices.{distance_in, last_heard, last_source, near_names, own_echo, own_marks, told_names, until_in}
-use Rattle.wb_policy.specs.Distances.{bounded}
-use Rattle.wb_recovery.specs.declared.limits.TheConstants.{MOST_TIMERS, UNKNOWN_DISTANCE}
+pub use Rattle.wb_member.specs.Lines.{Line, Arrives, Says, Calls, ticks_at, stops_for}
+use Rattle.wb_member.specs.declared.calls.Call.TheVariants.{Tick, Hear, SetDelay, Ask, Stop}
+use Rattle.wb_policy.specs.Choices.{echoed_delay, last_heard, last_source, near_names, own_echo, own_marks, told_names, until_in}
+use Rattle.wb_policy.specs.Delays.{bounded}
+use Rattle.wb_recovery.specs.declared.limits.TheConstants.{MOST_TIMERS, UNKNOWN_DELAY}
 use Rattle.wb_policy.specs.declared.limits.TheConstants.{MOST_PAGES}
 use Rattle.wb_keeping.specs.Drawings.{drawing_time}
-use Rattle.wb_policy.specs.Policy.{Policy, after_answer, after_beat, after_came, after_leaping, after_question, after_report, after_state, after_taking_up, after_turn, after_wanting, in_next_leaps, in_next_round, with_distance}
+use Rattle.wb_policy.specs.Policy.{Policy, after_answer, after_beat, after_came, after_leaping, after_question, after_report, after_state, after_taking_up, after_turn, after_wanting, in_next_leaps, in_next_round, after_echo}
 use Rattle.wb_keeping.specs.Views.{View, holds, is_asked, is_full, level, is_known}
 use Rattle.wb_policy.specs.Leaps.{far_name}
 use Rattle.wb_policy.specs.Questions.{is_due, is_to_answer}
@@ -34,15 +35,15 @@ pub record Doing : Type 0 where
 -- the lines that give a name up, if there is one
 abbrev pub stops_one : Option AskedName → List Line
 stops_one None = []
-stops_one (Some a) = Stops a.name ∷ []
+stops_one (Some a) = Calls (Stop a.name) ∷ []
 
 -- A timer that starts anew is stopped first, and for another name the oldest one gives way. So at most 64 stand.
 abbrev pub room_lines : NameValue → View → List Line
-room_lines name v = if is_asked v name then Stops name ∷ [] else stops_one (giving_way v.asked)
+room_lines name v = if is_asked v name then Calls (Stop name) ∷ [] else stops_one (giving_way v.asked)
 
--- A source that told no distance has the usual one for one line: it is lent, and then taken back.
+-- A source that told no delay has the usual one for one line: it is lent, and then taken back.
 abbrev pub lending : ℕ → ℕ → ℕ → Line → List Line
-lending source distance usual line = if nat_eq distance UNKNOWN_DISTANCE then SetsDistance source usual ∷ line ∷ SetsDistance source UNKNOWN_DISTANCE ∷ [] else line ∷ []
+lending source delay usual line = if nat_eq delay UNKNOWN_DELAY then Calls (SetDelay source usual) ∷ line ∷ Calls (SetDelay source UNKNOWN_DELAY) ∷ [] else line ∷ []
 
 -- ---- transitions
 
@@ -68,7 +69,7 @@ abbrev pub want : NameValue → Bool → Transition
 want name anew see p =
     let v = see [] in
     if is_wanted (holds v name) (is_full v) anew (is_known v name.source) (level v name) p.owed v.now
-    then record { policy = after_wanting v.now p; lines = room_lines name v ++ lending name.source (v.distance name.source) p.usual (Asks name) }
+    then record { policy = after_wanting v.now p; lines = room_lines name v ++ lending name.source (v.delay name.source) p.usual (Calls (Ask name)) }
     else still see p
 
 -- whoever reports a number holds it
@@ -103,7 +104,7 @@ turn see p =
 
 -- a full board asks for nothing
 abbrev pub end : Transition
-end see p = record { policy = p; lines = map (λ a. Stops a.name) (see []).asked }
+end see p = record { policy = p; lines = map (λ a. Calls (Stop a.name)) (see []).asked }
 
 -- what was asked for and came pays
 abbrev pub paid_for : Bool → Policy → Policy
@@ -212,12 +213,12 @@ takes d see p =
     if holds v d.name || is_full v then performs (Arrives d) see p
     else and_then (performs (Arrives d)) (learned d.name (is_asked v d.name)) see p
 
--- an echo tells a distance, which is bounded
+-- an echo tells a delay, which is bounded
 abbrev pub measures : ℕ → Option ℕ → Transition
 measures sender None see p = still see p
 measures sender (Some micros) see p = record {
-  policy = with_distance micros p;
-  lines = if nat_eq (bounded micros) micros then [] else SetsDistance sender (bounded micros) ∷ [];
+  policy = after_echo micros p;
+  lines = if nat_eq (bounded micros) micros then [] else Calls (SetDelay sender (bounded micros)) ∷ [];
 }
 
 abbrev pub hears_session : ℕ → ℕ → PageId → List MarkValue → List Echo → Transition
@@ -225,11 +226,11 @@ hears_session sender sent page marks echoes see p =
     let v = see [] in
     let own = own_marks v.me (nat_lt v.now p.ready) marks in
     let echo = own_echo v.me echoes in
-    and_then (performs (Hears (Session sender sent page own echo))) (and_then (measures sender (distance_in v.now echo)) (want_told (told_names v.me page marks))) see p
+    and_then (performs (Calls (Hear (Session sender sent page own echo)))) (and_then (measures sender (echoed_delay v.now echo)) (want_told (told_names v.me page marks))) see p
 
 abbrev pub hears_some : ℕ → PageId → List MarkValue → Transition
 hears_some sender page [] = still
-hears_some sender page (m ∷ marks) = performs (Hears (PageState sender page (m ∷ marks)))
+hears_some sender page (m ∷ marks) = performs (Calls (Hear (PageState sender page (m ∷ marks))))
 
 abbrev pub hears_state : ℕ → PageId → List MarkValue → Transition
 hears_state sender page marks see p =
@@ -237,12 +238,12 @@ hears_state sender page marks see p =
     let own = own_marks v.me (nat_lt v.now p.ready) marks in
     and_then (hears_some sender page own) (want_told (told_names v.me page marks)) see (after_state v.now p)
 
--- For a name that is held the distance to the asker counts, and for another that to its source.
+-- For a name that is held the delay to the asker counts, and for another that to its source.
 abbrev pub hears_request : ℕ → NameValue → Transition
 hears_request asker name see p =
     let v = see [] in
     let source = if holds v name then asker else name.source in
-    record { policy = p; lines = lending source (v.distance source) p.usual (Hears (Request asker name)) }
+    record { policy = p; lines = lending source (v.delay source) p.usual (Calls (Hear (Request asker name))) }
 
 abbrev pub takes_question : Transition
 takes_question see p =
@@ -266,11 +267,11 @@ hears (AskPages asker) = of_other asker takes_question
 
 -- a datagram came
 abbrev pub came : ℕ → Datagram → Transition
-came now v = and_then (performs (Ticks now)) (and_then (hears v) timed)
+came now v = and_then (performs (Calls (Tick now))) (and_then (hears v) timed)
 
 -- time goes on
 abbrev pub ticks : ℕ → Transition
-ticks now = and_then (performs (Ticks now)) timed
+ticks now = and_then (performs (Calls (Tick now))) timed
 
 -- its user draws; a board that is full then asks for nothing
 abbrev pub ends_full : Transition
@@ -284,4 +285,4 @@ abbrev pub draws_it : PageId → ℕ → Op → Transition
 draws_it page time op see p = performs (Says (Draw (drawing (see []) page time op))) see p
 
 abbrev pub adds : ℕ → PageId → ℕ → Op → Transition
-adds now page time op = and_then (performs (Ticks now)) (and_then (draws_it page time op) (and_then ends_full timed))
+adds now page time op = and_then (performs (Calls (Tick now))) (and_then (draws_it page time op) (and_then ends_full timed))

@@ -5,9 +5,10 @@ use Rattle.wb_names.specs.Values.{NameValue}
 use Rattle.wb_gaps.specs.Holes.{hole_after}
 use Rattle.wb_gaps.specs.declared.holes.Hole.{Hole}
 use Rattle.wb_policy.specs.Choices.{near_names}
-use Rattle.wb_recovery.specs.declared.limits.TheConstants.{UNKNOWN_DISTANCE}
+use Rattle.wb_recovery.specs.declared.limits.TheConstants.{UNKNOWN_DELAY}
 use Rattle.wb_policy.specs.declared.limits.TheConstants.{REACH}
-use Rattle.wb_keeping.specs.Kept.{Line, SetsDistance, Transition, leap_to, room_lines, turn_to, want, and_then, performs}
+use Rattle.wb_member.specs.declared.calls.Call.TheVariants.{SetDelay}
+use Rattle.wb_keeping.specs.Kept.{Line, Transition, leap_to, room_lines, turn_to, want, and_then, performs, Calls}
 use Rattle.wb_keeping.specs.Views.{View, holds}
 use Rattle.wb_policy.specs.Leaps.{far_name}
 use Rattle.wb_policy.specs.Policy.{after_leaping, after_turn}
@@ -31,17 +32,17 @@ performs_all lines see p = record { policy = p; lines = lines }
 abbrev pub makes_room : NameValue → Transition
 makes_room name see p = record { policy = p; lines = room_lines name (see []) }
 
--- what is lent to a source whose distance is this one, and the lines that lend it and take it back
+-- what is lent to a source whose delay is this one, and the lines that lend it and take it back
 abbrev pub lent_at : ℕ → ℕ → Option ℕ
-lent_at distance usual = if nat_eq distance UNKNOWN_DISTANCE then Some usual else None
+lent_at delay usual = if nat_eq delay UNKNOWN_DELAY then Some usual else None
 
 abbrev pub set_lines : ℕ → Option ℕ → List Line
 set_lines source None = []
-set_lines source (Some micros) = SetsDistance source micros ∷ []
+set_lines source (Some micros) = Calls (SetDelay source micros) ∷ []
 
 abbrev pub back_lines : ℕ → Option ℕ → List Line
 back_lines source None = []
-back_lines source (Some micros) = SetsDistance source UNKNOWN_DISTANCE ∷ []
+back_lines source (Some micros) = Calls (SetDelay source UNKNOWN_DELAY) ∷ []
 
 -- a line between these
 abbrev pub lends_for : ℕ → Option ℕ → Line → Transition

@@ -40,7 +40,7 @@ impl Model for KeptMember {
 
 /// What follows from a call.
 #[derive(Drop)]
-pub struct Done {
+pub struct KeptDone {
     /// What is to be sent, in this order.
     pub sent: Vec<Datagram>,
     /// What became of the drawop that came or was drawn: None if the board has no cell for it, or

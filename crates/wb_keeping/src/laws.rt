@@ -4,7 +4,7 @@
 ghost use Rattle.std.specs.Prelude.{◌≡◌};
 ghost use Rattle.wb_keeping.specs.Bounds.{FewNamesAreAsked, FewRequestsAtOnce, FewTimersStand, LittleIsSaid, NamesAreSeldomRequested};
 ghost use Rattle.wb_keeping.specs.Fairness.{OnlyHeldIsAnswered, ReportsTell, TurnsAreTaken, WantedIsAsked};
-ghost use Rattle.wb_keeping.specs.Laws.{ANumberIsLeft, DrawingIsNotLocked, KeptHostsAreHosts, NothingIsDue, TimeComesFirst, WantedIsPaid};
+ghost use Rattle.wb_keeping.specs.Laws.{ANumberIsLeft, CallsAreOfPolicies, DrawingIsNotLocked, KeptHostsAreHosts, NothingIsDue, TimeComesFirst, WantedIsPaid};
 ghost use Rattle.wb_keeping.specs.declared.limits.TheConstants.{AHEAD, MINUTES, MOST_REQUESTS};
 
 /// A name that is wanted is asked for only if it is not held and there is credit, and then it costs.
@@ -22,9 +22,11 @@ pub fn time_goes_on()
 
 /// A self-managing host is a host whose driver hands in lines: for each list of what comes, ticks
 /// and is drawn, there is one list of these, after which such a host is the same member, and has
-/// sent the same datagrams in the same order.
+/// sent the same datagrams in the same order. Its policy asks for names one by one, and says what
+/// it reports: it does not look for all that a page lacks, nor call for a session message.
 pub fn kept_hosts_are_hosts()
-    ensures { KeptHostsAreHosts }
+    ensures same { KeptHostsAreHosts }
+    ensures calls { CallsAreOfPolicies }
 {}
 
 /// Drawing is never locked, whatever comes in: a number is left on each page, so that a drawing is

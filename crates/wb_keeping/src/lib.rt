@@ -22,4 +22,4 @@ mod limits;
 pub use drawings::time_of;
 pub use kept_call::KeptCall;
 pub use kept_fault::KeptFault;
-pub use kept_member::{Done, KeptMember};
+pub use kept_member::{KeptDone, KeptMember};

@@ -5,3 +5,4 @@ pub mod HeardActs
 pub mod OneArrival
 pub mod NextNumbers
 pub mod KeptBoards
+pub mod PolicyCalls

@@ -1,22 +1,38 @@
--- A line that a host takes, what becomes of a member that performs lines, and what it sends by them.
-use Rattle.std.specs.Prelude.{ℕ, List, [], ◌∷◌, ◌++◌, if◌then◌else◌}
+-- A line that a host performs, what becomes of a member that performs lines, and what it sends by them.
+use Rattle.std.specs.Prelude.{ℕ, List, [], ◌∷◌, ◌++◌, map}
 use Rattle.wb_names.specs.Arrivals.{Outcome, New, Again, Clash, Left}
 use Rattle.wb_names.specs.Values.{DrawopValue, NameValue}
 use Rattle.wb_codec.specs.declared.datagram.Datagram.{Datagram}
 use Rattle.wb_codec.specs.declared.datagram.Datagram.TheVariants.{Draw, Session, Request, AskPages, PageState}
-use Rattle.wb_recovery.specs.declared.tuning.Tuning.{Tuning}
-use Rattle.wb_member.specs.Opened.{Opened, accepted, answered, becomes, has_room_for, heard, sent_by, ticked, with_asked, with_constants, with_delay, with_stopped}
+use Rattle.wb_member.specs.Calls.{after_call, sent_by_call}
+use Rattle.wb_member.specs.Opened.{Opened, accepted, becomes}
+use Rattle.wb_member.specs.declared.calls.Call.{Call}
+use Rattle.wb_member.specs.declared.calls.Call.TheVariants.{Tick, Hear, SetDelay, Tune, Ask, Stop}
 
--- a line that a host performs
+-- a drawop comes to a member, it says a datagram of its own, or it is called
 pub data Line : Type 0 where
-  Ticks : (now : ℕ) → Line
   Arrives : (d : DrawopValue) → Line
-  Hears : (v : Datagram) → Line
-  Asks : (name : NameValue) → Line
-  Stops : (name : NameValue) → Line
-  SetsDistance : (source micros : ℕ) → Line
-  Tunes : (constants : Tuning) → Line
   Says : (v : Datagram) → Line
+  Calls : (call : Call) → Line
+
+-- The calls that a policy makes. It asks for names one by one, and says what it reports: it does not look for all that a page
+-- lacks, and does not call for a session message.
+abbrev pub IsOfPolicy : Call → Type 0
+IsOfPolicy (Tick now) = Unit {0}
+IsOfPolicy (Hear v) = Unit {0}
+IsOfPolicy (SetDelay source micros) = Unit {0}
+IsOfPolicy (Tune constants) = Unit {0}
+IsOfPolicy (Ask name) = Unit {0}
+IsOfPolicy (Stop name) = Unit {0}
+IsOfPolicy call = ⊥
+
+-- time goes on to each of these moments
+abbrev pub ticks_at : List ℕ → List Line
+ticks_at moments = map (λ now. Calls (Tick now)) moments
+
+-- it gives up asking for each of these names
+abbrev pub stops_for : List NameValue → List Line
+stops_for names = map (λ name. Calls (Stop name)) names
 
 -- ---- one line
 
@@ -42,27 +58,17 @@ said (Request asker name) host = Request asker name ∷ []
 said (AskPages asker) host = AskPages asker ∷ []
 said (PageState sender page marks) host = PageState sender page marks ∷ []
 
--- what a host is once it performed a line: one that it refuses changes nothing
+-- what a host is once it performed a line: a call that it refuses changes nothing
 abbrev pub after_line : Line → Opened → Opened
-after_line (Ticks now) host = ticked now host
 after_line (Arrives d) host = accepted d host
-after_line (Hears v) host = if has_room_for v host then heard v host else host
-after_line (Asks name) host = with_asked name host
-after_line (Stops name) host = with_stopped name host
-after_line (SetsDistance source micros) host = with_delay source micros host
-after_line (Tunes constants) host = with_constants constants host
 after_line (Says v) host = after_saying v host
+after_line (Calls call) host = after_call call host
 
 -- and what it sends by that
 abbrev pub sent_by_line : Line → Opened → List Datagram
-sent_by_line (Ticks now) host = sent_by now host
 sent_by_line (Arrives d) host = []
-sent_by_line (Hears v) host = if has_room_for v host then answered v host else []
-sent_by_line (Asks name) host = []
-sent_by_line (Stops name) host = []
-sent_by_line (SetsDistance source micros) host = []
-sent_by_line (Tunes constants) host = []
 sent_by_line (Says v) host = said v host
+sent_by_line (Calls call) host = sent_by_call call host
 
 -- ---- lines, one after the other
 

@@ -15,7 +15,7 @@ use wb_gaps::Hole;
 use wb_names::Name;
 use wb_policy::limits::REACH;
 use wb_policy::{AskedName, Candidate, Turns, giving_way, near_names};
-use wb_recovery::{MOST_TIMERS, UNKNOWN_DISTANCE};
+use wb_recovery::{MOST_TIMERS, UNKNOWN_DELAY};
 
 impl KeptMember {
     /// A name is wanted. Its timer may start anew if somebody says that they hold it, or if it has
@@ -61,12 +61,12 @@ impl KeptMember {
         }
     }
 
-    /// Whether the distance to a source is known.
+    /// Whether the delay to a source is known.
     fn is_known(&self, source: u32) -> bool
         ensures { (k : Keeping) → IsKeptAt self.now k →
             result ≡ is_known (view_of k.host) source }
     {
-        self.member.delay(source) != UNKNOWN_DISTANCE
+        self.member.delay(source) != UNKNOWN_DELAY
     }
 
     /// How often the timer of a name was backed off, if one stands.
@@ -84,13 +84,13 @@ impl KeptMember {
         self.level(name).is_some()
     }
 
-    /// The usual distance, if that to a source is not known.
+    /// The usual delay, if that to a source is not known.
     pub(super) fn lent_to(&self, source: u32) -> Option<u64>
         ensures lent { (k : Keeping) → IsKeptAt self.now k →
-            result ≡ lent_at ((view_of k.host).distance source) k.policy.usual }
+            result ≡ lent_at ((view_of k.host).delay source) k.policy.usual }
         ensures near { IfSome result IsDelay }
     {
-        if self.member.delay(source) == UNKNOWN_DISTANCE {
+        if self.member.delay(source) == UNKNOWN_DELAY {
             Some(self.policy.usual())
         } else {
             None

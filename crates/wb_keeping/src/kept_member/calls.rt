@@ -6,15 +6,16 @@ ghost use Rattle.wb_names.specs.Faults.{value_unless};
 ghost use Rattle.wb_names.specs.Shapes.{op_of};
 ghost use Rattle.wb_member.specs.Holding.{outcome_in};
 ghost use Rattle.wb_member.specs.Opened.{present};
+ghost use Rattle.wb_member.specs.declared.calls.Call.TheVariants.{Tune};
 ghost use Rattle.wb_keeping.specs.Calls.{IsWithin, Tuned, became_of, doing_of, fault_of, line_of};
-ghost use Rattle.wb_keeping.specs.Kept.{Tunes, adds, came, drawing, performs, ticks};
+ghost use Rattle.wb_keeping.specs.Kept.{Calls, adds, came, drawing, performs, ticks};
 ghost use Rattle.wb_keeping.specs.Performing.{IsKeptAt, Keeping, LeavesSome, after_doing, sent_by_doing, view_of};
 ghost use Rattle.wb_keeping.specs.Refusing.{IsRefusedBy, add_fault, came_as, came_fault, drawing_fault, drawn_as, is_unknown, is_unknown_of_ours, tick_fault};
 
 use crate::drawings::time_of;
 use crate::kept_call::KeptCall;
 use crate::kept_fault::KeptFault;
-use crate::kept_member::{Done, KeptMember};
+use crate::kept_member::{KeptDone, KeptMember};
 use std::alloc::Global;
 use wb_codec::Datagram;
 use wb_keeper::KeepFault;
@@ -30,7 +31,7 @@ impl KeptMember {
     /// can't be one of a drawop under the next number; and for constants out of their range. If
     /// an allocation fails, it has performed the first of its lines, or none, and what these sent
     /// is lost, as a datagram may be.
-    pub fn call(&mut self, alloc: Global, call: KeptCall<'_>) -> Result<Done, KeptFault>
+    pub fn call(&mut self, alloc: Global, call: KeptCall<'_>) -> Result<KeptDone, KeptFault>
         requires { IsWithin (line_of call) }
         ensures fault { (k : Keeping) → IsKeptAt self.old k →
             IsRefusedBy (fault_of (line_of call.entry) k) result }
@@ -45,7 +46,7 @@ impl KeptMember {
             (LeavesSome (doing_of (line_of call.entry)) self.old self.new) }
     {
         match call {
-            KeptCall::Came { now, datagram } => self.came(alloc, now, datagram),
+            KeptCall::Came { now, datagram } => self.handle_datagram(alloc, now, datagram),
             KeptCall::Ticked { now } => self.tick(alloc, now),
             KeptCall::Added {
                 now,
@@ -58,7 +59,12 @@ impl KeptMember {
     }
 
     /// A datagram came in.
-    fn came(&mut self, alloc: Global, now: u64, datagram: &Datagram) -> Result<Done, KeptFault>
+    fn handle_datagram(
+        &mut self,
+        alloc: Global,
+        now: u64,
+        datagram: &Datagram,
+    ) -> Result<KeptDone, KeptFault>
         requires { IsMoment now }
         ensures fault { (k : Keeping) → IsKeptAt self.old k →
             IsRefusedBy (came_fault now datagram.now k) result }
@@ -80,11 +86,11 @@ impl KeptMember {
         let mut sent = self.go_on(alloc, now)?;
         let became = self.hears(alloc, datagram)?;
         self.timed(alloc, &mut sent)?;
-        Ok(Done { sent, became })
+        Ok(KeptDone { sent, became })
     }
 
     /// Time goes on.
-    fn tick(&mut self, alloc: Global, now: u64) -> Result<Done, KeptFault>
+    fn tick(&mut self, alloc: Global, now: u64) -> Result<KeptDone, KeptFault>
         requires { IsMoment now }
         ensures fault { (k : Keeping) → IsKeptAt self.old k →
             IsRefusedBy (tick_fault now k) result }
@@ -101,7 +107,7 @@ impl KeptMember {
         }
         let mut sent = self.go_on(alloc, now)?;
         self.timed(alloc, &mut sent)?;
-        Ok(Done { sent, became: None })
+        Ok(KeptDone { sent, became: None })
     }
 
     /// Its user draws.
@@ -112,7 +118,7 @@ impl KeptMember {
         page: PageId,
         time: u64,
         shape: Shape<'_>,
-    ) -> Result<Done, KeptFault>
+    ) -> Result<KeptDone, KeptFault>
         requires { IsMoment now }
         ensures fault { (k : Keeping) → IsKeptAt self.old k →
             IsRefusedBy (add_fault now page time (op_of shape.entry) k) result }
@@ -137,21 +143,21 @@ impl KeptMember {
         let became = self.draw(&mut sent, &drawop)?;
         self.end_where_full(alloc)?;
         self.timed(alloc, &mut sent)?;
-        Ok(Done { sent, became })
+        Ok(KeptDone { sent, became })
     }
 
     /// Its timers are given other constants.
-    fn tune(&mut self, alloc: Global, constants: Tuning) -> Result<Done, KeptFault>
+    fn tune(&mut self, alloc: Global, constants: Tuning) -> Result<KeptDone, KeptFault>
         ensures fault { (k : Keeping) → IsKeptAt self.old k →
             IsRefusedBy (fault_of (Tuned constants) k) result }
         ensures err { OnErr result (self.new ≡ self.old) }
         ensures sent { IfOk result (λ done. (k : Keeping) → IsKeptAt self.old k →
             (done.sent.items ≡ []) ×
-            IsKeptAt self.new (after_doing (performs (Tunes constants)) k)) }
+            IsKeptAt self.new (after_doing (performs (Calls (Tune constants))) k)) }
         ensures became { IfOk result (λ done. outcome_in done.became ≡ Left) }
     {
         match self.member.set_constants(constants) {
-            Ok(()) => Ok(Done {
+            Ok(()) => Ok(KeptDone {
                 sent: Vec::new(alloc),
                 became: None,
             }),

@@ -3,7 +3,7 @@ ghost use Rattle.std.specs.Prelude.{◌≡◌, ◌≤◌, ◌<◌, ◌∷◌, �
 ghost use Rattle.wb_codec.specs.declared.datagram.Datagram.TheVariants.{PageState, Session};
 ghost use Rattle.wb_member.specs.Holding.{outcome_in};
 ghost use Rattle.wb_member.specs.Opened.{becomes};
-ghost use Rattle.wb_keeping.specs.Kept.{Hears, hears, hears_request, hears_session, hears_some, hears_state, measures, of_other, performs, takes, takes_question};
+ghost use Rattle.wb_keeping.specs.Kept.{Calls, hears, hears_request, hears_session, hears_some, hears_state, measures, of_other, performs, takes, takes_question};
 ghost use Rattle.wb_keeping.specs.Performing.{DoesQuietly, IsKeptAt, Keeping, LeavesSome, view_of};
 ghost use Rattle.wb_keeping.specs.Views.{holds, is_full};
 ghost use Rattle.wb_keeping.specs.Refusing.{came_as};
@@ -13,7 +13,7 @@ use std::alloc::{AllocError, Global};
 use wb_board::Reply;
 use wb_codec::Datagram;
 use wb_names::{Drawop, Echoes, Marks, Name, PageId};
-use wb_policy::{distance_in, own_echo, own_marks, told_names};
+use wb_policy::{echoed_delay, own_echo, own_marks, told_names};
 
 impl KeptMember {
     /// A datagram came in. What names this member as its sender is no news. Answers what became of
@@ -100,7 +100,7 @@ impl KeptMember {
         }
         let own = own_marks(alloc, me, self.policy.is_listening(now), marks)?;
         let echo = own_echo(alloc, me, echoes)?;
-        let distance = distance_in(now, echo.as_slice());
+        let delay = echoed_delay(now, echo.as_slice());
         let heard = Datagram::Session {
             sender,
             sent,
@@ -109,25 +109,25 @@ impl KeptMember {
             echoes: echo,
         };
         self.hear(alloc, &heard)?;
-        self.measures(sender, distance)?;
+        self.measures(sender, delay)?;
         let told = told_names(alloc, me, page, marks)?;
         self.want_told(alloc, &told)?;
         Ok(())
     }
 
-    /// Records the distance measured from our echo, if there was one.
-    fn measures(&mut self, sender: u32, distance: Option<u64>) -> Result<(), AllocError>
-        ensures does { OnOk result (DoesQuietly (measures sender distance) self.old self.new) }
-        ensures left { OnErr result (LeavesSome (measures sender distance) self.old self.new) }
+    /// Records the delay measured from our echo, if there was one.
+    fn measures(&mut self, sender: u32, delay: Option<u64>) -> Result<(), AllocError>
+        ensures does { OnOk result (DoesQuietly (measures sender delay) self.old self.new) }
+        ensures left { OnErr result (LeavesSome (measures sender delay) self.old self.new) }
     {
-        let Some(micros) = distance else {
+        let Some(micros) = delay else {
             return Ok(());
         };
         let near = self.policy.measure(micros);
         if near == micros {
             return Ok(());
         }
-        self.set_distance(sender, near)?;
+        self.set_delay(sender, near)?;
         Ok(())
     }
 
@@ -180,7 +180,7 @@ impl KeptMember {
         Ok(())
     }
 
-    /// A request came. If it is another's, the keeper hears it, with the distance to the asker if
+    /// A request came. If it is another's, the keeper hears it, with the delay to the asker if
     /// the name is held, or else to its source. The usual one is lent, if that is not known.
     fn hears_request(&mut self, alloc: Global, asker: u32, name: Name) -> Result<(), AllocError>
         ensures does { OnOk result
@@ -198,7 +198,7 @@ impl KeptMember {
         Ok(())
     }
 
-    /// Whose distance counts for a request: the asker's if the name is held, or else its source's.
+    /// Whose delay counts for a request: the asker's if the name is held, or else its source's.
     fn answered_to(&self, asker: u32, name: &Name) -> u32
         ensures { (k : Keeping) → IsKeptAt self.now k → result ≡
             (if holds (view_of k.host) name.now then asker else name.now.source) }

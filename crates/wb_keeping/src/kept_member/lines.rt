@@ -6,7 +6,8 @@ ghost use Rattle.wb_codec.specs.declared.datagram.Datagram.TheVariants.{Draw};
 ghost use Rattle.wb_keeper.specs.Hearing.{asks_for_pages};
 ghost use Rattle.wb_member.specs.Holding.{outcome_in};
 ghost use Rattle.wb_member.specs.Opened.{becomes};
-ghost use Rattle.wb_keeping.specs.Kept.{Asks, Hears, Says, SetsDistance, Stops, Ticks, performs};
+ghost use Rattle.wb_member.specs.declared.calls.Call.TheVariants.{Tick, Hear, SetDelay, Ask, Stop};
+ghost use Rattle.wb_keeping.specs.Kept.{Calls, Says, performs, stops_for};
 ghost use Rattle.wb_keeping.specs.Performing.{Does, DoesQuietly, IsKeptAt, Keeping, LeavesSome};
 ghost use Rattle.wb_keeping.specs.Steps.{back_lines, lends_for, performs_all, set_lines};
 
@@ -16,7 +17,7 @@ use wb_board::Reply;
 use wb_codec::Datagram;
 use wb_keeper::KeepFault;
 use wb_names::{Drawop, Name};
-use wb_recovery::UNKNOWN_DISTANCE;
+use wb_recovery::UNKNOWN_DELAY;
 
 impl KeptMember {
     /// Time goes on to a moment that is not before the present one, so that only a failed
@@ -24,7 +25,7 @@ impl KeptMember {
     pub(super) fn go_on(&mut self, alloc: Global, now: u64) -> Result<Vec<Datagram>, AllocError>
         requires { IsMoment now }
         ensures does { IfOk result
-            (λ sent. Does (performs (Ticks now)) self.old self.new [] sent.items) }
+            (λ sent. Does (performs (Calls (Tick now))) self.old self.new [] sent.items) }
         ensures err { OnErr result (self.new ≡ self.old) }
     {
         match self.member.tick(alloc, now) {
@@ -38,7 +39,7 @@ impl KeptMember {
     /// only a failed allocation refuses it.
     pub(super) fn hear(&mut self, alloc: Global, datagram: &Datagram) -> Result<(), AllocError>
         requires { (me : ℕ) → asks_for_pages me datagram.now ≡ false }
-        ensures does { OnOk result (DoesQuietly (performs (Hears datagram.now)) self.old self.new) }
+        ensures does { OnOk result (DoesQuietly (performs (Calls (Hear datagram.now))) self.old self.new) }
         ensures err { OnErr result (self.new ≡ self.old) }
     {
         match self.member.hear(alloc, datagram) {
@@ -50,7 +51,7 @@ impl KeptMember {
 
     /// It begins to ask for a name.
     pub(super) fn ask(&mut self, alloc: Global, name: &Name) -> Result<(), AllocError>
-        ensures does { OnOk result (DoesQuietly (performs (Asks name.now)) self.old self.new) }
+        ensures does { OnOk result (DoesQuietly (performs (Calls (Ask name.now))) self.old self.new) }
         ensures err { OnErr result (self.new ≡ self.old) }
     {
         self.member.ask(alloc, name)?;
@@ -59,25 +60,25 @@ impl KeptMember {
 
     /// It gives up asking for a name.
     pub(super) fn stop(&mut self, name: &Name)
-        ensures { DoesQuietly (performs (Stops name.now)) self.old self.new }
+        ensures { DoesQuietly (performs (Calls (Stop name.now))) self.old self.new }
     {
         self.member.stop(name);
     }
 
     /// It gives up asking for these names.
     pub(super) fn stop_all(&mut self, names: &[Name])
-        ensures { DoesQuietly (performs_all (map Stops names.now)) self.old self.new }
+        ensures { DoesQuietly (performs_all (stops_for names.now)) self.old self.new }
     {
         for name in names {
             self.stop(name);
         }
     }
 
-    /// The distance to a source is set, below 2^24 microseconds.
-    pub(super) fn set_distance(&mut self, source: u32, micros: u64) -> Result<(), AllocError>
+    /// The delay to a source is set, below 2^24 microseconds.
+    pub(super) fn set_delay(&mut self, source: u32, micros: u64) -> Result<(), AllocError>
         requires { IsDelay micros }
         ensures does { OnOk result
-            (DoesQuietly (performs (SetsDistance source micros)) self.old self.new) }
+            (DoesQuietly (performs (Calls (SetDelay source micros))) self.old self.new) }
         ensures err { OnErr result (self.new ≡ self.old) }
     {
         match self.member.set_delay(source, micros) {
@@ -86,7 +87,7 @@ impl KeptMember {
         }
     }
 
-    /// A distance is lent to a source, if there is one to lend.
+    /// A delay is lent to a source, if there is one to lend.
     pub(super) fn lend(&mut self, source: u32, lent: Option<u64>) -> Result<(), AllocError>
         requires { IfSome lent IsDelay }
         ensures does { OnOk result
@@ -95,14 +96,14 @@ impl KeptMember {
     {
         match lent {
             Some(micros) => {
-                self.set_distance(source, micros)?;
+                self.set_delay(source, micros)?;
                 Ok(())
             }
             None => Ok(()),
         }
     }
 
-    /// What was lent is taken back: the distance to the source is not known again.
+    /// What was lent is taken back: the delay to the source is not known again.
     pub(super) fn take_back(&mut self, source: u32, lent: Option<u64>) -> Result<(), AllocError>
         ensures does { OnOk result
             (DoesQuietly (performs_all (back_lines source lent)) self.old self.new) }
@@ -110,14 +111,14 @@ impl KeptMember {
     {
         match lent {
             Some(_micros) => {
-                self.set_distance(source, UNKNOWN_DISTANCE)?;
+                self.set_delay(source, UNKNOWN_DELAY)?;
                 Ok(())
             }
             None => Ok(()),
         }
     }
 
-    /// It begins to ask for a name, while this distance is lent to its source, if there is one.
+    /// It begins to ask for a name, while this delay is lent to its source, if there is one.
     pub(super) fn ask_by(
         &mut self,
         alloc: Global,
@@ -126,9 +127,9 @@ impl KeptMember {
     ) -> Result<(), AllocError>
         requires { IfSome lent IsDelay }
         ensures does { OnOk result
-            (DoesQuietly (lends_for name.now.source lent (Asks name.now)) self.old self.new) }
+            (DoesQuietly (lends_for name.now.source lent (Calls (Ask name.now))) self.old self.new) }
         ensures left { OnErr result
-            (LeavesSome (lends_for name.now.source lent (Asks name.now)) self.old self.new) }
+            (LeavesSome (lends_for name.now.source lent (Calls (Ask name.now))) self.old self.new) }
     {
         let source = name.source();
         self.lend(source, lent)?;
@@ -137,7 +138,7 @@ impl KeptMember {
         Ok(())
     }
 
-    /// It hears a datagram that is not a question for pages, while this distance is lent to a
+    /// It hears a datagram that is not a question for pages, while this delay is lent to a
     /// source, if there is one.
     pub(super) fn hear_by(
         &mut self,
@@ -149,9 +150,9 @@ impl KeptMember {
         requires request { (me : ℕ) → asks_for_pages me datagram.now ≡ false }
         requires lent { IfSome lent IsDelay }
         ensures does { OnOk result
-            (DoesQuietly (lends_for source lent (Hears datagram.now)) self.old self.new) }
+            (DoesQuietly (lends_for source lent (Calls (Hear datagram.now))) self.old self.new) }
         ensures left { OnErr result
-            (LeavesSome (lends_for source lent (Hears datagram.now)) self.old self.new) }
+            (LeavesSome (lends_for source lent (Calls (Hear datagram.now))) self.old self.new) }
     {
         self.lend(source, lent)?;
         self.hear(alloc, datagram)?;

@@ -2,7 +2,8 @@ use Rattle.std.proofs.Common.{[], Bool, subst}
 use Rattle.std.specs.Prelude.{Some}
 use Rattle.wb_names.specs.Faults.{fault_unless}
 use Rattle.wb_keeper.specs.declared.keep_fault.KeepFault.TheVariants.{Range}
-use Rattle.wb_keeping.specs.Kept.{Tunes, performs}
+use Rattle.wb_member.specs.declared.calls.Call.TheVariants.{Tune}
+use Rattle.wb_keeping.specs.Kept.{Calls, performs}
 use Rattle.wb_keeping.specs.declared.kept_fault.KeptFault.TheVariants.{Host}
 use Rattle.wb_dialog.specs.Doing.{DoesReply}
 use Rattle.wb_dialog.specs.Hosting.{Kept, kept_does}
@@ -15,6 +16,6 @@ returns c = record {
   text = (
     c.perform.ensures.text.0,
     c.perform.ensures.text.1,
-    λ k at. subst (λ (fine : Bool). DoesReply (Some (Kept k)) (Some (values.Kept c.perform.new.kept)) c.perform.ensures.text.0 c.perform.result (kept_does (fault_unless fine (Host Range)) (performs (Tunes c.args.constants)) [] k)) c.requires (c.perform.ensures.text.2 k at),
+    λ k at. subst (λ (fine : Bool). DoesReply (Some (Kept k)) (Some (values.Kept c.perform.new.kept)) c.perform.ensures.text.0 c.perform.result (kept_does (fault_unless fine (Host Range)) (performs (Calls (Tune c.args.constants))) [] k)) c.requires (c.perform.ensures.text.2 k at),
   );
 }

@@ -1,19 +1,20 @@
 use Rattle.std.proofs.Common.{◌≡◌, [], ◌++◌, ◌∙◌, ap, rules, subst, sym}
 use Rattle.std.specs.Prelude.{None, nat_le, nat_lt, Err}
 use Rattle.wb_names.specs.Values.{DrawopValue}
-use Rattle.wb_keeping.specs.Kept.{Ticks, Says, Transition, performs, and_then, ends_full, timed, adds, draws_it, drawing}
+use Rattle.wb_keeping.specs.Kept.{Says, Transition, performs, and_then, ends_full, timed, adds, draws_it, drawing, Calls}
 use Rattle.wb_keeping.specs.Performing.{IsKeptAt, Keeping, KeptValue, LeavesSome, after_doing, sent_by_doing, view_of}
 use Rattle.wb_policy.specs.Policy.{Policy}
 use Rattle.wb_keeping.proofs.Performed.{then_at, at_inside, does_then}
 use Rattle.wb_keeping.proofs.LeftSome.{LeftAt, on_err, left_first_at, left_second_at, left_later, left_none}
 use Rattle.wb_member.specs.Opened.{becomes, present}
+use Rattle.wb_member.specs.declared.calls.Call.TheVariants.{Tick}
 use Rattle.wb_keeping.proofs.Refused.{failed_by, fault_is, refused_by, taken_by, then_fault, value_is}
 use Rattle.wb_codec.specs.declared.datagram.Datagram.TheVariants.{Draw}
 use Rattle.wb_names.specs.Shapes.{op_of}
 use Rattle.wb_keeping.specs.Refusing.{add_fault, drawing_fault}
 use Rattle.wb_keeper.specs.declared.keep_fault.KeepFault.TheVariants.{Memory}
 use Rattle.wb_keeping.specs.declared.kept_fault.KeptFault.TheVariants.{Host}
-use Rattle.wb_keeping.specs.declared.kept_member.Done.{Done}
+use Rattle.wb_keeping.specs.declared.kept_member.KeptDone.{KeptDone}
 use Rattle.wb_keeping.proofs.kept_member.KeptMember.add.Goals as goal
 use Rattle.wb_keeping.proofs.kept_member.KeptMember.add.Goals.{After-drawing, After-go_on, After-end_where_full}
 
@@ -34,7 +35,7 @@ drawn c k at =
 
 pub returns-clause-became : goal.returns-clause-became
 returns-clause-became c = λ k at.
-    c.in_ok-became.ensures.became (after_doing (performs (Ticks c.args.now)) k) (c.in_ok-sent.ensures.does.at k at).1
+    c.in_ok-became.ensures.became (after_doing (performs (Calls (Tick c.args.now))) k) (c.in_ok-sent.ensures.does.at k at).1
     ∙ ap (λ (d : DrawopValue). becomes d k.host) (drawn (goal.at.returns-clause-became c).After-go_on k at).1
 
 pub returns-in_err-drawop-clause-fault : goal.returns-in_err-drawop-clause-fault
@@ -49,14 +50,14 @@ pub returns-in_err-end_where_full-clause-fault : goal.returns-in_err-end_where_f
 returns-in_err-end_where_full-clause-fault c = λ k at.
     let at_goal = goal.at.returns-in_err-end_where_full-clause-fault c in
     let gives : c.from_residual-in_err-end_where_full.result ≡ Err (Host Memory) = search rules in
-    failed_by Done (add_fault c.args.now c.args.page c.args.time (op_of c.args.shape) k) c.from_residual-in_err-end_where_full.result
+    failed_by KeptDone (add_fault c.args.now c.args.page c.args.time (op_of c.args.shape) k) c.from_residual-in_err-end_where_full.result
     (fine at_goal.After-drawing k at ∙ (drawn at_goal.After-go_on k at).0) gives
 
 pub returns-in_err-timed-clause-fault : goal.returns-in_err-timed-clause-fault
 returns-in_err-timed-clause-fault c = λ k at.
     let at_goal = goal.at.returns-in_err-timed-clause-fault c in
     let gives : c.from_residual-in_err-timed.result ≡ Err (Host Memory) = search rules in
-    failed_by Done (add_fault c.args.now c.args.page c.args.time (op_of c.args.shape) k) c.from_residual-in_err-timed.result
+    failed_by KeptDone (add_fault c.args.now c.args.page c.args.time (op_of c.args.shape) k) c.from_residual-in_err-timed.result
     (fine at_goal.After-drawing k at ∙ (drawn at_goal.After-go_on k at).0) gives
 
 pub returns-clause-fault : goal.returns-clause-fault
@@ -67,7 +68,7 @@ returns-clause-fault c = λ k at.
 -- ---- what was performed
 
 abbrev first : After-go_on → Transition
-first c = performs (Ticks c.args.now)
+first c = performs (Calls (Tick c.args.now))
 
 abbrev second : After-go_on → Transition
 second c = draws_it c.args.page c.args.time (op_of c.args.shape)
@@ -85,11 +86,11 @@ returns-in_err-became-clause-left c =
     on_err _ left
 
 did : (c : After-end_where_full) (k : Keeping) → IsKeptAt c.args.self.now k → c.in_ok-drawop.drawop ≡ drawing (view_of k.host) c.args.page c.args.time (op_of c.args.shape)
-    → let one = after_doing (performs (Ticks c.args.now)) k in
+    → let one = after_doing (performs (Calls (Tick c.args.now))) k in
     let draws = draws_it c.args.page c.args.time (op_of c.args.shape) in
     (c.draw.new.sent.items ≡ c.in_ok-sent.sent.items ++ sent_by_doing draws one) × IsKeptAt c.draw.new.self (after_doing draws one)
 did c k at is =
-    let one = after_doing (performs (Ticks c.args.now)) k in
+    let one = after_doing (performs (Calls (Tick c.args.now))) k in
     subst (λ (d : DrawopValue). (c.draw.new.sent.items ≡ c.in_ok-sent.sent.items ++ sent_by_doing (performs (Says (Draw d))) one) × IsKeptAt c.draw.new.self (after_doing (performs (Says (Draw d))) one)) is
     (c.in_ok-became.ensures.does.at one (c.in_ok-sent.ensures.does.at k at).1)
 

@@ -1,24 +1,25 @@
 use Rattle.std.proofs.Common.{◌≡◌, ℕ, Bool, cond, List, ◌∙◌, ap, refl, sym}
 use Rattle.std.specs.Prelude.{nat_lt}
 use Rattle.wb_names.specs.Values.{NameValue}
-use Rattle.wb_policy.specs.Choices.{own_marks, own_echo, told_names, distance_in}
-use Rattle.wb_keeping.specs.Kept.{Hears, Transition, still, performs, and_then, want_told, measures, hears_session, of_other}
+use Rattle.wb_policy.specs.Choices.{own_marks, own_echo, told_names, echoed_delay}
+use Rattle.wb_keeping.specs.Kept.{Transition, still, performs, and_then, want_told, measures, hears_session, of_other, Calls}
 use Rattle.wb_keeping.specs.Performing.{IsKeptAt, Keeping, KeptValue, sees}
 use Rattle.wb_policy.specs.Policy.{Policy}
 use Rattle.wb_keeping.proofs.Performed.{at_inside, quiet_as, quiet_then}
 use Rattle.wb_keeping.proofs.LeftSome.{on_err, left_as, left_first, left_later, left_none}
 use Rattle.std.proofs.lemmas.Bool.{ne_eqb}
 use Rattle.wb_member.specs.Opened.{present}
+use Rattle.wb_member.specs.declared.calls.Call.TheVariants.{Hear}
 use Rattle.wb_codec.specs.declared.datagram.Datagram.TheVariants.{Session}
 use Rattle.wb_keeping.proofs.kept_member.KeptMember.hears_session.Goals as goal
 use Rattle.wb_keeping.proofs.kept_member.KeptMember.hears_session.Goals.{After-hear}
 
 -- what it does of a message of another, where the code has the marks and the echo that are heard
 abbrev hearing : After-hear → Transition
-hearing c = performs (Hears (Session c.args.sender c.args.sent c.args.page c.in_ok-own.own c.in_ok-echo.echo))
+hearing c = performs (Calls (Hear (Session c.args.sender c.args.sent c.args.page c.in_ok-own.own c.in_ok-echo.echo)))
 
 abbrev measuring : After-hear → Transition
-measuring c = measures c.args.sender c.distance_in-distance.result
+measuring c = measures c.args.sender c.echoed_delay-delay.result
 
 abbrev whole : After-hear → Transition
 whole c = of_other c.args.sender (hears_session c.args.sender c.args.sent c.args.page c.args.marks.now c.args.echoes.now)
@@ -35,9 +36,9 @@ parts c names are k at =
     let own = sym (c.in_ok-own.ensures ∙ ap (λ (m : ℕ). own_marks m c.is_listening.result marks) me ∙ ap (λ (b : Bool). own_marks k.host.is.number b marks) listens) in
     let told = sym (are ∙ ap (λ (m : ℕ). told_names m c.args.page marks) me) in
     let echo = sym (c.in_ok-echo.ensures ∙ ap (λ (m : ℕ). own_echo m c.args.echoes.now) me) in
-    let away = sym (c.distance_in-distance.ensures ∙ ap (λ (n : ℕ). distance_in n c.as_slice.result.now) now ∙ ap (distance_in (present k.host)) (c.as_slice.ensures.entries ∙ sym echo)) in
+    let away = sym (c.echoed_delay-delay.ensures ∙ ap (λ (n : ℕ). echoed_delay n c.as_slice.result.now) now ∙ ap (echoed_delay (present k.host)) (c.as_slice.ensures.entries ∙ sym echo)) in
     ap (λ (b : Bool). cond b (still (sees k.host) k.policy) (hears_session c.args.sender c.args.sent c.args.page marks c.args.echoes.now (sees k.host) k.policy)) other
-    ∙ (λ i. and_then (performs (Hears (Session c.args.sender c.args.sent c.args.page (own i) (echo i)))) (and_then (measures c.args.sender (away i)) (want_told (told i))) (sees k.host) k.policy)
+    ∙ (λ i. and_then (performs (Calls (Hear (Session c.args.sender c.args.sent c.args.page (own i) (echo i))))) (and_then (measures c.args.sender (away i)) (want_told (told i))) (sees k.host) k.policy)
 
 pub returns-clause-does : goal.returns-clause-does
 returns-clause-does c =

@@ -1,5 +1,6 @@
 use Rattle.std.proofs.Common.{List, ◌∙◌, ap, sym}
-use Rattle.wb_keeping.specs.Kept.{Stops, Doing, performs, stops_one}
+use Rattle.wb_member.specs.declared.calls.Call.TheVariants.{Stop}
+use Rattle.wb_keeping.specs.Kept.{Doing, performs, stops_one, Calls}
 use Rattle.wb_keeping.specs.Performing.{sees}
 use Rattle.wb_keeping.specs.Steps.{performs_all, makes_room}
 use Rattle.wb_keeping.proofs.Performed.{quiet_as}
@@ -11,7 +12,7 @@ use Rattle.wb_keeping.proofs.kept_member.KeptMember.make_room.Goals as goal
 pub returns-then-is_asked-clause-does : goal.returns-then-is_asked-clause-does
 returns-then-is_asked-clause-does c =
     let n = c.args.name.now in
-    quiet_as (makes_room n) (performs (Stops n)) (λ k at. wanted.room_asked n (sees k.host) k.policy (sym (c.is_asked.ensures k at) ∙ c.if-is_asked.true)) c.stop.ensures
+    quiet_as (makes_room n) (performs (Calls (Stop n))) (λ k at. wanted.room_asked n (sees k.host) k.policy (sym (c.is_asked.ensures k at) ∙ c.if-is_asked.true)) c.stop.ensures
 
 pub returns-clause-does : goal.returns-clause-does
 returns-clause-does c =

@@ -1,5 +1,5 @@
 use Rattle.std.proofs.Common.{◌≡◌, ℕ, List, ◌++◌, ◌∙◌, ap, sym}
-use Rattle.wb_keeping.specs.Kept.{Line, Asks, Doing, Transition, and_then, room_lines, want}
+use Rattle.wb_keeping.specs.Kept.{Line, Doing, Transition, and_then, room_lines, want, Calls}
 use Rattle.wb_keeping.specs.Performing.{IsKeptAt, Keeping, KeptValue, sees, view_of}
 use Rattle.wb_policy.specs.Policy.{Policy, after_wanting}
 use Rattle.wb_keeping.specs.Views.{holds, is_full, is_known, level}
@@ -9,6 +9,7 @@ use Rattle.wb_keeping.proofs.LeftSome.{on_err, left_by, left_later, left_none}
 use Rattle.wb_keeping.proofs.Lending.{lends_as}
 use Rattle.wb_keeping.proofs.Wanted as wanted
 use Rattle.wb_member.specs.Opened.{present}
+use Rattle.wb_member.specs.declared.calls.Call.TheVariants.{Ask}
 use Rattle.wb_keeping.proofs.kept_member.KeptMember.want.Goals as goal
 use Rattle.wb_keeping.proofs.kept_member.KeptMember.want.Goals.{After-make_room}
 
@@ -16,7 +17,7 @@ use Rattle.wb_keeping.proofs.kept_member.KeptMember.want.Goals.{After-make_room}
 abbrev asking : After-make_room → Transition
 asking c =
     let n = c.args.name.now in
-    and_then (makes_room n) (lends_for n.source c.lent_to-lent.result (Asks n))
+    and_then (makes_room n) (lends_for n.source c.lent_to-lent.result (Calls (Ask n)))
 
 begins : (c : After-make_room) (k : Keeping) → IsKeptAt c.args.self.now k
     → want c.args.name.now c.args.may_start_anew (sees k.host) k.policy ≡ asking c (sees k.host) (after_wanting (present k.host) k.policy)
@@ -31,8 +32,8 @@ begins c k at =
     (ap (λ (p : Policy). p.owed) inside.policy) now in
     wanted.is_asked_for n anew (sees k.host) k.policy (sym same ∙ sym c.if-not-want.ensures.wanted)
     ∙ ap (λ (ls : List Line). let d : Doing = record { policy = after_wanting (present k.host) k.policy; lines = room_lines n (view_of k.host) ++ ls } in d)
-    (sym (lends_as n.source ((view_of k.host).distance n.source) k.policy.usual (Asks n) c.lent_to-lent.result
-    (c.lent_to-lent.ensures.lent k at ∙ ap (λ (s : ℕ). lent_at ((view_of k.host).distance s) k.policy.usual) c.source.ensures)))
+    (sym (lends_as n.source ((view_of k.host).delay n.source) k.policy.usual (Calls (Ask n)) c.lent_to-lent.result
+    (c.lent_to-lent.ensures.lent k at ∙ ap (λ (s : ℕ). lent_at ((view_of k.host).delay s) k.policy.usual) c.source.ensures)))
 
 spends : (c : After-make_room) (k : Keeping) → IsKeptAt c.args.self.now k
     → after_wanting c.moment-now.result c.self.inside.policy ≡ after_wanting (present k.host) k.policy
@@ -46,7 +47,7 @@ returns-clause-does c =
     let n = c.args.name.now in
     quiet_by (want n c.args.may_start_anew) (asking here)
     (λ k at. (after_wanting (present k.host) k.policy, c.if-not-want.ensures.spent ∙ spends here k at, begins here k at))
-    (ap (λ (v : KeptValue). v.member) c.self.view_is) (quiet_then (makes_room n) (lends_for n.source c.lent_to-lent.result (Asks n)) c.in_ok-make_room.ensures.does c.in_ok-ask_by.ensures.does)
+    (ap (λ (v : KeptValue). v.member) c.self.view_is) (quiet_then (makes_room n) (lends_for n.source c.lent_to-lent.result (Calls (Ask n))) c.in_ok-make_room.ensures.does c.in_ok-ask_by.ensures.does)
 
 pub returns-in_err-make_room-clause-left : goal.returns-in_err-make_room-clause-left
 returns-in_err-make_room-clause-left c = on_err _ (left_none (want c.args.name.now c.args.may_start_anew) (ap (λ (v : KeptValue). v.member) c.in_err-make_room.ensures.err ∙ ap (λ (v : KeptValue). v.member) c.self.view_is))
@@ -57,4 +58,4 @@ returns-in_err-ask_by-clause-left c = on_err _ (
     let n = c.args.name.now in
     left_by (want n c.args.may_start_anew) (asking here)
     (λ k at. (after_wanting (present k.host) k.policy, c.if-not-want.ensures.spent ∙ spends here k at, begins here k at))
-    (ap (λ (v : KeptValue). v.member) c.self.view_is) (left_later (makes_room n) (lends_for n.source c.lent_to-lent.result (Asks n)) c.in_ok-make_room.ensures.does c.in_err-ask_by.ensures.left))
+    (ap (λ (v : KeptValue). v.member) c.self.view_is) (left_later (makes_room n) (lends_for n.source c.lent_to-lent.result (Calls (Ask n))) c.in_ok-make_room.ensures.does c.in_err-ask_by.ensures.left))
