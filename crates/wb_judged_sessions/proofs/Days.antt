@@ -16,7 +16,8 @@ use Rattle.wb_judge.specs.declared.origin.Origin.{Origin}
 use Rattle.wb_judge.specs.declared.verdict.Why.{Why}
 use Rattle.wb_member.specs.Members.{Takes as TakesBatch}
 use Rattle.wb_member.specs.Opened.{becomes, opened_with, present, ticked}
-use Rattle.wb_keeping.specs.Kept.{Ticks, adds}
+use Rattle.wb_member.specs.declared.calls.Call.TheVariants as calls
+use Rattle.wb_keeping.specs.Kept.{Calls, adds}
 use Rattle.wb_keeping.specs.Laws.{Ticked}
 use Rattle.wb_keeping.specs.Performing.{Keeping, after_doing, after_line, after_lines, sees}
 use Rattle.wb_judging.specs.Handing.{facts_of, handed, handed_for, verdict_on}
@@ -63,7 +64,7 @@ day_onward line h own taken other =
 adds_now : (now : ℕ) (page : PageId) (time : ℕ) (op : Op) (k : Keeping) → present (after_doing (adds now page time op) k).host ≡ now
 adds_now now page time op k =
     let b = adds_begin now page time op (sees k.host) k.policy in
-    ap (λ lines. present (after_lines lines k.host)) b.is ∙ no_ticks_stand b.rest (after_line (Ticks now) k.host) b.none
+    ap (λ lines. present (after_lines lines k.host)) b.is ∙ no_ticks_stand b.rest (after_line (Calls (calls.Tick now)) k.host) b.none
 
 -- what a line takes in or draws has the time of day of its moment
 module _ (line : Call) (h : Judged) (now : ℕ) (other : is_told line ≡ false) where

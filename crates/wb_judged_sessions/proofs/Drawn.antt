@@ -9,7 +9,8 @@ use Rattle.wb_names.specs.declared.parts.Op.{Op}
 use Rattle.wb_codec.specs.declared.datagram.Datagram.{Datagram}
 use Rattle.wb_codec.specs.declared.datagram.Datagram.TheVariants.{Draw}
 use Rattle.wb_member.specs.Opened.{Opened, becomes, present, ticked}
-use Rattle.wb_keeping.specs.Kept.{Line, Ticks, Says, adds, and_then, drawing, ends_full, timed}
+use Rattle.wb_member.specs.declared.calls.Call.TheVariants as calls
+use Rattle.wb_keeping.specs.Kept.{Line, Says, adds, and_then, drawing, ends_full, timed, Calls, ticks_at}
 use Rattle.wb_keeping.specs.Laws.{KeptLine, Added, Came, Ticked, Tuned, doing_of}
 use Rattle.wb_keeping.specs.Performing.{Keeping, after_line, sees, view_of}
 use Rattle.wb_keeping.proofs.EachLine.{Each, each_both, ends_each, then_each}
@@ -25,11 +26,12 @@ use Rattle.wb_judging.specs.declared.record.RecordLine.{RecordLine}
 use Rattle.wb_judging.specs.declared.record.RecordLine.TheVariants.{Known, Mark, Said, Strange, Tick}
 use Rattle.wb_judging.proofs.Again.{all_dropped}
 use Rattle.wb_laws_kept.specs.Sessions.{Begins, CallAt, kept_at, steps_of}
-use Rattle.wb_laws_kept.proofs.Honest.{IsGiven, came_given, moments_given, of_policy, ticks_given, timed_given}
+use Rattle.wb_laws_kept.proofs.Honest.{came_given, moments_given, of_policy, ticks_given, timed_given}
 use Rattle.wb_laws_kept.proofs.Replaying.{lines_stay, none}
 use Rattle.wb_laws_kept.proofs.Steps.{kept_is_session}
 use Rattle.wb_laws_sessions.specs.Drawn.{drawn_at as drawn_by_steps, drawn_by as drawn_in_deed, new_where}
-use Rattle.wb_laws_sessions.specs.Sessions.{Opens, Step, deed_of, host_at, steps_then}
+use Rattle.wb_laws_sessions.specs.Sessions.{Does, Opens, Step, host_at, steps_then}
+use Rattle.wb_laws_sessions.proofs.Honest.{IsGiven, given_draws_none}
 use Rattle.wb_judged_sessions.specs.Sessions.{DrawsAsKept, JudgedCall, JudgedCallAt, Start, Starts, Takes, drawn_at, drawn_by, judged_at, kept_calls, kept_then, lines_then, plain_line, started}
 use Rattle.wb_judged_sessions.proofs.Kept.{at, judged_is_kept}
 
@@ -38,21 +40,17 @@ use Rattle.wb_judged_sessions.proofs.Kept.{at, judged_is_kept}
 abbrev pub any : DrawopValue → Type 0
 any d = Unit {0}
 
-draws_none : (comes : DrawopValue → Type 0) (line : Line) (host : Opened) → IsGiven comes line → drawn_in_deed (deed_of line) host ≡ []
-draws_none comes (Says (Draw d)) host is = absurd is
-draws_none comes line host is = refl
-
 if_none : {X : Type 0} (b : Bool) (xs ys : List X) → xs ≡ [] → cond b (xs ++ ys) ys ≡ ys
 if_none {X} true xs ys e = ap (λ (zs : List X). zs ++ ys) e
 if_none false xs ys e = refl
 
 module _ (numbers : ℕ → ℕ) (time place : ℕ) (comes : DrawopValue → Type 0) where
   given_draws : (lines : List Line) (older : List Step) (i : ℕ) → Each (IsGiven comes) lines
-      → drawn_by_steps numbers (steps_then time place (map deed_of lines) older) i ≡ drawn_by_steps numbers older i
+      → drawn_by_steps numbers (steps_then time place (map Does lines) older) i ≡ drawn_by_steps numbers older i
   given_draws [] older i each = refl
   given_draws (line ∷ lines) older i each =
-      given_draws lines (record { time = time; place = place; deed = deed_of line } ∷ older) i each.1
-      ∙ if_none (nat_eq place i) (drawn_in_deed (deed_of line) (host_at numbers older i)) (drawn_by_steps numbers older i) (draws_none comes line (host_at numbers older i) each.0)
+      given_draws lines (record { time = time; place = place; deed = Does line } ∷ older) i each.1
+      ∙ if_none (nat_eq place i) (drawn_in_deed (Does line) (host_at numbers older i)) (drawn_by_steps numbers older i) (given_draws_none comes line (host_at numbers older i) each.0)
 
 -- ---- lines of self-managing members that draw nothing
 
@@ -107,7 +105,7 @@ module _ (numbers : ℕ → ℕ) (time place : ℕ) where
   start_draws start older i =
       let o = start.opening in
       let opening : Step = record { time = time; place = place; deed = Opens o.constants o.cells o.seed } in
-      given_draws numbers time place any (map Ticks o.moments ++ []) (opening ∷ steps_of numbers older) i (each_both (IsGiven any) (map Ticks o.moments) [] (moments_given any o.moments) tt)
+      given_draws numbers time place any (ticks_at o.moments ++ []) (opening ∷ steps_of numbers older) i (each_both (IsGiven any) (ticks_at o.moments) [] (moments_given any o.moments) tt)
       ∙ if_none (nat_eq place i) [] (drawn_by_steps numbers (steps_of numbers older) i) refl
 
 -- ---- a drawing
@@ -123,11 +121,11 @@ module _ (now : ℕ) (page : PageId) (told : ℕ) (op : Op) (k : Keeping) where
   its = drawing (view_of (ticked now k.host)) page told op
 
   abbrev more : List Line
-  more = (and_then ends_full timed (λ (lines : List Line). sees k.host (Ticks now ∷ (Says (Draw its) ∷ lines))) k.policy).lines
+  more = (and_then ends_full timed (λ (lines : List Line). sees k.host (Calls (calls.Tick now) ∷ (Says (Draw its) ∷ lines))) k.policy).lines
 
   more_given : (comes : DrawopValue → Type 0) → Each (IsGiven comes) more
   more_given comes =
-      then_each (IsGiven comes) ends_full timed (ends_each (IsGiven comes) (of_policy comes)) (timed_given comes) (λ (lines : List Line). sees k.host (Ticks now ∷ (Says (Draw its) ∷ lines))) k.policy
+      then_each (IsGiven comes) ends_full timed (ends_each (IsGiven comes) (of_policy comes)) (timed_given comes) (λ (lines : List Line). sees k.host (Calls (calls.Tick now) ∷ (Says (Draw its) ∷ lines))) k.policy
 
   pub held_added : (after_kept_line (Added now page told op) k).host.is.held ≡ history_with k.host.is.held its (becomes its (ticked now k.host))
   unfolding after_kept_line
@@ -142,11 +140,11 @@ module _ (now : ℕ) (page : PageId) (told : ℕ) (op : Op) (k : Keeping) where
     abbrev before : List DrawopValue
     before = drawn_by_steps numbers older i
 
-    added_draws : drawn_by_steps numbers (steps_then time place (map deed_of (adds now page told op (sees k.host) k.policy).lines) older) i
+    added_draws : drawn_by_steps numbers (steps_then time place (map Does (adds now page told op (sees k.host) k.policy).lines) older) i
         ≡ cond (nat_eq place i) (gained (Added now page told op) k ++ before) before
     added_draws =
-        let tick : Step = record { time = time; place = place; deed = deed_of (Ticks now) } in
-        let says : Step = record { time = time; place = place; deed = deed_of (Says (Draw its)) } in
+        let tick : Step = record { time = time; place = place; deed = Does (Calls (calls.Tick now)) } in
+        let says : Step = record { time = time; place = place; deed = Does (Says (Draw its)) } in
         given_draws numbers time place any more (says ∷ (tick ∷ older)) i (more_given any) ∙ by (nat_eq place i) refl where
           by : (b : Bool) → nat_eq place i ≡ b
               → cond b (new_where its (becomes its (cond b (ticked now (host_at numbers older i)) (host_at numbers older i))) ++ cond b before before) (cond b before before)
@@ -175,7 +173,7 @@ module _ (numbers : ℕ → ℕ) (time place : ℕ) (h : Judged) (older : List C
   line_draws (Held line) = nothing (plain_line (recalled (present h.kept.host) line)) (plain_draws (recalled (present h.kept.host) line) (recalled_draws (present h.kept.host) line))
   line_draws (UserDrew now page op) =
       let told = time_of_day h.judge.clock now in
-      ap (λ (k : Keeping). drawn_by_steps numbers (steps_then time place (map deed_of (adds now page told op (sees k.host) k.policy).lines) (steps_of numbers older)) i) (sym same)
+      ap (λ (k : Keeping). drawn_by_steps numbers (steps_then time place (map Does (adds now page told op (sees k.host) k.policy).lines) (steps_of numbers older)) i) (sym same)
       ∙ added_draws now page told op h.kept numbers time place (steps_of numbers older) i (kept_is_session numbers older place ∙ ap (λ (k : Keeping). k.host) (sym same))
 
   pub call_draws : (call : JudgedCall) → Draws call

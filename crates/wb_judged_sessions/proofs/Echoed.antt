@@ -17,8 +17,9 @@ use Rattle.wb_keeper.specs.declared.keeper.Heard.{Heard}
 use Rattle.wb_judge.specs.Adding.{own_echo}
 use Rattle.wb_member.specs.Judged.{echoes}
 use Rattle.wb_member.specs.Opened.{Opened, opened_with, present}
+use Rattle.wb_member.specs.declared.calls.Call.TheVariants as calls
 use Rattle.wb_policy.specs.Choices.{last_heard}
-use Rattle.wb_keeping.specs.Kept.{Ticks}
+use Rattle.wb_keeping.specs.Kept.{Calls, ticks_at}
 use Rattle.wb_keeping.specs.Laws.{doing_of, fault_of}
 use Rattle.wb_keeping.specs.Performing.{after_doing, after_line, after_lines, sees, sent_by_doing}
 use Rattle.wb_judging.specs.Echoing.{echoing, placed, with_echo}
@@ -77,9 +78,9 @@ module _ (number : ℕ) where
   given_same [] h = refl
   given_same (line ∷ given) h = given_same given (after_judged (Held line) h) ∙ held_same line h
 
-  ticks_same : (moments : List ℕ) (host : Opened) → newest_of number (after_lines (map Ticks moments) host) ≡ newest_of number host
+  ticks_same : (moments : List ℕ) (host : Opened) → newest_of number (after_lines (ticks_at moments) host) ≡ newest_of number host
   ticks_same [] host = refl
-  ticks_same (now ∷ moments) host = ticks_same moments (after_line (Ticks now) host)
+  ticks_same (now ∷ moments) host = ticks_same moments (after_line (Calls (calls.Tick now)) host)
 
   call_newest : (call : JudgedCall) (h : Judged) → nat_eq number h.kept.host.is.number ≡ false → newest_of number (after_call call h).kept.host ≡ taken_by number call h (newest_of number h.kept.host)
   unfolding after_kept_line

@@ -12,7 +12,7 @@ use Rattle.wb_names.specs.declared.parts.Op.{Op}
 use Rattle.wb_names.proofs.Listings.{Contains-from_filter}
 use Rattle.wb_names.proofs.Orders.{same_name-here, same_name-is}
 use Rattle.wb_codec.specs.declared.datagram.Datagram.{Datagram}
-use Rattle.wb_codec.specs.declared.datagram.Datagram.TheVariants.{AskPages, Draw, PageState, Request, Session}
+use Rattle.wb_codec.specs.declared.datagram.Datagram.TheVariants.{Draw, Request}
 use Rattle.wb_recovery.specs.Events.{Asked, Event, constants_after, due_asks, names_of, timers_of, word_for}
 use Rattle.wb_recovery.specs.Stopping.{is_received, receipts}
 use Rattle.wb_recovery.specs.Timing.{asked, fired_answer, fired_ask, heard_ask, is_answer_due, new_answer}
@@ -28,11 +28,13 @@ use Rattle.wb_keeper.proofs.KeptCalls.{holds_from}
 use Rattle.wb_progress.specs.Keepers.{constants_at}
 use Rattle.wb_progress.proofs.OneCall.{received_from, ticks_answer}
 use Rattle.wb_member.specs.Judged.{asked_names}
+use Rattle.wb_member.specs.Lines.{IsOfPolicy}
 use Rattle.wb_member.specs.Opened.{Opened, accepted, due_count, events, has_room_for, heard, present, word_at}
 use Rattle.wb_member.specs.Random.{words_of}
+use Rattle.wb_member.specs.declared.calls.Call.TheVariants.{Tick, Hear, Tune}
 use Rattle.wb_laws_sessions.proofs.Names.{at_most_highest}
 use Rattle.wb_laws_sessions.proofs.Sending.{one_of}
-use Rattle.wb_keeping.specs.Kept.{Arrives, Asks, Hears, Line, Says, SetsDistance, Stops, Ticks, Tunes, drawing, ends_full, hears, timed}
+use Rattle.wb_keeping.specs.Kept.{Arrives, Calls, Line, Says, drawing, ends_full, hears, timed}
 use Rattle.wb_keeping.specs.Laws.{Added, Came, KeptLine, Ticked, doing_of}
 use Rattle.wb_keeping.specs.Performing.{Keeping, after_doing, after_line, after_lines, sees, sent_by_doing, sent_by_line, sent_by_lines, view_of}
 use Rattle.wb_keeping.proofs.EachLine.{Each, OfPolicy, ends_each, hears_each, then_each, timed_each}
@@ -79,18 +81,11 @@ module _ (d : DrawopValue) (a : AnswerTimer) where
 
   -- no tick, and no copy
   abbrev IsSafe : Line → Type 0
-  IsSafe (Ticks now) = ⊥
+  IsSafe (Calls (Tick now)) = ⊥
+  IsSafe (Calls call) = IsOfPolicy call
   IsSafe (Arrives y) = same_name y.name n ≡ false
-  IsSafe (Hears v) = Unit {0}
-  IsSafe (Asks name) = Unit {0}
-  IsSafe (Stops name) = Unit {0}
-  IsSafe (SetsDistance source micros) = Unit {0}
-  IsSafe (Tunes constants) = Unit {0}
   IsSafe (Says (Draw y)) = same_name y.name n ≡ false
-  IsSafe (Says (Session sender sent page marks echoes)) = Unit {0}
-  IsSafe (Says (Request asker name)) = Unit {0}
-  IsSafe (Says (AskPages asker)) = Unit {0}
-  IsSafe (Says (PageState sender page marks)) = Unit {0}
+  IsSafe (Says v) = Unit {0}
 
   it_holds : (host : Opened) → Answers host → history_holds host.is.held n ≡ true
   it_holds host is = holds_from host.is.held n d is.held refl
@@ -127,31 +122,23 @@ module _ (d : DrawopValue) (a : AnswerTimer) where
     by : (b : Bool) → AreSet (timers_of host.is.constants (cond b (events host) (Asked name held now delay word ∷ events host)) n)
     by true = is
     by false = either_set (same_name name n) _ _ (asked_set (constants_at host.is.number host.is.constants host.is.calls) held now delay word (timers host) is) is
-  heard_set host (Draw y) now word held is = is
-  heard_set host (Session sender sent page marks echoes) now word held is = is
-  heard_set host (AskPages asker) now word held is = is
-  heard_set host (PageState sender page marks) now word held is = is
+  heard_set host v now word held is = is
 
   hearing : (v : Datagram) (host : Opened) (room : Bool) → Answers host → Answers (cond room (heard v host) host)
   hearing v host true is = record { held = is.held; set = heard_set host v (present host) (word_at v host.random) (asks_for_held host.is.held v) is.set }
   hearing v host false is = is
 
   line_keeps : (line : Line) (host : Opened) → IsSafe line → Answers host → Answers (after_line line host)
-  line_keeps (Ticks now) host safe is = absurd safe
+  line_keeps (Calls (Tick now)) host safe is = absurd safe
   line_keeps (Arrives y) host safe is = arrival y host safe is
-  line_keeps (Hears v) host safe is = hearing v host (has_room_for v host) is
-  line_keeps (Asks name) host safe is = rested host _ (line_rests (Asks name) host tt) is
-  line_keeps (Stops name) host safe is = rested host _ (line_rests (Stops name) host tt) is
-  line_keeps (SetsDistance source micros) host safe is = record { held = is.held; set = is.set }
-  line_keeps (Tunes constants) host safe is = record { held = is.held; set = is.set }
+  line_keeps (Calls (Hear v)) host safe is = hearing v host (has_room_for v host) is
+  line_keeps (Calls (Tune constants)) host safe is = record { held = is.held; set = is.set }
+  line_keeps (Calls call) host safe is = rested host _ (line_rests (Calls call) host safe) is
   line_keeps (Says (Draw y)) host safe is = arrival y host safe is
-  line_keeps (Says (Session sender sent page marks echoes)) host safe is = is
-  line_keeps (Says (Request asker name)) host safe is = is
-  line_keeps (Says (AskPages asker)) host safe is = is
-  line_keeps (Says (PageState sender page marks)) host safe is = is
+  line_keeps (Says v) host safe is = is
 
   no_tick : (line : Line) → IsSafe line → IsNoTick line
-  no_tick (Ticks now) safe = safe
+  no_tick (Calls (Tick now)) safe = safe
   no_tick line safe = tt
 
   -- behind lines at a moment
@@ -168,7 +155,7 @@ module _ (d : DrawopValue) (a : AnswerTimer) where
 
   -- ---- a tick
 
-  tick_keeps : (now : ℕ) (host : Opened) → now < a.due → Answers host → AnswersAt now (after_line (Ticks now) host)
+  tick_keeps : (now : ℕ) (host : Opened) → now < a.due → Answers host → AnswersAt now (after_line (Calls (Tick now)) host)
   tick_keeps now host before is = record { answers = record { held = is.held; set = (ask, answer) }; moment = refl } where
     came : List Received
     came = received_of (delay_to host.is.number host.is.calls) (stopped_after host.is.number host.is.constants host.is.calls host.is.held)
@@ -187,15 +174,15 @@ module _ (d : DrawopValue) (a : AnswerTimer) where
     word : ℕ
     word = word_for (words_of host.random (due_count now host)) (due_asks (names_of calls) (λ m. timers_of host.is.constants calls m) now) n
 
-    ask : (timers (after_line (Ticks now) host)).ask ≡ None
+    ask : (timers (after_line (Calls (Tick now)) host)).ask ≡ None
     ask = ap (λ (s : Timers). fired_ask t now word s.ask) same ∙ ap (fired_ask t now word) is.set.0
 
-    answer : (timers (after_line (Ticks now) host)).answer ≡ Some a
+    answer : (timers (after_line (Calls (Tick now)) host)).answer ≡ Some a
     answer =
         ap (λ (s : Timers). fired_answer now s.answer) same ∙ ap (fired_answer now) is.set.1
         ∙ ap (λ (b : Bool). cond b None (Some a)) (lt-leb a.due now before)
 
-  tick_sends : (now : ℕ) (host : Opened) → a.due ≤ now → IsHistory host.is.held → Answers host → Contains (sent_by_line (Ticks now) host) (Draw d)
+  tick_sends : (now : ℕ) (host : Opened) → a.due ≤ now → IsHistory host.is.held → Answers host → Contains (sent_by_line (Calls (Tick now)) host) (Draw d)
   tick_sends now host due once is =
       ticks_answer host.is.number host.is.constants host.is.calls host.is.held now d once is.held is.set.0 (ap (is_answer_due now) is.set.1 ∙ le-leb a.due now due)
 
@@ -205,12 +192,12 @@ module _ (d : DrawopValue) (a : AnswerTimer) where
   abbrev pub Goes : ℕ → KeptLine → Keeping → Type 0
   Goes now call k = Contains (sent_by_doing (doing_of call) k) (Draw d) ⊎ (AnswersAt now (after_doing (doing_of call) k).host × (now < a.due))
 
-  lines_go : (now : ℕ) (lines rest : List Line) (host : Opened) → lines ≡ Ticks now ∷ rest → (now < a.due → Each IsSafe rest) → IsHistory host.is.held → Answers host
+  lines_go : (now : ℕ) (lines rest : List Line) (host : Opened) → lines ≡ Calls (Tick now) ∷ rest → (now < a.due → Each IsSafe rest) → IsHistory host.is.held → Answers host
       → Contains (sent_by_lines lines host) (Draw d) ⊎ (AnswersAt now (after_lines lines host) × (now < a.due))
   lines_go now lines rest host split safe once is = ⊎_elim
-      (λ (lt : now < a.due). inr (subst (λ (ls : List Line). AnswersAt now (after_lines ls host)) (sym split) (lines_keep now rest (after_line (Ticks now) host) (safe lt) (tick_keeps now host lt is)), lt))
+      (λ (lt : now < a.due). inr (subst (λ (ls : List Line). AnswersAt now (after_lines ls host)) (sym split) (lines_keep now rest (after_line (Calls (Tick now)) host) (safe lt) (tick_keeps now host lt is)), lt))
       (λ (le : a.due ≤ now). inl (subst (λ (ls : List Line). Contains (sent_by_lines ls host) (Draw d)) (sym split)
-      (Contains-append_left (sent_by_line (Ticks now) host) (sent_by_lines rest (after_line (Ticks now) host)) (Draw d) (tick_sends now host le once is))))
+      (Contains-append_left (sent_by_line (Calls (Tick now)) host) (sent_by_lines rest (after_line (Calls (Tick now)) host)) (Draw d) (tick_sends now host le once is))))
       (cases_lt now a.due)
 
   safe_lines : OfPolicy IsSafe
@@ -226,12 +213,12 @@ module _ (d : DrawopValue) (a : AnswerTimer) where
   pub came_goes : (now : ℕ) (v : Datagram) (k : Keeping) → (now < a.due → (y : DrawopValue) → v ≡ Draw y → same_name y.name n ≡ false) → IsHistory k.host.is.held → Answers k.host → Goes now (Came now v) k
   came_goes now v k other once is =
       lines_go now (doing_of (Came now v) (sees k.host) k.policy).lines _ k.host refl
-      (λ lt. then_each IsSafe (hears v) timed (hears_each IsSafe safe_lines (λ w. tt) v (other lt)) (timed_each IsSafe safe_lines) (λ (lines : List Line). sees k.host (Ticks now ∷ lines)) k.policy)
+      (λ lt. then_each IsSafe (hears v) timed (hears_each IsSafe safe_lines (λ w. tt) v (other lt)) (timed_each IsSafe safe_lines) (λ (lines : List Line). sees k.host (Calls (Tick now) ∷ lines)) k.policy)
       once is
 
   pub ticked_goes : (now : ℕ) (k : Keeping) → IsHistory k.host.is.held → Answers k.host → Goes now (Ticked now) k
   ticked_goes now k once is =
-      lines_go now (doing_of (Ticked now) (sees k.host) k.policy).lines _ k.host refl (λ lt. timed_each IsSafe safe_lines (λ (lines : List Line). sees k.host (Ticks now ∷ lines)) k.policy) once is
+      lines_go now (doing_of (Ticked now) (sees k.host) k.policy).lines _ k.host refl (λ lt. timed_each IsSafe safe_lines (λ (lines : List Line). sees k.host (Calls (Tick now) ∷ lines)) k.policy) once is
 
   -- what its user draws has a number above all of its own
   drawn_other : (host : Opened) (page : PageId) (time : ℕ) (op : Op) → Contains host.is.held d → same_name (drawing (view_of host) page time op).name n ≡ false
@@ -256,7 +243,7 @@ module _ (d : DrawopValue) (a : AnswerTimer) where
       (λ lt. (drawn_other host page time op is.held, then_each IsSafe ends_full timed (ends_each IsSafe safe_lines) (timed_each IsSafe safe_lines) (sees drawn) k.policy))
       once is where
         host : Opened
-        host = after_line (Ticks now) k.host
+        host = after_line (Calls (Tick now)) k.host
 
         drawn : Opened
         drawn = after_line (Says (Draw (drawing (view_of host) page time op))) host

@@ -7,8 +7,9 @@ use Rattle.wb_recovery.specs.Events.{timers_of}
 use Rattle.wb_recovery.specs.declared.timers.AskTimer.{AskTimer}
 use Rattle.wb_member.specs.Judged.{is_full}
 use Rattle.wb_member.specs.Opened.{Opened, events}
+use Rattle.wb_member.specs.declared.calls.Call.TheVariants.{Stop}
 use Rattle.wb_keeping.specs.Bounds.{timer_count}
-use Rattle.wb_keeping.specs.Kept.{Line, Stops}
+use Rattle.wb_keeping.specs.Kept.{Calls, Line}
 use Rattle.wb_keeping.specs.Laws.{KeptLine, doing_of, fault_of}
 use Rattle.wb_keeping.specs.Performing.{Keeping, after_doing, after_lines, sees}
 use Rattle.wb_keeping.proofs.AskedTimers.{count_seen}
@@ -23,7 +24,7 @@ module _ (n : NameValue) (x : AskTimer) where
   by_timer host last stands (inl old) = inl (subst (λ (a : AskTimer). 4 ≤ a.level) (same_Some old.0 x (sym old.1 ∙ stands)) old.2)
   by_timer host last stands (inr many) = let le = many.0 in let seen = count_seen host in inr (inl (omega (arith, le, seen)))
 
-  pub why_given_up : (call : KeptLine) (k : Keeping) (before later : List Line) → fault_of call k ≡ None → (doing_of call (sees k.host) k.policy).lines ≡ before ++ Stops n ∷ later
+  pub why_given_up : (call : KeptLine) (k : Keeping) (before later : List Line) → fault_of call k ≡ None → (doing_of call (sees k.host) k.policy).lines ≡ before ++ Calls (Stop n) ∷ later
       → let host = after_lines before k.host in (timers_of host.is.constants (events host) n).ask ≡ Some x → IsCause host (after_doing (doing_of call) k).host
   why_given_up call k before later taken split stands = by (is_full last) refl where
     host : Opened
@@ -36,4 +37,4 @@ module _ (n : NameValue) (x : AskTimer) where
     by true full = inr (inr full)
     by false room =
         let caused = subst (λ (lines : List Line). AreCaused lines k.host) split ((line_holds GivesUpFor steps_give_up call k taken).caused room) in
-        by_timer host last stands (caused_at before later (Stops n) k.host caused)
+        by_timer host last stands (caused_at before later (Calls (Stop n)) k.host caused)

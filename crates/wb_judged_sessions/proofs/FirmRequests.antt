@@ -1,7 +1,7 @@
 -- A timer to ask for what is lacked stands until it is due, if no request of others comes in, and then the request is sent, unless the drawop comes
 -- before or the name is given up.
-use Rattle.std.proofs.Common.{◌≡◌, ◌≤◌, ◌<◌, ℕ, Bool, true, false, cond, List, [], ◌∷◌, ◌++◌, ◌∙◌, Option, Some, None, ap, inl, inr, le-leb, refl, subst, sym, true≢false, ⊎_elim}
-use Rattle.std.specs.Prelude.{◌⊎◌, ◌||◌, Contains, is_some, nat_eq, not}
+use Rattle.std.proofs.Common.{◌≡◌, ◌≤◌, ◌<◌, ℕ, Bool, true, false, cond, List, [], ◌∷◌, ◌++◌, ◌∙◌, Option, Some, ap, inl, inr, le-leb, refl, subst, sym, true≢false, ⊎_elim}
+use Rattle.std.specs.Prelude.{◌⊎◌, Contains, is_none, length, nat_eq}
 use Rattle.std.proofs.lemmas.Bool.{cases_lt, false_from_ne_true, lt-leb}
 use Rattle.std.proofs.lemmas.List.Elements.{Contains-append_left}
 use Rattle.wb_names.specs.Orders.{same_name}
@@ -10,26 +10,28 @@ use Rattle.wb_names.specs.declared.name.PageId.{PageId}
 use Rattle.wb_names.specs.declared.parts.Op.{Op}
 use Rattle.wb_names.proofs.Orders.{same_name-is}
 use Rattle.wb_codec.specs.declared.datagram.Datagram.{Datagram}
-use Rattle.wb_codec.specs.declared.datagram.Datagram.TheVariants.{AskPages, Draw, PageState, Request, Session}
-use Rattle.wb_recovery.specs.Events.{Asked, Event, constants_after, due_asks, names_of, timers_of, word_for}
+use Rattle.wb_codec.specs.declared.datagram.Datagram.TheVariants.{Draw, Request}
+use Rattle.wb_recovery.specs.Events.{Asked, Event, Notice, constants_after, due_asks, names_of, timers_of, word_for}
+use Rattle.wb_recovery.specs.Noticing.{notices}
 use Rattle.wb_recovery.specs.Stopping.{receipts}
-use Rattle.wb_recovery.specs.Timing.{backed_off, fired_ask, got, is_ask_due, noticed}
+use Rattle.wb_recovery.specs.Timing.{backed_off, fired_ask, got, is_ask_due, new_ask, noticed}
+use Rattle.wb_recovery.specs.declared.missed.Missed.{Missed}
 use Rattle.wb_recovery.specs.declared.missed.Received.{Received}
 use Rattle.wb_recovery.specs.declared.timers.AskTimer.{AskTimer}
 use Rattle.wb_recovery.specs.declared.timers.Timers.{Timers}
 use Rattle.wb_recovery.specs.declared.tuning.Tuning.{Tuning}
 use Rattle.wb_recovery.proofs.StoppedNames.{not_received, timers_receipts}
 use Rattle.wb_keeper.specs.Hearing.{asks_for_held}
-use Rattle.wb_keeper.specs.Keeper.{asked_by, delay_to, given_up, holds as history_holds, received_of}
+use Rattle.wb_keeper.specs.Keeper.{asked_by, delay_to, given_up, holds as history_holds, missed_of, received_of}
 use Rattle.wb_keeper.specs.Ticks.{stopped_after}
 use Rattle.wb_keeper.proofs.KeptCalls.{holds_from}
-use Rattle.wb_progress.specs.Keepers.{constants_at}
 use Rattle.wb_progress.proofs.Giving.{held_as}
 use Rattle.wb_progress.proofs.OneCall.{ticks_ask}
 use Rattle.wb_member.specs.Members.{Misses}
-use Rattle.wb_member.specs.Opened.{Opened, accepted, asks_for, doing, due_count, events, has_room_for, heard, may_ask, present, word_at}
+use Rattle.wb_member.specs.Opened.{Opened, accepted, asks_for, doing, due_count, events, has_room_for, heard, may_ask, present, wanted_of, word_at}
 use Rattle.wb_member.specs.Random.{word_of, words_of}
-use Rattle.wb_keeping.specs.Kept.{Arrives, Asks, Hears, Line, Says, SetsDistance, Stops, Ticks, Tunes}
+use Rattle.wb_member.specs.declared.calls.Call.TheVariants.{Tick, Hear, Look, Ask, Stop}
+use Rattle.wb_keeping.specs.Kept.{Arrives, Calls, Line, Says}
 use Rattle.wb_keeping.specs.Laws.{Added, Came, KeptLine, Ticked, doing_of}
 use Rattle.wb_keeping.specs.Performing.{Keeping, after_line, after_lines, sees, sent_by_doing, sent_by_line, sent_by_lines}
 use Rattle.wb_keeping.proofs.EachLine.{Each}
@@ -54,24 +56,15 @@ module _ (n : NameValue) (x : AskTimer) where
 
   -- no tick, and no request for the name
   abbrev IsSafe : Line → Type 0
-  IsSafe (Ticks now) = ⊥
-  IsSafe (Arrives y) = Unit {0}
-  IsSafe (Hears (Draw y)) = Unit {0}
-  IsSafe (Hears (Session sender sent page marks echoes)) = Unit {0}
-  IsSafe (Hears (Request asker name)) = same_name name n ≡ false
-  IsSafe (Hears (AskPages asker)) = Unit {0}
-  IsSafe (Hears (PageState sender page marks)) = Unit {0}
-  IsSafe (Asks name) = Unit {0}
-  IsSafe (Stops name) = Unit {0}
-  IsSafe (SetsDistance source micros) = Unit {0}
-  IsSafe (Tunes constants) = Unit {0}
-  IsSafe (Says v) = Unit {0}
+  IsSafe (Calls (Tick now)) = ⊥
+  IsSafe (Calls (Hear (Request asker name))) = same_name name n ≡ false
+  IsSafe line = Unit {0}
 
   -- ---- a line
 
   -- The timer stands, or the name is held then, or it was given up.
   abbrev Goes : Line → Opened → Type 0
-  Goes line host = Waits (after_line line host) ⊎ (history_holds (after_line line host).is.held n ≡ true) ⊎ (line ≡ Stops n)
+  Goes line host = Waits (after_line line host) ⊎ (history_holds (after_line line host).is.held n ≡ true) ⊎ (line ≡ Calls (Stop n))
 
   arrival : (y : DrawopValue) (host : Opened) → Waits host → Waits (accepted y host) ⊎ (history_holds (accepted y host).is.held n ≡ true)
   arrival y host is = by (history_holds (accepted y host).is.held n) refl where
@@ -92,75 +85,63 @@ module _ (n : NameValue) (x : AskTimer) where
   unnamed true one other e is = absurd (true≢false e)
   unnamed false one other e is = is
 
-  heard_waits : (host : Opened) (v : Datagram) (now word : ℕ) (held : Bool) → IsSafe (Hears v) → (timers host).ask ≡ Some x
+  heard_waits : (host : Opened) (v : Datagram) (now word : ℕ) (held : Bool) → IsSafe (Calls (Hear v)) → (timers host).ask ≡ Some x
       → (timers_of host.is.constants (asked_by host.is.number (delay_to host.is.number host.is.calls) now v word held (events host)) n).ask ≡ Some x
   heard_waits host (Request asker name) now word held safe is = by (nat_eq asker host.is.number) where
     by : (b : Bool) → (timers_of host.is.constants (cond b (events host) (Asked name held now (delay_to host.is.number host.is.calls (cond held asker name.source)) word ∷ events host)) n).ask ≡ Some x
     by true = is
     by false = unnamed (same_name name n) _ _ safe is
-  heard_waits host (Draw y) now word held safe is = is
-  heard_waits host (Session sender sent page marks echoes) now word held safe is = is
-  heard_waits host (AskPages asker) now word held safe is = is
-  heard_waits host (PageState sender page marks) now word held safe is = is
+  heard_waits host v now word held safe is = is
 
-  hearing : (v : Datagram) (host : Opened) (room : Bool) → IsSafe (Hears v) → Waits host → Waits (cond room (heard v host) host)
+  hearing : (v : Datagram) (host : Opened) (room : Bool) → IsSafe (Calls (Hear v)) → Waits host → Waits (cond room (heard v host) host)
   hearing v host true safe is = record { lacks = is.lacks; stands = heard_waits host v (present host) (word_at v host.random) (asks_for_held host.is.held v) safe is.stands }
   hearing v host false safe is = is
 
-  -- a name with a timer is not asked for
-  not_asked : (a b : Bool) (o : Option AskTimer) → o ≡ Some x → not (a || (is_some o || b)) ≡ true → ⊥
-  not_asked true b o e may = true≢false (sym may)
-  not_asked false b None e may = absurd cc
-  not_asked false b (Some y) e may = true≢false (sym may)
+  -- names that are missed leave a timer that stands
+  noticed_stands : (t : Tuning) (now delay word : ℕ) (s : Timers) → s.ask ≡ Some x → (noticed t now delay word s).ask ≡ Some x
+  noticed_stands t now delay word s is = ap (λ (o : Option AskTimer). (cond (is_none o) (record s { ask = Some (new_ask t now delay word) }) s).ask) is ∙ is
 
-  asking : (name : NameValue) (host : Opened) → Waits host → Waits (after_line (Asks name) host)
-  asking name host is = by (may_ask name host) refl where
-    s : Timers
-    s = timers host
+  notices_stand : (t : Tuning) (now : ℕ) (missed : List Missed) (calls : List Event) → (timers_of t calls n).ask ≡ Some x → (timers_of t (notices now calls missed) n).ask ≡ Some x
+  notices_stand t now [] calls is = is
+  notices_stand t now (m ∷ missed) calls is = notices_stand t now missed (Notice m.name now m.delay m.word ∷ calls) (by (same_name m.name n)) where
+    by : (b : Bool) → (cond b (noticed (constants_after t calls) now m.delay m.word (timers_of t calls n)) (timers_of t calls n)).ask ≡ Some x
+    by true = noticed_stands (constants_after t calls) now m.delay m.word (timers_of t calls n) is
+    by false = is
 
-    t : Tuning
-    t = constants_at host.is.number host.is.constants host.is.calls
+  missing : (names : List NameValue) (words : List ℕ) (count : ℕ) (host : Opened) → Waits host → Waits (doing (Misses (present host) names words) count host)
+  missing names words count host is = record {
+    lacks = is.lacks;
+    stands = notices_stand host.is.constants (present host) (missed_of (delay_to host.is.number host.is.calls) names words) (events host) is.stands;
+  }
 
-    asked_host : Opened
-    asked_host = doing (Misses (present host) (name ∷ []) (word_of host.random ∷ [])) 1 host
+  asking : (name : NameValue) (host : Opened) → Waits host → Waits (after_line (Calls (Ask name)) host)
+  asking name host is = by (may_ask name host) where
+    by : (b : Bool) → Waits (cond b (doing (Misses (present host) (name ∷ []) (word_of host.random ∷ [])) 1 host) host)
+    by true = missing (name ∷ []) (word_of host.random ∷ []) 1 host is
+    by false = is
 
-    other : may_ask name host ≡ true → same_name name n ≡ false
-    other may = false_from_ne_true (same_name name n) (λ same.
-        let named = subst (λ (m : NameValue). may_ask m host ≡ true) (same_name-is name n same) may in
-        not_asked (history_holds host.is.held n) (is_some s.answer) s.ask is.stands named)
-
-    by : (b : Bool) → may_ask name host ≡ b → Waits (cond b asked_host host)
-    by true may = record {
-      lacks = is.lacks;
-      stands = unnamed (same_name name n) (noticed t (present host) (delay_to host.is.number host.is.calls name.source) (word_of host.random) s) s (other may) is.stands;
-    }
-    by false may = is
-
-  stopping : (name : NameValue) (host : Opened) → same_name name n ≡ false → Waits host → Waits (after_line (Stops name) host)
+  stopping : (name : NameValue) (host : Opened) → same_name name n ≡ false → Waits host → Waits (after_line (Calls (Stop name)) host)
   stopping name host other is = record { lacks = is.lacks; stands = by (asks_for name host) } where
     by : (b : Bool) → (timers_of host.is.constants (given_up (present host) name b (events host)) n).ask ≡ Some x
     by true = unnamed (same_name name n) (got (present host) 0 (timers host)) (timers host) other is.stands
     by false = is.stands
 
   line_goes : (line : Line) (host : Opened) → IsSafe line → Waits host → Goes line host
-  line_goes (Ticks now) host safe is = absurd safe
+  line_goes (Calls (Tick now)) host safe is = absurd safe
   line_goes (Arrives y) host safe is = or_held y (Arrives y) host refl is
-  line_goes (Hears v) host safe is = inl (hearing v host (has_room_for v host) safe is)
-  line_goes (Asks name) host safe is = inl (asking name host is)
-  line_goes (Stops name) host safe is = by (same_name name n) refl where
-    by : (b : Bool) → same_name name n ≡ b → Goes (Stops name) host
-    by true e = inr (inr (ap Stops (same_name-is name n e)))
+  line_goes (Calls (Hear v)) host safe is = inl (hearing v host (has_room_for v host) safe is)
+  line_goes (Calls (Ask name)) host safe is = inl (asking name host is)
+  line_goes (Calls (Stop name)) host safe is = by (same_name name n) refl where
+    by : (b : Bool) → same_name name n ≡ b → Goes (Calls (Stop name)) host
+    by true e = inr (inr (ap (λ (x : NameValue). Calls (Stop x)) (same_name-is name n e)))
     by false e = inl (stopping name host e is)
-  line_goes (SetsDistance source micros) host safe is = inl (record { lacks = is.lacks; stands = is.stands })
-  line_goes (Tunes constants) host safe is = inl (record { lacks = is.lacks; stands = is.stands })
+  line_goes (Calls (Look page)) host safe is = inl (missing (wanted_of page host) (words_of host.random (length (wanted_of page host))) (length (wanted_of page host)) host is)
+  line_goes (Calls call) host safe is = inl (record { lacks = is.lacks; stands = is.stands })
   line_goes (Says (Draw y)) host safe is = or_held y (Says (Draw y)) host refl is
-  line_goes (Says (Session sender sent page marks echoes)) host safe is = inl is
-  line_goes (Says (Request asker name)) host safe is = inl is
-  line_goes (Says (AskPages asker)) host safe is = inl is
-  line_goes (Says (PageState sender page marks)) host safe is = inl is
+  line_goes (Says v) host safe is = inl is
 
   no_tick : (line : Line) → IsSafe line → IsNoTick line
-  no_tick (Ticks now) safe = safe
+  no_tick (Calls (Tick now)) safe = safe
   no_tick line safe = tt
 
   -- ---- lines
@@ -169,7 +150,7 @@ module _ (n : NameValue) (x : AskTimer) where
   pub record StopsIn (lines : List Line) (host : Opened) : Type 0 where
     pub before : List Line
     pub later : List Line
-    pub split : lines ≡ before ++ Stops n ∷ later
+    pub split : lines ≡ before ++ Calls (Stop n) ∷ later
     pub waits : Waits (after_lines before host)
 
   pub record WaitsAt (now : ℕ) (host : Opened) : Type 0 where
@@ -194,7 +175,7 @@ module _ (n : NameValue) (x : AskTimer) where
 
   -- ---- a tick
 
-  tick_waits : (now : ℕ) (host : Opened) → now < x.due → Waits host → WaitsAt now (after_line (Ticks now) host)
+  tick_waits : (now : ℕ) (host : Opened) → now < x.due → Waits host → WaitsAt now (after_line (Calls (Tick now)) host)
   tick_waits now host before is = record { waits = record { lacks = is.lacks; stands = ask }; moment = refl } where
     came : List Received
     came = received_of (delay_to host.is.number host.is.calls) (stopped_after host.is.number host.is.constants host.is.calls host.is.held)
@@ -213,12 +194,12 @@ module _ (n : NameValue) (x : AskTimer) where
     t : Tuning
     t = constants_after host.is.constants calls
 
-    ask : (timers (after_line (Ticks now) host)).ask ≡ Some x
+    ask : (timers (after_line (Calls (Tick now)) host)).ask ≡ Some x
     ask =
         ap (λ (s : Timers). fired_ask t now word s.ask) same ∙ ap (fired_ask t now word) is.stands
         ∙ ap (λ (b : Bool). Some (cond b (backed_off t x now x.delay word) x)) (lt-leb x.due now before)
 
-  tick_sends : (now : ℕ) (host : Opened) → x.due ≤ now → Waits host → Contains (sent_by_line (Ticks now) host) (Request host.is.number n)
+  tick_sends : (now : ℕ) (host : Opened) → x.due ≤ now → Waits host → Contains (sent_by_line (Calls (Tick now)) host) (Request host.is.number n)
   tick_sends now host due is = ticks_ask host.is.number host.is.constants host.is.calls host.is.held now n (ap (is_ask_due now) is.stands ∙ le-leb x.due now due) is.lacks
 
   -- ---- a call
@@ -229,16 +210,16 @@ module _ (n : NameValue) (x : AskTimer) where
       let lines = (doing_of call (sees k.host) k.policy).lines in
       Contains (sent_by_doing (doing_of call) k) (Request k.host.is.number n) ⊎ (LinesGo now lines k.host × (now < x.due))
 
-  begun_goes : (now : ℕ) (lines rest : List Line) (host : Opened) → lines ≡ Ticks now ∷ rest → (now < x.due → Each IsSafe rest) → Waits host
+  begun_goes : (now : ℕ) (lines rest : List Line) (host : Opened) → lines ≡ Calls (Tick now) ∷ rest → (now < x.due → Each IsSafe rest) → Waits host
       → Contains (sent_by_lines lines host) (Request host.is.number n) ⊎ (LinesGo now lines host × (now < x.due))
   begun_goes now lines rest host split safe is = ⊎_elim
       (λ (lt : now < x.due). inr (
         subst (λ (ls : List Line). LinesGo now ls host) (sym split)
-            (behind now (Ticks now) rest host (lines_go now rest (after_line (Ticks now) host) (safe lt) (tick_waits now host lt is))),
+            (behind now (Calls (Tick now)) rest host (lines_go now rest (after_line (Calls (Tick now)) host) (safe lt) (tick_waits now host lt is))),
         lt,
       ))
       (λ (le : x.due ≤ now). inl (subst (λ (ls : List Line). Contains (sent_by_lines ls host) (Request host.is.number n)) (sym split)
-      (Contains-append_left (sent_by_line (Ticks now) host) (sent_by_lines rest (after_line (Ticks now) host)) (Request host.is.number n) (tick_sends now host le is))))
+      (Contains-append_left (sent_by_line (Calls (Tick now)) host) (sent_by_lines rest (after_line (Calls (Tick now)) host)) (Request host.is.number n) (tick_sends now host le is))))
       (cases_lt now x.due)
 
   -- no request for the name is handed in
@@ -246,19 +227,10 @@ module _ (n : NameValue) (x : AskTimer) where
   NotAsked call = (now asker : ℕ) → call ≡ Came now (Request asker n) → ⊥
 
   safe_line : (call : KeptLine) (start host : Opened) (line : Line) → IsLineOf call start host line → IsNoTick line → NotAsked call → IsSafe line
-  safe_line call start host (Ticks now) is none other = absurd none
-  safe_line call start host (Arrives y) is none other = tt
-  safe_line call start host (Hears (Draw y)) is none other = tt
-  safe_line call start host (Hears (Session sender sent page marks echoes)) is none other = tt
-  safe_line call start host (Hears (Request asker name)) is none other =
+  safe_line call start host (Calls (Tick now)) is none other = absurd none
+  safe_line call start host (Calls (Hear (Request asker name))) is none other =
       false_from_ne_true (same_name name n) (λ same. other is.0 asker (subst (λ (m : NameValue). call ≡ Came is.0 (Request asker m)) (same_name-is name n same) is.1))
-  safe_line call start host (Hears (AskPages asker)) is none other = tt
-  safe_line call start host (Hears (PageState sender page marks)) is none other = tt
-  safe_line call start host (Asks name) is none other = tt
-  safe_line call start host (Stops name) is none other = tt
-  safe_line call start host (SetsDistance source micros) is none other = tt
-  safe_line call start host (Tunes constants) is none other = tt
-  safe_line call start host (Says v) is none other = tt
+  safe_line call start host line is none other = tt
 
   safe_lines : (call : KeptLine) (start host : Opened) (lines : List Line) → AreLinesOf call start host lines → AreNoTicks lines → NotAsked call → Each IsSafe lines
   safe_lines call start host [] are none other = tt
@@ -269,7 +241,7 @@ module _ (n : NameValue) (x : AskTimer) where
   call_begins now call k b other is =
       let lines = (doing_of call (sees k.host) k.policy).lines in
       let are = subst (AreLinesOf call k.host k.host) b.is (lines_of_call call k) in
-      begun_goes now lines b.rest k.host b.is (λ lt. safe_lines call k.host (after_line (Ticks now) k.host) b.rest are.1 b.none (other lt)) is
+      begun_goes now lines b.rest k.host b.is (λ lt. safe_lines call k.host (after_line (Calls (Tick now)) k.host) b.rest are.1 b.none (other lt)) is
 
   pub came_goes : (now : ℕ) (v : Datagram) (k : Keeping) → (now < x.due → NotAsked (Came now v)) → Waits k.host → CallGoes now (Came now v) k
   came_goes now v k other is = call_begins now (Came now v) k (came_begins now v (sees k.host) k.policy) other is

@@ -5,6 +5,7 @@ pub mod Terms
 pub mod Records
 pub mod Above
 pub mod Days
+pub mod SaidOnly
 pub mod Echoes
 pub mod Sent
 pub mod True

@@ -7,9 +7,10 @@ use Rattle.wb_names.specs.declared.echo.Echo.{Echo}
 use Rattle.wb_names.specs.declared.name.PageId.{PageId}
 use Rattle.wb_codec.specs.declared.datagram.Datagram.{Datagram}
 use Rattle.wb_codec.specs.declared.datagram.Datagram.TheVariants.{AskPages, Draw, PageState, Request, Session}
-use Rattle.wb_policy.specs.Choices.{distance_in, own_echo, own_marks, told_names}
+use Rattle.wb_policy.specs.Choices.{echoed_delay, own_echo, own_marks, told_names}
 use Rattle.wb_policy.specs.Policy.{Policy}
-use Rattle.wb_keeping.specs.Kept.{Doing, Hears, Line, Ticks, and_then, came, hears, measures, performs, still, timed, want_told}
+use Rattle.wb_member.specs.declared.calls.Call.TheVariants.{Tick, Hear}
+use Rattle.wb_keeping.specs.Kept.{Calls, Doing, Line, and_then, came, hears, measures, performs, still, timed, want_told}
 use Rattle.wb_keeping.specs.Laws.{Added, Came, KeptLine, Ticked, Tuned, doing_of, fault_of}
 use Rattle.wb_keeping.specs.Performing.{Keeping, after_doing, after_lines, sees, sent_by_doing, sent_by_lines}
 use Rattle.wb_keeping.specs.Views.{View}
@@ -31,8 +32,8 @@ module _ (sender sent : ℕ) (page : PageId) (marks : List MarkValue) (see : Lis
   abbrev by_echo : List Echo → Doing
   by_echo echo =
       let v = see [] in
-      and_then (performs (Hears (Session sender sent page (own_marks v.me (nat_lt v.now p.ready) marks) echo)))
-      (and_then (measures sender (distance_in v.now echo)) (want_told (told_names v.me page marks))) see p
+      and_then (performs (Calls (Hear (Session sender sent page (own_marks v.me (nat_lt v.now p.ready) marks) echo))))
+      (and_then (measures sender (echoed_delay v.now echo)) (want_told (told_names v.me page marks))) see p
 
   session_same : (echoes : List Echo) → hears (Session sender sent page marks (of_others sender echoes)) see p ≡ hears (Session sender sent page marks echoes) see p
   session_same echoes = by (nat_eq sender (see []).me) refl where
@@ -51,11 +52,11 @@ hears_same (PageState sender page marks) see p = refl
 -- what is done once a datagram was heard
 abbrev after_hearing : ℕ → (List Line → View) → Doing → Doing
 after_hearing now see one =
-    let two = timed (λ (lines : List Line). see (Ticks now ∷ (one.lines ++ lines))) one.policy in
-    record { policy = two.policy; lines = Ticks now ∷ (one.lines ++ two.lines) }
+    let two = timed (λ (lines : List Line). see (Calls (Tick now) ∷ (one.lines ++ lines))) one.policy in
+    record { policy = two.policy; lines = Calls (Tick now) ∷ (one.lines ++ two.lines) }
 
 came_same : (now : ℕ) (v : Datagram) (see : List Line → View) (p : Policy) → came now (plain v) see p ≡ came now v see p
-came_same now v see p = ap (after_hearing now see) (hears_same v (λ (lines : List Line). see (Ticks now ∷ lines)) p)
+came_same now v see p = ap (after_hearing now see) (hears_same v (λ (lines : List Line). see (Calls (Tick now) ∷ lines)) p)
 
 pub plain_is_the_same : PlainIsTheSame
 plain_is_the_same now v k = sym (came_same now v (sees k.host) k.policy)

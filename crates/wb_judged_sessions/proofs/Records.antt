@@ -7,7 +7,7 @@ use Rattle.wb_names.specs.History.{highest}
 use Rattle.wb_names.specs.Values.{DrawopValue}
 use Rattle.wb_names.specs.declared.name.PageId.{PageId}
 use Rattle.wb_names.proofs.Listings.{Contains-none}
-use Rattle.wb_member.specs.Lines.{Ticks}
+use Rattle.wb_member.specs.Lines.{ticks_at}
 use Rattle.wb_member.specs.Opened.{Opened, opened_with}
 use Rattle.wb_keeping.specs.Performing.{Keeping}
 use Rattle.wb_judging.specs.Handing.{handed}
@@ -45,12 +45,12 @@ module _ (number : ℕ) (start : Start) (given : List RecordLine) where
   pub start_cells : cells_of last ≡ start.opening.cells
   start_cells =
       let o = start.opening in
-      cells_all (map Held given) first ∙ (lines_stay (map Ticks o.moments) (opened_with o.constants number o.cells o.seed) (moments_given none o.moments)).cells
+      cells_all (map Held given) first ∙ (lines_stay (ticks_at o.moments) (opened_with o.constants number o.cells o.seed) (moments_given none o.moments)).cells
 
   pub start_held : held_by last ≡ history_after start.opening.cells [] (drawops_of given)
   start_held =
       let o = start.opening in
-      let s = lines_stay (map Ticks o.moments) (opened_with o.constants number o.cells o.seed) (moments_given none o.moments) in
+      let s = lines_stay (ticks_at o.moments) (opened_with o.constants number o.cells o.seed) (moments_given none o.moments) in
       the_record_is_the_board (map Held given) first
       ∙ ap (λ (ls : List RecordLine). history_after (cells_of first) (held_by first) (drawops_of ls)) (handed_record given first)
       ∙ ap (λ (cells : ℕ). history_after cells (held_by first) (drawops_of given)) s.cells

@@ -10,14 +10,15 @@ use Rattle.wb_names.specs.declared.echo.Echo.{Echo}
 use Rattle.wb_names.specs.declared.name.PageId.{PageId}
 use Rattle.wb_names.proofs.Listings.{Contains-here}
 use Rattle.wb_codec.specs.declared.datagram.Datagram.{Datagram}
-use Rattle.wb_codec.specs.declared.datagram.Datagram.TheVariants.{AskPages, Draw, PageState, Request, Session}
+use Rattle.wb_codec.specs.declared.datagram.Datagram.TheVariants.{Session}
 use Rattle.wb_gaps.specs.Answers.{pages_of}
 use Rattle.wb_member.specs.Opened.{Opened, has_room_for, heard, present}
+use Rattle.wb_member.specs.declared.calls.Call.TheVariants.{Hear}
 use Rattle.wb_policy.specs.Policy.{after_answer, after_wanting}
 use Rattle.wb_policy.specs.Wanting.{is_wanted}
 use Rattle.wb_policy.specs.Words.{word_of}
 use Rattle.wb_keeping.specs.Bounds.{is_report}
-use Rattle.wb_keeping.specs.Kept.{Arrives, Asks, Doing, Hears, Line, Says, SetsDistance, Stops, Ticks, Tunes, state_of, still, want}
+use Rattle.wb_keeping.specs.Kept.{Calls, Doing, Line, Says, state_of, still, want}
 use Rattle.wb_keeping.specs.Laws.{KeptLine, doing_of, fault_of}
 use Rattle.wb_keeping.specs.Performing.{Keeping, after_doing, after_line, sees, sent_by_doing, sent_by_line, sent_by_lines, view_of}
 use Rattle.wb_keeping.specs.Views.{View, holds, is_full, is_known, level}
@@ -60,9 +61,9 @@ both_go k m n one other a b = record { later = let x = a.later in let y = b.late
   by (inr x) (inl y) = let le = x.1 in let now = b.later in inr (any_left one other x.0, omega (arith, le, now, y))
   by x (inr y) = inr (any_right one other y.0, y.1)
 
-hears_goes : (v : Datagram) (k : Keeping) → GoesOn k (Hears v ∷ []) (having (Hears v) k)
+hears_goes : (v : Datagram) (k : Keeping) → GoesOn k (Calls (Hear v) ∷ []) (having (Calls (Hear v)) k)
 hears_goes v k = by (has_room_for v k.host) where
-  by : (b : Bool) → GoesOn k (Hears v ∷ []) (record { host = cond b (heard v k.host) k.host; policy = k.policy })
+  by : (b : Bool) → GoesOn k (Calls (Hear v) ∷ []) (record { host = cond b (heard v k.host) k.host; policy = k.policy })
   by true = record { later = le_refl (present k.host); due = inl refl }
   by false = record { later = le_refl (present k.host); due = inl refl }
 
@@ -128,17 +129,7 @@ right xs ys r = record { sender = r.sender; moment = r.moment; page = r.page; ma
 
 line_reports : (line : Line) (host : Opened) → is_report line ≡ true → IsReported (sent_by_line line host)
 line_reports (Says (Session sender sent page marks es)) host is = record { sender = sender; moment = sent; page = page; marks = marks; echoes = es; among = Contains-here (Session sender sent page marks es) [] }
-line_reports (Says (Draw d)) host is = absurd (true≢false (sym is))
-line_reports (Says (Request asker name)) host is = absurd (true≢false (sym is))
-line_reports (Says (AskPages asker)) host is = absurd (true≢false (sym is))
-line_reports (Says (PageState sender page marks)) host is = absurd (true≢false (sym is))
-line_reports (Ticks now) host is = absurd (true≢false (sym is))
-line_reports (Arrives d) host is = absurd (true≢false (sym is))
-line_reports (Hears v) host is = absurd (true≢false (sym is))
-line_reports (Asks name) host is = absurd (true≢false (sym is))
-line_reports (Stops name) host is = absurd (true≢false (sym is))
-line_reports (SetsDistance source micros) host is = absurd (true≢false (sym is))
-line_reports (Tunes constants) host is = absurd (true≢false (sym is))
+line_reports line host is = absurd (true≢false (sym is))
 
 lines_report : (lines : List Line) (host : Opened) → list_any is_report lines ≡ true → IsReported (sent_by_lines lines host)
 lines_report [] host said = absurd (true≢false (sym said))

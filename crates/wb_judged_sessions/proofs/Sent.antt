@@ -26,7 +26,7 @@ use Rattle.wb_judging.proofs.Numbers.{me_judging, own_stays}
 use Rattle.wb_laws_kept.specs.Sessions.{CallAt, kept_at, steps_of}
 use Rattle.wb_laws_kept.proofs.Agreeing.{steps_split}
 use Rattle.wb_laws_kept.proofs.Steps.{kept_is_session}
-use Rattle.wb_laws_sessions.specs.Sessions.{Step, deed_of, sent as sent_by_steps, sent_by_deeds}
+use Rattle.wb_laws_sessions.specs.Sessions.{Does, Step, sent as sent_by_steps, sent_by_deeds}
 use Rattle.wb_laws_sessions.proofs.Several.{sent_longer, sent_performed, sent_then}
 use Rattle.wb_judged_sessions.specs.Laws.{SendsAsKept}
 use Rattle.wb_judged_sessions.specs.Sessions.{JudgedCall, JudgedCallAt, Starts, Takes, judged_at, kept_calls, kept_then, lines_then, plain, plain_line, sent, sent_by, sent_by_lines, started}
@@ -92,8 +92,8 @@ module _ (numbers : ℕ → ℕ) where
     sent_at_once line older v c =
         let k = kept_at numbers older place in
         let lines = (doing_of line (sees k.host) k.policy).lines in
-        sent_then numbers time place (map deed_of lines) (steps_of numbers older) v
-        (subst (λ (host : Opened). Contains (sent_by_deeds (map deed_of lines) host) v) (sym (kept_is_session numbers older place))
+        sent_then numbers time place (map Does lines) (steps_of numbers older) v
+        (subst (λ (host : Opened). Contains (sent_by_deeds (map Does lines) host) v) (sym (kept_is_session numbers older place))
         (subst (λ (vs : List Datagram). Contains vs v) (sym (sent_performed lines k.host)) c))
 
     lines_sent : (lines : List KeptLine) (older : List CallAt) (v : Datagram) → Contains (sent_by_kept lines (kept_at numbers older place)) v → Sent (lines_then time place lines older) v

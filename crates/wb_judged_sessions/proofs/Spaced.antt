@@ -7,26 +7,24 @@ use Rattle.std.proofs.Math.Nat.{add_comm}
 use Rattle.wb_names.specs.Values.{MarkValue, NameValue}
 use Rattle.wb_names.specs.declared.echo.Echo.{Echo}
 use Rattle.wb_names.specs.declared.name.PageId.{PageId}
-use Rattle.wb_names.proofs.Listings.{Contains-cases, Contains-here, Contains-none, Contains-there}
+use Rattle.wb_names.proofs.Listings.{Contains-here, Contains-there}
 use Rattle.wb_codec.specs.declared.datagram.Datagram.{Datagram}
-use Rattle.wb_codec.specs.declared.datagram.Datagram.TheVariants.{AskPages, Draw, PageState, Request, Session}
+use Rattle.wb_codec.specs.declared.datagram.Datagram.TheVariants.{Session}
 use Rattle.wb_gaps.specs.Answers.{pages_of, report_of}
-use Rattle.wb_keeper.specs.Hearing.{answers_to}
-use Rattle.wb_keeper.specs.Ticks.{sent_for}
-use Rattle.wb_keeper.proofs.TickSends.{sent_from}
 use Rattle.wb_judge.specs.Adding.{own_echo}
-use Rattle.wb_member.specs.Opened.{Opened, becomes, has_room_for, heard, present}
+use Rattle.wb_member.specs.Opened.{Opened, has_room_for, heard, present}
+use Rattle.wb_member.specs.declared.calls.Call.TheVariants.{Tick, Hear}
 use Rattle.wb_policy.specs.Choices.{last_heard}
 use Rattle.wb_policy.specs.Policy.{after_answer, after_wanting}
 use Rattle.wb_policy.specs.Reports.{slice_after}
 use Rattle.wb_policy.specs.Wanting.{is_wanted}
-use Rattle.wb_keeping.specs.Bounds.{is_report}
-use Rattle.wb_keeping.specs.Kept.{Arrives, Asks, Doing, Hears, Line, Says, SetsDistance, Stops, Ticks, Tunes, reports_page, state_of, still, want}
+use Rattle.wb_keeping.specs.Kept.{Calls, Doing, Line, Says, reports_page, state_of, still, want}
 use Rattle.wb_keeping.specs.Laws.{KeptLine, doing_of, fault_of}
-use Rattle.wb_keeping.specs.Performing.{Keeping, after_doing, after_line, sees, sent_by_doing, sent_by_line, sent_by_lines, view_of}
+use Rattle.wb_keeping.specs.Performing.{Keeping, after_doing, after_line, after_lines, sees, sent_by_doing, sent_by_lines, view_of}
 use Rattle.wb_keeping.specs.Views.{View, holds, is_full, is_known, level}
 use Rattle.wb_keeping.proofs.EachLine.{Each, states_each, want_each}
 use Rattle.wb_keeping.proofs.EachStep.{HoldsOfSteps, doing, having_done, line_holds}
+use Rattle.wb_keeping.proofs.Performed.{after_both, sent_by_both}
 use Rattle.wb_keeping.proofs.Saying.{says_after}
 use Rattle.wb_keeping.proofs.Wanted.{lines_wanted}
 use Rattle.wb_kept_progress.proofs.Leaving.{next_late}
@@ -48,40 +46,26 @@ use Rattle.wb_judged_sessions.proofs.Answered.{after_it, taken_part}
 use Rattle.wb_judged_sessions.proofs.Echoed.{IsReported, reported, taken_line}
 use Rattle.wb_judged_sessions.proofs.Remembered.{echoed_same, kept_by_count, reports_among, reports_by}
 use Rattle.wb_judged_sessions.proofs.Reporting.{report_due}
-use Rattle.wb_judged_sessions.proofs.TakenIn.{IsNoReport, SaysNoReport, action_none, answer_none, drawing_none, want_none}
+use Rattle.wb_judged_sessions.proofs.SaidOnly.{SaysOnly, want_says}
+use Rattle.wb_judged_sessions.proofs.TakenIn.{IsNoReport, none_reported}
 use Rattle.wb_judged_sessions.proofs.Terms.{fault_none, own_at}
 
--- ---- each step
-
-abbrev count : List Line → ℕ
-count [] = 0
-count (line ∷ lines) = cond (is_report line) 1 0 + count lines
+-- ---- how many reports are sent
 
 nothing_more : (n : ℕ) → n ≡ 0 + n
 nothing_more n = omega arith
 
-count_both : (one other : List Line) → count (one ++ other) ≡ count one + count other
-count_both [] other = nothing_more (count other)
-count_both (line ∷ one) other = let rest = count_both one other in sums (cond (is_report line) 1 0) (count one) (count other) (count (one ++ other)) rest where
-  sums : (a b c d : ℕ) → d ≡ b + c → a + d ≡ a + b + c
-  sums a b c d e = omega (arith, e)
+among_both : (one other : List Datagram) → reports_among (one ++ other) ≡ reports_among one + reports_among other
+among_both [] other = nothing_more (reports_among other)
+among_both (Session s sent page marks es ∷ one) other = let rest = among_both one other in omega (arith, rest)
+among_both (v ∷ one) other = among_both one other
 
-none_counted : (lines : List Line) → Each SaysNoReport lines → count lines ≡ 0
-none_counted [] none = refl
-none_counted (line ∷ lines) none = let rest = none_counted lines none.1 in ap (λ (n : ℕ). cond (is_report line) 1 0 + n) rest ∙ one line none.0 where
-  one : (line : Line) → SaysNoReport line → cond (is_report line) 1 0 + 0 ≡ 0
-  one (Ticks now) none = refl
-  one (Arrives d) none = refl
-  one (Hears v) none = refl
-  one (Asks name) none = refl
-  one (Stops name) none = refl
-  one (SetsDistance source micros) none = refl
-  one (Tunes constants) none = refl
-  one (Says (Draw d)) none = refl
-  one (Says (Session s sent page marks es)) none = absurd none
-  one (Says (Request asker name)) none = refl
-  one (Says (AskPages asker)) none = refl
-  one (Says (PageState s page marks)) none = refl
+none_among : (vs : List Datagram) → ((v : Datagram) → Contains vs v → IsNoReport v) → reports_among vs ≡ 0
+none_among [] none = refl
+none_among (Session s sent page marks es ∷ vs) none = absurd (none (Session s sent page marks es) (Contains-here (Session s sent page marks es) vs))
+none_among (w ∷ vs) none = none_among vs (λ v c. none v (Contains-there w v vs c))
+
+-- ---- each step
 
 -- After `n` reports the next one is due `n` seconds later at least, and the last one was sent a second before that, or later.
 pub record IsSpaced (n : ℕ) (k m : Keeping) : Type 0 where
@@ -101,47 +85,53 @@ spaced_both a b k m n one other = record {
 
 -- some lines of a call, and what was reported by them
 record Spaces (k : Keeping) (lines : List Line) (m : Keeping) : Type 0 where
-  spaced : IsSpaced (count lines) k m
-  next : (s t : ℕ) (page : PageId) (marks : List MarkValue) (es : List Echo) → Contains lines (Says (Session s t page marks es)) → t + 1000000 ≤ report_due m
+  at : m.host ≡ after_lines lines k.host
+  spaced : IsSpaced (reports_among (sent_by_lines lines k.host)) k m
+  next : (s t : ℕ) (page : PageId) (marks : List MarkValue) (es : List Echo) → Contains (sent_by_lines lines k.host) (Session s t page marks es) → t + 1000000 ≤ report_due m
 
-none_within : (lines : List Line) (s t : ℕ) (page : PageId) (marks : List MarkValue) (es : List Echo) → Each SaysNoReport lines → Contains lines (Says (Session s t page marks es)) → ⊥
-none_within [] s t page marks es none c = Contains-none _ c
-none_within (line ∷ lines) s t page marks es none c = ⊎_elim
-    (λ (is : line ≡ Says (Session s t page marks es)). subst SaysNoReport is none.0)
-    (λ (later : Contains lines (Says (Session s t page marks es))). none_within lines s t page marks es none.1 later)
-    (Contains-cases line _ lines c)
-
-quietly : (k m : Keeping) (lines : List Line) → Each SaysNoReport lines → present k.host ≤ present m.host → report_due m ≡ report_due k → Spaces k lines m
-quietly k m lines none later same = record {
+quietly : (k m : Keeping) (lines : List Line) → Each (SaysOnly IsNoReport) lines → m.host ≡ after_lines lines k.host → present k.host ≤ present m.host → report_due m ≡ report_due k → Spaces k lines m
+quietly k m lines only at later same = record {
+  at = at;
   spaced = record {
     later = later;
-    due = let n = none_counted lines none in omega (arith, n, same);
-    last = λ some. let n = none_counted lines none in absurd (omega (arith, n, some));
+    due = let n = none in omega (arith, n, same);
+    last = λ some. let n = none in absurd (omega (arith, n, some));
   };
-  next = λ s t page marks es c. absurd (none_within lines s t page marks es none c);
-}
+  next = λ s t page marks es c. absurd (none_reported lines k.host only (Session s t page marks es) c);
+} where
+  none : reports_among (sent_by_lines lines k.host) ≡ 0
+  none = none_among (sent_by_lines lines k.host) (none_reported lines k.host only)
 
 at_once : (before after : ℕ) → after ≡ before → before ≤ after
 at_once before after same = omega (arith, same)
 
 both_space : (k m n : Keeping) (one other : List Line) → Spaces k one m → Spaces m other n → Spaces k (one ++ other) n
 both_space k m n one other a b = record {
-  spaced = subst (λ (c : ℕ). IsSpaced c k n) (sym (count_both one other)) (spaced_both (count one) (count other) k m n a.spaced b.spaced);
+  at = b.at ∙ ap (after_lines other) a.at ∙ sym (after_both one other k.host);
+  spaced = subst (λ (c : ℕ). IsSpaced c k n) (sym (ap reports_among sent ∙ among_both first then)) (spaced_both (reports_among first) (reports_among then) k m n a.spaced b.spaced);
   next = λ s t page marks es c. ⊎_elim
-      (λ (first : Contains one (Says (Session s t page marks es))). let x = a.next s t page marks es first in let y = b.spaced.due in omega (arith, x, y))
-      (λ (then : Contains other (Says (Session s t page marks es))). b.next s t page marks es then)
-      (Contains-append_cases one other (Says (Session s t page marks es)) c);
-}
+      (λ (now : Contains first (Session s t page marks es)). let x = a.next s t page marks es now in let y = b.spaced.due in omega (arith, x, y))
+      (λ (later : Contains then (Session s t page marks es)). b.next s t page marks es later)
+      (Contains-append_cases first then (Session s t page marks es) (subst (λ (vs : List Datagram). Contains vs (Session s t page marks es)) sent c));
+} where
+  first : List Datagram
+  first = sent_by_lines one k.host
 
-hears_space : (v : Datagram) (k : Keeping) → Spaces k (Hears v ∷ []) (record { host = after_line (Hears v) k.host; policy = k.policy })
-hears_space v k = quietly k _ (Hears v ∷ []) (tt, tt) (at_once _ _ (by (has_room_for v k.host))) refl where
+  then : List Datagram
+  then = sent_by_lines other m.host
+
+  sent : sent_by_lines (one ++ other) k.host ≡ first ++ then
+  sent = sent_by_both one other k.host ∙ ap (λ (host : Opened). first ++ sent_by_lines other host) (sym a.at)
+
+hears_space : (v : Datagram) (k : Keeping) → Spaces k (Calls (Hear v) ∷ []) (record { host = after_line (Calls (Hear v)) k.host; policy = k.policy })
+hears_space v k = quietly k _ (Calls (Hear v) ∷ []) (tt, tt) refl (at_once _ _ (by (has_room_for v k.host))) refl where
   by : (b : Bool) → present (cond b (heard v k.host) k.host) ≡ present k.host
   by true = refl
   by false = refl
 
 wants_space : (name : NameValue) (anew : Bool) (k : Keeping) → Spaces k (want name anew (sees k.host) k.policy).lines (after_doing (want name anew) k)
 wants_space name anew k =
-    quietly k (after_doing (want name anew) k) _ (want_none name anew (sees k.host) k.policy) (at_once _ _ (does_rest (want name anew) (want_each IsSmall are_small name anew) k).now)
+    quietly k (after_doing (want name anew) k) _ (want_says IsNoReport name anew (sees k.host) k.policy) refl (at_once _ _ (does_rest (want name anew) (want_each IsSmall are_small name anew) k).now)
     (by (is_wanted (holds v name) (is_full v) anew (is_known v name.source) (level v name) k.policy.owed v.now)) where
       v : View
       v = view_of k.host
@@ -156,13 +146,14 @@ wants_space name anew k =
 answers_space : (k : Keeping) → let lines = map (λ page. Says (state_of (view_of k.host) page)) (take 64 (pages_of k.host.is.held)) in
     Spaces k lines (having_done (doing (after_answer (present k.host) k.policy) lines) k)
 answers_space k =
-    quietly k _ _ (states_each SaysNoReport (view_of k.host) (λ page. tt) (take 64 (pages_of k.host.is.held)))
+    quietly k _ _ (states_each (SaysOnly IsNoReport) (view_of k.host) (λ page. tt) (take 64 (pages_of k.host.is.held))) refl
     (at_once _ _ (ap present (says_after (view_of k.host) (take 64 (pages_of k.host.is.held)) k.host))) refl
 
 -- a report, which is due
 reports_space : (page : PageId) (until : ℕ) (marks : List MarkValue) (k : Keeping) → nat_le k.policy.reports.due (present k.host) ≡ true
     → Spaces k (reports_page page until marks (sees k.host) k.policy).lines (after_doing (reports_page page until marks) k)
 reports_space page until marks k is = record {
+  at = refl;
   spaced = record {
     later = at_once (present k.host) (present k.host) refl;
     due = let le = leb-true k.policy.reports.due (present k.host) is in omega (arith, le, later);
@@ -173,14 +164,14 @@ reports_space page until marks k is = record {
   later : present k.host + 1000000 ≤ report_due (after_doing (reports_page page until marks) k)
   later = next_late (present k.host) _ _
 
-  moment : (s t : ℕ) (on : PageId) (told : List MarkValue) (es : List Echo) → Says (Session k.host.is.number (present k.host) page marks (last_heard (view_of k.host).echoes)) ≡ Says (Session s t on told es) → t ≡ present k.host
+  moment : (s t : ℕ) (on : PageId) (told : List MarkValue) (es : List Echo) → Session k.host.is.number (present k.host) page marks (last_heard (view_of k.host).echoes) ≡ Session s t on told es → t ≡ present k.host
   moment s t on told es e = cc
 
-space : (k m : Keeping) (line : Line) → SaysNoReport line → present m.host ≡ present k.host → report_due m ≡ report_due k → Spaces k (line ∷ []) m
-space k m line none now due = quietly k m (line ∷ []) (none, tt) (at_once (present k.host) (present m.host) now) due
+space : (k m : Keeping) (line : Line) → SaysOnly IsNoReport line → m.host ≡ after_line line k.host → present m.host ≡ present k.host → report_due m ≡ report_due k → Spaces k (line ∷ []) m
+space k m line only at now due = quietly k m (line ∷ []) (only, tt) at (at_once (present k.host) (present m.host) now) due
 
-nothing : (k m : Keeping) → present m.host ≡ present k.host → report_due m ≡ report_due k → Spaces k [] m
-nothing k m now due = quietly k m [] tt (at_once (present k.host) (present m.host) now) due
+nothing : (k m : Keeping) → m.host ≡ k.host → report_due m ≡ report_due k → Spaces k [] m
+nothing k m at due = quietly k m [] tt at (at_once (present k.host) (present m.host) (ap present at)) due
 
 steps_space : HoldsOfSteps Spaces
 steps_space = record {
@@ -191,95 +182,23 @@ steps_space = record {
     turned = λ t l k. nothing k _ refl refl;
     beats = λ k due. nothing k _ refl refl;
     answers = λ k is. answers_space k;
-    asks_pages = λ k is. space k _ _ tt refl refl;
+    asks_pages = λ k is. space k _ _ tt refl refl refl;
     reports = λ page until told k is. reports_space page until (slice_after told (report_of k.host.is.held page)) k is;
   };
-  ticks = λ now k later. quietly k _ (Ticks now ∷ []) (tt, tt) later refl;
-  arrives = λ d k. space k _ _ tt refl refl;
-  answered = λ d k lacks asked. space k _ _ tt refl refl;
+  ticks = λ now k later. quietly k _ (Calls (Tick now) ∷ []) (tt, tt) refl later refl;
+  arrives = λ d k. space k _ _ tt refl refl refl;
+  answered = λ d k lacks asked. space k _ _ tt refl refl refl;
   hears = hears_space;
-  stops = λ name k full. space k _ _ tt refl refl;
-  sets = λ source micros k. space k _ _ tt refl refl;
-  lends = λ source k. space k _ _ tt refl refl;
-  takes_back = λ source k. space k _ _ tt refl refl;
-  tunes = λ constants k within. space k _ _ tt refl refl;
-  draws = λ d k. space k _ _ tt refl refl;
+  stops = λ name k full. space k _ _ tt refl refl refl;
+  sets = λ source micros k. space k _ _ tt refl refl refl;
+  lends = λ source k. space k _ _ tt refl refl refl;
+  takes_back = λ source k. space k _ _ tt refl refl refl;
+  tunes = λ constants k within. space k _ _ tt refl refl refl;
+  draws = λ d k. space k _ _ tt refl refl refl;
   measured = λ micros k. nothing k _ refl refl;
   told = λ k. nothing k _ refl refl;
   takes_up = λ k is. nothing k _ refl refl;
 }
-
--- ---- what is sent
-
-among_both : (one other : List Datagram) → reports_among (one ++ other) ≡ reports_among one + reports_among other
-among_both [] other = nothing_more (reports_among other)
-among_both (Draw d ∷ one) other = among_both one other
-among_both (Session s sent page marks es ∷ one) other = let rest = among_both one other in omega (arith, rest)
-among_both (Request asker name ∷ one) other = among_both one other
-among_both (AskPages asker ∷ one) other = among_both one other
-among_both (PageState s page marks ∷ one) other = among_both one other
-
-none_among : (vs : List Datagram) → ((v : Datagram) → Contains vs v → IsNoReport v) → reports_among vs ≡ 0
-none_among [] none = refl
-none_among (Draw d ∷ vs) none = none_among vs (λ v c. none v (Contains-there (Draw d) v vs c))
-none_among (Session s sent page marks es ∷ vs) none = absurd (none (Session s sent page marks es) (Contains-here (Session s sent page marks es) vs))
-none_among (Request asker name ∷ vs) none = none_among vs (λ v c. none v (Contains-there (Request asker name) v vs c))
-none_among (AskPages asker ∷ vs) none = none_among vs (λ v c. none v (Contains-there (AskPages asker) v vs c))
-none_among (PageState s page marks ∷ vs) none = none_among vs (λ v c. none v (Contains-there (PageState s page marks) v vs c))
-
-tick_none : (now : ℕ) (host : Opened) (v : Datagram) → Contains (sent_by_line (Ticks now) host) v → IsNoReport v
-tick_none now host v c = let r = sent_from (sent_for host.is.number host.is.held) _ v c in action_none host.is.number host.is.held r.0 v r.2
-
-hear_none : (w : Datagram) (host : Opened) (v : Datagram) → Contains (sent_by_line (Hears w) host) v → IsNoReport v
-hear_none w host v c = by (has_room_for w host) c where
-  by : (b : Bool) → Contains (cond b (answers_to host.is.number host.is.held w) []) v → IsNoReport v
-  by true c = answer_none host.is.number host.is.held w v c
-  by false c = absurd (Contains-none v c)
-
-one_among : (line : Line) (host : Opened) → reports_among (sent_by_line line host) ≡ cond (is_report line) 1 0
-one_among (Ticks now) host = none_among _ (tick_none now host)
-one_among (Arrives d) host = refl
-one_among (Hears w) host = none_among _ (hear_none w host)
-one_among (Asks name) host = refl
-one_among (Stops name) host = refl
-one_among (SetsDistance source micros) host = refl
-one_among (Tunes constants) host = refl
-one_among (Says (Draw d)) host = none_among _ (drawing_none d (becomes d host))
-one_among (Says (Session s sent page marks es)) host = refl
-one_among (Says (Request asker name)) host = refl
-one_among (Says (AskPages asker)) host = refl
-one_among (Says (PageState s page marks)) host = refl
-
-all_among : (lines : List Line) (host : Opened) → reports_among (sent_by_lines lines host) ≡ count lines
-all_among [] host = refl
-all_among (line ∷ lines) host =
-    among_both (sent_by_line line host) (sent_by_lines lines (after_line line host)) ∙ ap (λ (n : ℕ). n + reports_among (sent_by_lines lines (after_line line host))) (one_among line host)
-    ∙ ap (λ (n : ℕ). cond (is_report line) 1 0 + n) (all_among lines (after_line line host))
-
--- a report that is sent is said
-said_line : (line : Line) (host : Opened) (s t : ℕ) (page : PageId) (marks : List MarkValue) (es : List Echo) → Contains (sent_by_line line host) (Session s t page marks es) → line ≡ Says (Session s t page marks es)
-said_line (Ticks now) host s t page marks es c = absurd (tick_none now host (Session s t page marks es) c)
-said_line (Arrives d) host s t page marks es c = absurd (Contains-none _ c)
-said_line (Hears w) host s t page marks es c = absurd (hear_none w host (Session s t page marks es) c)
-said_line (Asks name) host s t page marks es c = absurd (Contains-none _ c)
-said_line (Stops name) host s t page marks es c = absurd (Contains-none _ c)
-said_line (SetsDistance source micros) host s t page marks es c = absurd (Contains-none _ c)
-said_line (Tunes constants) host s t page marks es c = absurd (Contains-none _ c)
-said_line (Says (Draw d)) host s t page marks es c = absurd (drawing_none d (becomes d host) (Session s t page marks es) c)
-said_line (Says (Session r u on told fs)) host s t page marks es c = ap Says (one_of (Session r u on told fs) (Session s t page marks es) c)
-said_line (Says (Request asker name)) host s t page marks es c = absurd (subst IsNoReport (one_of (Request asker name) (Session s t page marks es) c) tt)
-said_line (Says (AskPages asker)) host s t page marks es c = absurd (subst IsNoReport (one_of (AskPages asker) (Session s t page marks es) c) tt)
-said_line (Says (PageState r on told)) host s t page marks es c = absurd (subst IsNoReport (one_of (PageState r on told) (Session s t page marks es) c) tt)
-
-said_within : (lines : List Line) (host : Opened) (s t : ℕ) (page : PageId) (marks : List MarkValue) (es : List Echo) → Contains (sent_by_lines lines host) (Session s t page marks es)
-    → Contains lines (Says (Session s t page marks es))
-said_within [] host s t page marks es c = absurd (Contains-none _ c)
-said_within (line ∷ lines) host s t page marks es c = ⊎_elim
-    (λ (now : Contains (sent_by_line line host) (Session s t page marks es)).
-    subst (λ (l : Line). Contains (line ∷ lines) l) (said_line line host s t page marks es now) (Contains-here line lines))
-    (λ (later : Contains (sent_by_lines lines (after_line line host)) (Session s t page marks es)).
-    Contains-there line (Says (Session s t page marks es)) lines (said_within lines (after_line line host) s t page marks es later))
-    (Contains-append_cases (sent_by_line line host) (sent_by_lines lines (after_line line host)) (Session s t page marks es) c)
 
 -- ---- a line of a judged member
 
@@ -289,9 +208,8 @@ call_spaces call k none = line_holds Spaces steps_space call k none
 line_spaced : (line : Call) (h : Judged) → fault_of (handed line h) h.kept ≡ None → IsSpaced (reports_among (sends_in (events_of line h))) h.kept (after_judged line h).kept
 unfolding after_kept_line sent_by_kept_line
 line_spaced line h none =
-    let lines = (doing_of (handed line h) (sees h.kept.host) h.kept.policy).lines in
-    let counted : reports_among (sends_in (events_of line h)) ≡ count lines =
-    ap reports_among (sends_as_kept line h) ∙ echoed_same (own_echo (moment_of line h) (judging line h)) (sent_by_doing (doing_of (handed line h)) h.kept) ∙ all_among lines h.kept.host in
+    let counted : reports_among (sends_in (events_of line h)) ≡ reports_among (sent_by_doing (doing_of (handed line h)) h.kept) =
+    ap reports_among (sends_as_kept line h) ∙ echoed_same (own_echo (moment_of line h) (judging line h)) (sent_by_doing (doing_of (handed line h)) h.kept) in
     subst (λ (n : ℕ). IsSpaced n h.kept (after_judged line h).kept) (sym counted) (call_spaces (handed line h) h.kept none).spaced
 
 -- the next report comes a second after one at least
@@ -300,8 +218,7 @@ pub next_due : (line : Call) (h : Judged) (s t : ℕ) (page : PageId) (marks : L
 unfolding after_kept_line
 next_due line h s t page marks es none c =
     let r : IsReported line h s t page marks es = reported line h s t page marks es c in
-    let lines = (doing_of (handed line h) (sees h.kept.host) h.kept.policy).lines in
-    (call_spaces (handed line h) h.kept none).next s t page marks r.plain (said_within lines h.kept.host s t page marks r.plain r.among)
+    (call_spaces (handed line h) h.kept none).next s t page marks r.plain r.among
 
 -- ---- calls
 

@@ -22,7 +22,7 @@ use Rattle.wb_laws_sessions.specs.Drawn.{AreHonest, WasDrawn as DrawnBySteps, Wa
 use Rattle.wb_laws_sessions.specs.Sessions.{Step, host_at}
 use Rattle.wb_laws_sessions.proofs.Agreeing.{whole_boards_agree as members_agree}
 use Rattle.wb_laws_sessions.proofs.Drawn.{held_once as held_once_by_steps, held_was_drawn as held_drawn_by_steps, names_mean_one as names_by_steps, numbers_count as numbers_by_steps, once_held_was_drawn as once_by_steps}
-use Rattle.wb_laws_sessions.proofs.Sending.{sent_was_held}
+use Rattle.wb_laws_sessions.proofs.Sent.{sent_was_held}
 use Rattle.wb_judged_sessions.specs.Laws.{FiledReportsTellAgreement, HeldOnce, HeldWasDrawn, MarksWereDrawn, NamesMeanOne, NoneClashes, NumbersCount, OnceHeldWasDrawn, ReportsTellAgreement, SentWasDrawn, WholeBoardsAgree}
 use Rattle.wb_judged_sessions.specs.Sessions.{JudgedCallAt, WasDrawn, judged_at, kept_calls, plain, sent}
 use Rattle.wb_judged_sessions.specs.Terms.{IsSession}

@@ -10,7 +10,7 @@ use Rattle.wb_progress.specs.Turns.{IsNowAt, Terms, longest, settled_by}
 use Rattle.wb_member.specs.Judged.{holds, is_full}
 use Rattle.wb_member.specs.Opened.{present}
 use Rattle.wb_recovery.specs.declared.limits.TheConstants.{MOST_TIMERS}
-use Rattle.wb_policy.specs.declared.limits.TheConstants.{COST, MOST_DISTANCE}
+use Rattle.wb_policy.specs.declared.limits.TheConstants.{COST, MOST_DELAY}
 use Rattle.wb_keeping.specs.Laws.{Came}
 use Rattle.wb_keeping.specs.Performing.{due}
 use Rattle.wb_judging.specs.Handing.{handed}
@@ -90,7 +90,7 @@ pub record IsTimelyBy (Arrived : (newer base : List JudgedCallAt) (i j by : ℕ)
   pub taken : AreTaken numbers calls
   pub order : AreInOrder calls
   pub covered : terms.drift ≤ terms.late
-  pub far : MOST_DISTANCE ≤ terms.far
+  pub far : MOST_DELAY ≤ terms.far
   pub fitting : (i : ℕ) → Contains terms.live i → AreFittingSince terms numbers i calls
   pub alone : (newer older : List JudgedCallAt) (e : JudgedCallAt) → calls ≡ newer ++ e ∷ older → terms.quiet < e.time → Contains terms.live e.place × ((line : Call) × (e.call ≡ Takes line))
   pub drawn : (newer older : List JudgedCallAt) (e : JudgedCallAt) (now : ℕ) (page : PageId) (op : Op) → calls ≡ newer ++ e ∷ older → terms.quiet < e.time → e.call ≢ Takes (UserDrew now page op)

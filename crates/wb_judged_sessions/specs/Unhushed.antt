@@ -13,10 +13,11 @@ use Rattle.wb_judge.specs.Judge.{is_firm}
 use Rattle.wb_judge.specs.declared.limits.TheConstants.{FIRM_TIME}
 use Rattle.wb_member.specs.Judged.{holds, is_full}
 use Rattle.wb_member.specs.Opened.{events, present}
+use Rattle.wb_member.specs.declared.calls.Call.TheVariants.{Stop}
 use Rattle.wb_recovery.specs.declared.limits.TheConstants.{MOST_TIMERS}
 use Rattle.wb_policy.specs.declared.limits.TheConstants.{OLD_LEVEL}
 use Rattle.wb_keeping.specs.Bounds.{timer_count}
-use Rattle.wb_keeping.specs.Kept.{Line, Stops}
+use Rattle.wb_keeping.specs.Kept.{Calls, Line}
 use Rattle.wb_keeping.specs.Laws.{doing_of}
 use Rattle.wb_keeping.specs.Performing.{after_lines, sees}
 use Rattle.wb_judging.specs.Handing.{handed}
@@ -99,7 +100,7 @@ kept_lines line h = (doing_of (handed line h) (sees h.kept.host) h.kept.policy).
 pub record GivesUp (name : NameValue) (ask : AskTimer) (line : Call) (h : Judged) : Type 0 where
   pub before : List Line
   pub later : List Line
-  pub split : kept_lines line h ≡ before ++ Stops name ∷ later
+  pub split : kept_lines line h ≡ before ++ Calls (Stop name) ∷ later
   pub why : (OLD_LEVEL ≤ ask.level) ⊎ (MOST_TIMERS ≤ timer_count (after_lines before h.kept.host)) ⊎ (is_full (after_judged line h).kept.host ≡ true)
 
 -- The request is sent, the drawop is held then, or the name is given up.

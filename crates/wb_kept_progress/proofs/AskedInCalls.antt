@@ -10,12 +10,13 @@ use Rattle.wb_names.proofs.Listings.{Contains-cases, Contains-here, Contains-non
 use Rattle.wb_codec.specs.declared.datagram.Datagram.{Datagram}
 use Rattle.wb_codec.specs.declared.datagram.Datagram.TheVariants.{Draw, Session, Request, AskPages, PageState}
 use Rattle.wb_member.specs.Opened.{has_room_for, heard, present, Opened}
-use Rattle.wb_policy.specs.Distances.{bounded}
-use Rattle.wb_recovery.specs.declared.limits.TheConstants.{UNKNOWN_DISTANCE}
-use Rattle.wb_policy.specs.Choices.{distance_in, own_echo, own_marks, told_names}
-use Rattle.wb_keeping.specs.Kept.{Arrives, Asks, Doing, Hears, Line, Says, SetsDistance, Tunes, Stops, Ticks, Transition, and_then, hears, hears_session, hears_some, hears_state, learned, measures, of_other, performs, room_lines, still, takes, takes_question, want, want_told, lending, hears_request}
+use Rattle.wb_member.specs.declared.calls.Call.TheVariants.{Hear, SetDelay, Ask}
+use Rattle.wb_policy.specs.Delays.{bounded}
+use Rattle.wb_recovery.specs.declared.limits.TheConstants.{UNKNOWN_DELAY}
+use Rattle.wb_policy.specs.Choices.{echoed_delay, own_echo, own_marks, told_names}
+use Rattle.wb_keeping.specs.Kept.{Arrives, Doing, Line, Transition, and_then, hears, hears_session, hears_some, hears_state, learned, measures, of_other, performs, room_lines, still, takes, takes_question, want, want_told, lending, hears_request, Calls}
 use Rattle.wb_keeping.specs.Performing.{Keeping, after_doing, after_line, after_lines, sees, view_of}
-use Rattle.wb_policy.specs.Policy.{Policy, after_state, after_taking_up, after_wanting, with_distance}
+use Rattle.wb_policy.specs.Policy.{Policy, after_state, after_taking_up, after_wanting, after_echo}
 use Rattle.wb_keeping.specs.Views.{View, holds, is_asked, is_full, level, is_known}
 use Rattle.wb_policy.specs.Questions.{is_to_answer}
 use Rattle.wb_policy.specs.Wanting.{is_wanted}
@@ -40,31 +41,25 @@ then_lines first second k =
 
 -- of what is asked for this is so
 abbrev pub IsAskOf : (NameValue → Type 0) → Line → Type 0
-IsAskOf P (Asks n) = P n
+IsAskOf P (Calls (Ask n)) = P n
 IsAskOf P line = Unit {0}
 
 abbrev pub AskFor : (NameValue → Type 0) → List Line → Type 0
 AskFor P lines = Each (IsAskOf P) lines
 
 abbrev pub HasAsk : List Line → Type 0
-HasAsk lines = (n : NameValue) × Contains lines (Asks n)
+HasAsk lines = (n : NameValue) × Contains lines (Calls (Ask n))
 
-pub asked_is : (P : NameValue → Type 0) (lines : List Line) (n : NameValue) → AskFor P lines → Contains lines (Asks n) → P n
-asked_is P [] n asks c = absurd (Contains-none (Asks n) c)
+pub asked_is : (P : NameValue → Type 0) (lines : List Line) (n : NameValue) → AskFor P lines → Contains lines (Calls (Ask n)) → P n
+asked_is P [] n asks c = absurd (Contains-none (Calls (Ask n)) c)
 asked_is P (line ∷ lines) n asks c = ⊎_elim
-    (λ (e : line ≡ Asks n). subst (IsAskOf P) e asks.0)
-    (λ (d : Contains lines (Asks n)). asked_is P lines n asks.1 d)
-    (Contains-cases line (Asks n) lines c)
+    (λ (e : line ≡ Calls (Ask n)). subst (IsAskOf P) e asks.0)
+    (λ (d : Contains lines (Calls (Ask n))). asked_is P lines n asks.1 d)
+    (Contains-cases line (Calls (Ask n)) lines c)
 
 ask_as : (P Q : NameValue → Type 0) → ((n : NameValue) → P n → Q n) → (line : Line) → IsAskOf P line → IsAskOf Q line
-ask_as P Q f (Ticks now) is = tt
-ask_as P Q f (Arrives d) is = tt
-ask_as P Q f (Hears v) is = tt
-ask_as P Q f (Asks n) is = f n is
-ask_as P Q f (Stops n) is = tt
-ask_as P Q f (SetsDistance source micros) is = tt
-ask_as P Q f (Tunes constants) is = tt
-ask_as P Q f (Says v) is = tt
+ask_as P Q f (Calls (Ask n)) is = f n is
+ask_as P Q f line is = tt
 
 pub asks_as : (P Q : NameValue → Type 0) → ((n : NameValue) → P n → Q n) → (lines : List Line) → AskFor P lines → AskFor Q lines
 asks_as P Q f [] asks = tt
@@ -77,13 +72,13 @@ AskNothing lines = AskFor (λ n. ⊥) lines
 pub for_nothing : (P : NameValue → Type 0) (lines : List Line) → AskNothing lines → AskFor P lines
 for_nothing P lines none = asks_as (λ n. ⊥) P (λ n is. absurd is) lines none
 
-pub wanted_is_asked : (name : NameValue) (anew : Bool) (see : List Line → View) (p : Policy) → Contains (lines_wanted name anew see p) (Asks name)
+pub wanted_is_asked : (name : NameValue) (anew : Bool) (see : List Line → View) (p : Policy) → Contains (lines_wanted name anew see p) (Calls (Ask name))
 wanted_is_asked name anew see p =
     let v = see [] in
-    let usual = lent_first name.source (v.distance name.source) p.usual in
-    let back = taken_back name.source (v.distance name.source) in
-    Contains-append_right (room_lines name v) (lending name.source (v.distance name.source) p.usual (Asks name)) (Asks name)
-    (subst (λ (ls : List Line). Contains ls (Asks name)) (sym (lending_parts name.source (v.distance name.source) p.usual (Asks name))) (Contains-append_right usual (Asks name ∷ back) (Asks name) (Contains-here (Asks name) back)))
+    let usual = lent_first name.source (v.delay name.source) p.usual in
+    let back = taken_back name.source (v.delay name.source) in
+    Contains-append_right (room_lines name v) (lending name.source (v.delay name.source) p.usual (Calls (Ask name))) (Calls (Ask name))
+    (subst (λ (ls : List Line). Contains ls (Calls (Ask name))) (sym (lending_parts name.source (v.delay name.source) p.usual (Calls (Ask name)))) (Contains-append_right usual (Calls (Ask name) ∷ back) (Calls (Ask name)) (Contains-here (Calls (Ask name)) back)))
 
 -- ---- what stays
 
@@ -141,8 +136,8 @@ module _ (P : NameValue → Type 0) where
   asks_both k m n one other a b = record {
     stays = stays_then k m n a.stays b.stays;
     asks = each_both (IsAskOf P) one other a.asks b.asks;
-    owed = ⊎_elim (λ (h : HasAsk one). inl (h.0, Contains-append_left one other (Asks h.0) h.1)) (λ (e : m.policy.owed ≡ k.policy.owed).
-        ⊎_elim (λ (h : HasAsk other). inl (h.0, Contains-append_right one other (Asks h.0) h.1)) (λ (f : n.policy.owed ≡ m.policy.owed). inr (f ∙ e)) b.owed) a.owed;
+    owed = ⊎_elim (λ (h : HasAsk one). inl (h.0, Contains-append_left one other (Calls (Ask h.0)) h.1)) (λ (e : m.policy.owed ≡ k.policy.owed).
+        ⊎_elim (λ (h : HasAsk other). inl (h.0, Contains-append_right one other (Calls (Ask h.0)) h.1)) (λ (f : n.policy.owed ≡ m.policy.owed). inr (f ∙ e)) b.owed) a.owed;
   }
 
   then_asks : (first second : Transition) (k : Keeping) → At first k → At second (after_doing first k) → At (and_then first second) k
@@ -178,25 +173,25 @@ module _ (P : NameValue → Type 0) where
       then_asks (want name true) (want_told names) k (want_asks name true k (all name (Contains-here name names)))
       (told_asks names (λ n c. all n (Contains-there name n names c)) (after_doing (want name true) k))
 
-  measures_ask : (sender : ℕ) (distance : Option ℕ) (k : Keeping) → At (measures sender distance) k
+  measures_ask : (sender : ℕ) (delay : Option ℕ) (k : Keeping) → At (measures sender delay) k
   measures_ask sender None k = nothing_asked k
   measures_ask sender (Some micros) k = by (nat_eq (bounded micros) micros) where
     p : Policy
-    p = with_distance micros k.policy
+    p = after_echo micros k.policy
 
     by : (b : Bool)
-        → AsksFor P k (cond b [] (SetsDistance sender (bounded micros) ∷ [])) (having_done (doing p (cond b [] (SetsDistance sender (bounded micros) ∷ []))) k)
+        → AsksFor P k (cond b [] (Calls (SetDelay sender (bounded micros)) ∷ [])) (having_done (doing p (cond b [] (Calls (SetDelay sender (bounded micros)) ∷ []))) k)
     by true = record { stays = record { held = refl; now = refl; turns = refl; due = refl }; asks = tt; owed = inr refl }
     by false = record { stays = record { held = refl; now = refl; turns = refl; due = refl }; asks = (tt, tt); owed = inr refl }
 
-  hear_asks : (v : Datagram) (k : Keeping) → At (performs (Hears v)) k
+  hear_asks : (v : Datagram) (k : Keeping) → At (performs (Calls (Hear v))) k
   hear_asks v k = by (has_room_for v k.host) where
-    by : (b : Bool) → AsksFor P k (Hears v ∷ []) (record { host = cond b (heard v k.host) k.host; policy = k.policy })
+    by : (b : Bool) → AsksFor P k (Calls (Hear v) ∷ []) (record { host = cond b (heard v k.host) k.host; policy = k.policy })
     by true = record { stays = record { held = refl; now = refl; turns = refl; due = refl }; asks = (tt, tt); owed = inr refl }
     by false = record { stays = record { held = refl; now = refl; turns = refl; due = refl }; asks = (tt, tt); owed = inr refl }
 
   request_asks : (asker : ℕ) (name : NameValue) (k : Keeping) → At (hears_request asker name) k
-  request_asks asker name k = by (nat_eq ((view_of k.host).distance source) UNKNOWN_DISTANCE) where
+  request_asks asker name k = by (nat_eq ((view_of k.host).delay source) UNKNOWN_DELAY) where
     source : ℕ
     source = cond (holds (view_of k.host) name) asker name.source
 
@@ -204,13 +199,13 @@ module _ (P : NameValue → Type 0) where
     v = Request asker name
 
     one : Opened
-    one = after_line (SetsDistance source k.policy.usual) k.host
+    one = after_line (Calls (SetDelay source k.policy.usual)) k.host
 
-    heard_stays : (b : Bool) → Stays k (record { host = after_line (SetsDistance source UNKNOWN_DISTANCE) (cond b (heard v one) one); policy = k.policy })
+    heard_stays : (b : Bool) → Stays k (record { host = after_line (Calls (SetDelay source UNKNOWN_DELAY)) (cond b (heard v one) one); policy = k.policy })
     heard_stays true = record { held = refl; now = refl; turns = refl; due = refl }
     heard_stays false = record { held = refl; now = refl; turns = refl; due = refl }
 
-    by : (b : Bool) → let lines = cond b (SetsDistance source k.policy.usual ∷ Hears v ∷ SetsDistance source UNKNOWN_DISTANCE ∷ []) (Hears v ∷ []) in AsksFor P k lines (having_done (doing k.policy lines) k)
+    by : (b : Bool) → let lines = cond b (Calls (SetDelay source k.policy.usual) ∷ Calls (Hear v) ∷ Calls (SetDelay source UNKNOWN_DELAY) ∷ []) (Calls (Hear v) ∷ []) in AsksFor P k lines (having_done (doing k.policy lines) k)
     by true = record { stays = heard_stays (has_room_for v one); asks = (tt, (tt, (tt, tt))); owed = inr refl }
     by false = hear_asks v k
 
@@ -228,12 +223,12 @@ module _ (P : NameValue → Type 0) where
       let v = view_of k.host in
       let own = own_marks v.me (nat_lt v.now k.policy.ready) marks in
       let echo = own_echo v.me echoes in
-      let first = performs (Hears (Session sender sent page own echo)) in
-      let second = measures sender (distance_in v.now echo) in
+      let first = performs (Calls (Hear (Session sender sent page own echo))) in
+      let second = measures sender (echoed_delay v.now echo) in
       let third = want_told (told_names v.me page marks) in
       let m = after_doing first k in
       then_asks first (and_then second third) k (hear_asks (Session sender sent page own echo) k)
-      (then_asks second third m (measures_ask sender (distance_in v.now echo) m) (told_asks (told_names v.me page marks) told (after_doing second m)))
+      (then_asks second third m (measures_ask sender (echoed_delay v.now echo) m) (told_asks (told_names v.me page marks) told (after_doing second m)))
 
   some_ask : (sender : ℕ) (page : PageId) (marks : List MarkValue) (k : Keeping) → At (hears_some sender page marks) k
   some_ask sender page [] k = nothing_asked k

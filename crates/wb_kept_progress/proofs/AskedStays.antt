@@ -17,10 +17,13 @@ use Rattle.wb_keeper.specs.Hearing.{asks_for_held}
 use Rattle.wb_keeper.specs.Keeper.{asked_by, delay_to, holds}
 use Rattle.wb_member.specs.Judged.{is_full}
 use Rattle.wb_member.specs.Opened.{Opened, asks_for, events, has_room_for, heard, present, word_at}
+use Rattle.wb_member.specs.Lines.{IsOfPolicy}
+use Rattle.wb_member.specs.declared.calls.Call.{Call}
+use Rattle.wb_member.specs.declared.calls.Call.TheVariants.{Tick, Hear, Tune, Look, Ask}
 use Rattle.wb_policy.specs.Policy.{Policy, after_came, after_wanting}
 use Rattle.wb_keeping.specs.Bounds.{is_ask}
 use Rattle.wb_keeping.specs.Fairness.{AnswersWhatIsHeld}
-use Rattle.wb_keeping.specs.Kept.{Arrives, Asks, Doing, Hears, Line, Says, SetsDistance, Stops, Ticks, Tunes, still, want}
+use Rattle.wb_keeping.specs.Kept.{Arrives, Calls, Doing, Line, Says, still, want}
 use Rattle.wb_keeping.specs.Laws.{Added, Came, KeptLine, doing_of, fault_of}
 use Rattle.wb_keeping.specs.Performing.{Keeping, after_doing, after_line, after_lines, sees, view_of}
 use Rattle.wb_keeping.specs.Views.{holds as holds_by}
@@ -33,10 +36,11 @@ use Rattle.wb_keeping.proofs.Unlocked.{not_fresh}
 use Rattle.wb_keeping.proofs.Wanted.{is_wanted_here, lines_wanted}
 use Rattle.wb_keeping.proofs.WantedNames.{lines_answer_held}
 use Rattle.wb_kept_progress.proofs.AskedInCalls.{AskFor, AskNothing, HasAsk, IsAskOf, IsMore, asked_is, longer_by_one, wanted_is_asked}
-use Rattle.wb_kept_progress.proofs.FirstLines.{AreLinesOf, IsLineOf, lines_of_call}
+use Rattle.wb_kept_progress.proofs.FirstLines.{AreLinesOf, IsLineOf, lines_of_call, made_in_call}
 use Rattle.wb_kept_progress.proofs.LeadingSteps.{arrival_stands, ticked_stands, want_holds, want_stands}
-use Rattle.wb_kept_progress.proofs.Lines.{line_rests, lines_grow}
+use Rattle.wb_kept_progress.proofs.Lines.{call_holds, lines_grow}
 use Rattle.wb_kept_progress.proofs.StopCauses.{room_before}
+use Rattle.wb_kept_progress.proofs.WantedIn.{IsAskedInCall}
 
 -- ---- a timer that stands
 
@@ -145,9 +149,9 @@ module _ (P : NameValue → Type 0) where
       at = at_end;
       on = λ may asks. second_on may (a.on (may_first may) asks);
       begins = λ may h. ⊎_elim
-          (λ (here : Contains one (Asks h.0)). second_on may (a.begins (may_first may) (h.0, here)))
-          (λ (there : Contains other (Asks h.0)). second_begins may (h.0, there))
-          (Contains-append_cases one other (Asks h.0) h.1);
+          (λ (here : Contains one (Calls (Ask h.0))). second_on may (a.begins (may_first may) (h.0, here)))
+          (λ (there : Contains other (Calls (Ask h.0))). second_begins may (h.0, there))
+          (Contains-append_cases one other (Calls (Ask h.0)) h.1);
       spent = ⊎_elim
           (λ (h : HasAsk one). inl (h.0, in_first h.0 h.1))
           (λ (le : m.policy.owed ≤ k.policy.owed). ⊎_elim
@@ -156,11 +160,11 @@ module _ (P : NameValue → Type 0) where
           b.spent)
           a.spent;
     } where
-      in_first : (n : NameValue) → Contains one (Asks n) → Contains (one ++ other) (Asks n)
-      in_first n c = Contains-append_left one other (Asks n) c
+      in_first : (n : NameValue) → Contains one (Calls (Ask n)) → Contains (one ++ other) (Calls (Ask n))
+      in_first n c = Contains-append_left one other (Calls (Ask n)) c
 
-      in_second : (n : NameValue) → Contains other (Asks n) → Contains (one ++ other) (Asks n)
-      in_second n c = Contains-append_right one other (Asks n) c
+      in_second : (n : NameValue) → Contains other (Calls (Ask n)) → Contains (one ++ other) (Calls (Ask n))
+      in_second n c = Contains-append_right one other (Calls (Ask n)) c
 
   -- ---- a name is wanted
 
@@ -212,7 +216,7 @@ module _ (P : NameValue → Type 0) where
     by (Clash i) e = inl (same (Clash i) e refl)
     by Left e = inl (same Left e refl)
 
-  heard_on : (v : Datagram) (k : Keeping) → AsksOne k → AsksOne (having (Hears v) k)
+  heard_on : (v : Datagram) (k : Keeping) → AsksOne k → AsksOne (having (Calls (Hear v)) k)
   heard_on v k a = by (has_room_for v k.host) where
     by : (b : Bool) → AsksOne (record { host = cond b (heard v k.host) k.host; policy = k.policy })
     by true = record {
@@ -243,11 +247,11 @@ module _ (P : NameValue → Type 0) where
       asks_pages = λ k is. quiet k _ _ refl (tt, tt) (le_refl k.policy.owed) (λ a. inl (with_other _ k a));
       reports = λ page until told k is. quiet k _ _ refl (tt, tt) (le_refl k.policy.owed) (λ a. inl (same_then k _ refl a));
     };
-    ticks = λ now k later. quiet k (Ticks now ∷ []) _ refl (tt, tt) (le_refl k.policy.owed)
+    ticks = λ now k later. quiet k (Calls (Tick now) ∷ []) _ refl (tt, tt) (le_refl k.policy.owed)
         (λ a. inl (record { name = a.name; is = a.is; lacks = a.lacks; asked = ticked_stands now k.host a.name a.lacks a.asked }));
     arrives = λ d k. quiet k (Arrives d ∷ []) _ refl (tt, tt) (le_refl k.policy.owed) (λ a. arrived d k k.policy a);
     answered = λ d k lacks asked. quiet k (Arrives d ∷ []) _ refl (tt, tt) (repaid_less k.policy.owed) (λ a. arrived d k (after_came k.policy) a);
-    hears = λ v k. quiet k (Hears v ∷ []) _ refl (tt, tt) (le_refl k.policy.owed) (λ a. inl (heard_on v k a));
+    hears = λ v k. quiet k (Calls (Hear v) ∷ []) _ refl (tt, tt) (le_refl k.policy.owed) (λ a. inl (heard_on v k a));
     stops = λ name k full. record {
       at = refl;
       on = λ may a. absurd (true≢false (sym full ∙ may.room));
@@ -257,7 +261,7 @@ module _ (P : NameValue → Type 0) where
     sets = λ source micros k. quiet k _ _ refl (tt, tt) (le_refl k.policy.owed) (λ a. inl (record { name = a.name; is = a.is; lacks = a.lacks; asked = a.asked }));
     lends = λ source k. quiet k _ _ refl (tt, tt) (le_refl k.policy.owed) (λ a. inl (record { name = a.name; is = a.is; lacks = a.lacks; asked = a.asked }));
     takes_back = λ source k. quiet k _ _ refl (tt, tt) (le_refl k.policy.owed) (λ a. inl (record { name = a.name; is = a.is; lacks = a.lacks; asked = a.asked }));
-    tunes = λ constants k within. quiet k (Tunes constants ∷ []) _ refl (tt, tt) (le_refl k.policy.owed) (λ a. inl (record { name = a.name; is = a.is; lacks = a.lacks; asked = a.asked }));
+    tunes = λ constants k within. quiet k (Calls (Tune constants) ∷ []) _ refl (tt, tt) (le_refl k.policy.owed) (λ a. inl (record { name = a.name; is = a.is; lacks = a.lacks; asked = a.asked }));
     draws = λ d k. quiet k _ _ refl (tt, tt) (le_refl k.policy.owed) (λ a. arrived d k k.policy a);
     measured = λ micros k. quiet k [] _ refl tt (le_refl k.policy.owed) (λ a. inl (with_other _ k a));
     told = λ k. quiet k [] _ refl tt (le_refl k.policy.owed) (λ a. inl (with_other _ k a));
@@ -271,26 +275,35 @@ module _ (P : NameValue → Type 0) where
 
 -- ---- a timer within a call
 
-pub asks_of : (line : Line) → is_ask line ≡ true → (n : NameValue) × (line ≡ Asks n)
-asks_of (Asks name) e = (name, refl)
-asks_of (Ticks now) e = absurd (true≢false (sym e))
-asks_of (Arrives d) e = absurd (true≢false (sym e))
-asks_of (Hears v) e = absurd (true≢false (sym e))
-asks_of (Stops name) e = absurd (true≢false (sym e))
-asks_of (SetsDistance source micros) e = absurd (true≢false (sym e))
-asks_of (Tunes constants) e = absurd (true≢false (sym e))
-asks_of (Says v) e = absurd (true≢false (sym e))
+-- a policy makes each call of these lines
+abbrev pub AreMade : List Line → Type 0
+AreMade lines = (call : Call) → Contains lines (Calls call) → IsOfPolicy call
+
+-- so one that asks for names asks for one
+pub asks_one : (lines : List Line) (line : Line) → AreMade lines → Contains lines line → is_ask line ≡ true → HasAsk lines
+asks_one lines (Calls (Ask name)) made c e = (name, c)
+asks_one lines (Calls (Look page)) made c e = absurd (made (Look page) c)
+asks_one lines line made c e = absurd (true≢false (sym e))
 
 -- it stood before, or the lines ask for something
-pub stood_or_asks : (n : NameValue) (lines : List Line) (host : Opened) → asks_for n (after_lines lines host) ≡ true → (asks_for n host ≡ true) ⊎ HasAsk lines
-stood_or_asks n [] host stands = inl stands
-stood_or_asks n (line ∷ lines) host stands = ⊎_elim
+stood_or_asks : (n : NameValue) (lines : List Line) (host : Opened) → AreMade lines → asks_for n (after_lines lines host) ≡ true → (asks_for n host ≡ true) ⊎ HasAsk lines
+stood_or_asks n [] host made stands = inl stands
+stood_or_asks n (line ∷ lines) host made stands = ⊎_elim
     (λ (stood : asks_for n (after_line line host) ≡ true). by stood (is_ask line) refl)
-    (λ (h : HasAsk lines). inr (h.0, Contains-there line (Asks h.0) lines h.1))
-    (stood_or_asks n lines (after_line line host) stands) where
+    (λ (h : HasAsk lines). inr (h.0, Contains-there line (Calls (Ask h.0)) lines h.1))
+    (stood_or_asks n lines (after_line line host) (λ call c. made call (Contains-there line (Calls call) lines c)) stands) where
       by : asks_for n (after_line line host) ≡ true → (b : Bool) → is_ask line ≡ b → (asks_for n host ≡ true) ⊎ HasAsk (line ∷ lines)
       by stood false e = inl (keeps line host e n stood)
-      by stood true e = let x = asks_of line e in inr (x.0, subst (λ (l : Line). Contains (line ∷ lines) l) x.1 (Contains-here line lines))
+      by stood true e = inr (asks_one (line ∷ lines) line made (Contains-here line lines) e)
+
+-- of a name that is asked for in a call
+pub stood_or_calls : (n : NameValue) (line : KeptLine) (k : Keeping) → IsAskedInCall n (doing_of line) k → (asks_for n k.host ≡ true) ⊎ HasAsk (doing_of line (sees k.host) k.policy).lines
+stood_or_calls n line k a = ⊎_elim
+    (λ (stood : asks_for n k.host ≡ true). inl stood)
+    (λ (h : HasAsk (a.first ∷ a.before)). inr (h.0, all (Calls (Ask h.0)) h.1))
+    (stood_or_asks n (a.first ∷ a.before) k.host (λ call c. made_in_call line k call (all (Calls call) c)) a.stands) where
+      all : (x : Line) → Contains (a.first ∷ a.before) x → Contains (doing_of line (sees k.host) k.policy).lines x
+      all x c = subst (λ (ls : List Line). Contains ls x) (sym a.lines) (Contains-append_left (a.first ∷ a.before) a.later x c)
 
 -- ---- a drawop that is new
 
@@ -309,19 +322,8 @@ taken d host = by (outcome_of host.is.cells host.is.held d) refl where
 line_brings_new : (line : Line) (host : Opened) → ((after_line line host).is.held ≡ host.is.held) ⊎ ((d : DrawopValue) × Brings line d × (holds host.is.held d.name ≡ false))
 line_brings_new (Arrives d) host = ⊎_elim (λ (same : (after_line (Arrives d) host).is.held ≡ host.is.held). inl same) (λ (lacks : holds host.is.held d.name ≡ false). inr (d, inl refl, lacks)) (taken d host)
 line_brings_new (Says (Draw d)) host = ⊎_elim (λ (same : (after_line (Arrives d) host).is.held ≡ host.is.held). inl same) (λ (lacks : holds host.is.held d.name ≡ false). inr (d, inr refl, lacks)) (taken d host)
-line_brings_new (Hears v) host = by (has_room_for v host) where
-  by : (b : Bool) → ((let h : Opened = cond b (heard v host) host in h.is.held) ≡ host.is.held) ⊎ ((d : DrawopValue) × Brings (Hears v) d × (holds host.is.held d.name ≡ false))
-  by true = inl refl
-  by false = inl refl
-line_brings_new (Ticks now) host = inl refl
-line_brings_new (Asks name) host = inl (line_rests (Asks name) host tt).held
-line_brings_new (Stops name) host = inl refl
-line_brings_new (SetsDistance source micros) host = inl refl
-line_brings_new (Tunes constants) host = inl refl
-line_brings_new (Says (Session sender sent page marks echoes)) host = inl refl
-line_brings_new (Says (Request asker name)) host = inl refl
-line_brings_new (Says (AskPages asker)) host = inl refl
-line_brings_new (Says (PageState sender page marks)) host = inl refl
+line_brings_new (Calls call) host = inl (call_holds call host)
+line_brings_new (Says v) host = inl refl
 
 -- a call that brings more is of a drawop that is new, or draws
 pub record IsOfNew (line : KeptLine) (host : Opened) : Type 0 where

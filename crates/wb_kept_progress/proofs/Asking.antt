@@ -19,11 +19,12 @@ use Rattle.wb_member.specs.Judged.{asked_names, level}
 use Rattle.wb_member.specs.Members.{Misses}
 use Rattle.wb_member.specs.Opened.{Opened, asks_for, doing, events, may_ask, present}
 use Rattle.wb_member.specs.Random.{word_of}
+use Rattle.wb_member.specs.declared.calls.Call.TheVariants.{SetDelay, Tune, Ask, Stop}
 use Rattle.wb_policy.specs.Credit.{has_credit}
-use Rattle.wb_recovery.specs.declared.limits.TheConstants.{UNKNOWN_DISTANCE}
+use Rattle.wb_recovery.specs.declared.limits.TheConstants.{UNKNOWN_DELAY}
 use Rattle.wb_policy.specs.declared.limits.TheConstants.{COST}
 use Rattle.wb_keeping.specs.Fairness.{AnswersWhatIsHeld}
-use Rattle.wb_keeping.specs.Kept.{Asks, Doing, Line, SetsDistance, Tunes, Stops, room_lines, still, stops_one, want, want_told, lending}
+use Rattle.wb_keeping.specs.Kept.{Doing, Line, room_lines, still, stops_one, want, want_told, lending, Calls}
 use Rattle.wb_keeping.specs.Performing.{Keeping, after_doing, after_line, after_lines, asked_name, asked_with, sees, view_of}
 use Rattle.wb_policy.specs.Policy.{after_wanting}
 use Rattle.wb_keeping.specs.Views.{View, holds, is_asked, is_full, level as level_by, is_known}
@@ -47,7 +48,7 @@ abbrev pub IsNew : Opened → NameValue → Type 0
 IsNew host n = level host n ≡ Some 0
 
 -- a timer that is stopped is not new; any other is as it was
-stop_leaves : (name n : NameValue) (host : Opened) → same_name name n ≡ false → level (after_line (Stops name) host) n ≡ level host n
+stop_leaves : (name n : NameValue) (host : Opened) → same_name name n ≡ false → level (after_line (Calls (Stop name)) host) n ≡ level host n
 stop_leaves name n host other = by (asks_for name host) where
   by : (b : Bool) → level_in (timers_of host.is.constants (given_up (present host) name b (events host)) n).ask ≡ level host n
   by false = refl
@@ -57,7 +58,7 @@ pub no_level : (o : Option AskTimer) → is_some o ≡ false → level_in o ≡ 
 no_level None e = refl
 no_level (Some a) e = absurd (true≢false e)
 
-stop_ends : (name : NameValue) (host : Opened) → level (after_line (Stops name) host) name ≡ None
+stop_ends : (name : NameValue) (host : Opened) → level (after_line (Calls (Stop name)) host) name ≡ None
 stop_ends name host = by (asks_for name host) refl where
   s : Timers
   s = timers_of host.is.constants (events host) name
@@ -73,16 +74,23 @@ stop_ends name host = by (asks_for name host) refl where
         got_now : Timers → Timers
         got_now s = cond (is_some s.ask || is_some s.answer) gone s
 
+setting_leaves : (line : Line) (n : NameValue) (host : Opened) → IsSetting line → (level (after_line line host) n ≡ level host n) ⊎ (level (after_line line host) n ≡ None)
+setting_leaves (Calls (Stop name)) n host quiet = by (same_name name n) refl where
+  by : (b : Bool) → same_name name n ≡ b → (level (after_line (Calls (Stop name)) host) n ≡ level host n) ⊎ (level (after_line (Calls (Stop name)) host) n ≡ None)
+  by false other = inl (stop_leaves name n host other)
+  by true same = inr (subst (λ (m : NameValue). level (after_line (Calls (Stop name)) host) m ≡ None) (same_name-is name n same) (stop_ends name host))
+setting_leaves (Calls (SetDelay source micros)) n host quiet = inl refl
+setting_leaves (Calls (Tune constants)) n host quiet = inl refl
+setting_leaves line n host quiet = absurd quiet
+
 quiet_leave : (lines : List Line) (n : NameValue) (host : Opened) → AreSettings lines → IsNew (after_lines lines host) n → IsNew host n
 quiet_leave [] n host quiet new = new
-quiet_leave (Stops name ∷ lines) n host quiet new = by (quiet_leave lines n (after_line (Stops name) host) quiet.1 new) (same_name name n) refl where
-  by : IsNew (after_line (Stops name) host) n → (b : Bool) → same_name name n ≡ b → IsNew host n
-  by there false other = sym (stop_leaves name n host other) ∙ there
-  by there true same = absurd (none-some 0 (sym (subst (λ (m : NameValue). level (after_line (Stops name) host) m ≡ None) (same_name-is name n same) (stop_ends name host)) ∙ there))
-quiet_leave (SetsDistance source micros ∷ lines) n host quiet new = quiet_leave lines n (after_line (SetsDistance source micros) host) quiet.1 new
-quiet_leave (Tunes constants ∷ lines) n host quiet new = quiet_leave lines n (after_line (Tunes constants) host) quiet.1 new
-quiet_leave (Asks name ∷ lines) n host quiet new = absurd quiet.0
-quiet_leave (line ∷ lines) n host quiet new = absurd quiet.0
+quiet_leave (line ∷ lines) n host quiet new =
+    let there : level (after_line line host) n ≡ Some 0 = quiet_leave lines n (after_line line host) quiet.1 new in
+    ⊎_elim
+    (λ (same : level (after_line line host) n ≡ level host n). sym same ∙ there)
+    (λ (ended : level (after_line line host) n ≡ None). absurd (none-some 0 (sym ended ∙ there)))
+    (setting_leaves line n host quiet.0)
 
 -- if none stands, none comes to stand
 abbrev pub HasNone : Opened → NameValue → Type 0
@@ -90,17 +98,11 @@ HasNone host n = level host n ≡ None
 
 quiet_none : (lines : List Line) (n : NameValue) (host : Opened) → AreSettings lines → HasNone host n → HasNone (after_lines lines host) n
 quiet_none [] n host quiet none = none
-quiet_none (Stops name ∷ lines) n host quiet none = quiet_none lines n (after_line (Stops name) host) quiet.1 (by (same_name name n) refl) where
-  by : (b : Bool) → same_name name n ≡ b → HasNone (after_line (Stops name) host) n
-  by false other = stop_leaves name n host other ∙ none
-  by true same = subst (λ (m : NameValue). HasNone (after_line (Stops name) host) m) (same_name-is name n same) (stop_ends name host)
-quiet_none (SetsDistance source micros ∷ lines) n host quiet none = quiet_none lines n (after_line (SetsDistance source micros) host) quiet.1 none
-quiet_none (Tunes constants ∷ lines) n host quiet none = quiet_none lines n (after_line (Tunes constants) host) quiet.1 none
-quiet_none (Asks name ∷ lines) n host quiet none = absurd quiet.0
-quiet_none (line ∷ lines) n host quiet none = absurd quiet.0
+quiet_none (line ∷ lines) n host quiet none =
+    quiet_none lines n (after_line line host) quiet.1 (⊎_elim (λ (same : level (after_line line host) n ≡ level host n). same ∙ none) (λ (ended : HasNone (after_line line host) n). ended) (setting_leaves line n host quiet.0))
 
 -- one that asks sets one timer
-asks_leaves : (name n : NameValue) (host : Opened) → same_name name n ≡ false → level (after_line (Asks name) host) n ≡ level host n
+asks_leaves : (name n : NameValue) (host : Opened) → same_name name n ≡ false → level (after_line (Calls (Ask name)) host) n ≡ level host n
 asks_leaves name n host other = by (may_ask name host) where
   asking_host : Opened
   asking_host = doing (Misses (present host) (name ∷ []) (word_of host.random ∷ [])) 1 host
@@ -109,14 +111,14 @@ asks_leaves name n host other = by (may_ask name host) where
   by false = refl
   by true = ap (λ (b : Bool). level_in (cond b (noticed (constants_at host.is.number host.is.constants host.is.calls) (present host) (delay_to host.is.number host.is.calls name.source) (word_of host.random) (timers_of host.is.constants (events host) n)) (timers_of host.is.constants (events host) n)).ask) other
 
-asks_new : (name n : NameValue) (host : Opened) → IsNew (after_line (Asks name) host) n → (name ≡ n) ⊎ IsNew host n
+asks_new : (name n : NameValue) (host : Opened) → IsNew (after_line (Calls (Ask name)) host) n → (name ≡ n) ⊎ IsNew host n
 asks_new name n host new = by (same_name name n) refl where
   by : (b : Bool) → same_name name n ≡ b → (name ≡ n) ⊎ IsNew host n
   by true same = inl (same_name-is name n same)
   by false other = inr (sym (asks_leaves name n host other) ∙ new)
 
 -- where it may, it is new
-asks_sets : (name : NameValue) (host : Opened) → may_ask name host ≡ true → IsNew (after_line (Asks name) host) name
+asks_sets : (name : NameValue) (host : Opened) → may_ask name host ≡ true → IsNew (after_line (Calls (Ask name)) host) name
 asks_sets name host may =
     ap (λ (b : Bool). level (cond b asking_host host) name) may
     ∙ ap (λ (b : Bool). level_in (cond b (noticed (constants_at host.is.number host.is.constants host.is.calls) now delay word s) s).ask) (same_name-here name name refl)
@@ -239,16 +241,16 @@ pub record AreNew (k : Keeping) (names : List NameValue) : Type 0 where
   pub all : (m : NameValue) → IsNew k.host m → Contains names m
   pub paid : present k.host + length names * COST ≤ max k.policy.owed (present k.host)
 
--- distances move no timer
-lent_levels : (source distance usual : ℕ) (n : NameValue) (host : Opened) → level (after_lines (lent_first source distance usual) host) n ≡ level host n
-lent_levels source distance usual n host = by (nat_eq distance UNKNOWN_DISTANCE) where
-  by : (b : Bool) → level (after_lines (cond b (SetsDistance source usual ∷ []) []) host) n ≡ level host n
+-- delays move no timer
+lent_levels : (source delay usual : ℕ) (n : NameValue) (host : Opened) → level (after_lines (lent_first source delay usual) host) n ≡ level host n
+lent_levels source delay usual n host = by (nat_eq delay UNKNOWN_DELAY) where
+  by : (b : Bool) → level (after_lines (cond b (Calls (SetDelay source usual) ∷ []) []) host) n ≡ level host n
   by true = refl
   by false = refl
 
-back_levels : (source distance : ℕ) (n : NameValue) (host : Opened) → level (after_lines (taken_back source distance) host) n ≡ level host n
-back_levels source distance n host = by (nat_eq distance UNKNOWN_DISTANCE) where
-  by : (b : Bool) → level (after_lines (cond b (SetsDistance source UNKNOWN_DISTANCE ∷ []) []) host) n ≡ level host n
+back_levels : (source delay : ℕ) (n : NameValue) (host : Opened) → level (after_lines (taken_back source delay) host) n ≡ level host n
+back_levels source delay n host = by (nat_eq delay UNKNOWN_DELAY) where
+  by : (b : Bool) → level (after_lines (cond b (Calls (SetDelay source UNKNOWN_DELAY) ∷ []) []) host) n ≡ level host n
   by true = refl
   by false = refl
 
@@ -260,10 +262,10 @@ module _ (name : NameValue) (anew : Bool) (k : Keeping) where
   first = room_lines name v
 
   abbrev usual : List Line
-  usual = lent_first name.source (v.distance name.source) k.policy.usual
+  usual = lent_first name.source (v.delay name.source) k.policy.usual
 
   abbrev back : List Line
-  back = taken_back name.source (v.distance name.source)
+  back = taken_back name.source (v.delay name.source)
 
   abbrev one : Opened
   one = after_lines first k.host
@@ -272,26 +274,26 @@ module _ (name : NameValue) (anew : Bool) (k : Keeping) where
   two = after_lines usual one
 
   abbrev last : Opened
-  last = after_line (Asks name) two
+  last = after_line (Calls (Ask name)) two
 
   room_sets : AreSettings first
   room_sets = room_each IsSetting (λ name. tt) name v
 
   usual_sets : AreSettings usual
-  usual_sets = by (nat_eq (v.distance name.source) UNKNOWN_DISTANCE) where
-    by : (b : Bool) → AreSettings (cond b (SetsDistance name.source k.policy.usual ∷ []) [])
+  usual_sets = by (nat_eq (v.delay name.source) UNKNOWN_DELAY) where
+    by : (b : Bool) → AreSettings (cond b (Calls (SetDelay name.source k.policy.usual) ∷ []) [])
     by true = (tt, tt)
     by false = tt
 
   there : after_lines (lines_wanted name anew (sees k.host) k.policy) k.host ≡ after_lines back last
   there =
-      after_both first (lending name.source (v.distance name.source) k.policy.usual (Asks name)) k.host
-      ∙ ap (λ (ls : List Line). after_lines ls one) (lending_parts name.source (v.distance name.source) k.policy.usual (Asks name))
-      ∙ after_both usual (Asks name ∷ back) one
+      after_both first (lending name.source (v.delay name.source) k.policy.usual (Calls (Ask name))) k.host
+      ∙ ap (λ (ls : List Line). after_lines ls one) (lending_parts name.source (v.delay name.source) k.policy.usual (Calls (Ask name)))
+      ∙ after_both usual (Calls (Ask name) ∷ back) one
 
   -- the levels are those behind the line that asks
   pub levels_there : (m : NameValue) → level (after_lines (lines_wanted name anew (sees k.host) k.policy) k.host) m ≡ level last m
-  levels_there m = ap (λ (h : Opened). level h m) there ∙ back_levels name.source (v.distance name.source) m last
+  levels_there m = ap (λ (h : Opened). level h m) there ∙ back_levels name.source (v.delay name.source) m last
 
   abbrev wanted : Doing
   wanted = record { policy = after_wanting v.now k.policy; lines = lines_wanted name anew (sees k.host) k.policy }
@@ -365,7 +367,7 @@ module _ (name : NameValue) (anew : Bool) (k : Keeping) where
         way a later is true e = stop_leaves (fold older a later).name n k.host (false_from_ne_true (same_name (fold older a later).name n) (λ same.
             not_new a later is e (subst (λ (m : NameValue). level k.host m ≡ Some 0) (sym (same_name-is (fold older a later).name n same)) new))) ∙ new
 
-        by : (a : Bool) → (asked : List AskedName) → v.asked ≡ asked → IsNew (after_lines (cond a (Stops name ∷ []) (stops_one (giving_way asked))) k.host) n
+        by : (a : Bool) → (asked : List AskedName) → v.asked ≡ asked → IsNew (after_lines (cond a (Calls (Stop name) ∷ []) (stops_one (giving_way asked))) k.host) n
         by true asked is = stop_leaves name n k.host other ∙ new
         by false [] is = new
         by false (a ∷ later) is = way a later is (gives_way (length (a ∷ later)) (fold older a later).level) refl
@@ -379,7 +381,7 @@ module _ (name : NameValue) (anew : Bool) (k : Keeping) where
           let idle = not-true (goes_on anew (level_by v name)) three_part.0 in
           let other = another idle in
           let kept = room_keeps other (few (has_place (anew || is_known v name.source) k.policy.owed (present k.host) three_part.1)) in
-          levels_there n ∙ asks_leaves name n two other ∙ lent_levels name.source (v.distance name.source) k.policy.usual n one ∙ kept
+          levels_there n ∙ asks_leaves name n two other ∙ lent_levels name.source (v.delay name.source) k.policy.usual n one ∙ kept
 
   none_two : (n : NameValue) → HasNone k.host n → HasNone two n
   none_two n none = quiet_none usual n one usual_sets (quiet_none first n k.host room_sets none)

@@ -7,9 +7,10 @@ use Rattle.wb_names.specs.Values.{NameValue}
 use Rattle.wb_names.proofs.Listings.{Contains-cases, Contains-none}
 use Rattle.wb_gaps.specs.Answers.{pages_of}
 use Rattle.wb_member.specs.Opened.{Opened, asks_for}
+use Rattle.wb_member.specs.declared.calls.Call.TheVariants.{Tick, Hear, SetDelay, Tune, Ask, Stop}
 use Rattle.wb_keeping.specs.Fairness.{AnswersWhatIsHeld}
-use Rattle.wb_recovery.specs.declared.limits.TheConstants.{UNKNOWN_DISTANCE}
-use Rattle.wb_keeping.specs.Kept.{Arrives, Asks, Doing, Hears, Line, Stops, Ticks, Tunes, room_lines, still, want, lending, SetsDistance}
+use Rattle.wb_recovery.specs.declared.limits.TheConstants.{UNKNOWN_DELAY}
+use Rattle.wb_keeping.specs.Kept.{Arrives, Doing, Line, room_lines, still, want, lending, Calls}
 use Rattle.wb_keeping.specs.Laws.{KeptLine, doing_of, fault_of}
 use Rattle.wb_keeping.specs.Performing.{Keeping, after_doing, after_lines, sees, view_of}
 use Rattle.wb_policy.specs.Policy.{after_wanting}
@@ -30,37 +31,37 @@ use Rattle.wb_keeping.proofs.EachLine.{room_each, states_each}
 record Stands (lines : List Line) (host : Opened) (n : NameValue) : Type 0 where
   before : List Line
   later : List Line
-  split : lines ≡ before ++ Asks n ∷ later
-  stands : asks_for n (after_lines (before ++ Asks n ∷ []) host) ≡ true
+  split : lines ≡ before ++ Calls (Ask n) ∷ later
+  stands : asks_for n (after_lines (before ++ Calls (Ask n) ∷ []) host) ≡ true
 
 record AsksStand (k : Keeping) (lines : List Line) (m : Keeping) : Type 0 where
   at : m.host ≡ after_lines lines k.host
-  stand : AnswersWhatIsHeld k.host → (n : NameValue) → Contains lines (Asks n) → Stands lines k.host n
+  stand : AnswersWhatIsHeld k.host → (n : NameValue) → Contains lines (Calls (Ask n)) → Stands lines k.host n
 
 asks_nothing : (k : Keeping) (lines : List Line) (m : Keeping) → m.host ≡ after_lines lines k.host → AskNothing lines → AsksStand k lines m
 asks_nothing k lines m at none = record { at = at; stand = λ answers_held n c. absurd (asked_is (λ n. ⊥) lines n none c) }
 
 both_stand : (k m l : Keeping) (one other : List Line) → AsksStand k one m → AsksStand m other l → AsksStand k (one ++ other) l
 both_stand k m l one other a b = record { at = b.at ∙ ap (after_lines other) a.at ∙ sym (after_both one other k.host); stand = stand } where
-  stand : AnswersWhatIsHeld k.host → (n : NameValue) → Contains (one ++ other) (Asks n) → Stands (one ++ other) k.host n
+  stand : AnswersWhatIsHeld k.host → (n : NameValue) → Contains (one ++ other) (Calls (Ask n)) → Stands (one ++ other) k.host n
   stand answers_held n c = ⊎_elim
-      (λ (here : Contains one (Asks n)).
+      (λ (here : Contains one (Calls (Ask n))).
       let s = a.stand answers_held n here in
-      record { before = s.before; later = s.later ++ other; split = ap (λ (ls : List Line). ls ++ other) s.split ∙ append_assoc s.before (Asks n ∷ s.later) other; stands = s.stands })
-      (λ (there : Contains other (Asks n)).
+      record { before = s.before; later = s.later ++ other; split = ap (λ (ls : List Line). ls ++ other) s.split ∙ append_assoc s.before (Calls (Ask n) ∷ s.later) other; stands = s.stands })
+      (λ (there : Contains other (Calls (Ask n))).
       let then : AnswersWhatIsHeld m.host = subst AnswersWhatIsHeld (sym a.at) (λ name. lines_answer_held name one k.host (answers_held name)) in
       let s = b.stand then n there in
       record {
         before = one ++ s.before;
         later = s.later;
-        split = ap (λ (ls : List Line). one ++ ls) s.split ∙ sym (append_assoc one s.before (Asks n ∷ s.later));
+        split = ap (λ (ls : List Line). one ++ ls) s.split ∙ sym (append_assoc one s.before (Calls (Ask n) ∷ s.later));
         stands =
-            ap (λ (ls : List Line). asks_for n (after_lines ls k.host)) (append_assoc one s.before (Asks n ∷ []))
-            ∙ ap (asks_for n) (after_both one (s.before ++ Asks n ∷ []) k.host)
-            ∙ ap (λ (h : Opened). asks_for n (after_lines (s.before ++ Asks n ∷ []) h)) (sym a.at)
+            ap (λ (ls : List Line). asks_for n (after_lines ls k.host)) (append_assoc one s.before (Calls (Ask n) ∷ []))
+            ∙ ap (asks_for n) (after_both one (s.before ++ Calls (Ask n) ∷ []) k.host)
+            ∙ ap (λ (h : Opened). asks_for n (after_lines (s.before ++ Calls (Ask n) ∷ []) h)) (sym a.at)
             ∙ s.stands;
       })
-      (Contains-append_cases one other (Asks n) c)
+      (Contains-append_cases one other (Calls (Ask n)) c)
 
 wants_stand : (name : NameValue) (anew : Bool) (k : Keeping) → AsksStand k (want name anew (sees k.host) k.policy).lines (after_doing (want name anew) k)
 wants_stand name anew k = record { at = refl; stand = λ answers_held n c. by answers_held n (is_wanted (holds v name) (is_full v) anew (is_known v name.source) (level v name) k.policy.owed v.now) refl c } where
@@ -71,13 +72,13 @@ wants_stand name anew k = record { at = refl; stand = λ answers_held n c. by an
   first = room_lines name v
 
   usual : List Line
-  usual = lent_first name.source (v.distance name.source) k.policy.usual
+  usual = lent_first name.source (v.delay name.source) k.policy.usual
 
   back : List Line
-  back = taken_back name.source (v.distance name.source)
+  back = taken_back name.source (v.delay name.source)
 
-  parts : lending name.source (v.distance name.source) k.policy.usual (Asks name) ≡ usual ++ Asks name ∷ back
-  parts = lending_parts name.source (v.distance name.source) k.policy.usual (Asks name)
+  parts : lending name.source (v.delay name.source) k.policy.usual (Calls (Ask name)) ≡ usual ++ Calls (Ask name) ∷ back
+  parts = lending_parts name.source (v.delay name.source) k.policy.usual (Calls (Ask name))
 
   wanted : Doing
   wanted = record { policy = after_wanting v.now k.policy; lines = lines_wanted name anew (sees k.host) k.policy }
@@ -85,47 +86,47 @@ wants_stand name anew k = record { at = refl; stand = λ answers_held n c. by an
   so : Bool → Doing
   so b = cond b wanted (still (sees k.host) k.policy)
 
-  same_name : (n : NameValue) → Asks name ≡ Asks n → name ≡ n
+  same_name : (n : NameValue) → Calls (Ask name) ≡ Calls (Ask n) → name ≡ n
   same_name n e = cc
 
   usual_asks : AskNothing usual
-  usual_asks = by (nat_eq (v.distance name.source) UNKNOWN_DISTANCE) where
-    by : (b : Bool) → AskNothing (cond b (SetsDistance name.source k.policy.usual ∷ []) [])
+  usual_asks = by (nat_eq (v.delay name.source) UNKNOWN_DELAY) where
+    by : (b : Bool) → AskNothing (cond b (Calls (SetDelay name.source k.policy.usual) ∷ []) [])
     by true = (tt, tt)
     by false = tt
 
   back_asks : AskNothing back
-  back_asks = by (nat_eq (v.distance name.source) UNKNOWN_DISTANCE) where
-    by : (b : Bool) → AskNothing (cond b (SetsDistance name.source UNKNOWN_DISTANCE ∷ []) [])
+  back_asks = by (nat_eq (v.delay name.source) UNKNOWN_DELAY) where
+    by : (b : Bool) → AskNothing (cond b (Calls (SetDelay name.source UNKNOWN_DELAY) ∷ []) [])
     by true = (tt, tt)
     by false = tt
 
-  none_asks : (lines : List Line) (n : NameValue) → AskNothing lines → Contains lines (Asks n) → name ≡ n
+  none_asks : (lines : List Line) (n : NameValue) → AskNothing lines → Contains lines (Calls (Ask n)) → name ≡ n
   none_asks lines n none c = absurd (asked_is (λ n. ⊥) lines n none c)
 
-  only : (n : NameValue) → Contains (first ++ (usual ++ Asks name ∷ back)) (Asks n) → name ≡ n
+  only : (n : NameValue) → Contains (first ++ (usual ++ Calls (Ask name) ∷ back)) (Calls (Ask n)) → name ≡ n
   only n c = ⊎_elim
       (none_asks first n (room_each (IsAskOf (λ n. ⊥)) (λ name. tt) name v))
-      (λ (rest : Contains (usual ++ Asks name ∷ back) (Asks n)). ⊎_elim
+      (λ (rest : Contains (usual ++ Calls (Ask name) ∷ back) (Calls (Ask n))). ⊎_elim
       (none_asks usual n usual_asks)
-      (λ (last : Contains (Asks name ∷ back) (Asks n)). ⊎_elim (same_name n) (none_asks back n back_asks) (Contains-cases (Asks name) (Asks n) back last))
-      (Contains-append_cases usual (Asks name ∷ back) (Asks n) rest))
-      (Contains-append_cases first (usual ++ Asks name ∷ back) (Asks n) c)
+      (λ (last : Contains (Calls (Ask name) ∷ back) (Calls (Ask n))). ⊎_elim (same_name n) (none_asks back n back_asks) (Contains-cases (Calls (Ask name)) (Calls (Ask n)) back last))
+      (Contains-append_cases usual (Calls (Ask name) ∷ back) (Calls (Ask n)) rest))
+      (Contains-append_cases first (usual ++ Calls (Ask name) ∷ back) (Calls (Ask n)) c)
 
-  -- what takes a distance back leaves the timers
+  -- what takes a delay back leaves the timers
   asks_back : (host : Opened) → asks_for name (after_lines back host) ≡ asks_for name host
-  asks_back host = by (nat_eq (v.distance name.source) UNKNOWN_DISTANCE) where
-    by : (b : Bool) → asks_for name (after_lines (cond b (SetsDistance name.source UNKNOWN_DISTANCE ∷ []) []) host) ≡ asks_for name host
+  asks_back host = by (nat_eq (v.delay name.source) UNKNOWN_DELAY) where
+    by : (b : Bool) → asks_for name (after_lines (cond b (Calls (SetDelay name.source UNKNOWN_DELAY) ∷ []) []) host) ≡ asks_for name host
     by true = refl
     by false = refl
 
   before : List Line
-  before = first ++ (usual ++ Asks name ∷ [])
+  before = first ++ (usual ++ Calls (Ask name) ∷ [])
 
   whole : lines_wanted name anew (sees k.host) k.policy ≡ before ++ back
   whole =
-      ap (λ (ls : List Line). first ++ ls) (parts ∙ sym (append_assoc usual (Asks name ∷ []) back))
-      ∙ sym (append_assoc first (usual ++ Asks name ∷ []) back)
+      ap (λ (ls : List Line). first ++ ls) (parts ∙ sym (append_assoc usual (Calls (Ask name) ∷ []) back))
+      ∙ sym (append_assoc first (usual ++ Calls (Ask name) ∷ []) back)
 
   asked : AnswersWhatIsHeld k.host → is_wanted (holds v name) (is_full v) anew (is_known v name.source) (level v name) k.policy.owed v.now ≡ true → asks_for name (after_lines before k.host) ≡ true
   asked answers_held e =
@@ -140,15 +141,15 @@ wants_stand name anew k = record { at = refl; stand = λ answers_held n c. by an
       (wanted_is_asked name anew k answers_held (not-true (holds v name) one.0) (not-true (is_full v) two.0) three.1)
 
   by : AnswersWhatIsHeld k.host → (n : NameValue) (b : Bool) → is_wanted (holds v name) (is_full v) anew (is_known v name.source) (level v name) k.policy.owed v.now ≡ b
-      → Contains (so b).lines (Asks n) → Stands (so b).lines k.host n
-  by answers_held n false e c = absurd (Contains-none (Asks n) c)
+      → Contains (so b).lines (Calls (Ask n)) → Stands (so b).lines k.host n
+  by answers_held n false e c = absurd (Contains-none (Calls (Ask n)) c)
   by answers_held n true e c =
-      let parted : lines_wanted name anew (sees k.host) k.policy ≡ first ++ (usual ++ Asks name ∷ back) = ap (λ (ls : List Line). first ++ ls) parts in
-      subst (Stands (lines_wanted name anew (sees k.host) k.policy) k.host) (only n (subst (λ (ls : List Line). Contains ls (Asks n)) parted c)) (record {
+      let parted : lines_wanted name anew (sees k.host) k.policy ≡ first ++ (usual ++ Calls (Ask name) ∷ back) = ap (λ (ls : List Line). first ++ ls) parts in
+      subst (Stands (lines_wanted name anew (sees k.host) k.policy) k.host) (only n (subst (λ (ls : List Line). Contains ls (Calls (Ask n))) parted c)) (record {
         before = first ++ usual;
         later = back;
-        split = parted ∙ sym (append_assoc first usual (Asks name ∷ back));
-        stands = ap (λ (ls : List Line). asks_for name (after_lines ls k.host)) (append_assoc first usual (Asks name ∷ [])) ∙ asked answers_held e;
+        split = parted ∙ sym (append_assoc first usual (Calls (Ask name) ∷ back));
+        stands = ap (λ (ls : List Line). asks_for name (after_lines ls k.host)) (append_assoc first usual (Calls (Ask name) ∷ [])) ∙ asked answers_held e;
       })
 
 steps_stand : HoldsOfSteps AsksStand
@@ -163,15 +164,15 @@ steps_stand = record {
     asks_pages = λ k is. asks_nothing k _ _ refl (tt, tt);
     reports = λ page until told k is. asks_nothing k _ _ refl (tt, tt);
   };
-  ticks = λ now k later. asks_nothing k (Ticks now ∷ []) _ refl (tt, tt);
+  ticks = λ now k later. asks_nothing k (Calls (Tick now) ∷ []) _ refl (tt, tt);
   arrives = λ d k. asks_nothing k (Arrives d ∷ []) _ refl (tt, tt);
   answered = λ d k lacks asked. asks_nothing k (Arrives d ∷ []) _ refl (tt, tt);
-  hears = λ v k. asks_nothing k (Hears v ∷ []) _ refl (tt, tt);
-  stops = λ name k full. asks_nothing k (Stops name ∷ []) _ refl (tt, tt);
+  hears = λ v k. asks_nothing k (Calls (Hear v) ∷ []) _ refl (tt, tt);
+  stops = λ name k full. asks_nothing k (Calls (Stop name) ∷ []) _ refl (tt, tt);
   sets = λ source micros k. asks_nothing k _ _ refl (tt, tt);
   lends = λ source k. asks_nothing k _ _ refl (tt, tt);
   takes_back = λ source k. asks_nothing k _ _ refl (tt, tt);
-  tunes = λ constants k within. asks_nothing k (Tunes constants ∷ []) _ refl (tt, tt);
+  tunes = λ constants k within. asks_nothing k (Calls (Tune constants) ∷ []) _ refl (tt, tt);
   draws = λ d k. asks_nothing k _ _ refl (tt, tt);
   measured = λ micros k. asks_nothing k [] _ refl tt;
   told = λ k. asks_nothing k [] _ refl tt;
@@ -182,12 +183,12 @@ steps_stand = record {
 
 in_call : (n : NameValue) (line : KeptLine) (k : Keeping) → Stands (doing_of line (sees k.host) k.policy).lines k.host n → IsAskedInCall n (doing_of line) k
 in_call n line k s = by s.before s.split s.stands where
-  by : (before : List Line) → (doing_of line (sees k.host) k.policy).lines ≡ before ++ Asks n ∷ s.later
-      → asks_for n (after_lines (before ++ Asks n ∷ []) k.host) ≡ true → IsAskedInCall n (doing_of line) k
-  by [] split stands = record { first = Asks n; before = []; later = s.later; lines = split; stands = stands }
-  by (x ∷ before) split stands = record { first = x; before = before ++ Asks n ∷ []; later = s.later; lines = split ∙ ap (λ (ls : List Line). x ∷ ls) (sym (append_assoc before (Asks n ∷ []) s.later)); stands = stands }
+  by : (before : List Line) → (doing_of line (sees k.host) k.policy).lines ≡ before ++ Calls (Ask n) ∷ s.later
+      → asks_for n (after_lines (before ++ Calls (Ask n) ∷ []) k.host) ≡ true → IsAskedInCall n (doing_of line) k
+  by [] split stands = record { first = Calls (Ask n); before = []; later = s.later; lines = split; stands = stands }
+  by (x ∷ before) split stands = record { first = x; before = before ++ Calls (Ask n) ∷ []; later = s.later; lines = split ∙ ap (λ (ls : List Line). x ∷ ls) (sym (append_assoc before (Calls (Ask n) ∷ []) s.later)); stands = stands }
 
 -- what a call asks for has its timer behind that
 pub asks_stand : (line : KeptLine) (k : Keeping) (n : NameValue) → fault_of line k ≡ None → AnswersWhatIsHeld k.host
-    → Contains (doing_of line (sees k.host) k.policy).lines (Asks n) → IsAskedInCall n (doing_of line) k
+    → Contains (doing_of line (sees k.host) k.policy).lines (Calls (Ask n)) → IsAskedInCall n (doing_of line) k
 asks_stand line k n none answers_held c = in_call n line k ((line_holds AsksStand steps_stand line k none).stand answers_held n c)

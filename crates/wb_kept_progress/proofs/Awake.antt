@@ -4,7 +4,6 @@ use Rattle.std.proofs.Common.{◌≡◌, ℕ, ◌+◌, ◌<◌, ◌≤◌, Bool,
 use Rattle.std.specs.Prelude.{◌⊎◌, Contains}
 use Rattle.std.proofs.lemmas.Bool.Decides.{leb_tells}
 use Rattle.std.proofs.lemmas.Option.{same_Some}
-use Rattle.std.proofs.lemmas.List.Elements.{Contains-append_left}
 use Rattle.wb_names.specs.Values.{DrawopValue, NameValue}
 use Rattle.wb_codec.specs.declared.datagram.Datagram.TheVariants.{Draw}
 use Rattle.wb_gaps.specs.Gaps.{IsMissing}
@@ -12,11 +11,12 @@ use Rattle.wb_progress.specs.Turns.{Terms, settled_by}
 use Rattle.wb_keeper.specs.Keeper.{holds}
 use Rattle.wb_member.specs.Judged.{is_full}
 use Rattle.wb_member.specs.Opened.{asks_for, present}
+use Rattle.wb_member.specs.declared.calls.Call.TheVariants.{Tick}
 use Rattle.wb_policy.specs.Credit.{has_credit}
 use Rattle.wb_policy.specs.Fairness.{name_in_turn}
 use Rattle.wb_policy.specs.Policy.{Policy}
 use Rattle.wb_keeping.specs.Fairness.{AnswersWhatIsHeld}
-use Rattle.wb_keeping.specs.Kept.{Arrives, Asks, Line, Ticks, takes, timed}
+use Rattle.wb_keeping.specs.Kept.{Arrives, Calls, Line, takes, timed}
 use Rattle.wb_keeping.specs.Laws.{KeptLine, doing_of, fault_of}
 use Rattle.wb_keeping.specs.Performing.{Keeping, after_doing, sees}
 use Rattle.wb_keeping.proofs.EachStep.{having}
@@ -26,7 +26,7 @@ use Rattle.wb_kept_progress.specs.Sessions.{AreTaken, LineAt, Opening, at, kept_
 use Rattle.wb_kept_progress.specs.Timed.{TimedLine, called_at, lines_of}
 use Rattle.wb_kept_progress.specs.Whole.{AreCalledInOrder, HolesAreHeld, IsHeldBySome, IsTimelySession, there}
 use Rattle.wb_kept_progress.proofs.AskedInCalls.{HasAsk, IsMore, asks_as, more_differs}
-use Rattle.wb_kept_progress.proofs.AskedStays.{AsksOne, IsDrawing, IsOfNew, MayStay, StaysAsked, more_is_new, stays_asked, stood_or_asks}
+use Rattle.wb_kept_progress.proofs.AskedStays.{AsksOne, IsDrawing, IsOfNew, MayStay, StaysAsked, more_is_new, stays_asked, stood_or_calls}
 use Rattle.wb_kept_progress.proofs.Becoming.{lacked_before}
 use Rattle.wb_kept_progress.proofs.CallParts.{calls_order}
 use Rattle.wb_kept_progress.proofs.Causes.{goes}
@@ -163,9 +163,8 @@ module _ (hosts : ℕ → Opening) (terms : Terms) (trace : List TimedLine) (sin
       asked_in_turn a = ⊎_elim
           (λ (stood : asks_for names.0 k.host ≡ true).
           awake_at (stays.on may (record { name = names.0; is = some_before names.0 names.2; lacks = missing_is_lacked k.host.is.held names.0 names.2; asked = stood })))
-          (λ (h : HasAsk (a.first ∷ a.before)).
-          begins (h.0, subst (λ (ls : List Line). Contains ls (Asks h.0)) (sym a.lines) (Contains-append_left (a.first ∷ a.before) a.later (Asks h.0) h.1)))
-          (stood_or_asks names.0 (a.first ∷ a.before) k.host a.stands)
+          begins
+          (stood_or_calls names.0 e.at.line k a)
 
       turns : IsTurning (doing_of e.at.line) k now → TakesTurn k next now
       turns t =
@@ -228,7 +227,7 @@ module _ (hosts : ℕ → Opening) (terms : Terms) (trace : List TimedLine) (sin
       awake_m a = awake_then (subst AsksForMissing m_is a)
 
       abbrev ticked : Keeping
-      ticked = having (Ticks w.now) k
+      ticked = having (Calls (Tick w.now)) k
 
       -- before what is due
       abbrev before : Keeping

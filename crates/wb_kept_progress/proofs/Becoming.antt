@@ -8,17 +8,15 @@ use Rattle.wb_names.specs.History.{IsHistory}
 use Rattle.wb_names.specs.Values.{DrawopValue, NameValue}
 use Rattle.std.proofs.lemmas.List.Elements.{Contains-append_left, Contains-append_right}
 use Rattle.wb_names.proofs.Listings.{Contains-cases, Contains-here, Contains-none, Contains-there}
-use Rattle.wb_codec.specs.declared.datagram.Datagram.TheVariants.{Draw, Session, Request, AskPages, PageState}
+use Rattle.wb_codec.specs.declared.datagram.Datagram.TheVariants.{Draw}
 use Rattle.wb_keeper.proofs.KeptCalls.{holds_from}
 use Rattle.wb_progress.specs.InTime.{AreApart, known_from, repairing}
 use Rattle.wb_progress.specs.Turns.{Terms, settled_by}
 use Rattle.wb_progress.proofs.Giving.{held_as}
 use Rattle.wb_keeper.specs.Keeper.{holds as history_holds}
 use Rattle.wb_member.specs.Judged.{holds}
-use Rattle.wb_member.specs.Members.{Misses}
-use Rattle.wb_member.specs.Opened.{Opened, accepted, doing, has_room_for, heard, may_ask, present}
-use Rattle.wb_member.specs.Random.{word_of}
-use Rattle.wb_keeping.specs.Kept.{Line, Arrives, Asks, Hears, Says, SetsDistance, Stops, Ticks, Tunes}
+use Rattle.wb_member.specs.Opened.{Opened, accepted}
+use Rattle.wb_keeping.specs.Kept.{Line, Arrives, Says, Calls}
 use Rattle.wb_keeping.specs.Laws.{doing_of}
 use Rattle.wb_keeping.specs.Performing.{Keeping, after_doing, after_line, after_lines, sees}
 use Rattle.wb_kept_progress.specs.Sessions.{Opening, kept_at}
@@ -34,6 +32,7 @@ use Rattle.wb_kept_progress.proofs.Reached.{reached}
 use Rattle.wb_kept_progress.proofs.Repairs.{held_once}
 use Rattle.wb_kept_progress.proofs.WholeParts.{HeldWasHeld, StillnessEnds}
 use Rattle.wb_kept_progress.proofs.CallParts.{lacked_until}
+use Rattle.wb_kept_progress.proofs.Lines.{call_holds}
 
 -- ---- what is held is followed by what comes
 
@@ -57,24 +56,10 @@ accepts : (d : DrawopValue) (host : Opened) → Appends host.is.held (accepted d
 accepts d host = with_appends host.is.held d (outcome_of host.is.cells host.is.held d)
 
 line_appends : (line : Line) (host : Opened) → Appends host.is.held (after_line line host).is.held
-line_appends (Ticks now) host = nothing host.is.held
 line_appends (Arrives d) host = accepts d host
-line_appends (Hears v) host = by (has_room_for v host) where
-  by : (b : Bool) → Appends host.is.held (cond b (heard v host) host).is.held
-  by true = nothing host.is.held
-  by false = nothing host.is.held
-line_appends (Asks name) host = by (may_ask name host) where
-  by : (b : Bool) → Appends host.is.held (cond b (doing (Misses (present host) (name ∷ []) (word_of host.random ∷ [])) 1 host) host).is.held
-  by true = nothing host.is.held
-  by false = nothing host.is.held
-line_appends (Stops name) host = nothing host.is.held
-line_appends (SetsDistance source micros) host = nothing host.is.held
-line_appends (Tunes constants) host = nothing host.is.held
+line_appends (Calls call) host = record { more = []; is = call_holds call host ∙ sym (append-nil host.is.held) }
 line_appends (Says (Draw d)) host = accepts d host
-line_appends (Says (Session sender sent page marks echoes)) host = nothing host.is.held
-line_appends (Says (Request asker name)) host = nothing host.is.held
-line_appends (Says (AskPages asker)) host = nothing host.is.held
-line_appends (Says (PageState sender page marks)) host = nothing host.is.held
+line_appends (Says v) host = nothing host.is.held
 
 lines_append : (lines : List Line) (host : Opened) → Appends host.is.held (after_lines lines host).is.held
 lines_append [] host = nothing host.is.held

@@ -2,15 +2,19 @@
 use Rattle.std.proofs.Common.{◌≡◌, ◌⊎◌, ℕ, true, false, List, [], ◌∷◌, ◌++◌, ◌∙◌, ap, append_assoc, inl, inr, refl, subst, sym, ⊎_elim}
 use Rattle.std.specs.Prelude.{Contains, nat_eq}
 use Rattle.std.proofs.lemmas.List.Elements.{Contains-append_left, Contains-append_right}
+use Rattle.wb_names.proofs.Listings.{Contains-here}
 use Rattle.wb_codec.specs.declared.datagram.Datagram.{Datagram}
 use Rattle.wb_member.specs.Opened.{Opened}
-use Rattle.wb_keeping.specs.Kept.{Line}
+use Rattle.wb_member.specs.Lines.{IsOfPolicy}
+use Rattle.wb_member.specs.declared.calls.Call.{Call}
+use Rattle.wb_keeping.specs.Kept.{Calls, Line}
 use Rattle.wb_keeping.specs.Performing.{after_line, after_lines, sent_by_line, sent_by_lines}
 use Rattle.wb_keeping.proofs.Performed.{sent_by_both}
 use Rattle.wb_kept_progress.specs.Sessions.{Opening}
 use Rattle.wb_kept_progress.specs.Timed.{Performed, TimedLine, host_after, performed, performed_then, start_of}
 use Rattle.wb_kept_progress.specs.Whole.{there}
 use Rattle.wb_kept_progress.proofs.CallParts.{host_is}
+use Rattle.wb_kept_progress.proofs.FirstLines.{made_in_call}
 use Rattle.wb_kept_progress.proofs.KeptInTime.{at_place, front_of, then_both, then_front}
 use Rattle.wb_kept_progress.proofs.Performed.{after_all}
 use Rattle.wb_kept_progress.proofs.Repairs.{is_itself}
@@ -69,6 +73,16 @@ lines_have_calls hosts (e ∷ older) front x back same = ⊎_elim
     (among e.time e.at.place (does hosts e older) (performed hosts older) front x back same)
 
 -- ---- lines of a call
+
+-- a line stands in what its call does
+pub among_call : (hosts : ℕ → Opening) (trace : List TimedLine) (x : Performed) (back : List Performed) (c : IsOfCall hosts trace x back) → Contains (does hosts c.e c.older) x.line
+among_call hosts trace x back c = subst (λ (ls : List Line). Contains ls x.line) (sym c.lines) (Contains-append_right c.before (x.line ∷ c.later) x.line (Contains-here x.line c.later))
+
+-- a policy makes each call of a member
+pub made_by_policy : (hosts : ℕ → Opening) (trace : List TimedLine) (front back : List Performed) (x : Performed) (call : Call) → performed hosts trace ≡ front ++ x ∷ back → x.line ≡ Calls call → IsOfPolicy call
+made_by_policy hosts trace front back x call split is =
+    let c = lines_have_calls hosts trace front x back split in
+    made_in_call c.e.at.line (there hosts c.older c.e.at.place) call (subst (Contains (does hosts c.e c.older)) is (among_call hosts trace x back c))
 
 -- what one of some lines sends, they send
 pub sent_in : (lines before later : List Line) (line : Line) (host : Opened) (v : Datagram) → lines ≡ before ++ line ∷ later → Contains (sent_by_line line (after_lines before host)) v → Contains (sent_by_lines lines host) v

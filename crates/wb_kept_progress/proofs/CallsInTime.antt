@@ -11,8 +11,9 @@ use Rattle.wb_progress.specs.Bounds.{IsUnder}
 use Rattle.wb_progress.specs.Turns.{AreNotOverdue, IsNowAt, Terms, longest, settled_by}
 use Rattle.wb_member.specs.Judged.{holds, is_full}
 use Rattle.wb_member.specs.Opened.{Opened, events, opened_with}
-use Rattle.wb_policy.specs.declared.limits.TheConstants.{MOST_DISTANCE}
-use Rattle.wb_keeping.specs.Kept.{Line, Arrives, Hears, Says, Ticks, Tunes}
+use Rattle.wb_member.specs.declared.calls.Call.TheVariants.{Tick, Hear, Tune}
+use Rattle.wb_policy.specs.declared.limits.TheConstants.{MOST_DELAY}
+use Rattle.wb_keeping.specs.Kept.{Line, Arrives, Says, Calls}
 use Rattle.wb_keeping.specs.Laws.{KeptLine, doing_of}
 use Rattle.wb_keeping.specs.Performing.{Keeping, after_line, after_lines, sees, sent_by_line}
 use Rattle.wb_kept_progress.specs.Sessions.{Opening}
@@ -29,7 +30,7 @@ use Rattle.wb_kept_progress.proofs.Onward.{kept_goes_onward}
 use Rattle.wb_kept_progress.proofs.Performed.{kept_keeps_moments}
 use Rattle.wb_kept_progress.proofs.PerLine.{asks}
 use Rattle.wb_kept_progress.proofs.Repairs.{moved}
-use Rattle.wb_kept_progress.proofs.ShortDistances.{kept_go_by_short}
+use Rattle.wb_kept_progress.proofs.ShortDelays.{kept_go_by_short}
 use Rattle.wb_kept_progress.proofs.StopCauses.{room_before}
 use Rattle.wb_kept_progress.proofs.Timely.{held_later, none_held, of_start}
 use Rattle.wb_kept_progress.proofs.TimersAhead.{AreAhead, ahead_amid, ahead_in_time, due_in_time, tuned_alone}
@@ -90,14 +91,14 @@ module _ (hosts : ℕ → Opening) (terms : Terms) (trace : List TimedLine) (s :
 
     -- what is handed in by a later call comes by one of its lines
     comes : (newer : List Performed) → all ≡ newer ++ x ∷ back → (j : ℕ) (v : Datagram) (line : Line) (h : IsHandedIn c.newer j (c.e.time + terms.delivery) v)
-        → ((before : List Line) × (rest : List Line) × (does hosts h.call (h.between ++ c.e ∷ c.older) ≡ (Ticks h.now ∷ before) ++ line ∷ rest)) → ComesTo newer j (x.time + terms.delivery) line
+        → ((before : List Line) × (rest : List Line) × (does hosts h.call (h.between ++ c.e ∷ c.older) ≡ (Calls (Tick h.now) ∷ before) ++ line ∷ rest)) → ComesTo newer j (x.time + terms.delivery) line
     comes newer split j v line h begins =
         let calls : List TimedLine = h.between ++ c.e ∷ c.older in
         let handed : trace ≡ h.later ++ h.call ∷ calls = c.split ∙ ap (λ (t : List TimedLine). t ++ c.e ∷ c.older) h.split ∙ append_assoc h.later (h.call ∷ h.between) (c.e ∷ c.older) in
-        let base : List Performed = performed_then h.call.time h.call.at.place (Ticks h.now ∷ begins.0) (performed hosts calls) in
+        let base : List Performed = performed_then h.call.time h.call.at.place (Calls (Tick h.now) ∷ begins.0) (performed hosts calls) in
         let arrival : Performed = at_place h.call.time h.call.at.place line in
-        let a : Ends all (arrival ∷ base) = line_stands hosts trace h.later calls h.call (Ticks h.now ∷ begins.0) begins.1 line handed begins.2 in
-        let b : Ends base (x ∷ back) = ends_both base (performed hosts calls) (x ∷ back) (then_front h.call.time h.call.at.place (Ticks h.now ∷ begins.0) (performed hosts calls))
+        let a : Ends all (arrival ∷ base) = line_stands hosts trace h.later calls h.call (Calls (Tick h.now) ∷ begins.0) begins.1 line handed begins.2 in
+        let b : Ends base (x ∷ back) = ends_both base (performed hosts calls) (x ∷ back) (then_front h.call.time h.call.at.place (Calls (Tick h.now) ∷ begins.0) (performed hosts calls))
         (ends_both (performed hosts calls) (performed hosts (c.e ∷ c.older)) (x ∷ back) (front_of hosts h.between (c.e ∷ c.older)) (call_ends hosts trace x back c)) in
         let whole : all ≡ (a.0 ++ arrival ∷ b.0) ++ x ∷ back = a.1 ∙ ap (λ (t : List Performed). a.0 ++ arrival ∷ t) b.1 ∙ sym (append_assoc a.0 (arrival ∷ b.0) (x ∷ back)) in
         record {
@@ -169,12 +170,12 @@ module _ (hosts : ℕ → Opening) (terms : Terms) (trace : List TimedLine) (s :
         apart calls place here = false_from_ne_true (nat_eq asker (there hosts calls place).host.is.number) (λ same.
             other (s.distinct x.place j (sym own ∙ eqb-true asker (there hosts calls place).host.is.number same ∙ number_is hosts calls place ∙ ap (λ (i : ℕ). (hosts i).number) here)))
 
-        requests : holds (host_after starts back j) m ≡ true → ComesTo newer j (x.time + terms.delivery) (Hears (Request asker m))
+        requests : holds (host_after starts back j) m ≡ true → ComesTo newer j (x.time + terms.delivery) (Calls (Hear (Request asker m)))
         requests held = ⊎_elim
             (λ (h : IsHandedIn c.newer j (c.e.time + terms.delivery) (Request asker m)).
             let there_j = there hosts (h.between ++ c.e ∷ c.older) h.call.at.place in
             let begins = request_begins h.now asker m there_j (apart (h.between ++ c.e ∷ c.older) h.call.at.place h.place) in
-            comes newer split j (Request asker m) (Hears (Request asker m)) h (begins.0, begins.1, ap (λ (line : KeptLine). (doing_of line (sees there_j.host) there_j.policy).lines) h.is ∙ begins.2))
+            comes newer split j (Request asker m) (Calls (Hear (Request asker m))) h (begins.0, begins.1, ap (λ (line : KeptLine). (doing_of line (sees there_j.host) there_j.policy).lines) h.is ∙ begins.2))
             (λ (p : IsSpared hosts c.newer (c.e ∷ c.older) j (c.e.time + terms.delivery) (Request asker m)). absurd (true≢false (sym (held_then p.between j m held) ∙ p.spared)))
             (delivered (Request asker m) sent)
 
@@ -202,9 +203,9 @@ module _ (hosts : ℕ → Opening) (terms : Terms) (trace : List TimedLine) (s :
         let a = of_line (Arrives d) is in
         was_sent (Draw d) (s.fresh c.newer c.older c.e a.0.0 (Draw d) c.split (late_call (settled_by terms) late) a.0.1)
 
-    fresh_requests : (asker : ℕ) (m : NameValue) → settled_by terms < x.time → x.line ≡ Hears (Request asker m) → WasSent starts back x.time terms.delivery (Request asker m)
+    fresh_requests : (asker : ℕ) (m : NameValue) → settled_by terms < x.time → x.line ≡ Calls (Hear (Request asker m)) → WasSent starts back x.time terms.delivery (Request asker m)
     fresh_requests asker m late is =
-        let a = of_line (Hears (Request asker m)) is in
+        let a = of_line (Calls (Hear (Request asker m))) is in
         was_sent (Request asker m) (s.fresh c.newer c.older c.e a.0 (Request asker m) c.split (late_call (settled_by terms) late) a.1)
 
     -- ---- what is due
@@ -248,15 +249,15 @@ module _ (hosts : ℕ → Opening) (terms : Terms) (trace : List TimedLine) (s :
   -- ---- constants
 
   tuned : (newer older : List Performed) (i : ℕ) → all ≡ newer ++ older → Contains terms.live i → IsUnder (longest terms) (constants_of (host_after starts older i))
-  tuned newer [] i split live = ticks_keep (λ host. IsUnder (longest terms) (constants_of host)) (λ now host under. line_tuned (IsUnder (longest terms)) (Ticks now) host (other now) under) (hosts i).moments
+  tuned newer [] i split live = ticks_keep (λ host. IsUnder (longest terms) (constants_of host)) (λ now host under. line_tuned (IsUnder (longest terms)) (Calls (Tick now)) host (other now) under) (hosts i).moments
       (opened_with (hosts i).constants (hosts i).number (hosts i).cells (hosts i).seed) (s.waits i live) where
-        other : (now : ℕ) (constants : Tuning) → Ticks now ≡ Tunes constants → IsUnder (longest terms) constants
+        other : (now : ℕ) (constants : Tuning) → Calls (Tick now) ≡ Calls (Tune constants) → IsUnder (longest terms) constants
         other now constants same = absurd cc
   tuned newer (x ∷ older) i split live = by (nat_eq x.place i) refl (tuned (newer ++ x ∷ []) older i (split ∙ sym (append_assoc newer (x ∷ []) older)) live) where
-    tunes : x.place ≡ i → (constants : Tuning) → x.line ≡ Tunes constants → IsUnder (longest terms) constants
+    tunes : x.place ≡ i → (constants : Tuning) → x.line ≡ Calls (Tune constants) → IsUnder (longest terms) constants
     tunes here constants is =
         let c = lines_have_calls hosts trace newer x older split in
-        s.tuned c.newer c.older c.e constants c.split (subst (Contains terms.live) (sym here ∙ c.place) live) (of_line x older c (Tunes constants) is)
+        s.tuned c.newer c.older c.e constants c.split (subst (Contains terms.live) (sym here ∙ c.place) live) (of_line x older c (Calls (Tune constants)) is)
 
     by : (b : Bool) → nat_eq x.place i ≡ b → IsUnder (longest terms) (constants_of (host_after starts older i)) → IsUnder (longest terms) (constants_of (cond b (after_line x.line (host_after starts older i)) (host_after starts older i)))
     by true here rest = line_tuned (IsUnder (longest terms)) x.line (host_after starts older i) (tunes (eqb-true x.place i here)) rest
@@ -275,7 +276,7 @@ performed_is_timely hosts terms trace s = record {
   behind = (kept_keeps_moments hosts terms trace s.times).behind;
   soon = λ newer older e i m split live late. soon hosts terms trace s e older (of newer older e split) i m live late;
   delays = ⊎_elim
-      (λ (second : MOST_DISTANCE ≤ terms.far). kept_go_by_short hosts terms trace s.taken second)
+      (λ (second : MOST_DELAY ≤ terms.far). kept_go_by_short hosts terms trace s.taken second)
       (λ (short : GoByShort (λ j. start_of (hosts j)) terms (performed hosts trace)). short)
       s.delays;
   alone = λ newer older e split late. alone hosts terms trace s e older (of newer older e split) late;

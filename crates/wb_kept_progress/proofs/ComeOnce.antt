@@ -11,7 +11,7 @@ use Rattle.wb_progress.proofs.Giving.{held_as}
 use Rattle.wb_member.specs.Judged.{holds, is_full}
 use Rattle.wb_member.specs.Opened.{Opened}
 use Rattle.wb_keeping.specs.Bounds.{answer_count, is_answer}
-use Rattle.wb_keeping.specs.Kept.{Arrives, Asks, Hears, Line, Says, SetsDistance, Stops, Ticks, Tunes}
+use Rattle.wb_keeping.specs.Kept.{Arrives, Line}
 use Rattle.wb_keeping.specs.Performing.{after_line, after_lines, view_of}
 use Rattle.wb_keeping.specs.Views as views
 use Rattle.wb_kept_progress.proofs.Lines.{line_grows, lines_grow}
@@ -33,13 +33,7 @@ lacked_first line host n lacks = by (holds host n) refl where
 
 answered : (line : Line) (host : Opened) → is_answer line host ≡ true → (d : DrawopValue) × (line ≡ Arrives d) × (holds host d.name ≡ false)
 answered (Arrives d) host e = (d, refl, not-true (views.holds (view_of host) d.name) (and_parts (not (views.holds (view_of host) d.name)) (views.is_asked (view_of host) d.name) e).0)
-answered (Ticks now) host e = absurd (true≢false (sym e))
-answered (Hears v) host e = absurd (true≢false (sym e))
-answered (Asks name) host e = absurd (true≢false (sym e))
-answered (Stops name) host e = absurd (true≢false (sym e))
-answered (SetsDistance source micros) host e = absurd (true≢false (sym e))
-answered (Tunes constants) host e = absurd (true≢false (sym e))
-answered (Says v) host e = absurd (true≢false (sym e))
+answered line host e = absurd (true≢false (sym e))
 
 -- as many names, of which none was held before, and each is afterwards
 pub record HaveCome (lines : List Line) (host : Opened) : Type 0 where

@@ -27,10 +27,11 @@ use Rattle.wb_progress.specs.Turns.{Terms, settled_by}
 use Rattle.wb_progress.proofs.NamesApart.{no_longer}
 use Rattle.wb_member.specs.Judged.{echoes}
 use Rattle.wb_member.specs.Opened.{Opened, opened_with, present}
+use Rattle.wb_member.specs.declared.calls.Call.TheVariants as calls
 use Rattle.wb_policy.specs.Reports.{members_in}
 use Rattle.wb_policy.specs.Turns.{nowhere}
 use Rattle.wb_policy.specs.declared.limits.TheConstants.{HEARD}
-use Rattle.wb_keeping.specs.Kept.{Hears, Ticks}
+use Rattle.wb_keeping.specs.Kept.{Calls}
 use Rattle.wb_keeping.specs.Performing.{after_line, after_lines}
 use Rattle.wb_kept_progress.specs.Sessions.{AreTaken, Opening}
 use Rattle.wb_kept_progress.specs.Timed.{Performed, Start, TellTimes, TimedLine, host_after, lines_of, performed, start_of}
@@ -87,7 +88,7 @@ record WasHeardIn (hosts : ℕ → Start) (back : List Performed) (i source : �
   page : PageId
   marks : List MarkValue
   told : List Echo
-  line : x.line ≡ Hears (Session source h.sent page marks told)
+  line : x.line ≡ Calls (calls.Hear (Session source h.sent page marks told))
   moment : h.at ≡ present (host_after hosts older i)
   other : nat_eq source (hosts i).number ≡ false
 
@@ -101,7 +102,7 @@ module _ (hosts : ℕ → Start) (i source : ℕ) (h : Heard) where
 
   heard_now : (back : List Performed) (e : Performed) (call : KeeperCall) → e.place ≡ i → IsMade (host_after hosts back i) e.line call → IsIts call → WasHeardIn hosts (e ∷ back) i source h
   heard_now back e (Hear now v word held) here made is = by v made.0 (is_own me v) refl is where
-    by : (v : Datagram) → e.line ≡ Hears v → (own : Bool) → is_own me v ≡ own → cond own None (session_in now v) ≡ Some (source, h) → WasHeardIn hosts (e ∷ back) i source h
+    by : (v : Datagram) → e.line ≡ Calls (calls.Hear v) → (own : Bool) → is_own me v ≡ own → cond own None (session_in now v) ≡ Some (source, h) → WasHeardIn hosts (e ∷ back) i source h
     by v line true own is = absurd (none-some (source, h) is)
     by (Draw d) line false apart is = absurd (none-some (source, h) is)
     by (Session sender sent page marks told) line false apart is = record {
@@ -117,7 +118,7 @@ module _ (hosts : ℕ → Start) (i source : ℕ) (h : Heard) where
       moment = at (sender, record { sent = sent; at = now }) is ∙ made.1;
       other = ap (λ (n : ℕ). nat_eq n me) (who (sender, record { sent = sent; at = now }) is) ∙ apart;
     } where
-      same : (s : ℕ × Heard) → Some s ≡ Some (source, h) → Hears (Session s.0 s.1.sent page marks told) ≡ Hears (Session source h.sent page marks told)
+      same : (s : ℕ × Heard) → Some s ≡ Some (source, h) → Calls (calls.Hear (Session s.0 s.1.sent page marks told)) ≡ Calls (calls.Hear (Session source h.sent page marks told))
       same s e = cc
 
       who : (s : ℕ × Heard) → Some s ≡ Some (source, h) → source ≡ s.0
@@ -157,7 +158,7 @@ module _ (hosts : ℕ → Start) (i source : ℕ) (h : Heard) where
 
   heard_in : (back : List Performed) (call : KeeperCall) → Contains (host_after hosts back i).is.calls call → IsIts call → WasHeardIn hosts back i source h
   heard_in [] call c is = absurd (ticks_keep (HeardNobody) silent (hosts i).moments (opened_with (hosts i).constants (hosts i).number (hosts i).cells (hosts i).seed) (λ call c is. Contains-none call c) call c is) where
-    silent : (now : ℕ) (host : Opened) → HeardNobody host → HeardNobody (after_line (Ticks now) host)
+    silent : (now : ℕ) (host : Opened) → HeardNobody host → HeardNobody (after_line (Calls (calls.Tick now)) host)
     silent now host none call c is = ⊎_elim
         (λ (t : GoOn now _ _ ≡ call). none-some (source, h) (ap (session_heard me) t ∙ is))
         (λ (d : Contains host.is.calls call). none call d is)
@@ -210,7 +211,7 @@ module _ (hosts : ℕ → Opening) (terms : Terms) (trace newer older : List Tim
       let c : IsOfCall hosts older w.x w.older = lines_have_calls hosts older w.front w.x w.older w.split in
       let k = there hosts c.older c.e.at.place in
       let host_before = after_lines c.before k.host in
-      let line : IsLineOf c.e.at.line k.host host_before (Hears (Session source h.sent w.page w.marks w.told)) =
+      let line : IsLineOf c.e.at.line k.host host_before (Calls (calls.Hear (Session source h.sent w.page w.marks w.told))) =
       subst (IsLineOf c.e.at.line k.host host_before) w.line (one_of_lines c.e.at.line k.host k.host c.before c.later w.x.line (subst (AreLinesOf c.e.at.line k.host k.host) c.lines (lines_of_call c.e.at.line k))) in
       let whole : trace ≡ (newer ++ c.newer) ++ c.e ∷ c.older = split ∙ ap (λ (t : List TimedLine). newer ++ t) c.split ∙ sym (append_assoc newer c.newer (c.e ∷ c.older)) in
       let at = (kept_keeps_moments hosts terms older (tells_of terms newer older (subst (TellTimes terms) split s.times))).behind w.front w.older w.x _ w.split (subst (Contains terms.live) (sym w.place) live) w.line in

@@ -12,9 +12,10 @@ use Rattle.wb_gaps.specs.Answers.{pages_of, report_of}
 use Rattle.wb_gaps.specs.Holes.{hole_after}
 use Rattle.wb_gaps.specs.declared.holes.Hole.{Hole}
 use Rattle.wb_member.specs.Opened.{present}
+use Rattle.wb_member.specs.declared.calls.Call.TheVariants.{Tick, Ask}
 use Rattle.wb_policy.specs.Credit.{spent}
 use Rattle.wb_policy.specs.Fairness.{in_round, name_in_turn}
-use Rattle.wb_keeping.specs.Kept.{Asks, Doing, Line, Says, Ticks, Transition, and_then, answers, asks_pages, came, hears, performs, reports, reports_due, reports_rest, state_of, still, ticks, timed, turn, turn_by_clock, turn_to, turns_due, want}
+use Rattle.wb_keeping.specs.Kept.{Calls, Doing, Line, Says, Transition, and_then, answers, asks_pages, came, hears, performs, reports, reports_due, reports_rest, state_of, still, ticks, timed, turn, turn_by_clock, turn_to, turns_due, want}
 use Rattle.wb_keeping.specs.Performing.{Keeping, after_doing, sees, view_of}
 use Rattle.wb_policy.specs.Policy.{Policy, after_answer, after_beat, after_question, after_turn, after_wanting, in_next_round}
 use Rattle.wb_keeping.specs.Views.{View, holds, is_full, level, is_known}
@@ -210,16 +211,16 @@ timed_taken k =
 pub record IsCourse (P : NameValue → Type 0) (k : Keeping) (now : ℕ) (lines : List Line) (m : Keeping) : Type 0 where
   pub held : m.host.is.held ≡ k.host.is.held
   pub asks : AskFor (λ n. P n ⊎ HasTurn k now n) lines
-  pub owed : ((n : NameValue) × Contains lines (Asks n) × P n) ⊎ ((m.policy.owed ≡ k.policy.owed) ⊎ ((k.policy.pace.due ≤ now) × (m.policy.owed ≡ spent k.policy.owed now)))
+  pub owed : ((n : NameValue) × Contains lines (Calls (Ask n)) × P n) ⊎ ((m.policy.owed ≡ k.policy.owed) ⊎ ((k.policy.pace.due ≤ now) × (m.policy.owed ≡ spent k.policy.owed now)))
 
 module _ (P : NameValue → Type 0) (k : Keeping) (now : ℕ) where
   abbrev m : Keeping
-  m = having (Ticks now) k
+  m = having (Calls (Tick now)) k
 
   abbrev Q : NameValue → Type 0
   Q n = P n ⊎ HasTurn k now n
 
-  course_behind : (x : Keeping) (lines : List Line) → AsksFor P m lines x → IsCourse P k now (Ticks now ∷ (lines ++ lines_by timed x)) (after_doing timed x)
+  course_behind : (x : Keeping) (lines : List Line) → AsksFor P m lines x → IsCourse P k now (Calls (Tick now) ∷ (lines ++ lines_by timed x)) (after_doing timed x)
   course_behind x lines a =
       let s = a.stays in
       let t = timed_taken x in
@@ -232,7 +233,7 @@ module _ (P : NameValue → Type 0) (k : Keeping) (now : ℕ) where
         );
         owed = ⊎_elim
             (λ (h : HasAsk lines).
-            inl (h.0, Contains-there (Ticks now) (Asks h.0) (lines ++ lines_by timed x) (Contains-append_left lines (lines_by timed x) (Asks h.0) h.1), asked_is P lines h.0 a.asks h.1))
+            inl (h.0, Contains-there (Calls (Tick now)) (Calls (Ask h.0)) (lines ++ lines_by timed x) (Contains-append_left lines (lines_by timed x) (Calls (Ask h.0)) h.1), asked_is P lines h.0 a.asks h.1))
             (λ (e : x.policy.owed ≡ k.policy.owed). ⊎_elim
             (λ (f : (after_doing timed x).policy.owed ≡ x.policy.owed). inr (inl (f ∙ e)))
             (λ (f : (x.policy.pace.due ≤ present x.host) × ((after_doing timed x).policy.owed ≡ spent x.policy.owed (present x.host))).
@@ -249,7 +250,7 @@ module _ (P : NameValue → Type 0) (k : Keeping) (now : ℕ) where
   -- a tick
   pub ticked_course : IsCourse P k now (lines_by (ticks now) k) (after_doing (ticks now) k)
   ticked_course =
-      subst (λ (n : Keeping). IsCourse P k now (lines_by (ticks now) k) n) (sym (then_after (performs (Ticks now)) timed k))
+      subst (λ (n : Keeping). IsCourse P k now (lines_by (ticks now) k) n) (sym (then_after (performs (Calls (Tick now))) timed k))
       (course_behind m [] (record { stays = as_it_was m; asks = tt; owed = inr refl }))
 
   -- a datagram: what is held grows, or it is such a course
@@ -264,6 +265,6 @@ module _ (P : NameValue → Type 0) (k : Keeping) (now : ℕ) where
       inl (subst (λ (n : Keeping). IsMore k n) behind (omega (arith, more, le))))
       (λ (a : AsksFor P m (lines_by (hears v) m) x).
       inr (subst (λ (n : Keeping). IsCourse P k now (lines_by (came now v) k) n) behind
-      (subst (λ (lines : List Line). IsCourse P k now (Ticks now ∷ lines) (after_doing timed x)) (sym (then_lines (hears v) timed m))
+      (subst (λ (lines : List Line). IsCourse P k now (Calls (Tick now) ∷ lines) (after_doing timed x)) (sym (then_lines (hears v) timed m))
       (course_behind x (lines_by (hears v) m) a))))
       (hears_asks P v m told)

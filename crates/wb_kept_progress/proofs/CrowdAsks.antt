@@ -1,16 +1,15 @@
 -- The 64 names of a crowd are asked for in the calls of a window, if it begins a request before the crowd and goes on to it.
 use Rattle.std.proofs.Common.{◌≡◌, ℕ, ◌+◌, ◌<◌, ◌≤◌, List, [], ◌∷◌, ◌++◌, ◌∙◌, ap, append_assoc, arith, subst, sym}
 use Rattle.std.specs.Prelude.{Contains}
-use Rattle.std.proofs.lemmas.List.Elements.{Contains-append_right}
 use Rattle.wb_names.specs.Values.{NameValue}
-use Rattle.wb_names.proofs.Listings.{Contains-here}
 use Rattle.wb_progress.specs.Turns.{Terms}
+use Rattle.wb_member.specs.declared.calls.Call.TheVariants.{Ask}
 use Rattle.wb_keeping.specs.Bounds.{ask_count}
-use Rattle.wb_keeping.specs.Kept.{Asks, Line}
+use Rattle.wb_keeping.specs.Kept.{Calls}
 use Rattle.wb_kept_progress.specs.Sessions.{Opening}
 use Rattle.wb_kept_progress.specs.Timed.{TimedLine, called_at}
 use Rattle.wb_kept_progress.specs.Whole.{AreCalledInOrder, request_span}
-use Rattle.wb_kept_progress.proofs.CallLines.{lines_have_calls}
+use Rattle.wb_kept_progress.proofs.CallLines.{among_call, lines_have_calls}
 use Rattle.wb_kept_progress.proofs.CallParts.{calls_order}
 use Rattle.wb_kept_progress.proofs.Crowds.{IsAskedFor, IsCrowd}
 use Rattle.wb_kept_progress.proofs.Handed.{asks_at_least, performs_in, stands_in}
@@ -25,7 +24,7 @@ before_newest (z ∷ front) e y part rest same lt = (front, tails e z part (fron
 
 module _ (hosts : ℕ → Opening) (terms : Terms) (trace newer window base : List TimedLine) (e : TimedLine) (i time : ℕ) (order : AreCalledInOrder trace) (split : trace ≡ newer ++ e ∷ (window ++ base)) (begins : called_at base + request_span terms < time)
     (quiet : terms.quiet + request_span terms < time) (ends : time < e.time) where
-  asked_in : (m : NameValue) → IsAskedFor hosts terms trace i time m → Contains (performs_in hosts i window base) (Asks m)
+  asked_in : (m : NameValue) → IsAskedFor hosts terms trace i time m → Contains (performs_in hosts i window base) (Calls (Ask m))
   asked_in m x = of_call (lines_have_calls hosts trace x.newer x.y x.older x.split) where
     after : called_at base < x.y.time
     after = let s = x.since in omega (arith, s, begins, quiet)
@@ -33,18 +32,16 @@ module _ (hosts : ℕ → Opening) (terms : Terms) (trace newer window base : Li
     before : x.y.time < e.time
     before = let le = x.before in omega (arith, le, ends)
 
-    of_call : IsOfCall hosts trace x.y x.older → Contains (performs_in hosts i window base) (Asks m)
+    of_call : IsOfCall hosts trace x.y x.older → Contains (performs_in hosts i window base) (Calls (Ask m))
     of_call d =
         let is = d.time in
         let w = calls_past newer (e ∷ (window ++ base)) d.newer (d.e ∷ d.older) (sym split ∙ d.split) (subst AreCalledInOrder split order) (omega (arith, is, before)) in
         let y = before_newest w.0 e d.e (window ++ base) d.older w.1 (omega (arith, is, before)) in
         let upto : trace ≡ (newer ++ e ∷ []) ++ (window ++ base) = split ∙ sym (append_assoc newer (e ∷ []) (window ++ base)) in
         let v = in_window window base y.0 d.older d.e y.1 (calls_order (newer ++ e ∷ []) (window ++ base) (subst AreCalledInOrder upto order)) (let t = after in omega (arith, t, is)) in
-        let asks : Contains (does hosts d.e d.older) (Asks m) =
-        subst (λ (ls : List Line). Contains ls (Asks m)) (sym d.lines)
-        (subst (λ (line : Line). Contains (d.before ++ line ∷ d.later) (Asks m)) (sym x.line) (Contains-append_right d.before (Asks m ∷ d.later) (Asks m) (Contains-here (Asks m) d.later))) in
-        subst (λ (l : List TimedLine). Contains (performs_in hosts i l base) (Asks m)) (sym v.window_is)
-        (stands_in hosts i y.0 v.part base d.e (Asks m) (sym d.place ∙ x.place) (subst (λ (l : List TimedLine). Contains (does hosts d.e l) (Asks m)) v.older_is asks))
+        let asks = subst (Contains (does hosts d.e d.older)) x.line (among_call hosts trace x.y x.older d) in
+        subst (λ (l : List TimedLine). Contains (performs_in hosts i l base) (Calls (Ask m))) (sym v.window_is)
+        (stands_in hosts i y.0 v.part base d.e (Calls (Ask m)) (sym d.place ∙ x.place) (subst (λ (l : List TimedLine). Contains (does hosts d.e l) (Calls (Ask m))) v.older_is asks))
 
   pub crowd_asks : IsCrowd hosts terms trace i time → 64 ≤ ask_count (performs_in hosts i window base)
   crowd_asks x =

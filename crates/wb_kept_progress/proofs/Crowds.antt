@@ -13,7 +13,8 @@ use Rattle.wb_progress.specs.InTime.{AreApart}
 use Rattle.wb_progress.specs.Turns.{Terms}
 use Rattle.wb_progress.proofs.NamesApart.{less_greater}
 use Rattle.wb_member.specs.Judged.{level}
-use Rattle.wb_keeping.specs.Kept.{Asks, Stops}
+use Rattle.wb_member.specs.declared.calls.Call.TheVariants.{Ask, Stop}
+use Rattle.wb_keeping.specs.Kept.{Calls}
 use Rattle.wb_keeping.specs.Performing.{view_of}
 use Rattle.wb_policy.specs.Wanting.{oldest}
 use Rattle.wb_policy.specs.declared.wanting.AskedName.{AskedName}
@@ -38,7 +39,7 @@ pub record IsAskedFor (hosts : ℕ → Opening) (terms : Terms) (trace : List Ti
   pub older : List Performed
   pub split : performed hosts trace ≡ newer ++ y ∷ older
   pub place : y.place ≡ i
-  pub line : y.line ≡ Asks m
+  pub line : y.line ≡ Calls (Ask m)
   pub since : time ≤ max y.time terms.quiet + request_span terms
   pub before : y.time ≤ time
 
@@ -64,7 +65,7 @@ module _ (hosts : ℕ → Opening) (terms : Terms) (trace : List TimedLine) (i :
   asked_lately : (m : NameValue) → level (host_then hosts back i) m ≡ Some 0 → IsAskedFor hosts terms trace i x.time m
   asked_lately m new =
       let t = new_timer (timer_then hosts back i m) new in
-      let w : WasAsked starts terms (performed hosts trace) timely back i m t.0 = was_asked starts terms (performed hosts trace) timely (front ++ x ∷ []) back i m t.0 before_it live t.1 t.2 in
+      let w : WasAsked hosts terms trace timely back i m t.0 = was_asked hosts terms trace timely (front ++ x ∷ []) back i m t.0 before_it live t.1 t.2 in
       let soon : x.time ≤ t.0.due + (terms.lag i + terms.late) = subst (λ (o : Option AskTimer). IfSome o (λ (a : AskTimer). x.time ≤ a.due + (terms.lag i + terms.late))) t.1 (timely.soon front back x i m split live late).ask in
       let due = w.due in
       let first = in_order.0 in
@@ -80,7 +81,7 @@ module _ (hosts : ℕ → Opening) (terms : Terms) (trace : List TimedLine) (i :
         before = omega (arith, by, first);
       }
 
-  module _ (n : NameValue) (ask : AskTimer) (place : x.place ≡ i) (line : x.line ≡ Stops n) (stands : timer_then hosts back i n ≡ Some ask) (new : ask.level ≡ 0) where
+  module _ (n : NameValue) (ask : AskTimer) (place : x.place ≡ i) (line : x.line ≡ Calls (Stop n)) (stands : timer_then hosts back i n ≡ Some ask) (new : ask.level ≡ 0) where
     abbrev Stopped : ℕ → Type 0
     Stopped p = ((a : AskTimer) × (timer_then hosts back p n ≡ Some a) × (4 ≤ a.level))
         ⊎ ((64 ≤ length (view_of (host_then hosts back p)).asked) × (a : AskedName) × (oldest (view_of (host_then hosts back p)).asked ≡ Some a) × (a.name ≡ n))

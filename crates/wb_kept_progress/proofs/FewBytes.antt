@@ -13,10 +13,11 @@ use Rattle.wb_codec.specs.declared.datagram.Datagram.TheVariants.{AskPages, Draw
 use Rattle.wb_codec.proofs.Lawful.{text_fits}
 use Rattle.wb_gaps.specs.Answers.{pages_of, report_of}
 use Rattle.wb_member.specs.Opened.{present}
+use Rattle.wb_member.specs.declared.calls.Call.TheVariants.{Tick}
 use Rattle.wb_policy.specs.Policy.{after_wanting}
 use Rattle.wb_policy.proofs.Latest.{reports_are_small, slices_are_short}
 use Rattle.wb_keeping.specs.Bounds.{is_request}
-use Rattle.wb_keeping.specs.Kept.{Line, Says, Ticks, drawing, ends_full, hears, still, timed, want}
+use Rattle.wb_keeping.specs.Kept.{Calls, Line, Says, drawing, ends_full, hears, still, timed, want}
 use Rattle.wb_keeping.specs.Laws.{Added, AreTaken, Came, KeptLine, Ticked, Tuned, after_kept, doing_of, expand, fault_of, sent_by_kept}
 use Rattle.wb_keeping.specs.Performing.{Keeping, after_doing, after_line, sees, view_of}
 use Rattle.wb_keeping.specs.declared.kept_fault.KeptFault.{KeptFault}
@@ -185,11 +186,11 @@ came_short now v short d is = subst (λ (v : Datagram). IsShortDrawop v) is (by 
 
 call_short : (line : KeptLine) (k : Keeping) → fault_of line k ≡ None → BringsShortText line → Each TellsShortDrawop (doing_of line (sees k.host) k.policy).lines
 call_short (Came now v) k none short =
-    let host = after_line (Ticks now) k.host in
+    let host = after_line (Calls (Tick now)) k.host in
     (tt, then_each TellsShortDrawop (hears v) timed (hears_each TellsShortDrawop of_policy (λ v. tt) v (came_short now v short)) (timed_each TellsShortDrawop of_policy) (sees host) k.policy)
-call_short (Ticked now) k none short = (tt, timed_each TellsShortDrawop of_policy (sees (after_line (Ticks now) k.host)) k.policy)
+call_short (Ticked now) k none short = (tt, timed_each TellsShortDrawop of_policy (sees (after_line (Calls (Tick now)) k.host)) k.policy)
 call_short (Added now page time op) k none short =
-    let host = after_line (Ticks now) k.host in
+    let host = after_line (Calls (Tick now)) k.host in
     let drawn = after_line (Says (Draw (drawing (view_of host) page time op))) host in
     let fits = text_fits (drawing (view_of k.host) page time op).name op (none_left _ _ _ (op_fault (drawing (view_of k.host) page time op).name op) none) in
     (tt, (fits, then_each TellsShortDrawop ends_full timed (ends_each TellsShortDrawop of_policy) (timed_each TellsShortDrawop of_policy) (sees drawn) k.policy))

@@ -1,6 +1,6 @@
 -- A self-managing host sends a drawop only as its user draws, or once for a request for what it holds.
 use Rattle.std.proofs.Common.{◌≡◌, ℕ, ◌+◌, ◌*◌, ◌≤◌, Bool, true, false, cond, List, [], ◌∷◌, ◌++◌, ◌∙◌, Option, Some, None, ap, arith, length, map, refl, subst, sym, true≢false}
-use Rattle.std.specs.Prelude.{Contains, filter, is_none, is_some, nat_eq, nat_le}
+use Rattle.std.specs.Prelude.{Contains, filter, is_some, nat_eq, nat_le}
 use Rattle.std.specs.List.{cons_option, filter_map}
 use Rattle.std.specs.Option.{option_map}
 use Rattle.std.proofs.lemmas.List.Elements.{filter_map-append}
@@ -15,9 +15,12 @@ use Rattle.wb_codec.specs.declared.datagram.Datagram.{Datagram}
 use Rattle.wb_codec.specs.declared.datagram.Datagram.TheVariants.{AskPages, Draw, PageState, Request, Session}
 use Rattle.wb_gaps.specs.Answers.{reports_of}
 use Rattle.wb_gaps.specs.declared.page_reports.PageReport.{PageReport}
-use Rattle.wb_recovery.specs.Events.{Asked, Event, due_answers, due_asks, names_of as timed_names, timers_of}
+use Rattle.wb_recovery.specs.Events.{Asked, Event, Notice, due_answers, due_asks, names_of as timed_names, timers_of}
+use Rattle.wb_recovery.specs.Laws.{ends_answer, sets_answer, since}
+use Rattle.wb_recovery.specs.Noticing.{notices}
 use Rattle.wb_recovery.specs.Stopping.{got_each, receipts}
-use Rattle.wb_recovery.specs.Timing.{asked, fired_answer, got, is_answer_due, is_standing, noticed}
+use Rattle.wb_recovery.specs.Timing.{asked, fired_answer, got, is_answer_due, is_standing}
+use Rattle.wb_recovery.specs.declared.missed.Missed.{Missed}
 use Rattle.wb_recovery.specs.declared.missed.Received.{Received}
 use Rattle.wb_recovery.specs.declared.plan.Action.TheVariants.{Answer, Ask}
 use Rattle.wb_recovery.specs.declared.timers.AnswerTimer.{AnswerTimer}
@@ -25,18 +28,20 @@ use Rattle.wb_recovery.specs.declared.timers.Timers.{Timers}
 use Rattle.wb_recovery.specs.declared.tuning.Tuning.{Tuning}
 use Rattle.wb_recovery.proofs.NameLists.{listed_of, names_rise}
 use Rattle.wb_recovery.proofs.StoppedNames.{timers_receipts}
+use Rattle.wb_recovery.proofs.TimerLaws.{answer_stands}
 use Rattle.wb_keeper.specs.Hearing.{answers_to, asks_for_held, asks_for_pages, page_states}
-use Rattle.wb_keeper.specs.Keeper.{asked_by, delay_to, given_up, holds as history_holds, received_of}
+use Rattle.wb_keeper.specs.Keeper.{asked_by, delay_to, given_up, holds as history_holds, missed_of, received_of}
 use Rattle.wb_keeper.specs.Ticks.{drawop_of, sent_for, stopped_after}
 use Rattle.wb_progress.specs.InTime.{AreApart}
 use Rattle.wb_progress.specs.Keepers.{constants_at}
 use Rattle.wb_progress.proofs.NamesApart.{apart_of, no_longer}
 use Rattle.wb_member.specs.Members.{Misses}
-use Rattle.wb_member.specs.Opened.{Opened, accepted, asks_for, becomes, doing, events, has_room_for, heard, may_ask, opened_with, present, word_at}
-use Rattle.wb_member.specs.Random.{word_of}
-use Rattle.wb_recovery.specs.declared.limits.TheConstants.{UNKNOWN_DISTANCE}
+use Rattle.wb_member.specs.Opened.{Opened, accepted, asks_for, becomes, doing, events, has_room_for, heard, may_ask, opened_with, present, wanted_of, word_at}
+use Rattle.wb_member.specs.Random.{word_of, words_of}
+use Rattle.wb_member.specs.declared.calls.Call.TheVariants as calls
+use Rattle.wb_recovery.specs.declared.limits.TheConstants.{UNKNOWN_DELAY}
 use Rattle.wb_keeping.specs.Bounds.{new_keeping}
-use Rattle.wb_keeping.specs.Kept.{Arrives, Asks, Doing, Hears, Line, Says, SetsDistance, Stops, Ticks, Tunes, and_then, drawing, ends_full, hears, hears_request, still, timed}
+use Rattle.wb_keeping.specs.Kept.{Arrives, Calls, Doing, Line, Says, and_then, drawing, ends_full, hears, hears_request, still, timed}
 use Rattle.wb_keeping.specs.Laws.{Added, Came, KeptLine, Ticked, Tuned, doing_of, expand}
 use Rattle.wb_keeping.specs.Performing.{Keeping, after_doing, after_line, after_lines, said_where, sees, sent_by_line, sent_by_lines, view_of}
 use Rattle.wb_keeping.specs.Views.{holds}
@@ -75,14 +80,9 @@ wanted_by (PageState sender page marks) held = None
 
 -- a line that a host performs calls for a drawop
 abbrev cause : Line × Opened → Option NameValue
-cause (Ticks now, host) = None
-cause (Arrives d, host) = None
-cause (Hears v, host) = wanted_by v host.is.held
-cause (Asks name, host) = None
-cause (Stops name, host) = None
-cause (SetsDistance source micros, host) = None
-cause (Tunes constants, host) = None
+cause (Calls (calls.Hear v), host) = wanted_by v host.is.held
 cause (Says v, host) = drawn v
+cause (line, host) = None
 
 -- each line with the host that performs it
 abbrev steps : List Line → Opened → List (Line × Opened)
@@ -258,57 +258,50 @@ module _ (n : NameValue) where
   arrival_fewer : (d : DrawopValue) (host : Opened) → stands (answer_at (accepted d host)) ≤ stands (answer_at host)
   arrival_fewer d host = come_fewer host.is.constants (present host) (events host) (received_of (delay_to host.is.number host.is.calls) (filter (history_holds (accepted d host).is.held) (d.name ∷ [])))
 
+  -- what is missed sets no answer timer
+  missed_same : (t : Tuning) (now : ℕ) (missed : List Missed) (events : List Event) → since (sets_answer t n) (ends_answer t n) (notices now events missed) ≡ since (sets_answer t n) (ends_answer t n) events
+  missed_same t now [] events = refl
+  missed_same t now (m ∷ missed) events = missed_same t now missed (Notice m.name now m.delay m.word ∷ events)
+
+  misses_same : (names : List NameValue) (words : List ℕ) (used : ℕ) (host : Opened) → stands (answer_at (doing (Misses (present host) names words) used host)) ≡ stands (answer_at host)
+  misses_same names words used host =
+      let t = host.is.constants in
+      let missed = missed_of (delay_to host.is.number host.is.calls) names words in
+      ap one_if (answer_stands t (notices (present host) (events host) missed) n ∙ missed_same t (present host) missed (events host) ∙ sym (answer_stands t (events host) n))
+
   -- What a line sends of drawops of the name, and its answer timer then: one as before, or a cause.
   abbrev IsCaused : Line → Opened → Type 0
   IsCaused line host = count drawn n (sent_by_line line host) + stands (answer_at (after_line line host)) ≤ stands (answer_at host) + one_if (is_for n (cause (line, host)))
 
   line_draws : (line : Line) (host : Opened) → IsCaused line host
-  line_draws (Ticks now) host =
+  line_draws (Calls (calls.Tick now)) host =
       let received = received_of (delay_to host.is.number host.is.calls) (stopped_after host.is.number host.is.constants host.is.calls host.is.held) in
       let fires = tick_draws host.is.number host.is.held host.is.constants now (receipts now (events host) received) in
       let come = come_fewer host.is.constants now (events host) received in
       omega (arith, fires, come)
   line_draws (Arrives d) host = let le = arrival_fewer d host in omega (arith, le)
-  line_draws (Hears v) host = by (has_room_for v host) where
+  line_draws (Calls (calls.Hear v)) host = by (has_room_for v host) where
     by : (b : Bool) → count drawn n (cond b (answers_to host.is.number host.is.held v) []) + stands (answer_at (cond b (heard v host) host)) ≤ stands (answer_at host) + one_if (is_for n (wanted_by v host.is.held))
     by true = let none = no_answer_draws host v true in let le = heard_fewer host v (present host) (word_at v host.random) in omega (arith, none, le)
     by false = omega arith
-  line_draws (Asks name) host = by (may_ask name host) where
-    asking : Opened
-    asking = doing (Misses (present host) (name ∷ []) (word_of host.random ∷ [])) 1 host
-
-    noticed_same : (t : Tuning) (now delay word : ℕ) (s : Timers) → stands (noticed t now delay word s).answer ≡ stands s.answer
-    noticed_same t now delay word s = from (is_none s.ask) where
-      from : (b : Bool) → stands (cond b (record s { ask = (noticed t now delay word (record s { ask = None })).ask }) s).answer ≡ stands s.answer
-      from true = refl
-      from false = refl
-
-    by : (b : Bool) → 0 + stands (answer_at (cond b asking host)) ≤ stands (answer_at host) + 0
-    by true = let le = same_after (same_name name n) in omega (arith, le) where
-      s : Timers
-      s = timers_of host.is.constants (events host) n
-
-      t : Tuning
-      t = constants_at host.is.number host.is.constants host.is.calls
-
-      same_after : (b : Bool) → stands (cond b (noticed t (present host) (delay_to host.is.number host.is.calls name.source) (word_of host.random) s) s).answer ≤ stands s.answer
-      same_after true = let e = noticed_same t (present host) (delay_to host.is.number host.is.calls name.source) (word_of host.random) s in omega (arith, e)
-      same_after false = omega arith
+  line_draws (Calls (calls.Look page)) host =
+      let wanted = wanted_of page host in
+      let same = misses_same wanted (words_of host.random (length wanted)) (length wanted) host in
+      omega (arith, same)
+  line_draws (Calls (calls.Ask name)) host = by (may_ask name host) where
+    by : (b : Bool) → 0 + stands (answer_at (cond b (doing (Misses (present host) (name ∷ []) (word_of host.random ∷ [])) 1 host) host)) ≤ stands (answer_at host) + 0
+    by true = let same = misses_same (name ∷ []) (word_of host.random ∷ []) 1 host in omega (arith, same)
     by false = omega arith
-  line_draws (Stops name) host = by (asks_for name host) where
+  line_draws (Calls (calls.Stop name)) host = by (asks_for name host) where
     by : (b : Bool) → 0 + stands (answer host.is.constants (given_up (present host) name b (events host))) ≤ stands (answer_at host) + 0
     by true = let le = come_fewer host.is.constants (present host) (events host) (received_of (λ source. 0) (name ∷ [])) in omega (arith, le)
     by false = omega arith
-  line_draws (SetsDistance source micros) host = omega arith
-  line_draws (Tunes constants) host = omega arith
+  line_draws (Calls call) host = omega arith
   line_draws (Says (Draw d)) host =
       let sent = said_draws d (becomes d host) in
       let le = arrival_fewer d host in
       omega (arith, sent, le)
-  line_draws (Says (Session sender sent page marks echoes)) host = omega arith
-  line_draws (Says (Request asker name)) host = omega arith
-  line_draws (Says (AskPages asker)) host = omega arith
-  line_draws (Says (PageState sender page marks)) host = omega arith
+  line_draws (Says v) host = omega arith
 
   lines_draw : (lines : List Line) (host : Opened) → count drawn n (sent_by_lines lines host) + stands (answer_at (after_lines lines host)) ≤ stands (answer_at host) + count cause n (steps lines host)
   lines_draw [] host = omega arith
@@ -324,18 +317,9 @@ module _ (n : NameValue) where
 
 small_causes : (lines : List Line) (host : Opened) → AreSmall lines → all cause (steps lines host) ≡ 0
 small_causes [] host small = refl
-small_causes (Ticks now ∷ lines) host small = absurd small.0
-small_causes (Arrives d ∷ lines) host small = absurd small.0
-small_causes (Hears v ∷ lines) host small = absurd small.0
-small_causes (Asks name ∷ lines) host small = small_causes lines (after_line (Asks name) host) small.1
-small_causes (Stops name ∷ lines) host small = small_causes lines (after_line (Stops name) host) small.1
-small_causes (SetsDistance source micros ∷ lines) host small = small_causes lines (after_line (SetsDistance source micros) host) small.1
-small_causes (Tunes constants ∷ lines) host small = absurd small.0
+small_causes (Calls (calls.Hear v) ∷ lines) host small = absurd small.0
 small_causes (Says (Draw d) ∷ lines) host small = absurd small.0
-small_causes (Says (Session sender sent page marks echoes) ∷ lines) host small = small_causes lines host small.1
-small_causes (Says (Request asker name) ∷ lines) host small = absurd small.0
-small_causes (Says (AskPages asker) ∷ lines) host small = small_causes lines host small.1
-small_causes (Says (PageState sender page marks) ∷ lines) host small = small_causes lines host small.1
+small_causes (line ∷ lines) host small = small_causes lines (after_line line host) small.1
 
 -- a call with which no request comes, and no drawing
 record IsIdle (call : KeptLine) : Type 0 where
@@ -344,22 +328,9 @@ record IsIdle (call : KeptLine) : Type 0 where
 
 idle_causes : (call : KeptLine) (start host : Opened) (lines : List Line) → IsIdle call → AreLinesOf call start host lines → all cause (steps lines host) ≡ 0
 idle_causes call start host [] idle are = refl
-idle_causes call start host (Ticks now ∷ lines) idle are = idle_causes call start (after_line (Ticks now) host) lines idle are.1
-idle_causes call start host (Arrives d ∷ lines) idle are = idle_causes call start (after_line (Arrives d) host) lines idle are.1
-idle_causes call start host (Hears (Draw d) ∷ lines) idle are = idle_causes call start (after_line (Hears (Draw d)) host) lines idle are.1
-idle_causes call start host (Hears (Session sender sent page marks echoes) ∷ lines) idle are = idle_causes call start (after_line (Hears (Session sender sent page marks echoes)) host) lines idle are.1
-idle_causes call start host (Hears (Request asker name) ∷ lines) idle are = absurd (idle.requested are.0.0 asker name are.0.1)
-idle_causes call start host (Hears (AskPages asker) ∷ lines) idle are = absurd are.0
-idle_causes call start host (Hears (PageState sender page marks) ∷ lines) idle are = idle_causes call start (after_line (Hears (PageState sender page marks)) host) lines idle are.1
-idle_causes call start host (Asks name ∷ lines) idle are = idle_causes call start (after_line (Asks name) host) lines idle are.1
-idle_causes call start host (Stops name ∷ lines) idle are = idle_causes call start (after_line (Stops name) host) lines idle are.1
-idle_causes call start host (SetsDistance source micros ∷ lines) idle are = idle_causes call start (after_line (SetsDistance source micros) host) lines idle are.1
-idle_causes call start host (Tunes constants ∷ lines) idle are = idle_causes call start (after_line (Tunes constants) host) lines idle are.1
+idle_causes call start host (Calls (calls.Hear (Request asker name)) ∷ lines) idle are = absurd (idle.requested are.0.0 asker name are.0.1)
 idle_causes call start host (Says (Draw d) ∷ lines) idle are = let a = are.0 in absurd (idle.added a.0 a.1 a.2 a.3 a.4)
-idle_causes call start host (Says (Session sender sent page marks echoes) ∷ lines) idle are = idle_causes call start host lines idle are.1
-idle_causes call start host (Says (Request asker name) ∷ lines) idle are = absurd are.0
-idle_causes call start host (Says (AskPages asker) ∷ lines) idle are = idle_causes call start host lines idle are.1
-idle_causes call start host (Says (PageState sender page marks) ∷ lines) idle are = idle_causes call start host lines idle are.1
+idle_causes call start host (line ∷ lines) idle are = idle_causes call start (after_line line host) lines idle are.1
 
 -- how many of the lines of a call call for a drawop
 abbrev causes : KeptLine → Keeping → ℕ
@@ -375,7 +346,7 @@ one_request now asker name k =
     let one = of_other (nat_eq asker host.is.number) in
     omega (arith, both, small, one) where
       host : Opened
-      host = after_line (Ticks now) k.host
+      host = after_line (Calls (calls.Tick now)) k.host
 
       d : Doing
       d = hears (Request asker name) (sees host) k.policy
@@ -387,7 +358,7 @@ one_request now asker name k =
       later = (timed (λ (lines : List Line). sees host (d.lines ++ lines)) d.policy).lines
 
       line : Line
-      line = Hears (Request asker name)
+      line = Calls (calls.Hear (Request asker name))
 
       held : Bool
       held = history_holds k.host.is.held name
@@ -396,13 +367,13 @@ one_request now asker name k =
       one_of true = refl
       one_of false = refl
 
-      lent : (source usual : ℕ) (b : Bool) → all cause (steps (cond b (SetsDistance source usual ∷ line ∷ SetsDistance source UNKNOWN_DISTANCE ∷ []) (line ∷ [])) host) ≤ one_if held
-      lent source usual true = let more = all_more cause (line, after_line (SetsDistance source usual) host) (steps (SetsDistance source UNKNOWN_DISTANCE ∷ []) (after_line line (after_line (SetsDistance source usual) host))) in let one = one_of held in omega (arith, more, one)
+      lent : (source usual : ℕ) (b : Bool) → all cause (steps (cond b (Calls (calls.SetDelay source usual) ∷ line ∷ Calls (calls.SetDelay source UNKNOWN_DELAY) ∷ []) (line ∷ [])) host) ≤ one_if held
+      lent source usual true = let more = all_more cause (line, after_line (Calls (calls.SetDelay source usual)) host) (steps (Calls (calls.SetDelay source UNKNOWN_DELAY) ∷ []) (after_line line (after_line (Calls (calls.SetDelay source usual)) host))) in let one = one_of held in omega (arith, more, one)
       lent source usual false = let more = all_more cause (line, host) [] in let one = one_of held in omega (arith, more, one)
 
       of_other : (own : Bool) → all cause (steps (cond own (still (sees host) k.policy) (hears_request asker name (sees host) k.policy)).lines host) ≤ one_if held
       of_other true = omega arith
-      of_other false = lent (cond (holds (view_of host) name) asker name.source) k.policy.usual (nat_eq ((view_of host).distance (cond (holds (view_of host) name) asker name.source)) UNKNOWN_DISTANCE)
+      of_other false = lent (cond (holds (view_of host) name) asker name.source) k.policy.usual (nat_eq ((view_of host).delay (cond (holds (view_of host) name) asker name.source)) UNKNOWN_DELAY)
 
 one_drawing : (now : ℕ) (page : PageId) (time : ℕ) (op : Op) (k : Keeping) → causes (Added now page time op) k ≤ 1
 one_drawing now page time op k =
@@ -410,7 +381,7 @@ one_drawing now page time op k =
     let small = small_causes later after (then_each IsSmall ends_full timed (ends_each IsSmall are_small) (timed_each IsSmall are_small) (sees after) k.policy) in
     omega (arith, more, small) where
       host : Opened
-      host = after_line (Ticks now) k.host
+      host = after_line (Calls (calls.Tick now)) k.host
 
       d : DrawopValue
       d = drawing (view_of host) page time op

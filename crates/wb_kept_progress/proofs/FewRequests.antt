@@ -19,9 +19,10 @@ use Rattle.wb_recovery.proofs.NameLists.{listed_of}
 use Rattle.wb_progress.proofs.NamesApart.{no_longer}
 use Rattle.wb_member.specs.Judged.{asked_names}
 use Rattle.wb_member.specs.Opened.{Opened, events, present}
+use Rattle.wb_member.specs.declared.calls.Call.TheVariants.{Ask}
 use Rattle.wb_policy.specs.Policy.{Policy}
 use Rattle.wb_keeping.specs.Bounds.{answer_count, ask_count, is_ask, is_request, new_keeping, request_count, requests, timer_count}
-use Rattle.wb_keeping.specs.Kept.{Arrives, Asks, Hears, Line, Says, SetsDistance, Stops, Ticks, Tunes}
+use Rattle.wb_keeping.specs.Kept.{Calls, Line}
 use Rattle.wb_keeping.specs.Laws.{AreTaken, KeptLine, after_kept, expand, sent_by_kept}
 use Rattle.wb_keeping.specs.Performing.{Keeping, after_line, after_lines, sent_by_line, sent_by_lines}
 use Rattle.wb_keeping.proofs.AptLines.{apt_from_new, apt_parts, new_spaced}
@@ -34,7 +35,7 @@ use Rattle.wb_keeping.proofs.SeldomRequested.{names_are_seldom_requested}
 use Rattle.wb_keeping.proofs.SpacedLines.{AreApt, IsSpacedHost, ask_at, line_later, line_moves, line_spaced, lines_later, lines_spaced}
 use Rattle.wb_kept_progress.specs.Traffic.{FewRequestsAreSent, how_many}
 use Rattle.wb_kept_progress.proofs.Handed.{asked_in, expand_both, one_ask, taken_both}
-use Rattle.wb_kept_progress.proofs.Named.{all_by_names, apart_passing, count, count_more, filter_same, for_itself, is_for, names_by_all, names_of, one_if, passing, sums_rise, sums_scale}
+use Rattle.wb_kept_progress.proofs.Named.{all_by_names, apart_passing, count, count_more, filter_fewer, filter_same, for_itself, is_for, names_by_all, names_of, one_if, passing, sums_rise, sums_scale}
 use Rattle.wb_kept_progress.proofs.SentKinds.{kind_both}
 
 -- ---- the names of requests, and of lines that ask for one
@@ -67,15 +68,9 @@ abbrev asked : NameValue → List Line → ℕ
 asked n lines = count asked_in n lines
 
 -- it is asked for
-is_asked : (n : NameValue) (line : Line) → asks_it n line ≡ true → line ≡ Asks n
-is_asked n (Ticks now) e = absurd (true≢false (sym e))
-is_asked n (Arrives d) e = absurd (true≢false (sym e))
-is_asked n (Hears v) e = absurd (true≢false (sym e))
-is_asked n (Asks name) e = ap Asks (same_name-is name n e)
-is_asked n (Stops name) e = absurd (true≢false (sym e))
-is_asked n (SetsDistance source micros) e = absurd (true≢false (sym e))
-is_asked n (Tunes constants) e = absurd (true≢false (sym e))
-is_asked n (Says v) e = absurd (true≢false (sym e))
+is_asked : (n : NameValue) (line : Line) → asks_it n line ≡ true → line ≡ Calls (Ask n)
+is_asked n (Calls (Ask name)) e = ap (λ (x : NameValue). Calls (Ask x)) (same_name-is name n e)
+is_asked n line e = absurd (true≢false (sym e))
 
 asked_more : (n : NameValue) (line : Line) (lines : List Line) (b : Bool) → asks_it n line ≡ b → asked n (line ∷ lines) ≡ one_if b + asked n lines
 asked_more n line lines b e = count_more asked_in n line lines ∙ ap (λ (b : Bool). one_if b + asked n lines) e
@@ -134,7 +129,7 @@ module _ (constants : Tuning) (number cells seed : ℕ) (moments : List ℕ) (po
         ∙ ap (λ (h : Opened). sends front one + request_count n (sent_by_lines other h)) (sym (after_both front one k.host))
 
     -- where it is not asked for anew
-    segment : (front part later : List Line) → window ≡ front ++ (part ++ later) → (Contains part (Asks n) → ⊥) → sends front part ≤ 15
+    segment : (front part later : List Line) → window ≡ front ++ (part ++ later) → (Contains part (Calls (Ask n)) → ⊥) → sends front part ≤ 15
     segment front [] later split never = omega arith
     segment front (first ∷ rest) later split never =
         let apt_front = apt_parts front ((first ∷ rest) ++ later) k.host (subst (λ (ls : List Line). AreApt ls k.host) split apt) in
@@ -151,10 +146,10 @@ module _ (constants : Tuning) (number cells seed : ℕ) (moments : List ℕ) (po
         (subst (λ (h : Opened). present (after_lines (first ∷ rest) h) ≤ present (after_line first h) + 600000000) (sym there) (omega (arith, one, two, three, four, five))))
 
     -- an ask sends nothing
-    ask_silent : (front : List Line) (line : Line) → line ≡ Asks n → sends front (line ∷ []) ≡ 0
+    ask_silent : (front : List Line) (line : Line) → line ≡ Calls (Ask n) → sends front (line ∷ []) ≡ 0
     ask_silent front line is = ap (λ (l : Line). sends front (l ∷ [])) is
 
-    bound : (front part rest : List Line) → window ≡ front ++ (part ++ rest) → (Contains part (Asks n) → ⊥) → sends front (part ++ rest) ≤ 15 * (1 + asked n rest)
+    bound : (front part rest : List Line) → window ≡ front ++ (part ++ rest) → (Contains part (Calls (Ask n)) → ⊥) → sends front (part ++ rest) ≤ 15 * (1 + asked n rest)
     bound front part [] split never =
         let le = segment front part [] split never in
         let same = counts front part [] in
@@ -166,13 +161,13 @@ module _ (constants : Tuning) (number cells seed : ℕ) (moments : List ℕ) (po
           moved = sym (append_assoc part (line ∷ []) rest)
 
           by : (b : Bool) → asks_it n line ≡ b
-              → (window ≡ (front ++ (part ++ line ∷ [])) ++ ([] ++ rest) → (Contains [] (Asks n) → ⊥) → sends (front ++ (part ++ line ∷ [])) ([] ++ rest) ≤ 15 * (1 + asked n rest))
-              → (window ≡ front ++ ((part ++ line ∷ []) ++ rest) → (Contains (part ++ line ∷ []) (Asks n) → ⊥) → sends front ((part ++ line ∷ []) ++ rest) ≤ 15 * (1 + asked n rest))
+              → (window ≡ (front ++ (part ++ line ∷ [])) ++ ([] ++ rest) → (Contains [] (Calls (Ask n)) → ⊥) → sends (front ++ (part ++ line ∷ [])) ([] ++ rest) ≤ 15 * (1 + asked n rest))
+              → (window ≡ front ++ ((part ++ line ∷ []) ++ rest) → (Contains (part ++ line ∷ []) (Calls (Ask n)) → ⊥) → sends front ((part ++ line ∷ []) ++ rest) ≤ 15 * (1 + asked n rest))
               → sends front (part ++ line ∷ rest) ≤ 15 * (1 + asked n (line ∷ rest))
           by true e anew on =
               let whole : window ≡ (front ++ (part ++ line ∷ [])) ++ rest = split ∙ ap (λ (ls : List Line). front ++ ls) moved ∙ sym (append_assoc front (part ++ line ∷ []) rest) in
               let le = segment front part (line ∷ rest) split never in
-              let again = anew whole (λ c. Contains-none (Asks n) c) in
+              let again = anew whole (λ c. Contains-none (Calls (Ask n)) c) in
               let one = ap (sends front) moved ∙ counts front (part ++ line ∷ []) rest in
               let two = counts front part (line ∷ []) in
               let three = ask_silent (front ++ part) line (is_asked n line e) in
@@ -181,8 +176,8 @@ module _ (constants : Tuning) (number cells seed : ℕ) (moments : List ℕ) (po
           by false e anew on =
               let le = on (split ∙ ap (λ (ls : List Line). front ++ ls) moved) (λ c. ⊎_elim
               never
-              (λ (d : Contains (line ∷ []) (Asks n)). ⊎_elim (λ (is : line ≡ Asks n). true≢false (sym (ap (asks_it n) is ∙ for_itself n) ∙ e)) (λ (none : Contains [] (Asks n)). Contains-none (Asks n) none) (Contains-cases line (Asks n) [] d))
-              (Contains-append_cases part (line ∷ []) (Asks n) c)) in
+              (λ (d : Contains (line ∷ []) (Calls (Ask n))). ⊎_elim (λ (is : line ≡ Calls (Ask n)). true≢false (sym (ap (asks_it n) is ∙ for_itself n) ∙ e)) (λ (none : Contains [] (Calls (Ask n))). Contains-none (Calls (Ask n)) none) (Contains-cases line (Calls (Ask n)) [] d))
+              (Contains-append_cases part (line ∷ []) (Calls (Ask n)) c)) in
               let same = ap (sends front) moved in
               let more = asked_more n line rest false e in
               omega (arith, le, same, more)
@@ -211,7 +206,7 @@ module _ (constants : Tuning) (number cells seed : ℕ) (moments : List ℕ) (po
       by : (b : Bool) → asks_it n line ≡ b → (window ≡ (front ++ line ∷ []) ++ rest → IsSpacedHost (at (front ++ line ∷ [])) → ask_at n (at (front ++ line ∷ [])) ≡ None → sends (front ++ line ∷ []) rest ≤ 15 * asked n rest)
           → sends front (line ∷ rest) ≤ 15 * asked n (line ∷ rest)
       by true e on =
-          let le = bound (front ++ line ∷ []) [] rest whole (λ c. Contains-none (Asks n) c) in
+          let le = bound (front ++ line ∷ []) [] rest whole (λ c. Contains-none (Calls (Ask n)) c) in
           let one = counts front (line ∷ []) rest in
           let two = ask_silent front line (is_asked n line e) in
           let more = asked_more n line rest true e in
@@ -224,9 +219,9 @@ module _ (constants : Tuning) (number cells seed : ℕ) (moments : List ℕ) (po
           let two : sends front (line ∷ []) ≡ 0 = ap (request_count n) (append-nil (sent_by_line line (at front))) ∙ r.1 in
           let more = asked_more n line rest false e in
           omega (arith, le, one, two, more))
-          (λ (moves : ((b : Backs (present next) (ask_at n (at front)) (ask_at n next)) × (request_count n (sent_by_line line (at front)) ≤ 1) × ((request_count n (sent_by_line line (at front)) ≡ 0) ⊎ (b.x.due ≤ present next))) ⊎ (line ≡ Asks n)). absurd (⊎_elim
+          (λ (moves : ((b : Backs (present next) (ask_at n (at front)) (ask_at n next)) × (request_count n (sent_by_line line (at front)) ≤ 1) × ((request_count n (sent_by_line line (at front)) ≡ 0) ⊎ (b.x.due ≤ present next))) ⊎ (line ≡ Calls (Ask n))). absurd (⊎_elim
           (λ (b : (b : Backs (present next) (ask_at n (at front)) (ask_at n next)) × (request_count n (sent_by_line line (at front)) ≤ 1) × ((request_count n (sent_by_line line (at front)) ≡ 0) ⊎ (b.x.due ≤ present next))). no_timer b.0.x b.0.was)
-          (λ (is_ask : line ≡ Asks n). true≢false (sym (ap (asks_it n) is_ask ∙ for_itself n) ∙ e))
+          (λ (is_ask : line ≡ Calls (Ask n)). true≢false (sym (ap (asks_it n) is_ask ∙ for_itself n) ∙ e))
           moves))
           (line_moves n line (at front) apt_line.0 is)
 
@@ -238,7 +233,7 @@ module _ (constants : Tuning) (number cells seed : ℕ) (moments : List ℕ) (po
     one_name = by (ask_at n k.host) refl where
       by : (o : Option AskTimer) → ask_at n k.host ≡ o → sends [] window ≤ 15 * (one_if (is_some o) + asked n window)
       by None none = let le = silent [] window refl spaced none in omega (arith, le)
-      by (Some ask) is = bound [] [] window refl (λ c. Contains-none (Asks n) c)
+      by (Some ask) is = bound [] [] window refl (λ c. Contains-none (Calls (Ask n)) c)
 
   -- ---- all names
 
@@ -262,7 +257,7 @@ module _ (constants : Tuning) (number cells seed : ℕ) (moments : List ℕ) (po
       let among_asked = no_longer (filter p r.names) (asked_names k.host) (apart_passing p r.names r.apart) (λ n c. (listed.members n).1 (Contains-from_filter p r.names n c).1) in
       let few = few_stand in
       let asks = names_by_all asked_in r.names r.apart window in
-      let all_asks = filter_same is_ask (λ line. is_some (asked_in line)) one_ask window in
+      let all_asks = filter_fewer (λ line. is_some (asked_in line)) is_ask one_ask window in
       omega (arith, each, same, bounded, scaled, standing, among_asked, few, asks, all_asks)
 
   few_requests : how_many is_request (sent_by_kept lines k) * 250000 ≤ 15 * ((64 + 64 + 2 * answer_count window k.host) * 250000 + (present (after_kept lines k).host - present k.host))

@@ -1,16 +1,20 @@
 -- What each line of a call is like: its first lines take in what was handed in, and few lines follow them.
 use Rattle.std.proofs.Common.{◌≡◌, ℕ, Bool, true, false, cond, List, [], ◌∷◌, ◌++◌, ◌∙◌, ap, append_assoc, length, refl, subst, sym}
-use Rattle.std.specs.Prelude.{◌||◌, nat_eq, nat_lt}
+use Rattle.std.specs.Prelude.{◌||◌, Contains, nat_eq, nat_lt}
+use Rattle.std.proofs.lemmas.List.Elements.{Contains-append_left}
 use Rattle.wb_names.specs.Values.{DrawopValue, MarkValue, NameValue}
 use Rattle.wb_names.specs.declared.echo.Echo.{Echo}
 use Rattle.wb_names.specs.declared.name.PageId.{PageId}
 use Rattle.wb_names.specs.declared.parts.Op.{Op}
 use Rattle.wb_codec.specs.declared.datagram.Datagram.{Datagram}
 use Rattle.wb_codec.specs.declared.datagram.Datagram.TheVariants.{Draw, Session, Request, AskPages, PageState}
+use Rattle.wb_member.specs.Lines.{IsOfPolicy}
 use Rattle.wb_member.specs.Opened.{Opened}
-use Rattle.wb_recovery.specs.declared.limits.TheConstants.{UNKNOWN_DISTANCE}
-use Rattle.wb_policy.specs.Choices.{distance_in, own_echo, own_marks, told_names}
-use Rattle.wb_keeping.specs.Kept.{Arrives, Asks, Doing, Hears, Line, Says, SetsDistance, Tunes, Stops, Ticks, Transition, and_then, came, drawing, ends_full, hears, hears_some, learned, measures, performs, still, takes_question, timed, want_told, hears_request}
+use Rattle.wb_member.specs.declared.calls.Call.{Call}
+use Rattle.wb_member.specs.declared.calls.Call.TheVariants.{Tick, Hear, SetDelay, Tune, Ask, Stop}
+use Rattle.wb_recovery.specs.declared.limits.TheConstants.{UNKNOWN_DELAY}
+use Rattle.wb_policy.specs.Choices.{echoed_delay, own_echo, own_marks, told_names}
+use Rattle.wb_keeping.specs.Kept.{Arrives, Doing, Line, Says, Transition, and_then, came, drawing, ends_full, hears, hears_some, learned, measures, performs, still, takes_question, timed, want_told, hears_request, Calls}
 use Rattle.wb_keeping.specs.Laws.{KeptLine, Came, Ticked, Added, Tuned, doing_of}
 use Rattle.wb_keeping.specs.Performing.{Keeping, after_line, after_lines, sees, view_of}
 use Rattle.wb_policy.specs.Policy.{Policy, after_state, after_taking_up}
@@ -18,6 +22,7 @@ use Rattle.wb_keeping.specs.Views.{View, holds, is_asked, is_full}
 use Rattle.wb_policy.specs.Questions.{is_to_answer}
 use Rattle.wb_kept_progress.proofs.Lines.{AreSmall, IsSmall, are_small}
 use Rattle.wb_keeping.proofs.EachLine.{learned_each, measures_each, timed_each, told_each, each_both, ends_each, then_each}
+use Rattle.wb_keeping.proofs.PolicyCalls.{calls_are_of_policies}
 
 -- ---- a line of a call
 
@@ -40,13 +45,10 @@ IsSaidBy call start (PageState sender page marks) = Unit {0}
 -- A line that a host performs in a call: `start` is the host before the call, and `host` that before the line. A drawop arrives only
 -- where it is handed in, and nothing came before it.
 abbrev pub IsLineOf : KeptLine → Opened → Opened → Line → Type 0
-IsLineOf call start host (Ticks now) = Unit {0}
 IsLineOf call start host (Arrives d) = ((now : ℕ) × (call ≡ Came now (Draw d))) × (host.is.held ≡ start.is.held)
-IsLineOf call start host (Hears v) = IsHeardBy call v
-IsLineOf call start host (Asks name) = Unit {0}
-IsLineOf call start host (Stops name) = Unit {0}
-IsLineOf call start host (SetsDistance source micros) = Unit {0}
-IsLineOf call start host (Tunes constants) = call ≡ Tuned constants
+IsLineOf call start host (Calls (Hear v)) = IsHeardBy call v
+IsLineOf call start host (Calls (Tune constants)) = call ≡ Tuned constants
+IsLineOf call start host (Calls made) = IsOfPolicy made
 IsLineOf call start host (Says v) = IsSaidBy call start v
 
 abbrev pub AreLinesOf : KeptLine → Opened → Opened → List Line → Type 0
@@ -63,18 +65,15 @@ join call start host (line ∷ one) other a b = (a.0, join call start (after_lin
 
 from_small : (call : KeptLine) (start host : Opened) (lines : List Line) → AreSmall lines → AreLinesOf call start host lines
 from_small call start host [] small = tt
-from_small call start host (Ticks now ∷ lines) small = absurd small.0
-from_small call start host (Arrives d ∷ lines) small = absurd small.0
-from_small call start host (Hears v ∷ lines) small = absurd small.0
-from_small call start host (Asks name ∷ lines) small = (tt, from_small call start (after_line (Asks name) host) lines small.1)
-from_small call start host (Stops name ∷ lines) small = (tt, from_small call start (after_line (Stops name) host) lines small.1)
-from_small call start host (SetsDistance source micros ∷ lines) small = (tt, from_small call start (after_line (SetsDistance source micros) host) lines small.1)
-from_small call start host (Tunes constants ∷ lines) small = absurd small.0
-from_small call start host (Says (Draw d) ∷ lines) small = absurd small.0
-from_small call start host (Says (Session sender sent page marks echoes) ∷ lines) small = (tt, from_small call start host lines small.1)
-from_small call start host (Says (Request asker name) ∷ lines) small = absurd small.0
-from_small call start host (Says (AskPages asker) ∷ lines) small = (tt, from_small call start host lines small.1)
-from_small call start host (Says (PageState sender page marks) ∷ lines) small = (tt, from_small call start host lines small.1)
+from_small call start host (line ∷ lines) small = (one_small line small.0, from_small call start (after_line line host) lines small.1) where
+  one_small : (line : Line) → IsSmall line → IsLineOf call start host line
+  one_small (Calls (Ask name)) small = tt
+  one_small (Calls (Stop name)) small = tt
+  one_small (Calls (SetDelay source micros)) small = tt
+  one_small (Says (Draw d)) small = absurd small
+  one_small (Says (Request asker name)) small = absurd small
+  one_small (Says v) small = tt
+  one_small line small = absurd small
 
 -- ---- first lines, and small ones behind them
 
@@ -106,7 +105,7 @@ choose call start host false x y p q = q
 
 module _ (now : ℕ) (start : Opened) where
   abbrev host : Opened
-  host = after_line (Ticks now) start
+  host = after_line (Calls (Tick now)) start
 
   drawop_first : (d : DrawopValue) (p : Policy) → HasFirst (Came now (Draw d)) start host (hears (Draw d) (sees host) p).lines
   drawop_first d p = by (holds (view_of host) d.name) (is_full (view_of host)) where
@@ -131,7 +130,7 @@ module _ (now : ℕ) (start : Opened) where
     by false false = learns
 
   session_first : (sender sent : ℕ) (page : PageId) (marks : List MarkValue) (echoes : List Echo) (p : Policy) → HasFirst (Came now (Session sender sent page marks echoes)) start host (hears (Session sender sent page marks echoes) (sees host) p).lines
-  session_first sender sent page marks echoes p = choose call start host (nat_eq sender host.is.number) (still (sees host) p) (and_then (performs (Hears own)) more (sees host) p) (none_first call start host [] tt) other where
+  session_first sender sent page marks echoes p = choose call start host (nat_eq sender host.is.number) (still (sees host) p) (and_then (performs (Calls (Hear own))) more (sees host) p) (none_first call start host [] tt) other where
     call : KeptLine
     call = Came now (Session sender sent page marks echoes)
 
@@ -142,10 +141,10 @@ module _ (now : ℕ) (start : Opened) where
     own = Session sender sent page (own_marks v.me (nat_lt v.now p.ready) marks) (own_echo v.me echoes)
 
     heard : Opened
-    heard = after_line (Hears own) host
+    heard = after_line (Calls (Hear own)) host
 
     measuring : Transition
-    measuring = measures sender (distance_in v.now (own_echo v.me echoes))
+    measuring = measures sender (echoed_delay v.now (own_echo v.me echoes))
 
     wanting : Transition
     wanting = want_told (told_names v.me page marks)
@@ -153,9 +152,9 @@ module _ (now : ℕ) (start : Opened) where
     more : Transition
     more = and_then measuring wanting
 
-    other : HasFirst call start host (and_then (performs (Hears own)) more (sees host) p).lines
-    other = one_first call start host (Hears own) (more (sees heard) p).lines (now, marks, echoes, refl)
-        (then_each IsSmall measuring wanting (measures_each IsSmall are_small sender (distance_in v.now (own_echo v.me echoes))) (told_each IsSmall are_small (told_names v.me page marks)) (sees heard) p)
+    other : HasFirst call start host (and_then (performs (Calls (Hear own))) more (sees host) p).lines
+    other = one_first call start host (Calls (Hear own)) (more (sees heard) p).lines (now, marks, echoes, refl)
+        (then_each IsSmall measuring wanting (measures_each IsSmall are_small sender (echoed_delay v.now (own_echo v.me echoes))) (told_each IsSmall are_small (told_names v.me page marks)) (sees heard) p)
 
   state_first : (sender : ℕ) (page : PageId) (marks : List MarkValue) (p : Policy) → HasFirst (Came now (PageState sender page marks)) start host (hears (PageState sender page marks) (sees host) p).lines
   state_first sender page marks p = choose call start host (nat_eq sender host.is.number) (still (sees host) p) (and_then (hears_some sender page own) (want_told names) (sees host) q) (none_first call start host [] tt) (from own) where
@@ -177,19 +176,19 @@ module _ (now : ℕ) (start : Opened) where
     from : (own : List MarkValue) → HasFirst call start host (and_then (hears_some sender page own) (want_told names) (sees host) q).lines
     from [] = none_first call start host (want_told names (sees host) q).lines (told_each IsSmall are_small names (sees host) q)
     from (m ∷ own) =
-        let heard = after_line (Hears (PageState sender page (m ∷ own))) host in
-        one_first call start host (Hears (PageState sender page (m ∷ own))) (want_told names (sees heard) q).lines tt (told_each IsSmall are_small names (sees heard) q)
+        let heard = after_line (Calls (Hear (PageState sender page (m ∷ own)))) host in
+        one_first call start host (Calls (Hear (PageState sender page (m ∷ own)))) (want_told names (sees heard) q).lines tt (told_each IsSmall are_small names (sees heard) q)
 
   request_first : (asker : ℕ) (name : NameValue) (p : Policy) → HasFirst (Came now (Request asker name)) start host (hears_request asker name (sees host) p).lines
-  request_first asker name p = by (nat_eq ((view_of host).distance source) UNKNOWN_DISTANCE) where
+  request_first asker name p = by (nat_eq ((view_of host).delay source) UNKNOWN_DELAY) where
     source : ℕ
     source = cond (holds (view_of host) name) asker name.source
 
     line : Line
-    line = Hears (Request asker name)
+    line = Calls (Hear (Request asker name))
 
-    by : (b : Bool) → HasFirst (Came now (Request asker name)) start host (cond b (SetsDistance source p.usual ∷ line ∷ SetsDistance source UNKNOWN_DISTANCE ∷ []) (line ∷ []))
-    by true = record { first = SetsDistance source p.usual ∷ line ∷ []; rest = SetsDistance source UNKNOWN_DISTANCE ∷ []; split = refl; fine = (tt, ((now, refl), tt)); small = (tt, tt) }
+    by : (b : Bool) → HasFirst (Came now (Request asker name)) start host (cond b (Calls (SetDelay source p.usual) ∷ line ∷ Calls (SetDelay source UNKNOWN_DELAY) ∷ []) (line ∷ []))
+    by true = record { first = Calls (SetDelay source p.usual) ∷ line ∷ []; rest = Calls (SetDelay source UNKNOWN_DELAY) ∷ []; split = refl; fine = (tt, ((now, refl), tt)); small = (tt, tt) }
     by false = one_first (Came now (Request asker name)) start host line [] (now, refl) tt
 
   hears_first : (v : Datagram) (p : Policy) → HasFirst (Came now v) start host (hears v (sees host) p).lines
@@ -211,26 +210,29 @@ module _ (now : ℕ) (start : Opened) where
 
 pub lines_of_call : (call : KeptLine) (k : Keeping) → AreLinesOf call k.host k.host (doing_of call (sees k.host) k.policy).lines
 lines_of_call (Came now v) k =
-    let host = after_line (Ticks now) k.host in
+    let host = after_line (Calls (Tick now)) k.host in
     let d = hears v (sees host) k.policy in
     let see = λ (lines : List Line). sees host (d.lines ++ lines) in
     (tt, with_more (Came now v) k.host host d.lines (timed see d.policy).lines (timed_each IsSmall are_small see d.policy) (hears_first now k.host v k.policy))
 lines_of_call (Ticked now) k =
-    let host = after_line (Ticks now) k.host in
+    let host = after_line (Calls (Tick now)) k.host in
     (tt, from_small (Ticked now) k.host host (timed (sees host) k.policy).lines (timed_each IsSmall are_small (sees host) k.policy))
 lines_of_call (Added now page time op) k =
-    let host = after_line (Ticks now) k.host in
+    let host = after_line (Calls (Tick now)) k.host in
     let d = drawing (view_of host) page time op in
     let drawn = after_line (Says (Draw d)) host in
     (tt, ((now, page, time, op, refl, refl), from_small (Added now page time op) k.host drawn (and_then ends_full timed (sees drawn) k.policy).lines (then_each IsSmall ends_full timed (ends_each IsSmall are_small) (timed_each IsSmall are_small) (sees drawn) k.policy)))
 lines_of_call (Tuned constants) k = (refl, tt)
 
+pub made_in_call : (line : KeptLine) (k : Keeping) (call : Call) → Contains (doing_of line (sees k.host) k.policy).lines (Calls call) → IsOfPolicy call
+made_in_call line k call c = calls_are_of_policies (line ∷ []) k call (Contains-append_left (doing_of line (sees k.host) k.policy).lines [] (Calls call) c)
+
 -- ---- the line with which a datagram comes in
 
-pub drawop_begins : (now : ℕ) (d : DrawopValue) (k : Keeping) → (rest : List Line) × ((came now (Draw d) (sees k.host) k.policy).lines ≡ (Ticks now ∷ []) ++ Arrives d ∷ rest)
+pub drawop_begins : (now : ℕ) (d : DrawopValue) (k : Keeping) → (rest : List Line) × ((came now (Draw d) (sees k.host) k.policy).lines ≡ (Calls (Tick now) ∷ []) ++ Arrives d ∷ rest)
 drawop_begins now d k = by (holds (view_of host) d.name) (is_full (view_of host)) where
   host : Opened
-  host = after_line (Ticks now) k.host
+  host = after_line (Calls (Tick now)) k.host
 
   new : Doing
   new = and_then (performs (Arrives d)) (learned d.name (is_asked (view_of host) d.name)) (sees host) k.policy
@@ -238,31 +240,31 @@ drawop_begins now d k = by (holds (view_of host) d.name) (is_full (view_of host)
   takes_it : Bool → Bool → Doing
   takes_it a b = cond (a || b) (performs (Arrives d) (sees host) k.policy) new
 
-  by : (a b : Bool) → (rest : List Line) × (Ticks now ∷ ((takes_it a b).lines ++ (timed (λ (lines : List Line). sees host ((takes_it a b).lines ++ lines)) (takes_it a b).policy).lines) ≡ (Ticks now ∷ []) ++ Arrives d ∷ rest)
+  by : (a b : Bool) → (rest : List Line) × (Calls (Tick now) ∷ ((takes_it a b).lines ++ (timed (λ (lines : List Line). sees host ((takes_it a b).lines ++ lines)) (takes_it a b).policy).lines) ≡ (Calls (Tick now) ∷ []) ++ Arrives d ∷ rest)
   by true b = (_, refl)
   by false true = (_, refl)
   by false false = (_, refl)
 
 pub request_begins : (now asker : ℕ) (name : NameValue) (k : Keeping) → nat_eq asker k.host.is.number ≡ false
-    → (before : List Line) × (rest : List Line) × ((came now (Request asker name) (sees k.host) k.policy).lines ≡ (Ticks now ∷ before) ++ Hears (Request asker name) ∷ rest)
-request_begins now asker name k other = by (nat_eq asker k.host.is.number) (nat_eq ((view_of host).distance source) UNKNOWN_DISTANCE) other where
+    → (before : List Line) × (rest : List Line) × ((came now (Request asker name) (sees k.host) k.policy).lines ≡ (Calls (Tick now) ∷ before) ++ Calls (Hear (Request asker name)) ∷ rest)
+request_begins now asker name k other = by (nat_eq asker k.host.is.number) (nat_eq ((view_of host).delay source) UNKNOWN_DELAY) other where
   host : Opened
-  host = after_line (Ticks now) k.host
+  host = after_line (Calls (Tick now)) k.host
 
   source : ℕ
   source = cond (holds (view_of host) name) asker name.source
 
   line : Line
-  line = Hears (Request asker name)
+  line = Calls (Hear (Request asker name))
 
   lent : Bool → Doing
-  lent lends = record { policy = k.policy; lines = cond lends (SetsDistance source k.policy.usual ∷ line ∷ SetsDistance source UNKNOWN_DISTANCE ∷ []) (line ∷ []) }
+  lent lends = record { policy = k.policy; lines = cond lends (Calls (SetDelay source k.policy.usual) ∷ line ∷ Calls (SetDelay source UNKNOWN_DELAY) ∷ []) (line ∷ []) }
 
   heard : Bool → Bool → Doing
   heard own lends = cond own (still (sees host) k.policy) (lent lends)
 
   by : (own lends : Bool) → own ≡ false
-      → (before : List Line) × (rest : List Line) × (Ticks now ∷ ((heard own lends).lines ++ (timed (λ (lines : List Line). sees host ((heard own lends).lines ++ lines)) (heard own lends).policy).lines) ≡ (Ticks now ∷ before) ++ line ∷ rest)
+      → (before : List Line) × (rest : List Line) × (Calls (Tick now) ∷ ((heard own lends).lines ++ (timed (λ (lines : List Line). sees host ((heard own lends).lines ++ lines)) (heard own lends).policy).lines) ≡ (Calls (Tick now) ∷ before) ++ line ∷ rest)
   by true lends e = absurd cc
-  by false true e = (SetsDistance source k.policy.usual ∷ [], _, refl)
+  by false true e = (Calls (SetDelay source k.policy.usual) ∷ [], _, refl)
   by false false e = ([], _, refl)

@@ -1,20 +1,21 @@
 -- At each self-managing host time goes on, and delays are in range.
 use Rattle.wb_recovery.specs.Timing.{are_constants}
-use Rattle.std.proofs.Common.{◌≡◌, ℕ, ◌≤◌, Bool, true, false, cond, List, [], ◌∷◌, ◌∙◌, None, ap, arith, map, refl, subst, sym, eqb-true}
+use Rattle.std.proofs.Common.{◌≡◌, ℕ, ◌≤◌, Bool, true, false, cond, List, [], ◌∷◌, ◌∙◌, None, ap, arith, refl, subst, sym, eqb-true}
 use Rattle.std.proofs.Math.Nat.{le_refl}
 use Rattle.std.specs.Prelude.{nat_eq, take, ◌*◌, ◌/◌, ◌+◌, max, min}
 use Rattle.wb_names.specs.Values.{NameValue}
 use Rattle.wb_codec.specs.declared.datagram.Datagram.{Datagram}
-use Rattle.wb_codec.specs.declared.datagram.Datagram.TheVariants.{Draw, Session, Request, AskPages, PageState}
+use Rattle.wb_codec.specs.declared.datagram.Datagram.TheVariants.{Draw}
 use Rattle.wb_gaps.specs.Answers.{pages_of}
 use Rattle.wb_member.specs.Members.{Misses}
 use Rattle.wb_member.specs.Opened.{Opened, doing, has_room_for, heard, may_ask, opened_with, present}
 use Rattle.wb_member.specs.Random.{word_of}
+use Rattle.wb_member.specs.declared.calls.Call.TheVariants.{Tick, Hear, SetDelay, Tune, Ask, Stop}
 use Rattle.wb_progress.specs.Keepers.{AreOrderly, farthest}
-use Rattle.wb_policy.specs.Distances.{bounded, usual_with}
-use Rattle.wb_recovery.specs.declared.limits.TheConstants.{UNKNOWN_DISTANCE}
-use Rattle.wb_policy.specs.declared.limits.TheConstants.{FIRST_DISTANCE}
-use Rattle.wb_keeping.specs.Kept.{Arrives, Asks, Doing, Hears, Line, Says, SetsDistance, Tunes, Stops, Ticks, still, want}
+use Rattle.wb_policy.specs.Delays.{bounded, usual_with}
+use Rattle.wb_recovery.specs.declared.limits.TheConstants.{UNKNOWN_DELAY}
+use Rattle.wb_policy.specs.declared.limits.TheConstants.{FIRST_DELAY}
+use Rattle.wb_keeping.specs.Kept.{Doing, Line, Says, still, want, Calls, ticks_at}
 use Rattle.wb_keeping.specs.Laws.{KeptLine, doing_of, fault_of}
 use Rattle.wb_keeping.specs.Performing.{Keeping, after_doing, after_line, after_lines, sees, view_of}
 use Rattle.wb_policy.specs.Policy.{Policy, after_wanting}
@@ -33,33 +34,28 @@ abbrev pub IsNear : Policy → Type 0
 IsNear p = p.usual ≤ 1000000
 
 abbrev IsFit : Line → Type 0
-IsFit (SetsDistance source micros) = micros ≤ farthest
-IsFit (Tunes constants) = are_constants constants ≡ true
+IsFit (Calls (SetDelay source micros)) = micros ≤ farthest
+IsFit (Calls (Tune constants)) = are_constants constants ≡ true
 IsFit line = IsSmall line
 
 abbrev pub AreFit : List Line → Type 0
 AreFit lines = Each IsFit lines
 
-asks_orderly : (name : NameValue) (host : Opened) → AreOrderly host.is.calls → AreOrderly (after_line (Asks name) host).is.calls
-asks_orderly name host is = by (may_ask name host) where
+fits_orderly : (line : Line) (host : Opened) → IsFit line → AreOrderly host.is.calls → AreOrderly (after_line line host).is.calls
+fits_orderly (Calls (Ask name)) host fit is = by (may_ask name host) where
   by : (b : Bool) → AreOrderly (cond b (doing (Misses (present host) (name ∷ []) (word_of host.random ∷ [])) 1 host) host).is.calls
   by true = (le_refl (present host), tt, is)
   by false = is
+fits_orderly (Calls (Stop name)) host fit is = (le_refl (present host), tt, is)
+fits_orderly (Calls (SetDelay source micros)) host fit is = (le_refl (present host), fit, is)
+fits_orderly (Calls (Tune constants)) host fit is = (le_refl (present host), fit, is)
+fits_orderly (Says (Draw d)) host fit is = absurd fit
+fits_orderly (Says v) host fit is = is
+fits_orderly line host fit is = absurd fit
 
 fit_orderly : (lines : List Line) (host : Opened) → AreFit lines → AreOrderly host.is.calls → AreOrderly (after_lines lines host).is.calls
 fit_orderly [] host fit is = is
-fit_orderly (Ticks now ∷ lines) host fit is = absurd fit.0
-fit_orderly (Arrives d ∷ lines) host fit is = absurd fit.0
-fit_orderly (Hears v ∷ lines) host fit is = absurd fit.0
-fit_orderly (Asks name ∷ lines) host fit is = fit_orderly lines (after_line (Asks name) host) fit.1 (asks_orderly name host is)
-fit_orderly (Stops name ∷ lines) host fit is = fit_orderly lines (after_line (Stops name) host) fit.1 (le_refl (present host), tt, is)
-fit_orderly (SetsDistance source micros ∷ lines) host fit is = fit_orderly lines (after_line (SetsDistance source micros) host) fit.1 (le_refl (present host), fit.0, is)
-fit_orderly (Tunes constants ∷ lines) host fit is = fit_orderly lines (after_line (Tunes constants) host) fit.1 (le_refl (present host), fit.0, is)
-fit_orderly (Says (Draw d) ∷ lines) host fit is = absurd fit.0
-fit_orderly (Says (Session sender sent page marks echoes) ∷ lines) host fit is = fit_orderly lines host fit.1 is
-fit_orderly (Says (Request asker name) ∷ lines) host fit is = fit_orderly lines host fit.1 is
-fit_orderly (Says (AskPages asker) ∷ lines) host fit is = fit_orderly lines host fit.1 is
-fit_orderly (Says (PageState sender page marks) ∷ lines) host fit is = fit_orderly lines host fit.1 is
+fit_orderly (line ∷ lines) host fit is = fit_orderly lines (after_line line host) fit.1 (fits_orderly line host fit.0 is)
 
 near_fits : (usual : ℕ) → usual ≤ 1000000 → usual ≤ farthest
 near_fits usual near = omega (arith, near)
@@ -77,18 +73,18 @@ record GoesOn (k : Keeping) (lines : List Line) (m : Keeping) : Type 0 where
 changes : (k m : Keeping) → m.host ≡ k.host → (IsNear k.policy → IsNear m.policy) → GoesOn k [] m
 changes k m e near = record { at = e; goes = λ g. record { orderly = subst (λ (h : Opened). AreOrderly h.is.calls) (sym e) g.orderly; near = near g.near } }
 
-hears_orderly : (v : Datagram) (host : Opened) → AreOrderly host.is.calls → AreOrderly (after_line (Hears v) host).is.calls
+hears_orderly : (v : Datagram) (host : Opened) → AreOrderly host.is.calls → AreOrderly (after_line (Calls (Hear v)) host).is.calls
 hears_orderly v host is = by (has_room_for v host) where
   by : (b : Bool) → AreOrderly (cond b (heard v host) host).is.calls
   by true = (le_refl (present host), tt, is)
   by false = is
 
-unknown_fits : UNKNOWN_DISTANCE ≤ farthest
+unknown_fits : UNKNOWN_DELAY ≤ farthest
 unknown_fits = omega arith
 
 bounded_near : (micros : ℕ) → bounded micros ≤ 1000000
-bounded_near micros = by (nat_eq (min (max micros 10000) 1000000) UNKNOWN_DISTANCE) where
-  by : (b : Bool) → cond b (UNKNOWN_DISTANCE + 1) (min (max micros 10000) 1000000) ≤ 1000000
+bounded_near micros = by (nat_eq (min (max micros 10000) 1000000) UNKNOWN_DELAY) where
+  by : (b : Bool) → cond b (UNKNOWN_DELAY + 1) (min (max micros 10000) 1000000) ≤ 1000000
   by true = omega arith
   by false = omega arith
 
@@ -147,11 +143,11 @@ line_goes line k none g = (line_holds GoesOn steps_go_on line k none).goes g
 
 -- ---- from the opening on
 
-opening_goes : (moments : List ℕ) (host : Opened) (now : ℕ) → present host ≡ now → DoNotGoBack now moments → AreOrderly host.is.calls → AreOrderly (after_lines (map Ticks moments) host).is.calls
+opening_goes : (moments : List ℕ) (host : Opened) (now : ℕ) → present host ≡ now → DoNotGoBack now moments → AreOrderly host.is.calls → AreOrderly (after_lines (ticks_at moments) host).is.calls
 opening_goes [] host now e on is = is
-opening_goes (moment ∷ moments) host now e on is = opening_goes moments (after_line (Ticks moment) host) moment refl on.1 (subst (λ (n : ℕ). n ≤ moment) (sym e) on.0, tt, is)
+opening_goes (moment ∷ moments) host now e on is = opening_goes moments (after_line (Calls (Tick moment)) host) moment refl on.1 (subst (λ (n : ℕ). n ≤ moment) (sym e) on.0, tt, is)
 
-first_near : FIRST_DISTANCE ≤ 1000000
+first_near : FIRST_DELAY ≤ 1000000
 first_near = omega arith
 
 pub kept_goes : (hosts : ℕ → Opening) → AreHosts hosts → (lines : List LineAt) → AreTaken hosts lines → (i : ℕ) → Goes (kept_at hosts lines i)

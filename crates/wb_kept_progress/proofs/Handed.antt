@@ -5,49 +5,38 @@ use Rattle.std.proofs.lemmas.List.Elements.{Contains-append_left, Contains-appen
 use Rattle.wb_names.specs.Values.{NameValue}
 use Rattle.wb_names.proofs.Listings.{Contains-cases, Contains-here, Contains-none, Contains-there}
 use Rattle.wb_progress.specs.InTime.{AreApart}
+use Rattle.wb_member.specs.declared.calls.Call.TheVariants.{Ask}
 use Rattle.wb_keeping.specs.Bounds.{ask_count, is_ask}
-use Rattle.wb_keeping.specs.Kept.{Arrives, Asks, Hears, Line, Says, SetsDistance, Stops, Ticks, Tunes}
+use Rattle.wb_keeping.specs.Kept.{Calls, Line}
 use Rattle.wb_keeping.specs.Laws.{AreTaken, KeptLine, after_kept, doing_of, expand, fault_of}
 use Rattle.wb_keeping.specs.Performing.{Keeping, after_doing, sees}
 use Rattle.wb_kept_progress.specs.Sessions as sessions
 use Rattle.wb_kept_progress.specs.Sessions.{Opening}
 use Rattle.wb_kept_progress.specs.Timed.{TimedLine, lines_of}
 use Rattle.wb_kept_progress.specs.Whole.{there}
-use Rattle.wb_kept_progress.proofs.Named.{count, count_more, filter_same, for_itself, is_for, names_by_all, one_if, sum_of}
+use Rattle.wb_kept_progress.proofs.Named.{count, count_more, filter_fewer, for_itself, is_for, names_by_all, one_if, sum_of}
 use Rattle.wb_kept_progress.proofs.WholeParts.{does}
 
 -- ---- lines that ask for a name
 
 abbrev pub asked_in : Line → Option NameValue
-asked_in (Ticks now) = None
-asked_in (Arrives d) = None
-asked_in (Hears v) = None
-asked_in (Asks name) = Some name
-asked_in (Stops name) = None
-asked_in (SetsDistance source micros) = None
-asked_in (Tunes constants) = None
-asked_in (Says v) = None
+asked_in (Calls (Ask name)) = Some name
+asked_in line = None
 
-pub one_ask : (line : Line) → is_ask line ≡ is_some (asked_in line)
-one_ask (Ticks now) = refl
-one_ask (Arrives d) = refl
-one_ask (Hears v) = refl
-one_ask (Asks name) = refl
-one_ask (Stops name) = refl
-one_ask (SetsDistance source micros) = refl
-one_ask (Tunes constants) = refl
-one_ask (Says v) = refl
+pub one_ask : (line : Line) → one_if (is_some (asked_in line)) ≤ one_if (is_ask line)
+one_ask (Calls (Ask name)) = omega arith
+one_ask line = omega arith
 
-has_one : (n : NameValue) (lines : List Line) → Contains lines (Asks n) → 1 ≤ count asked_in n lines
-has_one n [] c = absurd (Contains-none (Asks n) c)
+has_one : (n : NameValue) (lines : List Line) → Contains lines (Calls (Ask n)) → 1 ≤ count asked_in n lines
+has_one n [] c = absurd (Contains-none (Calls (Ask n)) c)
 has_one n (line ∷ lines) c =
     let more = count_more asked_in n line lines in
     ⊎_elim
-    (λ (is : line ≡ Asks n).
+    (λ (is : line ≡ Calls (Ask n)).
     let here : one_if (is_for n (asked_in line)) ≡ 1 = ap (λ (l : Line). one_if (is_for n (asked_in l))) is ∙ ap one_if (for_itself n) in
     omega (arith, more, here))
-    (λ (d : Contains lines (Asks n)). let rest = has_one n lines d in omega (arith, more, rest))
-    (Contains-cases line (Asks n) lines c)
+    (λ (d : Contains lines (Calls (Ask n))). let rest = has_one n lines d in omega (arith, more, rest))
+    (Contains-cases line (Calls (Ask n)) lines c)
 
 one_each : (f : NameValue → ℕ) (names : List NameValue) → ((n : NameValue) → Contains names n → 1 ≤ f n) → length names ≤ sum_of f names
 one_each f [] least = omega arith
@@ -57,12 +46,12 @@ one_each f (n ∷ names) least =
     omega (arith, one, rest)
 
 -- as many lines as names, if each is asked for
-pub asks_at_least : (names : List NameValue) (lines : List Line) → AreApart names → ((n : NameValue) → Contains names n → Contains lines (Asks n)) → length names ≤ ask_count lines
+pub asks_at_least : (names : List NameValue) (lines : List Line) → AreApart names → ((n : NameValue) → Contains names n → Contains lines (Calls (Ask n))) → length names ≤ ask_count lines
 asks_at_least names lines apart asked =
     let least = one_each (λ n. count asked_in n lines) names (λ n c. has_one n lines (asked n c)) in
     let most = names_by_all asked_in names apart lines in
-    let same = filter_same is_ask (λ line. is_some (asked_in line)) one_ask lines in
-    omega (arith, least, most, same)
+    let few = filter_fewer (λ line. is_some (asked_in line)) is_ask one_ask lines in
+    omega (arith, least, most, few)
 
 pub asks_both : (one other : List Line) → ask_count (one ++ other) ≡ ask_count one + ask_count other
 asks_both one other = ap (λ (ls : List Line). length ls) (filter-append is_ask one other) ∙ length-append (filter is_ask one) (filter is_ask other)

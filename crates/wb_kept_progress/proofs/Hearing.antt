@@ -29,13 +29,14 @@ use Rattle.wb_progress.proofs.OneCall.{not_standing}
 use Rattle.wb_member.specs.Judged.{is_full}
 use Rattle.wb_member.specs.Opened.{Opened, asks_for, due_count, events, has_room_for, heard, present, ticked}
 use Rattle.wb_member.specs.Random.{words_of}
+use Rattle.wb_member.specs.declared.calls.Call.TheVariants.{Tick, Hear, SetDelay}
 use Rattle.wb_policy.specs.declared.limits.TheConstants.{COST}
-use Rattle.wb_policy.specs.Distances.{bounded}
+use Rattle.wb_policy.specs.Delays.{bounded}
 use Rattle.wb_keeping.specs.Fairness.{AnswersWhatIsHeld}
-use Rattle.wb_policy.specs.Choices.{distance_in, own_echo, own_marks, told_names}
-use Rattle.wb_keeping.specs.Kept.{Hears, SetsDistance, Ticks, Transition, and_then, came, hears, hears_session, measures, performs, still, timed, want_told, Line}
+use Rattle.wb_policy.specs.Choices.{echoed_delay, own_echo, own_marks, told_names}
+use Rattle.wb_keeping.specs.Kept.{Transition, and_then, came, hears, hears_session, measures, performs, still, timed, want_told, Line, Calls}
 use Rattle.wb_keeping.specs.Performing.{Keeping, after_doing, after_lines, sees, view_of}
-use Rattle.wb_policy.specs.Policy.{Policy, with_distance}
+use Rattle.wb_policy.specs.Policy.{Policy, after_echo}
 use Rattle.wb_keeping.specs.Views.{holds}
 use Rattle.wb_keeping.proofs.EachStep.{having, HoldsOfDue, having_done, timed_holds}
 use Rattle.wb_keeping.proofs.Performed.{then_after}
@@ -107,7 +108,7 @@ some_level (Some a) e = refl
 
 -- ---- it hears who reports, and how far away that is
 
-hearing_may : (sender sent : ℕ) (page : PageId) (marks : List MarkValue) (echoes : List Echo) (k : Keeping) (n : NameValue) (used : ℕ) → MayBeAsked k n used → MayBeAsked (having (Hears (Session sender sent page marks echoes)) k) n used
+hearing_may : (sender sent : ℕ) (page : PageId) (marks : List MarkValue) (echoes : List Echo) (k : Keeping) (n : NameValue) (used : ℕ) → MayBeAsked k n used → MayBeAsked (having (Calls (Hear (Session sender sent page marks echoes))) k) n used
 hearing_may sender sent page marks echoes k n used may = by (has_room_for v k.host) where
   v : Datagram
   v = Session sender sent page marks echoes
@@ -116,13 +117,13 @@ hearing_may sender sent page marks echoes k n used may = by (has_room_for v k.ho
   by true = record { names = may.names; are = record { all = may.are.all; paid = may.are.paid }; none = may.none; lacks = may.lacks; room = may.room; answers = may.answers; paid = may.paid }
   by false = may
 
-measures_may : (sender : ℕ) (distance : Option ℕ) (k : Keeping) (n : NameValue) (used : ℕ) → MayBeAsked k n used → MayBeAsked (after_doing (measures sender distance) k) n used
+measures_may : (sender : ℕ) (delay : Option ℕ) (k : Keeping) (n : NameValue) (used : ℕ) → MayBeAsked k n used → MayBeAsked (after_doing (measures sender delay) k) n used
 measures_may sender None k n used may = may
 measures_may sender (Some micros) k n used may = by (nat_eq (bounded micros) micros) where
   p : Policy
-  p = with_distance micros k.policy
+  p = after_echo micros k.policy
 
-  by : (b : Bool) → MayBeAsked (record { host = after_lines (cond b [] (SetsDistance sender (bounded micros) ∷ [])) k.host; policy = p }) n used
+  by : (b : Bool) → MayBeAsked (record { host = after_lines (cond b [] (Calls (SetDelay sender (bounded micros)) ∷ [])) k.host; policy = p }) n used
   by true = record { names = may.names; are = record { all = may.are.all; paid = may.are.paid }; none = may.none; lacks = may.lacks; room = may.room; answers = may.answers; paid = may.paid }
   by false = record { names = may.names; are = record { all = may.are.all; paid = may.are.paid }; none = may.none; lacks = may.lacks; room = may.room; answers = may.answers; paid = may.paid }
 
@@ -175,7 +176,7 @@ at_most_all me page marks =
 module _ (k : Keeping) (fine : IsFine k) (answering : AnswersWhatIsHeld k.host) (now : ℕ) (late : present k.host + asking_wait ≤ now) (owed : k.policy.owed ≤ now) (sender sent : ℕ) (page : PageId) (marks : List MarkValue) (echoes : List Echo) (other : sender ≡ k.host.is.number → ⊥) (small : length marks ≤ 64) (n : NameValue)
     (told : Contains (told_names k.host.is.number page marks) n) (lacks : holds (view_of k.host) n ≡ false) (room : is_full k.host ≡ false) (none : asks_for n k.host ≡ false) where
   abbrev m : Keeping
-  m = having (Ticks now) k
+  m = having (Calls (Tick now)) k
 
   abbrev own : List MarkValue
   own = own_marks k.host.is.number (nat_lt now k.policy.ready) marks
@@ -184,10 +185,10 @@ module _ (k : Keeping) (fine : IsFine k) (answering : AnswersWhatIsHeld k.host) 
   echo = own_echo k.host.is.number echoes
 
   abbrev first : Transition
-  first = performs (Hears (Session sender sent page own echo))
+  first = performs (Calls (Hear (Session sender sent page own echo)))
 
   abbrev second : Transition
-  second = measures sender (distance_in now echo)
+  second = measures sender (echoed_delay now echo)
 
   abbrev third : Transition
   third = want_told (told_names k.host.is.number page marks)
@@ -196,10 +197,10 @@ module _ (k : Keeping) (fine : IsFine k) (answering : AnswersWhatIsHeld k.host) 
   may = record {
     names = [];
     are = record { all = λ x new. absurd (none_is_new k fine now late x new); paid = nothing now k.policy.owed };
-    none = no_level (timers_of m.host.is.constants (events m.host) n).ask (false_from_ne_true (is_some (timers_of m.host.is.constants (events m.host) n).ask) (λ stands. true≢false (sym (keeps (Ticks now) k.host refl n stands) ∙ none)));
+    none = no_level (timers_of m.host.is.constants (events m.host) n).ask (false_from_ne_true (is_some (timers_of m.host.is.constants (events m.host) n).ask) (λ stands. true≢false (sym (keeps (Calls (Tick now)) k.host refl n stands) ∙ none)));
     lacks = lacks;
     room = room;
-    answers = λ x. lines_answer_held x (Ticks now ∷ []) k.host (answering x);
+    answers = λ x. lines_answer_held x (Calls (Tick now) ∷ []) k.host (answering x);
     paid = upto now k.policy.owed owed;
   } where
     nothing : (now owed : ℕ) → now + 0 * COST ≤ max owed now
@@ -229,7 +230,7 @@ module _ (k : Keeping) (fine : IsFine k) (answering : AnswersWhatIsHeld k.host) 
   -- what it holds stays
   pub report_holds : (after_doing (came now (Session sender sent page marks echoes)) k).host.is.held ≡ k.host.is.held
   report_holds =
-      let a = does_rest second (measures_each IsSmall are_small sender (distance_in now echo)) one in
+      let a = does_rest second (measures_each IsSmall are_small sender (echoed_delay now echo)) one in
       let b = does_rest third (told_each IsSmall are_small (told_names k.host.is.number page marks)) two in
       let c = does_rest timed (timed_each IsSmall are_small) three in
       ap (λ (x : Keeping). x.host.is.held) report_so ∙ c.held ∙ b.held ∙ a.held ∙ by (has_room_for (Session sender sent page own echo) m.host) where
@@ -240,7 +241,7 @@ module _ (k : Keeping) (fine : IsFine k) (answering : AnswersWhatIsHeld k.host) 
   asked_three : IsAskedAnew three n
   asked_three =
       let le = at_most_all k.host.is.number page marks in
-      told_is_asked (told_names k.host.is.number page marks) two n 0 told (omega (arith, le, small)) (measures_may sender (distance_in now echo) one n 0 (hearing_may sender sent page own echo m n 0 may))
+      told_is_asked (told_names k.host.is.number page marks) two n 0 told (omega (arith, le, small)) (measures_may sender (echoed_delay now echo) one n 0 (hearing_may sender sent page own echo m n 0 may))
 
   pub report_asks : asks_for n (after_doing (came now (Session sender sent page marks echoes)) k).host ≡ true
   report_asks =

@@ -11,7 +11,8 @@ use Rattle.wb_progress.specs.InTime.{answering_by, known_from, repairing}
 use Rattle.wb_progress.specs.Turns.{Terms}
 use Rattle.wb_member.specs.Judged.{holds}
 use Rattle.wb_member.specs.Opened.{Opened, events}
-use Rattle.wb_keeping.specs.Kept.{Line, Ticks, Tunes}
+use Rattle.wb_member.specs.declared.calls.Call.TheVariants.{Tick, Tune}
+use Rattle.wb_keeping.specs.Kept.{Calls, Line}
 use Rattle.wb_keeping.specs.Laws.{KeptLine, Came, Ticked, Added, Tuned, doing_of}
 use Rattle.wb_keeping.specs.Performing.{after_line, after_lines, sees, sent_by_line, sent_by_lines}
 use Rattle.wb_policy.specs.Policy.{Policy}
@@ -59,10 +60,10 @@ sent_by_one (line ∷ lines) host v c = ⊎_elim
 
 -- the first line of what a call performs
 pub first_of_call : (line : KeptLine) (see : List Line → View) (p : Policy) → (first : Line) × (rest : List Line) × ((doing_of line see p).lines ≡ first ∷ rest)
-first_of_call (Came now v) see p = (Ticks now, _, refl)
-first_of_call (Ticked now) see p = (Ticks now, _, refl)
-first_of_call (Added now page time op) see p = (Ticks now, _, refl)
-first_of_call (Tuned constants) see p = (Tunes constants, [], refl)
+first_of_call (Came now v) see p = (Calls (Tick now), _, refl)
+first_of_call (Ticked now) see p = (Calls (Tick now), _, refl)
+first_of_call (Added now page time op) see p = (Calls (Tick now), _, refl)
+first_of_call (Tuned constants) see p = (Calls (Tune constants), [], refl)
 
 module _ (hosts : ℕ → Opening) where
   abbrev pub starts : ℕ → Start

@@ -13,7 +13,8 @@ use Rattle.wb_progress.specs.Turns.{Terms, settled_by}
 use Rattle.wb_progress.proofs.Giving.{held_as}
 use Rattle.wb_member.specs.Judged.{holds}
 use Rattle.wb_member.specs.Opened.{Opened, asks_for}
-use Rattle.wb_keeping.specs.Kept.{Line, Arrives, Asks, Hears, Says, SetsDistance, Stops, Ticks, Tunes}
+use Rattle.wb_member.specs.declared.calls.Call.TheVariants.{Stop}
+use Rattle.wb_keeping.specs.Kept.{Line, Calls}
 use Rattle.wb_kept_progress.specs.Examples.{Meets, drawn, hosts, sizes_in, terms_of}
 use Rattle.wb_kept_progress.specs.Rounds.{OneLacksAtMost, PlacesAreFilled}
 use Rattle.wb_kept_progress.specs.Timed.{Performed, TimedLine, called_at, host_after, performed, start_of, timers_after, until}
@@ -35,14 +36,8 @@ few x (y ∷ (z ∷ xs)) apart all = absurd (apart.0 again) where
 -- ---- one drawing is held, and one host lacks it
 
 abbrev is_stop : Line → Bool
-is_stop (Stops name) = true
-is_stop (Ticks now) = false
-is_stop (Arrives d) = false
-is_stop (Hears v) = false
-is_stop (Asks name) = false
-is_stop (SetsDistance source micros) = false
-is_stop (Tunes constants) = false
-is_stop (Says v) = false
+is_stop (Calls (Stop name)) = true
+is_stop line = false
 
 module _ (terms : Terms) (trace : List TimedLine) where
   -- a host once what was on its way has arrived

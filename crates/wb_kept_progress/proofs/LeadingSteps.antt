@@ -23,6 +23,7 @@ use Rattle.wb_keeper.specs.Keeper.{delay_to, holds, received_of}
 use Rattle.wb_keeper.specs.Ticks.{stopped_after}
 use Rattle.wb_member.specs.Judged.{is_full}
 use Rattle.wb_member.specs.Opened.{Opened, asks_for, events, present}
+use Rattle.wb_member.specs.declared.calls.Call.TheVariants.{Tick}
 use Rattle.wb_policy.specs.Credit.{has_credit, leaves_some}
 use Rattle.wb_policy.specs.Leaps.{far_in, far_name}
 use Rattle.wb_policy.specs.Policy.{Policy, after_answer, after_question, after_beat, after_leaping, after_turn, after_wanting, in_next_leaps, in_next_round}
@@ -37,7 +38,7 @@ use Rattle.wb_policy.proofs.Cycle.{found_at}
 use Rattle.wb_policy.proofs.FilledHoles.{hole_filled}
 use Rattle.wb_policy.proofs.HolesRise.{holes_rise}
 use Rattle.wb_keeping.specs.Fairness.{AnswersWhatIsHeld}
-use Rattle.wb_keeping.specs.Kept.{Arrives, Doing, Line, Says, Ticks, Transition, and_then, answers, asks_pages, is_begun, is_unasked, leap, leap_to, leaps_on, reports, reports_due, reports_rest, state_of, still, timed, turn, turn_by_clock, turn_if, turn_to, turns_on, turns_past, want, want_near}
+use Rattle.wb_keeping.specs.Kept.{Arrives, Calls, Doing, Line, Says, Transition, and_then, answers, asks_pages, is_begun, is_unasked, leap, leap_to, leaps_on, reports, reports_due, reports_rest, state_of, still, timed, turn, turn_by_clock, turn_if, turn_to, turns_on, turns_past, want, want_near}
 use Rattle.wb_keeping.specs.Performing.{Keeping, after_doing, after_line, sees, view_of}
 use Rattle.wb_keeping.specs.Views.{View, is_asked, is_known, level, holds as holds_by, is_full as is_full_by}
 use Rattle.wb_keeping.proofs.EachLine.{want_each}
@@ -66,9 +67,9 @@ others_come n now delays (x ∷ names) calls others missed =
     (subst (λ (b : Bool). cond b false (since (notices n) (arrives n) calls) ≡ true) (sym (others x (Contains-here x names))) missed)
 
 -- a request timer for what is lacked stands after a tick
-pub ticked_stands : (now : ℕ) (host : Opened) (n : NameValue) → holds host.is.held n ≡ false → asks_for n host ≡ true → asks_for n (after_line (Ticks now) host) ≡ true
+pub ticked_stands : (now : ℕ) (host : Opened) (n : NameValue) → holds host.is.held n ≡ false → asks_for n host ≡ true → asks_for n (after_line (Calls (Tick now)) host) ≡ true
 ticked_stands now host n lacks stands =
-    missed_to (after_line (Ticks now) host) n
+    missed_to (after_line (Calls (Tick now)) host) n
     (others_come n now (delay_to host.is.number host.is.calls) (stopped_after host.is.number host.is.constants host.is.calls host.is.held) (events host)
     (λ x c. false_from_ne_true (same_name x n) (λ same.
     true≢false (sym (subst (λ (y : NameValue). holds host.is.held y ≡ true) (same_name-is x n same) (Contains-from_filter (holds host.is.held) _ x c).1) ∙ lacks)))

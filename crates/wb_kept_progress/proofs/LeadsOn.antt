@@ -18,13 +18,14 @@ use Rattle.wb_recovery.specs.declared.tuning.Tuning.{Tuning}
 use Rattle.wb_keeper.specs.Keeper.{holds}
 use Rattle.wb_member.specs.Judged.{is_full}
 use Rattle.wb_member.specs.Opened.{Opened, asks_for, events, present}
+use Rattle.wb_member.specs.declared.calls.Call.TheVariants.{Tick}
 use Rattle.wb_policy.specs.Choices.{near_names, numbers_near}
 use Rattle.wb_policy.specs.Credit.{has_credit}
 use Rattle.wb_policy.specs.Policy.{Policy}
 use Rattle.wb_policy.specs.declared.limits.TheConstants.{COST}
 use Rattle.wb_policy.proofs.NearNumbers.{each_near, near_is_among}
 use Rattle.wb_keeping.specs.Fairness.{AnswersWhatIsHeld}
-use Rattle.wb_keeping.specs.Kept.{Arrives, Doing, Ticks, and_then, came, leaps_on, learned, paid_for, performs, takes, timed, turn_if, turns_past, want_near}
+use Rattle.wb_keeping.specs.Kept.{Arrives, Calls, Doing, and_then, came, leaps_on, learned, paid_for, performs, takes, timed, turn_if, turns_past, want_near}
 use Rattle.wb_keeping.specs.Laws.{Came, Tuned, fault_of}
 use Rattle.wb_keeping.specs.Performing.{Keeping, after_doing, sees, view_of}
 use Rattle.wb_keeping.specs.Views.{is_asked}
@@ -67,7 +68,7 @@ module _ (hosts : ℕ → Opening) (older : List LineAt) (i now : ℕ) (d : Draw
   k = kept_at hosts older i
 
   abbrev pub t : Keeping
-  t = having (Ticks now) k
+  t = having (Calls (Tick now)) k
 
   abbrev pub was : Bool
   was = is_asked (view_of t.host) d.name
@@ -139,7 +140,7 @@ module _ (hosts : ℕ → Opening) (older : List LineAt) (i now : ℕ) (d : Draw
   there_is = came_is ∙ ap (after_doing timed) learned_is
 
   answers_held : AnswersWhatIsHeld b.host
-  answers_held = answers_on (performs (Arrives d)) t (answers_on (performs (Ticks now)) k (answers_at hosts older i))
+  answers_held = answers_on (performs (Arrives d)) t (answers_on (performs (Calls (Tick now))) k (answers_at hosts older i))
 
   all_below : AreBelow a.host.is.held near
   all_below = each_near (λ (n : NameValue). holds a.host.is.held n ≡ false → IsMissing a.host.is.held n.page [] n.source n.seq) d.name (highest d.name.page d.name.source a.host.is.held)
@@ -256,7 +257,7 @@ module _ (hosts : ℕ → Opening) (older : List LineAt) (i now : ℕ) (d : Draw
 
   -- it was, if its timer stands after the tick
   pub asked_before : was ≡ true → asks_for d.name k.host ≡ true
-  asked_before e = keeps (Ticks now) k.host refl d.name (stands_asked t.host d.name e)
+  asked_before e = keeps (Calls (Tick now)) k.host refl d.name (stands_asked t.host d.name e)
 
   module _ (unasked : was ≡ false) where
     owed_b : b.policy.owed ≡ k.policy.owed

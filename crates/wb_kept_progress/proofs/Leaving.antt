@@ -10,9 +10,10 @@ use Rattle.wb_gaps.specs.Answers.{pages_of, report_of}
 use Rattle.wb_gaps.specs.Holes.{hole_after}
 use Rattle.wb_gaps.specs.declared.holes.Hole.{Hole}
 use Rattle.wb_policy.specs.Fairness.{Told}
+use Rattle.wb_member.specs.declared.calls.Call.TheVariants.{Hear}
 use Rattle.wb_keeping.specs.Fairness.{AnswersWhatIsHeld}
-use Rattle.wb_policy.specs.Choices.{distance_in, own_echo, own_marks, told_names}
-use Rattle.wb_keeping.specs.Kept.{Arrives, Doing, Hears, Line, Says, Transition, and_then, answers, asks_pages, end, hears, hears_session, hears_some, hears_state, is_begun, is_unasked, leap, leap_to, leaps_on, learned, measures, of_other, paid_for, performs, reports, reports_due, reports_rest, state_of, still, takes, takes_question, turn, turn_if, turn_to, turns_due, turns_on, turns_past, want, want_near, want_told, hears_request}
+use Rattle.wb_policy.specs.Choices.{echoed_delay, own_echo, own_marks, told_names}
+use Rattle.wb_keeping.specs.Kept.{Arrives, Doing, Line, Says, Transition, and_then, answers, asks_pages, end, hears, hears_session, hears_some, hears_state, is_begun, is_unasked, leap, leap_to, leaps_on, learned, measures, of_other, paid_for, performs, reports, reports_due, reports_rest, state_of, still, takes, takes_question, turn, turn_if, turn_to, turns_due, turns_on, turns_past, want, want_near, want_told, hears_request, Calls}
 use Rattle.wb_keeping.specs.Performing.{Keeping, after_doing, sees}
 use Rattle.wb_policy.specs.Policy.{Policy, after_answer, after_beat, after_leaping, after_question, after_state, after_taking_up, after_turn, after_wanting, in_next_leaps, in_next_round}
 use Rattle.wb_keeping.specs.Views.{View, holds, is_asked, is_full}
@@ -214,7 +215,7 @@ takes_tells d see p =
     choose p (holds v d.name || is_full v) (performs (Arrives d) see p) (and_then (performs (Arrives d)) (learned d.name (is_asked v d.name)) see p) (same p)
     (both (performs (Arrives d)) (learned d.name (is_asked v d.name)) (λ see p. same p) (learned_tells d.name (is_asked v d.name)) see p)
 
-measures_tells : (sender : ℕ) (distance : Option ℕ) → TellsNothing (measures sender distance)
+measures_tells : (sender : ℕ) (delay : Option ℕ) → TellsNothing (measures sender delay)
 measures_tells sender None see p = same p
 measures_tells sender (Some micros) see p = record { due = refl; beat = refl; told = refl }
 
@@ -222,11 +223,11 @@ session_tells : (sender sent : ℕ) (page : PageId) (marks : List MarkValue) (ec
 session_tells sender sent page marks echoes see p =
     let v = see [] in
     let echo = own_echo v.me echoes in
-    let first = performs (Hears (Session sender sent page (own_marks v.me (nat_lt v.now p.ready) marks) echo)) in
-    let second = measures sender (distance_in v.now echo) in
+    let first = performs (Calls (Hear (Session sender sent page (own_marks v.me (nat_lt v.now p.ready) marks) echo))) in
+    let second = measures sender (echoed_delay v.now echo) in
     let third = want_told (told_names v.me page marks) in
     both first (and_then second third) (λ see p. same p)
-    (both second third (measures_tells sender (distance_in v.now echo)) (told_tells (told_names v.me page marks))) see p
+    (both second third (measures_tells sender (echoed_delay v.now echo)) (told_tells (told_names v.me page marks))) see p
 
 some_tells : (sender : ℕ) (page : PageId) (marks : List MarkValue) → TellsNothing (hears_some sender page marks)
 some_tells sender page [] see p = same p

@@ -76,7 +76,7 @@ pub mod CallLines
 pub mod FirstLines
 pub mod TimersAhead
 pub mod Tunings
-pub mod ShortDistances
+pub mod ShortDelays
 pub mod Onward
 pub mod CallsInTime
 pub mod NothingNew

@@ -8,7 +8,7 @@ use Rattle.wb_names.specs.History.{IsHistory}
 use Rattle.wb_names.specs.Orders.{same_name}
 use Rattle.wb_names.specs.Values.{DrawopValue, NameValue}
 use Rattle.wb_names.proofs.Orders.{same_name-is}
-use Rattle.wb_codec.specs.declared.datagram.Datagram.TheVariants.{Draw, Session, Request, AskPages, PageState}
+use Rattle.wb_codec.specs.declared.datagram.Datagram.TheVariants.{Draw, Request}
 use Rattle.wb_recovery.specs.Events.{timers_of}
 use Rattle.wb_recovery.specs.Timing.{got, noticed}
 use Rattle.wb_recovery.specs.declared.timers.Timers.{Timers}
@@ -17,9 +17,10 @@ use Rattle.wb_member.specs.Members.{Misses}
 use Rattle.wb_member.specs.Opened.{Opened, accepted, asks_for, doing, events, has_room_for, heard, may_ask, present}
 use Rattle.wb_member.specs.Board.{Held}
 use Rattle.wb_member.specs.Random.{word_of}
-use Rattle.wb_member.specs.declared.calls.Call.TheVariants.{Hear, Ask}
+use Rattle.wb_member.specs.declared.calls.Call.{Call}
+use Rattle.wb_member.specs.declared.calls.Call.TheVariants.{Hear, Ask, SetDelay, Stop}
 use Rattle.wb_member.proofs.KeptBoards.{calls_keep_boards}
-use Rattle.wb_keeping.specs.Kept.{Arrives, Asks, Hears, Line, Says, SetsDistance, Tunes, Stops, Ticks, Transition}
+use Rattle.wb_keeping.specs.Kept.{Arrives, Line, Says, Transition, Calls}
 use Rattle.wb_keeping.specs.Performing.{after_line, after_lines, Keeping, after_doing, sees}
 use Rattle.wb_laws_sessions.proofs.Once.{with_once}
 use Rattle.wb_keeping.proofs.EachLine.{DoesEach, Each, OfPolicy}
@@ -37,11 +38,11 @@ pub same_member : (host : Opened) → IsOf host host
 same_member host = record { number = refl; cells = refl; constants = refl }
 
 pub line_of : (line : Line) (host : Opened) → IsOf host (after_line line host)
-line_of (Hears v) host = by (has_room_for v host) where
+line_of (Calls (Hear v)) host = by (has_room_for v host) where
   by : (b : Bool) → IsOf host (cond b (heard v host) host)
   by true = record { number = refl; cells = refl; constants = refl }
   by false = same_member host
-line_of (Asks name) host = by (may_ask name host) where
+line_of (Calls (Ask name)) host = by (may_ask name host) where
   by : (b : Bool) → IsOf host (cond b (doing (Misses (present host) (name ∷ []) (word_of host.random ∷ [])) 1 host) host)
   by true = record { number = refl; cells = refl; constants = refl }
   by false = same_member host
@@ -69,6 +70,10 @@ with_longer h d (Again i) = omega arith
 with_longer h d (Clash i) = omega arith
 with_longer h d Left = omega arith
 
+-- no call brings a drawop
+pub call_holds : (call : Call) (host : Opened) → (after_line (Calls call) host).is.held ≡ host.is.held
+call_holds call host = ap (λ (b : Held). b.drawops) (calls_keep_boards call host).board
+
 -- What is held stays, and no name comes to stand twice.
 pub record Grows (host next : Opened) : Type 0 where
   pub kept : (x : DrawopValue) → Contains host.is.held x → Contains next.is.held x
@@ -91,8 +96,7 @@ accepts d host = record {
 
 pub line_grows : (line : Line) (host : Opened) → Grows host (after_line line host)
 line_grows (Arrives d) host = accepts d host
-line_grows (Hears v) host = stays host (after_line (Hears v) host) (ap (λ (b : Held). b.drawops) (calls_keep_boards (Hear v) host).board)
-line_grows (Asks name) host = stays host (after_line (Asks name) host) (ap (λ (b : Held). b.drawops) (calls_keep_boards (Ask name) host).board)
+line_grows (Calls call) host = stays host (after_line (Calls call) host) (call_holds call host)
 line_grows (Says (Draw d)) host = accepts d host
 line_grows line host = stays host (after_line line host) refl
 
@@ -108,18 +112,13 @@ lines_grow (line ∷ lines) host =
 -- ---- lines at which time stands still, nothing comes, and no request is said
 
 abbrev pub IsSmall : Line → Type 0
-IsSmall (Ticks now) = ⊥
-IsSmall (Arrives d) = ⊥
-IsSmall (Hears v) = ⊥
-IsSmall (Asks name) = Unit {0}
-IsSmall (Stops name) = Unit {0}
-IsSmall (SetsDistance source micros) = Unit {0}
-IsSmall (Tunes constants) = ⊥
+IsSmall (Calls (Ask name)) = Unit {0}
+IsSmall (Calls (Stop name)) = Unit {0}
+IsSmall (Calls (SetDelay source micros)) = Unit {0}
 IsSmall (Says (Draw d)) = ⊥
-IsSmall (Says (Session sender sent page marks echoes)) = Unit {0}
 IsSmall (Says (Request asker name)) = ⊥
-IsSmall (Says (AskPages asker)) = Unit {0}
-IsSmall (Says (PageState sender page marks)) = Unit {0}
+IsSmall (Says v) = Unit {0}
+IsSmall line = ⊥
 
 abbrev pub AreSmall : List Line → Type 0
 AreSmall lines = Each IsSmall lines
@@ -152,7 +151,7 @@ another host name n may held = false_from_ne_true (same_name name n) (λ same.
       timed : Opened → NameValue → Bool
       timed host name = is_some (timers_of host.is.constants (events host) name).ask || is_some (timers_of host.is.constants (events host) name).answer
 
-asks_rest : (name : NameValue) (host : Opened) → Rests host (after_line (Asks name) host)
+asks_rest : (name : NameValue) (host : Opened) → Rests host (after_line (Calls (Ask name)) host)
 asks_rest name host = by (may_ask name host) refl where
   asking : Opened
   asking = doing (Misses (present host) (name ∷ []) (word_of host.random ∷ [])) 1 host
@@ -165,7 +164,7 @@ asks_rest name host = by (may_ask name host) refl where
   }
   by false may = rest host
 
-stops_rest : (name : NameValue) (host : Opened) → Rests host (after_line (Stops name) host)
+stops_rest : (name : NameValue) (host : Opened) → Rests host (after_line (Calls (Stop name)) host)
 stops_rest name host = record { held = refl; now = refl; timers = λ n held none. by n none (asks_for name host) refl } where
   by : (n : NameValue) → (timers_of host.is.constants (events host) n).ask ≡ None → (b : Bool) → asks_for name host ≡ b → timers_of host.is.constants (given_up (present host) name b (events host)) n ≡ timers_of host.is.constants (events host) n
   by n none false e = refl
@@ -174,18 +173,12 @@ stops_rest name host = record { held = refl; now = refl; timers = λ n held none
       true≢false (sym asked ∙ ap is_some none)))
 
 pub line_rests : (line : Line) (host : Opened) → IsSmall line → Rests host (after_line line host)
-line_rests (Ticks now) host small = absurd small
-line_rests (Arrives d) host small = absurd small
-line_rests (Hears v) host small = absurd small
-line_rests (Asks name) host small = asks_rest name host
-line_rests (Stops name) host small = stops_rest name host
-line_rests (SetsDistance source micros) host small = record { held = refl; now = refl; timers = λ n held none. refl }
-line_rests (Tunes constants) host small = absurd small
+line_rests (Calls (Ask name)) host small = asks_rest name host
+line_rests (Calls (Stop name)) host small = stops_rest name host
+line_rests (Calls (SetDelay source micros)) host small = record { held = refl; now = refl; timers = λ n held none. refl }
 line_rests (Says (Draw d)) host small = absurd small
-line_rests (Says (Session sender sent page marks echoes)) host small = rest host
-line_rests (Says (Request asker name)) host small = absurd small
-line_rests (Says (AskPages asker)) host small = rest host
-line_rests (Says (PageState sender page marks)) host small = rest host
+line_rests (Says v) host small = rest host
+line_rests line host small = absurd small
 
 pub rests_then : (host next last : Opened) → Rests host next → Rests next last → Rests host last
 rests_then host next last one more = record {

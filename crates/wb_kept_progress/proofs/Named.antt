@@ -26,6 +26,15 @@ filter_same p q same (x ∷ xs) =
     let e = ap one_if (same x) in
     omega (arith, one, other, rest, e)
 
+pub filter_fewer : {X : Type 0} (p q : X → Bool) → ((x : X) → one_if (p x) ≤ one_if (q x)) → (xs : List X) → length (filter p xs) ≤ length (filter q xs)
+filter_fewer p q le [] = omega arith
+filter_fewer p q le (x ∷ xs) =
+    let one = more_if (p x) x (filter p xs) in
+    let other = more_if (q x) x (filter q xs) in
+    let rest = filter_fewer p q le xs in
+    let here = le x in
+    omega (arith, one, other, rest, here)
+
 -- ---- sums over names
 
 abbrev pub sum_of : (NameValue → ℕ) → List NameValue → ℕ

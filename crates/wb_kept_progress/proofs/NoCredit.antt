@@ -7,9 +7,10 @@ use Rattle.wb_names.specs.Values.{NameValue}
 use Rattle.wb_progress.specs.InTime.{known_from, repairing}
 use Rattle.wb_progress.specs.Turns.{IsNowAt, Terms, settled_by}
 use Rattle.wb_member.specs.Opened.{present}
+use Rattle.wb_member.specs.declared.calls.Call.TheVariants.{Ask}
 use Rattle.wb_policy.specs.Credit.{has_credit, spent}
 use Rattle.wb_policy.specs.declared.limits.TheConstants.{COST}
-use Rattle.wb_keeping.specs.Kept.{Asks}
+use Rattle.wb_keeping.specs.Kept.{Calls}
 use Rattle.wb_keeping.specs.Laws.{doing_of, fault_of}
 use Rattle.wb_keeping.specs.Performing.{Keeping, after_doing, sees}
 use Rattle.wb_policy.specs.Policy.{Policy}
@@ -113,9 +114,9 @@ module _ (is_spent : CreditIsSpent) (hosts : ℕ → Opening) (terms : Terms) (t
     goes_on : present k.host ≤ present next.host
     goes_on = subst (λ (x : Keeping). present k.host ≤ present x.host) (sym (there_here hosts e older i here)) (call_later e.at.line k not_refused)
 
-    found : IsNowAt terms e.time i then → present next.host ≡ then → (n : NameValue) → Contains (does hosts e older) (Asks n) → IsHeldBySome hosts terms trace n → IsFound
+    found : IsNowAt terms e.time i then → present next.host ≡ then → (n : NameValue) → Contains (does hosts e older) (Calls (Ask n)) → IsHeldBySome hosts terms trace n → IsFound
     found now is n c held =
-        let asked = subst (λ (p : ℕ). let m = there hosts older p in Contains (doing_of e.at.line (sees m.host) m.policy).lines (Asks n)) at_i c in
+        let asked = subst (λ (p : ℕ). let m = there hosts older p in Contains (doing_of e.at.line (sees m.host) m.policy).lines (Calls (Ask n))) at_i c in
         let a =
         asking_in_call hosts terms trace i n held window base front rest e split here
         (asks_stand e.at.line k n not_refused (answers_at hosts (lines_of older) i) asked) in
@@ -129,7 +130,7 @@ module _ (is_spent : CreditIsSpent) (hosts : ℕ → Opening) (terms : Terms) (t
     Spends p =
         let k = there hosts older p in
         let next = there hosts (e ∷ older) p in
-        ((n : NameValue) × Contains (does hosts e older) (Asks n) × IsHeldBySome hosts terms trace n)
+        ((n : NameValue) × Contains (does hosts e older) (Calls (Ask n)) × IsHeldBySome hosts terms trace n)
         ⊎ ((next.host.is.held ≢ k.host.is.held)
         ⊎ ((next.policy.owed ≤ k.policy.owed)
         ⊎ ((k.policy.pace.due ≤ then) × (next.policy.owed ≤ spent k.policy.owed then))))
@@ -162,7 +163,7 @@ module _ (is_spent : CreditIsSpent) (hosts : ℕ → Opening) (terms : Terms) (t
 
     by_later : IsNowAt terms e.time i then → IsLater → IsPaid k → IsFound ⊎ IsPaid next
     by_later now later paid = ⊎_elim
-        (λ (f : (n : NameValue) × Contains (does hosts e older) (Asks n) × IsHeldBySome hosts terms trace n). inl (found now later.now_is f.0 f.1 f.2))
+        (λ (f : (n : NameValue) × Contains (does hosts e older) (Calls (Ask n)) × IsHeldBySome hosts terms trace n). inl (found now later.now_is f.0 f.1 f.2))
         (⊎_elim
         (λ (differs : next.host.is.held ≢ k.host.is.held). absurd (differs same_held))
         (⊎_elim

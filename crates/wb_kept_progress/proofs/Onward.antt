@@ -4,7 +4,8 @@ use Rattle.std.specs.Prelude.{◌⊎◌, nat_le}
 use Rattle.std.proofs.lemmas.Bool.{leb-true}
 use Rattle.wb_names.proofs.Faults.{first_none, unless_true}
 use Rattle.wb_member.specs.Opened.{Opened, present}
-use Rattle.wb_keeping.specs.Kept.{Doing, Line, Ticks}
+use Rattle.wb_member.specs.declared.calls.Call.TheVariants.{Tick}
+use Rattle.wb_keeping.specs.Kept.{Calls, Doing, Line}
 use Rattle.wb_keeping.specs.Laws.{KeptLine, Came, Ticked, Added, Tuned, doing_of, fault_of}
 use Rattle.wb_keeping.specs.Performing.{Keeping, after_doing, after_lines, sees}
 use Rattle.wb_kept_progress.specs.Sessions.{AreTaken, Opening}
@@ -36,18 +37,18 @@ call_later line k none = ⊎_elim
 
 -- ---- each tick of a call
 
-no_tick_in : (before later : List Line) (now : ℕ) → AreNoTicks (before ++ Ticks now ∷ later) → ⊥
+no_tick_in : (before later : List Line) (now : ℕ) → AreNoTicks (before ++ Calls (Tick now) ∷ later) → ⊥
 no_tick_in [] later now none = none.0
 no_tick_in (line ∷ before) later now none = no_tick_in before later now none.1
 
-begun_onward : (now moment : ℕ) (d : Doing) (host : Opened) (before later : List Line) → Begins moment d → d.lines ≡ before ++ Ticks now ∷ later → present host ≤ moment → present (after_lines before host) ≤ now
-begun_onward now moment d host [] later b split le = subst (λ (m : ℕ). present host ≤ m) (same (heads (Ticks moment) (Ticks now) b.rest later (sym b.is ∙ split))) le where
-  same : Ticks moment ≡ Ticks now → moment ≡ now
+begun_onward : (now moment : ℕ) (d : Doing) (host : Opened) (before later : List Line) → Begins moment d → d.lines ≡ before ++ Calls (Tick now) ∷ later → present host ≤ moment → present (after_lines before host) ≤ now
+begun_onward now moment d host [] later b split le = subst (λ (m : ℕ). present host ≤ m) (same (heads (Calls (Tick moment)) (Calls (Tick now)) b.rest later (sym b.is ∙ split))) le where
+  same : Calls (Tick moment) ≡ Calls (Tick now) → moment ≡ now
   same e = cc
 begun_onward now moment d host (first ∷ before) later b split le =
-    absurd (no_tick_in before later now (subst AreNoTicks (tails (Ticks moment) first b.rest (before ++ Ticks now ∷ later) (sym b.is ∙ split)) b.none))
+    absurd (no_tick_in before later now (subst AreNoTicks (tails (Calls (Tick moment)) first b.rest (before ++ Calls (Tick now) ∷ later) (sym b.is ∙ split)) b.none))
 
-call_onward : (line : KeptLine) (k : Keeping) (now : ℕ) (before later : List Line) → fault_of line k ≡ None → (doing_of line (sees k.host) k.policy).lines ≡ before ++ Ticks now ∷ later → present (after_lines before k.host) ≤ now
+call_onward : (line : KeptLine) (k : Keeping) (now : ℕ) (before later : List Line) → fault_of line k ≡ None → (doing_of line (sees k.host) k.policy).lines ≡ before ++ Calls (Tick now) ∷ later → present (after_lines before k.host) ≤ now
 call_onward (Came moment v) k now before later none split =
     begun_onward now moment _ k.host before later (came_begins moment v (sees k.host) k.policy) split (leb-true _ _ (unless_true (nat_le (present k.host) moment) _ (first_none _ _ none)))
 call_onward (Ticked moment) k now before later none split =
@@ -61,7 +62,7 @@ taken_in hosts [] older e taken = taken
 taken_in hosts (x ∷ newer) older e taken = taken_in hosts newer older e taken.1
 
 -- so it is of what hosts perform in a session
-pub kept_goes_onward : (hosts : ℕ → Opening) (trace : List TimedLine) → AreTaken hosts (lines_of trace) → (newer older : List Performed) (x : Performed) (now : ℕ) → performed hosts trace ≡ newer ++ x ∷ older → x.line ≡ Ticks now
+pub kept_goes_onward : (hosts : ℕ → Opening) (trace : List TimedLine) → AreTaken hosts (lines_of trace) → (newer older : List Performed) (x : Performed) (now : ℕ) → performed hosts trace ≡ newer ++ x ∷ older → x.line ≡ Calls (Tick now)
     → present (host_after (λ j. start_of (hosts j)) older x.place) ≤ now
 kept_goes_onward hosts trace taken newer older x now split is =
     let c = lines_have_calls hosts trace newer x older split in

@@ -7,8 +7,9 @@ use Rattle.wb_codec.specs.declared.datagram.Datagram.{Datagram}
 use Rattle.wb_gaps.specs.Answers.{pages_of}
 use Rattle.wb_progress.specs.Turns.{IsNowAt, Terms}
 use Rattle.wb_member.specs.Opened.{has_room_for, heard, present}
+use Rattle.wb_member.specs.declared.calls.Call.TheVariants.{Tick, Hear}
 use Rattle.wb_policy.specs.declared.limits.TheConstants.{COST}
-use Rattle.wb_keeping.specs.Kept.{Doing, Hears, Line, Says, Ticks, state_of, still, want}
+use Rattle.wb_keeping.specs.Kept.{Calls, Doing, Line, Says, state_of, still, want}
 use Rattle.wb_keeping.specs.Laws.{doing_of, fault_of}
 use Rattle.wb_keeping.specs.Performing.{Keeping, after_doing, sees, view_of}
 use Rattle.wb_policy.specs.Pace.{gap_within}
@@ -53,7 +54,7 @@ same_near : (k m : Keeping) → m.policy.owed ≡ k.policy.owed → m.policy.rep
     → IsNearNow m
 same_near k m owed due beat now n = near_then k m (omega (arith, owed)) due beat (omega (arith, now)) n
 
-hears_near : (v : Datagram) (k : Keeping) → IsNearNow k → IsNearNow (having (Hears v) k)
+hears_near : (v : Datagram) (k : Keeping) → IsNearNow k → IsNearNow (having (Calls (Hear v)) k)
 hears_near v k n = by (has_room_for v k.host) where
   by : (b : Bool) → IsNearNow (record { host = cond b (heard v k.host) k.host; policy = k.policy })
   by true = record { owed = n.owed; due = n.due; beat = n.beat }
@@ -110,7 +111,7 @@ steps_stay_near = record {
     asks_pages = λ k is. record { near = λ n. record { owed = n.owed; due = n.due; beat = n.beat } };
     reports = λ page until told k is. record { near = λ n. record { owed = n.owed; due = next_soon (present k.host) _ (word_of k.policy.words); beat = n.beat } };
   };
-  ticks = λ now k later. record { near = λ n. near_then k (having (Ticks now) k) (omega arith) refl refl later n };
+  ticks = λ now k later. record { near = λ n. near_then k (having (Calls (Tick now)) k) (omega arith) refl refl later n };
   arrives = λ d k. record { near = λ n. record { owed = n.owed; due = n.due; beat = n.beat } };
   answered = λ d k lacks asked. record { near = λ n. record { owed = let o = n.owed in omega (arith, o); due = n.due; beat = n.beat } };
   hears = λ v k. record { near = hears_near v k };

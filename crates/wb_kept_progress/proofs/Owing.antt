@@ -8,10 +8,11 @@ use Rattle.wb_names.proofs.Listings.{Contains-none}
 use Rattle.wb_codec.specs.declared.datagram.Datagram.{Datagram}
 use Rattle.wb_gaps.specs.Answers.{pages_of}
 use Rattle.wb_member.specs.Opened.{has_room_for, heard, present}
+use Rattle.wb_member.specs.declared.calls.Call.TheVariants.{Tick, Hear, Ask}
 use Rattle.wb_policy.specs.Credit.{has_credit}
 use Rattle.wb_policy.specs.declared.limits.TheConstants.{COST}
 use Rattle.wb_keeping.specs.Bounds.{ask_count}
-use Rattle.wb_keeping.specs.Kept.{Asks, Doing, Hears, Line, Says, Ticks, state_of, still, want}
+use Rattle.wb_keeping.specs.Kept.{Calls, Doing, Line, Says, state_of, still, want}
 use Rattle.wb_keeping.specs.Laws.{doing_of, expand}
 use Rattle.wb_keeping.specs.Performing.{Keeping, after_doing, sees, view_of}
 use Rattle.wb_policy.specs.Policy.{after_answer, after_wanting}
@@ -53,16 +54,16 @@ both_owe k m n one other a b = record {
   joined : (first then last now later one other all : ℕ) → now ≤ later → then ≤ max first now + one * 250000 → last ≤ max then later + other * 250000 → all ≡ one + other → last ≤ max first later + all * 250000
   joined first then last now later one other all le p q is = omega (arith, le, p, q, is)
 
-hearing_now : (v : Datagram) (k : Keeping) → present (having (Hears v) k).host ≡ present k.host
+hearing_now : (v : Datagram) (k : Keeping) → present (having (Calls (Hear v)) k).host ≡ present k.host
 hearing_now v k = by (has_room_for v k.host) where
   by : (b : Bool) → present (cond b (heard v k.host) k.host) ≡ present k.host
   by true = refl
   by false = refl
 
 -- at least one line asks
-some_ask : (n : NameValue) (lines : List Line) → Contains lines (Asks n) → 1 ≤ ask_count lines
+some_ask : (n : NameValue) (lines : List Line) → Contains lines (Calls (Ask n)) → 1 ≤ ask_count lines
 some_ask n lines c = asks_at_least (n ∷ []) lines ((λ none. absurd (Contains-none n none)), tt)
-    (λ m d. subst (λ (x : NameValue). Contains lines (Asks x)) (one_of n m d) c)
+    (λ m d. subst (λ (x : NameValue). Contains lines (Calls (Ask x))) (one_of n m d) c)
 
 wants_owe : (name : NameValue) (anew : Bool) (k : Keeping) → Owes k (want name anew (sees k.host) k.policy).lines (after_doing (want name anew) k)
 wants_owe name anew k = by (is_wanted_here name anew (sees k.host) k.policy) now where
@@ -96,10 +97,10 @@ steps_owe = record {
     asks_pages = λ k is. no_more k _ _ (le_refl (present k.host)) (le_refl k.policy.owed);
     reports = λ page until told k is. no_more k _ _ (le_refl (present k.host)) (le_refl k.policy.owed);
   };
-  ticks = λ now k later. no_more k (Ticks now ∷ []) (having (Ticks now) k) later (le_refl k.policy.owed);
+  ticks = λ now k later. no_more k (Calls (Tick now) ∷ []) (having (Calls (Tick now)) k) later (le_refl k.policy.owed);
   arrives = λ d k. no_more k _ _ (le_refl (present k.host)) (le_refl k.policy.owed);
   answered = λ d k lacks asked. no_more k _ _ (le_refl (present k.host)) (sub-le k.policy.owed 500000);
-  hears = λ v k. no_more k _ (having (Hears v) k) (no_later (present (having (Hears v) k).host) (present k.host) (hearing_now v k)) (le_refl k.policy.owed);
+  hears = λ v k. no_more k _ (having (Calls (Hear v)) k) (no_later (present (having (Calls (Hear v)) k).host) (present k.host) (hearing_now v k)) (le_refl k.policy.owed);
   stops = λ name k full. no_more k _ _ (le_refl (present k.host)) (le_refl k.policy.owed);
   sets = λ source micros k. no_more k _ _ (le_refl (present k.host)) (le_refl k.policy.owed);
   lends = λ source k. no_more k _ _ (le_refl (present k.host)) (le_refl k.policy.owed);

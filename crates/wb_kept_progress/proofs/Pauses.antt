@@ -15,7 +15,7 @@ use Rattle.wb_names.specs.Ascending.{AreEchoes}
 use Rattle.wb_names.specs.Values.{MarkValue, NameValue}
 use Rattle.wb_names.specs.declared.echo.Echo.{Echo}
 use Rattle.wb_names.specs.declared.name.PageId.{PageId}
-use Rattle.wb_codec.specs.declared.datagram.Datagram.TheVariants.{Draw, Session, Request, AskPages, PageState}
+use Rattle.wb_codec.specs.declared.datagram.Datagram.TheVariants.{Draw, AskPages}
 use Rattle.wb_gaps.specs.Answers.{pages_of, report_of}
 use Rattle.wb_gaps.specs.Sorting.{inserted, sorted}
 use Rattle.wb_keeper.specs.Keeper.{KeeperCall, senders_of}
@@ -26,6 +26,7 @@ use Rattle.wb_member.specs.Judged.{echoes}
 use Rattle.wb_member.specs.Members.{Misses}
 use Rattle.wb_member.specs.Opened.{Opened, doing as does_act, may_ask, present}
 use Rattle.wb_member.specs.Random.{word_of as member_word}
+use Rattle.wb_member.specs.declared.calls.Call.TheVariants.{Tick, SetDelay, Ask, Stop}
 use Rattle.wb_policy.specs.Choices.{last_heard}
 use Rattle.wb_policy.specs.Policy.{Policy, after_answer, after_question, after_wanting}
 use Rattle.wb_policy.specs.Questions.{is_due}
@@ -33,7 +34,7 @@ use Rattle.wb_policy.specs.Reports.{is_telling, mean_time, members_in, next_repo
 use Rattle.wb_policy.specs.Words.{word_of}
 use Rattle.wb_policy.specs.declared.limits.TheConstants.{HEARD}
 use Rattle.wb_policy.proofs.Latest.{reports_are_small}
-use Rattle.wb_keeping.specs.Kept.{Arrives, Asks, Doing, Hears, Line, Says, SetsDistance, Stops, Ticks, Transition, Tunes, answers, asks_pages, hears, performs, reports, reports_due, reports_rest, state_of, still, timed, turns_due, want}
+use Rattle.wb_keeping.specs.Kept.{Calls, Doing, Line, Says, Transition, answers, asks_pages, hears, performs, reports, reports_due, reports_rest, state_of, still, timed, turns_due, want}
 use Rattle.wb_keeping.specs.Laws.{KeptLine, Came, Ticked, Added, Tuned, doing_of, fault_of}
 use Rattle.wb_keeping.specs.Performing.{Keeping, after_doing, after_line, after_lines, sees}
 use Rattle.wb_keeping.specs.Views.{View}
@@ -135,21 +136,15 @@ module _ (least most : ℕ) (some : 1 ≤ least) where
 -- ---- what a policy asks and tells leaves the echoes
 
 same_echoes : (line : Line) (host : Opened) → IsSmall line → echoes (after_line line host) ≡ echoes host
-same_echoes (Ticks now) host small = absurd small
-same_echoes (Arrives d) host small = absurd small
-same_echoes (Hears v) host small = absurd small
-same_echoes (Asks name) host small = by (may_ask name host) where
+same_echoes (Calls (Ask name)) host small = by (may_ask name host) where
   by : (b : Bool) → echoes (cond b (does_act (Misses (present host) (name ∷ []) (member_word host.random ∷ [])) 1 host) host) ≡ echoes host
   by true = refl
   by false = refl
-same_echoes (Stops name) host small = refl
-same_echoes (SetsDistance source micros) host small = refl
-same_echoes (Tunes constants) host small = absurd small
+same_echoes (Calls (Stop name)) host small = refl
+same_echoes (Calls (SetDelay source micros)) host small = refl
 same_echoes (Says (Draw d)) host small = absurd small
-same_echoes (Says (Session sender sent page marks es)) host small = refl
-same_echoes (Says (Request asker name)) host small = absurd small
-same_echoes (Says (AskPages asker)) host small = refl
-same_echoes (Says (PageState sender page marks)) host small = refl
+same_echoes (Says v) host small = refl
+same_echoes line host small = absurd small
 
 lines_same : (lines : List Line) (host : Opened) → AreSmall lines → echoes (after_lines lines host) ≡ echoes host
 lines_same [] host small = refl
@@ -270,13 +265,13 @@ module _ (least most : ℕ) (some : 1 ≤ least) where
 
   call_pause : (line : KeptLine) (k : Keeping) → DrawsNothing line → IsPacedIfFew k.policy.reports.due (after_doing (doing_of line) k)
   call_pause (Came now v) k draws =
-      let t = having (Ticks now) k in
+      let t = having (Calls (Tick now)) k in
       let m = after_doing (hears v) t in
       let due : m.policy.reports.due ≡ k.policy.reports.due = (hears_tells v (sees t.host) t.policy).due in
       subst (λ (n : Keeping). IsPacedIfFew k.policy.reports.due n) (sym (came_after now v k))
       (subst (λ (d : ℕ). IsPacedIfFew d (after_doing timed m)) due (timed_pause m))
   call_pause (Ticked now) k draws =
-      subst (λ (n : Keeping). IsPacedIfFew k.policy.reports.due n) (sym (then_after (performs (Ticks now)) timed k)) (timed_pause (having (Ticks now) k))
+      subst (λ (n : Keeping). IsPacedIfFew k.policy.reports.due n) (sym (then_after (performs (Calls (Tick now))) timed k)) (timed_pause (having (Calls (Tick now)) k))
   call_pause (Added now page time op) k draws = absurd (draws now page time op refl)
   call_pause (Tuned constants) k draws = λ more few. inl refl
 

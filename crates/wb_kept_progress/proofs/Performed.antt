@@ -6,7 +6,8 @@ use Rattle.wb_names.specs.declared.parts.Op.{Op}
 use Rattle.wb_codec.specs.declared.datagram.Datagram.{Datagram}
 use Rattle.wb_progress.specs.Turns.{IsNowAt, Terms}
 use Rattle.wb_member.specs.Opened.{present}
-use Rattle.wb_keeping.specs.Kept.{Line, Doing, Hears, Tunes, Ticks, Transition, adds, and_then, came, draws_it, ends_full, hears, ticks, timed}
+use Rattle.wb_member.specs.declared.calls.Call.TheVariants.{Tick, Hear, Tune}
+use Rattle.wb_keeping.specs.Kept.{Line, Doing, Transition, adds, and_then, came, draws_it, ends_full, hears, ticks, timed, Calls}
 use Rattle.wb_keeping.specs.Laws.{KeptLine, Came, Ticked, Added, Tuned, doing_of}
 use Rattle.wb_keeping.specs.Performing.{Keeping, after_doing, after_line, after_lines, sees}
 use Rattle.wb_policy.specs.Policy.{Policy}
@@ -50,7 +51,7 @@ kept_is_performed hosts trace = record { same = by trace } where
 -- ---- no ticks but the first
 
 abbrev pub IsNoTick : Line → Type 0
-IsNoTick (Ticks now) = ⊥
+IsNoTick (Calls (Tick now)) = ⊥
 IsNoTick line = Unit {0}
 
 abbrev pub AreNoTicks : List Line → Type 0
@@ -75,28 +76,28 @@ hears_none v = hears_each IsNoTick no_ticks (λ v. tt) v (λ d e. tt)
 -- a call is a tick to its moment, and lines that are none
 pub record Begins (now : ℕ) (d : Doing) : Type 0 where
   pub rest : List Line
-  pub is : d.lines ≡ Ticks now ∷ rest
+  pub is : d.lines ≡ Calls (Tick now) ∷ rest
   pub none : AreNoTicks rest
 
 pub came_begins : (now : ℕ) (v : Datagram) (see : List Line → View) (p : Policy) → Begins now (came now v see p)
-came_begins now v see p = record { rest = _; is = refl; none = then_each IsNoTick (hears v) timed (hears_none v) (timed_each IsNoTick no_ticks) (λ (lines : List Line). see (Ticks now ∷ lines)) p }
+came_begins now v see p = record { rest = _; is = refl; none = then_each IsNoTick (hears v) timed (hears_none v) (timed_each IsNoTick no_ticks) (λ (lines : List Line). see (Calls (Tick now) ∷ lines)) p }
 
 pub ticks_begin : (now : ℕ) (see : List Line → View) (p : Policy) → Begins now (ticks now see p)
-ticks_begin now see p = record { rest = _; is = refl; none = timed_each IsNoTick no_ticks (λ (lines : List Line). see (Ticks now ∷ lines)) p }
+ticks_begin now see p = record { rest = _; is = refl; none = timed_each IsNoTick no_ticks (λ (lines : List Line). see (Calls (Tick now) ∷ lines)) p }
 
 pub adds_begin : (now : ℕ) (page : PageId) (time : ℕ) (op : Op) (see : List Line → View) (p : Policy) → Begins now (adds now page time op see p)
 adds_begin now page time op see p = record {
   rest = _;
   is = refl;
-  none = then_each IsNoTick (draws_it page time op) (and_then ends_full timed) (λ see p. (tt, tt)) (then_each IsNoTick ends_full timed (ends_each IsNoTick no_ticks) (timed_each IsNoTick no_ticks)) (λ (lines : List Line). see (Ticks now ∷ lines)) p;
+  none = then_each IsNoTick (draws_it page time op) (and_then ends_full timed) (λ see p. (tt, tt)) (then_each IsNoTick ends_full timed (ends_each IsNoTick no_ticks) (timed_each IsNoTick no_ticks)) (λ (lines : List Line). see (Calls (Tick now) ∷ lines)) p;
 }
 
 -- ---- moments
 
 module _ (hosts : ℕ → Start) (terms : Terms) where
   record IsInTime (e : Performed) (older : List Performed) : Type 0 where
-    ticks : (now : ℕ) → Contains terms.live e.place → e.line ≡ Ticks now → IsNowAt terms e.time e.place now
-    hears : (v : Datagram) → Contains terms.live e.place → e.line ≡ Hears v → IsNowAt terms e.time e.place (present (host_after hosts older e.place))
+    ticks : (now : ℕ) → Contains terms.live e.place → e.line ≡ Calls (Tick now) → IsNowAt terms e.time e.place now
+    hears : (v : Datagram) → Contains terms.live e.place → e.line ≡ Calls (Hear v) → IsNowAt terms e.time e.place (present (host_after hosts older e.place))
 
   abbrev AreInTime : List Performed → Type 0
   AreInTime [] = Unit {0}
@@ -112,7 +113,7 @@ module _ (hosts : ℕ → Start) (terms : Terms) where
   here : (time place : ℕ) (line : Line) (older : List Performed) → host_after hosts (at_place time place line ∷ older) place ≡ after_line line (host_after hosts older place)
   here time place line older = ap (λ (b : Bool). cond b (after_line line (host_after hosts older place)) (host_after hosts older place)) (eq-eqb place place refl)
 
-  no_tick : (line : Line) (now : ℕ) → IsNoTick line → line ≡ Ticks now → ⊥
+  no_tick : (line : Line) (now : ℕ) → IsNoTick line → line ≡ Calls (Tick now) → ⊥
   no_tick line now none e = subst IsNoTick e none
 
   then_in : (time place : ℕ) (lines : List Line) (older : List Performed) → AreNoTicks lines → AreInTime older → (Contains terms.live place → IsNowAt terms time place (present (host_after hosts older place))) → AreInTime (performed_then time place lines older)
@@ -122,18 +123,18 @@ module _ (hosts : ℕ → Start) (terms : Terms) where
       (record { ticks = λ moment live e. absurd (no_tick line moment none.0 e); hears = λ v live e. now live }, all)
       (λ live. subst (IsNowAt terms time place) (sym (ap present (here time place line older) ∙ ⊎_elim
       (λ (same : present (after_line line (host_after hosts older place)) ≡ present (host_after hosts older place)). same)
-      (λ (t : (moment : ℕ) × (line ≡ Ticks moment) × (present (after_line line (host_after hosts older place)) ≡ moment)). absurd (no_tick line t.0 none.0 t.1))
+      (λ (t : (moment : ℕ) × (line ≡ Calls (Tick moment)) × (present (after_line line (host_after hosts older place)) ≡ moment)). absurd (no_tick line t.0 none.0 t.1))
       (line_moment line (host_after hosts older place)))) (now live))
 
-  call_in : (time place now : ℕ) (rest : List Line) (older : List Performed) → AreNoTicks rest → AreInTime older → (Contains terms.live place → IsNowAt terms time place now) → AreInTime (performed_then time place (Ticks now ∷ rest) older)
+  call_in : (time place now : ℕ) (rest : List Line) (older : List Performed) → AreNoTicks rest → AreInTime older → (Contains terms.live place → IsNowAt terms time place now) → AreInTime (performed_then time place (Calls (Tick now) ∷ rest) older)
   call_in time place now rest older none all told =
-      then_in time place rest (at_place time place (Ticks now) ∷ older) none
+      then_in time place rest (at_place time place (Calls (Tick now)) ∷ older) none
       (record { ticks = λ moment live e. subst (IsNowAt terms time place) (same moment e) (told live); hears = λ v live e. absurd (other v e) }, all)
-      (λ live. subst (IsNowAt terms time place) (sym (ap present (here time place (Ticks now) older))) (told live)) where
-        same : (moment : ℕ) → Ticks now ≡ Ticks moment → now ≡ moment
+      (λ live. subst (IsNowAt terms time place) (sym (ap present (here time place (Calls (Tick now)) older))) (told live)) where
+        same : (moment : ℕ) → Calls (Tick now) ≡ Calls (Tick moment) → now ≡ moment
         same moment e = cc
 
-        other : (v : Datagram) → Ticks now ≡ Hears v → ⊥
+        other : (v : Datagram) → Calls (Tick now) ≡ Calls (Hear v) → ⊥
         other v e = cc
 
   begun_in : (time place now : ℕ) (d : Doing) (older : List Performed) → Begins now d → AreInTime older → (Contains terms.live place → IsNowAt terms time place now) → AreInTime (performed_then time place d.lines older)
@@ -143,8 +144,8 @@ module _ (hosts : ℕ → Start) (terms : Terms) where
   line_in (Came now v) time place see p older told all = begun_in time place now (came now v see p) older (came_begins now v see p) all told
   line_in (Ticked now) time place see p older told all = begun_in time place now (ticks now see p) older (ticks_begin now see p) all told
   line_in (Added now page t op) time place see p older told all = begun_in time place now (adds now page t op see p) older (adds_begin now page t op see p) all told
-  line_in (Tuned constants) time place see p older told all = (record { ticks = λ moment live e. absurd (no_tick (Tunes constants) moment tt e); hears = λ v live e. absurd (unheard v e) }, all) where
-    unheard : (v : Datagram) → Tunes constants ≡ Hears v → ⊥
+  line_in (Tuned constants) time place see p older told all = (record { ticks = λ moment live e. absurd (no_tick (Calls (Tune constants)) moment tt e); hears = λ v live e. absurd (unheard v e) }, all) where
+    unheard : (v : Datagram) → Calls (Tune constants) ≡ Calls (Hear v) → ⊥
     unheard v e = cc
 
 all_in : (hosts : ℕ → Opening) (terms : Terms) (trace : List TimedLine) → TellTimes terms trace → AreInTime (λ j. start_of (hosts j)) terms (performed hosts trace)

@@ -1,6 +1,6 @@
 -- The lines of a repair, one after another.
 use Rattle.wb_progress.specs.Keepers.{constants_at}
-use Rattle.std.proofs.Common.{◌≡◌, ℕ, ◌+◌, ◌<◌, ◌≤◌, Bool, true, false, cond, List, [], ◌∷◌, ◌++◌, ◌∙◌, Option, Some, None, ap, arith, eqb-true, length, map, refl, subst, sym, true≢false}
+use Rattle.std.proofs.Common.{◌≡◌, ℕ, ◌+◌, ◌<◌, ◌≤◌, Bool, true, false, cond, List, [], ◌∷◌, ◌++◌, ◌∙◌, Option, Some, None, ap, arith, eqb-true, length, refl, subst, sym, true≢false}
 use Rattle.std.specs.Prelude.{Contains, IfSome, nat_eq, nat_le, not, ◌||◌}
 use Rattle.std.proofs.lemmas.Bool.{leb-false, false_from_ne_true, le-leb, lt-ltb}
 use Rattle.std.proofs.lemmas.Bool.Decides.{nat_tests}
@@ -32,8 +32,9 @@ use Rattle.wb_progress.proofs.Repairs.{answers_are_soon, asker_asks}
 use Rattle.wb_member.specs.Judged.{is_full}
 use Rattle.wb_member.specs.Opened.{Opened, asks_for, due_count, events, heard, opened_with, present, sent_by, ticked, word_at}
 use Rattle.wb_member.specs.Random.{words_of}
-use Rattle.wb_recovery.specs.declared.limits.TheConstants.{UNKNOWN_DISTANCE}
-use Rattle.wb_keeping.specs.Kept.{Arrives, Doing, Hears, Ticks, and_then, came, hears, learned, performs, still, takes, ticks, timed, Line, SetsDistance, hears_request}
+use Rattle.wb_member.specs.declared.calls.Call.TheVariants as calls
+use Rattle.wb_recovery.specs.declared.limits.TheConstants.{UNKNOWN_DELAY}
+use Rattle.wb_keeping.specs.Kept.{Arrives, Doing, and_then, came, hears, learned, performs, still, takes, ticks, timed, Line, hears_request, Calls, ticks_at}
 use Rattle.wb_keeping.specs.Laws.{Came, KeptLine, Ticked, doing_of, fault_of}
 use Rattle.wb_keeping.specs.Performing.{Keeping, after_doing, after_line, after_lines, sees, sent_by_doing, view_of}
 use Rattle.wb_keeping.specs.Views.{holds as holds_by, is_asked}
@@ -51,57 +52,57 @@ use Rattle.wb_keeping.proofs.EachLine.{learned_each, timed_each}
 
 pub tick_rests : (now : ℕ) (k : Keeping) → Rests (ticked now k.host) (after_doing (ticks now) k).host
 tick_rests now k =
-    subst (λ (m : Keeping). Rests (ticked now k.host) m.host) (sym (then_after (performs (Ticks now)) timed k))
-    (does_rest timed (timed_each IsSmall are_small) (having (Ticks now) k))
+    subst (λ (m : Keeping). Rests (ticked now k.host) m.host) (sym (then_after (performs (Calls (calls.Tick now))) timed k))
+    (does_rest timed (timed_each IsSmall are_small) (having (Calls (calls.Tick now)) k))
 
 pub tick_sends : (now : ℕ) (k : Keeping) (v : Datagram) → Contains (sent_by now k.host) v → Contains (sent_by_doing (ticks now) k) v
 tick_sends now k v c =
-    let m = having (Ticks now) k in
-    subst (λ (s : List Datagram). Contains s v) (sym (then_sent (performs (Ticks now)) timed k))
+    let m = having (Calls (calls.Tick now)) k in
+    subst (λ (s : List Datagram). Contains s v) (sym (then_sent (performs (Calls (calls.Tick now))) timed k))
     (Contains-append_left (sent_by now k.host ++ []) (sent_by_doing timed m) v (Contains-append_left (sent_by now k.host) [] v c))
 
-pub came_after : (now : ℕ) (v : Datagram) (k : Keeping) → after_doing (came now v) k ≡ after_doing timed (after_doing (hears v) (having (Ticks now) k))
-came_after now v k = then_after (performs (Ticks now)) (and_then (hears v) timed) k ∙ then_after (hears v) timed (having (Ticks now) k)
+pub came_after : (now : ℕ) (v : Datagram) (k : Keeping) → after_doing (came now v) k ≡ after_doing timed (after_doing (hears v) (having (Calls (calls.Tick now)) k))
+came_after now v k = then_after (performs (Calls (calls.Tick now))) (and_then (hears v) timed) k ∙ then_after (hears v) timed (having (Calls (calls.Tick now)) k)
 
 -- it hears a request of another
 abbrev done : Keeping → Doing → Keeping
 done k d = record { host = after_lines d.lines k.host; policy = d.policy }
 
--- whose distance counts for a request
+-- whose delay counts for a request
 abbrev heard_source : ℕ → NameValue → Opened → ℕ
 heard_source asker n host = cond (holds_by (view_of host) n) asker n.source
 
--- a host while the usual distance is lent to a source, where that told none
+-- a host while the usual delay is lent to a source, where that told none
 abbrev lending_host : ℕ → ℕ → Opened → Opened
-lending_host source usual host = cond (nat_eq ((view_of host).distance source) UNKNOWN_DISTANCE) (after_line (SetsDistance source usual) host) host
+lending_host source usual host = cond (nat_eq ((view_of host).delay source) UNKNOWN_DELAY) (after_line (Calls (calls.SetDelay source usual)) host) host
 
 pub request_rests : (now asker : ℕ) (n : NameValue) (k : Keeping) → (asker ≡ k.host.is.number → ⊥)
     → let host = ticked now k.host in
-    Rests (after_line (Hears (Request asker n)) (lending_host (heard_source asker n host) k.policy.usual host)) (after_doing (came now (Request asker n)) k).host
-request_rests now asker n k other = subst (λ (x : Keeping). Rests (after_line line (lending_host source k.policy.usual m.host)) x.host) (sym there) (by (nat_eq ((view_of m.host).distance source) UNKNOWN_DISTANCE)) where
+    Rests (after_line (Calls (calls.Hear (Request asker n))) (lending_host (heard_source asker n host) k.policy.usual host)) (after_doing (came now (Request asker n)) k).host
+request_rests now asker n k other = subst (λ (x : Keeping). Rests (after_line line (lending_host source k.policy.usual m.host)) x.host) (sym there) (by (nat_eq ((view_of m.host).delay source) UNKNOWN_DELAY)) where
   m : Keeping
-  m = having (Ticks now) k
+  m = having (Calls (calls.Tick now)) k
 
   line : Line
-  line = Hears (Request asker n)
+  line = Calls (calls.Hear (Request asker n))
 
   source : ℕ
   source = heard_source asker n m.host
 
   with_it : Bool → Doing
-  with_it lends = record { policy = k.policy; lines = cond lends (SetsDistance source k.policy.usual ∷ line ∷ SetsDistance source UNKNOWN_DISTANCE ∷ []) (line ∷ []) }
+  with_it lends = record { policy = k.policy; lines = cond lends (Calls (calls.SetDelay source k.policy.usual) ∷ line ∷ Calls (calls.SetDelay source UNKNOWN_DELAY) ∷ []) (line ∷ []) }
 
-  heard_so : after_doing (hears (Request asker n)) m ≡ done m (with_it (nat_eq ((view_of m.host).distance source) UNKNOWN_DISTANCE))
+  heard_so : after_doing (hears (Request asker n)) m ≡ done m (with_it (nat_eq ((view_of m.host).delay source) UNKNOWN_DELAY))
   heard_so = ap (λ (b : Bool). done m (cond b (still (sees m.host) m.policy) (hears_request asker n (sees m.host) m.policy))) (false_from_ne_true (nat_eq asker k.host.is.number) (λ same. other (eqb-true asker k.host.is.number same)))
 
-  there : after_doing (came now (Request asker n)) k ≡ after_doing timed (done m (with_it (nat_eq ((view_of m.host).distance source) UNKNOWN_DISTANCE)))
+  there : after_doing (came now (Request asker n)) k ≡ after_doing timed (done m (with_it (nat_eq ((view_of m.host).delay source) UNKNOWN_DELAY)))
   there = came_after now (Request asker n) k ∙ ap (after_doing timed) heard_so
 
-  by : (lends : Bool) → Rests (after_line line (cond lends (after_line (SetsDistance source k.policy.usual) m.host) m.host)) (after_doing timed (done m (with_it lends))).host
+  by : (lends : Bool) → Rests (after_line line (cond lends (after_line (Calls (calls.SetDelay source k.policy.usual)) m.host) m.host)) (after_doing timed (done m (with_it lends))).host
   by true =
-      let g = after_line line (after_line (SetsDistance source k.policy.usual) m.host) in
+      let g = after_line line (after_line (Calls (calls.SetDelay source k.policy.usual)) m.host) in
       let last = done m (with_it true) in
-      rests_then g last.host (after_doing timed last).host (line_rests (SetsDistance source UNKNOWN_DISTANCE) g tt) (does_rest timed (timed_each IsSmall are_small) last)
+      rests_then g last.host (after_doing timed last).host (line_rests (Calls (calls.SetDelay source UNKNOWN_DELAY)) g tt) (does_rest timed (timed_each IsSmall are_small) last)
   by false = does_rest timed (timed_each IsSmall are_small) (done m (with_it false))
 
 -- a drawop that is not held is taken into a lt-ltb cell
@@ -120,7 +121,7 @@ taken_in host d lost room =
 
 pub drawop_held : (now : ℕ) (d : DrawopValue) (k : Keeping) → holds k.host.is.held d.name ≡ false → is_full k.host ≡ false → (after_doing (came now (Draw d)) k).host.is.held ≡ k.host.is.held ++ d ∷ []
 drawop_held now d k lost room =
-    let m = having (Ticks now) k in
+    let m = having (Calls (calls.Tick now)) k in
     let asked = is_asked (view_of m.host) d.name in
     let second = learned d.name asked in
     let new = and_then (performs (Arrives d)) second in
@@ -168,7 +169,7 @@ fine_next line k none f =
 
 module _ (hosts : ℕ → Opening) where
   pub of_opening : (lines : List LineAt) (i : ℕ) → IsOf (opened_with (hosts i).constants (hosts i).number (hosts i).cells (hosts i).seed) (host_at hosts lines i)
-  of_opening [] i = lines_of (map Ticks (hosts i).moments) (opened_with (hosts i).constants (hosts i).number (hosts i).cells (hosts i).seed)
+  of_opening [] i = lines_of (ticks_at (hosts i).moments) (opened_with (hosts i).constants (hosts i).number (hosts i).cells (hosts i).seed)
   of_opening (e ∷ older) i = by (of_opening older i) (nat_eq e.place i) where
     start : Opened
     start = opened_with (hosts i).constants (hosts i).number (hosts i).cells (hosts i).seed
@@ -183,7 +184,7 @@ module _ (hosts : ℕ → Opening) where
         record { number = one.number ∙ rest.number; cells = one.cells ∙ rest.cells; constants = one.constants ∙ rest.constants }
 
   pub held_once : (lines : List LineAt) (i : ℕ) → IsHistory (host_at hosts lines i).is.held
-  held_once [] i = (lines_grow (map Ticks (hosts i).moments) (opened_with (hosts i).constants (hosts i).number (hosts i).cells (hosts i).seed)).once (λ j k d jk lt. absurd (omega arith))
+  held_once [] i = (lines_grow (ticks_at (hosts i).moments) (opened_with (hosts i).constants (hosts i).number (hosts i).cells (hosts i).seed)).once (λ j k d jk lt. absurd (omega arith))
   held_once (e ∷ older) i = by (held_once older i) (nat_eq e.place i) where
     k : Keeping
     k = kept_at hosts older i
@@ -356,7 +357,7 @@ module _ (o : Keeping) (fine : IsFine o) (d : DrawopValue) (held : Contains o.ho
     timer : AnswerTimer
     timers_are : timers next ≡ record { ask = None; answer = Some timer; quiet = (timers host).quiet }
 
-  hears_it : (host : Opened) → present host ≡ second → host.is.held ≡ o2.host.is.held → (asker ≡ host.is.number → ⊥) → IsIdle (timers host) → (timers host).quiet ≤ second → Heard host (after_line (Hears (Request asker n)) host)
+  hears_it : (host : Opened) → present host ≡ second → host.is.held ≡ o2.host.is.held → (asker ≡ host.is.number → ⊥) → IsIdle (timers host) → (timers host).quiet ≤ second → Heard host (after_line (Calls (calls.Hear (Request asker n))) host)
   hears_it host now same apart idle quiet = subst (Heard host) (sym heard_so) (record {
     held_is = refl;
     now_is = refl;
@@ -365,18 +366,18 @@ module _ (o : Keeping) (fine : IsFine o) (d : DrawopValue) (held : Contains o.ho
         ap (λ (b : Bool). timers_of host.is.constants (events_of host.is.number (Hear (present host) (Request asker n) (word_at (Request asker n) host.random) b ∷ host.is.calls)) n) (ap (λ (h : List DrawopValue). holds h n) same ∙ has o2.host held_2)
         ∙ requests_set host.is.number host.is.constants host.is.calls (present host) asker (word_at (Request asker n) host.random) n apart idle (subst (λ (t : ℕ). (timers host).quiet ≤ t) (sym now) quiet);
   }) where
-    heard_so : after_line (Hears (Request asker n)) host ≡ heard (Request asker n) host
+    heard_so : after_line (Calls (calls.Hear (Request asker n))) host ≡ heard (Request asker n) host
     heard_so = ap (λ (b : Bool). cond b (heard (Request asker n) host) host) (or-true (is_own host.is.number (Request asker n)))
 
   abbrev g3 : Opened
-  g3 = after_line (Hears (Request asker n)) (lending_host (heard_source asker n h3) o2.policy.usual h3)
+  g3 = after_line (Calls (calls.Hear (Request asker n))) (lending_host (heard_source asker n h3) o2.policy.usual h3)
 
   heard_3 : Heard h3 g3
-  heard_3 = by (nat_eq ((view_of h3).distance (heard_source asker n h3)) UNKNOWN_DISTANCE) where
+  heard_3 = by (nat_eq ((view_of h3).delay (heard_source asker n h3)) UNKNOWN_DELAY) where
     lent : Opened
-    lent = after_line (SetsDistance (heard_source asker n h3) o2.policy.usual) h3
+    lent = after_line (Calls (calls.SetDelay (heard_source asker n h3) o2.policy.usual)) h3
 
-    by : (b : Bool) → Heard h3 (after_line (Hears (Request asker n)) (cond b lent h3))
+    by : (b : Bool) → Heard h3 (after_line (Calls (calls.Hear (Request asker n))) (cond b lent h3))
     by true = let h = hears_it lent refl refl another_2 idle_h3 quiet_h3 in record { held_is = h.held_is; now_is = h.now_is; timer = h.timer; timers_are = h.timers_are }
     by false = hears_it h3 refl refl another_2 idle_h3 quiet_h3
 

@@ -12,8 +12,9 @@ use Rattle.wb_progress.proofs.NamesApart.{apart_append}
 use Rattle.wb_progress.proofs.Parts.{tails}
 use Rattle.wb_member.specs.Judged.{holds}
 use Rattle.wb_member.specs.Opened.{Opened, asks_for}
+use Rattle.wb_member.specs.declared.calls.Call.TheVariants.{Tick, Tune}
 use Rattle.wb_keeping.specs.Bounds.{ask_count}
-use Rattle.wb_keeping.specs.Kept.{Line, Ticks, Tunes}
+use Rattle.wb_keeping.specs.Kept.{Calls, Line}
 use Rattle.wb_keeping.specs.Laws.{Added, Came, KeptLine, Ticked, Tuned, doing_of}
 use Rattle.wb_keeping.specs.Performing.{Keeping, after_line, sees}
 use Rattle.wb_keeping.specs.Views.{View}
@@ -122,10 +123,10 @@ module _ (hosts : ℕ → Opening) where
     First line see p = (first : Line) × (rest : List Line) × ((doing_of line see p).lines ≡ first ∷ rest) × ((h : Opened) → holds (after_line first h) m ≡ true → holds h m ≡ true)
 
     first_line : (line : KeptLine) (see : List Line → View) (p : Policy) → First line see p
-    first_line (Came now v) see p = (Ticks now, _, refl, λ h e. e)
-    first_line (Ticked now) see p = (Ticks now, _, refl, λ h e. e)
-    first_line (Added now page time op) see p = (Ticks now, _, refl, λ h e. e)
-    first_line (Tuned constants) see p = (Tunes constants, [], refl, λ h e. e)
+    first_line (Came now v) see p = (Calls (Tick now), _, refl, λ h e. e)
+    first_line (Ticked now) see p = (Calls (Tick now), _, refl, λ h e. e)
+    first_line (Added now page time op) see p = (Calls (Tick now), _, refl, λ h e. e)
+    first_line (Tuned constants) see p = (Calls (Tune constants), [], refl, λ h e. e)
 
     abbrev its : Keeping
     its = there hosts part e.at.place

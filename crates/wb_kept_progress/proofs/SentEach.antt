@@ -8,12 +8,14 @@ use Rattle.wb_names.specs.Orders.{same_name}
 use Rattle.wb_names.specs.Values.{DrawopValue, NameValue}
 use Rattle.wb_names.proofs.Listings.{Contains-here, Contains-there}
 use Rattle.wb_codec.specs.declared.datagram.Datagram.{Datagram}
-use Rattle.wb_codec.specs.declared.datagram.Datagram.TheVariants.{AskPages, Draw, PageState, Request, Session}
+use Rattle.wb_codec.specs.declared.datagram.Datagram.TheVariants.{AskPages, Draw, Request}
 use Rattle.wb_recovery.specs.declared.plan.Action.{Action}
 use Rattle.wb_recovery.specs.declared.plan.Action.TheVariants.{Answer, Ask}
 use Rattle.wb_keeper.specs.Ticks.{drawop_of, sent_for}
 use Rattle.wb_member.specs.Opened.{Opened, becomes, has_room_for}
-use Rattle.wb_keeping.specs.Kept.{Arrives, Asks, Hears, Line, Says, SetsDistance, Stops, Ticks, Tunes}
+use Rattle.wb_member.specs.declared.calls.Call.TheVariants as calls
+use Rattle.wb_member.proofs.PolicyCalls.{nothing_sent}
+use Rattle.wb_keeping.specs.Kept.{Arrives, Calls, Line, Says}
 use Rattle.wb_keeping.specs.Laws.{KeptLine, after_kept, expand, sent_by_kept}
 use Rattle.wb_keeping.specs.Performing.{Keeping, after_line, after_lines, said_where, sent_by_line, sent_by_lines}
 use Rattle.wb_keeping.proofs.EachLine.{Each}
@@ -25,14 +27,9 @@ use Rattle.wb_kept_progress.proofs.SentKinds.{AnswerNot, AnswersNot, kept_answer
 module _ (P : Datagram → Type 0) where
   -- it is so of a drawop that comes by a line, and of what a line says
   abbrev pub Tells : Line → Type 0
-  Tells (Ticks now) = Unit {0}
   Tells (Arrives d) = P (Draw d)
-  Tells (Hears v) = Unit {0}
-  Tells (Asks name) = Unit {0}
-  Tells (Stops name) = Unit {0}
-  Tells (SetsDistance source micros) = Unit {0}
-  Tells (Tunes constants) = Unit {0}
   Tells (Says v) = P v
+  Tells line = Unit {0}
 
   -- and of all that is held
   abbrev pub IsHeld : List DrawopValue → Type 0
@@ -74,22 +71,13 @@ module _ (P : Datagram → Type 0) where
     no_answer false = tt
 
     line_sends : (line : Line) (host : Opened) → AnswersNot line → Tells line → IsHeld host.is.held → Every P (sent_by_line line host)
-    line_sends (Ticks now) host not tells is = tick_sends host.is.number host.is.held is _
-    line_sends (Arrives d) host not tells is = tt
-    line_sends (Hears (Draw d)) host not tells is = no_answer (has_room_for (Draw d) host)
-    line_sends (Hears (Session sender sent page marks echoes)) host not tells is = no_answer (has_room_for (Session sender sent page marks echoes) host)
-    line_sends (Hears (Request asker name)) host not tells is = no_answer (has_room_for (Request asker name) host)
-    line_sends (Hears (AskPages asker)) host not tells is = absurd not
-    line_sends (Hears (PageState sender page marks)) host not tells is = no_answer (has_room_for (PageState sender page marks) host)
-    line_sends (Asks name) host not tells is = tt
-    line_sends (Stops name) host not tells is = tt
-    line_sends (SetsDistance source micros) host not tells is = tt
-    line_sends (Tunes constants) host not tells is = tt
+    line_sends (Calls (calls.Tick now)) host not tells is = tick_sends host.is.number host.is.held is _
+    line_sends (Calls (calls.Hear (AskPages asker))) host not tells is = absurd not
+    line_sends (Calls (calls.Hear v)) host not tells is = no_answer (has_room_for v host)
+    line_sends (Calls call) host not tells is = subst (Every P) (sym (nothing_sent call host not)) tt
     line_sends (Says (Draw d)) host not tells is = said_is d (becomes d host) tells
-    line_sends (Says (Session sender sent page marks echoes)) host not tells is = (tells, tt)
-    line_sends (Says (Request asker name)) host not tells is = (tells, tt)
-    line_sends (Says (AskPages asker)) host not tells is = (tells, tt)
-    line_sends (Says (PageState sender page marks)) host not tells is = (tells, tt)
+    line_sends (Says v) host not tells is = (tells, tt)
+    line_sends (Arrives d) host not tells is = tt
 
     lines_send : (lines : List Line) (host : Opened) → AnswerNot lines → Each Tells lines → IsHeld host.is.held → Every P (sent_by_lines lines host) × IsHeld (after_lines lines host).is.held
     lines_send [] host not tell is = (tt, is)

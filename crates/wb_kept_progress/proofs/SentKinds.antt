@@ -12,8 +12,10 @@ use Rattle.wb_recovery.specs.declared.plan.Action.{Action}
 use Rattle.wb_recovery.specs.declared.plan.Action.TheVariants.{Answer, Ask}
 use Rattle.wb_keeper.specs.Ticks.{drawop_of, sent_for}
 use Rattle.wb_member.specs.Opened.{Opened, becomes, has_room_for, present}
+use Rattle.wb_member.specs.declared.calls.Call.TheVariants as calls
+use Rattle.wb_member.proofs.PolicyCalls.{SendsNothing, nothing_sent}
 use Rattle.wb_keeping.specs.Bounds.{is_question, is_report, is_state}
-use Rattle.wb_keeping.specs.Kept.{Arrives, Asks, Hears, Line, Says, SetsDistance, Stops, Ticks, Tunes}
+use Rattle.wb_keeping.specs.Kept.{Arrives, Calls, Line, Says}
 use Rattle.wb_keeping.specs.Laws.{KeptLine, after_kept, doing_of, expand, sent_by_kept}
 use Rattle.wb_keeping.specs.Performing.{Keeping, after_doing, after_line, said_where, sent_by_line, sent_by_lines}
 use Rattle.wb_keeping.proofs.KeptHosts.{kept_hosts_are_hosts}
@@ -24,37 +26,25 @@ use Rattle.wb_kept_progress.proofs.Named.{more_if, one_if}
 
 -- ---- lines that answer no question at once
 
+-- of calls, ticks alone send anything
 abbrev pub AnswersNot : Line → Type 0
-AnswersNot (Hears (AskPages asker)) = ⊥
-AnswersNot (Hears (Draw d)) = Unit {0}
-AnswersNot (Hears (Session sender sent page marks echoes)) = Unit {0}
-AnswersNot (Hears (Request asker name)) = Unit {0}
-AnswersNot (Hears (PageState sender page marks)) = Unit {0}
-AnswersNot (Ticks now) = Unit {0}
-AnswersNot (Arrives d) = Unit {0}
-AnswersNot (Asks name) = Unit {0}
-AnswersNot (Stops name) = Unit {0}
-AnswersNot (SetsDistance source micros) = Unit {0}
-AnswersNot (Tunes constants) = Unit {0}
-AnswersNot (Says v) = Unit {0}
+AnswersNot (Calls (calls.Tick now)) = Unit {0}
+AnswersNot (Calls (calls.Hear (AskPages asker))) = ⊥
+AnswersNot (Calls (calls.Hear v)) = Unit {0}
+AnswersNot (Calls call) = SendsNothing call
+AnswersNot line = Unit {0}
 
 abbrev pub AnswerNot : List Line → Type 0
 AnswerNot [] = Unit {0}
 AnswerNot (line ∷ lines) = AnswersNot line × AnswerNot lines
 
 none_heard : (call : KeptLine) (start host : Opened) (line : Line) → IsLineOf call start host line → AnswersNot line
-none_heard call start host (Hears (AskPages asker)) is = is
-none_heard call start host (Hears (Draw d)) is = tt
-none_heard call start host (Hears (Session sender sent page marks echoes)) is = tt
-none_heard call start host (Hears (Request asker name)) is = tt
-none_heard call start host (Hears (PageState sender page marks)) is = tt
-none_heard call start host (Ticks now) is = tt
-none_heard call start host (Arrives d) is = tt
-none_heard call start host (Asks name) is = tt
-none_heard call start host (Stops name) is = tt
-none_heard call start host (SetsDistance source micros) is = tt
-none_heard call start host (Tunes constants) is = tt
-none_heard call start host (Says v) is = tt
+none_heard call start host (Calls (calls.Tick now)) is = tt
+none_heard call start host (Calls (calls.Hear (AskPages asker))) is = is
+none_heard call start host (Calls (calls.Hear v)) is = tt
+none_heard call start host (Calls (calls.Tune constants)) is = tt
+none_heard call start host (Calls made) is = is
+none_heard call start host line is = tt
 
 all_heard : (call : KeptLine) (start host : Opened) (lines : List Line) → AreLinesOf call start host lines → AnswerNot lines
 all_heard call start host [] are = tt
@@ -76,14 +66,8 @@ pub kind_both : (kind : Datagram → Bool) (one other : List Datagram) → how_m
 kind_both kind one other = ap (λ (sent : List Datagram). length sent) (filter-append kind one other) ∙ length-append (filter kind one) (filter kind other)
 
 abbrev says : (Datagram → Bool) → Line → Bool
-says kind (Ticks now) = false
-says kind (Arrives d) = false
-says kind (Hears v) = false
-says kind (Asks name) = false
-says kind (Stops name) = false
-says kind (SetsDistance source micros) = false
-says kind (Tunes constants) = false
 says kind (Says v) = kind v
+says kind line = false
 
 -- a kind of what is neither a request nor a drawop
 module _ (kind : Datagram → Bool) (requests : (asker : ℕ) (name : NameValue) → kind (Request asker name) ≡ false) (drawops : (d : DrawopValue) → kind (Draw d) ≡ false) where
@@ -115,22 +99,13 @@ module _ (kind : Datagram → Bool) (requests : (asker : ℕ) (name : NameValue)
   no_answer false = refl
 
   line_kind : (line : Line) (host : Opened) → AnswersNot line → how_many kind (sent_by_line line host) ≡ one_if (says kind line)
-  line_kind (Ticks now) host not = tick_kind host.is.number host.is.held _
-  line_kind (Arrives d) host not = refl
-  line_kind (Hears (Draw d)) host not = no_answer (has_room_for (Draw d) host)
-  line_kind (Hears (Session sender sent page marks echoes)) host not = no_answer (has_room_for (Session sender sent page marks echoes) host)
-  line_kind (Hears (Request asker name)) host not = no_answer (has_room_for (Request asker name) host)
-  line_kind (Hears (AskPages asker)) host not = absurd not
-  line_kind (Hears (PageState sender page marks)) host not = no_answer (has_room_for (PageState sender page marks) host)
-  line_kind (Asks name) host not = refl
-  line_kind (Stops name) host not = refl
-  line_kind (SetsDistance source micros) host not = refl
-  line_kind (Tunes constants) host not = refl
+  line_kind (Calls (calls.Tick now)) host not = tick_kind host.is.number host.is.held _
+  line_kind (Calls (calls.Hear (AskPages asker))) host not = absurd not
+  line_kind (Calls (calls.Hear v)) host not = no_answer (has_room_for v host)
+  line_kind (Calls call) host not = ap (how_many kind) (nothing_sent call host not)
   line_kind (Says (Draw d)) host not = said_kind d (becomes d host) ∙ ap one_if (sym (drawops d))
-  line_kind (Says (Session sender sent page marks echoes)) host not = single (Session sender sent page marks echoes)
-  line_kind (Says (Request asker name)) host not = single (Request asker name)
-  line_kind (Says (AskPages asker)) host not = single (AskPages asker)
-  line_kind (Says (PageState sender page marks)) host not = single (PageState sender page marks)
+  line_kind (Says v) host not = single v
+  line_kind (Arrives d) host not = refl
 
   -- as many as lines that say one
   module _ (is_one : Line → Bool) (same : (line : Line) → is_one line ≡ says kind line) where
@@ -149,46 +124,16 @@ module _ (kind : Datagram → Bool) (requests : (asker : ℕ) (name : NameValue)
 -- ---- reports, page states and questions
 
 report_says : (line : Line) → is_report line ≡ says is_session line
-report_says (Ticks now) = refl
-report_says (Arrives d) = refl
-report_says (Hears v) = refl
-report_says (Asks name) = refl
-report_says (Stops name) = refl
-report_says (SetsDistance source micros) = refl
-report_says (Tunes constants) = refl
-report_says (Says (Draw d)) = refl
 report_says (Says (Session sender sent page marks echoes)) = refl
-report_says (Says (Request asker name)) = refl
-report_says (Says (AskPages asker)) = refl
-report_says (Says (PageState sender page marks)) = refl
+report_says line = refl
 
 state_says : (line : Line) → is_state line ≡ says is_page_state line
-state_says (Ticks now) = refl
-state_says (Arrives d) = refl
-state_says (Hears v) = refl
-state_says (Asks name) = refl
-state_says (Stops name) = refl
-state_says (SetsDistance source micros) = refl
-state_says (Tunes constants) = refl
-state_says (Says (Draw d)) = refl
-state_says (Says (Session sender sent page marks echoes)) = refl
-state_says (Says (Request asker name)) = refl
-state_says (Says (AskPages asker)) = refl
 state_says (Says (PageState sender page marks)) = refl
+state_says line = refl
 
 question_says : (line : Line) → is_question line ≡ says is_page_question line
-question_says (Ticks now) = refl
-question_says (Arrives d) = refl
-question_says (Hears v) = refl
-question_says (Asks name) = refl
-question_says (Stops name) = refl
-question_says (SetsDistance source micros) = refl
-question_says (Tunes constants) = refl
-question_says (Says (Draw d)) = refl
-question_says (Says (Session sender sent page marks echoes)) = refl
-question_says (Says (Request asker name)) = refl
 question_says (Says (AskPages asker)) = refl
-question_says (Says (PageState sender page marks)) = refl
+question_says line = refl
 
 pub little_is_sent : LittleIsSent
 little_is_sent lines k wait taken =

@@ -1,4 +1,4 @@
--- A test of the distances of a session that computes, and what it tells: none is above a bound of its own.
+-- A test of the delays of a session that computes, and what it tells: none is above a bound of its own.
 use Rattle.std.proofs.Common.{◌≡◌, ℕ, ◌≤◌, Bool, true, false, ◌&&◌, cond, List, [], ◌∷◌, ◌++◌, eqb-true, nat_eq, nat_le, refl, subst, sym}
 use Rattle.std.specs.Prelude.{Option, None, Some, unwrap_or}
 use Rattle.std.specs.List.{find}
@@ -7,13 +7,14 @@ use Rattle.std.proofs.lemmas.Bool.{and_parts, leb-true}
 use Rattle.wb_codec.specs.declared.datagram.Datagram.{Datagram}
 use Rattle.wb_codec.specs.declared.datagram.Datagram.TheVariants.{Draw, Session, Request, AskPages, PageState}
 use Rattle.wb_progress.specs.Turns.{Terms}
-use Rattle.wb_keeper.specs.Keeper.{delay_given, distance_by, is_own, newest}
+use Rattle.wb_keeper.specs.Keeper.{delay_given, delay_by, is_own, newest}
 use Rattle.wb_member.specs.Judged.{delay}
 use Rattle.wb_member.specs.Opened.{Opened, has_room_for, heard, may_ask, opened_with, present}
-use Rattle.wb_keeping.specs.Kept.{Line, Arrives, Asks, Hears, Says, SetsDistance, Stops, Ticks, Tunes}
+use Rattle.wb_member.specs.declared.calls.Call.TheVariants.{Hear, SetDelay, Ask}
+use Rattle.wb_keeping.specs.Kept.{Line, Says, Calls}
 use Rattle.wb_keeping.specs.Laws.{doing_of}
 use Rattle.wb_keeping.specs.Performing.{Keeping, after_doing, after_line, after_lines, sees}
-use Rattle.wb_keeping.proofs.KeptDistances.{AreSo, ticks_so}
+use Rattle.wb_keeping.proofs.KeptDelays.{AreSo, ticks_so}
 use Rattle.wb_keeping.proofs.SpacedLines.{either_host, missing}
 use Rattle.wb_kept_progress.specs.Sessions.{Opening}
 use Rattle.wb_kept_progress.specs.Timed.{GoByShort, TimedLine, performed, start_of}
@@ -30,23 +31,18 @@ module _ (hosts : ℕ → Opening) (terms : Terms) where
   is_near None = true
   is_near (Some micros) = nat_le micros terms.far
 
-  -- the distance that an echo of this member tells in what is heard
+  -- the delay that an echo of this member tells in what is heard
   abbrev tells_near : (me now : ℕ) → Datagram → Bool
-  tells_near me now (Session sender sent page marks echoes) = is_near (distance_by now (find (λ e. nat_eq e.source me) echoes))
+  tells_near me now (Session sender sent page marks echoes) = is_near (delay_by now (find (λ e. nat_eq e.source me) echoes))
   tells_near me now (Draw d) = true
   tells_near me now (Request asker name) = true
   tells_near me now (AskPages asker) = true
   tells_near me now (PageState sender page marks) = true
 
   abbrev line_near : Opened → Line → Bool
-  line_near host (Hears v) = tells_near host.is.number (present host) v
-  line_near host (SetsDistance source micros) = nat_le micros terms.far
-  line_near host (Ticks now) = true
-  line_near host (Arrives d) = true
-  line_near host (Asks name) = true
-  line_near host (Stops name) = true
-  line_near host (Tunes constants) = true
-  line_near host (Says v) = true
+  line_near host (Calls (Hear v)) = tells_near host.is.number (present host) v
+  line_near host (Calls (SetDelay source micros)) = nat_le micros terms.far
+  line_near host line = true
 
   -- lines, one after the other, and those of each call
   abbrev told_near : List Line → Opened → Bool
@@ -60,7 +56,7 @@ module _ (hosts : ℕ → Opening) (terms : Terms) where
   calls_near [] = true
   calls_near (e ∷ older) = call_near e (there hosts older e.at.place) && calls_near older
 
-  -- ---- what it tells of distances
+  -- ---- what it tells of delays
 
   abbrev told_last : ℕ → Opened → Option ℕ
   told_last source host = newest (delay_given host.is.number source) host.is.calls
@@ -77,7 +73,7 @@ module _ (hosts : ℕ → Opening) (terms : Terms) where
   none_of true o near = refl
   none_of false o near = near
 
-  -- what tells none leaves each distance as it was
+  -- what tells none leaves each delay as it was
   none_near : (b : Bool) (host : Opened) (source : ℕ) → IsNear (delay host source) → IsNear (unwrap_or (option_or (cond b None None) (told_last source host)) 100000)
   none_near true host source so = so
   none_near false host source so = so
@@ -85,7 +81,7 @@ module _ (hosts : ℕ → Opening) (terms : Terms) where
   heard_near : (v : Datagram) (host : Opened) → tells_near host.is.number (present host) v ≡ true → AreSo IsNear host → AreSo IsNear (heard v host)
   heard_near (Session sender sent page marks echoes) host near so source =
       let own = is_own host.is.number (Session sender sent page marks echoes) in
-      let told = distance_by (present host) (find (λ e. nat_eq e.source host.is.number) echoes) in
+      let told = delay_by (present host) (find (λ e. nat_eq e.source host.is.number) echoes) in
       let given = cond (nat_eq sender source) told None in
       option_near (cond own None given) (none_of own given (one_of (nat_eq sender source) told near)) host source (so source)
   heard_near (Draw d) host near so source = none_near (is_own host.is.number (Draw d)) host source (so source)
@@ -94,18 +90,11 @@ module _ (hosts : ℕ → Opening) (terms : Terms) where
   heard_near (PageState sender page marks) host near so source = none_near (is_own host.is.number (PageState sender page marks)) host source (so source)
 
   after_near : (line : Line) (host : Opened) → line_near host line ≡ true → AreSo IsNear host → AreSo IsNear (after_line line host)
-  after_near (Ticks now) host near so = λ source. so source
-  after_near (Arrives d) host near so = λ source. so source
-  after_near (Hears v) host near so = either_host (AreSo IsNear) (has_room_for v host) (heard v host) host (heard_near v host near so) so
-  after_near (Asks name) host near so = either_host (AreSo IsNear) (may_ask name host) (missing name host) host (λ source. so source) so
-  after_near (Stops name) host near so = λ source. so source
-  after_near (SetsDistance source micros) host near so = λ other. option_near (cond (nat_eq source other) (Some micros) None) (one_of (nat_eq source other) (Some micros) near) host other (so other)
-  after_near (Tunes constants) host near so = λ source. so source
+  after_near (Calls (Hear v)) host near so = either_host (AreSo IsNear) (has_room_for v host) (heard v host) host (heard_near v host near so) so
+  after_near (Calls (Ask name)) host near so = either_host (AreSo IsNear) (may_ask name host) (missing name host) host (λ source. so source) so
+  after_near (Calls (SetDelay source micros)) host near so = λ other. option_near (cond (nat_eq source other) (Some micros) None) (one_of (nat_eq source other) (Some micros) near) host other (so other)
   after_near (Says (Draw d)) host near so = λ source. so source
-  after_near (Says (Session sender sent page marks echoes)) host near so = so
-  after_near (Says (Request asker name)) host near so = so
-  after_near (Says (AskPages asker)) host near so = so
-  after_near (Says (PageState sender page marks)) host near so = so
+  after_near line host near so = λ source. so source
 
   all_near : (lines : List Line) (host : Opened) → told_near lines host ≡ true → AreSo IsNear host → AreSo IsNear (after_lines lines host)
   all_near [] host near so = so

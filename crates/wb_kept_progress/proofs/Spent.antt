@@ -3,7 +3,8 @@ use Rattle.std.proofs.Common.{◌≡◌, ℕ, ◌≤◌, ◌∷◌, arith, inl, 
 use Rattle.std.specs.Prelude.{◌⊎◌, Contains}
 use Rattle.wb_names.specs.Values.{NameValue}
 use Rattle.wb_policy.specs.Credit.{spent}
-use Rattle.wb_keeping.specs.Kept.{Asks}
+use Rattle.wb_member.specs.declared.calls.Call.TheVariants.{Ask}
+use Rattle.wb_keeping.specs.Kept.{Calls}
 use Rattle.wb_kept_progress.specs.Whole.{IsHeldBySome, there}
 use Rattle.wb_kept_progress.proofs.Causes.{goes}
 use Rattle.wb_kept_progress.proofs.Moments.{moment_of}
@@ -22,7 +23,7 @@ credit_is_spent held_was hosts terms trace newer older e session split late =
     ⊎_elim
     (λ (more : IsMore k next). inr (inl (more_differs k next more)))
     (λ (c : IsCourse (λ n. IsHeldBySome hosts terms trace n) k now (does hosts e older) next). ⊎_elim
-    (λ (h : (n : NameValue) × Contains (does hosts e older) (Asks n) × IsHeldBySome hosts terms trace n). inl h)
+    (λ (h : (n : NameValue) × Contains (does hosts e older) (Calls (Ask n)) × IsHeldBySome hosts terms trace n). inl h)
     (λ (rest : (next.policy.owed ≡ k.policy.owed) ⊎ ((k.policy.pace.due ≤ now) × (next.policy.owed ≡ spent k.policy.owed now))). ⊎_elim
     (λ (same : next.policy.owed ≡ k.policy.owed). inr (inr (inl (at_most _ _ same))))
     (λ (one : (k.policy.pace.due ≤ now) × (next.policy.owed ≡ spent k.policy.owed now)). inr (inr (inr (one.0, at_most _ _ one.1))))

@@ -8,8 +8,9 @@ use Rattle.wb_names.specs.declared.parts.Op.{Op}
 use Rattle.wb_codec.specs.declared.datagram.Datagram.{Datagram}
 use Rattle.wb_codec.specs.declared.datagram.Datagram.TheVariants.{Draw, Session, Request, AskPages, PageState}
 use Rattle.wb_member.specs.Opened.{Opened, present}
+use Rattle.wb_member.specs.declared.calls.Call.TheVariants.{Tick}
 use Rattle.wb_keeping.specs.Fairness.{AnswersWhatIsHeld}
-use Rattle.wb_keeping.specs.Kept.{Doing, Line, Ticks, Transition, and_then, came, hears, performs, ticks, timed}
+use Rattle.wb_keeping.specs.Kept.{Calls, Doing, Line, Transition, and_then, came, hears, performs, ticks, timed}
 use Rattle.wb_keeping.specs.Laws.{KeptLine, Came, Ticked, Added, Tuned, doing_of}
 use Rattle.wb_keeping.specs.Performing.{Keeping, after_doing, after_line, after_lines, sees, sent_by_doing}
 use Rattle.wb_keeping.proofs.EachStep.{having}
@@ -30,7 +31,7 @@ use Rattle.wb_kept_progress.proofs.AskedInCalls.{AreTold, AsksFor, IsMore, hears
 pub line_now : (line : Line) (host : Opened) → IsNoTick line → present (after_line line host) ≡ present host
 line_now line host none = ⊎_elim
     (λ (same : present (after_line line host) ≡ present host). same)
-    (λ (t : (now : ℕ) × (line ≡ Ticks now) × (present (after_line line host) ≡ now)). absurd (subst IsNoTick t.1 none))
+    (λ (t : (now : ℕ) × (line ≡ Calls (Tick now)) × (present (after_line line host) ≡ now)). absurd (subst IsNoTick t.1 none))
     (line_moment line host)
 
 pub no_ticks_stand : (lines : List Line) (host : Opened) → AreNoTicks lines → present (after_lines lines host) ≡ present host
@@ -38,7 +39,7 @@ no_ticks_stand [] host none = refl
 no_ticks_stand (line ∷ lines) host none = no_ticks_stand lines (after_line line host) none.1 ∙ line_now line host none.0
 
 begun_now : (now : ℕ) (d : Doing) (host : Opened) → Begins now d → present (after_lines d.lines host) ≡ now
-begun_now now d host b = ap (λ (lines : List Line). present (after_lines lines host)) b.is ∙ no_ticks_stand b.rest (after_line (Ticks now) host) b.none
+begun_now now d host b = ap (λ (lines : List Line). present (after_lines lines host)) b.is ∙ no_ticks_stand b.rest (after_line (Calls (Tick now)) host) b.none
 
 pub came_now : (now : ℕ) (v : Datagram) (k : Keeping) → present (after_doing (came now v) k).host ≡ now
 came_now now v k = begun_now now (came now v (sees k.host) k.policy) k.host (came_begins now v (sees k.host) k.policy)
@@ -85,8 +86,8 @@ hears_leave v k same =
 
 pub ticked_call : (now : ℕ) (k : Keeping) → AnswersWhatIsHeld k.host → IsTimedCall (ticks now) k now
 ticked_call now k answers_held =
-    let first = performs (Ticks now) in
-    let m = having (Ticks now) k in
+    let first = performs (Calls (Tick now)) in
+    let m = having (Calls (Tick now)) k in
     let behind : after_doing (ticks now) k ≡ after_doing timed m = then_after first timed k in
     record {
       m = m;
@@ -99,18 +100,18 @@ ticked_call now k answers_held =
       policy = same_policy k.policy;
       held = refl;
       now_is = refl;
-      of = line_of (Ticks now) k.host;
+      of = line_of (Calls (Tick now)) k.host;
       answers_held = answers_on first k answers_held;
     }
 
 came_call : (now : ℕ) (v : Datagram) (k : Keeping) → AnswersWhatIsHeld k.host
     → (after_doing (came now v) k).host.is.held ≡ k.host.is.held → IsTimedCall (came now v) k now
 came_call now v k answers_held same =
-    let first = performs (Ticks now) in
-    let t = having (Ticks now) k in
+    let first = performs (Calls (Tick now)) in
+    let t = having (Calls (Tick now)) k in
     let m = after_doing (hears v) t in
     let lines = (hears v (sees t.host) t.policy).lines in
-    let one = line_of (Ticks now) k.host in
+    let one = line_of (Calls (Tick now)) k.host in
     let more = lines_of lines t.host in
     record {
       m = m;
@@ -127,12 +128,12 @@ came_call now v k answers_held same =
       of = record { number = more.number ∙ one.number; cells = more.cells ∙ one.cells; constants = more.constants ∙ one.constants };
       answers_held = answers_on (hears v) t (answers_on first k answers_held);
     } where
-      behind : after_doing (came now v) k ≡ after_doing timed (after_doing (hears v) (having (Ticks now) k))
+      behind : after_doing (came now v) k ≡ after_doing timed (after_doing (hears v) (having (Calls (Tick now)) k))
       behind = came_after now v k
 
-      held : (after_doing (hears v) (having (Ticks now) k)).host.is.held ≡ k.host.is.held
+      held : (after_doing (hears v) (having (Calls (Tick now)) k)).host.is.held ≡ k.host.is.held
       held =
-          sym (ap (λ (x : Keeping). x.host.is.held) behind ∙ (does_rest timed (timed_each IsSmall are_small) (after_doing (hears v) (having (Ticks now) k))).held)
+          sym (ap (λ (x : Keeping). x.host.is.held) behind ∙ (does_rest timed (timed_each IsSmall are_small) (after_doing (hears v) (having (Calls (Tick now)) k))).held)
           ∙ same
 
 -- Where nobody draws, and what is held stays: it sets constants, or ends with what is due at its moment.

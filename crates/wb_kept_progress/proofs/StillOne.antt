@@ -4,17 +4,19 @@ use Rattle.std.proofs.Common.{◌≡◌, ℕ, ◌+◌, ◌*◌, ◌<◌, ◌≤�
 use Rattle.std.specs.Prelude.{◌⊎◌, Contains, filter, nat_eq}
 use Rattle.std.proofs.lemmas.List.Elements.{Contains-append_cases}
 use Rattle.wb_names.specs.Values.{DrawopValue, NameValue}
-use Rattle.wb_names.proofs.Listings.{Contains-here, Contains-none, Contains-there}
+use Rattle.wb_names.proofs.Listings.{Contains-here, Contains-none, Contains-from_filter}
 use Rattle.wb_recovery.specs.declared.timers.AskTimer.{AskTimer}
 use Rattle.wb_gaps.specs.Gaps.{IsMissing}
 use Rattle.wb_progress.specs.InTime.{known_from, repairing}
 use Rattle.wb_progress.specs.Turns.{Terms, settled_by}
 use Rattle.wb_keeper.specs.Keeper.{holds}
 use Rattle.wb_member.specs.Judged.{is_full}
+use Rattle.wb_member.specs.declared.calls.Call.TheVariants.{Ask}
 use Rattle.wb_keeping.specs.Bounds.{ask_count, is_ask}
-use Rattle.wb_keeping.specs.Kept.{Asks, Line}
-use Rattle.wb_keeping.specs.Laws.{after_kept, doing_of, expand, fault_of}
+use Rattle.wb_keeping.specs.Kept.{Calls, Line}
+use Rattle.wb_keeping.specs.Laws.{after_kept, doing_of, expand, fault_of, KeptLine}
 use Rattle.wb_keeping.specs.Performing.{Keeping, after_doing, sees}
+use Rattle.wb_keeping.proofs.PolicyCalls.{calls_are_of_policies}
 use Rattle.wb_kept_progress.specs.Promises.{timer_then}
 use Rattle.wb_kept_progress.specs.Rounds.{coming}
 use Rattle.wb_kept_progress.specs.Sessions.{AreTaken, Opening}
@@ -22,7 +24,7 @@ use Rattle.wb_kept_progress.specs.Timed.{AllHoldBehind, AreInOrder, IsGivenUp, I
 use Rattle.wb_kept_progress.specs.Whole.{AreCalledInOrder, HolesAreHeld, IsHeldBySome, IsTimelySession, WaitAtMost, request_span, there}
 use Rattle.wb_kept_progress.proofs.AskedComes.{comes_or_is_given_up, the_ask, timer_of}
 use Rattle.wb_kept_progress.proofs.AskedInCalls.{HasAsk, IsMore, asks_as, more_differs}
-use Rattle.wb_kept_progress.proofs.AskedStays.{AsksOne, MayStay, StaysAsked, asks_of, stays_asked}
+use Rattle.wb_kept_progress.proofs.AskedStays.{AsksOne, MayStay, StaysAsked, asks_one, stays_asked}
 use Rattle.wb_kept_progress.proofs.Becoming.{Appends, appends, nothing_more}
 use Rattle.wb_kept_progress.proofs.CallParts.{calls_order}
 use Rattle.wb_kept_progress.proofs.CallsInTime.{performed_is_timely}
@@ -42,12 +44,16 @@ use Rattle.wb_kept_progress.proofs.TurnNames.{turn_missing}
 use Rattle.wb_kept_progress.proofs.WholeParts.{HasTurn, does}
 
 -- some line asks for a name
-pub an_ask : (lines : List Line) → 1 ≤ ask_count lines → HasAsk lines
-an_ask [] some = absurd (omega (arith, some))
-an_ask (line ∷ lines) some = by (an_ask lines) (is_ask line) refl some where
-  by : (1 ≤ ask_count lines → HasAsk lines) → (b : Bool) → is_ask line ≡ b → 1 ≤ length (cond b (line ∷ filter is_ask lines) (filter is_ask lines)) → HasAsk (line ∷ lines)
-  by later true e some = let x = asks_of line e in (x.0, subst (λ (l : Line). Contains (line ∷ lines) l) x.1 (Contains-here line lines))
-  by later false e some = let rest = later some in (rest.0, Contains-there line (Asks rest.0) lines rest.1)
+pub an_ask : (calls : List KeptLine) (k : Keeping) → 1 ≤ ask_count (expand calls k) → HasAsk (expand calls k)
+an_ask calls k some = by (filter is_ask lines) refl where
+  lines : List Line
+  lines = expand calls k
+
+  by : (asks : List Line) → filter is_ask lines ≡ asks → HasAsk lines
+  by [] e = let none = ap (λ (ls : List Line). length ls) e in absurd (omega (arith, some, none))
+  by (line ∷ asks) e =
+      let c = Contains-from_filter is_ask lines line (subst (λ (ls : List Line). Contains ls line) (sym e) (Contains-here line asks)) in
+      asks_one lines line (calls_are_of_policies calls k) c.0 c.1
 
 -- ---- one call that brings nothing new
 
@@ -170,8 +176,8 @@ module _ (hosts : ℕ → Opening) (terms : Terms) (trace : List TimedLine) (i :
       one_on front (middle ++ part) e is (awake_on (front ++ e ∷ []) middle part (is ∙ sym (append_assoc front (e ∷ []) (middle ++ part))) awake)
 
   -- and it began if a name was asked for
-  pub awake_by : (front part : List TimedLine) (m : NameValue) → window ≡ front ++ part → Contains (performs_in hosts i part base) (Asks m) → IsAwake (part ++ base)
-  awake_by front [] m is c = absurd (Contains-none (Asks m) c)
+  pub awake_by : (front part : List TimedLine) (m : NameValue) → window ≡ front ++ part → Contains (performs_in hosts i part base) (Calls (Ask m)) → IsAwake (part ++ base)
+  awake_by front [] m is c = absurd (Contains-none (Calls (Ask m)) c)
   awake_by front (e ∷ part) m is c = by (awake_by (front ++ e ∷ []) part m later) (nat_eq e.at.place i) refl c where
     first : Keeping
     first = there hosts base i
@@ -179,25 +185,25 @@ module _ (hosts : ℕ → Opening) (terms : Terms) (trace : List TimedLine) (i :
     later : window ≡ (front ++ e ∷ []) ++ part
     later = is ∙ sym (append_assoc front (e ∷ []) part)
 
-    of_call : nat_eq e.at.place i ≡ true → Contains (expand (e.at.line ∷ []) (after_kept (handed i part) first)) (Asks m) → HasAsk (does hosts e (part ++ base))
+    of_call : nat_eq e.at.place i ≡ true → Contains (expand (e.at.line ∷ []) (after_kept (handed i part) first)) (Calls (Ask m)) → HasAsk (does hosts e (part ++ base))
     of_call here d =
         let k = there hosts (part ++ base) i in
-        let there_k = subst (λ (x : Keeping). Contains ((doing_of e.at.line (sees x.host) x.policy).lines ++ []) (Asks m)) (after_handed hosts i part base) d in (
+        let there_k = subst (λ (x : Keeping). Contains ((doing_of e.at.line (sees x.host) x.policy).lines ++ []) (Calls (Ask m))) (after_handed hosts i part base) d in (
           m,
-          subst (λ (p : ℕ). Contains (let x = there hosts (part ++ base) p in (doing_of e.at.line (sees x.host) x.policy).lines) (Asks m)) (sym (eqb-true e.at.place i here))
+          subst (λ (p : ℕ). Contains (let x = there hosts (part ++ base) p in (doing_of e.at.line (sees x.host) x.policy).lines) (Calls (Ask m))) (sym (eqb-true e.at.place i here))
               (⊎_elim
-              (λ (c : Contains (doing_of e.at.line (sees k.host) k.policy).lines (Asks m)). c)
-              (λ (none : Contains [] (Asks m)). absurd (Contains-none (Asks m) none))
-              (Contains-append_cases (doing_of e.at.line (sees k.host) k.policy).lines [] (Asks m) there_k)),
+              (λ (c : Contains (doing_of e.at.line (sees k.host) k.policy).lines (Calls (Ask m))). c)
+              (λ (none : Contains [] (Calls (Ask m))). absurd (Contains-none (Calls (Ask m)) none))
+              (Contains-append_cases (doing_of e.at.line (sees k.host) k.policy).lines [] (Calls (Ask m)) there_k)),
         )
 
-    by : (Contains (expand (handed i part) first) (Asks m) → IsAwake (part ++ base)) → (b : Bool) → nat_eq e.at.place i ≡ b → Contains (expand (cond b (handed i part ++ e.at.line ∷ []) (handed i part)) first) (Asks m) → IsAwake (e ∷ (part ++ base))
+    by : (Contains (expand (handed i part) first) (Calls (Ask m)) → IsAwake (part ++ base)) → (b : Bool) → nat_eq e.at.place i ≡ b → Contains (expand (cond b (handed i part ++ e.at.line ∷ []) (handed i part)) first) (Calls (Ask m)) → IsAwake (e ∷ (part ++ base))
     by rest false other c = one_on front part e is (rest c)
     by rest true here c = ⊎_elim
-        (λ (old : Contains (expand (handed i part) first) (Asks m)). one_on front part e is (rest old))
-        (λ (new : Contains (expand (e.at.line ∷ []) (after_kept (handed i part) first)) (Asks m)). begins_here front part e is here (of_call here new))
-        (Contains-append_cases (expand (handed i part) first) (expand (e.at.line ∷ []) (after_kept (handed i part) first)) (Asks m)
-        (subst (λ (ls : List Line). Contains ls (Asks m)) (expand_both (handed i part) (e.at.line ∷ []) first) c))
+        (λ (old : Contains (expand (handed i part) first) (Calls (Ask m))). one_on front part e is (rest old))
+        (λ (new : Contains (expand (e.at.line ∷ []) (after_kept (handed i part) first)) (Calls (Ask m))). begins_here front part e is here (of_call here new))
+        (Contains-append_cases (expand (handed i part) first) (expand (e.at.line ∷ []) (after_kept (handed i part) first)) (Calls (Ask m))
+        (subst (λ (ls : List Line). Contains ls (Calls (Ask m))) (expand_both (handed i part) (e.at.line ∷ []) first) c))
 
 -- ---- what it asks for is given up
 

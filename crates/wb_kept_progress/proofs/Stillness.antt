@@ -4,7 +4,6 @@ use Rattle.std.proofs.Common.{◌≡◌, ℕ, zero, suc, ◌+◌, ◌-◌, ◌*�
 use Rattle.std.specs.Prelude.{◌⊎◌, ◌≢◌, Contains, IfSome, nat_le}
 use Rattle.std.specs.declared.cmp.Ordering.TheVariants.{Less}
 use Rattle.std.proofs.lemmas.Bool.{leb-false, leb-true}
-use Rattle.std.proofs.lemmas.List.Elements.{Contains-append_right}
 use Rattle.wb_names.specs.Orders.{name_cmp}
 use Rattle.wb_names.specs.Values.{DrawopValue, NameValue}
 use Rattle.wb_names.proofs.Listings.{Contains-cases, Contains-here, Contains-none}
@@ -16,8 +15,9 @@ use Rattle.wb_progress.specs.Turns.{Terms, settled_by}
 use Rattle.wb_progress.proofs.NamesApart.{most_are}
 use Rattle.wb_member.specs.Judged.{holds, level}
 use Rattle.wb_member.specs.Opened.{Opened}
+use Rattle.wb_member.specs.declared.calls.Call.TheVariants.{Tune, Ask, Stop}
 use Rattle.wb_keeper.specs.Keeper.{holds as history_holds}
-use Rattle.wb_keeping.specs.Kept.{Line, Asks, Stops, Tunes}
+use Rattle.wb_keeping.specs.Kept.{Calls}
 use Rattle.wb_keeping.specs.Laws.{KeptLine, doing_of}
 use Rattle.wb_keeping.specs.Performing.{sees, view_of}
 use Rattle.wb_policy.specs.Wanting.{oldest}
@@ -37,14 +37,14 @@ use Rattle.wb_kept_progress.proofs.TurnsHad.{AreOrdinary, Had, had}
 use Rattle.wb_kept_progress.proofs.WholeParts.{AsksHaveCause, HasTurn, IsOfCall, LinesHaveCalls, PerformedIsTimely, StillnessEnds, StopsHaveCause, TimersAreYoung, does}
 use Rattle.wb_kept_progress.proofs.WindowParts.{IsInWindow, in_window, line_by, told_in, two_parts}
 use Rattle.wb_kept_progress.proofs.YoungestAsked.{Others, new_level, new_timer, others}
+use Rattle.wb_kept_progress.proofs.CallLines.{among_call}
 use Rattle.std.proofs.lemmas.Option.{none-some, same_Some}
 use Rattle.std.proofs.Math.Nat.{le_refl}
+use Rattle.wb_laws_sessions.proofs.Sending.{one_of}
 
 -- what a call asks for that only changes constants
-tunes_only : (constants : Tuning) (n : NameValue) → Contains (Tunes constants ∷ []) (Asks n) → ⊥
-tunes_only constants n c = ⊎_elim (λ (e : Tunes constants ≡ Asks n). other e) (λ (none : Contains [] (Asks n)). Contains-none (Asks n) none) (Contains-cases (Tunes constants) (Asks n) [] c) where
-  other : Tunes constants ≡ Asks n → ⊥
-  other e = cc
+tunes_only : (constants : Tuning) (n : NameValue) → Contains (Calls (Tune constants) ∷ []) (Calls (Ask n)) → ⊥
+tunes_only constants n c = let e = one_of (Calls (Tune constants)) (Calls (Ask n)) c in cc
 
 few_turns : (from now span drift turns : ℕ) → from + span ≡ now → span + drift ≤ 60000000 → from + turns * 1000000 ≤ now + drift + 1000000 → turns ≤ 61
 few_turns from now span drift turns is short few = omega (arith, is, short, few)
@@ -179,7 +179,7 @@ module _ (hosts : ℕ → Opening) (terms : Terms) (trace newest window base : L
         few_turns from e.time (request_span terms) terms.drift (length turns.names) is are.short turns.few
 
     -- the call that asked for a name
-    module _ (m : NameValue) (ask : AskTimer) (stands : timer_then hosts back i m ≡ Some ask) (w : WasAsked starts terms all timely back i m ask) (c : IsOfCall hosts whole w.x w.older) where
+    module _ (m : NameValue) (ask : AskTimer) (stands : timer_then hosts back i m ≡ Some ask) (w : WasAsked hosts terms trace timely back i m ask) (c : IsOfCall hosts whole w.x w.older) where
       asked_late : e.time ≤ c.e.time + request_span terms
       asked_late =
           let soon : e.time ≤ ask.due + (terms.lag i + terms.late) = subst (λ (o : Option AskTimer). IfSome o (λ (a : AskTimer). e.time ≤ a.due + (terms.lag i + terms.late))) stands (timely.soon (newest_lines.0 ++ front) back e i m (part_of_all front (e ∷ back) split) live after_quiet).ask in
@@ -200,13 +200,11 @@ module _ (hosts : ℕ → Opening) (terms : Terms) (trace newest window base : L
       here : c.e.at.place ≡ i
       here = sym c.place ∙ w.place
 
-      asks : Contains (does hosts c.e c.older) (Asks m)
-      asks =
-          subst (λ (ls : List Line). Contains ls (Asks m)) (sym c.lines)
-          (subst (λ (line : Line). Contains (c.before ++ line ∷ c.later) (Asks m)) (sym w.line) (Contains-append_right c.before (Asks m ∷ c.later) (Asks m) (Contains-here (Asks m) c.later)))
+      asks : Contains (does hosts c.e c.older) (Calls (Ask m))
+      asks = subst (Contains (does hosts c.e c.older)) w.line (among_call hosts whole w.x w.older c)
 
       untuned : IsTuned c.e.at.line → ⊥
-      untuned t = tunes_only t.0 m (subst (λ (line : KeptLine). Contains (let k = there hosts c.older c.e.at.place in (doing_of line (sees k.host) k.policy).lines) (Asks m)) t.1 asks)
+      untuned t = tunes_only t.0 m (subst (λ (line : KeptLine). Contains (let k = there hosts c.older c.e.at.place in (doing_of line (sees k.host) k.policy).lines) (Calls (Ask m))) t.1 asks)
 
       by_then : c.e.time ≤ e.time
       by_then =
@@ -245,7 +243,7 @@ module _ (hosts : ℕ → Opening) (terms : Terms) (trace newest window base : L
     cause : (m : NameValue) → level (host_then hosts back i) m ≡ Some 0 → Contains turns.names m ⊎ IsHeldBySome hosts terms trace m
     cause m new =
         let t = new_timer (timer_then hosts back i m) new in
-        let w = was_asked starts terms all timely (newest_lines.0 ++ (front ++ e ∷ [])) back i m t.0 (part_of_all (front ++ e ∷ []) back before_it) live t.1 t.2 in
+        let w = was_asked hosts terms trace timely (newest_lines.0 ++ (front ++ e ∷ [])) back i m t.0 (part_of_all (front ++ e ∷ []) back before_it) live t.1 t.2 in
         had_cause m t.0 t.1 w (calls_of hosts whole ((front ++ e ∷ []) ++ w.newer) w.x w.older (before_it ∙ ap (λ (l : List Performed). (front ++ e ∷ []) ++ l) w.split ∙ sym (append_assoc (front ++ e ∷ []) w.newer (w.x ∷ w.older))))
 
     -- of 64 that are asked for, and of which none was backed off, another than the least is held by some
@@ -264,7 +262,7 @@ module _ (hosts : ℕ → Opening) (terms : Terms) (trace newest window base : L
   -- ---- what is given up before its timer was backed off
 
   module _ (calls_of : LinesHaveCalls) (causes : AsksHaveCause) (stops : StopsHaveCause) (front back : List Performed) (e : Performed) (n : NameValue) (ask : AskTimer) (split : lines ≡ front ++ e ∷ back) (late : called_at base + request_span terms < time_of back)
-      (place : e.place ≡ i) (line : e.line ≡ Stops n) (stands : timer_then hosts back i n ≡ Some ask) (new : ask.level ≡ 0) where
+      (place : e.place ≡ i) (line : e.line ≡ Calls (Stop n)) (stands : timer_then hosts back i n ≡ Some ask) (new : ask.level ≡ 0) where
     abbrev Stopped : ℕ → Type 0
     Stopped p = ((a : AskTimer) × (timer_then hosts back p n ≡ Some a) × (4 ≤ a.level))
         ⊎ ((64 ≤ length (view_of (host_then hosts back p)).asked) × (a : AskedName) × (oldest (view_of (host_then hosts back p)).asked ≡ Some a) × (a.name ≡ n))
@@ -382,7 +380,7 @@ module _ (hosts : ℕ → Opening) (terms : Terms) (trace newest window base : L
       -- where its timer was not backed off
       new_ends : ask.level ≡ 0 → Ends
       new_ends new =
-          let w = was_asked starts terms all timely (newest_lines.0 ++ front) back i n ask in_all live is.stands new in
+          let w = was_asked hosts terms trace timely (newest_lines.0 ++ front) back i n ask in_all live is.stands new in
           let by = line_by back w.newer w.older w.x (order_back front back is.split) w.split in
           let due = w.due in
           let k = known in

@@ -9,7 +9,8 @@ use Rattle.wb_recovery.specs.declared.timers.AskTimer.{AskTimer}
 use Rattle.wb_keeper.specs.GivingUp.{level as level_in}
 use Rattle.wb_member.specs.Judged.{is_full}
 use Rattle.wb_member.specs.Opened.{Opened, events}
-use Rattle.wb_keeping.specs.Kept.{Arrives, Asks, Doing, Hears, Line, Says, SetsDistance, Tunes, Stops, Ticks, room_lines, still, stops_one, want, lending}
+use Rattle.wb_member.specs.declared.calls.Call.TheVariants.{Tick, Ask, Stop}
+use Rattle.wb_keeping.specs.Kept.{Doing, Line, room_lines, still, stops_one, want, lending, Calls}
 use Rattle.wb_keeping.specs.Laws.{fault_of}
 use Rattle.wb_keeping.specs.Performing.{Keeping, after_line, after_lines, sees, view_of}
 use Rattle.wb_policy.specs.Policy.{Policy, after_wanting}
@@ -49,7 +50,7 @@ HasStopCause host n = ((ask : AskTimer) × ((timers_of host.is.constants (events
     ⊎ ((64 ≤ length (view_of host).asked) × (a : AskedName) × (oldest (view_of host).asked ≡ Some a) × (a.name ≡ n))
 
 abbrev pub IsCaused : Line → Opened → Type 0
-IsCaused (Stops n) host = HasStopCause host n
+IsCaused (Calls (Stop n)) host = HasStopCause host n
 IsCaused line host = Unit {0}
 
 abbrev pub AreCaused : List Line → Opened → Type 0
@@ -66,21 +67,15 @@ caused_at (first ∷ one) other line host caused = caused_at one other line (aft
 
 -- lines that give nothing up
 abbrev StopsNothing : Line → Type 0
-StopsNothing (Stops n) = ⊥
+StopsNothing (Calls (Stop n)) = ⊥
 StopsNothing line = Unit {0}
 
 abbrev StopNothing : List Line → Type 0
 StopNothing lines = Each StopsNothing lines
 
 nothing_caused : (line : Line) (host : Opened) → StopsNothing line → IsCaused line host
-nothing_caused (Stops n) host none = absurd none
-nothing_caused (Ticks now) host none = tt
-nothing_caused (Arrives d) host none = tt
-nothing_caused (Hears v) host none = tt
-nothing_caused (Asks name) host none = tt
-nothing_caused (SetsDistance source micros) host none = tt
-nothing_caused (Tunes constants) host none = tt
-nothing_caused (Says v) host none = tt
+nothing_caused (Calls (Stop n)) host none = absurd none
+nothing_caused line host none = tt
 
 unstopped : (lines : List Line) (host : Opened) → StopNothing lines → AreCaused lines host
 unstopped [] host none = tt
@@ -120,7 +115,7 @@ module _ (host : Opened) where
 
 room_caused : (name : NameValue) (host : Opened) → ((l : ℕ) → level (view_of host) name ≡ Some l → 4 ≤ l) → AreCaused (room_lines name (view_of host)) host
 room_caused name host old = by (level (view_of host) name) refl where
-  by : (o : Option ℕ) → level (view_of host) name ≡ o → AreCaused (cond (is_some o) (Stops name ∷ []) (stops_one (way_of (length (view_of host).asked) (oldest (view_of host).asked)))) host
+  by : (o : Option ℕ) → level (view_of host) name ≡ o → AreCaused (cond (is_some o) (Calls (Stop name) ∷ []) (stops_one (way_of (length (view_of host).asked) (oldest (view_of host).asked)))) host
   by (Some l) e = (backed_off host name l e (old l e), tt)
   by None e = way_caused host (oldest (view_of host).asked) refl
 
@@ -153,9 +148,9 @@ wanted_caused name anew k = by (is_wanted (holds v name) (shows_full v) anew (is
       → AreCaused (cond b wanted (still (sees k.host) k.policy)).lines k.host
   by false e = tt
   by true e =
-      let last = lending name.source (v.distance name.source) k.policy.usual (Asks name) in
+      let last = lending name.source (v.delay name.source) k.policy.usual (Calls (Ask name)) in
       caused_both (room_lines name v) last k.host (room_caused name k.host (old e))
-      (unstopped last (after_lines (room_lines name v) k.host) (lent_each StopsNothing name.source (v.distance name.source) k.policy.usual (Asks name) tt tt tt))
+      (unstopped last (after_lines (room_lines name v) k.host) (lent_each StopsNothing name.source (v.delay name.source) k.policy.usual (Calls (Ask name)) tt tt tt))
 
 -- ---- all that a kept host does
 
@@ -187,7 +182,7 @@ steps_give_up = record {
     asks_pages = λ k is. quietly k _ _ (tt, tt);
     reports = λ page until told k is. quietly k _ _ (tt, tt);
   };
-  ticks = λ now k later. quietly k (Ticks now ∷ []) k.policy (tt, tt);
+  ticks = λ now k later. quietly k (Calls (Tick now) ∷ []) k.policy (tt, tt);
   arrives = λ d k. quietly k _ k.policy (tt, tt);
   answered = λ d k lacks asked. quietly k _ _ (tt, tt);
   hears = λ v k. quietly k _ k.policy (tt, tt);

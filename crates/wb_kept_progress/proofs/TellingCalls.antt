@@ -9,9 +9,10 @@ use Rattle.wb_codec.specs.declared.datagram.Datagram.{Datagram}
 use Rattle.wb_codec.specs.declared.datagram.Datagram.TheVariants.{Session}
 use Rattle.wb_progress.specs.Turns.{Terms}
 use Rattle.wb_member.specs.Opened.{present}
+use Rattle.wb_member.specs.declared.calls.Call.TheVariants.{Tick}
 use Rattle.wb_policy.specs.Fairness.{after_telling, marks_in_turn, page_in_turn}
 use Rattle.wb_policy.specs.Policy.{Policy}
-use Rattle.wb_keeping.specs.Kept.{Doing, Line, Ticks, Transition, and_then, draws_it, end, ends_full, hears, performs, still, timed}
+use Rattle.wb_keeping.specs.Kept.{Calls, Doing, Line, Transition, and_then, draws_it, end, ends_full, hears, performs, still, timed}
 use Rattle.wb_keeping.specs.Laws.{KeptLine, Came, Ticked, Added, Tuned, doing_of}
 use Rattle.wb_keeping.specs.Performing.{Keeping, after_doing, sees, sent_by_doing}
 use Rattle.wb_keeping.specs.Views.{View, is_full}
@@ -98,15 +99,15 @@ ends_call does k e = ⊎_elim
 
 each_call : (line : KeptLine) (k : Keeping) → IsQuiet (doing_of line) k ⊎ Reports (doing_of line) k
 each_call (Came now v) k =
-    let first = performs (Ticks now) in
+    let first = performs (Calls (Tick now)) in
     let t = after_doing first k in
     let hears_so = hears_tells v (sees t.host) t.policy in
     ends_call (doing_of (Came now v)) k (then_ends first (and_then (hears v) timed) k refl refl (then_ends (hears v) timed t hears_so.due hears_so.told (ends_so (after_doing (hears v) t))))
 each_call (Ticked now) k =
-    let first = performs (Ticks now) in
+    let first = performs (Calls (Tick now)) in
     ends_call (doing_of (Ticked now)) k (then_ends first timed k refl refl (ends_so (after_doing first k)))
 each_call (Added now page time op) k =
-    let first = performs (Ticks now) in
+    let first = performs (Calls (Tick now)) in
     let second = draws_it page time op in
     let t = after_doing first k in
     let d = after_doing second t in

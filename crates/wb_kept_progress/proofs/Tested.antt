@@ -17,7 +17,7 @@ use Rattle.wb_progress.specs.Turns.{IsNowAt, Terms, longest, settled_by}
 use Rattle.wb_member.specs.Judged.{is_full}
 use Rattle.wb_member.specs.Opened.{present}
 use Rattle.wb_policy.specs.Fairness.{slices_of, slices_on}
-use Rattle.wb_policy.specs.declared.limits.TheConstants.{MOST_DISTANCE}
+use Rattle.wb_policy.specs.declared.limits.TheConstants.{MOST_DELAY}
 use Rattle.wb_keeping.specs.Laws.{KeptLine, Came, Ticked, Added, Tuned, fault_of}
 use Rattle.wb_keeping.specs.Performing.{due}
 use Rattle.wb_kept_progress.specs.Sessions.{AreTaken, DoNotGoBack, Opening, opened_host}
@@ -256,7 +256,7 @@ module _ (hosts : ℕ → Opening) (terms : Terms) where
     pub waits : (i : ℕ) → Contains terms.live i → IsUnder (longest terms) (hosts i).constants
     pub covered : terms.drift ≤ terms.late
 
-  pub session_of : (trace : List TimedLine) → Begins → (MOST_DISTANCE ≤ terms.far) ⊎ GoByShort (λ j. start_of (hosts j)) terms (performed hosts trace) → passes trace ≡ true → IsTimelySession hosts terms trace
+  pub session_of : (trace : List TimedLine) → Begins → (MOST_DELAY ≤ terms.far) ⊎ GoByShort (λ j. start_of (hosts j)) terms (performed hosts trace) → passes trace ≡ true → IsTimelySession hosts terms trace
   session_of trace b delays so = record {
     moments = b.moments;
     begun = b.begun;

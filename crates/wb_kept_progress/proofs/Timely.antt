@@ -19,17 +19,18 @@ use Rattle.wb_progress.specs.Repairs.{timers_at}
 use Rattle.wb_progress.specs.Turns.{Accepts, AreTurns, Desk, IsHeardAt, IsNowAt, IsOtherOrLacked, IsQuietBut, IsTurn, KeepTimeBut, Places, Terms, Turn, longest, settled_by}
 use Rattle.wb_progress.specs.Turns as turning
 use Rattle.wb_progress.proofs.Giving.{held_as}
-use Rattle.wb_laws_sessions.proofs.Holding.{HeldNone}
+use Rattle.wb_laws_sessions.proofs.Holding.{HeldNone, line_keeps, none_after}
 use Rattle.wb_member.specs.Judged.{delay, is_full}
 use Rattle.wb_member.specs.Opened.{Opened, accepted, asks_for, heard, opened_with, present}
 use Rattle.wb_member.specs.Random.{word_of}
-use Rattle.wb_keeping.specs.Kept.{Line, Arrives, Hears, Says, Ticks}
+use Rattle.wb_member.specs.declared.calls.Call.TheVariants as calls
+use Rattle.wb_keeping.specs.Kept.{Line, Arrives, Says, Calls}
 use Rattle.wb_keeping.specs.Performing.{after_line, sent_by_line}
 use Rattle.wb_kept_progress.specs.Timed.{AllHoldBehind, AreInOrder, ComesTo, IsAnswerable, IsHeldBy, IsTimely, Performed, Start, WasSent, host_after, time_of, timers_after, until}
 use Rattle.wb_kept_progress.proofs.Begun.{HasNoTimers, tick_no_timers, ticks_keep, ticks_within}
 use Rattle.wb_kept_progress.proofs.Lines.{IsOf, line_grows, line_of, same_member}
 use Rattle.wb_kept_progress.proofs.Lining.{by_line, by_part, desk_is, desk_of, order_is, over_join, places, time_is, turn_of, turns_join, turns_of, turns_over, until_is}
-use Rattle.wb_kept_progress.proofs.PerLine.{IsMade, asks, draws, goes_by, is_made, line_did, line_moment, line_none}
+use Rattle.wb_kept_progress.proofs.PerLine.{IsMade, asks, draws, goes_by, is_made, line_did, line_moment}
 use Rattle.wb_kept_progress.proofs.Repairs.{taken_in}
 use Rattle.wb_progress.proofs.Parts.{tails}
 
@@ -39,7 +40,7 @@ module _ (hosts : ℕ → Start) where
 
   -- what each line keeps, and what the opening has, each host has
   at_each : (P : ℕ → Opened → Type 0) → ((i : ℕ) → P i (start i)) → ((i : ℕ) (line : Line) (host : Opened) → P i host → P i (after_line line host)) → (trace : List Performed) (i : ℕ) → P i (host_after hosts trace i)
-  at_each P first one [] i = ticks_keep (P i) (λ now host is. one i (Ticks now) host is) (hosts i).moments (start i) (first i)
+  at_each P first one [] i = ticks_keep (P i) (λ now host is. one i (Calls (calls.Tick now)) host is) (hosts i).moments (start i) (first i)
   at_each P first one (e ∷ older) i = from (nat_eq e.place i) (at_each P first one older i) where
     from : (b : Bool) → P i (host_after hosts older i) → P i (cond b (after_line e.line (host_after hosts older i)) (host_after hosts older i))
     from true rest = one i e.line (host_after hosts older i) rest
@@ -53,7 +54,7 @@ module _ (hosts : ℕ → Start) where
   history = at_each (λ i host. IsHistory host.is.held) (λ i. λ j k d jk lt. absurd (omega arith)) (λ i line host rest. (line_grows line host).once rest)
 
   pub none_held : (trace : List Performed) (i : ℕ) → HeldNone (host_after hosts trace i).is
-  none_held = at_each (λ i host. HeldNone host.is) (λ i. λ n h. refl) (λ i line host rest. line_none line host rest)
+  none_held = at_each (λ i host. HeldNone host.is) (λ i. λ n h. refl) (λ i line host rest. line_keeps HeldNone none_after line host rest)
 
   pub timers_here : (trace : List Performed) (i : ℕ) (n : NameValue) → turning.timers_there (places hosts) (turns_of hosts trace) i n ≡ timers_after hosts trace i n
   timers_here trace i n =
@@ -130,7 +131,7 @@ module _ (hosts : ℕ → Start) (terms : Terms) (trace : List Performed) (timel
     from false other rest = let o = order.0 in omega (arith, rest, o)
     from true same rest = ⊎_elim
         (λ (s : present (after_line e.line (host_after hosts older i)) ≡ present (host_after hosts older i)). let o = order.0 in omega (arith, s, rest, o))
-        (λ (t : (now : ℕ) × (e.line ≡ Ticks now) × (present (after_line e.line (host_after hosts older i)) ≡ now)).
+        (λ (t : (now : ℕ) × (e.line ≡ Calls (calls.Tick now)) × (present (after_line e.line (host_after hosts older i)) ≡ now)).
         let at : IsNowAt terms e.time i t.0 = subst (λ (k : ℕ). IsNowAt terms e.time k t.0) (eqb-true e.place i same) (timely.times front older e t.0 split (subst (Contains terms.live) (sym (eqb-true e.place i same)) live) t.1) in
         let ahead = at.not_ahead in
         let is = t.2 in
@@ -164,7 +165,7 @@ module _ (hosts : ℕ → Start) (terms : Terms) (trace : List Performed) (timel
     goes : e.place ≡ i → present h ≤ present (after_line e.line h)
     goes here = ⊎_elim
         (λ (s : present (after_line e.line h) ≡ present h). omega (arith, s))
-        (λ (t : (now : ℕ) × (e.line ≡ Ticks now) × (present (after_line e.line h) ≡ now)).
+        (λ (t : (now : ℕ) × (e.line ≡ Calls (calls.Tick now)) × (present (after_line e.line h) ≡ now)).
         let on : present h ≤ t.0 = subst (λ (k : ℕ). present (host_after hosts older k) ≤ t.0) here (timely.onward front older e t.0 split (subst (Contains terms.live) (sym here) live) t.1) in
         let is = t.2 in
         omega (arith, is, on))
@@ -307,7 +308,7 @@ module _ (hosts : ℕ → Start) (terms : Terms) (trace : List Performed) (timel
         from true same = own (eqb-true q i same)
         from false other = ⊎_elim came held_by (timely.drawops front back e i d split live (λ same. true≢false (sym (eq-eqb q i same) ∙ other)) late sent (let k = end_is in omega (arith, lt, k)))
 
-      is_heard : (asker : ℕ) (m : NameValue) (j : ℕ) → ComesTo front j (e.time + terms.delivery) (Hears (Request asker m)) → IsHeardAt at (turns_over hosts front (e ∷ back)) x (turns_of hosts back) j terms.delivery asker m
+      is_heard : (asker : ℕ) (m : NameValue) (j : ℕ) → ComesTo front j (e.time + terms.delivery) (Calls (calls.Hear (Request asker m))) → IsHeardAt at (turns_over hosts front (e ∷ back)) x (turns_of hosts back) j terms.delivery asker m
       is_heard asker m j c =
           let base : List Performed = c.between ++ e ∷ back in
           let g = host_after hosts base c.arrival.place in
@@ -326,7 +327,7 @@ module _ (hosts : ℕ → Start) (terms : Terms) (trace : List Performed) (timel
             held = holds g.is.held m;
             heard = subst (λ (t : List Turn). Accepts at t (turn_of hosts base c.arrival) call) (turns_join hosts c.between (e ∷ back)) accepts;
           } where
-            hears_it : (g : Opened) (asker : ℕ) (m : NameValue) → (after_line (Hears (Request asker m)) g).is.calls ≡ Hear (present g) (Request asker m) (word_of g.random) (holds g.is.held m) ∷ g.is.calls
+            hears_it : (g : Opened) (asker : ℕ) (m : NameValue) → (after_line (Calls (calls.Hear (Request asker m))) g).is.calls ≡ Hear (present g) (Request asker m) (word_of g.random) (holds g.is.held m) ∷ g.is.calls
             hears_it g asker m = ap (λ (b : Bool). (cond b (heard (Request asker m) g) g).is.calls) (or-true (is_own g.is.number (Request asker m)))
 
     -- ---- what comes was sent

@@ -1,14 +1,16 @@
 -- Behind a tick no timer that stands is due before its moment, and so it stays until the next tick.
-use Rattle.std.proofs.Common.{◌≡◌, ℕ, ◌+◌, ◌*◌, ◌^◌, ◌%◌, ◌≤◌, Bool, true, false, cond, List, [], ◌∷◌, ◌++◌, ◌∙◌, Option, Some, None, ap, arith, filter, leb-false, min, refl, subst, sym, true≢false}
+use Rattle.std.proofs.Common.{◌≡◌, ℕ, ◌+◌, ◌*◌, ◌^◌, ◌%◌, ◌≤◌, Bool, true, false, cond, List, [], ◌∷◌, ◌++◌, ◌∙◌, Option, Some, None, ap, arith, filter, leb-false, length, min, refl, subst, sym, true≢false}
 use Rattle.std.specs.Prelude.{◌&&◌, IfSome, is_none, is_some, nat_eq, nat_le}
 use Rattle.std.proofs.lemmas.Bool.{or_left, or_right}
 use Rattle.wb_names.specs.Orders.{same_name}
 use Rattle.wb_names.specs.Values.{DrawopValue, NameValue}
 use Rattle.wb_codec.specs.declared.datagram.Datagram.{Datagram}
 use Rattle.wb_codec.specs.declared.datagram.Datagram.TheVariants.{Draw, Session, Request, AskPages, PageState}
-use Rattle.wb_recovery.specs.Events.{Asked, Event, IsNextDue, constants_after, due_asks, is_due_at, names_of, timers_of, word_for}
+use Rattle.wb_recovery.specs.Events.{Asked, Event, IsNextDue, Notice, constants_after, due_asks, is_due_at, names_of, timers_of, word_for}
+use Rattle.wb_recovery.specs.Noticing.{notices}
 use Rattle.wb_recovery.specs.Stopping.{got_each, receipts}
 use Rattle.wb_recovery.specs.Timing.{answer_moment, ask_moment, asked, backed_off, expiry, fired_answer, fired_ask, got, heard_ask, is_set_to, is_standing, new_answer, new_ask, noticed, ticked}
+use Rattle.wb_recovery.specs.declared.missed.Missed.{Missed}
 use Rattle.wb_recovery.specs.declared.missed.Received.{Received}
 use Rattle.wb_recovery.specs.declared.timers.AnswerTimer.{AnswerTimer}
 use Rattle.wb_recovery.specs.declared.timers.AskTimer.{AskTimer}
@@ -17,13 +19,14 @@ use Rattle.wb_recovery.specs.declared.tuning.Tuning.{Tuning}
 use Rattle.wb_recovery.proofs.AlarmReads.{is_set_to-here}
 use Rattle.wb_recovery.proofs.StoppedNames.{timers_receipts}
 use Rattle.wb_keeper.specs.Hearing.{asks_for_held}
-use Rattle.wb_keeper.specs.Keeper.{asked_by, delay_to, given_up, holds, received_of}
+use Rattle.wb_keeper.specs.Keeper.{asked_by, delay_to, given_up, holds, missed_of, received_of}
 use Rattle.wb_keeper.specs.Ticks.{stopped_after}
 use Rattle.wb_keeper.proofs.NextDues.{next_due_is_least}
 use Rattle.wb_member.specs.Members.{Misses}
-use Rattle.wb_member.specs.Opened.{Opened, accepted, asks_for, doing, due_count, events, has_room_for, heard, may_ask, next_due, present, word_at}
+use Rattle.wb_member.specs.Opened.{Opened, accepted, asks_for, doing, due_count, events, has_room_for, heard, may_ask, next_due, present, wanted_of, word_at}
 use Rattle.wb_member.specs.Random.{word_of, words_of}
-use Rattle.wb_keeping.specs.Kept.{Arrives, Asks, Doing, Hears, Line, Says, SetsDistance, Tunes, Stops, Ticks}
+use Rattle.wb_member.specs.declared.calls.Call.TheVariants.{Tick, Hear, Tune, Look, Ask, Stop}
+use Rattle.wb_keeping.specs.Kept.{Arrives, Doing, Line, Says, Calls}
 use Rattle.wb_keeping.specs.Laws.{KeptLine, Came, Ticked, Added, Tuned, doing_of}
 use Rattle.wb_keeping.specs.Performing.{Keeping, after_line, after_lines, due, sees, sooner_of}
 use Rattle.wb_policy.specs.Policy.{next_moment}
@@ -102,6 +105,11 @@ each_ahead now moment n s (c ∷ received) h =
 receipts_ahead : (t : Tuning) (now moment : ℕ) (n : NameValue) (calls : List Event) (received : List Received) → AreAhead now (timers_of t calls n) → AreAhead now (timers_of t (receipts moment calls received) n)
 receipts_ahead t now moment n calls received h = subst (AreAhead now) (sym (timers_receipts t moment calls received n)) (each_ahead now moment n (timers_of t calls n) received h)
 
+notices_ahead : (t : Tuning) (now : ℕ) (n : NameValue) (missed : List Missed) (calls : List Event) → AreAhead now (timers_of t calls n) → AreAhead now (timers_of t (notices now calls missed) n)
+notices_ahead t now n [] calls h = h
+notices_ahead t now n (m ∷ missed) calls h =
+    notices_ahead t now n missed (Notice m.name now m.delay m.word ∷ calls) (either now (same_name m.name n) _ _ (noticed_ahead (constants_after t calls) now m.delay m.word (timers_of t calls n) h) h)
+
 requests_ahead : (t : Tuning) (n : NameValue) (me now : ℕ) (delays : ℕ → ℕ) (v : Datagram) (word : ℕ) (held : Bool) (calls : List Event) → AreAhead now (timers_of t calls n) → AreAhead now (timers_of t (asked_by me delays now v word held calls) n)
 requests_ahead t n me now delays (Request asker name) word held calls h = by (nat_eq asker me) where
   by : (b : Bool) → AreAhead now (timers_of t (cond b calls (Asked name held now (delays (cond held asker name.source)) word ∷ calls)) n)
@@ -117,7 +125,7 @@ requests_ahead t n me now delays (PageState sender page marks) word held calls h
 abbrev pub IsAhead : Opened → Type 0
 IsAhead host = (n : NameValue) → AreAhead (present host) (timers_of host.is.constants (events host) n)
 
-tick_ahead : (now : ℕ) (host : Opened) → IsAhead (after_line (Ticks now) host)
+tick_ahead : (now : ℕ) (host : Opened) → IsAhead (after_line (Calls (Tick now)) host)
 tick_ahead now host n =
     let t = host.is.constants in
     let stopped = stopped_after host.is.number t host.is.calls host.is.held in
@@ -128,30 +136,27 @@ arrival_ahead : (d : DrawopValue) (host : Opened) → IsAhead host → IsAhead (
 arrival_ahead d host h n =
     receipts_ahead host.is.constants (present host) (present host) n (events host) (received_of (delay_to host.is.number host.is.calls) (filter (holds (accepted d host).is.held) (d.name ∷ []))) (h n)
 
+misses_ahead : (names : List NameValue) (words : List ℕ) (used : ℕ) (host : Opened) → IsAhead host → IsAhead (doing (Misses (present host) names words) used host)
+misses_ahead names words used host h n = notices_ahead host.is.constants (present host) n (missed_of (delay_to host.is.number host.is.calls) names words) (events host) (h n)
+
 line_ahead : (line : Line) (host : Opened) → IsNoTick line → IsAhead host → IsAhead (after_line line host)
-line_ahead (Ticks now) host none h = absurd none
+line_ahead (Calls (Tick now)) host none h = absurd none
 line_ahead (Arrives d) host none h = arrival_ahead d host h
-line_ahead (Hears v) host none h = by (has_room_for v host) where
+line_ahead (Calls (Hear v)) host none h = by (has_room_for v host) where
   by : (b : Bool) → IsAhead (cond b (heard v host) host)
   by true = λ n. requests_ahead host.is.constants n host.is.number (present host) (delay_to host.is.number host.is.calls) v (word_at v host.random) (asks_for_held host.is.held v) (events host) (h n)
   by false = h
-line_ahead (Asks name) host none h = by (may_ask name host) where
+line_ahead (Calls (Look page)) host none h = let wanted = wanted_of page host in misses_ahead wanted (words_of host.random (length wanted)) (length wanted) host h
+line_ahead (Calls (Ask name)) host none h = by (may_ask name host) where
   by : (b : Bool) → IsAhead (cond b (doing (Misses (present host) (name ∷ []) (word_of host.random ∷ [])) 1 host) host)
-  by true = λ n.
-      let s = timers_of host.is.constants (events host) n in
-      either (present host) (same_name name n) _ _ (noticed_ahead (constants_after host.is.constants (events host)) (present host) (delay_to host.is.number host.is.calls name.source) (word_of host.random) s (h n)) (h n)
+  by true = misses_ahead (name ∷ []) (word_of host.random ∷ []) 1 host h
   by false = h
-line_ahead (Stops name) host none h = by (asks_for name host) where
+line_ahead (Calls (Stop name)) host none h = by (asks_for name host) where
   by : (b : Bool) (n : NameValue) → AreAhead (present host) (timers_of host.is.constants (given_up (present host) name b (events host)) n)
   by true n = receipts_ahead host.is.constants (present host) (present host) n (events host) (received_of (λ source. 0) (name ∷ [])) (h n)
   by false n = h n
-line_ahead (SetsDistance source micros) host none h = h
-line_ahead (Tunes constants) host none h = h
 line_ahead (Says (Draw d)) host none h = arrival_ahead d host h
-line_ahead (Says (Session sender sent page marks echoes)) host none h = h
-line_ahead (Says (Request asker name)) host none h = h
-line_ahead (Says (AskPages asker)) host none h = h
-line_ahead (Says (PageState sender page marks)) host none h = h
+line_ahead line host none h = h
 
 -- ---- in the middle of a call
 
@@ -171,9 +176,9 @@ front_none (line ∷ one) other none = (none.0, front_none one other none.1)
 begun_ahead : (now : ℕ) (d : Doing) (host : Opened) (first : Line) (before later : List Line) (x : Line) → Begins now d → d.lines ≡ first ∷ (before ++ x ∷ later) → IsAheadAt now (after_lines (first ∷ before) host)
 begun_ahead now d host first before later x b split =
     let same = sym b.is ∙ split in
-    let none = front_none before (x ∷ later) (subst AreNoTicks (tails (Ticks now) first b.rest (before ++ x ∷ later) same) b.none) in
-    subst (λ (line : Line). IsAheadAt now (after_lines before (after_line line host))) (heads (Ticks now) first b.rest (before ++ x ∷ later) same)
-    (lines_ahead before now (after_line (Ticks now) host) none (record { now = refl; ahead = tick_ahead now host }))
+    let none = front_none before (x ∷ later) (subst AreNoTicks (tails (Calls (Tick now)) first b.rest (before ++ x ∷ later) same) b.none) in
+    subst (λ (line : Line). IsAheadAt now (after_lines before (after_line line host))) (heads (Calls (Tick now)) first b.rest (before ++ x ∷ later) same)
+    (lines_ahead before now (after_line (Calls (Tick now)) host) none (record { now = refl; ahead = tick_ahead now host }))
 
 -- behind the first line of a call that tells a moment
 pub ahead_amid : (line : KeptLine) (k : Keeping) (moment : ℕ) (first : Line) (before later : List Line) (x : Line) → IsTold moment line → (doing_of line (sees k.host) k.policy).lines ≡ first ∷ (before ++ x ∷ later) → IsAheadAt moment (after_lines (first ∷ before) k.host)
@@ -183,12 +188,12 @@ ahead_amid (Ticked now) k moment first before later x told split =
     subst (λ (m : ℕ). IsAheadAt m (after_lines (first ∷ before) k.host)) told (begun_ahead now _ k.host first before later x (ticks_begin now (sees k.host) k.policy) split)
 ahead_amid (Added now page time op) k moment first before later x told split =
     subst (λ (m : ℕ). IsAheadAt m (after_lines (first ∷ before) k.host)) told (begun_ahead now _ k.host first before later x (adds_begin now page time op (sees k.host) k.policy) split)
-ahead_amid (Tuned constants) k moment first before later x told split = absurd (nil_ends before x later (tails (Tunes constants) first [] (before ++ x ∷ later) split))
+ahead_amid (Tuned constants) k moment first before later x told split = absurd (nil_ends before x later (tails (Calls (Tune constants)) first [] (before ++ x ∷ later) split))
 
 -- a call that sets constants performs one line
 pub tuned_alone : (line : KeptLine) (k : Keeping) (first : Line) (before later : List Line) (x : Line) → IsTuned line → (doing_of line (sees k.host) k.policy).lines ≡ first ∷ (before ++ x ∷ later) → ⊥
 tuned_alone line k first before later x t split =
-    nil_ends before x later (tails (Tunes t.0) first [] (before ++ x ∷ later) (ap (λ (l : KeptLine). (doing_of l (sees k.host) k.policy).lines) (sym t.1) ∙ split))
+    nil_ends before x later (tails (Calls (Tune t.0)) first [] (before ++ x ∷ later) (ap (λ (l : KeptLine). (doing_of l (sees k.host) k.policy).lines) (sym t.1) ∙ split))
 
 -- ---- what is overdue
 

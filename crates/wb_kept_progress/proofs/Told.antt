@@ -7,8 +7,9 @@ use Rattle.wb_names.specs.declared.name.PageId.{PageId}
 use Rattle.wb_codec.specs.declared.datagram.Datagram.{Datagram}
 use Rattle.wb_codec.specs.declared.datagram.Datagram.TheVariants.{Session}
 use Rattle.wb_member.specs.Opened.{has_room_for, heard}
-use Rattle.wb_policy.specs.Choices.{distance_in, own_echo, own_marks, told_names}
-use Rattle.wb_keeping.specs.Kept.{Doing, Hears, Ticks, Transition, and_then, came, hears, hears_session, measures, performs, still, timed, want_told}
+use Rattle.wb_member.specs.declared.calls.Call.TheVariants.{Tick, Hear}
+use Rattle.wb_policy.specs.Choices.{echoed_delay, own_echo, own_marks, told_names}
+use Rattle.wb_keeping.specs.Kept.{Calls, Doing, Transition, and_then, came, hears, hears_session, measures, performs, still, timed, want_told}
 use Rattle.wb_keeping.specs.Performing.{Keeping, after_doing, after_lines, sees}
 use Rattle.wb_keeping.proofs.EachStep.{having}
 use Rattle.wb_keeping.proofs.Performed.{then_after}
@@ -17,7 +18,7 @@ use Rattle.wb_kept_progress.proofs.WantedIn.{IsAskedIn, IsAskedInCall, LacksCred
 use Rattle.wb_keeping.proofs.EachLine.{measures_each}
 use Rattle.std.proofs.lemmas.Bool.{false_from_ne_true}
 
-hearing_holds : (v : Datagram) (k : Keeping) → (after_doing (performs (Hears v)) k).host.is.held ≡ k.host.is.held
+hearing_holds : (v : Datagram) (k : Keeping) → (after_doing (performs (Calls (Hear v))) k).host.is.held ≡ k.host.is.held
 hearing_holds v k = by (has_room_for v k.host) where
   by : (b : Bool) → (cond b (heard v k.host) k.host).is.held ≡ k.host.is.held
   by true = refl
@@ -32,16 +33,16 @@ module _ (k : Keeping) (now sender sent : ℕ) (page : PageId) (marks : List Mar
   v = Session sender sent page marks echoes
 
   abbrev t : Keeping
-  t = having (Ticks now) k
+  t = having (Calls (Tick now)) k
 
   abbrev echo : List Echo
   echo = own_echo k.host.is.number echoes
 
   abbrev first : Transition
-  first = performs (Hears (Session sender sent page (own_marks k.host.is.number (nat_lt now k.policy.ready) marks) echo))
+  first = performs (Calls (Hear (Session sender sent page (own_marks k.host.is.number (nat_lt now k.policy.ready) marks) echo)))
 
   abbrev second : Transition
-  second = measures sender (distance_in now echo)
+  second = measures sender (echoed_delay now echo)
 
   abbrev third : Transition
   third = want_told (told_names k.host.is.number page marks)
@@ -55,8 +56,8 @@ module _ (k : Keeping) (now sender sent : ℕ) (page : PageId) (marks : List Mar
   may_two : MayBeWanted two n
   may_two =
       same_may n second one
-      (does_rest second (measures_each IsSmall are_small sender (distance_in now echo)) one).held
-      (same_may n first t (hearing_holds (Session sender sent page (own_marks k.host.is.number (nat_lt now k.policy.ready) marks) echo) t) (same_may n (performs (Ticks now)) k refl may))
+      (does_rest second (measures_each IsSmall are_small sender (echoed_delay now echo)) one).held
+      (same_may n first t (hearing_holds (Session sender sent page (own_marks k.host.is.number (nat_lt now k.policy.ready) marks) echo) t) (same_may n (performs (Calls (Tick now))) k refl may))
 
   all_heard : IsWantedIn n (and_then first (and_then second third)) t
   all_heard =
@@ -78,5 +79,5 @@ module _ (k : Keeping) (now sender sent : ℕ) (page : PageId) (marks : List Mar
   pub told_wants : IsAskedInCall n (came now v) k ⊎ LacksCredit (after_doing (came now v) k)
   told_wants = ⊎_elim
       (λ (a : IsAskedIn n (and_then (hears v) timed) t). inl (asked_behind_tick n now (and_then (hears v) timed) k a))
-      (λ (without : LacksCredit (after_doing (and_then (hears v) timed) t)). inr (subst LacksCredit (sym (then_after (performs (Ticks now)) (and_then (hears v) timed) k)) without))
+      (λ (without : LacksCredit (after_doing (and_then (hears v) timed) t)). inr (subst LacksCredit (sym (then_after (performs (Calls (Tick now))) (and_then (hears v) timed) k)) without))
       (wanted_behind n (hears v) timed t (timed_costs (after_doing (hears v) t)) heard_so)

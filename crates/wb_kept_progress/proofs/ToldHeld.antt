@@ -20,8 +20,10 @@ use Rattle.wb_keeper.specs.Hearing.{answers_to, asks_for_pages, page_states}
 use Rattle.wb_keeper.specs.Ticks.{drawop_of, sent_for}
 use Rattle.wb_keeper.proofs.TickSends.{sent_from}
 use Rattle.wb_member.specs.Opened.{Opened, becomes, has_room_for, present, sent_by}
+use Rattle.wb_member.specs.declared.calls.Call.TheVariants as calls
+use Rattle.wb_member.proofs.PolicyCalls.{SendsNothing, none_sent}
 use Rattle.wb_policy.specs.Choices.{last_heard}
-use Rattle.wb_keeping.specs.Kept.{Arrives, Asks, Hears, Line, Says, SetsDistance, Tunes, Stops, Ticks, state_of, still, want}
+use Rattle.wb_keeping.specs.Kept.{Arrives, Line, Says, state_of, still, want, Calls}
 use Rattle.wb_keeping.specs.Laws.{KeptLine, doing_of, fault_of}
 use Rattle.wb_keeping.specs.Performing.{Keeping, after_doing, after_line, after_lines, said_where, sees, sent_by_doing, sent_by_line, sent_by_lines, view_of}
 use Rattle.wb_policy.specs.Policy.{Policy, after_wanting}
@@ -107,7 +109,7 @@ answer_tells me held heard v c = by (asks_for_pages me heard) c where
       let p = Any-from_map (reported held) (pages_of held) r.1 (r.0, r.2, r.3) in
       subst (TellsHeld me held) r.4 (subst (λ (s : PageReport). AreHeld held s.page s.marks) p.4 (report_held held p.1))
 
-hear_tells : (heard : Datagram) (host : Opened) (v : Datagram) → Contains (sent_by_line (Hears heard) host) v → TellsHeld host.is.number host.is.held v
+hear_tells : (heard : Datagram) (host : Opened) (v : Datagram) → Contains (sent_by_line (Calls (calls.Hear heard)) host) v → TellsHeld host.is.number host.is.held v
 hear_tells heard host v c = by (has_room_for heard host) c where
   by : (b : Bool) → Contains (cond b (answers_to host.is.number host.is.held heard) []) v → TellsHeld host.is.number host.is.held v
   by true c = answer_tells host.is.number host.is.held heard v c
@@ -121,37 +123,30 @@ draw_tells me held d Left v c = absurd (Contains-none v c)
 
 -- ---- lines that send nothing
 
-abbrev SendsNothing : Line → Type 0
-SendsNothing (Ticks now) = ⊥
-SendsNothing (Arrives d) = Unit {0}
-SendsNothing (Hears v) = ⊥
-SendsNothing (Asks name) = Unit {0}
-SendsNothing (Stops name) = Unit {0}
-SendsNothing (SetsDistance source micros) = Unit {0}
-SendsNothing (Tunes constants) = Unit {0}
-SendsNothing (Says v) = ⊥
+abbrev IsSilent : Line → Type 0
+IsSilent (Arrives d) = Unit {0}
+IsSilent (Says v) = ⊥
+IsSilent (Calls call) = SendsNothing call
 
-abbrev SendNothing : List Line → Type 0
-SendNothing lines = Each SendsNothing lines
+silent : (line : Line) (host : Opened) (v : Datagram) → IsSilent line → Contains (sent_by_line line host) v → ⊥
+silent (Arrives d) host v none c = Contains-none v c
+silent (Says w) host v none c = none
+silent (Calls call) host v none c = none_sent call host v none c
 
-none_sent : (lines : List Line) (host : Opened) (v : Datagram) → SendNothing lines → Contains (sent_by_lines lines host) v → ⊥
-none_sent [] host v none c = Contains-none v c
-none_sent (Ticks now ∷ lines) host v none c = none.0
-none_sent (Arrives d ∷ lines) host v none c = none_sent lines (after_line (Arrives d) host) v none.1 c
-none_sent (Hears w ∷ lines) host v none c = none.0
-none_sent (Asks name ∷ lines) host v none c = none_sent lines (after_line (Asks name) host) v none.1 c
-none_sent (Stops name ∷ lines) host v none c = none_sent lines (after_line (Stops name) host) v none.1 c
-none_sent (SetsDistance source micros ∷ lines) host v none c = none_sent lines (after_line (SetsDistance source micros) host) v none.1 c
-none_sent (Tunes constants ∷ lines) host v none c = none_sent lines (after_line (Tunes constants) host) v none.1 c
-none_sent (Says w ∷ lines) host v none c = none.0
+abbrev AreSilent : List Line → Type 0
+AreSilent lines = Each IsSilent lines
 
-want_none : (name : NameValue) (anew : Bool) (see : List Line → View) (p : Policy) → SendNothing (want name anew see p).lines
+all_silent : (lines : List Line) (host : Opened) (v : Datagram) → AreSilent lines → Contains (sent_by_lines lines host) v → ⊥
+all_silent [] host v none c = Contains-none v c
+all_silent (line ∷ lines) host v none c = ⊎_elim (silent line host v none.0) (all_silent lines (after_line line host) v none.1) (Contains-append_cases (sent_by_line line host) (sent_by_lines lines (after_line line host)) v c)
+
+want_none : (name : NameValue) (anew : Bool) (see : List Line → View) (p : Policy) → AreSilent (want name anew see p).lines
 want_none name anew see p = by (is_wanted (holds v name) (is_full v) anew (is_known v name.source) (level v name) p.owed v.now) where
   v : View
   v = see []
 
-  by : (b : Bool) → SendNothing (cond b (doing (after_wanting v.now p) (lines_wanted name anew see p)) (still see p)).lines
-  by true = wanted_each SendsNothing (λ name. tt) name tt anew see p tt tt
+  by : (b : Bool) → AreSilent (cond b (doing (after_wanting v.now p) (lines_wanted name anew see p)) (still see p)).lines
+  by true = wanted_each IsSilent (λ name. tt) name tt anew see p tt tt
   by false = tt
 
 -- ---- all that a kept host does
@@ -170,8 +165,8 @@ by_one : (k : Keeping) (line : Line) (p : Policy) → ((v : Datagram) → Contai
 by_one k line p tells = by_held k (line ∷ []) p
     (λ v c. ⊎_elim (λ (h : Contains (sent_by_line line k.host) v). tells v h) (λ (h : Contains [] v). absurd (Contains-none v h)) (Contains-append_cases (sent_by_line line k.host) [] v c))
 
-quietly : (k : Keeping) (lines : List Line) (p : Policy) → SendNothing lines → TellsWhatIsHeld k lines (record { host = after_lines lines k.host; policy = p })
-quietly k lines p none = by_held k lines p (λ v c. absurd (none_sent lines k.host v none c))
+quietly : (k : Keeping) (lines : List Line) (p : Policy) → AreSilent lines → TellsWhatIsHeld k lines (record { host = after_lines lines k.host; policy = p })
+quietly k lines p none = by_held k lines p (λ v c. absurd (all_silent lines k.host v none c))
 
 both_tell : (k m n : Keeping) (one other : List Line) → TellsWhatIsHeld k one m → TellsWhatIsHeld m other n → TellsWhatIsHeld k (one ++ other) n
 both_tell k m n one other a b = record {
@@ -209,10 +204,10 @@ steps_tell = record {
         let report = Session k.host.is.number (present k.host) page (slice_after told (report_of k.host.is.held page)) (last_heard (view_of k.host).echoes) in
         by_one k (Says report) _ (λ v c. subst (TellsHeld k.host.is.number k.host.is.held) (one_of report v c) (refl, slice_held k.host.is.held page told));
   };
-  ticks = λ now k later. by_one k (Ticks now) k.policy (tick_tells now k.host);
+  ticks = λ now k later. by_one k (Calls (calls.Tick now)) k.policy (tick_tells now k.host);
   arrives = λ d k. quietly k _ k.policy (tt, tt);
   answered = λ d k lacks asked. quietly k _ _ (tt, tt);
-  hears = λ v k. by_one k (Hears v) k.policy (hear_tells v k.host);
+  hears = λ v k. by_one k (Calls (calls.Hear v)) k.policy (hear_tells v k.host);
   stops = λ name k full. quietly k _ k.policy (tt, tt);
   sets = λ source micros k. quietly k _ k.policy (tt, tt);
   lends = λ source k. quietly k _ k.policy (tt, tt);

@@ -3,7 +3,6 @@ use Rattle.std.proofs.Common.{◌≡◌, ℕ, zero, suc, ◌+◌, ◌*◌, ◌<�
 use Rattle.std.specs.Prelude.{◌⊎◌, Contains, nat_eq}
 use Rattle.std.proofs.lemmas.Bool.{eq-eqb}
 use Rattle.std.proofs.lemmas.List.{append_cancel_right}
-use Rattle.std.proofs.lemmas.List.Elements.{Contains-append_left}
 use Rattle.wb_names.specs.Values.{DrawopValue, NameValue}
 use Rattle.wb_codec.specs.declared.datagram.Datagram.{Datagram}
 use Rattle.wb_codec.specs.declared.datagram.Datagram.TheVariants.{Session}
@@ -16,8 +15,8 @@ use Rattle.wb_progress.proofs.Parts.{heads, nil_ends, tails}
 use Rattle.wb_member.specs.Judged.{holds}
 use Rattle.wb_member.specs.Opened.{asks_for, present}
 use Rattle.wb_keeping.specs.Bounds.{ask_count}
-use Rattle.wb_keeping.specs.Kept.{Asks, Line, came}
-use Rattle.wb_keeping.specs.Laws.{KeptLine, doing_of}
+use Rattle.wb_keeping.specs.Kept.{came}
+use Rattle.wb_keeping.specs.Laws.{KeptLine, doing_of, Came}
 use Rattle.wb_keeping.specs.Performing.{Keeping, after_doing, sees}
 use Rattle.wb_kept_progress.specs.Promises.{timer_then}
 use Rattle.wb_kept_progress.specs.Rounds.{coming}
@@ -28,14 +27,14 @@ use Rattle.wb_kept_progress.specs.Topped.{asks_since, window_span, windows_from}
 use Rattle.wb_kept_progress.specs.Whole.{AreCalledInOrder, HolesAreHeld, IsHandedIn, IsHeldBySome, IsTimelySession, ReportWithin, WaitAtMost, request_span, there, turn_span}
 use Rattle.wb_kept_progress.proofs.AskedComes.{comes_or_is_given_up}
 use Rattle.wb_kept_progress.proofs.AskedInCalls.{HasAsk}
-use Rattle.wb_kept_progress.proofs.AskedStays.{stood_or_asks}
+use Rattle.wb_kept_progress.proofs.AskedStays.{stood_or_calls}
 use Rattle.wb_kept_progress.proofs.Becoming.{lacked_before}
 use Rattle.wb_kept_progress.proofs.CallParts.{calls_end}
 use Rattle.wb_kept_progress.proofs.CallsInTime.{performed_is_timely}
 use Rattle.wb_kept_progress.proofs.Coming.{named_in}
 use Rattle.wb_kept_progress.proofs.CrowdAsks.{before_newest, crowd_asks}
 use Rattle.wb_kept_progress.proofs.Crowds.{crowd}
-use Rattle.wb_kept_progress.proofs.Handed.{asked_both, performs_in}
+use Rattle.wb_kept_progress.proofs.Handed.{asked_both, performs_in, handed}
 use Rattle.wb_kept_progress.proofs.NextDue.{ordered, there_here, told_there}
 use Rattle.wb_kept_progress.proofs.NothingNew.{held_was_held}
 use Rattle.wb_kept_progress.proofs.OwedAndDue.{near_there, next_by_turn, now_there, taken_of}
@@ -411,18 +410,15 @@ module _ (told : LastNumbersAreTold) (hosts : ℕ → Opening) (terms : Terms) (
           (λ (stood : asks_for n k_then.host ≡ true).
           one_on hosts terms trace i session holes_held live (newer ++ e ∷ []) window p.part upto_part settled_in same z.0 v.part h.call v.window_is
           (subst Awake v.older_is (record { name = n; is = held; lacks = lacks_then; asked = stood })))
-          (λ (x : HasAsk (a.first ∷ a.before)). awake_by_asking (subst (λ (l : List TimedLine). HasAsk (does hosts h.call l)) v.older_is (
-            x.0,
-            subst (λ (q : ℕ). Contains (let m = there hosts older_h q in (doing_of h.call.at.line (sees m.host) m.policy).lines) (Asks x.0)) (sym (eqb-true h.call.at.place i here))
-                (subst (λ (line : KeptLine). Contains (doing_of line (sees k_then.host) k_then.policy).lines (Asks x.0)) (sym h.is)
-                (subst (λ (ls : List Line). Contains ls (Asks x.0)) (sym a.lines) (Contains-append_left (a.first ∷ a.before) a.later (Asks x.0) x.1))),
-          )))
-          (stood_or_asks n (a.first ∷ a.before) k_then.host a.stands)
+          (λ (x : HasAsk (came h.now report (sees k_then.host) k_then.policy).lines). awake_by_asking (subst (λ (l : List TimedLine). HasAsk (does hosts h.call l)) v.older_is (
+          subst (λ (q : ℕ). HasAsk (let m = there hosts older_h q in (doing_of h.call.at.line (sees m.host) m.policy).lines)) (sym (eqb-true h.call.at.place i here))
+          (subst (λ (line : KeptLine). HasAsk (doing_of line (sees k_then.host) k_then.policy).lines) (sym h.is) x))))
+          (stood_or_calls n (Came h.now report) k_then a)
 
       awake_short : LacksCredit (after_doing (came h.now report) k_then) → Awake (upto.0 ++ p.part)
       awake_short without =
           let many = short_upto without in
-          let a = an_ask (performs_in hosts i upto.0 p.part) (omega (arith, many)) in
+          let a = an_ask (handed i upto.0) (there hosts p.part i) (omega (arith, many)) in
           awake_by hosts terms trace i session holes_held live (newer ++ e ∷ []) window p.part upto_part settled_in same z.0 upto.0 a.0 window_is a.1
 
       awake_then : Awake (upto.0 ++ p.part)

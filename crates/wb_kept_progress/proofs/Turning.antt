@@ -22,9 +22,10 @@ use Rattle.wb_keeper.specs.Keeper.{holds}
 use Rattle.wb_keeper.proofs.KeptCalls.{holds_not}
 use Rattle.wb_member.specs.Judged.{is_full}
 use Rattle.wb_member.specs.Opened.{Opened, asks_for, opened_with, present}
+use Rattle.wb_member.specs.declared.calls.Call.TheVariants.{Tick}
 use Rattle.wb_policy.specs.Fairness.{Told, after_telling, after_tellings, after_turn, after_turns, left_to_tell, marks_in_turn, name_in_turn, page_in_turn, where_left}
 use Rattle.wb_keeping.specs.Fairness.{AnswersWhatIsHeld}
-use Rattle.wb_keeping.specs.Kept.{Ticks, performs, ticks, timed}
+use Rattle.wb_keeping.specs.Kept.{Calls, performs, ticks, ticks_at, timed}
 use Rattle.wb_keeping.specs.Laws.{Added, Came, KeptLine, Ticked, Tuned, doing_of}
 use Rattle.wb_keeping.specs.Performing.{Keeping, after_doing, sees, sent_by_doing}
 use Rattle.wb_policy.specs.Reports.{is_telling, page_after, slice_after}
@@ -48,7 +49,7 @@ use Rattle.wb_kept_progress.proofs.WantedIn.{MayBeWanted}
 -- ---- one who answers for what it holds alone
 
 pub answers_at : (hosts : ℕ → Opening) (lines : List LineAt) (i : ℕ) → AnswersWhatIsHeld (host_at hosts lines i)
-answers_at hosts [] i = λ name. lines_answer_held name (map Ticks (hosts i).moments) (opened_with (hosts i).constants (hosts i).number (hosts i).cells (hosts i).seed) (λ e. absurd (true≢false (sym e)))
+answers_at hosts [] i = λ name. lines_answer_held name (ticks_at (hosts i).moments) (opened_with (hosts i).constants (hosts i).number (hosts i).cells (hosts i).seed) (λ e. absurd (true≢false (sym e)))
 answers_at hosts (e ∷ older) i = by (answers_at hosts older i) (nat_eq e.place i) where
   k : Keeping
   k = kept_at hosts older i
@@ -62,10 +63,10 @@ answers_at hosts (e ∷ older) i = by (answers_at hosts older i) (nat_eq e.place
 -- by a tick at which a report and a turn are due, and all names are paid for
 module _ (k : Keeping) (now : ℕ) (late : k.policy.reports.due ≤ now) (turn : k.policy.pace.due ≤ now) (paid : k.policy.owed ≤ now) where
   abbrev m : Keeping
-  m = having (Ticks now) k
+  m = having (Calls (Tick now)) k
 
   there : after_doing (ticks now) k ≡ after_doing timed m
-  there = then_after (performs (Ticks now)) timed k
+  there = then_after (performs (Calls (Tick now))) timed k
 
   -- it may do so again 96 seconds later at most
   tick_soon : AnswersWhatIsHeld k.host → ready_at (after_doing (ticks now) k) ≤ now + 96000000
@@ -85,7 +86,7 @@ module _ (k : Keeping) (now : ℕ) (late : k.policy.reports.due ≤ now) (turn :
   tick_asks : (n : NameValue) → AnswersWhatIsHeld k.host → holds k.host.is.held n ≡ false → is_full k.host ≡ false → name_in_turn k.host.is.held k.policy.turns ≡ Some n
       → asks_for n (after_doing (ticks now) k).host ≡ true
   tick_asks n answers_held lacks room in_turn =
-      let may : MayBeWanted m n = record { answers_held = answers_on (performs (Ticks now)) k answers_held; lacks = lacks; room = room } in
+      let may : MayBeWanted m n = record { answers_held = answers_on (performs (Calls (Tick now))) k answers_held; lacks = lacks; room = room } in
       ap (λ (x : Keeping). asks_for n x.host) there ∙ due_asks m turn paid n may in_turn
 
 -- a report has few marks

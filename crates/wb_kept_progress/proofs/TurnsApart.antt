@@ -5,7 +5,8 @@ use Rattle.wb_names.specs.declared.name.PageId.{PageId}
 use Rattle.wb_names.specs.declared.parts.Op.{Op}
 use Rattle.wb_codec.specs.declared.datagram.Datagram.{Datagram}
 use Rattle.wb_member.specs.Opened.{present}
-use Rattle.wb_keeping.specs.Kept.{Ticks, came, hears, performs, ticks, timed}
+use Rattle.wb_member.specs.declared.calls.Call.TheVariants.{Tick}
+use Rattle.wb_keeping.specs.Kept.{Calls, came, hears, performs, ticks, timed}
 use Rattle.wb_keeping.specs.Laws.{KeptLine, Came, Ticked, Added, Tuned, doing_of}
 use Rattle.wb_keeping.specs.Performing.{Keeping, after_doing, sees}
 use Rattle.wb_policy.specs.Policy.{draws}
@@ -33,11 +34,11 @@ timed_due k = ⊎_elim
     (leb_tells k.policy.pace.due (present k.host))
 
 after_tick : (now : ℕ) (k : Keeping) → IsDueThen now k.policy.pace.due (after_doing (ticks now) k).policy.pace.due
-after_tick now k = subst (λ (m : Keeping). IsDueThen now k.policy.pace.due m.policy.pace.due) (sym (then_after (performs (Ticks now)) timed k)) (timed_due (having (Ticks now) k))
+after_tick now k = subst (λ (m : Keeping). IsDueThen now k.policy.pace.due m.policy.pace.due) (sym (then_after (performs (Calls (Tick now))) timed k)) (timed_due (having (Calls (Tick now)) k))
 
 after_came : (now : ℕ) (v : Datagram) (k : Keeping) → IsDueThen now k.policy.pace.due (after_doing (came now v) k).policy.pace.due
 after_came now v k =
-    let t = having (Ticks now) k in
+    let t = having (Calls (Tick now)) k in
     let m = after_doing (hears v) t in
     let due : m.policy.pace.due ≡ k.policy.pace.due = (hears_tells v (sees t.host) t.policy).beat in
     let moment : present m.host ≡ now = no_ticks_stand (hears v (sees t.host) t.policy).lines t.host (hears_none v (sees t.host) t.policy) in

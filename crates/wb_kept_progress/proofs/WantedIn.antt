@@ -11,11 +11,12 @@ use Rattle.wb_gaps.specs.declared.holes.Hole.{Hole}
 use Rattle.wb_keeper.specs.Keeper.{holds}
 use Rattle.wb_member.specs.Judged.{is_full}
 use Rattle.wb_member.specs.Opened.{asks_for, present}
+use Rattle.wb_member.specs.declared.calls.Call.TheVariants.{Tick}
 use Rattle.wb_policy.specs.Credit.{has_credit}
 use Rattle.wb_policy.specs.declared.limits.TheConstants.{COST}
 use Rattle.wb_policy.specs.Fairness.{in_round, name_in_turn}
 use Rattle.wb_keeping.specs.Fairness.{AnswersWhatIsHeld}
-use Rattle.wb_keeping.specs.Kept.{Doing, Line, Ticks, Transition, and_then, performs, still, timed, turn, turn_to, want, want_told}
+use Rattle.wb_keeping.specs.Kept.{Calls, Doing, Line, Transition, and_then, performs, still, timed, turn, turn_to, want, want_told}
 use Rattle.wb_keeping.specs.Performing.{Keeping, after_doing, after_lines, sees, view_of}
 use Rattle.wb_policy.specs.Policy.{after_turn, after_wanting, in_next_round, Policy}
 use Rattle.wb_keeping.specs.Views.{View}
@@ -94,13 +95,13 @@ module _ (n : NameValue) (first second : Transition) (k : Keeping) where
     stands = ap (asks_for n) (after_both one.lines a.before k.host) ∙ a.stands;
   }
 
-pub asked_behind_tick : (n : NameValue) (now : ℕ) (second : Transition) (k : Keeping) → IsAskedIn n second (having (Ticks now) k)
-    → IsAskedInCall n (and_then (performs (Ticks now)) second) k
+pub asked_behind_tick : (n : NameValue) (now : ℕ) (second : Transition) (k : Keeping) → IsAskedIn n second (having (Calls (Tick now)) k)
+    → IsAskedInCall n (and_then (performs (Calls (Tick now))) second) k
 asked_behind_tick n now second k a = record {
-  first = Ticks now;
+  first = Calls (Tick now);
   before = a.before;
   later = a.later;
-  lines = ap (λ (lines : List Line). Ticks now ∷ lines) a.lines;
+  lines = ap (λ (lines : List Line). Calls (Tick now) ∷ lines) a.lines;
   stands = a.stands;
 }
 

@@ -6,9 +6,10 @@ use Rattle.wb_progress.specs.InTime.{known_from, repairing}
 use Rattle.wb_progress.specs.Turns.{IsNowAt, Terms, settled_by}
 use Rattle.wb_member.specs.Judged.{holds}
 use Rattle.wb_member.specs.Opened.{present}
+use Rattle.wb_member.specs.declared.calls.Call.TheVariants.{Ask, Stop}
 use Rattle.wb_policy.specs.Credit.{has_credit, spent}
 use Rattle.wb_policy.specs.Fairness.{name_in_turn}
-use Rattle.wb_keeping.specs.Kept.{Line, Asks, Stops}
+use Rattle.wb_keeping.specs.Kept.{Line, Calls}
 use Rattle.wb_keeping.specs.Laws.{doing_of}
 use Rattle.wb_keeping.specs.Performing.{Keeping, sees, view_of}
 use Rattle.wb_policy.specs.Wanting.{oldest}
@@ -58,13 +59,13 @@ pub record HasTurn (k : Keeping) (now : ℕ) (n : NameValue) : Type 0 where
 
 -- Some live host holds it, or it has its turn, or a drawop came that was new.
 abbrev pub AsksHaveCause : Type 0
-AsksHaveCause = (hosts : ℕ → Opening) (terms : Terms) (trace newer older : List TimedLine) (e : TimedLine) (n : NameValue) → IsTimelySession hosts terms trace → trace ≡ newer ++ e ∷ older → settled_by terms < e.time → Contains (does hosts e older) (Asks n)
+AsksHaveCause = (hosts : ℕ → Opening) (terms : Terms) (trace newer older : List TimedLine) (e : TimedLine) (n : NameValue) → IsTimelySession hosts terms trace → trace ≡ newer ++ e ∷ older → settled_by terms < e.time → Contains (does hosts e older) (Calls (Ask n))
     → IsHeldBySome hosts terms trace n ⊎ (HasTurn (there hosts older e.at.place) (moment_of e.at.line) n ⊎ ((there hosts (e ∷ older) e.at.place).host.is.held ≢ (there hosts older e.at.place).host.is.held))
 
 -- It was backed off four times or more, or of 64 or more that are asked for it was backed off most and is the first of these.
 abbrev pub StopsHaveCause : Type 0
 StopsHaveCause = (hosts : ℕ → Opening) (terms : Terms) (trace : List TimedLine) (front : List Performed) (x : Performed) (back : List Performed) (n : NameValue) → IsTimelySession hosts terms trace → Contains terms.live x.place → terms.quiet < x.time
-    → performed hosts trace ≡ front ++ x ∷ back → x.line ≡ Stops n
+    → performed hosts trace ≡ front ++ x ∷ back → x.line ≡ Calls (Stop n)
     → ((ask : AskTimer) × (timer_then hosts back x.place n ≡ Some ask) × (4 ≤ ask.level))
     ⊎ ((64 ≤ length (view_of (host_then hosts back x.place)).asked) × (a : AskedName) × (oldest (view_of (host_then hosts back x.place)).asked ≡ Some a) × (a.name ≡ n))
 
@@ -73,7 +74,7 @@ abbrev pub CreditIsSpent : Type 0
 CreditIsSpent = (hosts : ℕ → Opening) (terms : Terms) (trace newer older : List TimedLine) (e : TimedLine) → IsTimelySession hosts terms trace → trace ≡ newer ++ e ∷ older → settled_by terms < e.time
     → let k = there hosts older e.at.place in
     let next = there hosts (e ∷ older) e.at.place in
-    ((n : NameValue) × Contains (does hosts e older) (Asks n) × IsHeldBySome hosts terms trace n)
+    ((n : NameValue) × Contains (does hosts e older) (Calls (Ask n)) × IsHeldBySome hosts terms trace n)
     ⊎ ((next.host.is.held ≢ k.host.is.held)
     ⊎ ((next.policy.owed ≤ k.policy.owed)
     ⊎ ((k.policy.pace.due ≤ moment_of e.at.line) × (next.policy.owed ≤ spent k.policy.owed (moment_of e.at.line)))))

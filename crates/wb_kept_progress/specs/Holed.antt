@@ -38,7 +38,7 @@ tops = record { source = 10; high = 3 } ∷ []
 
 -- ---- the session
 
--- Each host is called within a second. No distance is above a tenth of a second, and the clock of the second host goes slow by a ten-thousandth.
+-- Each host is called within a second. No delay is above a tenth of a second, and the clock of the second host goes slow by a ten-thousandth.
 abbrev pub holed : Terms
 holed = record (terms_of 2000000 1000000 20000 (λ i. 99999 + 99980 * i)) { far = 100000 }
 

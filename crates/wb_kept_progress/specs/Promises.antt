@@ -9,7 +9,8 @@ use Rattle.wb_progress.specs.InTime.{known_from, repairing}
 use Rattle.wb_progress.specs.Turns.{Terms}
 use Rattle.wb_member.specs.Judged.{holds}
 use Rattle.wb_member.specs.Opened.{Opened}
-use Rattle.wb_keeping.specs.Kept.{Stops}
+use Rattle.wb_member.specs.declared.calls.Call.TheVariants.{Stop}
+use Rattle.wb_keeping.specs.Kept.{Calls}
 use Rattle.wb_kept_progress.specs.Sessions.{Opening}
 use Rattle.wb_kept_progress.specs.Timed.{Performed, TimedLine, called_at, host_after, performed, start_of, time_of, timers_after}
 use Rattle.wb_kept_progress.specs.Whole.{AreSoon, AreWithin, IsHeldBySome, IsTimelySession, LackAtMost, ReportsAreDue, SessionsBecomeWhole, Sizes, WaitAtMost, asked_within, minute, request_span, there}
@@ -69,7 +70,7 @@ pub record IsForAnother (hosts : ℕ → Opening) (terms : Terms) (trace : List 
 -- While nothing new comes, a live host gives up a name before its timer was backed off only if it asks for a greater one that another holds.
 abbrev pub GivesUpForAnother : Type 0
 GivesUpForAnother = (hosts : ℕ → Opening) (terms : Terms) (trace newest window base : List TimedLine) (sizes : Sizes) (wait most i : ℕ) (front back : List Performed) (x : Performed) (n : NameValue) (ask : AskTimer) → Holds hosts terms trace sizes wait most → IsStill hosts terms trace newest window base → IsLate terms sizes wait base
-    → Contains terms.live i → performed hosts (window ++ base) ≡ front ++ x ∷ back → called_at base + request_span terms < time_of back → x.place ≡ i → x.line ≡ Stops n → timer_then hosts back i n ≡ Some ask → ask.level ≡ 0
+    → Contains terms.live i → performed hosts (window ++ base) ≡ front ++ x ∷ back → called_at base + request_span terms < time_of back → x.place ≡ i → x.line ≡ Calls (Stop n) → timer_then hosts back i n ≡ Some ask → ask.level ≡ 0
     → IsForAnother hosts terms trace i back n
 
 -- And the next report of a live host is due within 96 seconds.

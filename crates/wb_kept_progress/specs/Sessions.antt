@@ -1,11 +1,11 @@
 -- Sessions of self-managing hosts. What one sends may be lost, and may be handed in to any of them, at any later point, any
 -- number of times.
-use Rattle.std.specs.Prelude.{◌≡◌, ℕ, true, List, [], ◌∷◌, ◌++◌, Contains, None, map, nat_eq, if◌then◌else◌}
+use Rattle.std.specs.Prelude.{◌≡◌, ℕ, true, List, [], ◌∷◌, ◌++◌, Contains, None, nat_eq, if◌then◌else◌}
 use Rattle.wb_codec.specs.declared.datagram.Datagram.{Datagram}
 use Rattle.wb_recovery.specs.Timing.{are_constants}
 use Rattle.wb_recovery.specs.declared.tuning.Tuning.{Tuning}
 use Rattle.wb_member.specs.Opened.{Opened, opened_with, present}
-use Rattle.wb_keeping.specs.Kept.{Ticks}
+use Rattle.wb_keeping.specs.Kept.{ticks_at}
 use Rattle.wb_keeping.specs.Laws.{KeptLine, Came, Ticked, Added, Tuned, doing_of, fault_of}
 use Rattle.wb_keeping.specs.Performing.{Keeping, after_doing, after_lines, sent_by_doing}
 use Rattle.wb_policy.specs.Policy.{begun}
@@ -24,7 +24,7 @@ pub record Opening : Type 0 where
   pub listen : ℕ
 
 abbrev pub opened_host : Opening → Opened
-opened_host o = after_lines (map Ticks o.moments) (opened_with o.constants o.number o.cells o.seed)
+opened_host o = after_lines (ticks_at o.moments) (opened_with o.constants o.number o.cells o.seed)
 
 abbrev pub opened : Opening → Keeping
 opened o = record { host = opened_host o; policy = begun (present (opened_host o)) o.rate o.listen o.seed }

@@ -11,7 +11,7 @@ use Rattle.wb_progress.specs.Turns.{IsNowAt, Terms, longest, settled_by}
 use Rattle.wb_member.specs.Judged.{holds, is_full}
 use Rattle.wb_member.specs.Opened.{present}
 use Rattle.wb_recovery.specs.declared.limits.TheConstants.{MOST_TIMERS}
-use Rattle.wb_policy.specs.declared.limits.TheConstants.{COST, MOST_DISTANCE}
+use Rattle.wb_policy.specs.declared.limits.TheConstants.{COST, MOST_DELAY}
 use Rattle.wb_keeping.specs.Laws.{KeptLine, Added, Came, Tuned, doing_of}
 use Rattle.wb_keeping.specs.Performing.{due, sent_by_doing}
 use Rattle.wb_judging.specs.Members.{needs}
@@ -127,7 +127,7 @@ pub record IsTimelyWithStarts (numbers : ℕ → ℕ) (terms : Terms) (calls : L
   pub taken : AreTaken numbers calls
   pub order : AreInOrder calls
   pub covered : terms.drift ≤ terms.late
-  pub far : MOST_DISTANCE ≤ terms.far
+  pub far : MOST_DELAY ≤ terms.far
   pub fitting : (i : ℕ) → Contains terms.live i → AreFittingSince terms (numbers i) i calls
   -- from `quiet` on
   pub alone : (newer older : List CallAt) (e : CallAt) → calls ≡ newer ++ e ∷ older → terms.quiet < e.time → Contains terms.live e.place × ((line : KeptLine) × (e.call ≡ Handed line))

@@ -13,8 +13,9 @@ use Rattle.wb_progress.specs.Keepers.{is_request}
 use Rattle.wb_progress.specs.Turns.{AreNotOverdue, IsNowAt, Terms, longest, quiet_span, settled_by}
 use Rattle.wb_member.specs.Judged.{delay, holds, is_full}
 use Rattle.wb_member.specs.Opened.{Opened, events, opened_with, present}
-use Rattle.wb_policy.specs.declared.limits.TheConstants.{MOST_DISTANCE}
-use Rattle.wb_keeping.specs.Kept.{Line, Arrives, Asks, Hears, Says, SetsDistance, Stops, Ticks, Tunes}
+use Rattle.wb_member.specs.declared.calls.Call.TheVariants.{Tick, Hear, Look, Ask, Stop}
+use Rattle.wb_policy.specs.declared.limits.TheConstants.{MOST_DELAY}
+use Rattle.wb_keeping.specs.Kept.{Line, Arrives, Says, Calls, ticks_at}
 use Rattle.wb_keeping.specs.Laws.{KeptLine, Came, Ticked, Added, Tuned, doing_of}
 use Rattle.wb_keeping.specs.Performing.{after_line, after_lines, sees, sent_by_doing, sent_by_line}
 use Rattle.wb_kept_progress.specs.Sessions.{AreTaken, DoNotGoBack, LineAt, Opening, kept_at}
@@ -37,7 +38,7 @@ pub record Start : Type 0 where
 
 -- the host at a place after lines, of which the newest is the first
 abbrev pub host_after : (ℕ → Start) → List Performed → ℕ → Opened
-host_after hosts [] i = after_lines (map Ticks (hosts i).moments) (opened_with (hosts i).constants (hosts i).number (hosts i).cells (hosts i).seed)
+host_after hosts [] i = after_lines (ticks_at (hosts i).moments) (opened_with (hosts i).constants (hosts i).number (hosts i).cells (hosts i).seed)
 host_after hosts (e ∷ older) i = if nat_eq e.place i then after_line e.line (host_after hosts older i) else host_after hosts older i
 
 abbrev pub timers_after : (ℕ → Start) → List Performed → ℕ → NameValue → Timers
@@ -94,7 +95,7 @@ pub record WasSent (hosts : ℕ → Start) (older : List Performed) (time within
   pub soon : time ≤ e.time + within
   pub sent : Contains (sends hosts before e) v
 
--- A line goes by distances if timers are set by them or names are quiet for them: as it ticks, takes a drawop, hears a request or asks for a name.
+-- A line goes by delays if timers are set by them or names are quiet for them: as it ticks, takes a drawop, hears a request or asks for names.
 abbrev pub is_drawop : Datagram → Bool
 is_drawop (Draw d) = true
 is_drawop (Session sender sent page marks echoes) = false
@@ -102,19 +103,18 @@ is_drawop (Request asker name) = false
 is_drawop (AskPages asker) = false
 is_drawop (PageState sender page marks) = false
 
-abbrev pub goes_by_distances : Line → Bool
-goes_by_distances (Ticks now) = true
-goes_by_distances (Arrives d) = true
-goes_by_distances (Hears v) = is_request v
-goes_by_distances (Asks name) = true
-goes_by_distances (Says v) = is_drawop v
-goes_by_distances (Stops name) = false
-goes_by_distances (SetsDistance source micros) = false
-goes_by_distances (Tunes constants) = false
+abbrev pub goes_by_delays : Line → Bool
+goes_by_delays (Calls (Tick now)) = true
+goes_by_delays (Arrives d) = true
+goes_by_delays (Calls (Hear v)) = is_request v
+goes_by_delays (Calls (Look page)) = true
+goes_by_delays (Calls (Ask name)) = true
+goes_by_delays (Says v) = is_drawop v
+goes_by_delays (Calls call) = false
 
--- no line at a live place goes by a distance above `far`
+-- no line at a live place goes by a delay above `far`
 abbrev pub GoByShort : (ℕ → Start) → Terms → List Performed → Type 0
-GoByShort hosts terms trace = (newer older : List Performed) (e : Performed) (source : ℕ) → trace ≡ newer ++ e ∷ older → Contains terms.live e.place → goes_by_distances e.line ≡ true → delay (host_after hosts older e.place) source ≤ terms.far
+GoByShort hosts terms trace = (newer older : List Performed) (e : Performed) (source : ℕ) → trace ≡ newer ++ e ∷ older → Contains terms.live e.place → goes_by_delays e.line ≡ true → delay (host_after hosts older e.place) source ≤ terms.far
 
 -- The terms are those of wb_progress: nothing is asked of reports, and of what is asked for and given up.
 pub record IsTimely (hosts : ℕ → Start) (terms : Terms) (trace : List Performed) : Type 0 where
@@ -125,10 +125,10 @@ pub record IsTimely (hosts : ℕ → Start) (terms : Terms) (trace : List Perfor
   -- moments do not go back at a live place; the last before its first line is one of `quiet` or before
   pub moments : (i : ℕ) → Contains terms.live i → DoNotGoBack 0 (hosts i).moments
   pub begun : (i : ℕ) → Contains terms.live i → present (host_after hosts [] i) + terms.lag i ≤ terms.quiet
-  pub onward : (newer older : List Performed) (e : Performed) (now : ℕ) → trace ≡ newer ++ e ∷ older → Contains terms.live e.place → e.line ≡ Ticks now → present (host_after hosts older e.place) ≤ now
+  pub onward : (newer older : List Performed) (e : Performed) (now : ℕ) → trace ≡ newer ++ e ∷ older → Contains terms.live e.place → e.line ≡ Calls (Tick now) → present (host_after hosts older e.place) ≤ now
   -- a tick makes it a moment of its time, and a datagram is heard at such a moment
-  pub times : (newer older : List Performed) (e : Performed) (now : ℕ) → trace ≡ newer ++ e ∷ older → Contains terms.live e.place → e.line ≡ Ticks now → IsNowAt terms e.time e.place now
-  pub behind : (newer older : List Performed) (e : Performed) (v : Datagram) → trace ≡ newer ++ e ∷ older → Contains terms.live e.place → e.line ≡ Hears v → IsNowAt terms e.time e.place (present (host_after hosts older e.place))
+  pub times : (newer older : List Performed) (e : Performed) (now : ℕ) → trace ≡ newer ++ e ∷ older → Contains terms.live e.place → e.line ≡ Calls (Tick now) → IsNowAt terms e.time e.place now
+  pub behind : (newer older : List Performed) (e : Performed) (v : Datagram) → trace ≡ newer ++ e ∷ older → Contains terms.live e.place → e.line ≡ Calls (Hear v) → IsNowAt terms e.time e.place (present (host_after hosts older e.place))
   -- from `quiet` on a tick comes once a timer is due: until a line comes, no timer that stands at a live place is overdue
   pub soon : (newer older : List Performed) (e : Performed) (i : ℕ) (m : NameValue) → trace ≡ newer ++ e ∷ older → Contains terms.live i → terms.quiet < e.time → AreNotOverdue (timers_after hosts older i m) e.time (terms.lag i + terms.late)
   pub delays : GoByShort hosts terms trace
@@ -139,9 +139,9 @@ pub record IsTimely (hosts : ℕ → Start) (terms : Terms) (trace : List Perfor
   -- A drawop that a live place sends comes to each other one in time, unless that one holds it by then, and a request to each that holds what it asks
   -- for. What comes was sent shortly before.
   pub drawops : (newer older : List Performed) (e : Performed) (j : ℕ) (d : DrawopValue) → trace ≡ newer ++ e ∷ older → Contains terms.live j → e.place ≢ j → terms.quiet < e.time → Contains (sends hosts older e) (Draw d) → e.time + terms.delivery < time_of trace → ComesTo newer j (e.time + terms.delivery) (Arrives d) ⊎ IsHeldBy hosts newer (e ∷ older) j (e.time + terms.delivery) d.name
-  pub requests : (newer older : List Performed) (e : Performed) (j asker : ℕ) (m : NameValue) → trace ≡ newer ++ e ∷ older → Contains terms.live j → e.place ≢ j → terms.quiet < e.time → Contains (sends hosts older e) (Request asker m) → holds (host_after hosts older j) m ≡ true → e.time + terms.delivery < time_of trace → ComesTo newer j (e.time + terms.delivery) (Hears (Request asker m))
+  pub requests : (newer older : List Performed) (e : Performed) (j asker : ℕ) (m : NameValue) → trace ≡ newer ++ e ∷ older → Contains terms.live j → e.place ≢ j → terms.quiet < e.time → Contains (sends hosts older e) (Request asker m) → holds (host_after hosts older j) m ≡ true → e.time + terms.delivery < time_of trace → ComesTo newer j (e.time + terms.delivery) (Calls (Hear (Request asker m)))
   pub fresh_drawops : (newer older : List Performed) (e : Performed) (d : DrawopValue) → trace ≡ newer ++ e ∷ older → settled_by terms < e.time → e.line ≡ Arrives d → WasSent hosts older e.time terms.delivery (Draw d)
-  pub fresh_requests : (newer older : List Performed) (e : Performed) (asker : ℕ) (m : NameValue) → trace ≡ newer ++ e ∷ older → settled_by terms < e.time → e.line ≡ Hears (Request asker m) → WasSent hosts older e.time terms.delivery (Request asker m)
+  pub fresh_requests : (newer older : List Performed) (e : Performed) (asker : ℕ) (m : NameValue) → trace ≡ newer ++ e ∷ older → settled_by terms < e.time → e.line ≡ Calls (Hear (Request asker m)) → WasSent hosts older e.time terms.delivery (Request asker m)
 
 -- ---- by when it comes
 
@@ -165,7 +165,7 @@ pub record IsGivenUp (hosts : ℕ → Start) (trace base : List Performed) (i : 
   pub between : List Performed
   pub split : trace ≡ front ++ e ∷ (between ++ base)
   pub place : e.place ≡ i
-  pub line : e.line ≡ Stops n
+  pub line : e.line ≡ Calls (Stop n)
   pub stands : (timers_after hosts (between ++ base) i n).ask ≡ Some ask
   pub soon : e.time ≤ by
 
@@ -211,8 +211,8 @@ pub record IsPerformed (hosts : ℕ → Opening) (trace : List TimedLine) : Type
   pub same : (i : ℕ) → host_after (λ j. start_of (hosts j)) (performed hosts trace) i ≡ (kept_at hosts (lines_of trace) i).host
 
 pub record KeepsMoments (hosts : ℕ → Opening) (terms : Terms) (trace : List TimedLine) : Type 0 where
-  pub times : (newer older : List Performed) (e : Performed) (now : ℕ) → performed hosts trace ≡ newer ++ e ∷ older → Contains terms.live e.place → e.line ≡ Ticks now → IsNowAt terms e.time e.place now
-  pub behind : (newer older : List Performed) (e : Performed) (v : Datagram) → performed hosts trace ≡ newer ++ e ∷ older → Contains terms.live e.place → e.line ≡ Hears v → IsNowAt terms e.time e.place (present (host_after (λ j. start_of (hosts j)) older e.place))
+  pub times : (newer older : List Performed) (e : Performed) (now : ℕ) → performed hosts trace ≡ newer ++ e ∷ older → Contains terms.live e.place → e.line ≡ Calls (Tick now) → IsNowAt terms e.time e.place now
+  pub behind : (newer older : List Performed) (e : Performed) (v : Datagram) → performed hosts trace ≡ newer ++ e ∷ older → Contains terms.live e.place → e.line ≡ Calls (Hear v) → IsNowAt terms e.time e.place (present (host_after (λ j. start_of (hosts j)) older e.place))
 
 abbrev pub TellTimes : Terms → List TimedLine → Type 0
 TellTimes terms [] = Unit {0}
@@ -224,9 +224,9 @@ KeptIsPerformed = (hosts : ℕ → Opening) (trace : List TimedLine) → IsPerfo
 abbrev pub KeptKeepsMoments : Type 0
 KeptKeepsMoments = (hosts : ℕ → Opening) (terms : Terms) (trace : List TimedLine) → TellTimes terms trace → KeepsMoments hosts terms trace
 
--- A self-managing host goes by no greater distance than MOST_DISTANCE: it limits what echoes tell before it goes by that.
+-- A self-managing host goes by no greater delay than MOST_DELAY: it limits what echoes tell before it goes by that.
 abbrev pub KeptGoByShort : Type 0
-KeptGoByShort = (hosts : ℕ → Opening) (terms : Terms) (trace : List TimedLine) → AreTaken hosts (lines_of trace) → MOST_DISTANCE ≤ terms.far → GoByShort (λ j. start_of (hosts j)) terms (performed hosts trace)
+KeptGoByShort = (hosts : ℕ → Opening) (terms : Terms) (trace : List TimedLine) → AreTaken hosts (lines_of trace) → MOST_DELAY ≤ terms.far → GoByShort (λ j. start_of (hosts j)) terms (performed hosts trace)
 
 -- ---- by when it comes to self-managing hosts
 

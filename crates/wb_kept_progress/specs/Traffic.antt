@@ -9,7 +9,7 @@ use Rattle.wb_keeper.specs.Hearing.{asks_for_held}
 use Rattle.wb_member.specs.Opened.{Opened, events, present}
 use Rattle.wb_policy.specs.Policy.{Policy}
 use Rattle.wb_recovery.specs.declared.limits.TheConstants.{MOST_TIMERS}
-use Rattle.wb_policy.specs.declared.limits.TheConstants.{COST, FIRST_WAIT, LEAST_DISTANCE, MOST_PAGES, PAYS, PLACES, QUIET, SHORTEST_PAUSE}
+use Rattle.wb_policy.specs.declared.limits.TheConstants.{COST, FIRST_WAIT, LEAST_DELAY, MOST_PAGES, PAYS, PLACES, QUIET, SHORTEST_PAUSE}
 use Rattle.wb_keeping.specs.Bounds.{answer_count, is_request, new_keeping}
 use Rattle.wb_keeping.specs.Laws.{Added, AreTaken, Came, KeptLine, Ticked, Tuned, after_kept, doing_of, expand, sent_by_kept}
 use Rattle.wb_keeping.specs.Performing.{Keeping, after_doing}
@@ -49,14 +49,14 @@ LittleIsSent = (lines : List KeptLine) (k : Keeping) → FIRST_WAIT ≤ k.policy
 -- ---- requests
 
 -- In ten minutes or less a host that is self-managing from its opening on, but for ticks, requests at most 15 times each of 128 names, of one name
--- more in each quarter of a second, and of two more for each name that it asked for and that came. The constants are 1 to 16, and the usual distance is
+-- more in each quarter of a second, and of two more for each name that it asked for and that came. The constants are 1 to 16, and the usual delay is
 -- not below 10 milliseconds at first.
 abbrev pub FewRequestsAreSent : Type 0
 FewRequestsAreSent = (constants : Tuning) (number cells seed : ℕ) (moments : List ℕ) (policy : Policy) (earlier lines : List KeptLine)
     → let start = new_keeping constants number cells seed moments policy in
     let k = after_kept earlier start in
     let micros = present (after_kept lines k).host - present k.host in
-    are_constants constants ≡ true → LEAST_DISTANCE ≤ policy.usual → AreTaken earlier start → AreTaken lines k → micros ≤ MINUTES
+    are_constants constants ≡ true → LEAST_DELAY ≤ policy.usual → AreTaken earlier start → AreTaken lines k → micros ≤ MINUTES
     → how_many is_request (sent_by_kept lines k) * COST ≤ MOST_REQUESTS * ((MOST_TIMERS + PLACES + PAYS * answer_count (expand lines k) k.host) * COST + micros)
 
 -- ---- drawops

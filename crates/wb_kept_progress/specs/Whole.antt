@@ -14,11 +14,12 @@ use Rattle.wb_progress.specs.InTime.{AreApart, known_from, repairing}
 use Rattle.wb_progress.specs.Turns.{Terms, longest, settled_by}
 use Rattle.wb_member.specs.Judged.{echoes, holds, is_full}
 use Rattle.wb_member.specs.Opened.{present}
+use Rattle.wb_member.specs.declared.calls.Call.TheVariants.{Stop}
 use Rattle.wb_policy.specs.Fairness.{slices_of, slices_on}
 use Rattle.wb_policy.specs.Reports.{mean_time, members_in}
 use Rattle.wb_names.specs.declared.name.TheConstants.{FIRST_FORGED}
-use Rattle.wb_policy.specs.declared.limits.TheConstants.{HEARD, LONGEST_GAP, LONGEST_PAUSE, MOST_DISTANCE, MOST_REPORT_BYTES, ROUND_LIMIT, SECOND}
-use Rattle.wb_keeping.specs.Kept.{Stops}
+use Rattle.wb_policy.specs.declared.limits.TheConstants.{HEARD, LONGEST_GAP, LONGEST_PAUSE, MOST_DELAY, MOST_REPORT_BYTES, ROUND_LIMIT, SECOND}
+use Rattle.wb_keeping.specs.Kept.{Calls}
 use Rattle.wb_keeping.specs.Laws.{Added, Came, Tuned, doing_of}
 use Rattle.wb_keeping.specs.Performing.{Keeping, due, sent_by_doing}
 use Rattle.wb_judging.specs.Members.{needs}
@@ -84,8 +85,8 @@ pub record IsTimelySession (hosts : ℕ → Opening) (terms : Terms) (trace : Li
   pub covered : terms.drift ≤ terms.late
   -- from `quiet` on a call of a live host comes at most `late` after the moment at which it has something to do
   pub soon : (newer older : List TimedLine) (e : TimedLine) (i : ℕ) → trace ≡ newer ++ e ∷ older → Contains terms.live i → terms.quiet < e.time → e.time ≤ due (there hosts older i) + (terms.lag i + terms.late)
-  -- of distances nothing is asked if `far` is a second or more
-  pub delays : (MOST_DISTANCE ≤ terms.far) ⊎ GoByShort (λ j. start_of (hosts j)) terms (performed hosts trace)
+  -- of delays nothing is asked if `far` is a second or more
+  pub delays : (MOST_DELAY ≤ terms.far) ⊎ GoByShort (λ j. start_of (hosts j)) terms (performed hosts trace)
   pub alone : (newer older : List TimedLine) (e : TimedLine) → trace ≡ newer ++ e ∷ older → terms.quiet < e.time → Contains terms.live e.at.place
   pub drawn : (newer older : List TimedLine) (e : TimedLine) (now : ℕ) (page : PageId) (time : ℕ) (op : Op) → trace ≡ newer ++ e ∷ older → terms.quiet < e.time → e.at.line ≢ Added now page time op
   pub room : (newer older : List TimedLine) (i : ℕ) → trace ≡ newer ++ older → Contains terms.live i → terms.quiet < called_at older → is_full (there hosts older i).host ≡ false
@@ -180,7 +181,7 @@ HolesAreHeld hosts terms trace = (newer older : List TimedLine) (i : ℕ) (n : N
 
 -- From a time on a live host gives up no name before its request timer was backed off.
 abbrev pub NewAreKept : (ℕ → Opening) → Terms → List TimedLine → ℕ → Type 0
-NewAreKept hosts terms trace from = (front back : List Performed) (x : Performed) (n : NameValue) (ask : AskTimer) → performed hosts trace ≡ front ++ x ∷ back → Contains terms.live x.place → from < x.time → x.line ≡ Stops n
+NewAreKept hosts terms trace from = (front back : List Performed) (x : Performed) (n : NameValue) (ask : AskTimer) → performed hosts trace ≡ front ++ x ∷ back → Contains terms.live x.place → from < x.time → x.line ≡ Calls (Stop n)
     → (timers_after (λ j. start_of (hosts j)) back x.place n).ask ≡ Some ask → 1 ≤ ask.level
 
 -- the longest from one report to the next

@@ -78,11 +78,11 @@ pub fn what_is_asked_for_comes_in_time()
 /// A host that is self-managing after the moments of its opening is the host that performed the
 /// lines of its policy, each call at a time. If each call says a moment that the clock of its place
 /// may show then, a tick to that moment stands before all else that is performed in it. No line
-/// goes by a distance above a second, whatever echoes tell.
+/// goes by a delay above a second, whatever echoes tell.
 pub fn kept_hosts_perform_lines()
     ensures same { KeptIsPerformed }
     ensures moments { KeptKeepsMoments }
-    ensures distances { KeptGoByShort }
+    ensures delays { KeptGoByShort }
 {}
 
 /// A session of self-managing hosts becomes whole. If from some time on nobody draws, nothing is

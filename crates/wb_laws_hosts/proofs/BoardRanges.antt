@@ -10,7 +10,7 @@ use Rattle.wb_names.proofs.Listings.{Contains-from_filter, Any-from_map}
 use Rattle.wb_names.proofs.Orders.{and_both}
 use Rattle.wb_codec.specs.Ranges.{IsDrawop, IsMark}
 use Rattle.wb_gaps.specs.Answers.{report_of, sources_of, top_mark}
-use Rattle.wb_laws_sessions.proofs.Holding.{all_from}
+use Rattle.wb_laws_sessions.proofs.CallActs.{all_from}
 
 -- ---- one number of a source
 

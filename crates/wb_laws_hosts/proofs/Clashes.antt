@@ -9,7 +9,7 @@ use Rattle.wb_codec.specs.declared.datagram.Datagram.TheVariants as datagrams
 use Rattle.wb_recovery.specs.declared.tuning.Tuning.{Tuning}
 use Rattle.wb_lines.specs.Taking.{met}
 use Rattle.wb_words.specs.declared.adding.Adding.{Adding}
-use Rattle.wb_member.specs.Lines.{Line, Arrives, Says, Ticks}
+use Rattle.wb_member.specs.Lines.{Line, Arrives, Says, Calls}
 use Rattle.wb_member.specs.Opened.{Opened, becomes}
 use Rattle.wb_member.specs.declared.calls.Call.TheVariants.{Tick}
 use Rattle.wb_keeping.specs.Kept.{Doing, adds, and_then, came, drawing, ends_full, learned, performs, takes, timed}
@@ -23,7 +23,7 @@ use Rattle.wb_dialog.specs.declared.line.DriverLine.TheVariants.{Script, Say, Ca
 use Rattle.wb_dialog.specs.Dialog.{batch_of, says_line}
 use Rattle.wb_dialog.specs.Hosting.{Host, Driven, Kept, Reply, prints, denies, reply, unsent_text}
 use Rattle.wb_laws_sessions.specs.Drawn.{AreHonest}
-use Rattle.wb_laws_sessions.specs.Sessions.{AreApart, Calls, Deed, Speaks, Step, Takes, deed_of, host_at, steps_then}
+use Rattle.wb_laws_sessions.specs.Sessions.{AreApart, Deed, Does, Step, host_at, steps_then}
 use Rattle.wb_laws_sessions.proofs.Several.{arrival_never_clashes, drawing_never_clashes}
 use Rattle.wb_laws_hosts.specs.Laws.{BatchesCountNoClash, HandsIn}
 use Rattle.wb_laws_hosts.specs.Telling.{told_by, told_of, told_said}
@@ -77,8 +77,8 @@ begins : (line : Line) (b : Bool) (x y : Doing) (xs ys : List Line) → x.lines 
 begins line true x y xs ys e f = (xs, e)
 begins line false x y xs ys e f = (ys, f)
 
-first_in : (line : Line) (some more : List Line) → (rest : List Line) × (some ≡ line ∷ rest) → Contains (map deed_of (some ++ more)) (deed_of line)
-first_in line some more (rest, e) = subst (λ (l : List Line). Contains (map deed_of (l ++ more)) (deed_of line)) (sym e) (Contains-here (deed_of line) (map deed_of (rest ++ more)))
+first_in : (line : Line) (some more : List Line) → (rest : List Line) × (some ≡ line ∷ rest) → Contains (map Does (some ++ more)) (Does line)
+first_in line some more (rest, e) = subst (λ (l : List Line). Contains (map Does (l ++ more)) (Does line)) (sym e) (Contains-here (Does line) (map Does (rest ++ more)))
 
 takes_begins : (d : DrawopValue) (see : List Line → View) → (k : Keeping) → (rest : List Line) × ((takes d see k.policy).lines ≡ Arrives d ∷ rest)
 takes_begins d see k =
@@ -86,18 +86,18 @@ takes_begins d see k =
     let learns = learned d.name (is_asked v d.name) in
     begins (Arrives d) (holds v d.name || is_full v) (performs (Arrives d) see k.policy) (and_then (performs (Arrives d)) learns see k.policy) [] _ refl refl
 
-came_arrives : (now : ℕ) (d : DrawopValue) (k : Keeping) → Contains (deeds_doing (came now (datagrams.Draw d)) k) (Takes d)
+came_arrives : (now : ℕ) (d : DrawopValue) (k : Keeping) → Contains (deeds_doing (came now (datagrams.Draw d)) k) (Does (Arrives d))
 came_arrives now d k =
-    let see : List Line → View = λ (performed : List Line). sees k.host (Ticks now ∷ performed) in
-    Contains-there (Calls (Tick now)) (Takes d) _ (first_in (Arrives d) (takes d see k.policy).lines _ (takes_begins d see k))
+    let see : List Line → View = λ (performed : List Line). sees k.host (Calls (Tick now) ∷ performed) in
+    Contains-there (Does (Calls (Tick now))) (Does (Arrives d)) _ (first_in (Arrives d) (takes d see k.policy).lines _ (takes_begins d see k))
 
-adds_says : (a : Adding) (k : Keeping) → let d = drawing (view_of k.host) a.page a.time a.op in Contains (deeds_doing (adds a.moment a.page a.time a.op) k) (Speaks (datagrams.Draw d))
+adds_says : (a : Adding) (k : Keeping) → let d = drawing (view_of k.host) a.page a.time a.op in Contains (deeds_doing (adds a.moment a.page a.time a.op) k) (Does (Says (datagrams.Draw d)))
 adds_says a k =
     let d : DrawopValue = drawing (view_of k.host) a.page a.time a.op in
     let says : Line = Says (datagrams.Draw d) in
-    let see : List Line → View = λ (performed : List Line). sees k.host (Ticks a.moment ∷ (says ∷ performed)) in
+    let see : List Line → View = λ (performed : List Line). sees k.host (Calls (Tick a.moment) ∷ (says ∷ performed)) in
     let more : List Line = (and_then ends_full timed see k.policy).lines in
-    Contains-there (Calls (Tick a.moment)) (deed_of says) (map deed_of (says ∷ more)) (Contains-here (deed_of says) (map deed_of more))
+    Contains-there (Does (Calls (Tick a.moment))) (Does says) (map Does (says ∷ more)) (Contains-here (Does says) (map Does more))
 
 -- ---- no clash
 
@@ -108,10 +108,10 @@ module _ (numbers : ℕ → ℕ) (place : ℕ) (older : List Step) (apart : AreA
   abbrev Honest : List Deed → Type 0
   Honest deeds = AreHonest numbers (steps_then 0 place deeds older)
 
-  none_arrives : (d : DrawopValue) (deeds : List Deed) (host : Opened) → host ≡ there → Honest deeds → Contains deeds (Takes d) → IsClash (becomes d host) → ⊥
+  none_arrives : (d : DrawopValue) (deeds : List Deed) (host : Opened) → host ≡ there → Honest deeds → Contains deeds (Does (Arrives d)) → IsClash (becomes d host) → ⊥
   none_arrives d deeds host is honest c clash = arrival_never_clashes numbers 0 place deeds older apart honest d clash.0 c (ap (becomes d) (sym is) ∙ clash.1)
 
-  none_drawn : (d : DrawopValue) (deeds : List Deed) (host : Opened) → host ≡ there → Honest deeds → Contains deeds (Speaks (datagrams.Draw d)) → IsClash (becomes d host) → ⊥
+  none_drawn : (d : DrawopValue) (deeds : List Deed) (host : Opened) → host ≡ there → Honest deeds → Contains deeds (Does (Says (datagrams.Draw d))) → IsClash (becomes d host) → ⊥
   none_drawn d deeds host is honest c clash = drawing_never_clashes numbers 0 place deeds older apart honest d clash.0 c (ap (becomes d) (sym is) ∙ clash.1)
 
   abbrev NoClash : Option Host → DriverLine → Type 0
@@ -119,7 +119,7 @@ module _ (numbers : ℕ → ℕ) (place : ℕ) (older : List Step) (apart : AreA
 
   handed : (d : DrawopValue) (s : Option Host) → NoClash s (Script (lines.Arrive d))
   handed d None is honest e = no_text k e
-  handed d (Some (Driven host seed)) is honest e = none_arrives d (Takes d ∷ []) host is honest (Contains-here (Takes d) []) (only_clash k (becomes d host) e)
+  handed d (Some (Driven host seed)) is honest e = none_arrives d (Does (Arrives d) ∷ []) host is honest (Contains-here (Does (Arrives d)) []) (only_clash k (becomes d host) e)
   handed d (Some (Kept it)) is honest e = no_text k e
 
   came_in : (now : ℕ) (d : DrawopValue) (s : Option Host) → NoClash s (Came now (datagrams.Draw d))
@@ -129,7 +129,7 @@ module _ (numbers : ℕ → ℕ) (place : ℕ) (older : List Step) (apart : AreA
 
   said : (d : DrawopValue) (s : Option Host) → NoClash s (Say (datagrams.Draw d))
   said d None is honest e = no_text k e
-  said d (Some (Driven host seed)) is honest e = none_drawn d (Speaks (datagrams.Draw d) ∷ []) host is honest (Contains-here (Speaks (datagrams.Draw d)) []) (only_clash_unsent k (becomes d host) e)
+  said d (Some (Driven host seed)) is honest e = none_drawn d (Does (Says (datagrams.Draw d)) ∷ []) host is honest (Contains-here (Does (Says (datagrams.Draw d))) []) (only_clash_unsent k (becomes d host) e)
   said d (Some (Kept it)) is honest e = no_text k e
 
   added : (a : Adding) (s : Option Host) → NoClash s (Add a)

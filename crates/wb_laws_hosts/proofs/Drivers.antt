@@ -1,5 +1,5 @@
 -- Lines of honest drivers are honest steps.
-use Rattle.std.proofs.Common.{◌≡◌, ◌⊎◌, ℕ, Bool, true, false, cond, List, [], ◌∷◌, Option, Some, None, Result, Ok, Err, ap, eqb-true, inl, inr, refl, subst, sym, ◌∙◌}
+use Rattle.std.proofs.Common.{◌≡◌, ◌⊎◌, ℕ, Bool, true, false, cond, List, [], ◌∷◌, Option, Some, None, Result, Ok, Err, ap, eqb-true, inl, inr, map, refl, subst, sym, ◌∙◌}
 use Rattle.std.specs.Prelude.{Contains, IfOk, nat_eq}
 use Rattle.wb_names.specs.Values.{DrawopValue}
 use Rattle.wb_codec.specs.declared.datagram.Datagram.TheVariants as datagrams
@@ -7,12 +7,14 @@ use Rattle.wb_recovery.specs.declared.tuning.Tuning.{Tuning}
 use Rattle.wb_lines.specs.Input.{InputLine}
 use Rattle.wb_lines.specs.Taking.{met}
 use Rattle.wb_words.specs.declared.adding.Adding.{Adding}
+use Rattle.wb_member.specs.Lines.{Line, Arrives, Calls, Says}
 use Rattle.wb_member.specs.Opened.{Opened}
 use Rattle.wb_member.specs.declared.calls.Call.TheVariants as calls
 use Rattle.wb_keeping.specs.Kept.{Transition, adds, came, ticks}
 use Rattle.wb_keeping.specs.Performing.{Keeping, sees}
 use Rattle.wb_keeping.specs.Refusing.{add_fault, came_fault, tick_fault}
 use Rattle.wb_keeping.specs.declared.kept_fault.KeptFault.{KeptFault}
+use Rattle.wb_keeping.proofs.EachLine.{Each}
 use Rattle.wb_commands.specs.declared.command.Command.{Command}
 use Rattle.wb_commands.specs.declared.command.Command.TheVariants as lines
 use Rattle.wb_dialog.specs.declared.fault.Refusal.{Refusal}
@@ -22,8 +24,8 @@ use Rattle.wb_dialog.specs.declared.line.DriverLine.TheVariants.{Script, Say, Ke
 use Rattle.wb_dialog.specs.Dialog.{goes_out, refuses, says_line}
 use Rattle.wb_dialog.specs.Hosting.{Host, Driven, Kept, Reply, prints, denies, as_driven, kept_does, kept_reply, reply, reply_to, seed_after}
 use Rattle.wb_laws_sessions.specs.Drawn.{AreHonest, IsAbove, WasHeld, drawn_at}
-use Rattle.wb_laws_sessions.specs.Sessions.{Calls, Deed, Speaks, Step, host_at, steps_then}
-use Rattle.wb_laws_sessions.proofs.Honest.{IsPlain, arrival_is_honest, drawing_is_honest, opening_is_honest, plain_is_honest}
+use Rattle.wb_laws_sessions.specs.Sessions.{Deed, Does, Step, host_at, steps_then}
+use Rattle.wb_laws_sessions.proofs.Honest.{IsGiven, drawing_is_honest, given_is_honest, opening_is_honest}
 use Rattle.wb_laws_sessions.proofs.Several.{number_at}
 use Rattle.wb_laws_kept.proofs.Honest.{adds_honest, came_given, lines_honest, ticks_given}
 use Rattle.wb_laws_hosts.specs.Drivers.{HonestReportsTellShows, IsHeldOrNext, IsHonestLine, KnowsItsOwn, LinesAreHonestSteps}
@@ -41,23 +43,9 @@ module _ (numbers : ℕ → ℕ) (place : ℕ) (older : List Step) (honest : Are
   abbrev Goes : List Deed → Type 0
   Goes deeds = AreHonest numbers (steps_then 0 place deeds older)
 
-  abbrev at : Deed → Step
-  at deed = record { time = 0; place = place; deed = deed }
-
   by_reply : (r : Reply) (deeds : List Deed) → Goes deeds → Goes (deeds_by r deeds)
   by_reply (prints next text) deeds goes = goes
   by_reply (denies e) deeds goes = honest
-
-  -- no deed, or one on which no term is laid
-  abbrev ArePlain : List Deed → Type 0
-  ArePlain [] = Unit {0}
-  ArePlain (deed ∷ []) = IsPlain deed
-  ArePlain deeds = ⊥
-
-  plain : (deeds : List Deed) → ArePlain deeds → Goes deeds
-  plain [] are = honest
-  plain (deed ∷ []) are = (plain_is_honest numbers older (at deed) are, honest)
-  plain (deed ∷ more ∷ deeds) are = absurd are
 
   -- ---- before a board is open
 
@@ -66,23 +54,29 @@ module _ (numbers : ℕ → ℕ) (place : ℕ) (older : List Step) (honest : Are
   opens tuning line fit = honest
 
   module _ (line : DriverLine) (fit : drivers.Fits line) (comes : (d : DrawopValue) → HandsInBy line d → WasHeld numbers older d) where
+    -- one line that draws nothing
+    given : (one : Line) → IsGiven (HandsInBy line) one → Goes (Does one ∷ [])
+    given one is = (given_is_honest numbers older 0 place (HandsInBy line) comes one is, honest)
+
+    -- several
+    all_given : (lines : List Line) → Each (IsGiven (HandsInBy line)) lines → Goes (map Does lines)
+    all_given lines each = lines_honest numbers 0 place (HandsInBy line) lines older honest comes each
+
     -- ---- at a host that its driver drives
 
     module _ (tuning : Tuning) (host : Opened) (seed : Option ℕ) (there : host ≡ host_at numbers older place) (says : (d : DrawopValue) → line ≡ Say (datagrams.Draw d) → IsHeldOrNext (drawn_at numbers older place) (Some (Driven host seed)) d) where
-      abbrev Does : DriverLine → Type 0
-      Does said = Goes (deeds_by (reply_to tuning (Some (Driven host seed)) said) (deeds_driven said))
+      abbrev GoesBy : DriverLine → Type 0
+      GoesBy said = Goes (deeds_by (reply_to tuning (Some (Driven host seed)) said) (deeds_driven said))
 
-      one : (said : DriverLine) → Goes (deeds_driven said) → Does said
+      one : (said : DriverLine) → Goes (deeds_driven said) → GoesBy said
       one said goes = by_reply (reply_to tuning (Some (Driven host seed)) said) (deeds_driven said) goes
 
-      plainly : (said : DriverLine) → ArePlain (deeds_driven said) → Does said
-      plainly said are = one said (plain (deeds_driven said) are)
+      script : (said : Command) → line ≡ Script said → GoesBy (Script said)
+      script (lines.Arrive d) is = one (Script (lines.Arrive d)) (given (Arrives d) (inl is))
+      script (lines.Call call) is = one (Script (lines.Call call)) (given (Calls call) tt)
+      script said is = one (Script said) honest
 
-      script : (said : Command) → line ≡ Script said → Does (Script said)
-      script (lines.Arrive d) is = one (Script (lines.Arrive d)) (arrival_is_honest numbers older 0 place d (comes d (inl is)), honest)
-      script said is = plainly (Script said) tt
-
-      drawing : (d : DrawopValue) → line ≡ Say (datagrams.Draw d) → Does (Say (datagrams.Draw d))
+      drawing : (d : DrawopValue) → line ≡ Say (datagrams.Draw d) → GoesBy (Say (datagrams.Draw d))
       drawing d is = by (nat_eq d.name.source host.is.number) refl where
         in_range : drivers.Fits (Say (datagrams.Draw d))
         in_range = subst drivers.Fits is fit
@@ -91,7 +85,7 @@ module _ (numbers : ℕ → ℕ) (place : ℕ) (older : List Step) (honest : Are
         new = subst (λ (h : Opened). IsHeldOrNext (drawn_at numbers older place) (Some (Driven h seed)) d) there (says d is)
 
         by : (b : Bool) → nat_eq d.name.source host.is.number ≡ b
-            → Goes (deeds_by (as_driven (seed_after (Say (datagrams.Draw d)) seed) (cond b (goes_out (datagrams.Draw d) host) (refuses refusals.Member))) (Speaks (datagrams.Draw d) ∷ []))
+            → Goes (deeds_by (as_driven (seed_after (Say (datagrams.Draw d)) seed) (cond b (goes_out (datagrams.Draw d) host) (refuses refusals.Member))) (Does (Says (datagrams.Draw d)) ∷ []))
         by true own = (
           drawing_is_honest numbers older 0 place d
               (eqb-true d.name.source host.is.number own ∙ ap (λ (h : Opened). h.is.number) there ∙ number_at numbers older place) in_range.name.positive new,
@@ -99,10 +93,11 @@ module _ (numbers : ℕ → ℕ) (place : ℕ) (older : List Step) (honest : Are
         )
         by false own = honest
 
-      driven : (said : DriverLine) → line ≡ said → Does said
+      driven : (said : DriverLine) → line ≡ said → GoesBy said
       driven (Script said) is = script said is
       driven (Say (datagrams.Draw d)) is = drawing d is
-      driven said is = plainly said tt
+      driven (Say v) is = one (Say v) (given (Says v) tt)
+      driven said is = one said honest
 
     -- ---- at a self-managing host
 
@@ -116,16 +111,15 @@ module _ (numbers : ℕ → ℕ) (place : ℕ) (older : List Step) (honest : Are
 
       kept_script : (said : Command) → Goes (deeds_by (kept_reply (Script said) k) (deeds_kept (Script said) k))
       kept_script (lines.Call (calls.Tick now)) = unless_denied (tick_fault now k) (ticks now) []
-          (lines_honest numbers 0 place (λ d. ⊥) (ticks now (sees k.host) k.policy).lines older honest (λ d is. absurd is) (ticks_given (λ d. ⊥) now (sees k.host) k.policy))
-      kept_script (lines.Call (calls.Tune constants)) = plain (Calls (calls.Tune constants) ∷ []) tt
+          (all_given (ticks now (sees k.host) k.policy).lines (ticks_given (HandsInBy line) now (sees k.host) k.policy))
+      kept_script (lines.Call (calls.Tune constants)) = given (Calls (calls.Tune constants)) tt
       kept_script (lines.Question query) = asked (kept_reply (Script (lines.Question query)) k)
       kept_script said = honest
 
       kept : (said : DriverLine) → line ≡ said → Goes (deeds_by (kept_reply said k) (deeds_kept said k))
       kept (Script said) is = kept_script said
       kept (Came now v) is = unless_denied (came_fault now v k) (came now v) _
-          (lines_honest numbers 0 place (λ d. v ≡ datagrams.Draw d) (came now v (sees k.host) k.policy).lines older honest
-          (λ d same. comes d (inr (now, is ∙ ap (Came now) same))) (came_given (λ d. v ≡ datagrams.Draw d) now v (λ d same. same) (sees k.host) k.policy))
+          (all_given (came now v (sees k.host) k.policy).lines (came_given (HandsInBy line) now v (λ d same. inr (now, is ∙ ap (Came now) same)) (sees k.host) k.policy))
       kept (Add a) is = unless_denied (add_fault a.moment a.page a.time a.op k) (adds a.moment a.page a.time a.op) _
           (adds_honest numbers 0 place older honest k there a.page (knows a is) a.moment a.time a.op k.policy)
       kept said is = honest

@@ -7,7 +7,7 @@ use Rattle.wb_codec.specs.declared.datagram.Datagram.{Datagram}
 use Rattle.wb_codec.specs.declared.datagram.Datagram.TheVariants as datagrams
 use Rattle.wb_recovery.specs.declared.tuning.Tuning.{Tuning}
 use Rattle.wb_member.specs.Calls.{after_call, fault_of, found_by, sent_by_call}
-use Rattle.wb_member.specs.Lines.{Line, Tunes, said_where}
+use Rattle.wb_member.specs.Lines.{Calls, Line, said_where}
 use Rattle.wb_member.specs.Opened.{Opened, becomes}
 use Rattle.wb_member.specs.Questions.{answer_to}
 use Rattle.wb_keeping.specs.Kept.{Transition, adds, came, performs, ticks}
@@ -108,7 +108,7 @@ module _ (k : Keeping) where
 
   kept_script_led : (line : Command) → Led k.host (kept_reply (Script line) k) (deeds_kept (Script line) k) (told_kept (Script line) k)
   kept_script_led (lines.Call (calls.Tick now)) = does_led (tick_fault now k) (ticks now) []
-  kept_script_led (lines.Call (calls.Tune constants)) = does_led None (performs (Tunes constants)) []
+  kept_script_led (lines.Call (calls.Tune constants)) = does_led None (performs (Calls (calls.Tune constants))) []
   kept_script_led (lines.Question query) = shows_led (answer_text (answer_to query k.host))
   kept_script_led lines.Skip = (refl, refl)
   kept_script_led line = tt

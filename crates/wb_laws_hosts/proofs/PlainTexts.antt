@@ -1,43 +1,39 @@
 -- No line of what a host prints begins as a line does that closes a block, but those of a canvas.
-use Rattle.std.proofs.Common.{◌≡◌, ℕ, Bool, true, false, List, [], ◌∷◌, ◌++◌, Option, Some, None, Ok, length, refl, sym, subst, arith, flat_map, codes, decimal}
-use Rattle.std.specs.Prelude.{◌≢◌, Contains, filter, nat_eq, not, unwrap_or, if◌then◌else◌}
-use Rattle.std.specs.Option.{option_map}
+use Rattle.std.proofs.Common.{◌≡◌, ℕ, Bool, true, false, List, [], ◌∷◌, ◌++◌, Ok, refl, sym, subst, arith, flat_map, codes, decimal}
+use Rattle.std.specs.Prelude.{◌≢◌, Contains, filter, nat_eq, not, if◌then◌else◌}
 use Rattle.std.specs.List.{list_all}
 use Rattle.std.proofs.lemmas.Bool.{and_parts}
 use Rattle.std.proofs.lemmas.List.Elements.{All-contains, All-head, All-tail}
-use Rattle.wb_names.specs.Values.{DrawopValue, MarkValue}
-use Rattle.wb_names.specs.Arrivals.{Counts, Outcome, counts_of}
+use Rattle.wb_names.specs.Values.{DrawopValue}
 use Rattle.wb_names.specs.Orders.{display_cmp}
 use Rattle.wb_names.specs.Kinds.{op_kind, every_kind}
 use Rattle.wb_names.specs.declared.parts.OpKind.{OpKind}
 use Rattle.wb_names.specs.declared.parts.Op.{Op}
 use Rattle.wb_names.specs.declared.parts.Op.TheVariants.{Drawn, Text, Aimed}
-use Rattle.wb_names.specs.declared.gap.Gap.{Gap}
 use Rattle.wb_names.specs.declared.name.PageId.{PageId}
 use Rattle.wb_names.proofs.Listings.{Contains-from_filter}
 use Rattle.wb_display.specs.Display.{is_shown}
 use Rattle.wb_gaps.proofs.Sorting.{Contains-from_sorted}
 use Rattle.wb_codec.specs.declared.datagram.Datagram.{Datagram}
-use Rattle.wb_codec.specs.Spelling.{spelling}
 use Rattle.wb_words.specs.Words.{words, is_special}
 use Rattle.wb_words.specs.Spelling.{escaped, field_words, kind_word, name_words, op_words, page_word, quoted, stroke_words, tailed, target_words}
 use Rattle.wb_words.proofs.Appending.{joined_tailed, tailed_words}
 use Rattle.wb_lines.specs.Ahead.{NoLineFeed}
 use Rattle.wb_lines.proofs.LineBytes.{NoLineFeed-append}
 use Rattle.wb_member.specs.Queries.{view_of}
-use Rattle.wb_member.specs.Opened.{Opened, next_number, shown}
+use Rattle.wb_member.specs.Opened.{Opened, shown}
 use Rattle.wb_member.specs.declared.calls.Found.{Found}
 use Rattle.wb_member.specs.declared.calls.Found.TheVariants.{Missing}
 use Rattle.wb_member.specs.declared.questions.Query.{Query}
-use Rattle.wb_member.specs.declared.questions.Query.TheVariants.{Canvas, Gaps, Report, Pages, View, Known, Next}
+use Rattle.wb_member.specs.declared.questions.Query.TheVariants.{Canvas, View}
 use Rattle.wb_commands.specs.declared.command.Command.TheVariants.{Question}
 use Rattle.wb_dialog.specs.declared.line.DriverLine.TheVariants.{Script}
-use Rattle.wb_commands.specs.Answers.{batch_line, pair_line, gap_line, mark_line, page_line, gaps_text, known_text, next_line, pages_text, report_text, view_text, words_line}
-use Rattle.wb_commands.specs.SentLines.{digits_of, found_text, send_line, sends_text, look_line}
+use Rattle.wb_commands.specs.Answers.{view_text, words_line}
+use Rattle.wb_commands.specs.SentLines.{found_text, sends_text}
 use Rattle.wb_laws_hosts.specs.Closings.{IsOneLine, AreOneLine, IsNoShow}
 use Rattle.wb_laws_hosts.specs.Telling.{answered}
 use Rattle.wb_laws_hosts.proofs.PlainLines.{Plain, both, ended, further, none, number_free, plain_rules, worded}
-use Rattle.wb_laws_sessions.proofs.Holding.{all_from}
+use Rattle.wb_laws_sessions.proofs.CallActs.{all_from}
 
 -- ---- words
 

@@ -13,7 +13,7 @@ use Rattle.wb_codec.specs.declared.datagram.Datagram.TheVariants as datagrams
 use Rattle.wb_recovery.specs.declared.tuning.Tuning.{Tuning}
 use Rattle.wb_lines.specs.Input.{InputLine}
 use Rattle.wb_lines.specs.Taking.{met}
-use Rattle.wb_member.specs.Lines.{Line, Ticks, Says}
+use Rattle.wb_member.specs.Lines.{Line, Says, Arrives, Calls}
 use Rattle.wb_member.specs.Opened.{Opened, last_number}
 use Rattle.wb_member.specs.declared.calls.Call.TheVariants as calls
 use Rattle.wb_keeping.specs.Kept.{Transition, adds, came, drawing, ends_full, hears, ticks, timed}
@@ -31,7 +31,7 @@ use Rattle.wb_dialog.specs.declared.line.DriverLine.TheVariants.{Script, Say, Ke
 use Rattle.wb_dialog.specs.Dialog.{says_line}
 use Rattle.wb_dialog.specs.Hosting.{Host, Driven, Kept, Hosting, Reply, prints, denies, host_after, hosting_after, hosting_from, kept_does, kept_reply, reply, reply_of, reply_to, unopened}
 use Rattle.wb_laws_sessions.specs.Drawn.{drawn_by}
-use Rattle.wb_laws_sessions.specs.Sessions.{Deed, Speaks, Takes as TakesDrawop, after_deed, after_deeds, deed_of}
+use Rattle.wb_laws_sessions.specs.Sessions.{Deed, Does, after_deed, after_deeds}
 use Rattle.wb_laws_sessions.proofs.Deeds.{ComesBy, deed_brings, deed_draws, number_after}
 use Rattle.wb_laws_hosts.specs.Closings.{HoldsLines}
 use Rattle.wb_laws_hosts.specs.Laws.{BoardsAreInRange, IsOpenHost}
@@ -42,21 +42,17 @@ use Rattle.wb_laws_hosts.proofs.DriverLines.{met_fits}
 use Rattle.wb_laws_hosts.proofs.AddedLines.{IsAdding}
 use Rattle.wb_laws_hosts.proofs.Lines.{led_after, member_in, said_led_at}
 use Rattle.wb_laws_hosts.proofs.OneLines.{board_lines}
-use Rattle.wb_laws_sessions.proofs.Holding.{all_from}
+use Rattle.wb_laws_sessions.proofs.CallActs.{all_from}
 
 -- ---- what a deed brings onto a board
 
-abbrev BringsSaying : Datagram → Type 0
-BringsSaying (datagrams.Draw d) = IsDrawop d
-BringsSaying v = Unit {0}
-
 abbrev pub BringsBy : Deed → Type 0
-BringsBy (TakesDrawop d) = IsDrawop d
-BringsBy (Speaks v) = BringsSaying v
+BringsBy (Does (Arrives d)) = IsDrawop d
+BringsBy (Does (Says (datagrams.Draw d))) = IsDrawop d
 BringsBy deed = Unit {0}
 
 abbrev pub Brings : Line → Type 0
-Brings line = BringsBy (deed_of line)
+Brings line = BringsBy (Does line)
 
 -- its number and what it holds are in range
 pub record InRange (host : Opened) : Type 0 where
@@ -69,7 +65,7 @@ deed_in_range deed host brings f = record {
   board = all_from IsDrawop (after_deed deed host).is.held (λ d c. ⊎_elim
       (λ (was : Contains host.is.held d). All-contains IsDrawop host.is.held d f.board was)
       (λ (comes : ComesBy deed host d). ⊎_elim
-      (λ (arrives : deed ≡ TakesDrawop d). subst BringsBy arrives brings)
+      (λ (arrives : deed ≡ Does (Arrives d)). subst BringsBy arrives brings)
       (λ (draws : Contains (drawn_by deed host) d). subst BringsBy (deed_draws deed host d draws).said brings)
       comes)
       (deed_brings deed host d c));
@@ -83,7 +79,7 @@ deeds_in_range : (deeds : List Deed) (host : Opened) → EachBrings deeds → In
 deeds_in_range [] host brings f = f
 deeds_in_range (deed ∷ deeds) host brings f = deeds_in_range deeds (after_deed deed host) brings.1 (deed_in_range deed host brings.0 f)
 
-performed_bring : (performed : List Line) → Each Brings performed → EachBrings (map deed_of performed)
+performed_bring : (performed : List Line) → Each Brings performed → EachBrings (map Does performed)
 performed_bring [] each = tt
 performed_bring (line ∷ performed) each = (each.0, performed_bring performed each.1)
 
@@ -96,7 +92,7 @@ driven_brings (Script line) fit = script line fit where
   script (lines.Call call) fit = (tt, tt)
   script line fit = tt
 driven_brings (Say v) fit = (says v fit, tt) where
-  says : (v : Datagram) → IsDatagram v → BringsSaying v
+  says : (v : Datagram) → IsDatagram v → Brings (Says v)
   says (datagrams.Draw d) fit = fit
   says v fit = tt
 driven_brings line fit = tt
@@ -120,11 +116,11 @@ came_brings : (now : ℕ) (v : Datagram) → IsDatagram v → DoesEach Brings (c
 came_brings now v fit see p = (
   tt,
   then_each Brings (hears v) timed
-      (hears_each Brings of_policy (λ v. tt) v (λ d is. subst IsDatagram is fit)) timed_brings (λ (performed : List Line). see (Ticks now ∷ performed)) p,
+      (hears_each Brings of_policy (λ v. tt) v (λ d is. subst IsDatagram is fit)) timed_brings (λ (performed : List Line). see (Calls (calls.Tick now) ∷ performed)) p,
 )
 
 ticks_bring : (now : ℕ) → DoesEach Brings (ticks now)
-ticks_bring now see p = (tt, timed_brings (λ (performed : List Line). see (Ticks now ∷ performed)) p)
+ticks_bring now see p = (tt, timed_brings (λ (performed : List Line). see (Calls (calls.Tick now) ∷ performed)) p)
 
 tail_none : (x : Option KeptFault) (rest : List (Option KeptFault)) → first_of (x ∷ rest) ≡ None → first_of rest ≡ None
 tail_none None rest e = e
@@ -152,7 +148,7 @@ module _ (k : Keeping) (f : InRange k.host) where
       }
 
   adds_bring : (a : Adding) → IsAdding a → add_fault a.moment a.page a.time a.op k ≡ None → Each Brings (adds a.moment a.page a.time a.op (sees k.host) k.policy).lines
-  adds_bring a fit none = (tt, (drawn_in_range a fit none, then_each Brings ends_full timed (ends_each Brings of_policy) timed_brings (λ (performed : List Line). sees k.host (Ticks a.moment ∷ (Says (datagrams.Draw (drawing (view_of k.host) a.page a.time a.op)) ∷ performed))) k.policy))
+  adds_bring a fit none = (tt, (drawn_in_range a fit none, then_each Brings ends_full timed (ends_each Brings of_policy) timed_brings (λ (performed : List Line). sees k.host (Calls (calls.Tick a.moment) ∷ (Says (datagrams.Draw (drawing (view_of k.host) a.page a.time a.op)) ∷ performed))) k.policy))
 
   -- nothing is asked of a line that is refused
   unless_denied : (fault : Option KeptFault) (doing : Transition) (text : List ℕ) → (fault ≡ None → Each Brings (doing (sees k.host) k.policy).lines) → EachBrings (deeds_by (kept_does fault doing text k) (deeds_doing doing k))

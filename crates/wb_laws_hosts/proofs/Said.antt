@@ -1,12 +1,13 @@
 -- What is sent, and what is held, was said by its source.
-use Rattle.std.proofs.Common.{◌≡◌, ℕ, List, [], ◌∷◌, Option, Some, None, Result, Ok, Err, ap, refl, sym, subst, ◌∙◌, ⊎_elim}
+use Rattle.std.proofs.Common.{◌≡◌, ℕ, List, [], ◌∷◌, Option, Some, None, Result, Ok, ap, refl, sym, subst, ◌∙◌, ⊎_elim}
 use Rattle.std.specs.Prelude.{Contains}
 use Rattle.wb_names.specs.Values.{DrawopValue}
-use Rattle.wb_names.proofs.Listings.{Contains-cases, Contains-none}
+use Rattle.wb_names.proofs.Listings.{Contains-none}
 use Rattle.wb_codec.specs.declared.datagram.Datagram.{Datagram}
 use Rattle.wb_codec.specs.declared.datagram.Datagram.TheVariants.{Draw}
 use Rattle.wb_recovery.specs.declared.tuning.Tuning.{Tuning}
 use Rattle.wb_lines.specs.Taking.{met}
+use Rattle.wb_member.specs.Lines.{Says}
 use Rattle.wb_member.specs.Opened.{Opened}
 use Rattle.wb_commands.specs.declared.command.Command.TheVariants as lines
 use Rattle.wb_dialog.specs.declared.fault.Refusal.{Refusal}
@@ -15,9 +16,10 @@ use Rattle.wb_dialog.specs.declared.line.DriverLine.TheVariants.{Script}
 use Rattle.wb_dialog.specs.Dialog.{says_line}
 use Rattle.wb_dialog.specs.Hosting.{Host, Driven, Kept, Hosting, reply}
 use Rattle.wb_laws_sessions.specs.Drawn.{WasDrawn, drawn_at}
-use Rattle.wb_laws_sessions.specs.Sessions.{Deed, Opens, Speaks, Step, host_at, sent, sent_by_deeds, steps_then}
+use Rattle.wb_laws_sessions.specs.Sessions.{Deed, Does, Opens, Step, host_at, sent, sent_by_deeds, steps_then}
 use Rattle.wb_laws_sessions.proofs.Drawn.{held_was_drawn, names_mean_one, once_held_was_drawn}
-use Rattle.wb_laws_sessions.proofs.Sending.{sent_was_held}
+use Rattle.wb_laws_sessions.proofs.Sending.{one_of}
+use Rattle.wb_laws_sessions.proofs.Sent.{sent_was_held}
 use Rattle.wb_laws_sessions.proofs.Several.{DrawnThen, drawn_then, sent_longer, sent_then}
 use Rattle.wb_laws_hosts.specs.Laws.{HeldWasSaid, IsOpenHost, SentOnce, SentWasSaid, WasSaid, WasSent}
 use Rattle.wb_laws_hosts.specs.Texts.{Event, EventAt, HaveNumbers, IsMemberAt, Starts, Takes, deeds_at, deeds_by, deeds_of_event, deeds_said, hosting_at, sent_at_host, steps_of_texts}
@@ -52,14 +54,12 @@ module _ (numbers : ℕ → ℕ) where
   }
 
   -- before a board is open nothing is said
-  first_none : (tuning : Tuning) (said : Result DriverLine Refusal) (v : Datagram) → Contains (deeds_by (reply tuning None said) (deeds_said tuning None said)) (Speaks v) → ⊥
-  first_none tuning (Ok (Script (lines.Board member cells workers seed))) v c = ⊎_elim (λ (e : Opens tuning cells seed ≡ Speaks v). other e) (λ (none : Contains [] (Speaks v)). Contains-none (Speaks v) none) (Contains-cases (Opens tuning cells seed) (Speaks v) [] c) where
-    other : Opens tuning cells seed ≡ Speaks v → ⊥
-    other e = cc
-  first_none tuning said v c = Contains-none (Speaks v) c
+  first_none : (tuning : Tuning) (said : Result DriverLine Refusal) (v : Datagram) → Contains (deeds_by (reply tuning None said) (deeds_said tuning None said)) (Does (Says v)) → ⊥
+  first_none tuning (Ok (Script (lines.Board member cells workers seed))) v c = let e = one_of (Opens tuning cells seed) (Does (Says v)) c in cc
+  first_none tuning said v c = Contains-none (Does (Says v)) c
 
   sent_here : (tuning : Tuning) (s : Option Host) (said : Result DriverLine Refusal) (member : Opened) (v : Datagram) → IsMemberAt member s
-      → let deeds = deeds_by (reply tuning s said) (deeds_said tuning s said) in Contains deeds (Speaks v) → Contains (sent_by_deeds deeds member) v → Contains (sent_at_host s deeds) v
+      → let deeds = deeds_by (reply tuning s said) (deeds_said tuning s said) in Contains deeds (Does (Says v)) → Contains (sent_by_deeds deeds member) v → Contains (sent_at_host s deeds) v
   sent_here tuning None said member v is by c = absurd (first_none tuning said v by)
   sent_here tuning (Some (Driven host seed)) said member v is by c = subst (λ (m : Opened). Contains (sent_by_deeds (deeds_by (reply tuning (Some (Driven host seed)) said) (deeds_said tuning (Some (Driven host seed)) said)) m) v) (sym is) c
   sent_here tuning (Some (Kept k)) said member v is by c = subst (λ (m : Opened). Contains (sent_by_deeds (deeds_by (reply tuning (Some (Kept k)) said) (deeds_said tuning (Some (Kept k)) said)) m) v) (sym is) c
@@ -74,7 +74,7 @@ module _ (numbers : ℕ → ℕ) where
         s = hosting_at older e.place
 
         by : (event : Event) → e.event ≡ event → DrawnThen numbers 0 e.place (deeds_of_event event s) (steps_of_texts older) k d → WasSaid numbers (e ∷ older) d
-        by (Starts tuning) is now = absurd (Contains-none (Speaks (Draw d)) now.said)
+        by (Starts tuning) is now = absurd (Contains-none (Does (Says (Draw d))) now.said)
         by (Takes line) is now = record {
           sent = record {
             newer = [];

@@ -1,7 +1,6 @@
 -- What a line prints tells what it sends.
-use Rattle.std.proofs.Common.{◌≡◌, ℕ, List, [], ◌++◌, Option, Some, None, Result, Ok, Err, refl}
+use Rattle.std.proofs.Common.{◌≡◌, ℕ, List, ◌++◌, Option, Some, None, Result, Ok, refl}
 use Rattle.wb_commands.specs.SentLines.{sends_text}
-use Rattle.wb_commands.specs.declared.command.Command.{Command}
 use Rattle.wb_commands.specs.declared.command.Command.TheVariants as lines
 use Rattle.wb_lines.specs.Taking.{met}
 use Rattle.wb_member.specs.Opened.{Opened}
@@ -11,7 +10,7 @@ use Rattle.wb_dialog.specs.declared.line.DriverLine.{DriverLine}
 use Rattle.wb_dialog.specs.declared.line.DriverLine.TheVariants.{Script}
 use Rattle.wb_dialog.specs.Dialog.{says_line}
 use Rattle.wb_dialog.specs.Doing.{text_in}
-use Rattle.wb_dialog.specs.Hosting.{Host, Driven, Kept, Reply, prints, denies, reply, reply_to}
+use Rattle.wb_dialog.specs.Hosting.{Host, Driven, Kept, Reply, prints, denies, reply}
 use Rattle.wb_laws_sessions.specs.Sessions.{Deed, sent_by_deeds}
 use Rattle.wb_laws_hosts.specs.Telling.{TextsTellSends, told_by, told_said}
 use Rattle.wb_laws_hosts.specs.Texts.{deeds_by, deeds_said, sent_at_host}

@@ -15,6 +15,7 @@ use Rattle.wb_words.specs.Reading.{reading}
 use Rattle.wb_words.specs.declared.adding.Adding.{Adding}
 use Rattle.wb_commands.specs.Answers.{gaps_text}
 use Rattle.wb_commands.specs.Parsing.{handed_in}
+use Rattle.wb_member.specs.Lines.{Says}
 use Rattle.wb_member.specs.Opened.{Opened}
 use Rattle.wb_member.specs.declared.questions.Query.TheVariants as queries
 use Rattle.wb_dialog.specs.declared.line.DriverLine.TheVariants.{Script, Say, Came, Add}
@@ -23,7 +24,7 @@ use Rattle.wb_dialog.specs.Doing.{text_in}
 use Rattle.wb_dialog.specs.Hosting.{Host, Driven, Kept, Hosting, block_of, reply_of, transcript}
 use Rattle.wb_dialog.specs.Lines.{asks, line_of}
 use Rattle.wb_laws_sessions.specs.Drawn.{AreHonest, WasHeld}
-use Rattle.wb_laws_sessions.specs.Sessions.{AreApart, Speaks}
+use Rattle.wb_laws_sessions.specs.Sessions.{AreApart, Does}
 use Rattle.wb_laws_hosts.specs.Telling.{told_at}
 use Rattle.wb_laws_hosts.specs.Texts.{CameOut, Event, EventAt, HaveNumbers, Starts, Takes, deeds_at, hosting_at, sent_at, steps_of_texts}
 
@@ -129,7 +130,7 @@ pub record WasSent (events : List EventAt) (v : Datagram) : Type 0 where
 pub record WasSaid (numbers : ℕ → ℕ) (events : List EventAt) (d : DrawopValue) : Type 0 where
   pub sent : WasSent events (Draw d)
   pub source : d.name.source ≡ numbers sent.e.place
-  pub said : Contains (deeds_at (hosting_at sent.older sent.e.place) sent.line) (Speaks (Draw d))
+  pub said : Contains (deeds_at (hosting_at sent.older sent.e.place) sent.line) (Does (Says (Draw d)))
 
 -- Each drawop that anyone sent is, in every byte, what its source said and sent.
 abbrev pub SentWasSaid : Type 0

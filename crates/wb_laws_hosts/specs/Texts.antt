@@ -8,7 +8,7 @@ use Rattle.wb_lines.specs.Taking.{met}
 use Rattle.wb_commands.specs.declared.command.Command.{Command}
 use Rattle.wb_commands.specs.declared.command.Command.TheVariants as lines
 use Rattle.wb_commands.specs.SentLines.{send_line}
-use Rattle.wb_member.specs.Lines.{Tunes}
+use Rattle.wb_member.specs.Lines.{Arrives, Calls, Says}
 use Rattle.wb_member.specs.Opened.{Opened}
 use Rattle.wb_member.specs.declared.calls.Call.TheVariants as calls
 use Rattle.wb_keeping.specs.Kept.{Transition, adds, came, performs, ticks}
@@ -18,8 +18,7 @@ use Rattle.wb_dialog.specs.declared.line.DriverLine.{DriverLine}
 use Rattle.wb_dialog.specs.declared.line.DriverLine.TheVariants as driver
 use Rattle.wb_dialog.specs.Dialog.{says_line}
 use Rattle.wb_dialog.specs.Hosting.{Host, Driven, Kept, Hosting, Reply, prints, denies, hosting_after, reply_of, unopened}
-use Rattle.wb_laws_sessions.specs.Sessions.{Deed, Calls, Opens, Speaks, Step, deed_of, host_at, sent_by_deeds, steps_then}
-use Rattle.wb_laws_sessions.specs.Sessions as members
+use Rattle.wb_laws_sessions.specs.Sessions.{Deed, Does, Opens, Step, host_at, sent_by_deeds, steps_then}
 
 -- A process starts, and the one before it at its place is gone; or it is handed a line.
 pub data Event : Type 0 where
@@ -53,22 +52,22 @@ deeds_first tuning line = []
 
 -- at a host that its driver drives: a line that acts is one deed
 abbrev pub deeds_in_script : Command → List Deed
-deeds_in_script (lines.Arrive d) = members.Takes d ∷ []
-deeds_in_script (lines.Call call) = Calls call ∷ []
+deeds_in_script (lines.Arrive d) = Does (Arrives d) ∷ []
+deeds_in_script (lines.Call call) = Does (Calls call) ∷ []
 deeds_in_script line = []
 
 abbrev pub deeds_driven : DriverLine → List Deed
 deeds_driven (driver.Script line) = deeds_in_script line
-deeds_driven (driver.Say v) = Speaks v ∷ []
+deeds_driven (driver.Say v) = Does (Says v) ∷ []
 deeds_driven line = []
 
 -- at a self-managing host: the lines of its policy
 abbrev pub deeds_doing : Transition → Keeping → List Deed
-deeds_doing does k = map deed_of (does (sees k.host) k.policy).lines
+deeds_doing does k = map Does (does (sees k.host) k.policy).lines
 
 abbrev pub kept_in_script : Command → Keeping → List Deed
 kept_in_script (lines.Call (calls.Tick now)) k = deeds_doing (ticks now) k
-kept_in_script (lines.Call (calls.Tune constants)) k = deeds_doing (performs (Tunes constants)) k
+kept_in_script (lines.Call (calls.Tune constants)) k = deeds_doing (performs (Calls (calls.Tune constants))) k
 kept_in_script line k = []
 
 abbrev pub deeds_kept : DriverLine → Keeping → List Deed

@@ -7,8 +7,9 @@ use Rattle.wb_names.specs.declared.parts.Op.{Op}
 use Rattle.wb_names.proofs.Listings.{Contains-here, Contains-there}
 use Rattle.wb_codec.specs.declared.datagram.Datagram.{Datagram}
 use Rattle.wb_codec.specs.declared.datagram.Datagram.TheVariants.{Draw}
-use Rattle.wb_member.specs.Lines.{Line, Ticks, Arrives, Tunes, Says, after_line}
+use Rattle.wb_member.specs.Lines.{Line, Calls, Says, after_line, ticks_at}
 use Rattle.wb_member.specs.Opened.{Opened, last_number, present}
+use Rattle.wb_member.specs.declared.calls.Call.TheVariants.{Tick, Tune}
 use Rattle.wb_keeping.specs.Kept.{adds, came, drawing, ends_full, hears, ticks, timed}
 use Rattle.wb_keeping.specs.Laws.{Added, Came, Ticked, Tuned, expand}
 use Rattle.wb_laws_kept.specs.Openings.{opened}
@@ -16,20 +17,14 @@ use Rattle.wb_keeping.specs.Performing.{Keeping, after_doing, sees, view_of}
 use Rattle.wb_policy.specs.Policy.{Policy}
 use Rattle.wb_keeping.proofs.EachLine.{DoesEach, Each, OfPolicy, each_both, ends_each, hears_each, then_each, timed_each}
 use Rattle.wb_laws_sessions.specs.Drawn.{AreHonest, WasHeld, drawn_at}
-use Rattle.wb_laws_sessions.specs.Sessions.{Deed, Opens, Step, deed_of, host_at, steps_then}
+use Rattle.wb_laws_sessions.specs.Sessions.{Deed, Does, Opens, Step, host_at, steps_then}
 use Rattle.wb_laws_sessions.proofs.Several.{number_at}
-use Rattle.wb_laws_sessions.proofs.Honest.{IsPlainSaying, arrival_is_honest, drawing_is_honest, opening_is_honest, plain_is_honest}
+use Rattle.wb_laws_sessions.proofs.Honest.{IsGiven, call_is_honest, drawing_is_honest, given_is_honest, opening_is_honest}
 use Rattle.wb_laws_kept.specs.Restarts.{KeptAreHonest, KnowTheirOwn, KnowsItsOwn}
 use Rattle.wb_laws_kept.specs.Sessions.{AreTaken, Begins, Call, CallAt, DrawopsWereHeld, Handed, IsTaken, WereHeld, given_lines, kept_at, lines_of_call, opens_of_call, steps_of}
 use Rattle.wb_laws_kept.proofs.Steps.{kept_is_session}
 
 -- ---- lines that draw nothing
-
--- What arrives is of these, and no drawop is said.
-abbrev pub IsGiven : (DrawopValue → Type 0) → Line → Type 0
-IsGiven comes (Arrives d) = comes d
-IsGiven comes (Says v) = IsPlainSaying v
-IsGiven comes line = Unit {0}
 
 module _ (comes : DrawopValue → Type 0) where
   pub of_policy : OfPolicy (IsGiven comes)
@@ -47,12 +42,12 @@ module _ (comes : DrawopValue → Type 0) where
 
   pub came_given : (now : ℕ) (v : Datagram) → ((d : DrawopValue) → v ≡ Draw d → comes d) → DoesEach (IsGiven comes) (came now v)
   came_given now v given see p =
-      (tt, then_each (IsGiven comes) (hears v) timed (hears_each (IsGiven comes) of_policy (λ v. tt) v given) timed_given (λ (lines : List Line). see (Ticks now ∷ lines)) p)
+      (tt, then_each (IsGiven comes) (hears v) timed (hears_each (IsGiven comes) of_policy (λ v. tt) v given) timed_given (λ (lines : List Line). see (Calls (Tick now) ∷ lines)) p)
 
   pub ticks_given : (now : ℕ) → DoesEach (IsGiven comes) (ticks now)
-  ticks_given now see p = (tt, timed_given (λ (lines : List Line). see (Ticks now ∷ lines)) p)
+  ticks_given now see p = (tt, timed_given (λ (lines : List Line). see (Calls (Tick now) ∷ lines)) p)
 
-  pub moments_given : (moments : List ℕ) → Each (IsGiven comes) (map Ticks moments)
+  pub moments_given : (moments : List ℕ) → Each (IsGiven comes) (ticks_at moments)
   moments_given [] = tt
   moments_given (now ∷ moments) = (tt, moments_given moments)
 
@@ -71,20 +66,15 @@ module _ (numbers : ℕ → ℕ) where
 
   module _ (time place : ℕ) (comes : DrawopValue → Type 0) where
     abbrev step : Line → Step
-    step line = record { time = time; place = place; deed = deed_of line }
+    step line = record { time = time; place = place; deed = Does line }
 
-    one_honest : (line : Line) (older : List Step) → AreHonest numbers older → ((d : DrawopValue) → comes d → WasHeld numbers older d) → IsGiven comes line → AreHonest numbers (step line ∷ older)
-    one_honest (Arrives d) older honest held is = (arrival_is_honest numbers older time place d (held d is), honest)
-    one_honest (Says v) older honest held is = (plain_is_honest numbers older (step (Says v)) is, honest)
-    one_honest line older honest held is = (plain_is_honest numbers older (step line) tt, honest)
-
-    pub lines_honest : (lines : List Line) (older : List Step) → AreHonest numbers older → ((d : DrawopValue) → comes d → WasHeld numbers older d) → Each (IsGiven comes) lines → AreHonest numbers (steps_then time place (map deed_of lines) older)
+    pub lines_honest : (lines : List Line) (older : List Step) → AreHonest numbers older → ((d : DrawopValue) → comes d → WasHeld numbers older d) → Each (IsGiven comes) lines → AreHonest numbers (steps_then time place (map Does lines) older)
     lines_honest [] older honest held each = honest
     lines_honest (line ∷ lines) older honest held each =
-        lines_honest lines (step line ∷ older) (one_honest line older honest held each.0) (λ d is. held_later (step line) older d (held d is)) each.1
+        lines_honest lines (step line ∷ older) (given_is_honest numbers older time place comes held line each.0, honest) (λ d is. held_later (step line) older d (held d is)) each.1
 
   -- a tick draws nothing
-  drawn_behind : (time place now : ℕ) (older : List Step) (d : DrawopValue) → Contains (drawn_at numbers (record { time = time; place = place; deed = deed_of (Ticks now) } ∷ older) place) d → Contains (drawn_at numbers older place) d
+  drawn_behind : (time place now : ℕ) (older : List Step) (d : DrawopValue) → Contains (drawn_at numbers (record { time = time; place = place; deed = Does (Calls (Tick now)) } ∷ older) place) d → Contains (drawn_at numbers older place) d
   drawn_behind time place now older d c = by (nat_eq place place) c where
     by : (b : Bool) → Contains (cond b (drawn_at numbers older place) (drawn_at numbers older place)) d → Contains (drawn_at numbers older place) d
     by true c = c
@@ -95,13 +85,13 @@ module _ (numbers : ℕ → ℕ) where
   module _ (time place : ℕ) (older : List Step) (honest : AreHonest numbers older) (k : Keeping) (there : host_at numbers older place ≡ k.host)
       (page : PageId) (knows : (d : DrawopValue) → Contains (drawn_at numbers older place) d → d.name.page ≡ page → d.name.seq ≤ last_number page k.host) (now told : ℕ) (op : Op) where
     abbrev ticked_host : Opened
-    ticked_host = after_line (Ticks now) k.host
+    ticked_host = after_line (Calls (Tick now)) k.host
 
     abbrev its : DrawopValue
     its = drawing (view_of ticked_host) page told op
 
     abbrev with_tick : List Step
-    with_tick = record { time = time; place = place; deed = deed_of (Ticks now) } ∷ older
+    with_tick = record { time = time; place = place; deed = Does (Calls (Tick now)) } ∷ older
 
     its_own : its.name.source ≡ numbers place
     its_own = ap (λ (h : Opened). h.is.number) (sym there) ∙ number_at numbers older place
@@ -118,13 +108,13 @@ module _ (numbers : ℕ → ℕ) where
     abbrev none : DrawopValue → Type 0
     none d = ⊥
 
-    pub adds_honest : (p : Policy) → AreHonest numbers (steps_then time place (map deed_of (adds now page told op (sees k.host) p).lines) older)
+    pub adds_honest : (p : Policy) → AreHonest numbers (steps_then time place (map Does (adds now page told op (sees k.host) p).lines) older)
     adds_honest p =
-        let tick : AreHonest numbers with_tick = (plain_is_honest numbers older _ tt, honest) in
-        let says : AreHonest numbers (record { time = time; place = place; deed = deed_of (Says (Draw its)) } ∷ with_tick) =
+        let tick : AreHonest numbers with_tick = (call_is_honest numbers older time place (Tick now), honest) in
+        let says : AreHonest numbers (record { time = time; place = place; deed = Does (Says (Draw its)) } ∷ with_tick) =
         (drawing_is_honest numbers with_tick time place its its_own (omega arith) (inr is_above), tick) in
-        lines_honest time place none _ (record { time = time; place = place; deed = deed_of (Says (Draw its)) } ∷ with_tick) says (λ d is. absurd is)
-        (then_each (IsGiven none) ends_full timed (ends_each (IsGiven none) (of_policy none)) (timed_given none) (λ (lines : List Line). sees k.host (Ticks now ∷ (Says (Draw its) ∷ lines))) p)
+        lines_honest time place none _ (record { time = time; place = place; deed = Does (Says (Draw its)) } ∷ with_tick) says (λ d is. absurd is)
+        (then_each (IsGiven none) ends_full timed (ends_each (IsGiven none) (of_policy none)) (timed_given none) (λ (lines : List Line). sees k.host (Calls (Tick now) ∷ (Says (Draw its) ∷ lines))) p)
 
   -- ---- calls
 
@@ -133,7 +123,7 @@ module _ (numbers : ℕ → ℕ) where
     k = kept_at numbers older place
 
     abbrev deeds : Call → List Deed
-    deeds call = opens_of_call call ++ map deed_of (lines_of_call call k)
+    deeds call = opens_of_call call ++ map Does (lines_of_call call k)
 
     call_honest : (call : Call) → IsTaken call k → WereHeld numbers older (record { time = time; place = place; call = call })
         → ((now : ℕ) (page : PageId) (told : ℕ) (op : Op) → call ≡ Handed (Added now page told op) → KnowsItsOwn numbers older place page) → AreHonest numbers (steps_then time place (deeds call) (steps_of numbers older))
@@ -143,15 +133,14 @@ module _ (numbers : ℕ → ℕ) where
         lines_honest time place (λ d. ⊥) (ticks now (sees k.host) k.policy).lines (steps_of numbers older) honest (λ d is. absurd is) (ticks_given (λ d. ⊥) now (sees k.host) k.policy)
     call_honest (Handed (Added now page told op)) taken were knows =
         adds_honest time place (steps_of numbers older) honest k (kept_is_session numbers older place) page (knows now page told op refl) now told op k.policy
-    call_honest (Handed (Tuned constants)) taken were knows =
-        lines_honest time place (λ d. ⊥) (Tunes constants ∷ []) (steps_of numbers older) honest (λ d is. absurd is) (tt, tt)
+    call_honest (Handed (Tuned constants)) taken were knows = (call_is_honest numbers (steps_of numbers older) time place (Tune constants), honest)
     call_honest (Begins o given) taken were knows =
         let first : Keeping = opened k.host.is.number o in
         let opening : Step = record { time = time; place = place; deed = Opens o.constants o.cells o.seed } in
-        lines_honest time place (λ d. Contains given (Draw d)) (map Ticks o.moments ++ expand (given_lines first given) first) (opening ∷ steps_of numbers older)
+        lines_honest time place (λ d. Contains given (Draw d)) (ticks_at o.moments ++ expand (given_lines first given) first) (opening ∷ steps_of numbers older)
         (opening_is_honest numbers (steps_of numbers older) time place o.constants o.cells o.seed taken.0.small, honest)
         (λ d c. held_later opening (steps_of numbers older) d (were.given o given d refl c))
-        (each_both (IsGiven (λ d. Contains given (Draw d))) (map Ticks o.moments) (expand (given_lines first given) first) (moments_given (λ d. Contains given (Draw d)) o.moments)
+        (each_both (IsGiven (λ d. Contains given (Draw d))) (ticks_at o.moments) (expand (given_lines first given) first) (moments_given (λ d. Contains given (Draw d)) o.moments)
         (record_given (λ d. Contains given (Draw d)) (present first.host) given first (λ d c. c)))
 
   pub all_honest : (calls : List CallAt) → AreTaken numbers calls → DrawopsWereHeld numbers calls → KnowTheirOwn numbers calls → AreHonest numbers (steps_of numbers calls)

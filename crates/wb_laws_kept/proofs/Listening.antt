@@ -1,5 +1,5 @@
 -- What a member hears of its own number while it listens, it knows until its program starts anew.
-use Rattle.std.proofs.Common.{◌≡◌, ◌≢◌, ℕ, ◌<◌, ◌≤◌, Bool, true, false, cond, List, [], ◌∷◌, ◌++◌, ◌∙◌, ap, arith, eqb-true, length, map, refl, subst, sym, ⊎_elim}
+use Rattle.std.proofs.Common.{◌≡◌, ◌≢◌, ℕ, ◌<◌, ◌≤◌, Bool, true, false, cond, List, [], ◌∷◌, ◌++◌, ◌∙◌, ap, arith, eqb-true, length, refl, subst, sym, ⊎_elim}
 use Rattle.std.specs.Prelude.{Contains, nat_eq, nat_lt, ◌&&◌, ◌||◌}
 use Rattle.std.proofs.lemmas.Bool.{and_parts, eq-eqb, lt-ltb}
 use Rattle.std.proofs.lemmas.Bool.Decides.{nat_tests}
@@ -21,11 +21,12 @@ use Rattle.wb_codec.specs.declared.datagram.Datagram.TheVariants.{Draw, Session,
 use Rattle.wb_gaps.specs.Joining.{greater, joined, joined_at}
 use Rattle.wb_keeper.specs.Hearing.{asks_for_held, marks_heard, marks_in, marks_reported}
 use Rattle.wb_keeper.specs.Keeper.{Hear, is_own}
-use Rattle.wb_member.specs.Lines.{Line, Ticks, Arrives, Hears, Asks, Stops, SetsDistance, Tunes, Says, after_line, after_lines}
+use Rattle.wb_member.specs.Lines.{Line, Arrives, Says, after_line, after_lines, Calls, ticks_at}
 use Rattle.wb_member.specs.Members.{Misses}
 use Rattle.wb_member.specs.Opened.{Opened, doing, has_room_for, heard, last_number, may_ask, opened_with, present, word_at}
 use Rattle.wb_member.specs.Random.{word_of}
-use Rattle.wb_policy.specs.Choices.{distance_in, own_echo, own_marks, told_names}
+use Rattle.wb_member.specs.declared.calls.Call.TheVariants as calls
+use Rattle.wb_policy.specs.Choices.{echoed_delay, own_echo, own_marks, told_names}
 use Rattle.wb_keeping.specs.Kept.{Doing, Transition, and_then, came, drawing, ends_full, hears, hears_session, hears_some, hears_state, learned, measures, performs, still, timed, want_told, hears_request}
 use Rattle.wb_keeping.specs.Laws.{Added, Came, KeptLine, Ticked, Tuned, after_kept, doing_of}
 use Rattle.wb_keeping.specs.Performing.{Keeping, after_doing, sees, view_of}
@@ -72,14 +73,8 @@ abbrev pub HeardItsOwn : Opened → Type 0
 HeardItsOwn host = (page : PageId) → AreOf host.is.number (marks_heard host.is.number host.is.calls page)
 
 abbrev pub IsOwn : ℕ → Line → Type 0
-IsOwn me (Ticks now) = Unit {0}
-IsOwn me (Arrives d) = Unit {0}
-IsOwn me (Hears v) = HearsOwn me v
-IsOwn me (Asks name) = Unit {0}
-IsOwn me (Stops name) = Unit {0}
-IsOwn me (SetsDistance source micros) = Unit {0}
-IsOwn me (Tunes constants) = Unit {0}
-IsOwn me (Says v) = Unit {0}
+IsOwn me (Calls (calls.Hear v)) = HearsOwn me v
+IsOwn me line = Unit {0}
 
 -- its number is the same, and it knows no lesser number of its own
 record Knows (page : PageId) (host next : Opened) : Type 0 where
@@ -128,24 +123,18 @@ module _ (page : PageId) where
         omega (arith, j, e)
 
   line_knows : (line : Line) (host : Opened) → HeardItsOwn host → IsOwn host.is.number line → Knows page host (after_line line host)
-  line_knows (Ticks now) host own is = record { number = refl; own = own; most = omega arith }
   line_knows (Arrives d) host own is = takes_one d host own
-  line_knows (Hears v) host own is = by (has_room_for v host) where
+  line_knows (Calls (calls.Hear v)) host own is = by (has_room_for v host) where
     by : (b : Bool) → Knows page host (cond b (heard v host) host)
     by true = hears_one v host own is
     by false = same host own
-  line_knows (Asks name) host own is = by (may_ask name host) where
+  line_knows (Calls (calls.Ask name)) host own is = by (may_ask name host) where
     by : (b : Bool) → Knows page host (cond b (doing (Misses (present host) (name ∷ []) (word_of host.random ∷ [])) 1 host) host)
     by true = record { number = refl; own = own; most = omega arith }
     by false = same host own
-  line_knows (Stops name) host own is = record { number = refl; own = own; most = omega arith }
-  line_knows (SetsDistance source micros) host own is = record { number = refl; own = own; most = omega arith }
-  line_knows (Tunes constants) host own is = record { number = refl; own = own; most = omega arith }
+  line_knows (Calls call) host own is = record { number = refl; own = own; most = omega arith }
   line_knows (Says (Draw d)) host own is = takes_one d host own
-  line_knows (Says (Session sender sent on marks echoes)) host own is = same host own
-  line_knows (Says (Request asker name)) host own is = same host own
-  line_knows (Says (AskPages asker)) host own is = same host own
-  line_knows (Says (PageState sender on marks)) host own is = same host own
+  line_knows (Says v) host own is = same host own
 
   both_know : (host m next : Opened) → Knows page host m → Knows page m next → Knows page host next
   both_know host m next a b = let x = a.most in let y = b.most in record { number = b.number ∙ a.number; own = b.own; most = omega (arith, x, y) }
@@ -195,11 +184,11 @@ module _ (me : ℕ) where
       let v = see [] in
       let own = own_marks v.me (nat_lt v.now p.ready) marks in
       let echo = own_echo v.me echoes in
-      let second = measures sender (distance_in v.now echo) in
+      let second = measures sender (echoed_delay v.now echo) in
       let third = want_told (told_names v.me page marks) in (
         λ on. on_page me (same_page page on) own (own_of v (nat_lt v.now p.ready) marks is),
-        then_each (IsOwn me) second third (measures_each (IsOwn me) of_policy sender (distance_in v.now echo)) (told_each (IsOwn me) of_policy (told_names v.me page marks))
-            (λ (lines : List Line). see (Hears (Session sender sent page own echo) ∷ lines)) p,
+        then_each (IsOwn me) second third (measures_each (IsOwn me) of_policy sender (echoed_delay v.now echo)) (told_each (IsOwn me) of_policy (told_names v.me page marks))
+            (λ (lines : List Line). see (Calls (calls.Hear (Session sender sent page own echo)) ∷ lines)) p,
       )
 
   some_own : (sender : ℕ) (page : PageId) (marks : List MarkValue) (see : List Line → View) (p : Policy) → AreOf me marks → Each (IsOwn me) (hears_some sender page marks see p).lines
@@ -231,7 +220,7 @@ module _ (me : ℕ) where
 
     by : (b : Bool) → Each (IsOwn me) (cond b (still see p) (hears_request asker name see p)).lines
     by true = tt
-    by false = lent_each (IsOwn me) source ((see []).distance source) p.usual (Hears (Request asker name)) tt (λ on. tt) tt
+    by false = lent_each (IsOwn me) source ((see []).delay source) p.usual (Calls (calls.Hear (Request asker name))) tt (λ on. tt) tt
   hears_its_own (AskPages asker) see p is = by (nat_eq asker (see []).me) (is_to_answer (see []).now (nat_lt 0 (length (see []).held)) p.questions) where
     by : (b c : Bool) → Each (IsOwn me) (cond b (still see p) (cond c (still see (after_taking_up (see []).now p)) (still see p))).lines
     by true c = tt
@@ -243,16 +232,16 @@ module _ (me : ℕ) where
 kept_own : (line : KeptLine) (k : Keeping) → Each (IsOwn k.host.is.number) (doing_of line (sees k.host) k.policy).lines
 kept_own (Came now v) k =
     let me = k.host.is.number in
-    let there : List Line → View = λ lines. sees k.host (Ticks now ∷ lines) in
+    let there : List Line → View = λ lines. sees k.host (Calls (calls.Tick now) ∷ lines) in
     let one = hears v there k.policy in
     (tt, each_both (IsOwn me) one.lines _ (hears_its_own me v there k.policy refl) (timed_each (IsOwn me) (of_policy me) (λ (lines : List Line). there (one.lines ++ lines)) one.policy))
 kept_own (Ticked now) k =
     let me = k.host.is.number in
-    (tt, timed_each (IsOwn me) (of_policy me) (λ (lines : List Line). sees k.host (Ticks now ∷ lines)) k.policy)
+    (tt, timed_each (IsOwn me) (of_policy me) (λ (lines : List Line). sees k.host (Calls (calls.Tick now) ∷ lines)) k.policy)
 kept_own (Added now page time op) k =
     let me = k.host.is.number in
-    let its = drawing (view_of (after_line (Ticks now) k.host)) page time op in
-    (tt, (tt, then_each (IsOwn me) ends_full timed (ends_each (IsOwn me) (of_policy me)) (timed_each (IsOwn me) (of_policy me)) (λ (lines : List Line). sees k.host (Ticks now ∷ (Says (Draw its) ∷ lines))) k.policy))
+    let its = drawing (view_of (after_line (Calls (calls.Tick now)) k.host)) page time op in
+    (tt, (tt, then_each (IsOwn me) ends_full timed (ends_each (IsOwn me) (of_policy me)) (timed_each (IsOwn me) (of_policy me)) (λ (lines : List Line). sees k.host (Calls (calls.Tick now) ∷ (Says (Draw its) ∷ lines))) k.policy))
 kept_own (Tuned constants) k = (tt, tt)
 
 one_knows : (page : PageId) (line : KeptLine) (k : Keeping) → HeardItsOwn k.host → Knows page k.host (after_doing (doing_of line) k).host
@@ -265,7 +254,7 @@ all_know page (line ∷ lines) k own =
     let one = one_knows page line k own in
     both_know page k.host next.host (after_kept lines next).host one (all_know page lines next one.own)
 
-ticks_own : (me : ℕ) (moments : List ℕ) → Each (IsOwn me) (map Ticks moments)
+ticks_own : (me : ℕ) (moments : List ℕ) → Each (IsOwn me) (ticks_at moments)
 ticks_own me [] = tt
 ticks_own me (now ∷ moments) = (tt, ticks_own me moments)
 
@@ -273,7 +262,7 @@ call_own : (page : PageId) (call : Call) (k : Keeping) → HeardItsOwn k.host �
 call_own page (Handed line) k own = (one_knows page line k own).own
 call_own page (Begins o given) k own =
     let first = opened k.host.is.number o in
-    let start : HeardItsOwn first.host = (lines_know page (map Ticks o.moments) (opened_with o.constants k.host.is.number o.cells o.seed) (λ on. tt) (ticks_own k.host.is.number o.moments)).own in
+    let start : HeardItsOwn first.host = (lines_know page (ticks_at o.moments) (opened_with o.constants k.host.is.number o.cells o.seed) (λ on. tt) (ticks_own k.host.is.number o.moments)).own in
     (all_know page (given_lines first given) first start).own
 
 module _ (numbers : ℕ → ℕ) (page : PageId) where
@@ -323,22 +312,22 @@ module _ (page : PageId) (now : ℕ) (k : Keeping) (own : HeardItsOwn k.host) (l
   me = k.host.is.number
 
   abbrev there : List Line → View
-  there lines = sees k.host (Ticks now ∷ lines)
+  there lines = sees k.host (Calls (calls.Tick now) ∷ lines)
 
   abbrev host : Opened
-  host = after_line (Ticks now) k.host
+  host = after_line (Calls (calls.Tick now)) k.host
 
   -- what it does of itself after that
   abbrev more : Doing → List Line
   more one = (timed (λ lines. there (one.lines ++ lines)) one.policy).lines
 
   abbrev Told : Doing → Type 0
-  Told one = m.high ≤ last_number page (after_lines (Ticks now ∷ (one.lines ++ more one)) k.host)
+  Told one = m.high ≤ last_number page (after_lines (Calls (calls.Tick now) ∷ (one.lines ++ more one)) k.host)
 
   more_own : (one : Doing) → Each (IsOwn me) (more one)
   more_own one = timed_each (IsOwn me) (of_policy me) (λ (lines : List Line). there (one.lines ++ lines)) one.policy
 
-  hears_then : (v : Datagram) → is_own me v ≡ false → HearsOwn me v → has_room_for v host ≡ true → m.high ≤ mark_of (marks_in page v) me → (rest : List Line) → Each (IsOwn me) rest → m.high ≤ last_number page (after_lines (Hears v ∷ rest) host)
+  hears_then : (v : Datagram) → is_own me v ≡ false → HearsOwn me v → has_room_for v host ≡ true → m.high ≤ mark_of (marks_in page v) me → (rest : List Line) → Each (IsOwn me) rest → m.high ≤ last_number page (after_lines (Calls (calls.Hear v) ∷ rest) host)
   hears_then v other is room tells rest each =
       let one = hears_one page v host own is in
       let mark : mark_of (marks_in page v) me ≤ last_number page (heard v host) = hears_mark page v host own is other in
@@ -361,7 +350,7 @@ module _ (page : PageId) (now : ℕ) (k : Keeping) (own : HeardItsOwn k.host) (l
       let v = Session sender sent on its (own_echo me echoes) in
       let one = hears_session sender sent on marks echoes there k.policy in
       let each = session_own me sender sent on marks echoes there k.policy refl in
-      let rest = (and_then (measures sender (distance_in now (own_echo me echoes))) (want_told (told_names me on marks)) (λ lines. there (Hears v ∷ lines)) k.policy).lines in
+      let rest = (and_then (measures sender (echoed_delay now (own_echo me echoes))) (want_told (told_names me on marks)) (λ lines. there (Calls (calls.Hear v) ∷ lines)) k.policy).lines in
       either Told (nat_eq sender me) (still there k.policy) one (λ e. absurd (other (eqb-true _ _ e)))
       (λ e. hears_then v e each.0 room (on_its_page on its is (tells_it marks are c)) (rest ++ more one) (each_both (IsOwn me) rest (more one) each.1 (more_own one)))
 
@@ -381,9 +370,9 @@ module _ (page : PageId) (now : ℕ) (k : Keeping) (own : HeardItsOwn k.host) (l
         by (x ∷ its) of le room e =
             let v = PageState sender on (x ∷ its) in
             let one = and_then (hears_some sender on (x ∷ its)) then there q in
-            let rest = (then (λ lines. there (Hears v ∷ lines)) q).lines in
+            let rest = (then (λ lines. there (Calls (calls.Hear v) ∷ lines)) q).lines in
             hears_then v e (λ p. on_page me (same_page on p) (x ∷ its) of) room (on_its_page on (x ∷ its) is le) (rest ++ more one)
-            (each_both (IsOwn me) rest (more one) (told_each (IsOwn me) (of_policy me) (told_names me on marks) (λ lines. there (Hears v ∷ lines)) q) (more_own one))
+            (each_both (IsOwn me) rest (more one) (told_each (IsOwn me) (of_policy me) (told_names me on marks) (λ lines. there (Calls (calls.Hear v) ∷ lines)) q) (more_own one))
 
   read : (on : PageId) (marks : List MarkValue) → on ≡ page → AreMarks (cond (same_page on page) marks []) → AreMarks marks
   read on marks is are = subst (λ (b : Bool). AreMarks (cond b marks [])) (ap (λ (p : PageId). same_page p page) is ∙ same_page-itself page) are

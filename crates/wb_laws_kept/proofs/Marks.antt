@@ -21,20 +21,20 @@ use Rattle.wb_gaps.proofs.PageAnswers.{report_of_page}
 use Rattle.wb_gaps.proofs.Reports.{greatest_held}
 use Rattle.wb_recovery.specs.declared.plan.Action.{Action}
 use Rattle.wb_recovery.specs.declared.plan.Action.TheVariants.{Ask, Answer}
-use Rattle.wb_recovery.specs.declared.tuning.Tuning.{Tuning}
 use Rattle.wb_keeper.specs.Hearing.{answers_to, asks_for_pages, marks_in, page_states}
 use Rattle.wb_keeper.specs.Ticks.{drawop_of, sent_for, sends_for}
 use Rattle.wb_keeper.proofs.TickSends.{sent_from}
-use Rattle.wb_member.specs.Lines.{Line, Ticks, Arrives, Hears, Asks, Stops, SetsDistance, Tunes, Says, after_line, after_lines, said_where, sent_by_line, sent_by_lines}
+use Rattle.wb_member.specs.Lines.{Line, Arrives, Says, after_line, after_lines, said_where, sent_by_line, sent_by_lines, Calls, ticks_at}
 use Rattle.wb_member.specs.Judged.{echoes}
 use Rattle.wb_member.specs.Opened.{Opened, becomes, has_room_for, opened_with, present}
-use Rattle.wb_policy.specs.Distances.{bounded}
-use Rattle.wb_recovery.specs.declared.limits.TheConstants.{UNKNOWN_DISTANCE}
+use Rattle.wb_member.specs.declared.calls.Call.TheVariants as calls
+use Rattle.wb_policy.specs.Delays.{bounded}
+use Rattle.wb_recovery.specs.declared.limits.TheConstants.{UNKNOWN_DELAY}
 use Rattle.wb_policy.specs.Choices.{last_heard}
 use Rattle.wb_keeping.specs.Kept.{state_of, still, want}
 use Rattle.wb_keeping.specs.Laws.{doing_of, expand}
 use Rattle.wb_keeping.specs.Performing.{Keeping, sees, view_of}
-use Rattle.wb_policy.specs.Policy.{after_beat, after_came, after_state, after_taking_up, after_wanting, with_distance}
+use Rattle.wb_policy.specs.Policy.{after_beat, after_came, after_state, after_taking_up, after_wanting, after_echo}
 use Rattle.wb_policy.specs.Reports.{is_untold, slice_after}
 use Rattle.wb_keeping.proofs.EachLine.{Each, wanted_each}
 use Rattle.wb_keeping.proofs.EachStep.{HoldsOfDue, HoldsOfSteps, all_hold, having, having_done, line_holds, with_policy}
@@ -43,10 +43,9 @@ use Rattle.wb_keeping.proofs.Performed.{after_both, sent_by_both}
 use Rattle.wb_keeping.proofs.Wanted.{is_wanted_here, lines_wanted}
 use Rattle.wb_board.specs.Counts.{MAX_CELLS}
 use Rattle.wb_laws_sessions.specs.Drawn.{WasHeld}
-use Rattle.wb_laws_sessions.specs.Sessions.{Deed, Opens, Step, after_deed, deed_of, host_at, sent, sent_by_deed, sent_by_deeds, steps_then}
+use Rattle.wb_laws_sessions.specs.Sessions.{Deed, Does, Step, after_deed, host_at, sent, sent_by_deed, sent_by_deeds, steps_then}
 use Rattle.wb_laws_sessions.proofs.Deeds.{Fits, fits_after}
 use Rattle.wb_laws_sessions.proofs.Drawn.{once_held_was_drawn}
-use Rattle.wb_laws_sessions.proofs.Lines.{after_deed_of}
 use Rattle.wb_laws_sessions.proofs.Names.{holds_name, of_name}
 use Rattle.wb_laws_kept.specs.Openings.{Opening, opened}
 use Rattle.wb_laws_kept.specs.Restarts.{MarksWereDrawn}
@@ -150,10 +149,7 @@ lines_grow (line ∷ lines) host x c = lines_grow lines (after_line line host) x
 
 lines_fit : (lines : List Line) (host : Opened) → Fits host → Fits (after_lines lines host)
 lines_fit [] host f = f
-lines_fit (line ∷ lines) host f = lines_fit lines (after_line line host) (subst Fits (after_deed_of line host) (fits_after (deed_of line) host (λ constants cells seed e. absurd (no_opening line constants cells seed e)) f)) where
-  no_opening : (line : Line) (constants : Tuning) (cells seed : ℕ) → deed_of line ≡ Opens constants cells seed → ⊥
-  no_opening (Ticks now) constants cells seed e = cc
-  no_opening line constants cells seed e = cc
+lines_fit (line ∷ lines) host f = lines_fit lines (after_line line host) (fits_after (Does line) host (λ constants cells seed e. absurd cc) f)
 
 names_grow : (lines : List Line) (host : Opened) (n : NameValue) → HoldsName host.is.held n → HoldsName (after_lines lines host).is.held n
 names_grow lines host n h =
@@ -188,29 +184,12 @@ both_tell k m n one other a b = record {
 
 -- lines that send nothing
 abbrev IsSilent : Line → Type 0
-IsSilent (Ticks now) = ⊥
-IsSilent (Arrives d) = Unit {0}
-IsSilent (Hears v) = ⊥
-IsSilent (Asks name) = Unit {0}
-IsSilent (Stops name) = Unit {0}
-IsSilent (SetsDistance source micros) = Unit {0}
-IsSilent (Tunes constants) = Unit {0}
-IsSilent (Says v) = ⊥
-
-silent_line : (line : Line) (host : Opened) → IsSilent line → sent_by_line line host ≡ []
-silent_line (Ticks now) host is = absurd is
-silent_line (Arrives d) host is = refl
-silent_line (Hears v) host is = absurd is
-silent_line (Asks name) host is = refl
-silent_line (Stops name) host is = refl
-silent_line (SetsDistance source micros) host is = refl
-silent_line (Tunes constants) host is = refl
-silent_line (Says v) host is = absurd is
+IsSilent line = (host : Opened) → sent_by_line line host ≡ []
 
 silent_lines : (lines : List Line) (host : Opened) → Each IsSilent lines → sent_by_lines lines host ≡ []
 silent_lines [] host each = refl
 silent_lines (line ∷ lines) host each =
-    ap (λ (sent : List Datagram). sent ++ sent_by_lines lines (after_line line host)) (silent_line line host each.0) ∙ silent_lines lines (after_line line host) each.1
+    ap (λ (sent : List Datagram). sent ++ sent_by_lines lines (after_line line host)) (each.0 host) ∙ silent_lines lines (after_line line host) each.1
 
 silent : (k : Keeping) (lines : List Line) (next : Keeping) → next.host ≡ after_lines lines k.host → Each IsSilent lines → Tells k lines next
 silent k lines next same each = record { same = same; tells = λ fits v c. absurd (Contains-none v (subst (λ (sent : List Datagram). Contains sent v) (silent_lines lines k.host each) c)) }
@@ -241,7 +220,7 @@ said_tells d host v (Again place) c = drawing_tells host.is.held v d (one_of (Dr
 said_tells d host v (Clash place) c = absurd (Contains-none v c)
 said_tells d host v Left c = absurd (Contains-none v c)
 
-hears_tells : (h : Datagram) (host : Opened) → length host.is.held ≤ MAX_CELLS → (v : Datagram) → Contains (sent_by_line (Hears h) host) v → TellsHeld host.is.held v
+hears_tells : (h : Datagram) (host : Opened) → length host.is.held ≤ MAX_CELLS → (v : Datagram) → Contains (sent_by_line (Calls (calls.Hear h)) host) v → TellsHeld host.is.held v
 hears_tells h host few v c = by (has_room_for h host) c where
   by : (b : Bool) → Contains (cond b (answers_to host.is.number host.is.held h) []) v → TellsHeld host.is.held v
   by true c = answer_tells host.is.number host.is.held h v few c
@@ -253,7 +232,7 @@ wants_tells name anew k = by (is_wanted_here name anew (sees k.host) k.policy) w
   lines = lines_wanted name anew (sees k.host) k.policy
 
   by : (b : Bool) → let d = cond b (record { policy = after_wanting (present k.host) k.policy; lines = lines }) (still (sees k.host) k.policy) in Tells k d.lines (having_done d k)
-  by true = silent k lines (having_done (record { policy = after_wanting (present k.host) k.policy; lines = lines }) k) refl (wanted_each IsSilent (λ name. tt) name tt anew (sees k.host) k.policy tt tt)
+  by true = silent k lines (having_done (record { policy = after_wanting (present k.host) k.policy; lines = lines }) k) refl (wanted_each IsSilent (λ name host. refl) name (λ host. refl) anew (sees k.host) k.policy (λ host. refl) (λ host. refl))
   by false = silent k [] k refl tt
 
 due_tell : HoldsOfDue Tells
@@ -280,29 +259,29 @@ due_tell = record {
 steps_tell : HoldsOfSteps Tells
 steps_tell = record {
   due = due_tell;
-  ticks = λ now k later. one_tells k (Ticks now) (λ fits v c. tick_tells k.host.is.number k.host.is.held _ v c);
-  arrives = λ d k. silent k (Arrives d ∷ []) (having (Arrives d) k) refl (tt, tt);
-  answered = λ d k lacks asked. silent k (Arrives d ∷ []) (with_policy (after_came k.policy) (having (Arrives d) k)) refl (tt, tt);
-  hears = λ h k. one_tells k (Hears h) (λ fits v c. hears_tells h k.host (few_held k.host fits) v c);
-  stops = λ name k full. silent k (Stops name ∷ []) (having (Stops name) k) refl (tt, tt);
-  sets = λ source micros k. silent k (SetsDistance source (bounded micros) ∷ []) (having (SetsDistance source (bounded micros)) k) refl (tt, tt);
-  lends = λ source k. silent k (SetsDistance source k.policy.usual ∷ []) (having (SetsDistance source k.policy.usual) k) refl (tt, tt);
-  takes_back = λ source k. silent k (SetsDistance source UNKNOWN_DISTANCE ∷ []) (having (SetsDistance source UNKNOWN_DISTANCE) k) refl (tt, tt);
-  tunes = λ constants k in_range. silent k (Tunes constants ∷ []) (having (Tunes constants) k) refl (tt, tt);
+  ticks = λ now k later. one_tells k (Calls (calls.Tick now)) (λ fits v c. tick_tells k.host.is.number k.host.is.held _ v c);
+  arrives = λ d k. silent k (Arrives d ∷ []) (having (Arrives d) k) refl (λ host. refl, tt);
+  answered = λ d k lacks asked. silent k (Arrives d ∷ []) (with_policy (after_came k.policy) (having (Arrives d) k)) refl (λ host. refl, tt);
+  hears = λ h k. one_tells k (Calls (calls.Hear h)) (λ fits v c. hears_tells h k.host (few_held k.host fits) v c);
+  stops = λ name k full. silent k (Calls (calls.Stop name) ∷ []) (having (Calls (calls.Stop name)) k) refl (λ host. refl, tt);
+  sets = λ source micros k. silent k (Calls (calls.SetDelay source (bounded micros)) ∷ []) (having (Calls (calls.SetDelay source (bounded micros))) k) refl (λ host. refl, tt);
+  lends = λ source k. silent k (Calls (calls.SetDelay source k.policy.usual) ∷ []) (having (Calls (calls.SetDelay source k.policy.usual)) k) refl (λ host. refl, tt);
+  takes_back = λ source k. silent k (Calls (calls.SetDelay source UNKNOWN_DELAY) ∷ []) (having (Calls (calls.SetDelay source UNKNOWN_DELAY)) k) refl (λ host. refl, tt);
+  tunes = λ constants k in_range. silent k (Calls (calls.Tune constants) ∷ []) (having (Calls (calls.Tune constants)) k) refl (λ host. refl, tt);
   draws = λ d k. one_tells k (Says (Draw d)) (λ fits v c. said_tells d k.host v (becomes d k.host) c);
-  measured = λ micros k. silent k [] (with_policy (with_distance micros k.policy) k) refl tt;
+  measured = λ micros k. silent k [] (with_policy (after_echo micros k.policy) k) refl tt;
   told = λ k. silent k [] (with_policy (after_state (present k.host) k.policy) k) refl tt;
   takes_up = λ k is. silent k [] (with_policy (after_taking_up (present k.host) k.policy) k) refl tt;
 }
 
 -- ---- calls
 
-ticks_tell : (moments : List ℕ) (host : Opened) (v : Datagram) → Contains (sent_by_lines (map Ticks moments) host) v → TellsHeld host.is.held v
+ticks_tell : (moments : List ℕ) (host : Opened) (v : Datagram) → Contains (sent_by_lines (ticks_at moments) host) v → TellsHeld host.is.held v
 ticks_tell [] host v c = absurd (Contains-none v c)
 ticks_tell (now ∷ moments) host v c = ⊎_elim
-    (λ (at : Contains (sent_by_line (Ticks now) host) v). tick_tells host.is.number host.is.held _ v at)
-    (λ (later : Contains (sent_by_lines (map Ticks moments) (after_line (Ticks now) host)) v). ticks_tell moments (after_line (Ticks now) host) v later)
-    (Contains-append_cases (sent_by_line (Ticks now) host) (sent_by_lines (map Ticks moments) (after_line (Ticks now) host)) v c)
+    (λ (at : Contains (sent_by_line (Calls (calls.Tick now)) host) v). tick_tells host.is.number host.is.held _ v at)
+    (λ (later : Contains (sent_by_lines (ticks_at moments) (after_line (Calls (calls.Tick now)) host)) v). ticks_tell moments (after_line (Calls (calls.Tick now)) host) v later)
+    (Contains-append_cases (sent_by_line (Calls (calls.Tick now)) host) (sent_by_lines (ticks_at moments) (after_line (Calls (calls.Tick now)) host)) v c)
 
 call_fits : (call : Call) (k j : Keeping) → IsTaken call j → Fits k.host → Fits (after_call call k).host
 call_fits (Handed line) k j taken fits = lines_fit (doing_of line (sees k.host) k.policy).lines k.host fits
@@ -311,7 +290,7 @@ call_fits (Begins o given) k j taken fits =
     let lines = given_lines first given in
     subst Fits (sym (kept_hosts_are_hosts lines first).0) (lines_fit (expand lines first) first.host (first_fits k.host.is.number o taken.0.small)) where
       first_fits : (number : ℕ) (o : Opening) → o.cells ≤ MAX_CELLS → Fits (opened number o).host
-      first_fits number o small = lines_fit (map Ticks o.moments) (opened_with o.constants number o.cells o.seed) (record { few = omega arith; small = small })
+      first_fits number o small = lines_fit (ticks_at o.moments) (opened_with o.constants number o.cells o.seed) (record { few = omega arith; small = small })
 
 module _ (numbers : ℕ → ℕ) where
   kept_fits : (calls : List CallAt) → AreTaken numbers calls → (i : ℕ) → Fits (kept_at numbers calls i).host
@@ -352,7 +331,7 @@ module _ (numbers : ℕ → ℕ) where
       let first = opened k.host.is.number o in
       let start = opened_with o.constants k.host.is.number o.cells o.seed in
       let lines = given_lines first given in
-      let ticks = map Ticks o.moments in
+      let ticks = ticks_at o.moments in
       let opened_fits : Fits first.host = lines_fit ticks start (record { few = omega arith; small = taken.0.small }) in
       let all = subst (λ (sent : List Datagram). Contains sent v) (sent_performed (ticks ++ expand lines first) start ∙ sent_by_both ticks (expand lines first) start) c in
       let told : TellsHeld (after_lines (expand lines first) first.host).is.held v = ⊎_elim

@@ -12,10 +12,10 @@ use Rattle.wb_codec.specs.declared.datagram.Datagram.{Datagram}
 use Rattle.wb_codec.specs.declared.datagram.Datagram.TheVariants.{Draw, Session, Request, AskPages, PageState}
 use Rattle.wb_member.specs.Board.{Held as HeldBoard}
 use Rattle.wb_member.specs.Calls.{after_call}
-use Rattle.wb_member.specs.Lines.{Line, Ticks, Arrives, Hears, Asks, Says, after_line, after_lines}
+use Rattle.wb_member.specs.Lines.{Line, Arrives, Says, after_line, after_lines, Calls}
 use Rattle.wb_member.specs.Opened.{Opened, accepted}
 use Rattle.wb_member.specs.declared.calls.Call.{Call}
-use Rattle.wb_member.specs.declared.calls.Call.TheVariants.{Hear, Ask}
+use Rattle.wb_member.specs.declared.calls.Call.TheVariants.{Tick}
 use Rattle.wb_member.proofs.KeptBoards.{calls_keep_boards}
 use Rattle.wb_keeping.specs.Kept.{Doing, Transition, and_then, came, learned, performs, takes, timed}
 use Rattle.wb_keeping.specs.Laws.{Came, after_kept}
@@ -25,7 +25,8 @@ use Rattle.wb_keeping.specs.Views.{View, holds, is_asked, is_full}
 use Rattle.wb_keeping.proofs.EachLine.{Each, each_both, learned_each}
 use Rattle.wb_laws_sessions.proofs.Outcomes.{Found, found}
 use Rattle.wb_laws_kept.specs.Restarts.{drawops_in}
-use Rattle.wb_laws_kept.proofs.Honest.{IsGiven, came_given, of_policy, timed_given}
+use Rattle.wb_laws_kept.proofs.Honest.{came_given, of_policy, timed_given}
+use Rattle.wb_laws_sessions.proofs.Honest.{IsGiven}
 use Rattle.wb_laws_sessions.proofs.Sending.{one_draw}
 
 -- ---- lines that bring nothing
@@ -46,10 +47,9 @@ call_stays call host = let same = (calls_keep_boards call host).board in
 
 line_stays : (line : Line) (host : Opened) → IsGiven none line → Stays host (after_line line host)
 line_stays (Arrives d) host is = absurd is
-line_stays (Hears v) host is = call_stays (Hear v) host
-line_stays (Asks name) host is = call_stays (Ask name) host
+line_stays (Calls call) host is = call_stays call host
 line_stays (Says (Draw d)) host is = absurd is
-line_stays line host is = record { held = refl; cells = refl }
+line_stays line host is = still host
 
 pub lines_stay : (lines : List Line) (host : Opened) → Each (IsGiven none) lines → Stays host (after_lines lines host)
 lines_stay [] host each = still host
@@ -69,14 +69,14 @@ takes_first d see p = by (holds (see []) d.name || is_full (see [])) where
   by true = ([], refl, tt)
   by false = ((learns (λ (lines : List Line). see (Arrives d ∷ lines)) p).lines, refl, learned_each (IsGiven none) (of_policy none) d.name (is_asked (see []) d.name) (λ (lines : List Line). see (Arrives d ∷ lines)) p)
 
-came_first : (now : ℕ) (d : DrawopValue) (see : List Line → View) (p : Policy) → (rest : List Line) × ((came now (Draw d) see p).lines ≡ Ticks now ∷ (Arrives d ∷ rest)) × Each (IsGiven none) rest
+came_first : (now : ℕ) (d : DrawopValue) (see : List Line → View) (p : Policy) → (rest : List Line) × ((came now (Draw d) see p).lines ≡ Calls (Tick now) ∷ (Arrives d ∷ rest)) × Each (IsGiven none) rest
 came_first now d see p =
-    let there : List Line → View = λ lines. see (Ticks now ∷ lines) in
+    let there : List Line → View = λ lines. see (Calls (Tick now) ∷ lines) in
     let one : Doing = takes d there p in
     let f = takes_first d there p in
     let more : List Line = (timed (λ (lines : List Line). there (one.lines ++ lines)) one.policy).lines in (
       f.0 ++ more,
-      ap (λ (lines : List Line). Ticks now ∷ (lines ++ more)) f.1,
+      ap (λ (lines : List Line). Calls (Tick now) ∷ (lines ++ more)) f.1,
       each_both (IsGiven none) f.0 more f.2 (timed_given none (λ (lines : List Line). there (one.lines ++ lines)) one.policy),
     )
 
@@ -87,7 +87,7 @@ pub record Comes (d : DrawopValue) (host next : Opened) : Type 0 where
 drawop_comes : (now : ℕ) (d : DrawopValue) (k : Keeping) → Comes d k.host (after_doing (came now (Draw d)) k).host
 drawop_comes now d k =
     let f = came_first now d (sees k.host) k.policy in
-    let with_it : Opened = accepted d (after_line (Ticks now) k.host) in
+    let with_it : Opened = accepted d (after_line (Calls (Tick now)) k.host) in
     let s = lines_stay f.0 with_it f.2 in
     let e : (after_doing (came now (Draw d)) k).host ≡ after_lines f.0 with_it = ap (λ (lines : List Line). after_lines lines k.host) f.1 in
     record { held = ap (λ (h : Opened). h.is.held) e ∙ s.held; cells = ap (λ (h : Opened). h.is.cells) e ∙ s.cells }

@@ -9,25 +9,24 @@ use Rattle.wb_names.proofs.Listings.{Contains-none}
 use Rattle.wb_codec.specs.declared.datagram.Datagram.{Datagram}
 use Rattle.wb_codec.specs.declared.datagram.Datagram.TheVariants.{Draw}
 use Rattle.wb_recovery.specs.declared.tuning.Tuning.{Tuning}
-use Rattle.wb_member.specs.Lines.{Line, Ticks, Arrives, Hears, Asks, Says, after_line}
+use Rattle.wb_member.specs.Lines.{Line, Arrives, Says, after_line, Calls, ticks_at}
 use Rattle.wb_member.specs.Opened.{Opened, opened_with, present}
-use Rattle.wb_member.specs.declared.calls.Call.TheVariants.{Hear, Ask}
 use Rattle.wb_keeping.specs.Laws.{KeptLine, after_kept, doing_of, expand}
 use Rattle.wb_laws_kept.specs.Openings.{Opening, opened}
 use Rattle.wb_keeping.specs.Performing.{Keeping, sees}
 use Rattle.wb_keeping.proofs.EachLine.{Each, each_both}
 use Rattle.wb_laws_sessions.specs.Drawn.{AreHonest, WasDrawn, WasHeld, drawn_at, drawn_by}
-use Rattle.wb_laws_sessions.specs.Sessions.{AreApart, Deed, Opens, Step, after_deed, deed_of, host_at, steps_then}
+use Rattle.wb_laws_sessions.specs.Sessions.{AreApart, Deed, Does, Opens, Step, after_deed, host_at, steps_then}
 use Rattle.wb_laws_sessions.proofs.Deeds.{deed_draws}
 use Rattle.wb_laws_sessions.proofs.Drawn.{drawn_cases, names_mean_one, numbers_count, once_held_was_drawn}
-use Rattle.wb_laws_sessions.proofs.Lines.{after_deed_of, same_line}
+use Rattle.wb_laws_sessions.proofs.Honest.{IsGiven, given_draws_none}
 use Rattle.wb_laws_sessions.proofs.Names.{at_most_highest}
 use Rattle.wb_laws_sessions.proofs.Outcomes.{with_more}
 use Rattle.wb_laws_sessions.proofs.Several.{number_at}
 use Rattle.wb_laws_kept.specs.Restarts.{IsWholeRecord, KnowTheirOwn, KnowsItsOwn, RecordedReportsTellAgreement, RecordsAreWhole, WholeRecordsTell, drawops_in}
 use Rattle.wb_laws_kept.specs.Sessions.{AreTaken, Begins, Call, CallAt, DrawopsWereHeld, Handed, after_call, given_lines, kept_at, steps_of}
 use Rattle.wb_laws_kept.proofs.Agreeing.{kept_reports_tell_agreement}
-use Rattle.wb_laws_kept.proofs.Honest.{IsGiven, all_honest, moments_given, record_given}
+use Rattle.wb_laws_kept.proofs.Honest.{all_honest, moments_given, record_given}
 use Rattle.wb_laws_kept.proofs.Replaying.{Among, MeanOne, call_stays, lines_stay, none, replayed}
 use Rattle.wb_laws_kept.proofs.Steps.{kept_is_session}
 
@@ -35,8 +34,7 @@ use Rattle.wb_laws_kept.proofs.Steps.{kept_is_session}
 
 pub line_grows : (line : Line) (host : Opened) (x : DrawopValue) → Contains host.is.held x → Contains (after_line line host).is.held x
 line_grows (Arrives d) host x c = with_more host.is.held d x (outcome_of host.is.cells host.is.held d) c
-line_grows (Hears v) host x c = subst (λ (h : List DrawopValue). Contains h x) (sym (call_stays (Hear v) host).held) c
-line_grows (Asks name) host x c = subst (λ (h : List DrawopValue). Contains h x) (sym (call_stays (Ask name) host).held) c
+line_grows (Calls call) host x c = subst (λ (h : List DrawopValue). Contains h x) (sym (call_stays call host).held) c
 line_grows (Says (Draw d)) host x c = with_more host.is.held d x (outcome_of host.is.cells host.is.held d) c
 line_grows line host x c = c
 
@@ -51,35 +49,32 @@ module _ (numbers : ℕ → ℕ) where
     abbrev step : Deed → Step
     step deed = record { time = time; place = place; deed = deed }
 
-    line_holds : (line : Line) (older : List Step) → HoldTheirOwn older → HoldTheirOwn (step (deed_of line) ∷ older)
-    line_holds line older own i d c = by (nat_eq place i) refl (drawn_cases numbers (step (deed_of line)) older i d c) where
+    line_holds : (line : Line) (older : List Step) → HoldTheirOwn older → HoldTheirOwn (step (Does line) ∷ older)
+    line_holds line older own i d c = by (nat_eq place i) refl (drawn_cases numbers (step (Does line)) older i d c) where
       host : Opened
       host = host_at numbers older i
 
-      by : (b : Bool) → nat_eq place i ≡ b → ((place ≡ i) × Contains (drawn_by (deed_of line) host) d) ⊎ Contains (drawn_at numbers older i) d → Contains (cond b (after_deed (deed_of line) host) host).is.held d
+      by : (b : Bool) → nat_eq place i ≡ b → ((place ≡ i) × Contains (drawn_by (Does line) host) d) ⊎ Contains (drawn_at numbers older i) d → Contains (cond b (after_deed (Does line) host) host).is.held d
       by true is a = ⊎_elim
-          (λ (now : (place ≡ i) × Contains (drawn_by (deed_of line) host) d). (deed_draws (deed_of line) host d now.1).held)
-          (λ (before : Contains (drawn_at numbers older i) d). subst (λ (h : Opened). Contains h.is.held d) (sym (after_deed_of line host)) (line_grows line host d (own i d before)))
+          (λ (now : (place ≡ i) × Contains (drawn_by (Does line) host) d). (deed_draws (Does line) host d now.1).held)
+          (λ (before : Contains (drawn_at numbers older i) d). line_grows line host d (own i d before))
           a
       by false is a = ⊎_elim
-          (λ (now : (place ≡ i) × Contains (drawn_by (deed_of line) host) d). absurd (true≢false (sym (eq-eqb place i now.0) ∙ is)))
+          (λ (now : (place ≡ i) × Contains (drawn_by (Does line) host) d). absurd (true≢false (sym (eq-eqb place i now.0) ∙ is)))
           (λ (before : Contains (drawn_at numbers older i) d). own i d before)
           a
 
-    lines_hold : (lines : List Line) (older : List Step) → HoldTheirOwn older → HoldTheirOwn (steps_then time place (map deed_of lines) older)
+    lines_hold : (lines : List Line) (older : List Step) → HoldTheirOwn older → HoldTheirOwn (steps_then time place (map Does lines) older)
     lines_hold [] older own = own
-    lines_hold (line ∷ lines) older own = lines_hold lines (step (deed_of line) ∷ older) (line_holds line older own)
+    lines_hold (line ∷ lines) older own = lines_hold lines (step (Does line) ∷ older) (line_holds line older own)
 
     -- lines that say no drawop draw nothing
-    not_said : (comes : DrawopValue → Type 0) (line : Line) (d : DrawopValue) → IsGiven comes line → deed_of line ≡ deed_of (Says (Draw d)) → ⊥
-    not_said comes line d is e = subst (IsGiven comes) (same_line line (Says (Draw d)) e) is
-
-    given_draw_none : (comes : DrawopValue → Type 0) (lines : List Line) (older : List Step) → Each (IsGiven comes) lines → (i : ℕ) (d : DrawopValue) → Contains (drawn_at numbers (steps_then time place (map deed_of lines) older) i) d → Contains (drawn_at numbers older i) d
+    given_draw_none : (comes : DrawopValue → Type 0) (lines : List Line) (older : List Step) → Each (IsGiven comes) lines → (i : ℕ) (d : DrawopValue) → Contains (drawn_at numbers (steps_then time place (map Does lines) older) i) d → Contains (drawn_at numbers older i) d
     given_draw_none comes [] older each i d c = c
     given_draw_none comes (line ∷ lines) older each i d c = ⊎_elim
-        (λ (now : (place ≡ i) × Contains (drawn_by (deed_of line) (host_at numbers older i)) d). absurd (not_said comes line d each.0 (deed_draws (deed_of line) (host_at numbers older i) d now.1).said))
+        (λ (now : (place ≡ i) × Contains (drawn_by (Does line) (host_at numbers older i)) d). absurd (Contains-none d (subst (λ (xs : List DrawopValue). Contains xs d) (given_draws_none comes line (host_at numbers older i) each.0) now.1)))
         (λ (before : Contains (drawn_at numbers older i) d). before)
-        (drawn_cases numbers (step (deed_of line)) older i d (given_draw_none comes lines (step (deed_of line) ∷ older) each.1 i d c))
+        (drawn_cases numbers (step (Does line)) older i d (given_draw_none comes lines (step (Does line) ∷ older) each.1 i d c))
 
     opening_draws_none : (constants : Tuning) (cells seed : ℕ) (older : List Step) (i : ℕ) (d : DrawopValue) → Contains (drawn_at numbers (step (Opens constants cells seed) ∷ older) i) d → Contains (drawn_at numbers older i) d
     opening_draws_none constants cells seed older i d c = ⊎_elim
@@ -119,7 +114,7 @@ module _ (numbers : ℕ → ℕ) where
       first j = opened (k j).host.is.number o
 
       lines : List Line
-      lines = map Ticks o.moments ++ expand (given_lines (first place) given) (first place)
+      lines = ticks_at o.moments ++ expand (given_lines (first place) given) (first place)
 
       opening : Step
       opening = record { time = time; place = place; deed = Opens o.constants o.cells o.seed }
@@ -128,7 +123,7 @@ module _ (numbers : ℕ → ℕ) where
       comes x = Contains given (Draw x)
 
       each : Each (IsGiven comes) lines
-      each = each_both (IsGiven comes) (map Ticks o.moments) (expand (given_lines (first place) given) (first place)) (moments_given comes o.moments) (record_given comes (present (first place).host) given (first place) (λ d c. c))
+      each = each_both (IsGiven comes) (ticks_at o.moments) (expand (given_lines (first place) given) (first place)) (moments_given comes o.moments) (record_given comes (present (first place).host) given (first place) (λ d c. c))
 
       before : Contains (drawn_at numbers (steps_of numbers older) i) d
       before = opening_draws_none time place o.constants o.cells o.seed (steps_of numbers older) i d (given_draw_none time place comes lines (opening ∷ steps_of numbers older) each i d c)
@@ -140,13 +135,13 @@ module _ (numbers : ℕ → ℕ) where
 
         drawn : (x : DrawopValue) → Among given (first place).host.is.held x → WasDrawn numbers (steps_of numbers older) x
         drawn x a = once_held_was_drawn numbers (steps_of numbers older) honest x (⊎_elim
-            (λ (c : Contains (first place).host.is.held x). absurd (Contains-none x (subst (λ (h : List DrawopValue). Contains h x) (lines_stay (map Ticks o.moments) start (moments_given none o.moments)).held c)))
+            (λ (c : Contains (first place).host.is.held x). absurd (Contains-none x (subst (λ (h : List DrawopValue). Contains h x) (lines_stay (ticks_at o.moments) start (moments_given none o.moments)).held c)))
             (λ (c : Contains given (Draw x)). were x c)
             a)
 
       few : (length (first place).host.is.held ≡ 0) × ((first place).host.is.cells ≡ o.cells) × (length (drawops_in given) ≤ o.cells)
       few =
-          let s = lines_stay (map Ticks o.moments) (opened_with o.constants (k place).host.is.number o.cells o.seed) (moments_given none o.moments) in
+          let s = lines_stay (ticks_at o.moments) (opened_with o.constants (k place).host.is.number o.cells o.seed) (moments_given none o.moments) in
           let held : length (first place).host.is.held ≡ 0 = ap (λ (h : List DrawopValue). length h) s.held in
           let cells : (first place).host.is.cells ≡ o.cells = s.cells in
           let le = whole.few in

@@ -1,20 +1,20 @@
 -- Self-managing members are members of a session: calls are steps.
 use Rattle.std.proofs.Common.{◌≡◌, ℕ, Bool, true, false, cond, List, [], ◌∷◌, ◌++◌, ◌∙◌, ap, eqb-true, map, refl, sym}
 use Rattle.std.specs.Prelude.{nat_eq}
-use Rattle.wb_member.specs.Lines.{Ticks}
+use Rattle.wb_member.specs.Lines.{ticks_at}
 use Rattle.wb_member.specs.Opened.{Opened, opened_with}
 use Rattle.wb_keeping.specs.Laws.{KeptLine, doing_of, expand}
 use Rattle.wb_laws_kept.specs.Openings.{opened}
 use Rattle.wb_keeping.specs.Performing.{Keeping, sees}
 use Rattle.wb_keeping.proofs.KeptHosts.{kept_hosts_are_hosts}
 use Rattle.wb_keeping.proofs.Performed.{after_both}
-use Rattle.wb_laws_sessions.specs.Sessions.{Deed, after_deeds, deed_of, host_at, steps_then}
+use Rattle.wb_laws_sessions.specs.Sessions.{Deed, Does, after_deeds, host_at, steps_then}
 use Rattle.wb_laws_sessions.proofs.Several.{after_all, after_performed}
 use Rattle.wb_laws_kept.specs.Sessions.{Begins, Call, CallAt, Handed, KeptIsSession, after_call, given_lines, kept_at, lines_of_call, opens_of_call, steps_of}
 
 -- what a call does as deeds
 abbrev pub deeds_of_call : Call → Keeping → List Deed
-deeds_of_call call k = opens_of_call call ++ map deed_of (lines_of_call call k)
+deeds_of_call call k = opens_of_call call ++ map Does (lines_of_call call k)
 
 call_is : (call : Call) (k : Keeping) → after_deeds (deeds_of_call call k) k.host ≡ (after_call call k).host
 call_is (Handed line) k = after_performed (doing_of line (sees k.host) k.policy).lines k.host
@@ -22,8 +22,8 @@ call_is (Begins o given) k =
     let first : Keeping = opened k.host.is.number o in
     let lines : List KeptLine = given_lines first given in
     let start : Opened = opened_with o.constants k.host.is.number o.cells o.seed in
-    after_performed (map Ticks o.moments ++ expand lines first) start
-    ∙ after_both (map Ticks o.moments) (expand lines first) start
+    after_performed (ticks_at o.moments ++ expand lines first) start
+    ∙ after_both (ticks_at o.moments) (expand lines first) start
     ∙ sym (kept_hosts_are_hosts lines first).0
 
 module _ (numbers : ℕ → ℕ) where

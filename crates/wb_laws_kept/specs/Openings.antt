@@ -1,9 +1,9 @@
 -- How a program starts a self-managing member: `board`, then moments (`tick`), then `keep`.
-use Rattle.std.specs.Prelude.{ℕ, ◌≤◌, ◌≡◌, List, [], ◌∷◌, true, map}
+use Rattle.std.specs.Prelude.{ℕ, ◌≤◌, ◌≡◌, List, [], ◌∷◌, true}
 use Rattle.wb_recovery.specs.Timing.{are_constants}
 use Rattle.wb_recovery.specs.declared.tuning.Tuning.{Tuning}
 use Rattle.wb_board.specs.Counts.{MAX_CELLS}
-use Rattle.wb_member.specs.Lines.{Ticks, after_lines}
+use Rattle.wb_member.specs.Lines.{after_lines, ticks_at}
 use Rattle.wb_member.specs.Opened.{Opened, opened_with, present}
 use Rattle.wb_keeping.specs.Performing.{Keeping}
 use Rattle.wb_policy.specs.Policy.{begun}
@@ -21,7 +21,7 @@ pub record Opening : Type 0 where
 -- the host of the member of a number, once it took in the moments
 abbrev pub opened_host : ℕ → Opening → Opened
 opened_host number o =
-    after_lines (map Ticks o.moments) (opened_with o.constants number o.cells o.seed)
+    after_lines (ticks_at o.moments) (opened_with o.constants number o.cells o.seed)
 
 -- and once it is self-managing
 abbrev pub opened : ℕ → Opening → Keeping

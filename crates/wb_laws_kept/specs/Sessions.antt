@@ -6,14 +6,14 @@ use Rattle.std.specs.Prelude.{◌≡◌, ℕ, List, [], ◌∷◌, ◌++◌, Con
 use Rattle.wb_names.specs.Values.{DrawopValue}
 use Rattle.wb_codec.specs.declared.datagram.Datagram.{Datagram}
 use Rattle.wb_codec.specs.declared.datagram.Datagram.TheVariants.{Draw}
-use Rattle.wb_member.specs.Lines.{Line, Ticks}
+use Rattle.wb_member.specs.Lines.{Line, ticks_at}
 use Rattle.wb_member.specs.Opened.{present}
 use Rattle.wb_keeping.specs.Laws.{AreTaken as AreLinesTaken, KeptLine, Came, after_kept, doing_of, expand, fault_of}
 use Rattle.wb_laws_kept.specs.Openings.{IsOpening, Opening, opened}
 use Rattle.wb_keeping.specs.Performing.{Keeping, after_doing, sees}
 use Rattle.wb_policy.specs.Policy.{begun}
 use Rattle.wb_laws_sessions.specs.Drawn.{WasHeld}
-use Rattle.wb_laws_sessions.specs.Sessions.{Deed, Opens, Step, deed_of, host_at, steps_then, unopened}
+use Rattle.wb_laws_sessions.specs.Sessions.{Deed, Does, Opens, Step, host_at, steps_then, unopened}
 
 -- a program starts with what its record has, or is handed a line: `came`, `tick`, `add`, `tuning`
 pub data Call : Type 0 where
@@ -50,7 +50,7 @@ kept_at numbers (e ∷ older) i =
 abbrev pub lines_of_call : Call → Keeping → List Line
 lines_of_call (Begins o given) k =
     let first = opened k.host.is.number o in
-    map Ticks o.moments ++ expand (given_lines first given) first
+    ticks_at o.moments ++ expand (given_lines first given) first
 lines_of_call (Handed line) k = (doing_of line (sees k.host) k.policy).lines
 
 -- before these, a program that starts opens a board
@@ -63,7 +63,7 @@ abbrev pub steps_of : (ℕ → ℕ) → List CallAt → List Step
 steps_of numbers [] = []
 steps_of numbers (e ∷ older) =
     let lines = lines_of_call e.call (kept_at numbers older e.place) in
-    steps_then e.time e.place (opens_of_call e.call ++ map deed_of lines) (steps_of numbers older)
+    steps_then e.time e.place (opens_of_call e.call ++ map Does lines) (steps_of numbers older)
 
 -- ---- what is asked of them
 

@@ -5,9 +5,10 @@ use Rattle.std.proofs.lemmas.List.Elements.{Contains-append_cases, Contains-appe
 use Rattle.wb_names.specs.History.{IsHistory}
 use Rattle.wb_names.specs.Values.{DrawopValue, NameValue}
 use Rattle.wb_names.proofs.Listings.{Contains-none}
+use Rattle.wb_member.specs.Lines.{Arrives}
 use Rattle.wb_member.specs.Opened.{Opened}
 use Rattle.wb_laws_sessions.specs.Drawn.{AreHonest, HeldOnce, HeldWasDrawn, IsHonestStep, NamesMeanOne, NoneClashes, NumbersCount, OnceHeldWasDrawn, WasDrawn, drawn_at, drawn_by}
-use Rattle.wb_laws_sessions.specs.Sessions.{Step, Takes, after_deed, host_at}
+use Rattle.wb_laws_sessions.specs.Sessions.{Does, Step, after_deed, host_at}
 use Rattle.wb_laws_sessions.proofs.Deeds.{ComesBy, deed_brings, deed_draws, once_after, one_drawn}
 use Rattle.wb_laws_sessions.proofs.Outcomes.{Found, found}
 use Rattle.wb_progress.proofs.Parts.{tails, nil_ends}
@@ -98,7 +99,7 @@ module _ (numbers : ℕ → ℕ) where
     by true is c = ⊎_elim
         (λ (was : Contains (there older i).is.held d). before was)
         (λ (comes : ComesBy e.deed (there older i) d). ⊎_elim
-        (λ (arrives : e.deed ≡ Takes d). let w = honest.comes d arrives in later e older d (rest w.newer w.older w.split w.place d w.held))
+        (λ (arrives : e.deed ≡ Does (Arrives d)). let w = honest.comes d arrives in later e older d (rest w.newer w.older w.split w.place d w.held))
         (λ (draws : Contains (drawn_by e.deed (there older i)) d).
         let own = honest.own d (deed_draws e.deed (there older i) d draws).said in
         (i, sym (own.0 ∙ ap numbers (eqb-true e.place i is)), drawn_now e older i d is draws))

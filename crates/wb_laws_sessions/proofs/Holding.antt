@@ -1,16 +1,12 @@
--- Timers of what is held, and of what is not: act by act, and deed by deed.
+-- Timers of what is held, and of what is not: act by act, and line by line.
 use Rattle.std.proofs.Common.{◌≡◌, ℕ, ◌+◌, ◌*◌, Bool, true, false, cond, List, [], ◌∷◌, Option, Some, None, refl, ap, ◌∙◌, sym, subst, true≢false, ⊎_elim}
 use Rattle.std.specs.Prelude.{All, Contains, map, filter, is_some, is_none, nat_eq, nat_le, ◌&&◌}
-use Rattle.std.proofs.lemmas.Bool.{not-true, or_parts}
-use Rattle.std.proofs.lemmas.List.Elements.{All-nil, All-cons, All-take, All-weaker, All-contains_itself, All-head, All-tail, All-contains}
-use Rattle.wb_names.specs.Values.{NameValue, DrawopValue, MarkValue}
-use Rattle.wb_names.specs.History.{HoldsName}
-use Rattle.wb_names.specs.declared.name.PageId.{PageId}
-use Rattle.wb_names.proofs.Orders.{name_parts}
+use Rattle.std.proofs.lemmas.List.Elements.{All-contains_itself, All-head, All-tail, All-contains}
+use Rattle.wb_names.specs.Values.{NameValue, DrawopValue}
 use Rattle.wb_names.specs.Arrivals.{history_after}
 use Rattle.wb_names.specs.Orders.{same_name}
 use Rattle.wb_names.proofs.Orders.{same_name-is}
-use Rattle.wb_names.proofs.Listings.{Contains-here, Contains-filter, Contains-map}
+use Rattle.wb_names.proofs.Listings.{Contains-filter, Contains-map}
 use Rattle.wb_codec.specs.declared.datagram.Datagram.{Datagram}
 use Rattle.wb_codec.specs.declared.datagram.Datagram.TheVariants.{Draw, Session, Request, AskPages, PageState}
 use Rattle.wb_recovery.specs.Timing.{new_ask, new_answer, heard_ask, fired_ask, fired_answer, noticed, asked, got, is_standing}
@@ -27,34 +23,20 @@ use Rattle.wb_keeper.specs.Hearing.{asks_for_held}
 use Rattle.wb_keeper.specs.Keeper.{delay_to, received_of, missed_of, asked_by, given_up, events_of, holds}
 use Rattle.wb_keeper.specs.Ticks.{stopped_after}
 use Rattle.wb_keeper.proofs.KeptCalls.{holds_from}
+use Rattle.wb_member.specs.Lines.{Line, Arrives, Calls, Says, after_line}
 use Rattle.wb_member.specs.Members.{Member, Act, Draws, Takes, Hears, SetsDelay, SetsConstants, Misses, GivesUp, Ticks, Reports, AsksForPages, after}
-use Rattle.wb_keeper.specs.GivingUp.{is_timed}
-use Rattle.wb_keeper.specs.Hearing.{marks_heard}
-use Rattle.wb_keeper.specs.Missing.{IsWanted}
-use Rattle.wb_keeper.proofs.FirstWanted.{first_are_wanted}
-use Rattle.wb_keeper.proofs.KeptCalls.{holds_not}
-use Rattle.wb_member.specs.Calls.{after_call}
-use Rattle.wb_member.specs.Opened.{Opened, accepted, doing, events, has_room_for, heard, may_ask, present, wanted_of}
-use Rattle.wb_member.specs.Random.{word_of}
-use Rattle.wb_member.specs.declared.calls.Call.{Call as MemberCall}
-use Rattle.wb_member.specs.declared.calls.Call.TheVariants as calls
+use Rattle.wb_member.specs.Opened.{Opened, accepted, opened_with, present}
 use Rattle.wb_progress.specs.Repairs.{timers_at}
 use Rattle.wb_progress.proofs.OneCall.{received_in, not_standing}
-use Rattle.wb_laws_sessions.specs.Sessions.{Deed, Step, after_deed, host_at}
-use Rattle.wb_laws_sessions.specs.Sessions as deeds
+use Rattle.wb_laws_sessions.specs.Sessions.{Deed, Does, Opens, Step, after_deed, host_at}
 use Rattle.wb_laws_sessions.specs.Timers.{AnswersAreOfHeld, NoneHeldIsAskedFor}
 use Rattle.wb_laws_sessions.proofs.Acts.{held_after, held_grows}
+use Rattle.wb_laws_sessions.proofs.CallActs.{IsCareful, call_acts}
 use Rattle.wb_progress.proofs.Giving.{held_as}
 
 -- the timers of a name at a member
 abbrev pub timers_of_member : Member → NameValue → Timers
 timers_of_member m n = timers_at m.number m.constants m.calls n
-
--- A member begins to miss only what it does not hold, and takes only what arrived.
-abbrev pub IsCareful : Act → Member → Type 0
-IsCareful (Misses now names words) m = All (λ n. holds m.held n ≡ false) names
-IsCareful (Takes now batch order) m = All (λ d. Contains batch d) order
-IsCareful act m = Unit {0}
 
 -- ---- no request timer
 
@@ -222,70 +204,29 @@ answer_after (Ticks now words) m is n e = is n (receipts_answer m.constants n no
 answer_after (Reports now page) m is n e = is n e
 answer_after AsksForPages m is n e = is n e
 
--- ---- deed by deed
+-- ---- line by line
 
-record Tells (m : Member) : Type 0 where
-  requests : HeldNone m
-  answers : AnswerHeld m
+-- what is so of a member, and stays so by careful acts
+module _ (P : Member → Type 0) (stays : (act : Act) (m : Member) → IsCareful act m → P m → P (after act m)) where
+  takes_one : (d : DrawopValue) (host : Opened) → P host.is → P (accepted d host).is
+  takes_one d host is = stays (Takes (present host) (d ∷ []) (d ∷ [])) host.is (All-contains_itself (d ∷ [])) is
 
-tells_after : (a : Act) (m : Member) → IsCareful a m → Tells m → Tells (after a m)
-tells_after a m careful t = record { requests = none_after a m careful t.requests; answers = answer_after a m t.answers }
+  pub line_keeps : (line : Line) (host : Opened) → P host.is → P (after_line line host).is
+  line_keeps (Arrives d) host is = takes_one d host is
+  line_keeps (Says (Draw d)) host is = takes_one d host is
+  line_keeps (Says v) host is = is
+  line_keeps (Calls call) host is = call_acts (λ m next sent. P m → P next) stays (λ m was. was) call host is
 
-pub all_from : {X : Type 0} (P : X → Type 0) (xs : List X) → ((x : X) → Contains xs x → P x) → All P xs
-all_from P xs f = All-weaker (Contains xs) P f xs (All-contains_itself xs)
-
-module _ (host : Opened) where
-  -- what it wants of a page it does not hold
-  wanted_lacking : (page : PageId) → All (λ n. holds host.is.held n ≡ false) (wanted_of page host)
-  wanted_lacking page =
-      let marks = marks_heard host.is.number host.is.calls page in
-      let w = first_are_wanted host.is.constants (events host) host.is.held page marks in
-      let all : All (λ n. holds host.is.held n ≡ false) w.0 = all_from (λ n. holds host.is.held n ≡ false) w.0 (λ n c. lacks marks n ((w.1.members n).0 c)) in
-      subst (All (λ n. holds host.is.held n ≡ false)) (sym w.2) (All-take (λ n. holds host.is.held n ≡ false) _ w.0 all)
-    where
-      lacks : (marks : List MarkValue) (n : NameValue) → IsWanted (timers_of host.is.constants (events host)) host.is.held page marks n → holds host.is.held n ≡ false
-      lacks marks n want = holds_not host.is.held n (λ h. want.missing.not_held (subst (HoldsName host.is.held) (name_parts _ _ _ _ _ _ refl want.on_page refl) h))
-
-  -- nor does it hold what it may ask for
-  asked_lacking : (name : NameValue) → may_ask name host ≡ true → All (λ n. holds host.is.held n ≡ false) (name ∷ [])
-  asked_lacking name e = All-cons (λ n. holds host.is.held n ≡ false) name [] (or_parts (holds host.is.held name) (is_timed (timers_of host.is.constants (events host)) name) (not-true _ e)).0 (All-nil (λ n. holds host.is.held n ≡ false))
-
-  module _ (is : Tells host.is) where
-    accepts : (d : DrawopValue) → Tells (accepted d host).is
-    accepts d = tells_after (Takes (present host) (d ∷ []) (d ∷ [])) host.is (All-cons (λ x. Contains (d ∷ []) x) d [] (Contains-here d []) (All-nil (λ x. Contains (d ∷ []) x))) is
-
-    call_tells : (call : MemberCall) → Tells (after_call call host).is
-    call_tells (calls.Tick now) = tells_after (Ticks now _) host.is tt is
-    call_tells (calls.Hear v) = by (has_room_for v host) where
-      by : (b : Bool) → Tells (cond b (heard v host) host).is
-      by true = tells_after (Hears _ v _) host.is tt is
-      by false = is
-    call_tells (calls.SetDelay source micros) = tells_after (SetsDelay source micros) host.is tt is
-    call_tells (calls.Tune constants) = tells_after (SetsConstants constants) host.is tt is
-    call_tells (calls.Look page) = tells_after (Misses _ (wanted_of page host) _) host.is (wanted_lacking page) is
-    call_tells (calls.Session page) = tells_after (Reports _ page) host.is tt is
-    call_tells (calls.Ask name) = by (may_ask name host) refl where
-      by : (b : Bool) → may_ask name host ≡ b → Tells (cond b (doing (Misses (present host) (name ∷ []) (word_of host.random ∷ [])) 1 host) host).is
-      by true e = tells_after (Misses (present host) (name ∷ []) (word_of host.random ∷ [])) host.is (asked_lacking name e) is
-      by false e = is
-    call_tells (calls.Stop name) = tells_after (GivesUp (present host) name) host.is tt is
-
-    deed_tells : (deed : Deed) → Tells (after_deed deed host).is
-    deed_tells (deeds.Takes d) = accepts d
-    deed_tells (deeds.Speaks (Draw d)) = accepts d
-    deed_tells (deeds.Speaks v) = is
-    deed_tells (deeds.Calls call) = call_tells call
-    deed_tells (deeds.Opens constants cells seed) = record { requests = λ n h. refl; answers = λ n h. absurd (true≢false (sym h)) }
-
-host_tells : (numbers : ℕ → ℕ) (steps : List Step) (i : ℕ) → Tells (host_at numbers steps i).is
-host_tells numbers [] i = record { requests = λ n h. refl; answers = λ n h. absurd (true≢false (sym h)) }
-host_tells numbers (e ∷ older) i = by (host_tells numbers older i) (nat_eq e.place i) where
-  by : Tells (host_at numbers older i).is → (b : Bool) → Tells (cond b (after_deed e.deed (host_at numbers older i)) (host_at numbers older i)).is
-  by rest true = deed_tells (host_at numbers older i) rest e.deed
-  by rest false = rest
+  host_keeps : ((constants : Tuning) (number cells seed : ℕ) → P (opened_with constants number cells seed).is) → (numbers : ℕ → ℕ) (steps : List Step) (i : ℕ) → P (host_at numbers steps i).is
+  host_keeps opens numbers [] i = opens _ (numbers i) 0 0
+  host_keeps opens numbers (e ∷ older) i = by (host_keeps opens numbers older i) (nat_eq e.place i) e.deed where
+    by : P (host_at numbers older i).is → (b : Bool) (deed : Deed) → P (cond b (after_deed deed (host_at numbers older i)) (host_at numbers older i)).is
+    by is true (Does line) = line_keeps line (host_at numbers older i) is
+    by is true (Opens constants cells seed) = opens constants (host_at numbers older i).is.number cells seed
+    by is false deed = is
 
 pub none_held_is_asked_for : NoneHeldIsAskedFor
-none_held_is_asked_for numbers steps i n h = (host_tells numbers steps i).requests n h
+none_held_is_asked_for numbers steps i n h = host_keeps HeldNone none_after (λ constants number cells seed n h. refl) numbers steps i n h
 
 pub answers_are_of_held : AnswersAreOfHeld
-answers_are_of_held numbers steps i n h = (host_tells numbers steps i).answers n h
+answers_are_of_held numbers steps i n h = host_keeps AnswerHeld (λ act m careful is. answer_after act m is) (λ constants number cells seed n h. absurd (true≢false (sym h))) numbers steps i n h

@@ -6,9 +6,10 @@ pub mod Sharing
 pub mod Deeds
 pub mod Drawn
 pub mod Sending
-pub mod Lines
 pub mod Several
 pub mod Acts
+pub mod CallActs
+pub mod Sent
 pub mod Holding
 pub mod Agreeing
 pub mod Honest

@@ -7,28 +7,25 @@ use Rattle.wb_names.specs.Values.{DrawopValue, NameValue}
 use Rattle.wb_names.proofs.Listings.{Contains-cases, Contains-here, Contains-none, Contains-there}
 use Rattle.wb_codec.specs.declared.datagram.Datagram.{Datagram}
 use Rattle.wb_codec.specs.declared.datagram.Datagram.TheVariants.{Draw}
-use Rattle.wb_member.specs.Lines.{Line, after_line, after_lines, said_where, sent_by_line, sent_by_lines}
+use Rattle.wb_member.specs.Lines.{Line, after_line, after_lines, said_where, sent_by_line, sent_by_lines, Arrives, Says}
 use Rattle.wb_member.specs.Opened.{Opened, becomes}
 use Rattle.wb_laws_sessions.specs.Drawn.{AreHonest, IsAbove, WasHeld, drawn_at, drawn_by, new_where}
-use Rattle.wb_laws_sessions.specs.Sessions.{AreApart, Deed, Speaks, Step, Takes, after_deed, after_deeds, deed_of, host_at, sent, sent_by_deed, sent_by_deeds, steps_then}
+use Rattle.wb_laws_sessions.specs.Sessions.{AreApart, Deed, Does, Step, after_deed, after_deeds, host_at, sent, sent_by_deed, sent_by_deeds, steps_then}
 use Rattle.wb_laws_sessions.proofs.Deeds.{deed_draws, number_after}
 use Rattle.wb_laws_sessions.proofs.Drawn.{drawn_cases, names_mean_one, once_held_was_drawn}
-use Rattle.wb_laws_sessions.proofs.Lines.{after_deed_of, sent_by_deed_of}
 use Rattle.wb_laws_sessions.proofs.Outcomes.{Found, found}
 use Rattle.wb_laws_sessions.proofs.Sending.{there}
 
 -- ---- lines as deeds
 
-pub after_performed : (lines : List Line) (host : Opened) → after_deeds (map deed_of lines) host ≡ after_lines lines host
+pub after_performed : (lines : List Line) (host : Opened) → after_deeds (map Does lines) host ≡ after_lines lines host
 after_performed [] host = refl
-after_performed (line ∷ lines) host = ap (after_deeds (map deed_of lines)) (after_deed_of line host) ∙ after_performed lines (after_line line host)
+after_performed (line ∷ lines) host = after_performed lines (after_line line host)
 
-pub sent_performed : (lines : List Line) (host : Opened) → sent_by_deeds (map deed_of lines) host ≡ sent_by_lines lines host
+pub sent_performed : (lines : List Line) (host : Opened) → sent_by_deeds (map Does lines) host ≡ sent_by_lines lines host
 sent_performed [] host = refl
 sent_performed (line ∷ lines) host =
-    ap (λ (one : List Datagram). one ++ sent_by_deeds (map deed_of lines) (after_deed (deed_of line) host)) (sent_by_deed_of line host)
-    ∙ ap (λ (then : Opened). sent_by_line line host ++ sent_by_deeds (map deed_of lines) then) (after_deed_of line host)
-    ∙ ap (λ (more : List Datagram). sent_by_line line host ++ more) (sent_performed lines (after_line line host))
+    ap (λ (more : List Datagram). sent_by_line line host ++ more) (sent_performed lines (after_line line host))
 
 -- ---- the member there
 
@@ -102,7 +99,7 @@ module _ (numbers : ℕ → ℕ) (time place : ℕ) where
 
   pub record DrawnThen (deeds : List Deed) (older : List Step) (k : ℕ) (d : DrawopValue) : Type 0 where
     pub here : place ≡ k
-    pub said : Contains deeds (Speaks (Draw d))
+    pub said : Contains deeds (Does (Says (Draw d)))
     pub sent : Contains (sent_by_deeds deeds (host_at numbers older place)) (Draw d)
 
   -- it was drawn by one of the deeds, or before
@@ -113,7 +110,7 @@ module _ (numbers : ℕ → ℕ) (time place : ℕ) where
       ⊎_elim
       (λ (late : DrawnThen deeds (at deed ∷ older) k d). inl (record {
         here = late.here;
-        said = Contains-there deed (Speaks (Draw d)) deeds late.said;
+        said = Contains-there deed (Does (Says (Draw d))) deeds late.said;
         sent = Contains-append_right (sent_by_deed deed host) (sent_by_deeds deeds (after_deed deed host)) (Draw d) (subst (λ (h : Opened). Contains (sent_by_deeds deeds h) (Draw d)) (there numbers (at deed) older) late.sent);
       }))
       (λ (before : Contains (drawn_at numbers (at deed ∷ older) k) d). ⊎_elim
@@ -179,9 +176,9 @@ module _ (numbers : ℕ → ℕ) (time place : ℕ) where
         (once_held_was_drawn numbers p.part before clash.0 (record { newer = p.front; older = older; split = p.split; place = place; held = clash.1 }))
         (once_held_was_drawn numbers p.part before d was) clash.2)
 
-    pub arrival_never_clashes : (d : DrawopValue) (k : ℕ) → Contains deeds (Takes d) → becomes d host ≡ Clash k → ⊥
-    arrival_never_clashes d k c e = let p = part_of (Takes d) deeds older c in
-        held_none d (Takes d) p ((p.honest honest).0.comes d refl) (clash_of d k e)
+    pub arrival_never_clashes : (d : DrawopValue) (k : ℕ) → Contains deeds (Does (Arrives d)) → becomes d host ≡ Clash k → ⊥
+    arrival_never_clashes d k c e = let p = part_of (Does (Arrives d)) deeds older c in
+        held_none d (Does (Arrives d)) p ((p.honest honest).0.comes d refl) (clash_of d k e)
 
     -- a number above all that it drew is none that was drawn
     above_none : (d : DrawopValue) (part front : List Step) → part ≡ front ++ older → AreHonest numbers part → d.name.source ≡ numbers place → IsAbove (drawn_at numbers part place) d.name → Clashes d → ⊥
@@ -193,9 +190,9 @@ module _ (numbers : ℕ → ℕ) (time place : ℕ) where
         let eq : x.name.seq ≡ d.name.seq = ap (λ (n : NameValue). n.seq) clash.2 in
         omega (arith, lt, eq)
 
-    pub drawing_never_clashes : (d : DrawopValue) (k : ℕ) → Contains deeds (Speaks (Draw d)) → becomes d host ≡ Clash k → ⊥
+    pub drawing_never_clashes : (d : DrawopValue) (k : ℕ) → Contains deeds (Does (Says (Draw d))) → becomes d host ≡ Clash k → ⊥
     drawing_never_clashes d k c e =
-        let says : Deed = Speaks (Draw d) in
+        let says : Deed = Does (Says (Draw d)) in
         let p = part_of says deeds older c in
         let is = p.honest honest in
         ⊎_elim

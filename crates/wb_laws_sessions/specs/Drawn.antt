@@ -6,8 +6,9 @@ use Rattle.wb_names.specs.Values.{DrawopValue, NameValue}
 use Rattle.wb_codec.specs.declared.datagram.Datagram.TheVariants.{Draw}
 use Rattle.wb_board.specs.Counts.{MAX_CELLS}
 use Rattle.wb_recovery.specs.declared.tuning.Tuning.{Tuning}
+use Rattle.wb_member.specs.Lines.{Arrives, Says}
 use Rattle.wb_member.specs.Opened.{Opened, becomes}
-use Rattle.wb_laws_sessions.specs.Sessions.{AreApart, Calls, Deed, Opens, Speaks, Step, Takes, host_at, sent}
+use Rattle.wb_laws_sessions.specs.Sessions.{AreApart, Deed, Does, Opens, Step, host_at, sent}
 
 -- a drawop that a member says is drawn if its board takes it anew
 abbrev pub new_where : DrawopValue → Outcome → List DrawopValue
@@ -18,11 +19,8 @@ new_where d Left = []
 
 -- what a member draws by a deed
 abbrev pub drawn_by : Deed → Opened → List DrawopValue
-drawn_by (Takes d) host = []
-drawn_by (Speaks (Draw d)) host = new_where d (becomes d host)
-drawn_by (Speaks v) host = []
-drawn_by (Calls call) host = []
-drawn_by (Opens constants cells seed) host = []
+drawn_by (Does (Says (Draw d))) host = new_where d (becomes d host)
+drawn_by deed host = []
 
 -- all that the member at a place drew, by all runs of its program, the newest first
 abbrev pub drawn_at : (ℕ → ℕ) → List Step → ℕ → List DrawopValue
@@ -49,10 +47,10 @@ IsAbove drawn n = (x : DrawopValue) → Contains drawn x → x.name.page ≡ n.p
 pub record IsHonestStep (numbers : ℕ → ℕ) (older : List Step) (e : Step) : Type 0 where
   pub small : (constants : Tuning) (cells seed : ℕ) → e.deed ≡ Opens constants cells seed
       → cells ≤ MAX_CELLS
-  pub comes : (d : DrawopValue) → e.deed ≡ Takes d → WasHeld numbers older d
-  pub own : (d : DrawopValue) → e.deed ≡ Speaks (Draw d)
+  pub comes : (d : DrawopValue) → e.deed ≡ Does (Arrives d) → WasHeld numbers older d
+  pub own : (d : DrawopValue) → e.deed ≡ Does (Says (Draw d))
       → (d.name.source ≡ numbers e.place) × (1 ≤ d.name.seq)
-  pub new : (d : DrawopValue) → e.deed ≡ Speaks (Draw d)
+  pub new : (d : DrawopValue) → e.deed ≡ Does (Says (Draw d))
       → Contains (host_at numbers older e.place).is.held d
       ⊎ IsAbove (drawn_at numbers older e.place) d.name
 
@@ -103,5 +101,5 @@ SentWasHeld = (numbers : ℕ → ℕ) (steps : List Step) (d : DrawopValue)
 -- What comes clashes with nothing that is held.
 abbrev pub NoneClashes : Type 0
 NoneClashes = (numbers : ℕ → ℕ) (older : List Step) (e : Step) (d : DrawopValue) (place : ℕ)
-    → AreApart numbers → AreHonest numbers (e ∷ older) → e.deed ≡ Takes d
+    → AreApart numbers → AreHonest numbers (e ∷ older) → e.deed ≡ Does (Arrives d)
     → becomes d (host_at numbers older e.place) ≡ Clash place → ⊥

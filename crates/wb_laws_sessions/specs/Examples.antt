@@ -9,10 +9,11 @@ use Rattle.wb_names.specs.declared.parts.Op.{Op}
 use Rattle.wb_names.specs.declared.parts.Op.TheVariants.{Aimed}
 use Rattle.wb_codec.specs.declared.datagram.Datagram.{Datagram}
 use Rattle.wb_codec.specs.declared.datagram.Datagram.TheVariants.{Draw, Session, Request}
+use Rattle.wb_member.specs.Lines.{Arrives, Calls, Says}
 use Rattle.wb_member.specs.Opened.{becomes, gaps_at}
 use Rattle.wb_member.specs.declared.calls.Call.TheVariants as calls
 use Rattle.wb_laws_sessions.specs.Drawn.{AreHonest}
-use Rattle.wb_laws_sessions.specs.Sessions.{AreApart, Calls, Deed, Opens, Speaks, Step, Takes, host_at, sent}
+use Rattle.wb_laws_sessions.specs.Sessions.{AreApart, Deed, Does, Opens, Step, host_at, sent}
 
 abbrev pub page : PageId
 page = record { creator = 10; number = 1 }
@@ -36,8 +37,8 @@ opens seed = Opens (record { c1 = 2; c2 = 2; d1 = 1; d2 = 1 }) 4 seed
 -- each opens, and 10 draws, which comes to 11, and is lost on the way to 12
 abbrev pub lossy : List Step
 lossy =
-    at 4 1 (Takes drawing)
-    ∷ at 3 0 (Speaks (Draw drawing))
+    at 4 1 (Does (Arrives drawing))
+    ∷ at 3 0 (Does (Says (Draw drawing)))
     ∷ at 2 2 (opens 3)
     ∷ at 1 1 (opens 2)
     ∷ at 0 0 (opens 1)
@@ -53,9 +54,9 @@ request = Request 12 drawing.name
 -- 10 sends its session message, and 12 hears it
 abbrev pub told : List Step
 told =
-    at 7 2 (Calls (calls.Hear report))
-    ∷ at 6 0 (Calls (calls.Session page))
-    ∷ at 5 0 (Calls (calls.Tick 1000))
+    at 7 2 (Does (Calls (calls.Hear report)))
+    ∷ at 6 0 (Does (Calls (calls.Session page)))
+    ∷ at 5 0 (Does (Calls (calls.Tick 1000)))
     ∷ lossy
 
 -- 12 asks for the drawop when its request timer is due; 11 hears that, and sends the drawop again
@@ -63,11 +64,11 @@ told =
 abbrev pub repaired : List Step
 repaired =
     at 13 0 (opens 4)
-    ∷ at 12 2 (Takes drawing)
-    ∷ at 11 1 (Calls (calls.Tick 2000000))
-    ∷ at 10 1 (Calls (calls.Hear request))
-    ∷ at 9 2 (Calls (calls.Tick 1000000))
-    ∷ at 8 2 (Calls (calls.Ask drawing.name))
+    ∷ at 12 2 (Does (Arrives drawing))
+    ∷ at 11 1 (Does (Calls (calls.Tick 2000000)))
+    ∷ at 10 1 (Does (Calls (calls.Hear request)))
+    ∷ at 9 2 (Does (Calls (calls.Tick 1000000)))
+    ∷ at 8 2 (Does (Calls (calls.Ask drawing.name)))
     ∷ told
 
 -- Such is the gap of 12 after the report, and this is all that is sent, the newest first. At the
@@ -90,7 +91,7 @@ again = record { name = name_of page 10 1; time = 6; op = deletes }
 
 abbrev pub forgotten : List Step
 forgotten =
-    at 6 0 (Speaks (Draw again))
+    at 6 0 (Does (Says (Draw again)))
     ∷ at 5 0 (opens 4)
     ∷ lossy
 

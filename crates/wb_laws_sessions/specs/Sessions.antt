@@ -4,21 +4,15 @@
 -- If a program ended before it sent, recorded or showed anything of its last deeds, these may be
 -- left out of the list: when it starts again, only its number is left of it.
 use Rattle.std.specs.Prelude.{◌≡◌, ℕ, List, [], ◌∷◌, ◌++◌, nat_eq, if◌then◌else◌}
-use Rattle.wb_names.specs.Values.{DrawopValue}
 use Rattle.wb_codec.specs.declared.datagram.Datagram.{Datagram}
 use Rattle.wb_recovery.specs.declared.tuning.Tuning.{Tuning}
-use Rattle.wb_member.specs.Calls.{after_call, sent_by_call}
-use Rattle.wb_member.specs.Lines.{Line, Ticks, Arrives, Hears, Asks, Stops, SetsDistance, Tunes, Says, after_saying, said}
-use Rattle.wb_member.specs.Opened.{Opened, accepted, opened_with}
-use Rattle.wb_member.specs.declared.calls.Call.{Call}
-use Rattle.wb_member.specs.declared.calls.Call.TheVariants.{Tick, Hear, SetDelay, Tune, Ask, Stop}
+use Rattle.wb_member.specs.Lines.{Line, after_line, sent_by_line}
+use Rattle.wb_member.specs.Opened.{Opened, opened_with}
 
--- What a member does: it takes a drawop that comes, sends a datagram of its own, or is called, or
--- its program starts, with an empty board of `cells` cells.
+-- What a member does: it performs a line (a drawop comes to it, it says a datagram of its own, or it
+-- is called), or its program starts, with an empty board of `cells` cells.
 pub data Deed : Type 0 where
-  Takes : (d : DrawopValue) → Deed
-  Speaks : (v : Datagram) → Deed
-  Calls : (call : Call) → Deed
+  Does : (line : Line) → Deed
   Opens : (constants : Tuning) (cells seed : ℕ) → Deed
 
 pub record Step : Type 0 where
@@ -32,28 +26,13 @@ unopened number = opened_with (record { c1 = 2; c2 = 2; d1 = 1; d2 = 1 }) number
 
 -- what a member is after a deed
 abbrev pub after_deed : Deed → Opened → Opened
-after_deed (Takes d) host = accepted d host
-after_deed (Speaks v) host = after_saying v host
-after_deed (Calls call) host = after_call call host
+after_deed (Does line) host = after_line line host
 after_deed (Opens constants cells seed) host = opened_with constants host.is.number cells seed
 
 -- and what it sends by it
 abbrev pub sent_by_deed : Deed → Opened → List Datagram
-sent_by_deed (Takes d) host = []
-sent_by_deed (Speaks v) host = said v host
-sent_by_deed (Calls call) host = sent_by_call call host
+sent_by_deed (Does line) host = sent_by_line line host
 sent_by_deed (Opens constants cells seed) host = []
-
--- what a member does by a line of a policy
-abbrev pub deed_of : Line → Deed
-deed_of (Ticks now) = Calls (Tick now)
-deed_of (Arrives d) = Takes d
-deed_of (Hears v) = Calls (Hear v)
-deed_of (Asks name) = Calls (Ask name)
-deed_of (Stops name) = Calls (Stop name)
-deed_of (SetsDistance source micros) = Calls (SetDelay source micros)
-deed_of (Tunes constants) = Calls (Tune constants)
-deed_of (Says v) = Speaks v
 
 -- the member at a place after some steps; `numbers` has the number of each place, for ever
 abbrev pub host_at : (ℕ → ℕ) → List Step → ℕ → Opened

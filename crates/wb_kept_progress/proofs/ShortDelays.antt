@@ -1,46 +1,46 @@
--- A self-managing host goes by no distance above a second, whatever echoes tell.
+-- A self-managing host goes by no delay above a second, whatever echoes tell.
 use Rattle.std.proofs.Common.{◌≡◌, ℕ, ◌+◌, ◌≤◌, Bool, true, false, cond, List, [], ◌∷◌, ◌++◌, None, arith, eqb-true, refl, subst, sym, true≢false}
 use Rattle.std.specs.Prelude.{max, min, nat_eq}
 use Rattle.wb_member.specs.Judged.{delay}
 use Rattle.wb_member.specs.Opened.{Opened, opened_with}
-use Rattle.wb_recovery.specs.declared.limits.TheConstants.{UNKNOWN_DISTANCE}
-use Rattle.wb_policy.specs.declared.limits.TheConstants.{MOST_DISTANCE}
-use Rattle.wb_policy.specs.Distances.{bounded, known}
+use Rattle.wb_recovery.specs.declared.limits.TheConstants.{UNKNOWN_DELAY}
+use Rattle.wb_policy.specs.declared.limits.TheConstants.{MOST_DELAY}
+use Rattle.wb_policy.specs.Delays.{bounded, known}
 use Rattle.wb_keeping.specs.Kept.{Line}
 use Rattle.wb_keeping.specs.Laws.{KeptLine, doing_of, fault_of}
 use Rattle.wb_keeping.specs.Performing.{Keeping, after_doing, after_line, after_lines, sees}
 use Rattle.wb_keeping.proofs.EachStep.{line_of_parts}
-use Rattle.wb_keeping.proofs.KeptDistances.{IsReady, Keeps, Terms, parts_keep, ticks_so}
+use Rattle.wb_keeping.proofs.KeptDelays.{IsReady, Keeps, Terms, parts_keep, ticks_so}
 use Rattle.wb_keeping.proofs.SpacedLines.{AreAll}
 use Rattle.wb_kept_progress.specs.Sessions.{AreTaken, LineAt, Opening, kept_at, opened}
-use Rattle.wb_kept_progress.specs.Timed.{KeptGoByShort, TimedLine, goes_by_distances, host_after, lines_of, start_of}
+use Rattle.wb_kept_progress.specs.Timed.{KeptGoByShort, TimedLine, goes_by_delays, host_after, lines_of, start_of}
 use Rattle.wb_kept_progress.specs.Whole.{there}
 use Rattle.wb_kept_progress.proofs.CallLines.{host_before, lines_have_calls}
 
 -- ---- what is so of each line
 
 abbrev IsShort : ℕ → Type 0
-IsShort micros = micros ≤ MOST_DISTANCE
+IsShort micros = micros ≤ MOST_DELAY
 
 abbrev pub IsNear : Opened → Type 0
-IsNear host = (source : ℕ) → delay host source ≤ MOST_DISTANCE
+IsNear host = (source : ℕ) → delay host source ≤ MOST_DELAY
 
--- a line that goes by distances finds none that is greater
+-- a line that goes by delays finds none that is greater
 abbrev GoesNear : Line → Opened → Type 0
-GoesNear line host = goes_by_distances line ≡ true → IsNear host
+GoesNear line host = goes_by_delays line ≡ true → IsNear host
 
 abbrev pub GoNear : List Line → Opened → Type 0
 GoNear = AreAll GoesNear
 
-near_at : (one other : List Line) (line : Line) (host : Opened) → GoNear (one ++ line ∷ other) host → goes_by_distances line ≡ true → IsNear (after_lines one host)
+near_at : (one other : List Line) (line : Line) (host : Opened) → GoNear (one ++ line ∷ other) host → goes_by_delays line ≡ true → IsNear (after_lines one host)
 near_at [] other line host near goes = near.0 goes
 near_at (first ∷ one) other line host near goes = near_at one other line (after_line first host) near.1 goes
 
-bounded_short : (micros : ℕ) → bounded micros ≤ MOST_DISTANCE
+bounded_short : (micros : ℕ) → bounded micros ≤ MOST_DELAY
 bounded_short micros = by (min (max micros 10000) 1000000) (omega arith) where
-  by : (m : ℕ) → m ≤ 1000000 → known m ≤ MOST_DISTANCE
-  by m le = either (nat_eq m UNKNOWN_DISTANCE) where
-    either : (b : Bool) → cond b (UNKNOWN_DISTANCE + 1) m ≤ MOST_DISTANCE
+  by : (m : ℕ) → m ≤ 1000000 → known m ≤ MOST_DELAY
+  by m le = either (nat_eq m UNKNOWN_DELAY) where
+    either : (b : Bool) → cond b (UNKNOWN_DELAY + 1) m ≤ MOST_DELAY
     either true = omega arith
     either false = le
 
@@ -70,7 +70,7 @@ call_near line k none ready = (line_of_parts (Keeps IsShort GoesNear) (parts_kee
 
 module _ (hosts : ℕ → Opening) where
   first_ready : (i : ℕ) → IsReady IsShort (opened (hosts i))
-  first_ready i = record { distances = ticks_so IsShort (hosts i).moments (opened_with (hosts i).constants (hosts i).number (hosts i).cells (hosts i).seed) (λ source. omega arith); usual = omega arith }
+  first_ready i = record { delays = ticks_so IsShort (hosts i).moments (opened_with (hosts i).constants (hosts i).number (hosts i).cells (hosts i).seed) (λ source. omega arith); usual = omega arith }
 
   are_ready : (lines : List LineAt) → AreTaken hosts lines → (i : ℕ) → IsReady IsShort (kept_at hosts lines i)
   are_ready [] taken i = first_ready i
@@ -90,5 +90,5 @@ kept_go_by_short hosts terms trace taken far newer older x source split live goe
     let here = taken_in hosts c.newer c.older c.e (subst (λ (t : List TimedLine). AreTaken hosts (lines_of t)) c.split taken) in
     let call = call_near c.e.at.line k here.0 (are_ready hosts (lines_of c.older) here.1 c.e.at.place) in
     let near = near_at c.before c.later x.line k.host (subst (λ (lines : List Line). GoNear lines k.host) c.lines call.0) goes in
-    let short : delay (host_after (λ j. start_of (hosts j)) older x.place) source ≤ MOST_DISTANCE = subst IsNear (sym (host_before hosts trace x older c)) near source in
+    let short : delay (host_after (λ j. start_of (hosts j)) older x.place) source ≤ MOST_DELAY = subst IsNear (sym (host_before hosts trace x older c)) near source in
     omega (arith, short, far)
