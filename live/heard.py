@@ -1,4 +1,4 @@
-"""Who is heard, as the host tells it by `members`, and how far away each is. docs/HOST-LINES.md has the line."""
+"""Who is heard, as the host tells it by `members`, and the delay to each. docs/HOST-LINES.md has the line."""
 from __future__ import annotations
 
 from dataclasses import dataclass
@@ -18,12 +18,12 @@ PAUSE = 100
 
 @dataclass
 class Other:
-    """A number that was heard: from where, in the word of a host's lines, when last, when it last answered us, and how far away it is by that."""
+    """A number that was heard: from where, in the word of a host's lines, when last, when it last answered us, and the delay to it by that."""
 
     origin: str
     at: int
     answered: Optional[int] = None
-    distance: Optional[int] = None
+    delay: Optional[int] = None
 
 
 class Heard:
@@ -33,7 +33,7 @@ class Heard:
         self.board = board
         self.others: Dict[int, Other] = {}
         self.members: Set[str] = set()  # from where members speak
-        self.echoes: Dict[int, Tuple[int, int]] = {}  # when a report came that echoed us, and how far away its speaker is by that
+        self.echoes: Dict[int, Tuple[int, int]] = {}  # when a report came that echoed us, and the delay to its speaker by that
         self.is_old = False
         self.next_at = 0
 
@@ -77,17 +77,17 @@ class Heard:
         for line in self.board.tell("members").lines[1:]:
             _, number, origin, answered, at = line.split(" ")
             other = Other(origin, int(at), None if answered == "-" else int(answered))
-            other.distance = self.distance(int(number), other, before.get(int(number)))
+            other.delay = self.delay(int(number), other, before.get(int(number)))
             self.others[int(number)] = other
         self.members = {other.origin for other in self.others.values() if other.answered is not None}
         self.echoes.clear()
         self.is_old = False
 
-    def distance(self, number: int, other: Other, before: Optional[Other]) -> Optional[int]:
+    def delay(self, number: int, other: Other, before: Optional[Other]) -> Optional[int]:
         """By the report that answered us, or else as it was."""
         if other.answered is None:
             return None
-        came, distance = self.echoes.get(number, (-1, 0))
+        came, delay = self.echoes.get(number, (-1, 0))
         if came == other.answered:
-            return distance
-        return before.distance if before is not None and before.origin == other.origin else None
+            return delay
+        return before.delay if before is not None and before.origin == other.origin else None

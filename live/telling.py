@@ -227,7 +227,7 @@ class Telling:
             return each[1].answered is None, each[0]
 
         told: List[Dict[str, Any]] = [{
-            "member": number, "distance": None if other.distance is None else other.distance / 1000,
+            "member": number, "delay": None if other.delay is None else other.delay / 1000,
             "heard": round((now - other.at) / SECOND, 1),
         } for number, other in sorted(self.member.judging.present().items(), key=rank)[:MOST_MEMBERS]]
         self.events.tell("members", {"me": self.member.me, "members": sorted(told, key=lambda each: int(each["member"]))})

@@ -156,7 +156,7 @@ class Terminal:
             return "refused: %s" % (str(fault) or "busy")
 
     def who(self) -> str:
-        told = ["%d%s" % (m["member"], "" if m["distance"] is None else " (%.1f ms)" % m["distance"]) for m in self.state["members"]["members"]]
+        told = ["%d%s" % (m["member"], "" if m["delay"] is None else " (%.1f ms)" % m["delay"]) for m in self.state["members"]["members"]]
         return ", ".join(told) or "nobody else is heard"
 
     def turn_wire(self) -> str:

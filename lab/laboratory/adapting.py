@@ -29,10 +29,10 @@ class Policy:
     def now(self, moment: int) -> Constants:
         return self.constants
 
-    def begins_to_ask(self, name: Name, moment: int, distance: int) -> None:
+    def begins_to_ask(self, name: Name, moment: int, delay: int) -> None:
         """A request timer is about to be set."""
 
-    def begins_to_answer(self, name: Name, moment: int, distance: int) -> None:
+    def begins_to_answer(self, name: Name, moment: int, delay: int) -> None:
         """An answer timer is about to be set."""
 
     def sees_request(self, name: Name, moment: int, is_own: bool) -> None:
@@ -64,7 +64,7 @@ class Round:
 
     name: Name
     set_at: int
-    distance: int
+    delay: int
     seen: int = 0
     first: int | None = None
 
@@ -83,14 +83,14 @@ class Adjusted:
     wait: int = 0
     round: Round | None = None
 
-    def begins(self, name: Name, moment: int, distance: int) -> None:
+    def begins(self, name: Name, moment: int, delay: int) -> None:
         """Before a timer is set, the last round goes into the averages, a quarter of each, and these into the constants."""
         last = self.round
         if last is not None and last.seen and last.first is not None:
             self.duplicates += ((last.seen - 1) * FINE - self.duplicates) // 4
-            self.wait += ((last.first - last.set_at) * FINE // max(1, 2 * last.distance) - self.wait) // 4
+            self.wait += ((last.first - last.set_at) * FINE // max(1, 2 * last.delay) - self.wait) // 4
             self.adjust()
-        self.round = Round(name, moment, distance)
+        self.round = Round(name, moment, delay)
 
     def adjust(self) -> None:
         if self.duplicates >= HIGH:
@@ -120,11 +120,11 @@ class Adapting(Policy):
     def now(self, moment: int) -> Constants:
         return (*self.asking.whole(), *self.answering.whole())
 
-    def begins_to_ask(self, name: Name, moment: int, distance: int) -> None:
-        self.asking.begins(name, moment, distance)
+    def begins_to_ask(self, name: Name, moment: int, delay: int) -> None:
+        self.asking.begins(name, moment, delay)
 
-    def begins_to_answer(self, name: Name, moment: int, distance: int) -> None:
-        self.answering.begins(name, moment, distance)
+    def begins_to_answer(self, name: Name, moment: int, delay: int) -> None:
+        self.answering.begins(name, moment, delay)
 
     def sees_request(self, name: Name, moment: int, is_own: bool) -> None:
         """Who asks first comes to ask sooner, so that the same members go on to ask."""

@@ -10,17 +10,17 @@ from dataclasses import dataclass, field
 from laboratory.adapting import Constants, Policy
 from laboratory.reading import Datagram, Name, Read
 
-QUIET = 3  # distances for which a name is quiet behind its repair
-OWN_DISTANCE = 100_000  # a host takes this for a source of which nothing was told, itself too
+QUIET = 3  # delays for which a name is quiet behind its repair
+UNKNOWN_DELAY = 100_000  # a host takes this for a source of which nothing was told, itself too
 
 
 @dataclass
 class Tuner:
-    """The driver of a host that has these constants. `far` gives the distance to another member, in microseconds, and `read` turns what the
+    """The driver of a host that has these constants. `far` gives the delay to another member, in microseconds, and `read` turns what the
     host sends into datagrams.
 
     A member begins to ask when it learns that it lacks a name. It begins to answer at a request for a name that it holds, unless it is to
-    answer one already, or a repair of it came or went within three distances.
+    answer one already, or a repair of it came or went within three delays.
     """
 
     policy: Policy
@@ -29,7 +29,7 @@ class Tuner:
     read: Read
     held: set[Name] = field(default_factory=set)
     asked: set[Name] = field(default_factory=set)
-    answering: dict[Name, int] = field(default_factory=dict)  # the distance to whoever asked first
+    answering: dict[Name, int] = field(default_factory=dict)  # the delay to whoever asked first
     quiet: dict[Name, int] = field(default_factory=dict)
 
     def lines(self, moment: int) -> list[str]:
@@ -77,8 +77,8 @@ class Tuner:
             if datagram.name and datagram.kind == "request":
                 self.policy.sees_request(datagram.name, moment, True)
             elif datagram.name and datagram.name in self.held:
-                distance = self.answering.pop(datagram.name, 0) or self.far(datagram.name[0])
-                self.quiet[datagram.name] = moment + QUIET * distance
+                delay = self.answering.pop(datagram.name, 0) or self.far(datagram.name[0])
+                self.quiet[datagram.name] = moment + QUIET * delay
                 self.policy.sees_repair(datagram.name, moment, True)
             elif datagram.name:
                 self.held.add(datagram.name)

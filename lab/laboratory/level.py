@@ -1,7 +1,7 @@
 """A group at one distance, a loss at a time: by the timers of a session, and without its network, so that many constants can be tried.
 
-A loss is on the source's link, so that all others lack the drawop, or on a member's. A distance counts as hosts count it that keep
-themselves: not below 10 milliseconds.
+A loss is on the source's link, so that all others lack the drawop, or on a member's. Members count a delay as
+self-managing hosts do: as 10 milliseconds at least.
 """
 from __future__ import annotations
 

@@ -12,7 +12,7 @@ from typing import Any
 
 from laboratory.adapting import Adapting, ByMembers, Constants, Policy
 from laboratory.clocks import Clock
-from laboratory.driving import OWN_DISTANCE, Tuner
+from laboratory.driving import UNKNOWN_DELAY, Tuner
 from laboratory.hosts import PATIENCE, BareMember, Fault, KeptMember, Member, allow_many, write_record
 from laboratory.losses import Both, Bursts, Cut, Loss, NoLoss, OnceEach, Same, Share, ShareIn
 from laboratory.measures import Book, Row, row_of, summary
@@ -26,7 +26,7 @@ from wbhost import Host
 
 SECOND = 1_000_000
 DEFAULT_TUNING = "2,2,1,1"
-KEPT_DISTANCES = 10_000, SECOND
+KEPT_DELAYS = 10_000, SECOND
 
 
 @dataclass(frozen=True)
@@ -175,14 +175,14 @@ def start_hosts(path: str, settings: Settings, network: Network, plan: Plan, rea
 
 
 def make_tuner(settings: Settings, network: Network, plan: Plan, read: Read, number: int) -> Tuner | None:
-    """The driver of a host whose constants follow the session. A self-managing host counts no distance as less than 10 ms or more than a
+    """The driver of a host whose constants follow the session. A self-managing host counts no delay as less than 10 ms or more than a
     second."""
     if settings.adapt == "fixed":
         return None
-    least, most = KEPT_DISTANCES if settings.judge == "keep" else (0, SECOND)
+    least, most = KEPT_DELAYS if settings.judge == "keep" else (0, SECOND)
 
     def far(other: int) -> int:
-        return OWN_DISTANCE if other == number else min(most, max(least, network.distance(number, other)))
+        return UNKNOWN_DELAY if other == number else min(most, max(least, network.distance(number, other)))
 
     return Tuner(make_policy(settings, present_in(settings, plan)), constants_in(settings.tuning), far, read)
 

@@ -24,7 +24,7 @@ from laboratory.reading import Datagram, Name, Read
 WIDTH, HEIGHT = 100, 50
 GLYPHS = "*#+o@x%&$=~^"
 LOOKS = 64  # as many request timers a look lets stand, so whoever lacks more looks again
-LONGEST_WINDOW = 100_000  # microseconds: hosts take this as the distance to a source of which nothing was told
+LONGEST_WINDOW = 100_000  # microseconds: hosts take this as the delay to a source of which nothing was told
 
 Times = tuple[tuple[int, int], ...]
 

@@ -9,7 +9,7 @@ from collections.abc import Callable, Sequence
 from dataclasses import dataclass, field
 
 from laboratory.adapting import Policy
-from laboratory.driving import OWN_DISTANCE, QUIET
+from laboratory.driving import QUIET, UNKNOWN_DELAY
 from laboratory.hosts import Arrival, Drawing, Happening, Sent
 from laboratory.reading import Datagram, Name
 
@@ -41,12 +41,12 @@ class Ask:
     level: int
     due: int
     deaf: int
-    distance: int
+    delay: int
 
 
 @dataclass
 class TimerMember:
-    """A member with its timers. `far` gives the distance to another member."""
+    """A member with its timers. `far` gives the delay to another member."""
 
     number: int
     words: Words
@@ -56,7 +56,7 @@ class TimerMember:
     last_new: int = 0
     held: set[Name] = field(default_factory=set)
     asks: dict[Name, Ask] = field(default_factory=dict)
-    answers: dict[Name, tuple[int, int]] = field(default_factory=dict)  # when a repair is due, and the distance to the asker
+    answers: dict[Name, tuple[int, int]] = field(default_factory=dict)  # when a repair is due, and the delay to the asker
     quiet: dict[Name, int] = field(default_factory=dict)
     sent: list[Sent] = field(default_factory=list)
     ticked: int = -1
@@ -85,8 +85,8 @@ class TimerMember:
     def close(self) -> None:
         """Nothing is left open."""
 
-    def distance(self, other: int) -> int:
-        return OWN_DISTANCE if other == self.number else self.far(self.number, other)
+    def delay(self, other: int) -> int:
+        return UNKNOWN_DELAY if other == self.number else self.far(self.number, other)
 
     def happens(self, moment: int, happening: Happening) -> None:
         match happening:
@@ -107,14 +107,14 @@ class TimerMember:
         author = name[0] if is_drawop else self.number
         self.sent.append((moment, Datagram(kind, author, name, (name,) if is_drawop else (), DRAWOP_SIZE if is_drawop else REQUEST_SIZE)))
 
-    def expiry(self, moment: int, level: int, lead: int, spread: int, distance: int) -> int:
-        """A moment drawn at random: behind a lead, within a spread, both in distances and doubled at each level."""
-        return moment + (lead * distance << level) + self.words.word() % ((spread * distance << level) + 1)
+    def expiry(self, moment: int, level: int, lead: int, spread: int, delay: int) -> int:
+        """A moment drawn at random: behind a lead, within a spread, both in delays and doubled at each level."""
+        return moment + (lead * delay << level) + self.words.word() % ((spread * delay << level) + 1)
 
     def back_off(self, moment: int, ask: Ask) -> None:
         lead, spread, _, _ = self.policy.now(moment)
         ask.level = min(ask.level + 1, MOST_LEVEL)
-        ask.due = self.expiry(moment, ask.level, lead, spread, ask.distance)
+        ask.due = self.expiry(moment, ask.level, lead, spread, ask.delay)
         ask.deaf = moment + (ask.due - moment) // 2
 
     def tick(self, moment: int) -> None:
@@ -126,8 +126,8 @@ class TimerMember:
             self.back_off(moment, self.asks[name])
         repaired = sorted(name for name, (due, _) in self.answers.items() if due <= moment)
         for name in repaired:
-            _, distance = self.answers.pop(name)
-            self.quiet[name] = moment + QUIET * distance
+            _, delay = self.answers.pop(name)
+            self.quiet[name] = moment + QUIET * delay
             self.send(moment, "drawop", name)
         self.sees_own(moment, asked, repaired)
 
@@ -141,10 +141,10 @@ class TimerMember:
         """A drawop is missed."""
         if name in self.held or name in self.asks:
             return
-        distance = self.distance(name[0])
-        self.policy.begins_to_ask(name, moment, distance)
+        delay = self.delay(name[0])
+        self.policy.begins_to_ask(name, moment, delay)
         lead, spread, _, _ = self.policy.now(moment)
-        self.asks[name] = Ask(0, self.expiry(moment, 0, lead, spread, distance), 0, distance)
+        self.asks[name] = Ask(0, self.expiry(moment, 0, lead, spread, delay), 0, delay)
 
     def hear(self, moment: int, asker: int, name: Name) -> None:
         """Another member asks."""
@@ -152,7 +152,7 @@ class TimerMember:
             ask = self.asks.get(name)
             self.policy.sees_request(name, moment, False)
             if ask is not None and ask.deaf <= moment:
-                ask.distance = self.distance(name[0])
+                ask.delay = self.delay(name[0])
                 self.back_off(moment, ask)
             else:
                 self.words.word()  # a host draws one word for each request
@@ -160,10 +160,10 @@ class TimerMember:
         if name in self.answers or self.quiet.get(name, 0) > moment:
             self.words.word()
             return
-        distance = self.distance(asker)
-        self.policy.begins_to_answer(name, moment, distance)
+        delay = self.delay(asker)
+        self.policy.begins_to_answer(name, moment, delay)
         _, _, lead, spread = self.policy.now(moment)
-        self.answers[name] = self.expiry(moment, 0, lead, spread, distance), distance
+        self.answers[name] = self.expiry(moment, 0, lead, spread, delay), delay
 
     def arrives(self, moment: int, name: Name) -> None:
         """A drawop comes: its timers end, and it is quiet where one stood."""
@@ -173,4 +173,4 @@ class TimerMember:
             self.last_new = moment
         if self.asks.pop(name, None) or self.answers.pop(name, None):
             self.answers.pop(name, None)
-            self.quiet[name] = moment + QUIET * self.distance(name[0])
+            self.quiet[name] = moment + QUIET * self.delay(name[0])

@@ -33,10 +33,10 @@ export function showMembers({ session, painter, others, faces }) {
   };
   /** @param {Other} other */
   const row = (other) => {
-    const { member, distance, heard } = other, line = make('li'), words = make('div'), isMe = member === session.hello.me;
+    const { member, delay, heard } = other, line = make('li'), words = make('div'), isMe = member === session.hello.me;
     const seen = heard == null ? '' : ago(heard + (performance.now() - faces.heardAt) / 1000);
     words.append(make('b', session.nameOf(member)), make('small', whereOf(other, seen)));
-    line.title = `member ${member}${isMe || distance == null ? '' : `, ${distance < 10 ? distance.toFixed(1) : Math.round(distance)} ms away, heard ${seen}`}`;
+    line.title = `member ${member}${isMe || delay == null ? '' : `, ${delay < 10 ? delay.toFixed(1) : Math.round(delay)} ms away, heard ${seen}`}`;
     line.append(badge(painter, initialsOf(session.called.get(member), member), member), words, ...(isMe ? [] : [follower(member)]));
     return line;
   };

@@ -19,8 +19,8 @@
  * @typedef {{ page: string, names: [number, number][], added: [number, Drawing][], hidden: Drawing[], rows: Record<number, string>,
  *   height: number }} Change */
 /** @typedef {{ page: string, pages: { page: string, drawn: number }[] }} Pages */
-/** Another member: its distance in milliseconds, and how many seconds ago it was heard.
- * @typedef {{ member: number, distance?: number | null, heard?: number | null, page?: string | null }} Other */
+/** Another member: the delay to it in milliseconds, and how many seconds ago it was heard.
+ * @typedef {{ member: number, delay?: number | null, heard?: number | null, page?: string | null }} Other */
 /** @typedef {{ members: Other[] }} Members */
 /** @typedef {{ phrase: string, missing: number, warnings: string[], counts: Record<string, number> }} Health */
 /** A datagram that went by. `held` says whether the drawop that a request names was held when it came.

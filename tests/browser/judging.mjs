@@ -211,9 +211,9 @@ async function testRecord() {
 
 /** Who is heard the host says; how far away each is, its answer says. */
 async function testHeard() {
-  const member = memberOf(), { judging, host, board } = member, present = () => judging.present().map(([number, { distance }]) => [number, distance]), asked = () => host.told.filter((line) => line === 'members').length;
+  const member = memberOf(), { judging, host, board } = member, present = () => judging.present().map(([number, { delay }]) => [number, delay]), asked = () => host.told.filter((line) => line === 'members').length;
   await meet(member);
-  check('a member', judging.present(), [[9, { origin: wordOf(X), at: 25, answered: 25, distance: 5 }]]);
+  check('a member', judging.present(), [[9, { origin: wordOf(X), at: 25, answered: 25, delay: 5 }]]);
   await judging.heard.look();
   check('nothing came in since, so nobody is asked', [present(), asked()], [[[9, 5]], 1]);
   host.members(`9 ${wordOf(X)} 25 26`, `8 ${wordOf(Z)} - 26`);
@@ -223,7 +223,7 @@ async function testHeard() {
   check('of one that was heard the host is asked seldom', [present(), asked()], [[[9, 5]], 1]);
   member.at += 100;
   await judging.heard.look();
-  check('and then again: a stranger has no distance, and a member that of its answer', present(), [[9, 5], [8, null]]);
+  check('and then again: no delay to a stranger is known, and to a member that of its answer', present(), [[9, 5], [8, null]]);
   check('from where members speak', [X, Z].map((origin) => judging.heard.isMember(origin)), [true, false]);
   board.begunAt = member.at = SECOND;
   host.members(`7 ${wordOf(Z)} - ${SECOND}`);
@@ -243,9 +243,9 @@ async function testHeard() {
   check('who is gone is gone, also to the host', [judging.heard.within(400 * SECOND, member.at), host.told.at(-1)], [[], `gone ${member.at} ${wordOf(Z)}`]);
 }
 
-/** A member that moves has no distance until we hear its answer from there, and one that leaves is a member no more. */
+/** No delay to a member that moves is known until we hear its answer from there, and one that leaves is a member no more. */
 async function testMoves() {
-  const member = memberOf(), { judging, host } = member, present = () => judging.present().map(([number, { distance }]) => [number, distance]);
+  const member = memberOf(), { judging, host } = member, present = () => judging.present().map(([number, { delay }]) => [number, delay]);
   await meet(member);
   member.at = 1_000;
   host.members(`9 ${wordOf(Y)} 999 999`);
@@ -445,7 +445,7 @@ async function testMembers() {
   member.host.members(...Array.from({ length: 600 }, (_, i) => `${i + 2} p${i + 2} - 10`), `900 ${wordOf(X)} 10 10`);
   await heed(member, 'session-message 900 77 7/1 1@2+4');
   member.telling.tellMembers();
-  check('by their numbers', [member.members.members.length, member.members.members.slice(-2)], [500, [{ member: 500, distance: null, heard: 0 }, { member: 900, distance: 0.002, heard: 0 }]]);
+  check('by their numbers', [member.members.members.length, member.members.members.slice(-2)], [500, [{ member: 500, delay: null, heard: 0 }, { member: 900, delay: 0.002, heard: 0 }]]);
 }
 
 const TESTS = [testOrigins, testReports, testWarnings, testClash, testRefused, testRecord, testHeard, testMoves, testFollowed, testPatience, testTime, testRoom, testKeptCells, testWaiting, testNewPage, testLast, testPages, testHealth, testShowings, testMembers];

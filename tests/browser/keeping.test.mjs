@@ -362,7 +362,7 @@ async function testSession(program) {
   check('all have all, though a third is lost', await comes(isWhole) || all(), true);
   check('nothing is told to be missing', members.map(({ telling, drawn }) => telling.reported.missing(PAGE, drawn)), [0, 0, 0]);
   check('what was told piece by piece is the whole that the host shows', await Promise.all(members.map(showsAll)), [true, true, true]);
-  check('each knows how far the others are', await comes(() => members.every((member) => [...member.judging.heard.others.values()].filter(({ distance }) => distance !== null).length === 2)), true);
+  check('each knows the delays to the others', await comes(() => members.every((member) => [...member.judging.heard.others.values()].filter(({ delay }) => delay !== null).length === 2)), true);
   check('something was asked for, and repaired', members.reduce((sum, { wire }) => sum + wire.counts.requests, 0) > 0, true);
   const [one] = members, fault = await one.people.draw(PAGE, 'line 0 0 4 5000 x').catch((it) => it.message);
   check('what is no drawing the host refuses, by the word as people wrote it', [fault, await one.people.draw(PAGE, 'look 1').catch((it) => it.message)], ['word 5: number', 'unknown']);

@@ -5,7 +5,7 @@
 //!
 //! The cases and what is printed are those of `history_threads.rt.in`, and LOCK is `mutex` or `rwlock`. Each thread gets what a
 //! pass gives: a list of its own of all that it has seen, an index of the names, and of each claim the place and which
-//! members it had not seen. The lock holds a list alone. A thread holds it while it copies what came since, and adds;
+//! drawops it had not seen. The lock holds a list alone. A thread holds it while it copies what came since, and adds;
 //! it puts names into its index after.
 //!
 //! Not given is what a pass promises beside: a thread that is stopped inside the lock stops all others, a viewer waits
@@ -122,7 +122,7 @@ impl Seen {
 trait Shared: Sync {
     fn new() -> Self;
 
-    /// Reads on, and adds the drawop unless a member has its name: then it answers the place.
+    /// Reads on, and adds the drawop unless one of the list has its name: then it answers the place.
     fn add(&self, seen: &mut Seen, drawop: &Drawop) -> Option<u32>;
 
     fn refresh(&self, seen: &mut Seen);

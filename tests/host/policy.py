@@ -16,7 +16,7 @@ SECOND = 1_000_000
 COST = 250_000
 NAMES = 64
 BEFORE_TURNS = 56  # turns pass over what is asked for while fewer timers run
-STRANGERS = 48  # places of the credit for neighbours of what came, where their source told no distance
+STRANGERS = 48  # places of the credit for neighbours of what came, where their source told no delay
 REACH = 64
 STRIDE = 19
 WINDOW = 64
@@ -210,7 +210,7 @@ class Kept:
         return [mark for mark in marks if mark[0] == self.host.me and mark[1] < OURS and self.host.now < self.ready]
 
     def measure(self, sender: int, echoes: list[Echo]) -> None:
-        """An echo tells a distance, which is bounded, and goes into the usual one."""
+        """An echo tells a delay, which is bounded, and goes into the usual one."""
         for source, sent, held in echoes:
             now = self.host.now
             if source == self.host.me and sent + held <= now and (now - sent - held) // 2 < 2**24:
@@ -221,7 +221,7 @@ class Kept:
 
     @contextmanager
     def lent(self, source: int) -> Iterator[None]:
-        """The usual distance stands in for that to a source which told none."""
+        """The usual delay stands in for that to a source which told none."""
         is_lent = self.host.delay(source) == UNKNOWN_DELAY
         if is_lent:
             self.host.delays[source] = self.usual

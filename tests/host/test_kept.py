@@ -311,7 +311,7 @@ ok {QUESTION}
 > came 0 {datagrams.ask_pages(1)}
 ok {QUESTION}
 {questions()}""",
-    "a session message tells a distance, which is bounded, and the usual one": f"""
+    "a session message tells a delay, which is bounded, and the usual one": f"""
 {kept()}> came 50 {session(7, 9, PAGE, [(7, 1)], [(1, 10, 20)])}
 ok {asked_at(50, 0, 10_000)}
 > came 60 {session(9, 9, PAGE, [(8, 1)], [])}
@@ -344,7 +344,7 @@ ok {QUESTION}
 send {datagrams.ask_pages(1)}
 ok {AGAIN}
 """,
-    "the usual distance is lent for one line, and not set": f"""
+    "the usual delay is lent for one line, and not set": f"""
 {kept()}> came 0 {STARS}
 batch 1 0 0 0
 ok {QUESTION}
@@ -596,7 +596,7 @@ def memory_of(dialog: Dialog) -> int:
 
 
 def test_askers() -> None:
-    """Forged requests, each of another asker: a distance is lent to each for a line, and none is kept."""
+    """Forged requests, each of another asker: a delay is lent to each for a line, and none is kept."""
     dialog = Dialog()
     for line in f"board {ME} 100 1 {SEED}", "keep 4000 0", f"came 0 {STARS}":
         dialog.ask(line)
@@ -640,8 +640,8 @@ def test_credit() -> None:
     known = f"came 50 {session(7, 9, PAGE, [], [(ME, 10, 20)])}\n"
     told = f"came 50 {session(9, 50, (7, 2), [(source, 1) for source in range(100, 164)], [])}\n"
     cases = {
-        "48 neighbours of a source that told no distance": (neighbours, 48),
-        "64 neighbours of one that told its distance": (known + neighbours, 64),
+        "48 neighbours of a source that told no delay": (neighbours, 48),
+        "64 neighbours of one that told its delay": (known + neighbours, 64),
         "16 more that are told": (neighbours + told, 64),
         "64 that are told, and no neighbours": (told + neighbours, 64),
     }
@@ -656,7 +656,7 @@ def test_credit() -> None:
 
 def test_holes() -> None:
     """Sixty forged drawops a second, each of another source and behind a number that nobody holds: what a member reports meanwhile is asked for
-    all the same, since neighbours of sources that told no distance leave sixteen places of the credit."""
+    all the same, since neighbours of sources that told no delay leave sixteen places of the credit."""
     dialog = Dialog()
     for line in f"board {ME} 10000 1 {SEED}", "keep 4000 0":
         block = dialog.ask(line)

@@ -155,11 +155,11 @@ class Noting(Policy):
         super().__init__((2, 2, 1, 1))
         self.notes: list[tuple[object, ...]] = []
 
-    def begins_to_ask(self, name: Name, moment: int, distance: int) -> None:
-        self.notes.append(("ask", name[1], moment, distance))
+    def begins_to_ask(self, name: Name, moment: int, delay: int) -> None:
+        self.notes.append(("ask", name[1], moment, delay))
 
-    def begins_to_answer(self, name: Name, moment: int, distance: int) -> None:
-        self.notes.append(("answer", name[1], moment, distance))
+    def begins_to_answer(self, name: Name, moment: int, delay: int) -> None:
+        self.notes.append(("answer", name[1], moment, delay))
 
     def sees_request(self, name: Name, moment: int, is_own: bool) -> None:
         self.notes.append(("request", name[1], moment, is_own))
@@ -167,7 +167,7 @@ class Noting(Policy):
 
 def test_a_driver_knows_when_its_host_begins_to_ask_and_to_answer() -> None:
     """Member I is 100 times I away. Member 3 asks for a name that is held, so a repair is to go; member 2 is heard meanwhile. It goes at 40, and
-    the name is quiet for three times 300. The next one comes from elsewhere at 950, and it is quiet for three times 100, the distance of
+    the name is quiet for three times 300. The next one comes from elsewhere at 950, and it is quiet for three times 100, the delay to
     its source. A name that is lacked is asked for once, and a request for it is seen."""
     policy = Noting()
     tuner = Tuner(policy, policy.constants, lambda other: 100 * other, lambda digits: [Datagram("drawop", 1, (1, 1)) for _ in digits])

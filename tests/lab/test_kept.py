@@ -26,7 +26,7 @@ def test_kept_members_get_four_kinds_of_lines() -> None:
 
 # Members at 40 ms from one another have told one another so by 20 s, as their reports come each 1 to 3 s. Who notices a loss asks after two
 # to four of these, which is 1 to 2 round trips, and the source repairs after one or two more, 40 ms before that is there.
-def test_kept_members_measure_distances_by_echoes() -> None:
+def test_kept_members_measure_delays_by_echoes() -> None:
     for seed in range(1, 4):
         rows = run(replace(KEPT, delay=(0.02, 0.02), draws=6, loss="link:0-1", seed=seed), program()).rows
         assert len(rows) == 3

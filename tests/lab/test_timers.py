@@ -28,7 +28,7 @@ def test_a_loss_at_one_distance_is_as_with_hosts() -> None:
         assert reckoned[:2] == [replace(row, number=(row.number + 1) // 2) for row in rows]
 
 
-def test_a_distance_below_ten_milliseconds_counts_as_ten() -> None:
+def test_a_delay_below_ten_milliseconds_counts_as_ten() -> None:
     """Two members 1 ms apart: the second asks after 20 to 40 ms, its request takes 1, the first repairs after 10 to 20, and that takes 1. The
     words of the two are those of their seeds. Each keeps its words: the second loss goes by the next ones."""
     words = {member: Words(100_003 + member) for member in (1, 2)}

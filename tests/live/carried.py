@@ -145,7 +145,7 @@ def check_session(facts: Facts, room: BrokerFiles) -> None:
             check_strangers(facts, held)
             check_outage(facts, held)
             began = time.monotonic()
-            # the clock goes ten times as fast here, so a busy machine makes distances, and with them the timers, ten times as long
+            # the clock goes ten times as fast here, so a busy machine makes delays, and with them the timers, ten times as long
             facts("all hold all drawops", held.wait_until_whole(MEMBERS * DRAWOPS, 3 * PATIENCE), True)
             print("eight members by a broker that was gone for %.0f s, a third lost: all whole %.1f s after it was back" % (OUTAGE, time.monotonic() - began))
             rows = [[member.rows(page) for page in PAGES] for member in members]

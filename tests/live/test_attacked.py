@@ -130,7 +130,7 @@ def check_attacked(facts: Facts, count: int, seconds: float, speed: int) -> None
         members = [Process([*words, str(number), "--record", record]) for number, record in zip(numbers, records)]
         try:
             for member in members:
-                member.wait_for(lambda states: states["hello"]["ready"] and sum(other["distance"] is not None for other in states["members"]["members"]) >= count - 1)
+                member.wait_for(lambda states: states["hello"]["ready"] and sum(other["delay"] is not None for other in states["members"]["members"]) >= count - 1)
             with Attacks(members, numbers) as attacks:
                 drawing = Drawing(time.monotonic() + seconds)
                 drawing.run(members)

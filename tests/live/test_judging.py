@@ -209,7 +209,7 @@ def test_heard(facts: Facts) -> None:
     """Who is heard the host says; how far away each is, its answer says."""
     one = One()
     one.meet()
-    facts("a member", [(number, other.at, other.answered, other.distance) for number, other in one.judging.present().items()], [(9, 25, 25, 5)])
+    facts("a member", [(number, other.at, other.answered, other.delay) for number, other in one.judging.present().items()], [(9, 25, 25, 5)])
     asked = one.host.told.count("members")
     facts("nothing came in since, so nobody is asked", (len(one.judging.present()), one.host.told.count("members")), (1, asked))
     one.says()
@@ -218,7 +218,7 @@ def test_heard(facts: Facts) -> None:
     one.heed("session-message 8 77 7/1", Z)
     facts("of one that was heard the host is asked seldom", (len(one.judging.present()), one.host.told.count("members")), (1, asked))
     one.at += PAUSE
-    facts("and then again: a stranger has no distance, and a member that of its answer", [(number, other.distance) for number, other in one.judging.present().items()], [(9, 5), (8, None)])
+    facts("and then again: no delay to a stranger is known, and to a member that of its answer", [(number, other.delay) for number, other in one.judging.present().items()], [(9, 5), (8, None)])
     facts("from where members speak", [one.judging.heard.is_member(origin) for origin in (X, Z)], [True, False])
     one.board.begun_at = one.at = SECOND
     one.host.members("7 %s - %d" % (Z.word, SECOND))
@@ -243,13 +243,13 @@ def test_forgotten(facts: Facts) -> None:
         one.says()
         one.host.members(*members)
         one.heed("session-message %d 78 7/1%s" % (speaker, more), origin)
-        return {number: other.distance for number, other in one.judging.present().items()}
+        return {number: other.delay for number, other in one.judging.present().items()}
 
     one.meet(9, X)
-    facts("an answer tells how far away its speaker is, and nothing else of it is remembered", (heard.within(PATIENCE)[9].distance, heard.echoes), (5, {}))
-    facts("a report that answers nobody changes no distance", tells(25 + PAUSE, 9, X, "9 %s 25 125" % X.word), {9: 5})
+    facts("an answer tells the delay to its speaker, and nothing else of it is remembered", (heard.within(PATIENCE)[9].delay, heard.echoes), (5, {}))
+    facts("a report that answers nobody changes no delay", tells(25 + PAUSE, 9, X, "9 %s 25 125" % X.word), {9: 5})
     facts("nor does an echo that the host takes for no answer", tells(25 + 2 * PAUSE, 9, X, "9 %s 25 225" % X.word, more=" 1@5+10"), {9: 5})
-    facts("from another place it says nothing of the distance", tells(25 + 3 * PAUSE, 9, Y, "9 %s 25 325" % Y.word), {9: None})
+    facts("from another place it says nothing of the delay", tells(25 + 3 * PAUSE, 9, Y, "9 %s 25 325" % Y.word), {9: None})
     both = "9 %s 25 425" % Y.word, "8 %s - 425" % Z.word
     facts("two are there", tells(25 + 4 * PAUSE, 8, Z, *both), {9: None, 8: None})
     facts("for each of two the pause is as long", tells(25 + 5 * PAUSE, 9, Y, both[0]), {9: None, 8: None})

@@ -177,7 +177,7 @@ def test_repair(facts: Facts) -> None:
     board = board_of(Record(None), [], ("--speed", "1000"))
     board.draw((1, 1), 50, "line 0 0 4 0 +")
     board.came([ASKED], Origin("9"))
-    until = board.moment + 300_000  # at a distance of 100 ms a repair waits for 100 to 200
+    until = board.moment + 300_000  # with a delay of 100 ms a repair waits for 100 to 200
     while board.now() < until:
         time.sleep(0.001)
     block, drawop = board.draw((1, 1), 50, "line 0 1 4 1 +")

@@ -40,8 +40,8 @@ def check_pair(facts: Facts, name: str, words: List[List[str]]) -> None:
         facts(name + ": one draws", pair[0].draw("1/1", "line 0 0 3 0 a")[0], 200)
         facts(name + ": the other shows it", pair[1].wait_for(lambda states: states["board"]["rows"] == ["aaaa"]), True)
         for each in pair:
-            told = each.wait_for(lambda states: any(m["distance"] is not None for m in states["members"]["members"]))
-            facts(name + ": a distance is measured", told, True)
+            told = each.wait_for(lambda states: any(m["delay"] is not None for m in states["members"]["members"]))
+            facts(name + ": a delay is measured", told, True)
             own = [entry for entry in each.entries if entry["way"] == "in" and entry["kind"] == "session-message" and entry["member"] == each.me]
             facts(name + ": nobody takes in his own reports", own, [])
     finally:

@@ -62,7 +62,7 @@ def members(*words: str) -> List[Process]:
     """Members of these words, each of which has answered each other."""
     made = [Process(["--ports", str(FIRST_PORT), *each.split()]) for each in words]
     for each in made:
-        each.wait_for(lambda states: sum(other["distance"] is not None for other in states["members"]["members"]) >= len(made) - 1)
+        each.wait_for(lambda states: sum(other["delay"] is not None for other in states["members"]["members"]) >= len(made) - 1)
     return made
 
 

@@ -43,10 +43,10 @@ def test_members(facts: Facts) -> None:
     """If more are here than views get, those that have answered us come before strangers; they stand by their numbers."""
     one = Told()
     here = {number: Other(X.word, 0) for number in range(1, MOST_MEMBERS + 1)}
-    here[9_000] = Other(X.word, 0, answered=0, distance=5_000)
+    here[9_000] = Other(X.word, 0, answered=0, delay=5_000)
     one.judging.present = lambda: here  # type: ignore[assignment]
     one.telling.tell_members()
-    told: List[Tuple[int, Any]] = [(each["member"], each["distance"]) for each in one.state("members")["members"]]
+    told: List[Tuple[int, Any]] = [(each["member"], each["delay"]) for each in one.state("members")["members"]]
     facts("who has answered is told before strangers", (len(told), told[-1]), (MOST_MEMBERS, (9_000, 5.0)))
     facts("by their numbers", [number for number, _ in told], [*range(1, MOST_MEMBERS), 9_000])
 

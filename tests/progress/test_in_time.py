@@ -152,7 +152,7 @@ def test_rounds() -> None:
     print(f"rounds, 1,000 lacked, all held by all at {session.now / 1e6:.1f} s, {bounds}")
     assert (session.refused, session.latest <= timely_kept.LATE) == ([], True), "no line was refused, and no host called late"
     assert (session.now < min(by, crowded, filled, soon), list(session.held.values())) == (True, [every] * 3), "all hold all by then"
-    assert crowded < timely_kept.QUIET + 1_800_000_000, "half an hour, though distances may be a second"
+    assert crowded < timely_kept.QUIET + 1_800_000_000, "half an hour, though delays may be a second"
     assert crowded_by(timely_kept.ASKING * 100_000, 1_000, 100_000) < timely_kept.QUIET + 90_000_000, "a minute and a half where they are a tenth"
     waits = timely_kept.ASKING * 100_000
     assert filled_by(waits, 1_000, 100_000) < timely_kept.QUIET + 1_380_000_000, "and 23 minutes, whatever hosts ask for"

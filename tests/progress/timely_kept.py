@@ -19,7 +19,7 @@ DRAWOP, SESSION, REQUEST, ASK_PAGES, PAGE_STATE = "01", "02", "03", "04", "05"  
 
 QUIET, DELIVERY, LATE, DRIFT = 3_000_000, 50_000, 10_000, 4_000
 LASTS = 300_000_000  # a clock that is slow loses DRIFT in this time
-FAR = 1_000_000  # a host uses no greater distance, whatever echoes it hears
+FAR = 1_000_000  # a host uses no greater delay, whatever echoes it hears
 ASKING, ANSWERING = 4, 2  # delays that a request waits at first, and an answer, by the constants 2,2,1,1
 SETTLED = QUIET + DELIVERY
 REPAIRING = ANSWERING * FAR + 2 * DELIVERY + LATE + LATE
@@ -124,14 +124,14 @@ def rounds_by(soon: Soon, wait: int, rounds: int) -> int:
 
 
 def spans(far: int) -> tuple[int, int, int]:
-    """From where a name is asked for to its first request, from a request to where all hold the name, and when requests are answered, if no distance is
+    """From where a name is asked for to its first request, from a request to where all hold the name, and when requests are answered, if no delay is
     above `far`."""
     return ASKING * far + LATE, ANSWERING * far + 2 * DELIVERY + 2 * LATE, SETTLED + DELIVERY + 3 * far + DRIFT + 1
 
 
 def crowded_by(wait: int, most: int, far: int, places: int = PLACES_OF_LAST, since: int = 0) -> int:
     """The time at which all hold all if each host that lacks something always asks for all that it lacks, or for `places` names, though it gives names up
-    early, and uses no distance above `far`. In a round as many names come, or 64 are asked for, and credit pays for few such rounds."""
+    early, and uses no delay above `far`. In a round as many names come, or 64 are asked for, and credit pays for few such rounds."""
     asking, answering, known = spans(far)
     span = 2 * asking + answering
     bringing = -(-most // places)

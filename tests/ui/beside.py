@@ -53,7 +53,7 @@ def test_side(tally: Tally, one: Sheet, other: Sheet) -> None:
     tally.check("a part is lost on purpose", one.page.wait("wb.session.hello.worsen.lose === 0.9"), str(one.page.value("JSON.stringify(wb.session.hello.worsen)")))
     one.page.value("""document.querySelector('#worsen input').value = 0; document.querySelector('#worsen input').dispatchEvent(new Event('change', { bubbles: true }))""")
     tally.check("nothing is lost on purpose any more", one.page.wait("wb.session.hello.worsen.lose === 0"))
-    tally.check("the distance of the other is told", one.page.wait("[...document.querySelectorAll('#members li')].some(({ title }) => / ms away/.test(title))"), one.text_of("members"))
+    tally.check("the delay to the other is shown", one.page.wait("[...document.querySelectorAll('#members li')].some(({ title }) => / ms away/.test(title))"), one.text_of("members"))
 
 
 def test_policy(tally: Tally, one: Sheet) -> None:

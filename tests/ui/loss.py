@@ -167,7 +167,7 @@ def two_windows(browser: Browser, room: Path) -> Iterator[tuple[Sheet, Sheet]]:
             introduce(sheet, name, colour)
         for sheet in (one, other):
             if not sheet.page.wait("[...document.querySelectorAll('#members li')].some(({ title }) => / ms away/.test(title))"):
-                raise BrowserFault("no distance is known")
+                raise BrowserFault("no delay is known")
             sheet.fold()
         clean(one, other)
         yield one, other

@@ -1,4 +1,4 @@
-/** Who is heard, as the host tells it by `members`, and how far away each is. As `live/heard.py`. docs/HOST-LINES.md has the line. */
+/** Who is heard, as the host tells it by `members`, and the delay to each. As `live/heard.py`. docs/HOST-LINES.md has the line. */
 import { wordOf } from './origins.js';
 
 const SECOND = 1_000_000;
@@ -9,8 +9,8 @@ const PATIENCE = 192 * SECOND;
 /** Each report changes what a host tells. It is asked only so often that of any time little is taken: microseconds for each number that it tells. */
 const PAUSE = 100;
 
-/** A number that was heard: from where, in the word of a host's lines, when last, when it last answered us, and how far away it is by that.
- * @typedef {{ origin: string, at: number, answered: number | null, distance: number | null }} Other */
+/** A number that was heard: from where, in the word of a host's lines, when last, when it last answered us, and the delay to it by that.
+ * @typedef {{ origin: string, at: number, answered: number | null, delay: number | null }} Other */
 
 export class Heard {
   /** @param {import('./board.js').Board} board */
@@ -21,8 +21,8 @@ export class Heard {
     /** From where members speak.
      * @type {Set<string>} */
     this.members = new Set();
-    /** When a report came that echoed us, and how far away its speaker is by that.
-     * @type {Map<number, { at: number, distance: number }>} */
+    /** When a report came that echoed us, and the delay to its speaker by that.
+     * @type {Map<number, { at: number, delay: number }>} */
     this.echoes = new Map();
     this.isOld = false;
     this.nextAt = 0;
@@ -32,7 +32,7 @@ export class Heard {
    * @param {import('./datagram.js').Datagram} report */
   note({ speaker, echoes }) {
     const { me, moment: at } = this.board, [, sent, held] = echoes.find(([who]) => who === me) ?? [];
-    if (sent !== undefined) this.echoes.set(speaker, { at, distance: (at - Number(sent) - Number(held)) / 2 });
+    if (sent !== undefined) this.echoes.set(speaker, { at, delay: (at - Number(sent) - Number(held)) / 2 });
     this.isOld = true;
   }
 
@@ -74,7 +74,7 @@ export class Heard {
     this.others = new Map([...before].filter(([, { at }]) => at <= board.begunAt && now - at <= PATIENCE));
     for (const line of lines.slice(1)) {
       const [, number, origin, answered, at] = line.split(' '), other = { origin, at: Number(at), answered: answered === '-' ? null : Number(answered) };
-      this.others.set(Number(number), { ...other, distance: this.distance(Number(number), other, before.get(Number(number))) });
+      this.others.set(Number(number), { ...other, delay: this.delay(Number(number), other, before.get(Number(number))) });
     }
     this.members = new Set([...this.others.values()].filter(({ answered }) => answered !== null).map(({ origin }) => origin));
     this.echoes.clear();
@@ -83,10 +83,10 @@ export class Heard {
 
   /** By the report that answered us, or else as it was.
    * @param {number} number @param {{ origin: string, answered: number | null }} other @param {Other | undefined} before */
-  distance(number, { origin, answered }, before) {
+  delay(number, { origin, answered }, before) {
     if (answered === null) return null;
     const echo = this.echoes.get(number);
-    if (echo?.at === answered) return echo.distance;
-    return before?.origin === origin ? before.distance : null;
+    if (echo?.at === answered) return echo.delay;
+    return before?.origin === origin ? before.delay : null;
   }
 }

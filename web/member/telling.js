@@ -183,8 +183,8 @@ export class Telling {
   tellMembers() {
     const { me, judging, board } = this.member, now = board.now(), isUnknown = (/** @type {import('./heard.js').Other} */ { answered }) => Number(answered === null);
     const first = judging.present().sort(([one, its], [other, others]) => isUnknown(its) - isUnknown(others) || one - other).slice(0, MOST_MEMBERS);
-    const told = first.sort(([one], [other]) => one - other).map(([member, { at, distance }]) => (
-      { member, distance: distance === null ? null : distance / 1_000, heard: Math.round((now - at) / 100_000) / 10 }));
+    const told = first.sort(([one], [other]) => one - other).map(([member, { at, delay }]) => (
+      { member, delay: delay === null ? null : delay / 1_000, heard: Math.round((now - at) / 100_000) / 10 }));
     this.post('members', { me, members: told });
   }
 

@@ -16,7 +16,7 @@ from live.constants import FAR, FEW, NEAR, SEVERAL
 DRAWERS = 3  # at most, of whom each draws four times a second
 BASE = Settings(judge="keep", drawers=DRAWERS, every=0.25, until=4_000)
 DRAWINGS, OF_MANY = 99, 33  # of a run, and of one of more than ten members
-WARM, COLD = 20.0, 0.3  # seconds until the first drawing: distances are measured then, or nobody was heard yet
+WARM, COLD = 20.0, 0.3  # seconds until the first drawing: delays are measured then, or nobody was heard yet
 TUNINGS = (FEW, DEFAULT_TUNING, SEVERAL, NEAR, FAR)
 PLACES = {"LAN": (1, WARM), "20 ms": (20, WARM), "20 ms, cold": (20, COLD), "broker": (75, WARM)}  # milliseconds one way
 GROUPS = (2, 3, 4, 5, 8, 10, 20, 30)

@@ -83,7 +83,7 @@ def places(scale: Scale) -> Figure:
             send {sure(first, columns[0])} requests for a loss on the source's link, and {sure(first, columns[1])} repairs for one on a member's
             link. With the constants of wb-live they send {few} 6 of each on average, there ({FAR}) and on a LAN by radio
             ({NEAR}); the last member has the drawop after {sure(live, 'seconds')} s instead of {sure(first, 'seconds')} there. On one
-            computer and on a wired LAN, distances count as 10 ms at least, so a request is heard long before most timers are due. If members
+            computer and on a wired LAN, delays count as 10 ms at least, so a request is heard long before most timers are due. If members
             are at many distances, {FAR} saves less and waits longer: in domains {sure(of['domains', FAR], 'seconds')} s instead
             of {sure(of['domains', DEFAULT_TUNING], 'seconds')}.""")
         heads = ("Members", "Network", "Constants", "Requests, if many lack it", "Repairs, if one does", "Seconds, of all losses")
