@@ -64,12 +64,12 @@ hex_free (b ∷ bytes) = (digit_free (b / 16), (digit_free (b % 16), hex_free by
 -- ---- lines
 
 -- a line and the line feed that ends it
-pub record Line (x : List ℕ) : Type 0 where
+pub record OneLine (x : List ℕ) : Type 0 where
   pub bytes : List ℕ
   pub free : NoLineFeed bytes
   pub is : x ≡ bytes ++ 10 ∷ []
 
-behind : (w x : List ℕ) → NoLineFeed w → Line x → Line (w ++ x)
+behind : (w x : List ℕ) → NoLineFeed w → OneLine x → OneLine (w ++ x)
 behind w x free line = record {
   bytes = w ++ line.bytes;
   free = NoLineFeed-append w line.bytes free line.free;
@@ -130,7 +130,7 @@ both x y p q = record {
   before = λ (z : List ℕ) (r : All IsPlain (input_lines z)). subst (λ (t : List ℕ). All IsPlain (input_lines t)) (sym (append_assoc x y z)) (p.before (y ++ z) (q.before z r));
 }
 
-one : (x : List ℕ) → Line x → OpensPlain x → Plain x
+one : (x : List ℕ) → OneLine x → OpensPlain x → Plain x
 one x line plain = subst Plain (sym line.is) (record {
   before = λ (y : List ℕ) (p : All IsPlain (input_lines y)).
       subst (λ (t : List ℕ). All IsPlain (input_lines t)) (sym (append_assoc line.bytes (10 ∷ []) y))
@@ -152,7 +152,7 @@ whole x p = subst (λ (t : List ℕ). All IsPlain (input_lines t)) (append-nil x
 pub record Rest (x : List ℕ) : Type 0 where
   pub line : List ℕ
   pub more : List ℕ
-  pub is_line : Line line
+  pub is_line : OneLine line
   pub plain : Plain more
   pub is : x ≡ line ++ more
 
