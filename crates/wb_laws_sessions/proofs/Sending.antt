@@ -21,21 +21,21 @@ use Rattle.wb_laws_sessions.specs.Sessions.{Step, after_deed, host_at}
 use Rattle.wb_laws_sessions.proofs.Outcomes.{Found}
 use Rattle.std.proofs.lemmas.Option.{same_Some}
 
--- a look-up finds a member
-found_member : (history : List DrawopValue) (name : NameValue) (d : DrawopValue) → drawop_of history name ≡ Some d → Contains history d
-found_member [] name d e = cc
-found_member (x ∷ history) name d e = at (found_member history name d) (same_name x.name name) e where
+-- a look-up finds a drawop of the history
+found_drawop : (history : List DrawopValue) (name : NameValue) (d : DrawopValue) → drawop_of history name ≡ Some d → Contains history d
+found_drawop [] name d e = cc
+found_drawop (x ∷ history) name d e = at (found_drawop history name d) (same_name x.name name) e where
   at : (drawop_of history name ≡ Some d → Contains history d) → (b : Bool) → cond b (Some x) (drawop_of history name) ≡ Some d → Contains (x ∷ history) d
   at rest true e = subst (λ (w : DrawopValue). Contains (x ∷ history) w) (same_Some x d e) (Contains-here x history)
   at rest false e = Contains-there x d history (rest e)
 
--- whatever the actions, only members of the history are sent
+-- whatever the actions, only drawops of the history are sent
 pub answers_held : (me : ℕ) (history : List DrawopValue) (actions : List Action) (d : DrawopValue) → Contains (sends_for me history actions) (Draw d) → Contains history d
 answers_held me history actions d c =
     let r = sent_from (sent_for me history) actions (Draw d) c in from r.0 r.2 where
       from : (action : Action) → sent_for me history action ≡ Some (Draw d) → Contains history d
       from (Ask n) e = cc
-      from (Answer n) e = found_member history n d (by (drawop_of history n) e) where
+      from (Answer n) e = found_drawop history n d (by (drawop_of history n) e) where
         by : (o : Option DrawopValue) → option_map {T = DrawopValue} {U = Datagram} Draw o ≡ Some (Draw d) → o ≡ Some d
         by None e = cc
         by (Some x) e = cc
