@@ -72,7 +72,7 @@ class Board:
         self.ends: List[float] = []
         self.unkept: List[str] = []  # lines that the record has no room for yet
         self.unsynced: List[str] = []  # lines that it has, and maybe not on the disk
-        self.drawn: List[Drawop] = []  # what of these we drew: nobody is told yet
+        self.drawn: List[Drawop] = []  # what of these we drew: nothing of it is sent yet
         self.is_broken = False  # the record could not be written
         self.strange: Set[Name] = set()  # what of the drawops no member gave, by the lines of the record
 

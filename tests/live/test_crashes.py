@@ -1,4 +1,4 @@
-"""A crash of the machine takes what the disk does not have yet of a record. No number of ours that anybody was told is lost by it."""
+"""A crash of the machine takes what the disk does not have yet of a record. What was sent of ours it does not take."""
 from __future__ import annotations
 
 import errno
@@ -116,10 +116,11 @@ def draw(board: Board, operation: str) -> Any:
 
 
 def test_one_sync(facts: Facts, tmp_path: Path) -> None:
-    """Drawings that wait together are on the disk by one sync, before any is sent. Where nothing is kept, nothing is synced."""
+    """Drawings that wait together are on the disk by one sync, before any is sent. If nothing is kept, nothing is synced."""
     order: List[str] = []
-    for path, wanted in ((tmp_path / "1.wb", ["synced", "sent", "sent", "sent"]), (None, ["sent", "sent", "sent"])):
-        member = member_of(path and str(path), order)
+    paths: List[Optional[str]] = [str(tmp_path / "1.wb"), None]
+    for path, wanted in zip(paths, (["synced", "sent", "sent", "sent"], ["sent", "sent", "sent"])):
+        member = member_of(path, order)
         order.clear()
         with mock.patch("os.fsync", side_effect=lambda file: order.append("synced")), mock.patch("live.record.sync_folders"):
             futures = [member.people.draw((1, 1), "line 0 %d 4 %d +" % (row, row)) for row in range(3)]
@@ -132,12 +133,22 @@ def test_one_sync(facts: Facts, tmp_path: Path) -> None:
         member.words.end()
 
 
+class Noting(Nobody):
+    """A network without anyone, which notes when a drawing is sent."""
+
+    def __init__(self, order: List[str]) -> None:
+        super().__init__("a test")
+        self.order = order
+
+    def send(self, data: bytes) -> bool:
+        self.order += ["sent"] * (data[3] == 1)
+        return True
+
+
 def member_of(path: Optional[str], order: List[str]) -> Member:
     """A member that may draw, alone in its network."""
-    network = Nobody("a test")
-    member = Member(read_options([]), os.environ["WB_PROGRAM"], Record(path), network, Events(), 1)
+    member = Member(read_options([]), os.environ["WB_PROGRAM"], Record(path), Noting(order), Events(), 1)
     member.judge(Judging(member))
     member.is_ready = True
     member.board.moment = member.board.ready_at
-    network.send = lambda data: not (data[3] == 1 and order.append("sent"))  # type: ignore[method-assign, func-returns-value]
     return member

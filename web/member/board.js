@@ -71,7 +71,7 @@ export class Board {
     /** The moment at which the host has something to do.
      * @type {number | null} */
     this.due = null;
-    /** Lines of the record that nobody may be told of yet.
+    /** Lines of the record of which nothing may be sent yet.
      * @type {string[]} */
     this.drawn = [];
     /** When the host broke off, in milliseconds.
