@@ -60,6 +60,7 @@ class Guest:
         self.has_looked = False
         self.seen_at = time.monotonic()
         options = copy.copy(keeper.options)
+        options.me = None  # names the keeper alone
         carrier = Worse(hub.place(), options)
         record = Record(None)
         try:
