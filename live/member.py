@@ -30,8 +30,8 @@ from .views import Drawop, Page
 from .wire import Wire
 from .words import Words
 
-# So often within so many seconds a member takes a new number by itself, since somebody else speaks under its own. Then it draws nothing until people
-# want a new one.
+# How often a member takes a new number by itself within how many seconds, if somebody else speaks under its own. After that it draws nothing until
+# people want a new one.
 MOST_PARTINGS, PARTED_LATELY = 8, 3600.0
 
 # the page that is in view at first, and the one that a convention reserves for names, titles and the chat

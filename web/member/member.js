@@ -20,8 +20,8 @@ const LONGEST_WAIT = 1_000;
 /** The longest datagram that every transport carries. */
 const MOST_BYTES = 65_507;
 
-/** So often within so many milliseconds a member takes a new number by itself, since somebody else speaks under its own. Then it draws nothing until
- * people want a new one. */
+/** How often a member takes a new number by itself within how many milliseconds, if somebody else speaks under its own. After that it draws nothing
+ * until people want a new one. */
 const MOST_PARTINGS = 8, PARTED_LATELY = 3_600_000;
 
 /** A new number, with an empty record.
