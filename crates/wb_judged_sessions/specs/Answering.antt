@@ -7,6 +7,7 @@ use Rattle.wb_codec.specs.declared.datagram.Datagram.{Datagram}
 use Rattle.wb_codec.specs.declared.datagram.Datagram.TheVariants.{AskPages, Draw, PageState, Request, Session}
 use Rattle.wb_keeper.specs.Keeper.{sender_of, senders_of}
 use Rattle.wb_keeper.specs.declared.keeper.Heard.{Heard}
+use Rattle.wb_judge.specs.Answers.{by_their_clock}
 use Rattle.wb_judge.specs.Judge.{Judge, is_forged}
 use Rattle.wb_judge.specs.Judging.{is_admitted}
 use Rattle.wb_judge.specs.Laws.{is_answer, speaker_in}
@@ -109,11 +110,11 @@ pub record IsSentAfter (HasTaken : List JudgedCallAt → Type 0) (numbers : ℕ 
   pub after : HasTaken (call ∷ earlier)
 
 -- We reported at a moment, which our judge still remembers. The other heard that, and reported at a moment of its own clock, which comes to us no later
--- than 256 seconds after we reported. Since then our clock told no less than the clock of the other did between the two.
+-- than 256 seconds after we reported. The clock of the other told no more between the two than ours since then, and one part in 4,096 of it.
 pub record IsInTime (heard : Heard) (moment now : ℕ) (j : Judge) : Type 0 where
   pub own : Contains j.own heard.sent
   pub fresh : now ≤ heard.sent + FRESH
-  pub clocks : moment + heard.sent ≤ now + heard.at
+  pub clocks : moment - heard.at ≤ by_their_clock (now - heard.sent)
 
 -- Our judge remembers the moment of a report for 256 seconds, or until our program starts anew.
 abbrev pub ReportsAreRemembered : Type 0
