@@ -9,7 +9,7 @@ import pytest
 
 from ..host import datagrams
 from . import timely_kept
-from .timely_kept import DRAWOP, FEW, HERE, HOUR, SEVERAL, Loses, TimelyKept, by_rate, crowded_by, filled_by, holes_of, kind, name, outlasted_anyway_by, \
+from .timely_kept import DRAWOP, FEW, HERE, HOUR, SEVERAL, Loses, TimelyKept, by_rate, crowded_by, filled_by, gained_by, holes_of, kind, name, outlasted_anyway_by, \
     outlasted_by, round_span, rounds_by, rows_of, slowest, soonest, topped_by, whole_by
 
 TWO_PAGES = [(7, 1), (7, 2)]
@@ -155,6 +155,18 @@ def test_rounds() -> None:
     assert (session.now < min(by, crowded, filled, soon), list(session.held.values())) == (True, [every] * 3), "all hold all by then"
     assert crowded < timely_kept.QUIET + 1_800_000_000, "half an hour"
     assert filled < timely_kept.QUIET + 8 * HOUR, "and eight hours, whatever hosts ask for"
+
+
+# what docs/PROGRESS.md tells in minutes of sessions in which two requests for a name were lost, by how many names one lacks: in crowds, if K is 2; of holes
+# alone; from T on, with A; and whatever A is
+TOLD = [(10, 4, 7, 12, 28), (1_000, 247, 478, 509, 2_057), (10_000, 2_453, 4_761, 5_017, 20_508)]
+
+
+@pytest.mark.parametrize("most, crowded, filled, topped, gained", TOLD)
+def test_bounds_of_credit(most: int, crowded: int, filled: int, topped: int, gained: int) -> None:
+    wait, soon = timely_kept.ASKING * timely_kept.FAR << 2, soonest(3)
+    bounds = [crowded_by(wait, most, HERE, 2), *(filled_by(wait, most, HERE, since) for since in (0, topped_by(wait, 2 * most, 1, soon, HERE), gained_by(wait, most, 1, soon, HERE)))]
+    assert [round((by - timely_kept.QUIET) / (60 * timely_kept.SECOND)) for by in bounds] == [crowded, filled, topped, gained]
 
 
 # what docs/PROGRESS.md tells in hours of members of wb-live and the page after an outage, by how many names one lacks: with A, and whatever A is
