@@ -222,8 +222,9 @@ export class Session {
   }
 
   /** Asks for a page, or for a new one.
-   * @param {string | null} page */
-  async goToPage(page) {
+   * @param {string | null} page @param {boolean} [isLed] whether that is another's wish */
+  async goToPage(page, isLed = false) {
+    if (!isLed) this.emit('turning');
     this.wished = page;
     const answer = await this.member.choose(page);
     if (answer.ok) return;

@@ -9,6 +9,7 @@ import { clockOf, sceneAt } from '../../live/ui/film.js';
 import { readInk } from '../../live/ui/ink.js';
 import { Layout } from '../../live/ui/layout.js';
 import { initialsOf, readNotes, spoken } from '../../live/ui/notes.js';
+import { readBeside, viewLine } from '../../live/ui/points.js';
 import { gripAt, gripsOf, stretchOf, stretched } from '../../live/ui/resizing.js';
 import { Session } from '../../live/ui/session.js';
 import { arrow, filled, plainOf, simplify, stroke, writing } from '../../live/ui/shapes.js';
@@ -220,6 +221,15 @@ async function testSession() {
   check('then it is, where it was drawn', drawn.map(([page, operation]) => `${page} ${operation}`).sort(), ['1/1 line 0 0 1 1 *', '1/1 line 0 0 2 2 *', '1/2 line 0 0 3 3 *']);
 }
 
+function testBeside() {
+  const lines = [viewLine({ x0: -12.4, y0: -0.5, x1: 6400, y1: 8000.6 }), 'call 1764486000', 'line 0 0 4 4 *'];
+  check('what is in view', lines[0], 'view -12 0 6400 8001');
+  check('what a member tells beside', readBeside(lines), { shapes: [line(0, 0, 4, 4)], view: { x0: -12, y0: 0, x1: 6400, y1: 8001 }, follows: null, call: 1764486000 });
+  check('whom it follows', readBeside(['follow 7']), { shapes: [], view: null, follows: 7, call: null });
+  check('what tells nothing', readBeside(['view 1 1 1 9', 'view 1 2 3', 'view 1 2 3 4 5', 'follow -1', 'follow 99999999999', 'call', 'view a b c d', 'viewing 1']), readBeside([]));
+  check('who does not know it draws none of it', lines.slice(0, 2).map(shapeOf), [null, null]);
+}
+
 /** A change is put into the page: some drawings go, others come to their places, and rows are others. */
 function testChanges() {
   const session = new Session({}), many = Array.from({ length: 100 }, (_, i) => named(line(i, 0, i, 1), i + 1)), told = [];
@@ -254,5 +264,5 @@ async function testLateAnswers() {
   }
 }
 
-for (const each of [testSession, testChanges, testNotes, testLetters, testStretch, testState, testExports,
+for (const each of [testSession, testBeside, testChanges, testNotes, testLetters, testStretch, testState, testExports,
   testFilm, testCells, testShapes, testTexts, testWords, testColours, testLayout, testFlood, testOrder, testLateAnswers]) test(each.name.slice('test'.length), each);
