@@ -5,7 +5,7 @@ from __future__ import annotations
 import contextlib
 import secrets
 import time
-from typing import Callable, Iterator, List, Optional, Sequence, Set, Tuple
+from typing import Callable, ContextManager, Iterator, List, Optional, Sequence, Set, Tuple
 
 from wbhost import LINES, Block, Host, HostEnded
 
@@ -22,6 +22,14 @@ from .words import Words
 
 # gets each drawop that the host took in
 Listener = Callable[[Drawop], None]
+
+# keeps a drawing of ours while what is under it is done, or nowhere
+Keeping = Callable[[str], ContextManager[None]]
+
+
+def nowhere(digits: str) -> ContextManager[None]:
+    return contextlib.nullcontext()
+
 
 # the part of a page that is painted: the greatest canvas that a host gives
 COLUMNS, ROWS = 200, 100
@@ -229,25 +237,25 @@ class Board:
         """Whether the host reckons with another time of day than this machine's."""
         return abs(self.wall + self.now() - self.wall_at - wall()) > SLACK
 
-    def draw(self, page: Page, time_of_day: int, operation: str) -> Tuple[Block, Optional[Drawop]]:
-        """Has the host draw, which gives a drawing its number and its time. NoRoom where the record can't have it: then a host starts that has
-        not drawn it, and its number is free, since nobody was told. What it repairs besides is sent too."""
+    def draw(self, page: Page, time_of_day: int, operation: str, keeping: Keeping = nowhere) -> Tuple[Block, Optional[Drawop]]:
+        """Has the host draw, which gives a drawing its number and its time. It is kept elsewhere before it is recorded. NoRoom where that or the record
+        can't have it: then a host starts that has not drawn it, and its number is free, since nobody was told. What it repairs besides is sent too."""
         self.find_room()
         now = self.now()
         before, block = self.tell_all([self.line_of_time(now, time_of_day), "add %d %d/%d %s" % (now, *page, operation)])
         block = block._replace(lines=before.lines + block.lines)
         lines = said(block, "record")
+        drawop = next((Drawop(line[4:]) for line in lines if line.startswith("say ")), None)
+        if drawop:
+            drawop.digits = next(each for each in block.sent() if name_of(each) == drawop.name)
         try:
-            self.write(lines)
+            with keeping(drawop.digits) if drawop else nowhere(""):
+                self.write(lines)
         except NoRoom:
             self.begin_again()
             raise
-        words = next((line[4:] for line in lines if line.startswith("say ")), None)
-        if words is None:
-            return block, None
-        drawop = Drawop(words)
-        drawop.digits = next(each for each in block.sent() if name_of(each) == drawop.name)
-        self.listener(drawop)
+        if drawop:
+            self.listener(drawop)
         return block, drawop
 
     def find_room(self) -> None:

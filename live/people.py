@@ -2,7 +2,9 @@
 from __future__ import annotations
 
 import re
+import secrets
 from concurrent.futures import Future
+from functools import partial
 from typing import TYPE_CHECKING, Any, Callable, Dict, List, Tuple
 
 from wbhost import HostEnded
@@ -10,7 +12,7 @@ from wbhost import HostEnded
 from .clock import wall
 from .record import NoRoom, RecordFault
 from .state import random_number
-from .views import Page, page_of, page_text
+from .views import Drawop, Page, page_of, page_text
 
 if TYPE_CHECKING:
     from .member import Member
@@ -38,7 +40,7 @@ class Refused(Exception):
 class People:
     def __init__(self, member: Member) -> None:
         self.member = member
-        self.draws: List[Tuple[Future[Any], Page, str]] = []
+        self.draws: List[Tuple[Future[Any], Page, str, str]] = []
 
     # ---- from other threads
 
@@ -48,10 +50,10 @@ class People:
         self.member.inbox.call(lambda: self.do(future, what, *arguments))
         return future
 
-    def draw(self, page: Page, operation: str) -> Future[Any]:
-        """Has an operation drawn, such as `line 0 0 4 4 *`, as soon as the member may draw."""
+    def draw(self, page: Page, operation: str, asked: str = "") -> Future[Any]:
+        """Has an operation drawn, such as `line 0 0 4 4 *`, as soon as the member may draw. What is asked for again under one name is drawn once."""
         future: Future[Any] = Future()
-        self.member.inbox.call(lambda: self.draw_or_wait(future, page, operation))
+        self.member.inbox.call(lambda: self.draw_or_wait(future, page, operation, asked))
         return future
 
     # ---- on the member's thread
@@ -64,11 +66,11 @@ class People:
         except (Refused, HostEnded) as fault:
             future.set_exception(fault if isinstance(fault, Refused) else Refused("busy"))
 
-    def draw_or_wait(self, future: Future[Any], page: Page, operation: str) -> None:
+    def draw_or_wait(self, future: Future[Any], page: Page, operation: str, asked: str = "") -> None:
         if self.member.is_ready:
-            self.do(future, self.draw_now, page, operation)
+            self.do(future, self.draw_now, page, operation, asked)
         elif len(self.draws) < MOST_WAITING:
-            self.draws.append((future, page, operation))
+            self.draws.append((future, page, operation, asked))
         else:
             future.set_exception(Refused("busy"))
 
@@ -76,17 +78,19 @@ class People:
         """From now on the member may draw: it draws what waited."""
         self.member.is_ready = True
         draws, self.draws = self.draws, []
-        for future, page, operation in draws:
-            self.do(future, self.draw_now, page, operation)
+        for future, page, operation, asked in draws:
+            self.do(future, self.draw_now, page, operation, asked)
 
     def end(self) -> None:
         draws, self.draws = self.draws, []
-        for future, _, _ in draws:
+        for future, *_ in draws:
             future.set_exception(Refused("ended"))
 
-    def draw_now(self, page: Page, operation: str) -> Dict[str, Any]:
-        """Accepts a drawop of ours and sends it. Whether it is one, the host says."""
-        member = self.member
+    def draw_now(self, page: Page, operation: str, asked: str = "") -> Dict[str, Any]:
+        """Accepts a drawop of ours and sends it. Whether it is one, the host says. What has no name gets one."""
+        member, asked = self.member, asked or secrets.token_hex(8)
+        if asked in member.kept.asked:
+            return self.answer_of(Drawop(str(member.words.of(member.kept.asked[asked]).words)))
         kind = operation.split(" ", 1)[0]
         if page != WORDS and kind in ("line", "frame", "text") and member.drawn.total >= member.board.cells - member.board.cells // KEPT:
             raise Refused("full")
@@ -95,14 +99,18 @@ class People:
         fault = member.judging.fault_of_drawing()
         if fault is not None:
             raise Refused(fault)
-        block, drawop = member.board.draw(page, wall(), operation)
+        block, drawop = member.board.draw(page, wall(), operation, partial(member.kept.keeping, asked))
         member.send_all(block.sent())
         if block.fault is not None:
             raise Refused(re.sub("(?<=^word )[0-9]+", lambda place: str(int(place[0]) - WORDS_BEFORE), block.fault))
         if drawop is None:
             raise Refused("full")
         member.judging.tails.drew(drawop, member.board.moment)
-        return {"source": member.me, "seq": drawop.name[2], "page": page_text(page), "words": drawop.words}
+        return self.answer_of(drawop)
+
+    def answer_of(self, drawop: Drawop) -> Dict[str, Any]:
+        source, page, seq = drawop.name
+        return {"source": source, "seq": seq, "page": page_text(page), "words": drawop.words}
 
     def turn_to(self, page: Page) -> Dict[str, Any]:
         """Makes this the page in view."""

@@ -6,7 +6,7 @@ import { viewLine } from './points.js';
 /** The cells that stay about the pointer of who is followed, if only that is known. */
 const ABOUT = 6;
 
-/** Milliseconds for which a call is told, and between two tellings of what others wait for: by who is followed or calls, and by who follows. */
+/** Milliseconds for which we tell a call, and between two tellings of what others wait for; who follows tells that once in so many of them. */
 const CALLS = 10_000, BEATS = 1000, FOLLOWS = 3;
 
 export class Follow {
@@ -16,7 +16,7 @@ export class Follow {
     /** Who is followed.
      * @type {number | null} */
     this.leader = null;
-    /** The number of our last call, until when it is told, and the last call of each member that was heeded. */
+    /** The number of our last call, until when we tell it, and the last call of each member that was heeded. */
     this.call = 0;
     this.callsUntil = 0;
     /** @type {Map<number, number>} */
@@ -58,7 +58,7 @@ export class Follow {
     this.stop();
   }
 
-  // ---- what is told
+  // ---- what others hear
 
   /** What others hear of it, and what is in view. Who follows tells no view: two that followed each other would never rest.
    * @returns {string[]} */

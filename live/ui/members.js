@@ -82,8 +82,7 @@ export function showHealth({ session }) {
     $('counts').textContent = `sent ${counts.requests} requests and ${counts.repairs} repairs; ${counts.in} in, ${counts.out} out${more}`;
     $('warnings').replaceChildren(...warnings.slice(-MOST_WARNINGS).map((/** @type {string} */ warning) => make('li', warning)));
   });
-  session.on('link', (is) => is || setHealth('lost', 'wb-live does not answer'));
-  session.on('gone', () => setHealth('lost', 'wb-live was started anew: open the address that it printed'));
+  session.on('link', (link) => link === 'open' || setHealth('lost', link === 'gone' ? 'wb-live has another address now' : 'wb-live does not answer'));
   session.on('hello', ({ twin }) => { $('twin').hidden = !twin; });
   $('renumber').addEventListener('click', () => session.member.renumber?.());
 }

@@ -28,7 +28,7 @@ export class Owner {
     this.taken();
   }
 
-  /** Does what others wish for, once the hand rests; of several wishes the last.
+  /** Does what others wish for, once the hand rests. The last wish counts.
    * @param {() => void} wish */
   offer(wish) {
     const isWaiting = this.wish !== null;

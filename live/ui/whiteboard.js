@@ -240,7 +240,6 @@ export class Whiteboard {
     const { session } = this;
     session.on('hello', (hello) => this.takeHello(hello));
     session.on('board', (board, taken) => this.takeBoard(board, taken));
-    session.on('link', (is) => is || say('Offline: what you draw is not sent'));
     session.on('ghosts', () => this.painter.soon());
     session.on('notes', ({ colours }) => this.takeColours(colours));
     session.on('fault', tell);

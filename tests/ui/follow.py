@@ -2,6 +2,7 @@
 from __future__ import annotations
 
 import json
+from collections.abc import Callable
 from pathlib import Path
 
 from ..live.browser import PATIENCE, Browser, Page
@@ -123,8 +124,9 @@ def test_ends(tally: Tally, anna: Sheet, tom: Sheet) -> None:
     sees(tally, "both are on one page", anna, tom)
     tom.keys("v")
     tom.page.value("wb.view.sheet.focus(); 0")
-    for name, move in (("the wheel", lambda: scroll(tom.page, 300)), ("a zoom", lambda: tom.press("#larger")), ("a page", lambda: tom.press("#forth")),
-                       ("Escape", lambda: tom.keys("Escape"))):
+    moves: list[tuple[str, Callable[[], None]]] = [("the wheel", lambda: scroll(tom.page, 300)), ("a zoom", lambda: tom.press("#larger")),
+                                                   ("a page", lambda: tom.press("#forth")), ("Escape", lambda: tom.keys("Escape"))]
+    for name, move in moves:
         tom.page.value("wb.view.sheet.focus(); 0")
         if not tom.page.value(FRAME):
             tom.press(OTHERS_FACE)
