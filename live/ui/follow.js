@@ -6,7 +6,7 @@ import { viewLine } from './points.js';
 /** The cells that stay about the pointer of who is followed, if only that is known. */
 const ABOUT = 6;
 
-/** Milliseconds for which we tell a call, and between two tellings of what others wait for; who follows tells that once in so many of them. */
+/** Milliseconds for which we tell a call, and between two tellings of what others wait for; of these who follows tells each third. */
 const CALLS = 10_000, BEATS = 1000, FOLLOWS = 3;
 
 export class Follow {
