@@ -73,6 +73,7 @@ class Guest:
             raise
         self.member.judge(Judging(self.member))
         self.member.kept = keeper.kept
+        self.member.board.sync_kept = keeper.kept.sync
         self.member.streams = keeper.streams
         self.member.stage = keeper.stage
 

@@ -5,6 +5,7 @@ Each line has a word and what follows: `key KEY`, `guest COOKIE NUMBER`, `asked 
 and DIGITS are the drawop that came of it. Only the owner can read the file."""
 from __future__ import annotations
 
+import errno
 import os
 import re
 import secrets
@@ -32,10 +33,13 @@ class Kept:
     def __init__(self, path: Optional[str] = None, is_new: bool = True) -> None:
         self.path = path
         self.writing = threading.Lock()
+        self.syncing = threading.Lock()
         self.key = ""
         self.guests: Dict[str, int] = {}
         self.asked: Dict[str, str] = {}
+        self.places: Dict[str, int] = {}  # where the lines are of what was asked for since the start
         self.file = -1
+        self.size = self.synced = 0
         if path:
             self.open(path, is_new)
         if not self.key:
@@ -46,7 +50,7 @@ class Kept:
     def open(self, path: str, is_new: bool) -> None:
         """Reads what is there, unless it belongs to another record."""
         try:
-            self.file = os.open(path, os.O_RDWR | os.O_CREAT | os.O_NOFOLLOW | os.O_NONBLOCK | os.O_APPEND, 0o600)
+            self.file = os.open(path, os.O_RDWR | os.O_CREAT | os.O_NOFOLLOW | os.O_NONBLOCK, 0o600)
             if not stat.S_ISREG(os.fstat(self.file).st_mode):
                 raise RecordFault("%s is no file" % path)
             os.fchmod(self.file, 0o600)
@@ -81,9 +85,9 @@ class Kept:
         if self.path is None:
             return
         made = "%s.new" % self.path
-        file = os.open(made, os.O_RDWR | os.O_CREAT | os.O_TRUNC | os.O_NOFOLLOW | os.O_APPEND, 0o600)
-        before, self.file = self.file, file
-        os.close(before)
+        file = os.open(made, os.O_RDWR | os.O_CREAT | os.O_TRUNC | os.O_NOFOLLOW, 0o600)
+        os.close(self.file)
+        self.file, self.size = file, 0
         self.add(*lines)
         os.rename(made, self.path)
 
@@ -92,19 +96,36 @@ class Kept:
         while len(self.guests) > MOST_GUESTS:
             del self.guests[next(iter(self.guests))]
         while len(self.asked) > MOST_ASKED:
-            del self.asked[next(iter(self.asked))]
+            asked = next(iter(self.asked))
+            del self.asked[asked]
+            self.places.pop(asked, None)
 
-    def add(self, *lines: str) -> None:
-        """Puts lines into the file, all or none: a crash of this process does not lose them from now on."""
+    def add(self, *lines: str) -> int:
+        """Puts lines into the file, all or none, and gives where they begin: a crash of this process does not lose them from now on."""
+        begins, text = self.size, "".join(line + "\n" for line in lines).encode("latin-1")
         if self.file < 0:
-            return
-        text, size = "".join(line + "\n" for line in lines).encode("latin-1"), os.fstat(self.file).st_size
+            return begins
         try:
-            if os.write(self.file, text) < len(text):
-                raise OSError("no room")
+            if os.pwrite(self.file, text, begins) < len(text):
+                raise OSError(errno.ENOSPC, "no room")
         except OSError as fault:
-            os.ftruncate(self.file, size)
-            raise NoRoom(fault.strerror or "no room") from fault
+            os.ftruncate(self.file, begins)
+            raise NoRoom(fault.strerror) from fault
+        self.size += len(text)
+        return begins
+
+    def sync(self) -> None:
+        """Puts all lines on the disk: a crash of the machine does not lose them from now on. Whoever comes meanwhile shares the next sync."""
+        size = self.size
+        with self.syncing:
+            if self.file < 0 or self.synced >= size:
+                return
+            size = self.size
+            try:
+                os.fsync(self.file)
+            except OSError as fault:
+                raise NoRoom(fault.strerror) from fault
+            self.synced = size
 
     def move(self, path: Optional[str]) -> None:
         """The record has another path."""
@@ -133,20 +154,30 @@ class Kept:
             self.add("guest %s %d" % (cookie, number))
             self.forget()
 
-    @contextmanager
-    def keeping(self, asked: str, digits: str) -> Iterator[None]:
-        """Keeps what came of something that a window asked for, unless the record has no room for it. NoRoom if there is none here."""
+    def keep(self, asked: str, digits: str) -> None:
+        """Keeps what comes of something that a window asked for. NoRoom if there is none for it."""
         with self.writing:
-            size = os.fstat(self.file).st_size if self.file >= 0 else 0
-            self.add("asked %s %s" % (asked, digits))
-            try:
-                yield
-            except NoRoom:
-                if self.file >= 0:
-                    os.ftruncate(self.file, size)
-                raise
+            self.places[asked] = self.add("asked %s %s" % (asked, digits))
             self.asked[asked] = digits
             self.forget()
+
+    @contextmanager
+    def unless_lost(self, many: List[str]) -> Iterator[None]:
+        """If there is no room for something else meanwhile, nothing came of what was asked for under these names."""
+        try:
+            yield
+        except NoRoom:
+            for asked in many:
+                self.drop(asked)
+            raise
+
+    def drop(self, asked: str) -> None:
+        """Makes its line one that says nothing, which needs no room."""
+        with self.writing:
+            if asked in self.places and self.file >= 0:
+                os.pwrite(self.file, b"#", self.places[asked])
+            self.places.pop(asked, None)
+            self.asked.pop(asked, None)
 
     def drawn_by(self, number: int) -> List[str]:
         """What a browser of this number had drawn."""

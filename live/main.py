@@ -69,7 +69,7 @@ def join(options: Options, program: str, events: Events, held: ExitStack) -> Tup
     """The member of the network, and those of browsers, where each has its own."""
     record, me = open_record(options)
     held.callback(record.close)
-    kept = Kept(path_beside(record.path), is_new=not record.size)
+    kept = Kept(path_beside(record.path) if options.web else None, is_new=not record.size)
     held.callback(kept.close)
     if options.new_address:
         kept.renew()

@@ -110,6 +110,7 @@ class Member:
         calls, arrivals = self.inbox.take(self.seconds_to_wait())
         for call in calls:
             call()
+        self.people.draw_all()
         if arrivals:
             self.judging.arrive(arrivals)
         self.pass_time()

@@ -37,6 +37,9 @@ LINES = 15
 # seconds for which it is measured what they cost at rest
 REST = 5 if os.environ.get("WB_MEASURE") else 1
 
+# seconds for which two classes are watched
+APART = 2
+
 # milliseconds in the median, on an idle machine
 SOON = 300
 
@@ -191,6 +194,31 @@ def test_two(facts: Facts) -> None:
         facts("the network has all of them", other.wait_for(lambda states: {each["member"] for each in states["members"]["members"]} == {served.me, one.me, two.me}), True)
     finally:
         facts("a program with guests ends with 0", [served.end(), other.end()], [0, 0])
+
+
+def test_classes(facts: Facts, tmp_path: Path) -> None:
+    """Two classes on one computer, each by its own page, share nothing, and one that starts again at its port goes on with its board."""
+    environment, port = {"XDG_STATE_HOME": str(tmp_path)}, free_port()
+    one, two = (Process(["--web", "127.0.0.1:%d" % number, "--speed", "10"], environment=environment) for number in (port, 0))
+    try:
+        facts("neither takes a port of the machine", [each.lines[1].partition(", ")[2] for each in (one, two)], ["a class of its own"] * 2)
+        windows = [Window(each).look() for each in (one, two)]
+        facts("each may draw", [window.draw("1/1", "line 0 %d 3 %d %s" % (row, row, "ab"[row]))[0] for row, window in enumerate(windows)], [200, 200])
+        facts("each shows its own", [window.wait_for(rows_are(rows)) for window, rows in zip(windows, (["aaaa"], ["", "bbbb"]))], [True, True])
+        facts("and never the other's", [window.wait_for(rows_are(["aaaa", "bbbb"]), APART) for window in windows], [False, False])
+        facts("nobody else is there", [{each["member"] for each in window.states["members"]["members"]} - {served.me} for window, served in zip(windows, (one, two))], [set(), set()])
+        facts("the first ends with 0", one.end(), 0)
+        one = Process(["--web", "127.0.0.1:%d" % port, "--speed", "10"], environment=environment)
+        facts("and goes on", Window(one).look().wait_for(rows_are(["aaaa"])), True)
+    finally:
+        facts("both end with 0", [one.end(), two.end()], [0, 0])
+
+
+def free_port() -> int:
+    """A port of this machine that nobody has."""
+    with socket.socket() as taken:
+        taken.bind(("127.0.0.1", 0))
+        return int(taken.getsockname()[1])
 
 
 def check_returns(facts: Facts, served: Process, one: Window, two: Window) -> None:

@@ -29,9 +29,9 @@ def test_file(facts: Facts, tmp_path: Path) -> None:
     kept.admit("c" * 32, 7)
     kept.admit("d" * 32, 9)
     kept.admit("c" * 32, 8)
-    with kept.keeping("w-1", DIGITS):
-        pass
-    with pytest.raises(NoRoom), kept.keeping("w-2", OTHER):
+    kept.keep("w-1", DIGITS)
+    with pytest.raises(NoRoom), kept.unless_lost(["w-2", "w-3"]):
+        kept.keep("w-2", OTHER)
         raise NoRoom("the record is full")
     key = kept.key
     kept.close()
