@@ -99,6 +99,6 @@ def test_undo(facts: Facts) -> None:
     shown = {PAGE: [(7, PAGE, 2), (7, PAGE, 1), (8, PAGE, 4)], (7, 2): [(7, (7, 2), 5)]}
     member: Any = SimpleNamespace(me=7, page=PAGE, board=SimpleNamespace(view=shown.__getitem__), is_ready=True)
     people = People(member)
-    people.draw_now = lambda page, operation: deleted.append((page, operation)) or Drawop("draw 7 7/1 9 10 delete 7 2")  # type: ignore[assignment, func-returns-value]
+    people.draw_now = lambda page, operation: deleted.append((page, operation)) or Drawop("draw 7 7/1 9 10 delete 7 2")  # type: ignore[assignment, func-returns-value, misc]
     people.undo_now()
     facts("the greatest number of ours that is shown", deleted, [(PAGE, "delete 7 2")])

@@ -22,9 +22,9 @@ STATE = "document.querySelector('#state span').textContent"
 class Class:
     """One computer that serves browsers, which is killed and started again."""
 
-    def __init__(self, room: Path, ports: int) -> None:
+    def __init__(self, room: Path) -> None:
         self.room = room
-        self.words = ["--ports", str(ports), "--record", str(room / "monday.record"), "--lose", "0.3"]
+        self.words = ["--record", str(room / "monday.record"), "--lose", "0.3"]
         self.web = "127.0.0.1:0"
         self.member = self.begin()
         self.address = self.member.address
@@ -131,8 +131,8 @@ def test_gone(tally: Tally, served: Class, anna: Sheet, tom: Sheet, browser: Bro
     served.address = new
 
 
-def hold(tally: Tally, browser: Browser, room: Path, ports: int) -> None:
-    served = Class(room, ports)
+def hold(tally: Tally, browser: Browser, room: Path) -> None:
+    served = Class(room)
     try:
         anna, tom = served.window(browser), served.window(browser)
         test_pen_down(tally, served, anna, tom)

@@ -2,7 +2,6 @@
 
 from __future__ import annotations
 
-import os
 from pathlib import Path
 
 from ..live.browser import Browser
@@ -11,4 +10,4 @@ from .sheets import Tally
 
 
 def test_restart(tally: Tally, browser: Browser, tmp_path: Path) -> None:
-    hold(tally, browser, tmp_path, 26_032 + os.getpid() % 250 * 128)
+    hold(tally, browser, tmp_path)
