@@ -5,7 +5,7 @@ from __future__ import annotations
 import contextlib
 import secrets
 import time
-from typing import Callable, Iterator, List, Optional, Sequence, Set, Tuple
+from typing import Any, Callable, Iterator, List, Optional, Sequence, Set, Tuple
 
 from wbhost import LINES, Block, Host, HostEnded
 
@@ -45,6 +45,10 @@ MOMENTS = ("judge ", "tick ", "came ", "add ", "wall ", "gone ")
 SLACK = SECOND
 
 
+def nothing(*_: Any) -> None:
+    """Nothing is to be done."""
+
+
 class BoardFault(Exception):
     """The host can't be started again."""
 
@@ -74,6 +78,7 @@ class Board:
         self.unsynced: List[str] = []  # lines that it has, and maybe not on the disk
         self.drawn: List[Drawop] = []  # what of these we drew: nothing of it is sent yet
         self.is_broken = False  # the record could not be written
+        self.sync_kept: Callable[[], None] = nothing  # puts what is kept elsewhere on the disk, for a record that does not last
         self.strange: Set[Name] = set()  # what of the drawops no member gave, by the lines of the record
 
     def open(self, me: int) -> None:
@@ -232,25 +237,24 @@ class Board:
         """Whether the host reckons with another time of day than this machine's."""
         return abs(self.wall + self.now() - self.wall_at - wall()) > SLACK
 
-    def draw(self, page: Page, time_of_day: int, operation: str) -> Tuple[Block, Optional[Drawop]]:
-        """Has the host draw, which gives a drawing its number and its time, and puts it into the record. NoRoom where that can't have it: then a
-        host starts that has not drawn it, and its number is free. Nothing of the block is sent before `settle`."""
+    def draw(self, page: Page, time_of_day: int, operation: str, keep: Listener = nothing) -> Tuple[Block, Optional[Drawop]]:
+        """Has the host draw, which gives a drawing its number and its time, has it kept elsewhere, and puts it into the record. NoRoom where either
+        can't have it: then a host starts that has not drawn it, and its number is free. Nothing of the block is sent before `settle`."""
         self.find_room()
         now = self.now()
         before, block = self.tell_all([self.line_of_time(now, time_of_day), "add %d %d/%d %s" % (now, *page, operation)])
         block = block._replace(lines=before.lines + block.lines)
         lines = said(block, "record")
+        drawop = next((Drawop(line[4:]) for line in lines if line.startswith("say ")), None)
         try:
+            if drawop:
+                drawop.digits = next(each for each in block.sent() if name_of(each) == drawop.name)
+                keep(drawop)
             self.write(lines)
         except NoRoom:
             self.begin_again()
             raise
-        words = next((line[4:] for line in lines if line.startswith("say ")), None)
-        if words is None:
-            return block, None
-        drawop = Drawop(words)
-        drawop.digits = next(each for each in block.sent() if name_of(each) == drawop.name)
-        self.drawn.append(drawop)
+        self.drawn += [drawop] if drawop else []
         return block, drawop
 
     def settle(self) -> None:
@@ -258,6 +262,7 @@ class Board:
         never drawn, also to the host, and nobody was told of its numbers."""
         drawn, self.drawn = self.drawn, []
         try:
+            self.sync_kept()
             self.flush()
         except NoRoom:
             self.begin_again()

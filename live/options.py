@@ -48,6 +48,7 @@ class Options(argparse.Namespace):
     web: Optional[Tuple[str, int, bool]]  # an address, and whether the words name one; None: serves no page
     guests: int  # the most browsers that have a member of their own; 0: all browsers are one member
     origin: List[str]
+    new_address: bool
     terminal: bool
     open: bool
     record: Optional[str]
@@ -153,6 +154,7 @@ def parser() -> argparse.ArgumentParser:
     seen("--web", type=web_address, default=("127.0.0.1", -1, False), metavar="PORT", help="serves the page on this port of 127.0.0.1; with ADDRESS:PORT it is served there, each browser is a member of its own, and nobody else joins unless --ports, --lan, --peer or --broker is given")
     seen("--guests", type=within(1, GUESTS, int), metavar="N", help="the most browsers that have a member of their own, else %d" % GUESTS)
     seen("--origin", type=origin, action="append", default=[], metavar="URL", help="another address of the page, as https://board.example.org, behind a proxy; may be repeated")
+    seen("--new-address", action="store_true", help="the page gets another address; else it keeps the one that it had with this record, and whoever had that comes back")
     seen("--no-web", dest="web", action="store_const", const=None, help="serves no page, and paints it in the terminal")
     seen("--terminal", action="store_true", default=None, help="paints the page in the terminal")
     seen("--no-terminal", dest="terminal", action="store_false", help="paints nothing in the terminal")

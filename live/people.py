@@ -2,6 +2,7 @@
 from __future__ import annotations
 
 import re
+import secrets
 from concurrent.futures import Future
 from contextlib import contextmanager
 from functools import partial
@@ -53,6 +54,7 @@ class People:
         self.member = member
         self.draws: List[Tuple[Future[Any], Callable[[], Drawop]]] = []  # what waits to be drawn
         self.unsent: List[str] = []  # what the host sent for what is drawn now
+        self.names: List[str] = []  # under which that was asked for
 
     # ---- from other threads
 
@@ -62,9 +64,9 @@ class People:
         self.member.inbox.call(lambda: self.do(future, what, *arguments))
         return future
 
-    def draw(self, page: Page, operation: str) -> Future[Any]:
-        """Has an operation drawn, such as `line 0 0 4 4 *`, as soon as the member may draw."""
-        return self.ask(partial(self.draw_now, page, operation))
+    def draw(self, page: Page, operation: str, asked: str = "") -> Future[Any]:
+        """Has an operation drawn, such as `line 0 0 4 4 *`, as soon as the member may draw. What is asked for again under one name is drawn once."""
+        return self.ask(partial(self.draw_now, page, operation, asked))
 
     def undo(self) -> Future[Any]:
         """Has our latest drawing deleted that the page in view shows."""
@@ -101,22 +103,25 @@ class People:
         """Draws what waits. Once all of it is on the disk, it is sent; if the disk does not take it, none of it is drawn."""
         if not self.member.is_ready or not self.draws:
             return
-        draws, self.draws, self.unsent = self.draws, [], []
+        member, draws, self.draws, self.unsent, self.names = self.member, self.draws, [], [], []
         drawn: List[Tuple[Future[Any], Drawop]] = []
         for future, draw in draws:
             with told(future):
                 drawn.append((future, draw()))
         with told(*[future for future, _ in drawn]):
-            self.member.board.settle()
-            self.member.send_all(self.unsent)
+            with member.kept.unless_lost(self.names):
+                member.board.settle()
+            member.send_all(self.unsent)
             for future, drawop in drawn:
-                self.member.judging.tails.drew(drawop, self.member.board.moment)
+                member.judging.tails.drew(drawop, member.board.moment)
                 source, page, seq = drawop.name
                 future.set_result({"source": source, "seq": seq, "page": page_text(page), "words": drawop.words})
 
-    def draw_now(self, page: Page, operation: str) -> Drawop:
-        """Accepts a drawop of ours. Whether it is one, the host says."""
-        member = self.member
+    def draw_now(self, page: Page, operation: str, asked: str = "") -> Drawop:
+        """Accepts a drawop of ours. Whether it is one, the host says. What was drawn under its name before is not drawn again."""
+        member, asked = self.member, asked or secrets.token_hex(8)
+        if asked in member.kept.asked:
+            return member.drawops_of([member.kept.asked[asked]])[0]
         kind = operation.split(" ", 1)[0]
         if page != WORDS and kind in ("line", "frame", "text") and member.drawn.total >= member.board.cells - member.board.cells // KEPT:
             raise Refused("full")
@@ -125,13 +130,19 @@ class People:
         fault = member.judging.fault_of_drawing()
         if fault is not None:
             raise Refused(fault)
-        block, drawop = member.board.draw(page, wall(), operation)
+        with member.kept.unless_lost([asked]):
+            block, drawop = member.board.draw(page, wall(), operation, partial(self.keep, asked))
         self.unsent += block.sent()
         if block.fault is not None:
             raise Refused(re.sub("(?<=^word )[0-9]+", lambda place: str(int(place[0]) - WORDS_BEFORE), block.fault))
         if drawop is None:
             raise Refused("full")
         return drawop
+
+    def keep(self, asked: str, drawop: Drawop) -> None:
+        """What comes of something that was asked for stands beside the record before it is there."""
+        self.member.kept.keep(asked, drawop.digits)
+        self.names.append(asked)
 
     def turn_to(self, page: Page) -> Dict[str, Any]:
         """Makes this the page in view."""

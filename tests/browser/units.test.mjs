@@ -213,6 +213,8 @@ function testPresences() {
   [2, 1, 3, 2].forEach((member) => hear(member));
   hear(3, null);
   check('who points, but for ourselves', told, [[2], [2, 3], [3, 2], [2]]);
+  presence.hear(writePoint({ member: 3, page: '7/2', cell: null, begun: ['view 0 0 9 9'] }), 1);
+  check('who points nowhere and tells what is in view', presence.others.get(3)?.point.page, '7/2');
   for (let i = 0; i < 100; i += 1) hear(2);
   check('not too many of one are heeded in a second', told.length < 60, true);
   for (let member = 10; member < 200; member += 1) hear(member);

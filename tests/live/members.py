@@ -22,6 +22,11 @@ TOP = Path(__file__).resolve().parent.parent.parent
 PATIENCE, LONGEST = 120, 900
 
 
+def script_of(page: str) -> str:
+    """The path of the page's own script, behind the key."""
+    return str(re.findall('<script type="module" src="([^"]+)">', page)[0])
+
+
 class Process:
     """One start of ./wb-live, and the newest state that it told. Its records are kept in a folder of its own, unless words or the
     environment say where."""

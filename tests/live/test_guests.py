@@ -27,8 +27,8 @@ from live.options import read_options
 from live.record import Record
 from live.words import SharedWords
 from ..facts import Facts
-from .browser import Browser, Page, find_chromium
-from .members import PATIENCE, Process, change_board, comes
+from .browser import Browser, find_chromium
+from .members import PATIENCE, Process, change_board, comes, script_of
 
 FIRST_PORT = 26_840
 CROWD = 50
@@ -236,23 +236,13 @@ def check_returns(facts: Facts, served: Process, one: Window, two: Window) -> No
     facts("nor may it draw", third.draw("1/1", "line 0 3 3 3 c")[0], 403)
     third.cookie = "wb=" + "0" * 32
     facts("nor by a cookie of nobody", third.look().status, 403)
-    facts("a script needs no member", served.get("/%s/page/start.js" % served.token)[0], 200)
+    facts("a script needs no member", served.get("/%s/%s" % (served.token, script_of(served.get("/%s/" % served.token, {"Cookie": one.cookie})[1])))[0], 200)
     facts("and the second is shown what the first drew", two.wait_for(lambda states: "aaaa" in states["board"]["rows"]), True)
 
 
 # ---- in a real browser
 
-ME = "wb.session.isLinked && wb.session.board.page && wb.session.hello.me"
-
-
-def open_apart(browser: Browser, address: str) -> Page:
-    """A window that shares no cookies with the others."""
-    apart = browser.call("Target.createBrowserContext")["browserContextId"]
-    target = browser.call("Target.createTarget", url="about:blank", browserContextId=apart)["targetId"]
-    page = Page(browser, target, browser.call("Target.attachToTarget", targetId=target, flatten=True)["sessionId"])
-    page.call("Page.enable")
-    page.call("Page.navigate", url=address)
-    return page
+ME = "wb.session.link === 'open' && wb.session.board.page && wb.session.hello.me"
 
 
 def test_cookies(facts: Facts) -> None:
@@ -264,7 +254,7 @@ def test_cookies(facts: Facts) -> None:
     address = "http://127.0.0.1:%d/%s/" % (served.port, served.token)
     try:
         with Browser(program) as browser:
-            pages = [browser.open(address), browser.open(address), open_apart(browser, address)]
+            pages = [browser.open(address), browser.open(address), browser.open(address, is_apart=True)]
             facts("three windows have members", [page.wait(ME) for page in pages], [True] * 3)
             one, same, other = (page.value(ME) for page in pages)
             facts("two of one browser have one", (one == same, one != other), (True, True))
