@@ -8,6 +8,7 @@ import threading
 import time
 from collections import Counter
 from concurrent.futures import TimeoutError as TooLate
+from functools import partial
 from typing import Dict, List, Optional
 
 from wbhost import HostEnded
@@ -141,6 +142,7 @@ class Guests:
                 raise NoPlace("the member that you had here is ending: open the page anew")
             try:
                 guest = Guest(self.keeper, self.hub, address, cookie)
+                guest.member.admit = partial(self.keeper.kept.admit, guest.cookie)
                 self.keeper.kept.admit(guest.cookie, guest.member.me)
             except FAULTS as fault:
                 self.keeper.alarms.warn("a member for one more browser can't be started: %s" % fault)
@@ -151,10 +153,6 @@ class Guests:
             thread.start()
         self.hand_over(guest)
         return guest
-
-    def keep(self, guest: Guest) -> None:
-        """A browser has another number now."""
-        self.keeper.kept.admit(guest.cookie, guest.member.me)
 
     def is_leaving(self, cookie: str) -> bool:
         """Whether the member that a browser had before has not ended yet: two would have one number."""
