@@ -15,7 +15,8 @@ use Rattle.wb_keeping.specs.Laws.{Added, Came, KeptLine, Ticked, Tuned, doing_of
 use Rattle.wb_keeping.specs.Performing.{Keeping, after_doing, after_lines, sees, sent_by_doing, sent_by_lines}
 use Rattle.wb_keeping.specs.Views.{View}
 use Rattle.wb_judging.proofs.Heard.{filter_of_filter}
-use Rattle.wb_judged_sessions.specs.Sessions.{PlainIsTheSame, plain, plain_line}
+use Rattle.wb_judged_sessions.specs.Sessions.{PlainIsTheSame, plain_line}
+use Rattle.wb_laws_machines.specs.Maps.{plain}
 use Rattle.wb_judged_sessions.specs.Terms.{came_in}
 
 abbrev pub of_others : ℕ → List Echo → List Echo

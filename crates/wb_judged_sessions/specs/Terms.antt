@@ -16,7 +16,7 @@ use Rattle.wb_judging.specs.Refusing.{draw_fault, held_fault}
 use Rattle.wb_judging.specs.declared.record.RecordLine.{RecordLine}
 use Rattle.wb_laws_kept.specs.Openings.{IsOpening}
 use Rattle.wb_laws_kept.specs.Restarts.{drawop_in}
-use Rattle.wb_laws_sessions.specs.Sessions.{AreApart}
+use Rattle.wb_laws_machines.specs.Honest.{AreApart}
 use Rattle.wb_judged_sessions.specs.Sessions.{JudgedCall, JudgedCallAt, Start, Starts, Takes, WasHeld, drawn_at, judged_at, started}
 
 -- ---- no line is refused

@@ -24,9 +24,10 @@ use Rattle.wb_dialog.specs.declared.line.DriverLine.{DriverLine}
 use Rattle.wb_dialog.specs.Doing.{text_in}
 use Rattle.wb_dialog.specs.Hosting.{Host, Driven, Kept, as_driven, kept_shows, reply}
 use Rattle.wb_dialog.specs.Lines.{asks}
-use Rattle.wb_laws_sessions.specs.Agreement.{Agree}
+use Rattle.wb_laws_machines.specs.Agreement.{Agree}
 use Rattle.wb_laws_sessions.specs.Drawn.{AreHonest}
-use Rattle.wb_laws_sessions.specs.Sessions.{AreApart, Step, host_at}
+use Rattle.wb_laws_sessions.specs.Sessions.{Step, host_at}
+use Rattle.wb_laws_machines.specs.Honest.{AreApart}
 use Rattle.wb_laws_sessions.proofs.Agreeing.{fits, older_honest, reports_tell_agreement}
 use Rattle.wb_laws_hosts.specs.Laws.{AskOf, IsOpenHost, ReportsTellShows, prints_at}
 use Rattle.wb_laws_hosts.specs.Telling as telling

@@ -4,12 +4,12 @@ use Rattle.std.specs.Prelude.{Contains}
 use Rattle.wb_names.specs.Values.{DrawopValue}
 use Rattle.wb_gaps.specs.Answers.{report_of}
 use Rattle.wb_member.specs.Opened.{Opened, gaps_at}
-use Rattle.wb_laws_sessions.specs.Agreement.{Agree}
+use Rattle.wb_laws_machines.specs.Agreement.{Agree}
 use Rattle.wb_laws_sessions.specs.Sessions.{Step, host_at}
 use Rattle.wb_laws_sessions.proofs.Agreeing.{reports_tell_agreement}
 use Rattle.wb_laws_sessions.proofs.Drawn.{names_mean_one, once_held_was_drawn}
 use Rattle.wb_laws_sessions.proofs.Several.{then_split}
-use Rattle.wb_laws_sessions.proofs.Outcomes.{Found, found}
+use Rattle.wb_laws_machines.proofs.Outcomes.{Found, found}
 use Rattle.wb_laws_kept.specs.Restarts.{KeptNeverClash, KeptReportsTellAgreement}
 use Rattle.wb_laws_kept.specs.Sessions.{CallAt, kept_at, steps_of}
 use Rattle.wb_laws_kept.proofs.Honest.{kept_are_honest}

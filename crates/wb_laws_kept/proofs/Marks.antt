@@ -46,7 +46,7 @@ use Rattle.wb_laws_sessions.specs.Drawn.{WasHeld}
 use Rattle.wb_laws_sessions.specs.Sessions.{Deed, Does, Step, after_deed, host_at, sent, sent_by_deed, sent_by_deeds, steps_then}
 use Rattle.wb_laws_sessions.proofs.Deeds.{Fits, fits_after}
 use Rattle.wb_laws_sessions.proofs.Drawn.{once_held_was_drawn}
-use Rattle.wb_laws_sessions.proofs.Names.{holds_name, of_name}
+use Rattle.wb_laws_machines.proofs.Names.{holds_name, of_name}
 use Rattle.wb_laws_kept.specs.Openings.{Opening, opened}
 use Rattle.wb_laws_kept.specs.Restarts.{MarksWereDrawn}
 use Rattle.wb_laws_kept.specs.Sessions.{AreTaken, Begins, Call, CallAt, Handed, IsTaken, after_call, given_lines, kept_at, steps_of}

@@ -16,12 +16,13 @@ use Rattle.wb_laws_kept.specs.Openings.{Opening, opened}
 use Rattle.wb_keeping.specs.Performing.{Keeping, sees}
 use Rattle.wb_keeping.proofs.EachLine.{Each, each_both}
 use Rattle.wb_laws_sessions.specs.Drawn.{AreHonest, WasDrawn, WasHeld, drawn_at, drawn_by}
-use Rattle.wb_laws_sessions.specs.Sessions.{AreApart, Deed, Does, Opens, Step, after_deed, host_at, steps_then}
+use Rattle.wb_laws_sessions.specs.Sessions.{Deed, Does, Opens, Step, after_deed, host_at, steps_then}
+use Rattle.wb_laws_machines.specs.Honest.{AreApart}
 use Rattle.wb_laws_sessions.proofs.Deeds.{deed_draws}
 use Rattle.wb_laws_sessions.proofs.Drawn.{drawn_cases, names_mean_one, numbers_count, once_held_was_drawn}
 use Rattle.wb_laws_sessions.proofs.Honest.{IsGiven, given_draws_none}
-use Rattle.wb_laws_sessions.proofs.Names.{at_most_highest}
-use Rattle.wb_laws_sessions.proofs.Outcomes.{with_more}
+use Rattle.wb_laws_machines.proofs.Names.{at_most_highest}
+use Rattle.wb_laws_machines.proofs.Outcomes.{with_more}
 use Rattle.wb_laws_sessions.proofs.Several.{number_at}
 use Rattle.wb_laws_kept.specs.Restarts.{IsWholeRecord, KnowTheirOwn, KnowsItsOwn, RecordedReportsTellAgreement, RecordsAreWhole, WholeRecordsTell, drawops_in}
 use Rattle.wb_laws_kept.specs.Sessions.{AreTaken, Begins, Call, CallAt, DrawopsWereHeld, Handed, after_call, given_lines, kept_at, steps_of}

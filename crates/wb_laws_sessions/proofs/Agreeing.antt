@@ -15,13 +15,15 @@ use Rattle.wb_display.specs.Canvas.{canvas_text}
 use Rattle.wb_keeper.specs.Hearing.{marks_heard}
 use Rattle.wb_keeper.proofs.KeptCalls.{holds_or_not}
 use Rattle.wb_member.specs.Opened.{Opened, gaps_at, shown}
-use Rattle.wb_laws_sessions.specs.Agreement.{Agree, ReportsTellAgreement, WholeBoardsAgree}
+use Rattle.wb_laws_sessions.specs.Agreement.{ReportsTellAgreement, WholeBoardsAgree}
+use Rattle.wb_laws_machines.specs.Agreement.{Agree}
 use Rattle.wb_laws_sessions.specs.Drawn.{AreHonest, WasDrawn}
-use Rattle.wb_laws_sessions.specs.Sessions.{AreApart, Step, after_deed, host_at}
+use Rattle.wb_laws_sessions.specs.Sessions.{Step, after_deed, host_at}
+use Rattle.wb_laws_machines.specs.Honest.{AreApart}
 use Rattle.wb_laws_sessions.proofs.Deeds.{Fits, fits_after}
 use Rattle.wb_laws_sessions.proofs.Drawn.{each_was_drawn, held_once_at, held_was_drawn, names_mean_one, numbers_count}
-use Rattle.wb_laws_sessions.proofs.Names.{at_most_highest, named, of_name}
-use Rattle.wb_laws_sessions.proofs.Sharing.{view_alike}
+use Rattle.wb_laws_machines.proofs.Names.{at_most_highest, named, of_name}
+use Rattle.wb_laws_machines.proofs.Sharing.{view_alike}
 use Rattle.wb_board.specs.Counts.{MAX_CELLS}
 use Rattle.wb_board.proofs.Agreement.{ShareAPage}
 

@@ -10,7 +10,7 @@ use Rattle.wb_member.specs.Opened.{Opened}
 use Rattle.wb_laws_sessions.specs.Drawn.{AreHonest, HeldOnce, HeldWasDrawn, IsHonestStep, NamesMeanOne, NoneClashes, NumbersCount, OnceHeldWasDrawn, WasDrawn, drawn_at, drawn_by}
 use Rattle.wb_laws_sessions.specs.Sessions.{Does, Step, after_deed, host_at}
 use Rattle.wb_laws_sessions.proofs.Deeds.{ComesBy, deed_brings, deed_draws, once_after, one_drawn}
-use Rattle.wb_laws_sessions.proofs.Outcomes.{Found, found}
+use Rattle.wb_laws_machines.proofs.Outcomes.{Found, found}
 use Rattle.wb_progress.proofs.Parts.{tails, nil_ends}
 
 module _ (numbers : ℕ → ℕ) where

@@ -18,7 +18,7 @@ use Rattle.wb_keeper.specs.Ticks.{drawop_of, sent_for, sends_for}
 use Rattle.wb_keeper.proofs.TickSends.{sent_from}
 use Rattle.wb_member.specs.Lines.{said_where}
 use Rattle.wb_laws_sessions.specs.Sessions.{Step, after_deed, host_at}
-use Rattle.wb_laws_sessions.proofs.Outcomes.{Found}
+use Rattle.wb_laws_machines.proofs.Outcomes.{Found}
 use Rattle.std.proofs.lemmas.Option.{same_Some}
 
 -- a look-up finds a drawop of the history

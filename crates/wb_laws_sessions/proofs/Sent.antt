@@ -15,7 +15,7 @@ use Rattle.wb_laws_sessions.specs.Drawn.{SentWasHeld}
 use Rattle.wb_laws_sessions.specs.Sessions.{Deed, Does, Step, after_deed, host_at, sent, sent_by_deed}
 use Rattle.wb_laws_sessions.proofs.Acts.{IsDrawing, draws_sent}
 use Rattle.wb_laws_sessions.proofs.CallActs.{IsCareful, call_acts}
-use Rattle.wb_laws_sessions.proofs.Outcomes.{found}
+use Rattle.wb_laws_machines.proofs.Outcomes.{found}
 use Rattle.wb_laws_sessions.proofs.Sending.{one_of, said_held, there}
 
 -- an act that draws nothing sends only drawops that are held

@@ -9,11 +9,12 @@ use Rattle.wb_codec.specs.declared.datagram.Datagram.{Datagram}
 use Rattle.wb_codec.specs.declared.datagram.Datagram.TheVariants.{Draw}
 use Rattle.wb_member.specs.Lines.{Line, after_line, after_lines, said_where, sent_by_line, sent_by_lines, Arrives, Says}
 use Rattle.wb_member.specs.Opened.{Opened, becomes}
-use Rattle.wb_laws_sessions.specs.Drawn.{AreHonest, IsAbove, WasHeld, drawn_at, drawn_by, new_where}
-use Rattle.wb_laws_sessions.specs.Sessions.{AreApart, Deed, Does, Step, after_deed, after_deeds, host_at, sent, sent_by_deed, sent_by_deeds, steps_then}
+use Rattle.wb_laws_sessions.specs.Drawn.{AreHonest, WasHeld, drawn_at, drawn_by, new_where}
+use Rattle.wb_laws_machines.specs.Honest.{IsAbove, AreApart}
+use Rattle.wb_laws_sessions.specs.Sessions.{Deed, Does, Step, after_deed, after_deeds, host_at, sent, sent_by_deed, sent_by_deeds, steps_then}
 use Rattle.wb_laws_sessions.proofs.Deeds.{deed_draws, number_after}
 use Rattle.wb_laws_sessions.proofs.Drawn.{drawn_cases, names_mean_one, once_held_was_drawn}
-use Rattle.wb_laws_sessions.proofs.Outcomes.{Found, found}
+use Rattle.wb_laws_machines.proofs.Outcomes.{Found, found}
 use Rattle.wb_laws_sessions.proofs.Sending.{there}
 
 -- ---- lines as deeds

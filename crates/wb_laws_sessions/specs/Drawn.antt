@@ -8,7 +8,8 @@ use Rattle.wb_board.specs.Counts.{MAX_CELLS}
 use Rattle.wb_recovery.specs.declared.tuning.Tuning.{Tuning}
 use Rattle.wb_member.specs.Lines.{Arrives, Says}
 use Rattle.wb_member.specs.Opened.{Opened, becomes}
-use Rattle.wb_laws_sessions.specs.Sessions.{AreApart, Deed, Does, Opens, Step, host_at, sent}
+use Rattle.wb_laws_sessions.specs.Sessions.{Deed, Does, Opens, Step, host_at, sent}
+use Rattle.wb_laws_machines.specs.Honest.{AreApart, IsAbove}
 
 -- a drawop that a member says is drawn if its board takes it anew
 abbrev pub new_where : DrawopValue → Outcome → List DrawopValue
@@ -36,10 +37,6 @@ pub record WasHeld (numbers : ℕ → ℕ) (steps : List Step) (d : DrawopValue)
   pub split : steps ≡ newer ++ older
   pub place : ℕ
   pub held : Contains (host_at numbers older place).is.held d
-
--- its number is above all that were drawn on its page
-abbrev pub IsAbove : List DrawopValue → NameValue → Type 0
-IsAbove drawn n = (x : DrawopValue) → Contains drawn x → x.name.page ≡ n.page → x.name.seq < n.seq
 
 -- No board has more cells than one can have. What comes, some member held before. What a member
 -- draws has its own number, and a sequence number above all that it drew on the page.

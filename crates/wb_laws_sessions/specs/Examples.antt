@@ -13,7 +13,8 @@ use Rattle.wb_member.specs.Lines.{Arrives, Calls, Says}
 use Rattle.wb_member.specs.Opened.{becomes, gaps_at}
 use Rattle.wb_member.specs.declared.calls.Call.TheVariants as calls
 use Rattle.wb_laws_sessions.specs.Drawn.{AreHonest}
-use Rattle.wb_laws_sessions.specs.Sessions.{AreApart, Deed, Does, Opens, Step, host_at, sent}
+use Rattle.wb_laws_sessions.specs.Sessions.{Deed, Does, Opens, Step, host_at, sent}
+use Rattle.wb_laws_machines.specs.Honest.{AreApart}
 
 abbrev pub page : PageId
 page = record { creator = 10; number = 1 }

@@ -61,11 +61,3 @@ abbrev pub steps_then : ℕ → ℕ → List Deed → List Step → List Step
 steps_then time place [] older = older
 steps_then time place (deed ∷ deeds) older =
     steps_then time place deeds (record { time = time; place = place; deed = deed } ∷ older)
-
--- ---- whose they are
-
--- No two places have one number. A record is locked while a member uses it, a new number is drawn at
--- random, and who hears a twin stops drawing (tests/live/test_units.py: test_record; test_records.py: check_state;
--- test_crowds.py: test_twins; tests/browser/judging.mjs: testTwins).
-abbrev pub AreApart : (ℕ → ℕ) → Type 0
-AreApart numbers = (i j : ℕ) → numbers i ≡ numbers j → i ≡ j

@@ -1,0 +1,7 @@
+mod Judged
+mod Hosts
+mod Members
+mod Sessions
+mod Timers
+mod Clocks
+mod Examples
