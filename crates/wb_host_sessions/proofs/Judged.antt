@@ -25,7 +25,7 @@ use Rattle.wb_judging.specs.declared.record.RecordLine.{RecordLine}
 use Rattle.wb_judging.specs.declared.record.RecordLine.TheVariants.{Known, Mark, Said, Strange, Tick}
 use Rattle.wb_judging.proofs.AsKept.{judged_members_are_kept}
 use Rattle.wb_judging.proofs.Numbers.{own_stays}
-use Rattle.wb_laws_sessions.specs.Sessions.{Does}
+use Rattle.wb_laws_sessions.specs.Members.{Does, member}
 use Rattle.wb_laws_kept.specs.Sessions.{Begins, Handed}
 use Rattle.wb_judged_sessions.specs.Sessions.{plain_line, sent_by_lines, started}
 use Rattle.wb_laws_machines.specs.Maps.{HasSame, IsMap, plain}
@@ -38,7 +38,6 @@ use Rattle.wb_laws_machines.specs.Honest.{IsLawful}
 use Rattle.wb_host_sessions.specs.Judged.{JudgedCall, Starts, Takes, Tunes, IsTaken, after_call, calls_of, drawn_by, gained_by, judged, judged_map, sent_by}
 use Rattle.wb_laws_kept.specs.Kept.{gained_by_line, kept}
 use Rattle.wb_laws_machines.specs.Machines.{AreAllTaken, after_all, drawn_by_all, gained_by_all, sent_by_all}
-use Rattle.wb_laws_sessions.specs.Members.{member}
 use Rattle.wb_laws_kept.proofs.Kept.{kept_is_lawful}
 use Rattle.wb_laws_machines.proofs.Mapped.{lawful_over}
 

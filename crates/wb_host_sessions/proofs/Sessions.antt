@@ -24,7 +24,7 @@ use Rattle.wb_laws_machines.proofs.Drawn.{each_was_drawn, names_mean_one, number
 use Rattle.wb_laws_machines.proofs.Honest.{honest_below}
 use Rattle.wb_host_sessions.proofs.Hosts.{hosts_are_lawful}
 use Rattle.wb_host_sessions.proofs.Judged.{line_draws}
-use Rattle.wb_laws_kept.proofs.Kept.{new_is}
+use Rattle.wb_laws_sessions.proofs.Drawn.{new_is}
 use Rattle.wb_laws_machines.proofs.Agreeing.{reports_tell_agreement}
 use Rattle.wb_laws_sessions.proofs.Members.{members_are_small}
 use Rattle.wb_laws_machines.proofs.Mapped.{drawn_below, held_below, member_below, sent_below, small_above, taken_below}

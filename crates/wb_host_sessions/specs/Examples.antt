@@ -9,7 +9,7 @@ use Rattle.wb_member.specs.Lines.{Says}
 use Rattle.wb_member.specs.Opened.{Opened, gaps_at}
 use Rattle.wb_keeping.specs.Laws.{Came}
 use Rattle.wb_judging.specs.declared.call.Call.TheVariants.{CameFrom}
-use Rattle.wb_laws_sessions.specs.Sessions.{Does, Opens}
+use Rattle.wb_laws_sessions.specs.Members.{Does, Opens}
 use Rattle.wb_laws_kept.specs.Sessions.{Begins, Handed}
 use Rattle.wb_judged_sessions.specs.Examples.{deletes, numbers, page, somewhere, start}
 use Rattle.wb_laws_machines.specs.Honest.{AreApart}

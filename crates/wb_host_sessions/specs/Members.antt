@@ -2,7 +2,7 @@
 use Rattle.std.specs.Prelude.{◌≡◌, ℕ, List, [], ◌∷◌, ◌++◌}
 use Rattle.wb_member.specs.Opened.{Opened}
 use Rattle.wb_laws_machines.specs.Maps.{Map, both}
-use Rattle.wb_laws_sessions.specs.Sessions.{Deed, Opens}
+use Rattle.wb_laws_sessions.specs.Members.{Deed, Opens}
 use Rattle.wb_laws_kept.specs.Kept.{kept, kept_map}
 use Rattle.wb_host_sessions.specs.Hosts.{Drives, Driven, Host, HostEvent, Judged, Judges, Keeps, Kept, Sets, judged_in, kept_in, member_of}
 use Rattle.wb_host_sessions.specs.Judged.{JudgedCall, judged_map}

@@ -6,7 +6,7 @@ use Rattle.wb_codec.specs.declared.datagram.Datagram.{Datagram}
 use Rattle.wb_gaps.specs.Answers.{report_of}
 use Rattle.wb_member.specs.Opened.{Opened, gaps_at, last_number}
 use Rattle.wb_laws_machines.specs.Agreement.{Agree}
-use Rattle.wb_laws_sessions.specs.Sessions.{Deed}
+use Rattle.wb_laws_sessions.specs.Members.{Deed, member}
 use Rattle.wb_laws_machines.specs.Honest.{AreApart, AreHonest, IsAbove, IsOn}
 use Rattle.wb_host_sessions.specs.Hosts.{Drives, Host, HostEvent, Judges, Keeps, Sets, driven_in, hosts, judged_in, kept_in}
 use Rattle.wb_host_sessions.specs.Judged.{judged}
@@ -14,7 +14,6 @@ use Rattle.wb_host_sessions.specs.Members.{hosts_map}
 use Rattle.wb_laws_kept.specs.Kept.{kept}
 use Rattle.wb_laws_machines.specs.Machines.{AreTaken, At, WasDrawn, WasHeld, drawn_at, member_at, sent, state_at, ◌⊑◌}
 use Rattle.wb_laws_machines.specs.Maps.{HasSame, below}
-use Rattle.wb_laws_sessions.specs.Members.{member}
 
 -- The last number of its own that a member knows on a page is as great as each that its place drew there.
 abbrev pub KnowsItsOwn : PageId → (ℕ → ℕ) → List (At HostEvent) → ℕ → Opened → Type 0

@@ -1,17 +1,11 @@
 -- What timers tell of what is held, of hosts of all kinds.
-use Rattle.std.specs.Prelude.{◌≡◌, ℕ, true, is_some, List, [], ◌∷◌, None}
+use Rattle.std.specs.Prelude.{◌≡◌, ℕ, true, is_some, List, None}
 use Rattle.wb_names.specs.Values.{NameValue}
 use Rattle.wb_recovery.specs.Events.{timers_of}
 use Rattle.wb_keeper.specs.Keeper.{holds}
 use Rattle.wb_member.specs.Opened.{events}
-use Rattle.wb_laws_sessions.specs.Sessions.{Deed, Step}
 use Rattle.wb_host_sessions.specs.Hosts.{HostEvent, hosts}
 use Rattle.wb_laws_machines.specs.Machines.{At, member_at}
-
--- a trace of deeds, as steps of a session
-abbrev pub steps_of : List (At Deed) → List Step
-steps_of [] = []
-steps_of (e ∷ older) = record { time = e.time; place = e.place; deed = e.event } ∷ steps_of older
 
 -- No request timer stands for what a host holds, and a repair timer only for what it holds.
 abbrev pub TimersTellHoldings : Type 0

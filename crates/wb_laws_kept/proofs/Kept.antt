@@ -2,7 +2,6 @@
 use Rattle.std.proofs.Common.{◌≡◌, ℕ, ◌≤◌, List, [], ◌∷◌, ◌++◌, ◌∙◌, ap, append-nil, arith, length, map, refl, subst, sym, ⊎_elim}
 use Rattle.std.specs.Prelude.{Contains}
 use Rattle.std.proofs.lemmas.List.Elements.{Contains-append_cases}
-use Rattle.wb_names.specs.Arrivals.{Outcome, New, Again, Clash, Left}
 use Rattle.wb_names.specs.Values.{DrawopValue}
 use Rattle.wb_names.specs.declared.name.PageId.{PageId}
 use Rattle.wb_names.specs.declared.parts.Op.{Op}
@@ -16,35 +15,20 @@ use Rattle.wb_keeping.specs.Kept.{adds, and_then, came, drawing, ends_full, tick
 use Rattle.wb_keeping.specs.Laws.{Added, Came, KeptLine, Ticked, Tuned, doing_of, expand}
 use Rattle.wb_keeping.specs.Performing.{Keeping, sees, view_of}
 use Rattle.wb_keeping.proofs.EachLine.{Each, each_both, ends_each, then_each}
-use Rattle.wb_keeping.proofs.KeptHosts.{kept_hosts_are_hosts}
-use Rattle.wb_keeping.proofs.Performed.{after_both}
-use Rattle.wb_laws_sessions.specs.Drawn.{new_where}
-use Rattle.wb_laws_sessions.specs.Sessions.{Does}
+use Rattle.wb_laws_sessions.specs.Members.{new_where, Does, member}
 use Rattle.wb_laws_sessions.proofs.Honest.{IsGiven}
-use Rattle.wb_laws_sessions.proofs.Sending.{one_of}
+use Rattle.wb_laws_sessions.proofs.Drawn.{new_is}
 use Rattle.wb_laws_kept.specs.Openings.{opened}
 use Rattle.wb_laws_kept.specs.Restarts.{drawops_in}
 use Rattle.wb_laws_kept.specs.Sessions.{Begins, Call, Handed, after_call, given_lines}
+use Rattle.wb_laws_kept.proofs.Steps.{call_is}
 use Rattle.wb_laws_kept.proofs.Honest.{came_given, moments_given, of_policy, record_given, ticks_given, timed_given}
 use Rattle.wb_laws_machines.specs.Honest.{IsLawful}
 use Rattle.wb_laws_kept.specs.Kept.{deeds_of, drawn_by, gained_by, kept, kept_map}
 use Rattle.wb_laws_machines.specs.Machines.{AreAllTaken, after_all, drawn_by_all, gained_by_all}
 use Rattle.wb_laws_machines.specs.Maps.{IsMap}
-use Rattle.wb_laws_sessions.specs.Members.{member}
 use Rattle.wb_laws_machines.proofs.Mapped.{lawful_over}
 use Rattle.wb_laws_sessions.proofs.Members.{member_is_lawful, new_few}
-
--- ---- lines as deeds
-
-performed : (lines : List Line) (host : Opened) → after_all member (map Does lines) host ≡ after_lines lines host
-performed [] host = refl
-performed (line ∷ lines) host = performed lines (after_line line host)
-
-pub new_is : (d x : DrawopValue) (o : Outcome) → Contains (new_where d o) x → d ≡ x
-new_is d x (New i) c = one_of d x c
-new_is d x (Again i) c = absurd (Contains-none x c)
-new_is d x (Clash i) c = absurd (Contains-none x c)
-new_is d x Left c = absurd (Contains-none x c)
 
 -- ---- lines that draw nothing
 
@@ -98,16 +82,6 @@ module _ (now : ℕ) (page : PageId) (told : ℕ) (op : Op) (k : Keeping) where
   adds_gain d c = all_gained none more with_its more_given d c
 
 -- ---- calls
-
-goes : (call : Call) (k : Keeping) → after_all member (deeds_of call k) k.host ≡ (after_call call k).host
-goes (Handed line) k = performed (doing_of line (sees k.host) k.policy).lines k.host
-goes (Begins o given) k =
-    let first : Keeping = opened k.host.is.number o in
-    let lines : List KeptLine = given_lines first given in
-    let start : Opened = opened_with o.constants k.host.is.number o.cells o.seed in
-    performed (ticks_at o.moments ++ expand lines first) start
-    ∙ after_both (ticks_at o.moments) (expand lines first) start
-    ∙ sym (kept_hosts_are_hosts lines first).0
 
 abbrev any : DrawopValue → Type 0
 any d = Unit {0}
@@ -165,7 +139,7 @@ pub kept_is_map : IsMap kept member kept_map
 kept_is_map = record {
   member = λ k. refl;
   starts = λ n. refl;
-  goes = goes;
+  goes = call_is;
   draws = draws;
   gains = gains;
   sound = λ n. tt;

@@ -10,14 +10,12 @@ use Rattle.wb_member.specs.Board.{Held}
 use Rattle.wb_member.specs.Lines.{Arrives, Calls, Says}
 use Rattle.wb_member.specs.Opened.{Opened, becomes}
 use Rattle.wb_member.proofs.KeptBoards.{calls_keep_boards}
-use Rattle.wb_laws_sessions.specs.Drawn.{drawn_by, new_where}
-use Rattle.wb_laws_sessions.specs.Sessions.{Deed, Does, Opens, after_deed}
+use Rattle.wb_laws_sessions.specs.Members.{drawn_by, new_where, Deed, Does, Opens, after_deed, IsSmall, gained_by, member}
 use Rattle.wb_laws_sessions.proofs.Deeds.{number_after, once_after, saying_brings}
 use Rattle.wb_laws_sessions.proofs.Room.{with_room}
 use Rattle.wb_laws_machines.specs.Honest.{IsLawful}
 use Rattle.wb_laws_machines.specs.Machines.{At, member_at}
 use Rattle.wb_laws_machines.proofs.Mapped.{TakenAreSmall}
-use Rattle.wb_laws_sessions.specs.Members.{IsSmall, gained_by, member}
 
 abbrev ComesTo : Deed → Opened → DrawopValue → Type 0
 ComesTo deed host x = Contains host.is.held x ⊎ (Contains (gained_by deed host) x ⊎ Contains (drawn_by deed host) x)

@@ -1,6 +1,6 @@
+pub mod Members
 pub mod Sessions
 pub mod Drawn
 pub mod Agreement
-pub mod Members
 pub mod Timers
 pub mod Examples
