@@ -84,7 +84,7 @@ class Kinds(Restarts):
             super().send(member, digits)
 
     def come(self, member: Member, digits: str) -> None:
-        """A datagram comes. Of what is forged on the other page a clash is no fault."""
+        """A datagram comes. What is forged on the other page may clash."""
         host = self.mixed[member.number]
         self.tick(host)
         if host.kind == "driven" and digits.startswith(TELLS) and digits not in self.senders:

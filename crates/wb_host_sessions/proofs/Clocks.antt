@@ -20,18 +20,18 @@ use Rattle.wb_judging.proofs.AsKept.{sends_as_kept}
 use Rattle.wb_judging.proofs.Numbers.{me_judging}
 use Rattle.wb_laws_sessions.proofs.Sending.{one_of}
 use Rattle.wb_laws_kept.specs.Sessions.{Begins, Call as KeptCall, Handed}
-use Rattle.wb_judged_sessions.specs.Sessions.{plain_line}
+use Rattle.wb_judged_sessions.specs.Sessions.{plain_line, JudgedCall, Starts, Takes, Tunes, sent_by}
 use Rattle.wb_laws_machines.specs.Maps.{plain, HasSame, below}
-use Rattle.wb_judged_sessions.specs.Terms.{IsLineTaken}
+use Rattle.wb_judged_sessions.specs.Terms.{IsLineTaken, IsTaken}
 use Rattle.wb_judged_sessions.proofs.Echoes.{call_sends, plain_again}
 use Rattle.wb_judged_sessions.proofs.Plain.{plain_sent}
 use Rattle.wb_judged_sessions.proofs.Sent.{echo_mine}
 use Rattle.wb_judged_sessions.proofs.Terms.{IsOwn, fault_none}
 use Rattle.wb_host_sessions.specs.Clocks.{IsSteady, IsSteadyLine, JudgedKeepTime, heard_in, judged_clock, judged_hears, kept_clock, kept_hears}
-use Rattle.wb_host_sessions.specs.Judged.{IsTaken, JudgedCall, Starts, Takes, Tunes, calls_of, judged, judged_map, sent_by}
+use Rattle.wb_judged_sessions.specs.Judged.{calls_of, judged, judged_map}
 use Rattle.wb_laws_kept.specs.Kept.{kept}
 use Rattle.wb_laws_machines.specs.Times.{IsMapInTime}
-use Rattle.wb_host_sessions.proofs.Judged.{judged_is_map, kept_sends, plain_twice}
+use Rattle.wb_judged_sessions.proofs.Judged.{judged_is_map, kept_sends, plain_twice}
 use Rattle.wb_laws_machines.proofs.Mapped.{member_below}
 use Rattle.wb_laws_machines.proofs.Times.{keeps_time_below}
 

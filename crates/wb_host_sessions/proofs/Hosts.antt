@@ -1,6 +1,5 @@
 -- Hosts of all kinds keep the laws of machines.
-use Rattle.std.proofs.Common.{ℕ}
-use Rattle.std.proofs.Common.{◌≡◌, ◌⊎◌, ◌≤◌, List, [], ◌∙◌, ap, arith, inl, inr, length, refl, subst, sym, ⊎_elim}
+use Rattle.std.proofs.Common.{ℕ, ◌≡◌, ◌⊎◌, ◌≤◌, List, [], ◌∙◌, ap, arith, inl, inr, length, refl, subst, sym, ⊎_elim}
 use Rattle.std.specs.Prelude.{Contains}
 use Rattle.wb_names.specs.History.{IsHistory}
 use Rattle.wb_names.specs.Values.{DrawopValue}
@@ -8,11 +7,11 @@ use Rattle.wb_names.proofs.Listings.{Contains-none}
 use Rattle.wb_member.specs.Opened.{Opened}
 use Rattle.wb_laws_machines.specs.Honest.{IsLawful}
 use Rattle.wb_host_sessions.specs.Hosts.{Drives, Driven, Host, HostEvent, Judged, Judges, Keeps, Kept, Sets, set_to_keep, after_event, driven_in, hosts, judged_in, kept_in, member_of}
-use Rattle.wb_host_sessions.specs.Judged.{judged}
+use Rattle.wb_judged_sessions.specs.Judged.{judged}
 use Rattle.wb_laws_kept.specs.Kept.{kept}
 use Rattle.wb_laws_machines.specs.Machines.{Machine}
 use Rattle.wb_laws_sessions.specs.Members.{member}
-use Rattle.wb_host_sessions.proofs.Judged.{judged_is_lawful}
+use Rattle.wb_judged_sessions.proofs.Judged.{judged_is_lawful}
 use Rattle.wb_laws_kept.proofs.Kept.{kept_is_lawful}
 use Rattle.wb_laws_sessions.proofs.Members.{member_is_lawful}
 

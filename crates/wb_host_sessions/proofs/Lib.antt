@@ -1,4 +1,3 @@
-mod Judged
 mod Hosts
 mod Members
 mod Sessions

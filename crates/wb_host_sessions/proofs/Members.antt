@@ -7,14 +7,14 @@ use Rattle.wb_codec.specs.declared.datagram.Datagram.{Datagram}
 use Rattle.wb_member.specs.Opened.{Opened}
 use Rattle.wb_laws_sessions.specs.Members.{Deed, member}
 use Rattle.wb_host_sessions.specs.Hosts.{Drives, Driven, Host, HostEvent, Judged, Judges, Keeps, Kept, Sets, after_event, driven_in, hosts, is_taken, judged_in, kept_in, member_of}
-use Rattle.wb_host_sessions.specs.Judged.{judged}
+use Rattle.wb_judged_sessions.specs.Judged.{judged}
 use Rattle.wb_host_sessions.specs.Members.{IsSound, deeds_of, driven_turn, ends, hosts_map, judged_member_map, judged_turn, kept_turn}
 use Rattle.wb_laws_machines.specs.Machines.{AreAllTaken, Machine, after_all, drawn_by_all, gained_by_all, sent_by_all}
 use Rattle.wb_laws_machines.specs.Maps.{HasSame, IsMap, Map}
 use Rattle.wb_laws_machines.proofs.Composed.{after_both, both_taken, drawn_by_both, both_map, gained_by_both, sent_by_both}
 use Rattle.wb_host_sessions.proofs.Hosts.{same_member as same_set}
 use Rattle.wb_names.proofs.Listings.{Contains-none}
-use Rattle.wb_host_sessions.proofs.Judged.{judged_is_map}
+use Rattle.wb_judged_sessions.proofs.Judged.{judged_is_map}
 use Rattle.wb_laws_kept.specs.Kept.{kept_map}
 use Rattle.wb_laws_kept.proofs.Kept.{kept_is_map}
 

@@ -11,11 +11,11 @@ use Rattle.wb_judging.specs.Handing.{handed}
 use Rattle.wb_judging.specs.Judged.{Judged as JudgedState}
 use Rattle.wb_member.specs.Opened.{Opened, becomes, last_number, ticked}
 use Rattle.wb_laws_kept.specs.Sessions.{Begins, Call as KeptCall, Handed}
-use Rattle.wb_judged_sessions.specs.Sessions.{plain_line}
+use Rattle.wb_judged_sessions.specs.Sessions.{plain_line, JudgedCall, Starts, Takes, Tunes}
 use Rattle.wb_laws_machines.specs.Honest.{AreHonest, IsAbove, IsOn}
 use Rattle.wb_host_sessions.specs.Hosts.{Drives, Driven, Host, HostEvent, Judged, Judges, Keeps, Kept, Sets, hosts, judged_in, kept_in, member_of}
 use Rattle.wb_host_sessions.specs.Members.{hosts_map}
-use Rattle.wb_host_sessions.specs.Judged.{JudgedCall, Starts, Takes, Tunes, judged}
+use Rattle.wb_judged_sessions.specs.Judged.{judged}
 use Rattle.wb_laws_kept.specs.Kept.{kept}
 use Rattle.wb_laws_machines.specs.Machines.{At, drawn_at, state_at}
 use Rattle.wb_laws_machines.specs.Maps.{below}
@@ -23,7 +23,7 @@ use Rattle.wb_host_sessions.specs.Sessions.{DrawsAnew, HostsAgree, HostsAreMembe
 use Rattle.wb_laws_machines.proofs.Drawn.{each_was_drawn, names_mean_one, number_at}
 use Rattle.wb_laws_machines.proofs.Honest.{honest_below}
 use Rattle.wb_host_sessions.proofs.Hosts.{hosts_are_lawful}
-use Rattle.wb_host_sessions.proofs.Judged.{line_draws}
+use Rattle.wb_judged_sessions.proofs.Judged.{line_draws}
 use Rattle.wb_laws_sessions.proofs.Drawn.{new_is}
 use Rattle.wb_laws_machines.proofs.Agreeing.{reports_tell_agreement}
 use Rattle.wb_laws_sessions.proofs.Members.{members_are_small}

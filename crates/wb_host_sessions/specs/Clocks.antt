@@ -9,7 +9,8 @@ use Rattle.wb_judging.specs.Judged.{Judged}
 use Rattle.wb_judging.specs.declared.call.Call.{Call}
 use Rattle.wb_judging.specs.declared.call.Call.TheVariants.{CameFrom, Held, Passed, UserDrew}
 use Rattle.wb_laws_kept.specs.Sessions.{Begins, Call as KeptCall, Handed}
-use Rattle.wb_host_sessions.specs.Judged.{JudgedCall, Starts, Takes, Tunes, judged}
+use Rattle.wb_judged_sessions.specs.Sessions.{JudgedCall, Starts, Takes, Tunes}
+use Rattle.wb_judged_sessions.specs.Judged.{judged}
 use Rattle.wb_laws_kept.specs.Kept.{kept}
 use Rattle.wb_laws_machines.specs.Machines.{At, member_at}
 use Rattle.wb_laws_machines.specs.Times.{Clocked, KeepsTime}

@@ -14,7 +14,7 @@ use Rattle.wb_laws_kept.specs.Sessions.{Begins, Handed}
 use Rattle.wb_judged_sessions.specs.Examples.{deletes, numbers, page, somewhere, start}
 use Rattle.wb_laws_machines.specs.Honest.{AreApart}
 use Rattle.wb_host_sessions.specs.Hosts.{Drives, HostEvent, Judges, Keeps, hosts}
-use Rattle.wb_host_sessions.specs.Judged.{Starts, Takes, Tunes}
+use Rattle.wb_judged_sessions.specs.Sessions.{Starts, Takes, Tunes}
 use Rattle.wb_laws_machines.specs.Machines.{AreTaken, At, member_at}
 use Rattle.wb_host_sessions.specs.Sessions.{KeepTo}
 

@@ -7,8 +7,8 @@ use Rattle.wb_member.specs.Opened.{Opened, present}
 use Rattle.wb_policy.specs.Policy.{begun}
 use Rattle.wb_laws_sessions.specs.Members.{Deed, unopened, member}
 use Rattle.wb_laws_kept.specs.Sessions.{Call as KeptCall}
-use Rattle.wb_judged_sessions.specs.Sessions.{unstarted}
-use Rattle.wb_host_sessions.specs.Judged.{JudgedCall, judged}
+use Rattle.wb_judged_sessions.specs.Sessions.{unstarted, JudgedCall}
+use Rattle.wb_judged_sessions.specs.Judged.{judged}
 use Rattle.wb_laws_kept.specs.Kept.{kept, unkept}
 use Rattle.wb_laws_machines.specs.Machines.{Machine}
 

@@ -1,4 +1,3 @@
-pub mod Judged
 pub mod Hosts
 pub mod Members
 pub mod Sessions

@@ -5,7 +5,8 @@ use Rattle.wb_laws_machines.specs.Maps.{Map, both}
 use Rattle.wb_laws_sessions.specs.Members.{Deed, Opens}
 use Rattle.wb_laws_kept.specs.Kept.{kept, kept_map}
 use Rattle.wb_host_sessions.specs.Hosts.{Drives, Driven, Host, HostEvent, Judged, Judges, Keeps, Kept, Sets, judged_in, kept_in, member_of}
-use Rattle.wb_host_sessions.specs.Judged.{JudgedCall, judged_map}
+use Rattle.wb_judged_sessions.specs.Sessions.{JudgedCall}
+use Rattle.wb_judged_sessions.specs.Judged.{judged_map}
 use Rattle.wb_judging.specs.Judged.{Judged as JudgedState}
 
 -- what judged members do as members: through calls of self-managing members

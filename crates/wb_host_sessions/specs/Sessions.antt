@@ -9,7 +9,7 @@ use Rattle.wb_laws_machines.specs.Agreement.{Agree}
 use Rattle.wb_laws_sessions.specs.Members.{Deed, member}
 use Rattle.wb_laws_machines.specs.Honest.{AreApart, AreHonest, IsAbove, IsOn}
 use Rattle.wb_host_sessions.specs.Hosts.{Drives, Host, HostEvent, Judges, Keeps, Sets, driven_in, hosts, judged_in, kept_in}
-use Rattle.wb_host_sessions.specs.Judged.{judged}
+use Rattle.wb_judged_sessions.specs.Judged.{judged}
 use Rattle.wb_host_sessions.specs.Members.{hosts_map}
 use Rattle.wb_laws_kept.specs.Kept.{kept}
 use Rattle.wb_laws_machines.specs.Machines.{AreTaken, At, WasDrawn, WasHeld, drawn_at, member_at, sent, state_at, ◌⊑◌}
@@ -22,7 +22,8 @@ KnowsItsOwn page numbers older i host =
     → x.name.seq ≤ last_number page host
 
 -- A driver draws under the number of its place, and above all that was drawn there. A
--- self-managing host, judged or not, counts by itself: when it draws it knows its own numbers.
+-- self-managing host, judged or not, counts by itself: when it draws it knows its own numbers, by its
+-- record (tests/live/test_keeping.py: test_draw, test_unsaid) or by listening (check_listening there).
 abbrev pub DrawsAnew : PageId → (ℕ → ℕ) → List (At HostEvent) → ℕ → HostEvent → Host → Type 0
 DrawsAnew page numbers older i (Drives deed) x =
     (d : DrawopValue) → d.name.page ≡ page → Contains (member.drawn deed (driven_in x)) d
@@ -35,11 +36,15 @@ DrawsAnew page numbers older i (Judges call) x =
     → KnowsItsOwn page numbers older i (judged_in x).kept.host
 DrawsAnew page numbers older i (Sets rate listen seed) x = Unit {0}
 
--- Of one page: each drawop that comes, some member held before; and so each is drawn. Nothing is asked
--- of other pages.
-pub record KeepsTo (page : PageId) (numbers : ℕ → ℕ) (older : List (At HostEvent)) (e : At HostEvent) : Type 0 where
+-- Of one page: each drawop that a host takes in, some host held before, and each is drawn as said above.
+-- Members send, hand on and record only what they hold (tests/live/test_keeping.py: check_old;
+-- tests/live/test_joins.py: check_join). Under a key nobody else can speak; without one it is asked of
+-- people. Nothing is asked of other pages (tests/sessions/test_sessions.py: test_kinds).
+pub record KeepsTo (page : PageId) (numbers : ℕ → ℕ) (older : List (At HostEvent))
+    (e : At HostEvent) : Type 0 where
   pub comes : (d : DrawopValue) → d.name.page ≡ page
-      → Contains (hosts.gained e.event (state_at hosts numbers older e.place)) d → WasHeld hosts numbers older d
+      → Contains (hosts.gained e.event (state_at hosts numbers older e.place)) d
+      → WasHeld hosts numbers older d
   pub draws : DrawsAnew page numbers older e.place e.event (state_at hosts numbers older e.place)
 
 abbrev pub KeepTo : PageId → (ℕ → ℕ) → List (At HostEvent) → Type 0

@@ -94,7 +94,7 @@ module _ (numbers : ℕ → ℕ) (events newer older newer' older' : List EventA
   few_held : (new front : List EventAt) (k : ℕ) → events ≡ new ++ front → length (host_at numbers (steps_of_texts front) k).is.held ≤ MAX_CELLS
   few_held new front k e =
       let s = steps_split new front e in
-      let f = fits numbers (steps_of_texts events) apart honest (steps_of_texts front) (older_honest numbers (steps_of_texts events) apart honest s.0 (steps_of_texts front) (subst (AreHonest numbers) s.1 honest)) k in
+      let f = fits numbers (steps_of_texts front) (older_honest numbers s.0 (steps_of_texts front) (subst (AreHonest numbers) s.1 honest)) k in
       let a = f.few in
       let b = f.small in
       omega (arith, a, b)

@@ -1,7 +1,5 @@
 -- What judged members do, self-managing members do.
-use Rattle.wb_names.specs.Faults.{fault_unless}
-use Rattle.wb_recovery.specs.Timing.{are_constants}
-use Rattle.std.proofs.Common.{◌≡◌, ℕ, ◌≤◌, Bool, true, false, List, [], ◌∷◌, ◌++◌, ◌∙◌, None, ap, append-nil, arith, length, map, refl, subst, sym, ⊎_elim}
+use Rattle.std.proofs.Common.{◌≡◌, ℕ, ◌≤◌, List, [], ◌∷◌, ◌++◌, ◌∙◌, None, ap, append-nil, arith, length, map, refl, subst, sym, ⊎_elim}
 use Rattle.std.specs.Prelude.{Contains, nat_eq, not}
 use Rattle.wb_names.specs.declared.echo.Echo.{Echo}
 use Rattle.wb_judging.proofs.Heard.{filter_of_filter}
@@ -11,8 +9,7 @@ use Rattle.wb_names.proofs.Listings.{Contains-none}
 use Rattle.wb_codec.specs.declared.datagram.Datagram.{Datagram}
 use Rattle.wb_codec.specs.declared.datagram.Datagram.TheVariants.{AskPages, Draw, PageState, Request, Session}
 use Rattle.wb_judge.specs.Days.{time_of_day}
-use Rattle.wb_member.specs.Lines.{Line, after_line, sent_by_line, sent_by_lines as sent_by_member_lines}
-use Rattle.wb_member.specs.Opened.{Opened, present}
+use Rattle.wb_member.specs.Opened.{present}
 use Rattle.wb_keeping.specs.Laws.{Added, Came, KeptLine, Ticked, Tuned, after_kept, doing_of}
 use Rattle.wb_keeping.specs.Performing.{Keeping, after_doing, sees, sent_by_doing}
 use Rattle.wb_judging.specs.Handing.{handed, recalled, verdict_on}
@@ -22,20 +19,19 @@ use Rattle.wb_judging.specs.declared.call.Call.TheVariants.{CameFrom, Held, Pass
 use Rattle.wb_judging.specs.Laws.{after_all as after_lines_judged, drawops_in, drawops_of, expanded, sends_in}
 use Rattle.wb_judging.specs.Performing.{after_judged, after_kept_line, events_of}
 use Rattle.wb_judging.specs.declared.record.RecordLine.{RecordLine}
-use Rattle.wb_judging.specs.declared.record.RecordLine.TheVariants.{Known, Mark, Said, Strange, Tick}
 use Rattle.wb_judging.proofs.AsKept.{judged_members_are_kept}
 use Rattle.wb_judging.proofs.Numbers.{own_stays}
-use Rattle.wb_laws_sessions.specs.Members.{Does, member}
+use Rattle.wb_laws_sessions.proofs.Several.{sent_performed}
 use Rattle.wb_laws_kept.specs.Sessions.{Begins, Handed}
-use Rattle.wb_judged_sessions.specs.Sessions.{plain_line, sent_by_lines, started}
 use Rattle.wb_laws_machines.specs.Maps.{HasSame, IsMap, plain}
-use Rattle.wb_judged_sessions.specs.Terms.{AreLinesTaken}
+use Rattle.wb_judged_sessions.specs.Judged.{calls_of, judged, judged_map}
+use Rattle.wb_judged_sessions.specs.Sessions.{JudgedCall, Starts, Takes, Tunes, after_call, drawn_by, plain_line, sent_by, sent_by_lines, started}
+use Rattle.wb_judged_sessions.specs.Terms.{AreLinesTaken, IsTaken, brought_by}
 use Rattle.wb_judged_sessions.proofs.Drawn.{DrawNone, DrawsNone, came_draws, gained_added, plain_draws, record_draws}
-use Rattle.wb_judged_sessions.proofs.Plain.{of_others, plain_after, plain_fault, plain_sent}
+use Rattle.wb_judged_sessions.proofs.Plain.{of_others, plain_after, plain_came, plain_fault, plain_sent}
 use Rattle.wb_judged_sessions.proofs.Sent.{line_sends}
-use Rattle.wb_judged_sessions.proofs.Terms.{IsOwn, fault_none}
+use Rattle.wb_judged_sessions.proofs.Terms.{IsOwn, fault_none, in_range, recalled_came}
 use Rattle.wb_laws_machines.specs.Honest.{IsLawful}
-use Rattle.wb_host_sessions.specs.Judged.{JudgedCall, Starts, Takes, Tunes, IsTaken, after_call, calls_of, drawn_by, gained_by, judged, judged_map, sent_by}
 use Rattle.wb_laws_kept.specs.Kept.{gained_by_line, kept}
 use Rattle.wb_laws_machines.specs.Machines.{AreAllTaken, after_all, drawn_by_all, gained_by_all, sent_by_all}
 use Rattle.wb_laws_kept.proofs.Kept.{kept_is_lawful}
@@ -84,47 +80,23 @@ draws (Tunes constants) h = refl
 
 -- ---- what it takes in
 
-recalled_gains : (now : ℕ) (line : RecordLine) → gained_by_line (recalled now line) ≡ drawops_in line
-recalled_gains now (Tick past) = refl
-recalled_gains now (Said d) = refl
-recalled_gains now (Known d) = refl
-recalled_gains now (Strange d) = refl
-recalled_gains now (Mark speaker page mark) = refl
-
 record_gains : (given : List RecordLine) (h : Judged) (k : Keeping) → gained_by_all kept (map Handed (expanded (map Held given) h)) k ≡ drawops_of given
 record_gains [] h k = refl
 record_gains (line ∷ given) h k =
     let lines = expanded (map Held given) (after_judged (Held line) h) in
     let now = present h.kept.host in
-    ap (λ (ds : List DrawopValue). ds ++ gained_by_all kept (map Handed lines) (after_doing (doing_of (recalled now line)) k)) (recalled_gains now line)
+    ap (λ (ds : List DrawopValue). ds ++ gained_by_all kept (map Handed lines) (after_doing (doing_of (recalled now line)) k)) (recalled_came now line)
     ∙ ap (λ (ds : List DrawopValue). drawops_in line ++ ds) (record_gains given (after_judged (Held line) h) (after_doing (doing_of (recalled now line)) k))
 
-came_gains : (now : ℕ) (v : Datagram) → gained_by_line (Came now (plain v)) ≡ gained_by_line (Came now v)
-came_gains now (Draw d) = refl
-came_gains now (Session sender sent page marks echoes) = refl
-came_gains now (Request asker name) = refl
-came_gains now (AskPages asker) = refl
-came_gains now (PageState sender page marks) = refl
-
-plain_gains : (line : KeptLine) → gained_by_line (plain_line line) ≡ gained_by_line line
-plain_gains (Came now v) = came_gains now v
-plain_gains (Ticked now) = refl
-plain_gains (Added now page time op) = refl
-plain_gains (Tuned constants) = refl
-
-gains : (call : JudgedCall) (h : Judged) (d : DrawopValue) → Contains (gained_by_all kept (calls_of call h) h.kept) d → Contains (gained_by call h) d
+gains : (call : JudgedCall) (h : Judged) (d : DrawopValue) → Contains (gained_by_all kept (calls_of call h) h.kept) d → Contains (brought_by call h) d
 gains (Starts start given) h d c =
     let first : Judged = started h.kept.host.is.number start in
     subst (λ (ds : List DrawopValue). Contains ds d) (record_gains given first first.kept) c
 gains (Takes line) h d c =
-    subst (λ (ds : List DrawopValue). Contains ds d) (append-nil (gained_by_line (plain_line (handed line h))) ∙ plain_gains (handed line h)) c
+    subst (λ (ds : List DrawopValue). Contains ds d) (append-nil (gained_by_line (plain_line (handed line h))) ∙ plain_came (handed line h)) c
 gains (Tunes constants) h d c = c
 
 -- ---- what it sends
-
-sent_performed : (lines : List Line) (host : Opened) → sent_by_all member (map Does lines) host ≡ sent_by_member_lines lines host
-sent_performed [] host = refl
-sent_performed (line ∷ lines) host = ap (λ (more : List Datagram). sent_by_line line host ++ more) (sent_performed lines (after_line line host))
 
 pub kept_sends : (line : KeptLine) (k : Keeping) → kept.sends (Handed line) k ≡ sent_by_doing (doing_of line) k
 kept_sends line k = sent_performed (doing_of line (sees k.host) k.policy).lines k.host
@@ -178,16 +150,12 @@ record_taken [] h own taken = tt
 record_taken (line ∷ given) h own taken =
     (fault_none (Held line) h own taken.0, record_taken given (after_judged (Held line) h) (own_stays (Held line) h own) taken.1)
 
-unless : {F : Type 0} (b : Bool) (fault : F) → b ≡ true → fault_unless b fault ≡ None
-unless true fault is = refl
-unless false fault is = absurd cc
-
 takes : (call : JudgedCall) (h : Judged) → IsOwn h → IsTaken call h → AreAllTaken kept (calls_of call h) h.kept
 takes (Starts start given) h own taken =
     let first : Judged = started h.kept.host.is.number start in
     ((taken.0, tt), record_taken given first refl taken.1)
 takes (Takes line) h own taken = (plain_fault (handed line h) h.kept ∙ fault_none line h own taken, tt)
-takes (Tunes constants) h own taken = (unless (are_constants constants) _ taken, tt)
+takes (Tunes constants) h own taken = (in_range constants h.kept taken, tt)
 
 -- ---- a judge has the number of its member
 
