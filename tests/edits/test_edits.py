@@ -13,11 +13,11 @@ from pathlib import Path
 
 import pytest
 
-from .. import refusals
+from .. import clauses, refusals
 
 TOP = Path(__file__).resolve().parents[2]
 EDITS = sorted(TOP.glob("crates/*/must-fail/*.edit"))
-MOST = 169
+MOST = 171
 REFUSED = "refused, as it must be"
 
 
@@ -76,6 +76,15 @@ def test_edit_is_refused(edit: Path, request: pytest.FixtureRequest) -> None:
         return
     assert said[-1].startswith(REFUSED), said[-1]
     assert any(goal_of(edit) in goal for goal in re.findall(r"`([^`]*)(?:`|$)", said[-1])), f"not {goal_of(edit)} refuses it: {said[-1]}"
+
+
+def test_each_has_a_row_in_the_table() -> None:
+    """It says whether the clause of the edit refuses it and nothing does without that, or why not."""
+    rows = clauses.table()
+    assert sorted(rows) == sorted(name_of(it) for it in EDITS), "tests/try-edits --without-its-clause FOLDER CRATE .. writes the table"
+    assert [name for name, (_, told) in rows.items() if not told] == []
+    changed = [name_of(it) for it in EDITS if rows[name_of(it)] != ("-", clauses.NOT_YET) and rows[name_of(it)][0] != clauses.own_digest(it)]
+    assert changed == [], "these are other edits than were tried"
 
 
 def test_there_are_not_too_many() -> None:
