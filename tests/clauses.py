@@ -18,7 +18,6 @@ TABLE = TOP / "tests/edits/clauses.txt"
 NOTHING = "Unit {0}"
 GUARDS = "refused by its clause, and not without it"
 NOT_YET = "not tried yet"
-RECORD = re.compile(r"^# refused: .*\n", re.MULTILINE)
 NAMED = re.compile(r"^# clause: (\w+)(?: (\w+))?$", re.MULTILINE)
 OWED = re.compile(r"^(\w+)-requires(?:-.*)?-clause-(\w+)$")
 # goals that no clause of a function states, by how their names begin
@@ -128,11 +127,7 @@ def without(texts: dict[str, str], crate: Path, clause: Clause, function: str) -
 
 def own_digest(edit: Path) -> str:
     """What an edit is, in a few letters."""
-    return hashlib.sha256(RECORD.sub("", edit.read_text()).encode()).hexdigest()[:8]
-
-
-def name_of(edit: Path) -> str:
-    return f"{edit.parent.parent.name}/{edit.stem}"
+    return hashlib.sha256(edit.read_text().encode()).hexdigest()[:8]
 
 
 def table() -> dict[str, tuple[str, str]]:
@@ -141,12 +136,12 @@ def table() -> dict[str, tuple[str, str]]:
     return {name: (digest, told) for name, digest, told in (line.split(" ", 2) for line in lines)}
 
 
-def write(told: dict[str, str], edits: list[Path]) -> None:
-    """Takes these into the table, which has each edit and no other. A row of what the edit was before is dropped."""
+def write(told: dict[str, str], edits: dict[str, Path]) -> None:
+    """Takes these into the table, which has each edit by its name and no other. A row of what the edit was before is dropped."""
     known, head = table(), [line for line in TABLE.read_text().splitlines() if line.startswith("#")]
     rows = []
-    for edit in edits:
-        name, digest = name_of(edit), own_digest(edit)
+    for name, edit in edits.items():
+        digest = own_digest(edit)
         before = known.get(name, ("", ""))
         row = told.get(name) or (before[1] if before[0] == digest else "")
         rows.append(f"{name} {digest} {row}" if row else f"{name} - {NOT_YET}")
