@@ -8,7 +8,6 @@ import threading
 import time
 from collections import Counter
 from concurrent.futures import TimeoutError as TooLate
-from functools import partial
 from typing import Dict, List, Optional
 
 from wbhost import HostEnded
@@ -142,7 +141,6 @@ class Guests:
                 raise NoPlace("the member that you had here is ending: open the page anew")
             try:
                 guest = Guest(self.keeper, self.hub, address, cookie)
-                guest.member.admit = partial(self.keeper.kept.admit, guest.cookie)
                 self.keeper.kept.admit(guest.cookie, guest.member.me)
             except FAULTS as fault:
                 self.keeper.alarms.warn("a member for one more browser can't be started: %s" % fault)

@@ -6,12 +6,12 @@ import os
 import time
 from contextlib import ExitStack
 from functools import partial
-from typing import Any, Callable, Dict, List, Optional, Sequence, Union
+from typing import Any, Dict, List, Optional, Sequence, Union
 
 from wbhost import Block, HostEnded
 
 from .alarms import Alarms
-from .board import Board, nothing
+from .board import Board
 from .carriers.carrier import MOST_BYTES, Carrier, Origin
 from .carriers.mqtt import GONE
 from .drawn import Drawn
@@ -55,7 +55,6 @@ class Member:
         self.parted: List[float] = []  # when it took a new number by itself
         self.words = words or Words(program)
         self.kept = Kept()  # what stands beside the record
-        self.admit: Callable[[int], None] = nothing  # keeps the number of a browser
         self.inbox = Inbox()
         self.wire = Wire(events)
         self.alarms = Alarms()
@@ -230,16 +229,15 @@ class Member:
 
     def renumber(self, me: int) -> None:
         """Goes on under another number, with all that is held."""
-        self.admit(me)
         self.board.renumber(me, new_path(self.board.record.path, self.me, me), list(self.drawn.all()))
-        self.former.append(self.me)
         self.kept.move(path_beside(self.board.record.path))
+        self.kept.renumber(self.me, me)
+        self.former.append(self.me)
         self.me = me
         self.presence.renumber(me)
         self.judging.end()
         self.judge(Judging(self))
         self.telling.is_changed = True
-
 
     def may_part(self) -> bool:
         """Whether it takes a new number by itself if somebody else has its own. That may be a member by mishap, or somebody who heard us and forges: they

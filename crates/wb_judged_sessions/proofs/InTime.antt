@@ -30,7 +30,8 @@ use Rattle.wb_judging.proofs.MembersIn.{needed_is_handed_in}
 use Rattle.wb_judging.proofs.Numbers.{me_judging}
 use Rattle.wb_laws_kept.specs.Sessions.{CallAt, Handed, kept_at}
 use Rattle.wb_kept_progress.specs.Since.{IsHandedIn, IsSpared, IsTimelyWithStarts, WasSentBy as WasKeptSent, called_at as kept_called_at}
-use Rattle.wb_judged_sessions.specs.Sessions.{JudgedCall, JudgedCallAt, Starts, Takes, Tunes, judged_at, kept_calls, plain, plain_line}
+use Rattle.wb_judged_sessions.specs.Sessions.{JudgedCall, JudgedCallAt, Starts, Takes, Tunes, judged_at, kept_calls, plain_line}
+use Rattle.wb_laws_machines.specs.Maps.{plain}
 use Rattle.wb_judged_sessions.specs.Terms.{AreTaken, IsLineTaken, IsTaken}
 use Rattle.wb_judged_sessions.specs.Timely.{AreInOrder, Arrives, IsNoStart, IsTimely, JudgedIsTimely}
 use Rattle.wb_judged_sessions.proofs.Drawn.{DrawsNone, came_draws}

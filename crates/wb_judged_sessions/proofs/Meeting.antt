@@ -30,7 +30,7 @@ use Rattle.wb_judging.specs.declared.news.News.TheVariants.{Gone, Nothing}
 use Rattle.wb_judging.specs.Laws.{sends_in}
 use Rattle.wb_judging.specs.Performing.{after_kept_line, events_of, sent_by_kept_line}
 use Rattle.wb_laws_kept.specs.Openings.{IsOpening, opened_host}
-use Rattle.wb_laws_sessions.specs.Sessions.{AreApart}
+use Rattle.wb_laws_machines.specs.Honest.{AreApart}
 use Rattle.wb_laws_sessions.proofs.Sending.{one_of}
 use Rattle.wb_judged_sessions.specs.Examples.{at, numbers, start}
 use Rattle.wb_judged_sessions.specs.Known.{ComeInTime, Comes, KnowEachOther}

@@ -22,7 +22,7 @@ use Rattle.wb_judging.specs.Members.{IsOfMember}
 use Rattle.wb_judging.specs.Performing.{events_of}
 use Rattle.wb_judging.specs.declared.record.RecordLine.{RecordLine}
 use Rattle.wb_laws_kept.specs.Openings.{opened_host}
-use Rattle.wb_laws_sessions.specs.Sessions.{AreApart}
+use Rattle.wb_laws_machines.specs.Honest.{AreApart}
 use Rattle.wb_kept_progress.specs.Agreement.{LookAlike}
 use Rattle.wb_kept_progress.specs.Crowded.{crowded_by, spent_in}
 use Rattle.wb_kept_progress.specs.Filling.{OnlyHolesAreLacked, filled_by}

@@ -15,7 +15,7 @@ use Rattle.wb_policy.specs.declared.limits.TheConstants.{COST, MOST_DELAY}
 use Rattle.wb_keeping.specs.Laws.{KeptLine, Added, Came, Tuned, doing_of}
 use Rattle.wb_keeping.specs.Performing.{due, sent_by_doing}
 use Rattle.wb_judging.specs.Members.{needs}
-use Rattle.wb_laws_sessions.specs.Sessions.{AreApart}
+use Rattle.wb_laws_machines.specs.Honest.{AreApart}
 use Rattle.wb_laws_kept.specs.Openings as starts
 use Rattle.wb_laws_kept.specs.Openings.{opened, opened_host}
 use Rattle.wb_laws_kept.specs.Sessions.{AreTaken, Begins, Call, CallAt, Handed, given_lines, kept_at}
