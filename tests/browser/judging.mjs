@@ -255,6 +255,16 @@ async function testMoves() {
   check('it has left', [present(), judging.heard.isMember(Y)], [[], false]);
 }
 
+/** Nobody is nearer than here, though a clock gains. */
+async function testNear() {
+  const member = memberOf(), { judging, host, board } = member;
+  board.moment = member.at = 25;
+  member.says();
+  host.members(`9 ${wordOf(X)} 25 25`);
+  await heed(member, 'session-message 9 77 7/1 1@5+25', X);
+  check('it is as near as can be', judging.present().map(([, { delay }]) => delay), [0]);
+}
+
 /** The member tells its host other constants in the next turn, when a fourth other is heard, and when all are gone. */
 async function testFollowed() {
   const member = memberOf(), { judging, board, host } = member, tunings = () => host.told.filter((line) => line.startsWith('tuning'));
@@ -448,7 +458,7 @@ async function testMembers() {
   check('by their numbers', [member.members.members.length, member.members.members.slice(-2)], [500, [{ member: 500, delay: null, heard: 0 }, { member: 900, delay: 0.002, heard: 0 }]]);
 }
 
-const TESTS = [testOrigins, testReports, testWarnings, testClash, testRefused, testRecord, testHeard, testMoves, testFollowed, testPatience, testTime, testRoom, testKeptCells, testWaiting, testNewPage, testLast, testPages, testHealth, testShowings, testMembers];
+const TESTS = [testOrigins, testReports, testWarnings, testClash, testRefused, testRecord, testHeard, testMoves, testNear, testFollowed, testPatience, testTime, testRoom, testKeptCells, testWaiting, testNewPage, testLast, testPages, testHealth, testShowings, testMembers];
 
 export async function testJudging() {
   for (const test of TESTS) await test();
