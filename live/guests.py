@@ -64,6 +64,7 @@ class Guest:
         self.has_looked = False
         self.seen_at = time.monotonic()
         options = copy.copy(keeper.options)
+        options.me = None  # names the keeper alone
         carrier = Worse(hub.place(), options)
         record = Record(None)
         try:
@@ -150,10 +151,6 @@ class Guests:
             thread.start()
         self.hand_over(guest)
         return guest
-
-    def keep(self, guest: Guest) -> None:
-        """A browser has another number now."""
-        self.keeper.kept.admit(guest.cookie, guest.member.me)
 
     def is_leaving(self, cookie: str) -> bool:
         """Whether the member that a browser had before has not ended yet: two would have one number."""

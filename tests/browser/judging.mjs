@@ -83,7 +83,7 @@ function memberOf({ isReady = true, cells = 1_000, strange = [] } = {}) {
   const member = { me: 1, page: '7/1', isReady, drawn: new Drawn(), alarms: new Alarms(), wire: new Wire(), host, record, sent, ticks, at: 0 };
   const board = new Board(null, record, { rate: 4_000, many: NEAR }, { here: null, strangers: null }, (drawop) => member.hold(drawop));
   Object.assign(board, { host, me: 1, cells, readyAt: isReady ? 0 : SECOND, strange: new Set(strange), wall: Date.now() * 1_000, now: () => member.at });
-  Object.assign(member, { board, hold: (drawop) => member.drawn.add(drawop), obey: (answer) => answer, wake: () => {}, begin: async () => { member.isReady = true; },
+  Object.assign(member, { board, hold: (drawop) => member.drawn.add(drawop), obey: (answer) => answer, wake: () => {}, mayPart: () => false, begin: async () => { member.isReady = true; },
     tick: async () => { ticks.push(member.at); }, send: (bytes) => { sent.push(hex(bytes)); return readDatagram(bytes); } });
   member.telling = new Telling(member, (name, news) => { member[name] = news; });
   member.people = new People(member);

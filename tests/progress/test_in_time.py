@@ -178,8 +178,9 @@ def test_after_an_outage(most: int, hours: int, anyway: int) -> None:
     """Request timers wait longest after an outage, and W is nearly all of the bound. Among several members no bound by credit is left: a round of these takes
     longer than what time pays for."""
     assert timely_kept.longest_wait(FEW) == 131_072_000_000, "36 hours"
-    assert hours - 1 < (outlasted_by(most, 2 * most, 4, FEW) - timely_kept.QUIET) / HOUR <= hours
-    assert anyway - 1 < (outlasted_anyway_by(most, 4, FEW) - timely_kept.QUIET) / HOUR <= anyway
+    by, anyway_by = ((time - timely_kept.QUIET) / HOUR for time in (outlasted_by(most, 2 * most, 4, FEW), outlasted_anyway_by(most, 4, FEW)))
+    print(f"whole, judged, F of a second, after an hour's outage: {most} lacked, all held by all by the law at {by:.1f} hours, and at {anyway_by:.1f} however often one asks")
+    assert hours - 1 < by <= hours and anyway - 1 < anyway_by <= anyway
     assert round_span(FEW) < timely_kept.PLACES * timely_kept.COST < round_span(SEVERAL)
 
 
