@@ -206,7 +206,6 @@ export class Whiteboard {
     this.view.sheet.addEventListener('dblclick', (event) => this.edit(event));
     listenToClipboard(this.hand, () => this.place());
     new Keys(this.view, this.hand, this.pointing, { keys, undo, redo, describe: (cell) => this.describe(cell) });
-    addEventListener('beforeprint', () => this.sight.fitPrint());
     this.painter.night.addEventListener('change', () => this.changeColours());
     new ResizeObserver(() => this.view.resize()).observe($('sheet'));
   }

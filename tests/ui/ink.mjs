@@ -205,7 +205,7 @@ function testText() {
 // ---- pictures
 
 function testSvg() {
-  const svg = (...texts) => svgOfInk(itemsOf(drawings(texts)), { colourOf: ({ colour }) => `c${colour}` }, { paper: 'white', ink: 'black' }, 'a <page>');
+  const svg = (...texts) => svgOfInk(itemsOf(drawings(texts)), { colourOf: ({ colour }) => `c${colour}`, shades: { colours: { paper: 'white', ink: 'black' } } }, 'a <page>');
   const lines = [...svg('~v%0!({!/&!dOOdO}').matchAll(/<line x1="([\d.]+)" y1="([\d.]+)" x2="([\d.]+)" y2="([\d.]+)" stroke-width="([\d.]+)"/g)].map((found) => found.slice(1).map(Number));
   check('a stroke with pressure has its widths', [lines.length, lines[5], lines[11]], [12, [656.7, 1200, 660, 1200, 22], [676.7, 1200, 680, 1200, 35.2]]);
   check('a dot with pressure', [...svg('~v%0!({!/&!').matchAll(/stroke-width="([\d.]+)"/g)].map(([, wide]) => wide), ['8.8']);
