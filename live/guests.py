@@ -52,6 +52,7 @@ class Guest:
     member that keeps the board has all."""
 
     def __init__(self, keeper: Member, hub: Hub, address: str) -> None:
+        self.keeps = False  # the window of who keeps the board
         self.cookie = secrets.token_hex(16)
         self.address = address
         self.events = Events()
@@ -102,6 +103,7 @@ class Guests:
         self.most = keeper.options.guests
         self.changed = threading.Lock()
         self.guests: Dict[str, Guest] = {}
+        self.others_may_clear = True
         self.paid: Dict[str, float] = {}  # new members of an address are paid for up to then
         self.threads: List[threading.Thread] = []
 
@@ -112,8 +114,8 @@ class Guests:
             guest.seen_at = time.monotonic()
         return guest
 
-    def begin(self, address: str) -> Guest:
-        """A member for one more browser. NoPlace if others need all, or if that address had too many new ones."""
+    def begin(self, address: str, is_here: bool = False) -> Guest:
+        """A member for one more browser; the first of this machine is that of who keeps the board. NoPlace if others need all, or if that address had too many new ones."""
         with self.changed:
             if not self.admits(address):
                 raise NoPlace("too many browsers came from your address: open the page anew in a minute")
@@ -124,12 +126,25 @@ class Guests:
             except FAULTS as fault:
                 self.keeper.alarms.warn("a member for one more browser can't be started: %s" % fault)
                 raise NoPlace("a member can't be started here now") from fault
+            guest.keeps = is_here and not any(each.keeps for each in self.guests.values())
             self.guests[guest.cookie] = guest
+            self.tell_clearing()
             thread = threading.Thread(target=self.run, args=(guest,), daemon=True)
             self.threads = [each for each in self.threads if each.is_alive()] + [thread]
             thread.start()
         self.hand_over(guest)
         return guest
+
+    def let_clear(self, others: bool) -> Dict[str, bool]:
+        """Whether windows of others offer to clear and delete pages."""
+        self.others_may_clear = others
+        self.tell_clearing()
+        return {"others": others}
+
+    def tell_clearing(self) -> None:
+        for guest in list(self.guests.values()):
+            guest.member.may_clear = guest.keeps or self.others_may_clear
+            guest.member.others_may = self.others_may_clear if guest.keeps else None
 
     def admits(self, address: str) -> bool:
         """Whether an address may have a new member now."""

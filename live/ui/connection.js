@@ -65,6 +65,12 @@ export class HttpMember {
     return this.ask('next', { session });
   }
 
+  /** Whether windows of others may clear pages.
+   * @param {boolean} others */
+  clearing(others) {
+    return this.post('clearing', { others });
+  }
+
   /** Takes a new number. */
   renumber() {
     return this.post('number', { new: true });

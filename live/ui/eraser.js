@@ -54,7 +54,7 @@ export function restOf(item, parts, hand) {
 
 /** The colour of an item for another member to draw in: of another's own colour the one that is nearest to it.
  * @type {(item: Item, hand: Hand) => number} */
-function colourFor({ colour, source }, { parts: { painter, session, notes } }) {
+export function colourFor({ colour, source }, { parts: { painter, session, notes } }) {
   if (colour !== OWN || source === session.hello.me) return colour;
   const chosen = notes.told.colours.get(source), tint = painter.tintOf(source);
   const far = (/** @type {string} */ other) => [1, 3, 5].reduce((sum, at) => sum + (parseInt(tint.slice(at, at + 2), 16) - parseInt(other.slice(at, at + 2), 16)) ** 2, 0);

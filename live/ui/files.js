@@ -1,7 +1,7 @@
-/** What is saved and opened: a page, all pages, the record; a text as drawings. And the pages at a glance. */
+/** What is saved and opened: a page, all pages, the record; a text as drawings. */
 import { insert } from './clipboard.js';
-import { $, make, tell } from './dom.js';
-import { extentOf, htmlOf, laidOut, runsOf, svgOf, textOf } from './exports.js';
+import { $, tell } from './dom.js';
+import { extentOf, htmlOf, runsOf, svgOf, textOf } from './exports.js';
 import { itemsOf } from './inkitems.js';
 import { InkPaint, boxAboutAll, inOrder } from './inkpaint.js';
 import { CELL_WIDE } from './inksigns.js';
@@ -16,9 +16,6 @@ const WIDE = 9, HIGH = 17, MOST_SIDE = 16_000, MOST_AREA = 64_000_000;
 
 /** Of a picture of ink: points of a cell, the points of a side at most, and those about it. */
 const INK = { wide: 20, most: 8_000, about: 20 };
-
-/** The cells of a page at a glance, and points of each; and of ink the points of it all. */
-const GLANCE = { columns: 120, rows: 60, wide: 1.5, high: 2 }, GLANCE_OF_INK = { width: 416, height: 260 };
 
 /** Bytes of a text that is opened. */
 const MOST_BYTES = 1_000_000;
@@ -147,37 +144,5 @@ export class Files {
     if (file.size > MOST_BYTES) tell(`A text of over ${MOST_BYTES / 1000} kilobytes is not opened.`);
     else if (/^(image|audio|video)\//.test(file.type)) tell('A page has no pictures: strokes, shapes and letters only.');
     else insert(this.board.hand, await file.text(), this.board.place());
-  }
-
-  // ---- pages at a glance
-
-  async showAll() {
-    $('overview').showModal();
-    const boards = await this.boards();
-    $('glances').replaceChildren(...boards.map((board) => this.glance(board)));
-  }
-
-  /** A small picture of a page, which turns to it.
-   * @param {Board} board */
-  glance(board) {
-    const button = make('button'), canvas = make('canvas'), { painter, session } = this.board;
-    if (painter.isInk) this.paintInk(this.sheetOf(canvas, GLANCE_OF_INK.width, GLANCE_OF_INK.height), board, 10);
-    else this.paintCells(canvas, board);
-    button.append(canvas, make('span', this.titleOf(board.page)));
-    button.setAttribute('aria-current', String(board.page === session.board.page));
-    button.addEventListener('click', () => {
-      $('overview').close();
-      session.goToPage(board.page);
-    });
-    return button;
-  }
-
-  /** @param {HTMLCanvasElement} canvas @param {Board} board */
-  paintCells(canvas, board) {
-    const { painter } = this.board, { columns, rows, wide, high } = GLANCE, brush = this.sheetOf(canvas, columns * wide, rows * high);
-    for (const { x, y, source, text } of runsOf(laidOut(board), { left: 0, top: 0, columns, rows })) {
-      brush.fillStyle = source < 0 ? painter.colours.ink : painter.tintOf(source);
-      brush.fillRect(x * wide, y * high, text.length * wide, high - 0.5);
-    }
   }
 }

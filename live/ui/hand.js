@@ -65,10 +65,10 @@ export class Hand {
   }
 
   /** An ink as a drawing, at a place of the page that no other has, as far as there are.
-   * @param {string} text @returns {Shape} */
-  placed(text) {
+   * @param {string} text @param {boolean} [isAgain] whether it stands for others that are deleted then @returns {Shape} */
+  placed(text, isAgain = false) {
     this.place = Math.max(this.place, this.session.shown.size + this.session.erased.size) + 1;
-    return placed(text, this.place);
+    return placed(text, this.place, isAgain);
   }
 
   /** The shapes that would be drawn now.
@@ -169,12 +169,12 @@ export class Hand {
   }
 
   /** One step that draws and then deletes, so that nothing is lost on the way.
-   * @param {Shape[]} shapes @param {Drawing[]} doomed */
-  change(shapes, doomed) {
+   * @param {Shape[]} shapes @param {Drawing[]} doomed @param {boolean} [isAgain] whether these are drawn in the place of those: nothing is erased */
+  change(shapes, doomed, isAgain = false) {
     if (shapes.length + doomed.length === 0) return null;
     if (shapes.length > MOST_AT_ONCE) return tell(`Not drawn: over ${MOST_AT_ONCE} drawings at once.`), null;
     const step = this.steps.begin();
-    shapes.forEach((shape) => step.draw(shape.op === 'text' && inkOf(shape) ? this.placed(shape.text) : shape));
+    shapes.forEach((shape) => step.draw(shape.op === 'text' && inkOf(shape) ? this.placed(shape.text, isAgain) : shape));
     doomed.forEach((drawing) => step.hide(drawing));
     return step;
   }
@@ -182,7 +182,7 @@ export class Hand {
   /** Draws shapes in the place of drawings, and selects them.
    * @param {Drawing[]} old @param {Shape[]} shapes */
   async replace(old, shapes) {
-    const step = this.change(shapes, old);
+    const step = this.change(shapes, old, old.length > 0);
     this.selection.clear();
     if (step && this.tool === 'select') (await step.names()).forEach((name) => this.selection.add(name));
     this.changed();

@@ -211,6 +211,20 @@ export function movedInk(text, across, down) {
   return text.slice(0, 4) + points.map(({ x, y }) => spelled(x + dx, 3) + spelled(y + dy, 3)).join('') + text.slice(4 + 6 * points.length);
 }
 
-/** The n-th ink of a page, so that none covers another.
- * @type {(text: string, n: number) => import('./types.js').Shape} */
-export const placed = (text, n) => ({ op: 'text', x: CELL_WIDE * (n % 64), y: FIRST_ROW + (Math.floor(n / 64) % 96), text });
+/** The text of the same ink in another colour. Null if it is none.
+ * @type {(text: string, colour: number) => string | null} */
+export function recoloured(text, colour) {
+  const ink = readInk(text);
+  return ink && text.slice(0, 2) + spelled(9 * colour + ink.width, 1) + text.slice(3);
+}
+
+/** Columns of inks in a row, and rows. */
+const COLUMNS = 63, ROWS = 96;
+
+/** The n-th ink of a page, so that none covers another. One that is drawn in the place of others stands a cell further on.
+ * @type {(text: string, n: number, isAgain?: boolean) => import('./types.js').Shape} */
+export const placed = (text, n, isAgain = false) => ({ op: 'text', x: CELL_WIDE * (n % COLUMNS) + Number(isAgain), y: FIRST_ROW + (Math.floor(n / COLUMNS) % ROWS), text });
+
+/** Whether an ink was drawn in the place of others, as by a move.
+ * @type {(shape: import('./types.js').Shape) => boolean} */
+export const isAgain = (shape) => shape.op === 'text' && shape.y >= FIRST_ROW && shape.x % CELL_WIDE === 1;

@@ -1,6 +1,6 @@
 /** Undo and redo by steps: what one gesture drew, deleted and restored, however many drawops it took. */
 import { nameOf } from './cells.js';
-import { say } from './dom.js';
+import { say, tell } from './dom.js';
 
 /** @typedef {import('./session.js').Session} Session */
 /** @typedef {import('./types.js').Shape} Shape */
@@ -22,9 +22,10 @@ export class Steps {
     session.on('board', () => this.leaving.clear());
   }
 
-  /** A new step on the page in view. What can be restored by redo is forgotten. */
-  begin() {
-    const step = new Step(this.session, this.session.board.page);
+  /** A new step on a page, the one in view if no other is named. What can be restored by redo is forgotten.
+   * @param {string} [page] */
+  begin(page = this.session.board.page) {
+    const step = new Step(this.session, page);
     this.done.push(step);
     this.undone = this.undone.filter(({ page }) => page !== step.page);
     return step;
@@ -50,6 +51,7 @@ export class Steps {
     const at = this.done.findLastIndex(({ page, isEmpty }) => page === this.session.board.page && !isEmpty);
     if (at < 0) return this.undoDrawn();
     const [step] = this.done.splice(at, 1);
+    if (await step.isMoot()) return tell('What you drew last is erased already. The panel “People” brings it back.');
     this.undone.push(await step.reversed());
     return undefined;
   }
@@ -121,13 +123,26 @@ class Step {
     return this.deeds.filter(({ isShown }) => isShown).map(({ name }) => nameOf(name));
   }
 
-  /** Does the opposite, last deed first, and gives the step that did. */
+  /** What was drawn and is shown no more, since somebody erased it.
+   * @param {Deed} deed */
+  isErased({ name, isShown }) {
+    const { board, erased } = this.session;
+    return isShown && this.page === board.page && erased.has(nameOf(name));
+  }
+
+  /** Whether there is nothing left to take back. */
+  async isMoot() {
+    await Promise.all(this.asked);
+    return this.deeds.length > 0 && this.deeds.every((deed) => this.isErased(deed));
+  }
+
+  /** Does the opposite, last deed first, and gives the step that did. What is erased already is left alone. */
   async reversed() {
     await Promise.all(this.asked);
     const step = new Step(this.session, this.page);
-    for (const { name, isShown } of [...this.deeds].reverse()) {
-      if (isShown) step.hide(name);
-      else step.restore(name);
+    for (const deed of [...this.deeds].reverse().filter((each) => !this.isErased(each))) {
+      if (deed.isShown) step.hide(deed.name);
+      else step.restore(deed.name);
     }
     return step;
   }

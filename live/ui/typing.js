@@ -134,7 +134,7 @@ export class Typing {
     if (old.length && text === was.trimEnd()) return;
     const shape = kind === 'n' ? [at, this.cornerOf({ kind, colour, width, flag, points, was, old })] : points;
     const texts = link ? [link] : isClosed(kind) ? writeShape(kind, look, flag, shape, text) : writeWords(look, flag, at, text);
-    this.board.hand.change(texts.map((each) => placed(each, 0)), old);
+    this.board.hand.change(texts.map((each) => placed(each, 0)), old, old.length > 0);
   }
 
   /** Says at once which letters cells don't have. They stay until Enter shows what would be drawn in their place. */

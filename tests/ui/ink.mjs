@@ -9,7 +9,7 @@ import { Items, itemsOf } from '../../live/ui/inkitems.js';
 import { readLetters, writeLetters } from '../../live/ui/inkletters.js';
 import { svgOfInk } from '../../live/ui/inksvg.js';
 import { FIRST_ROW, PAGE_HIGH, PAGE_WIDE, numberOf, spelled, valueFor, wayOf } from '../../live/ui/inksigns.js';
-import { keptInks, movedInk, placed, writeLink, writeShape, writeStroke, writeWords } from '../../live/ui/inkwriting.js';
+import { isAgain, keptInks, movedInk, placed, recoloured, writeLink, writeShape, writeStroke, writeWords } from '../../live/ui/inkwriting.js';
 import { awayFrom } from './away.mjs';
 
 const wrong = [];
@@ -187,7 +187,9 @@ function testMoves({ reads }) {
   }
   check('not off the page', [movedInk('~s$1!hV#HJ', -6401, 0), movedInk('~s$1!hV#HJ', 0, 479520), movedInk('no ink', 1, 1)], [null, null, null]);
   check('as far as all stay on the page', keptInks([readInk('~s$1!hV#HJ'), readInk('~hC2!!!!!!sOsP')], -50, 1e6), [0, 479519]);
-  check('places of inks', [0, 63, 64, 6143, 6144].map((n) => placed('', n)).map(({ x, y }) => [x, y]), [[0, 4000], [4032, 4000], [0, 4001], [4032, 4095], [0, 4000]]);
+  check('places of inks', [0, 62, 63, 6047, 6048].map((n) => placed('', n)).map(({ x, y }) => [x, y]), [[0, 4000], [3968, 4000], [0, 4001], [3968, 4095], [0, 4000]]);
+  check('of one that stands for others', [placed('', 62, true).x, isAgain(placed('', 62, true)), isAgain(placed('', 62)), isAgain({ ...placed('', 1, true), y: 3999 })], [3969, true, false, false]);
+  check('in another colour', [recoloured('~s-1!hV#HJTJkis,r,', 6), recoloured('plain', 6)], ['~sZ1!hV#HJTJkis,r,', null]);
 }
 
 // ---- letters in a text
