@@ -6,7 +6,7 @@ import os
 import time
 from contextlib import ExitStack
 from functools import partial
-from typing import Any, Dict, Optional, Sequence, Union
+from typing import Any, Dict, List, Optional, Sequence, Union
 
 from wbhost import Block, HostEnded
 
@@ -19,6 +19,7 @@ from .events import Events
 from .inbox import Inbox
 from .joining import Streams
 from .judging import Judging
+from .kept import Kept, path_beside
 from .options import Options
 from .people import People
 from .proving import Stage
@@ -26,13 +27,16 @@ from .presence import Pointed, Presence, write
 from .record import Record
 from .replay import Playing
 from .telling import Telling
-from .views import Drawop, Page
+from .views import Drawop, Name, Page, name_of
 from .wire import Wire
 from .words import Words
 
 # the page that is in view at first, and the one that a convention reserves for names, titles and the chat
 FIRST_PAGE: Page = (1, 1)
 NOTES: Page = (0, 0)
+
+# the name of no drawop
+NOTHING: Name = (0, NOTES, 0)
 
 
 class Member:
@@ -44,6 +48,7 @@ class Member:
         self.streams: Optional[Streams] = None  # beside the network, where it has some
         self.me = me
         self.words = words or Words(program)
+        self.kept = Kept()  # what stands beside the record
         self.inbox = Inbox()
         self.wire = Wire(events)
         self.alarms = Alarms()
@@ -65,6 +70,15 @@ class Member:
     def judge(self, judging: Union[Judging, Playing]) -> None:
         """What it concludes, and what it does by itself."""
         self.judging = judging
+
+    def take_kept(self, kept: Kept) -> None:
+        """Goes on with what stands beside the record: what was drawn for a window, and the record lacks since the program was killed."""
+        self.kept = kept
+        lacking = [digits for digits in kept.asked.values() if not self.drawn.holds(name_of(digits) or NOTHING)]
+        self.board.take_over(self.drawops_of(lacking), set())
+
+    def drawops_of(self, many: Sequence[str]) -> List[Drawop]:
+        return [Drawop(told.words, digits) for digits, told in zip(many, self.words.all(many)) if told.words]
 
     # ---- the loop
 
@@ -98,6 +112,7 @@ class Member:
         calls, arrivals = self.inbox.take(self.seconds_to_wait())
         for call in calls:
             call()
+        self.people.draw_all()
         if arrivals:
             self.judging.arrive(arrivals)
         self.pass_time()
@@ -202,9 +217,16 @@ class Member:
         self.has_turned = True
         self.telling.is_changed = True
 
+    def show(self, page: Page) -> None:
+        """Shows a page that a window has shown before this program was started, as the first."""
+        if not self.has_turned:
+            self.turn_to(page)
+            self.telling.tell_board()
+
     def renumber(self, me: int) -> None:
         """Goes on under another number, with all that is held."""
         self.board.renumber(me, new_path(self.board.record.path, self.me, me), list(self.drawn.all()))
+        self.kept.move(path_beside(self.board.record.path))
         self.me = me
         self.presence.renumber(me)
         self.judging.end()

@@ -169,11 +169,13 @@ export class Hand {
   }
 
   /** One step that draws and then deletes, so that nothing is lost on the way.
-   * @param {Shape[]} shapes @param {Drawing[]} doomed @param {boolean} [isAgain] whether these are drawn in the place of those: nothing is erased */
-  change(shapes, doomed, isAgain = false) {
+   * @param {Shape[]} shapes @param {Drawing[]} doomed @param {{ page?: string, isAgain?: boolean }} [how] on which page, if not on the one in view;
+   *   and whether these are drawn in the place of those: nothing is erased */
+  change(shapes, doomed, how = {}) {
+    const { page, isAgain = false } = how;
     if (shapes.length + doomed.length === 0) return null;
     if (shapes.length > MOST_AT_ONCE) return tell(`Not drawn: over ${MOST_AT_ONCE} drawings at once.`), null;
-    const step = this.steps.begin();
+    const step = this.steps.begin(page);
     shapes.forEach((shape) => step.draw(shape.op === 'text' && inkOf(shape) ? this.placed(shape.text, isAgain) : shape));
     doomed.forEach((drawing) => step.hide(drawing));
     return step;
@@ -182,7 +184,7 @@ export class Hand {
   /** Draws shapes in the place of drawings, and selects them.
    * @param {Drawing[]} old @param {Shape[]} shapes */
   async replace(old, shapes) {
-    const step = this.change(shapes, old, old.length > 0);
+    const step = this.change(shapes, old, { isAgain: old.length > 0 });
     this.selection.clear();
     if (step && this.tool === 'select') (await step.names()).forEach((name) => this.selection.add(name));
     this.changed();

@@ -4,6 +4,7 @@ import { $, make, say } from './dom.js';
 import { inkOf, isStroke } from './ink.js';
 import { itemsOf } from './inkitems.js';
 import { isAgain } from './inkwriting.js';
+import { renew, write } from './keyed.js';
 
 /** @typedef {import('./types.js').Board} Board */
 /** @typedef {import('./types.js').Drawing} Drawing */
@@ -72,8 +73,6 @@ export class History {
   /** @param {import('./whiteboard.js').Whiteboard} board */
   constructor(board) {
     this.board = board;
-    /** What is listed, as it was shown last. */
-    this.listed = '';
     /** @type {number[]} */
     this.moments = [];
     board.session.on('board', () => this.show());
@@ -87,21 +86,25 @@ export class History {
   show() {
     const { session } = this.board, isSeen = !$('side').hidden && !$('panel-people').hidden;
     if (!isSeen) return;
-    const rows = rowsOf(session.board).slice(0, MOST_ROWS), listed = JSON.stringify(rows.map(({ by, at, drawings }) => [session.who(by), at, drawings.length]));
     $('hiding').hidden = !session.board.hidden.length;
-    if (listed !== this.listed) $('hidden').replaceChildren(...rows.map((row) => this.line(row)));
-    this.listed = listed;
+    renew($('hidden'), rowsOf(session.board).slice(0, MOST_ROWS), ({ by, at }) => `${by} ${at}`, () => this.line(), (line, row) => this.showRow(line, row));
   }
 
-  /** @param {Row} row */
-  line({ by, at, drawings }) {
-    const { session } = this.board, line = make('li'), words = make('span'), button = make('button', 'Bring back'), many = itemsOf(drawings).length;
-    const what = many === 1 ? `erased ${kindOf(drawings[0])}` : `cleared ${many} drawings`, who = session.who(by);
-    words.append(make('b', who === 'you' ? 'You' : who), ` ${what} `, make('time', hourOf(at)));
-    button.setAttribute('aria-label', `Bring back what ${who} ${what} at ${hourOf(at)}`);
-    button.addEventListener('click', () => this.restore(drawings));
+  line() {
+    const line = make('li'), words = make('span'), button = make('button', 'Bring back');
+    words.append(make('b'), make('i'), make('time'));
+    button.addEventListener('click', () => this.restore(line.drawings));
     line.append(words, button);
     return line;
+  }
+
+  /** @param {any} line @param {Row} row */
+  showRow(line, { by, at, drawings }) {
+    const { session } = this.board, [words, button] = line.children, many = itemsOf(drawings).length, who = session.who(by);
+    const what = many === 1 ? `erased ${kindOf(drawings[0])}` : `cleared ${many} drawings`;
+    line.drawings = drawings;
+    [who === 'you' ? 'You' : who, ` ${what} `, hourOf(at)].forEach((text, i) => write(words.children[i], text));
+    button.setAttribute('aria-label', `Bring back what ${who} ${what} at ${hourOf(at)}`);
   }
 
   /** @param {Drawing[]} drawings */

@@ -22,7 +22,7 @@ export class Steps {
     session.on('board', () => this.leaving.clear());
   }
 
-  /** A new step on a page, the one in view if no other is named. What can be restored by redo is forgotten.
+  /** A new step, on the page in view if no other is named. What can be restored by redo is forgotten.
    * @param {string} [page] */
   begin(page = this.session.board.page) {
     const step = new Step(this.session, page);

@@ -131,9 +131,9 @@ class Browser:
 
     def open(self, address: str, width: int = 1280, height: int = 800, first: str = "", is_apart: bool = False) -> Page:
         """A window of its own on an address, of this size, which takes itself to be in front. What is to run first in it runs before its own scripts.
-        Apart it has no cookies of other windows, as another person's browser."""
-        context = {"browserContextId": self.call("Target.createBrowserContext")["browserContextId"]} if is_apart else {}
-        target = self.call("Target.createTarget", url="about:blank", newWindow=True, **context)["targetId"]
+        One that is apart shares no cookies with the others."""
+        apart = {"browserContextId": self.call("Target.createBrowserContext")["browserContextId"]} if is_apart else {"newWindow": True}
+        target = self.call("Target.createTarget", url="about:blank", **apart)["targetId"]
         page = Page(self, target, self.call("Target.attachToTarget", targetId=target, flatten=True)["sessionId"])
         page.resize(width, height)
         page.call("Emulation.setFocusEmulationEnabled", enabled=True)

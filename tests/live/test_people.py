@@ -2,10 +2,12 @@
 from __future__ import annotations
 
 from concurrent.futures import Future
+from functools import partial
 from types import SimpleNamespace
 from typing import Any, Callable, List, Tuple
 
 from live.drawn import Drawn
+from live.kept import Kept
 from live.member import Member
 from live.people import People, Refused
 from live.telling import Reported
@@ -28,9 +30,9 @@ def fate_of(act: Callable[[], Any]) -> str:
 def test_room_of_words(facts: Facts) -> None:
     """One cell in 16 is kept: of what people draw, names, titles and the chat alone have room there, and deletes and restores."""
     drawn, drawings, others = SimpleNamespace(total=0), ("line 0 0 1 1 *", "frame 0 0 1 1 *", 'text 0 0 "a"'), ("delete 1 1", "restore 1 1")
-    draws = SimpleNamespace(cells=1_000, moment=0, draw=lambda page, time, operation: (Block([], None, None), Drawop("draw 1 7/1 1 5 line 0 0 1 1 *")))
+    draws = SimpleNamespace(cells=1_000, moment=0, draw=lambda page, time, operation, keep: (Block([], None, None), Drawop("draw 1 7/1 1 5 line 0 0 1 1 *")))
     judging = SimpleNamespace(fault_of_drawing=lambda: None, tails=SimpleNamespace(drew=lambda drawop, moment: None))
-    member: Any = SimpleNamespace(me=1, drawn=drawn, board=draws, judging=judging, send_all=lambda sent: None)
+    member: Any = SimpleNamespace(me=1, drawn=drawn, board=draws, judging=judging, send_all=lambda sent: None, kept=Kept())
     people = People(member)
 
     def fates(total: int, page: Page, operations: Tuple[str, ...]) -> List[str]:
@@ -45,14 +47,18 @@ def test_room_of_words(facts: Facts) -> None:
 
 def test_waiting_drawings(facts: Facts) -> None:
     """Until the member may draw, 1,024 drawings wait."""
-    member: Any = SimpleNamespace(is_ready=False)
+    settled: List[str] = []
+    judging = SimpleNamespace(tails=SimpleNamespace(drew=lambda drawop, moment: None))
+    member: Any = SimpleNamespace(is_ready=False, board=SimpleNamespace(settle=lambda: settled.append("settled"), moment=0), judging=judging, send_all=settled.extend, kept=Kept())
     people, futures = People(member), [Future() for _ in range(1_025)]  # type: People, List[Future[Any]]
-    people.draw_now = lambda page, operation: {"words": operation}  # type: ignore[assignment]
     for number, future in enumerate(futures):
-        people.draw_or_wait(future, PAGE, "delete 7 %d" % number)
+        people.put(future, partial(Drawop, "draw 7 1/1 %d 10 delete 8 1" % (number + 1)))
     facts("one more is refused at once", (len(people.draws), fate_of(lambda: futures.pop().result(0))), (1_024, "busy"))
+    people.draw_all()
+    facts("none is drawn yet", any(future.done() for future in futures), False)
     people.begin()
-    facts("then all that waited are drawn", [future.result(0)["words"] for future in futures], ["delete 7 %d" % number for number in range(1_024)])
+    facts("then all that waited are drawn", [future.result(0)["seq"] for future in futures], list(range(1, 1_025)))
+    facts("by one sync", settled, ["settled"])
 
 
 def test_page_in_view(facts: Facts) -> None:
@@ -93,6 +99,6 @@ def test_undo(facts: Facts) -> None:
     shown = {PAGE: [(7, PAGE, 2), (7, PAGE, 1), (8, PAGE, 4)], (7, 2): [(7, (7, 2), 5)]}
     member: Any = SimpleNamespace(me=7, page=PAGE, board=SimpleNamespace(view=shown.__getitem__), is_ready=True)
     people = People(member)
-    people.draw_now = lambda page, operation: deleted.append((page, operation)) or {}  # type: ignore[assignment, func-returns-value]
-    people.undo()
+    people.draw_now = lambda page, operation: deleted.append((page, operation)) or Drawop("draw 7 7/1 9 10 delete 7 2")  # type: ignore[assignment, func-returns-value, misc]
+    people.undo_now()
     facts("the greatest number of ours that is shown", deleted, [(PAGE, "delete 7 2")])

@@ -14,7 +14,7 @@ from .sheets import BY_CELLS, TOP, Member, Sheet, Tally
 def test_tabs(tally: Tally, browser: Browser, member: Member) -> None:
     """Eight tabs of one member: each hears of drawings, and each draws."""
     tabs = [Sheet(browser.open(member.address, first=BY_CELLS)) for _ in range(8)]
-    tally.check("eight tabs are told", all_came(tab.page.wait("typeof wb !== 'undefined' && wb.session.isLinked && wb.session.board.page") for tab in tabs))
+    tally.check("eight tabs are told", all_came(tab.page.wait("typeof wb !== 'undefined' && wb.session.link === 'open' && wb.session.board.page") for tab in tabs))
     page = f"{member.number}/4000"
     tabs[0].page.value(f"wb.session.goToPage('{page}')")
     tally.check("they show one page", all_came(tab.page.wait(f"wb.session.board.page === '{page}' && wb.session.board.drawops.length === 0") for tab in tabs))
@@ -49,7 +49,7 @@ def test_end(tally: Tally, one: Sheet, started: Member, again: Callable[[int], M
     anew = again(port)
     tally.check("it says that the address is another one", one.page.wait("document.getElementById('phrase').textContent.includes('started anew')"), one.text_of("phrase"))
     one.page.call("Page.navigate", url=anew.address)
-    tally.check("by that it is there again", one.page.wait("typeof wb !== 'undefined' && wb.session.isLinked && wb.session.hello.me"))
+    tally.check("by that it is there again", one.page.wait("typeof wb !== 'undefined' && wb.session.link === 'open' && wb.session.hello.me"))
     tally.check("the record has kept its number", anew.number == started.number)
     tally.check("and all that was drawn", pages > 0 and one.page.wait(f"wb.session.pages.length === {pages}"), one.text_of("pages"))
     return anew

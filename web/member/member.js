@@ -77,6 +77,7 @@ export class Member {
   async turn() {
     const { calls } = this.people;
     for (const call of calls.splice(0)) await call();
+    await this.people.drawAll();
     for (let arrival = this.inbox.next(); arrival; arrival = this.inbox.next()) {
       await this.arrive(arrival);
       if (calls.length) break;
@@ -192,7 +193,7 @@ export class Member {
   /** From now on it may draw. */
   async begin() {
     this.isReady = true;
-    await this.people.begin();
+    await this.people.drawAll();
   }
 
   /** Makes this the page in view.

@@ -118,7 +118,7 @@ async function begin({ folder, invitation, me: wished, notice }) {
   };
   Object.assign(globalThis, { member }); // for tests, and for who looks in
   begun();
-  post('link', true);
+  post('link', 'open');
   await member.run();
 }
 
