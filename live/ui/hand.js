@@ -1,5 +1,6 @@
 /** What the user has in hand: the tool, the glyph, what is begun, what is selected, and where the pointer is. */
-import { boxAbout, kept, nameOf, orderOf, shifted } from './cells.js';
+import { boxAbout, kept, orderOf, shifted } from './cells.js';
+import { Chosen } from './chosen.js';
 import { $, say, tell } from './dom.js';
 import { inkOf } from './ink.js';
 import { CELL_HIGH, CELL_WIDE } from './inksigns.js';
@@ -42,6 +43,7 @@ export class Hand {
     /** The names of the drawings that are selected.
      * @type {Set<string>} */
     this.selection = new Set();
+    this.chosen = new Chosen(this);
     /** The number of the place that an ink was given last. */
     this.place = 0;
     this.session.on('board', (_, { isTurned }) => isTurned && this.selection.clear());
@@ -74,7 +76,7 @@ export class Hand {
   /** The shapes that would be drawn now.
    * @returns {Shape[]} */
   ghosts() {
-    return (this.gesture && this.toolOf(this.gesture.tool).shapes?.(this.gesture, this)) ?? [];
+    return (this.gesture && this.toolOf(this.gesture.tool).shapes?.(this.gesture, this)) ?? this.parts.changing.ghosts();
   }
 
   /** The drawings that would be deleted now.
@@ -97,16 +99,16 @@ export class Hand {
     return /** @type {Drawing[]} */ (found).sort(orderOf);
   }
 
-  /** The items of which drawings are selected.
+  /** What is selected, as items: of those of which some strokes are selected these alone.
    * @returns {Item[]} */
   chosenItems() {
-    const { kept } = this.parts.ink, found = this.selected().map(({ source, seq }) => kept.itemOf(source, seq)).filter((item) => item !== undefined);
-    return [...new Set(/** @type {Item[]} */ (found))];
+    return this.chosen.items();
   }
 
   /** @param {string} tool */
   choose(tool) {
     this.parts.pen.flush();
+    this.parts.changing.settle();
     this.tool = tool;
     this.gesture = null;
     this.selection.clear();
@@ -115,6 +117,7 @@ export class Hand {
     }
     document.body.dataset.hand = tool;
     this.parts.style.show();
+    this.parts.changing.show();
     say(`${tool} chosen`);
     this.changed();
   }
@@ -132,6 +135,7 @@ export class Hand {
   /** @param {Cell} cell @param {Point} [point] @param {How} [how] with Shift it is added to a selection */
   begin(cell, point, how = {}) {
     this.parts.sight.stay();
+    this.parts.changing.settle();
     this.gesture = Object.assign(this.gestureAt(cell, point), { isShifted: Boolean(how.isShifted) });
     this.toolOf(this.tool).begin?.(this.gesture, this, how);
     this.changed();
@@ -181,13 +185,13 @@ export class Hand {
     return step;
   }
 
-  /** Draws shapes in the place of drawings, and selects them.
-   * @param {Drawing[]} old @param {Shape[]} shapes */
-  async replace(old, shapes) {
-    const step = this.change(shapes, old, { isAgain: old.length > 0 });
+  /** Draws shapes in the place of drawings, and what is left of these, and selects the shapes.
+   * @param {Drawing[]} old @param {Shape[]} shapes @param {Shape[]} [rest] */
+  async replace(old, shapes, rest = []) {
+    const step = this.change([...rest, ...shapes], old, { isAgain: old.length > 0 });
     this.selection.clear();
-    if (step && this.tool === 'select') (await step.names()).forEach((name) => this.selection.add(name));
-    this.changed();
+    if (step && this.tool === 'select') (await step.names()).slice(rest.length).forEach((name) => this.selection.add(name));
+    this.chose();
   }
 
   /** @param {Cell} cell */
@@ -198,14 +202,15 @@ export class Hand {
 
   /** Deletes what is selected. */
   deleteSelected() {
-    const doomed = this.selected();
+    const { isInk } = this.parts.painter, doomed = isInk ? this.chosen.drawings() : this.selected(), rest = isInk ? this.chosen.rest() : [];
     this.selection.clear();
-    this.change([], doomed);
-    this.changed();
+    this.change(rest, doomed);
+    this.chose();
   }
 
   selectAll() {
     this.choose('select');
+    this.chosen.strokes.clear();
     [...this.session.shown.keys()].forEach((name) => this.selection.add(name));
     this.tellSelection();
   }
@@ -213,6 +218,13 @@ export class Hand {
   tellSelection() {
     const count = this.parts.painter.isInk ? this.chosenItems().length : this.selected().length;
     say(count === 1 ? 'one drawing selected' : `${count} drawings selected`);
+    this.chose();
+  }
+
+  /** Something else is selected. */
+  chose() {
+    this.parts.style.show();
+    this.parts.changing.show();
     this.changed();
   }
 

@@ -12,8 +12,11 @@ import { renew, write } from './keyed.js';
 /** What one step erased: who, when in microseconds, and the drawings.
  * @typedef {{ by: number, at: number, drawings: Erased[] }} Row */
 
-/** Deletes of one step come within this many microseconds of one another. */
-const TOGETHER = 1_000_000;
+/** Deletes of one step come within this many microseconds of one another: they are asked for at once, and a hand needs longer for two. */
+const TOGETHER = 300_000;
+
+/** Microseconds of a second. */
+const SECOND = 1_000_000;
 
 /** How many times as large as a page at a glance the page as it was is. */
 const LARGE = 3;
@@ -62,7 +65,7 @@ export function shownAt({ drawops, hidden }, at) {
  * @type {(board: Board) => number[]} */
 export function momentsOf({ drawops, hidden }) {
   const all = [...drawops, ...hidden].map(({ time }) => Number(time)).concat(hidden.map(({ erased }) => Number(erased?.[2] ?? 0))).filter(Boolean).sort((a, b) => a - b);
-  return all.filter((at, i) => Math.floor(at / TOGETHER) !== Math.floor(all[i + 1] / TOGETHER));
+  return all.filter((at, i) => Math.floor(at / SECOND) !== Math.floor(all[i + 1] / SECOND));
 }
 
 /** A moment as a clock shows it.

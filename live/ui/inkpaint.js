@@ -55,6 +55,13 @@ function boxMade(item) {
   return boxAbout(points, by);
 }
 
+/** The box about what an item leaves on the paper: of writing as wide as its line, where the box for painting is larger.
+ * @type {(item: Item) => Box} */
+export function closeBoxOf(item) {
+  const { kind, points, width } = item, isThin = isStroke(kind) || kind === 'l' || kind === 'line';
+  return isThin ? boxAbout(points, (WIDTHS[width] * (kind === 'h' ? BROAD : 1)) / 2) : boxOf(item);
+}
+
 /** The box about points, and so far about it.
  * @type {(points: Point[], by: number) => Box} */
 export function boxAbout(points, by) {
@@ -69,9 +76,9 @@ export function boxAbout(points, by) {
 }
 
 /** The box about all items, or null where there are none.
- * @type {(items: Item[]) => Box | null} */
-export function boxAboutAll(items) {
-  return items.length ? boxAbout(items.map(boxOf).flatMap(({ x0, y0, x1, y1 }) => [{ x: x0, y: y0 }, { x: x1, y: y1 }]), 0) : null;
+ * @type {(items: Item[], box?: (item: Item) => Box) => Box | null} */
+export function boxAboutAll(items, box = boxOf) {
+  return items.length ? boxAbout(items.map(box).flatMap(({ x0, y0, x1, y1 }) => [{ x: x0, y: y0 }, { x: x1, y: y1 }]), 0) : null;
 }
 
 /** Items as they are painted: those of the highlighter under all others.

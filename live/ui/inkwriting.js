@@ -1,5 +1,5 @@
 /** Ink as texts: strokes, shapes and letters, the same ink elsewhere, and where a text stands (docs/INK.md, "Writing"). */
-import { FLAGS, GOING_ON, isStroke, readInk } from './ink.js';
+import { FLAGS, GOING_ON, isClosed, isStroke, readInk } from './ink.js';
 import { along, bend, off } from './inkcurves.js';
 import { inTexts, isAddress, writeLetters } from './inkletters.js';
 import { CELL_WIDE, FIRST_ROW, FULL_PRESSURE, LIFT_STILL, MOST_SIGNS, PAGE_HIGH, PAGE_WIDE, REACH, TILDE, isOnPage, settled, spelled, valueFor, wayOf } from './inksigns.js';
@@ -213,9 +213,18 @@ export function movedInk(text, across, down) {
 
 /** The text of the same ink in another colour. Null if it is none.
  * @type {(text: string, colour: number) => string | null} */
-export function recoloured(text, colour) {
+export const recoloured = (text, colour) => restyled(text, { colour });
+
+/** The text of the same ink in another look, as far as it has one: widths are of strokes and shapes, sizes and fonts of letters. Null if it is none.
+ * @type {(text: string, look: Partial<import('./style.js').Look>) => string | null} */
+export function restyled(text, look) {
   const ink = readInk(text);
-  return ink && text.slice(0, 2) + spelled(9 * colour + ink.width, 1) + text.slice(3);
+  if (!ink) return null;
+  const { kind, colour = 0, width, flag, goesOn } = ink, isLine = kind === 'l' || (isClosed(kind) && kind !== 'n');
+  const dashes = look.isDashed === undefined ? flag & 4 : look.isDashed ? 4 : 0, fill = isClosed(kind) ? look.fill ?? flag & 3 : flag & 3;
+  const other = { colour: look.colour ?? look.bright ?? colour, width: kind === 't' ? look.size ?? width : kind === 'h' ? look.broad ?? width : kind === 'n' || kind === 'k' ? width : look.width ?? width };
+  const sign = isLine ? fill + dashes : kind === 't' ? look.font ?? flag : flag;
+  return text.slice(0, 2) + spelled(9 * other.colour + other.width, 1) + (goesOn ? GOING_ON : FLAGS)[sign] + text.slice(4);
 }
 
 /** Columns of inks in a row, and rows. */

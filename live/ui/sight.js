@@ -83,7 +83,7 @@ export class Sight {
       view.home();
       return;
     }
-    for (const island of document.querySelectorAll('.island')) {
+    for (const island of document.querySelectorAll('.island:not(#chosen)')) {
       const { top, bottom, height } = island.getBoundingClientRect();
       if (height && top + bottom < innerHeight) edge.top = Math.max(edge.top, bottom + FREE.beside);
       else if (height) edge.bottom = Math.max(edge.bottom, innerHeight - top + FREE.beside);

@@ -1,5 +1,6 @@
 /** The whiteboard over any member: puts the parts of the page together. */
 import { nameOf } from './cells.js';
+import { Changing } from './changing.js';
 import { showChat } from './chat.js';
 import { listenToClipboard } from './clipboard.js';
 import { $, say, tell } from './dom.js';
@@ -58,7 +59,9 @@ export class Whiteboard {
     this.style = new Style(this);
     this.pen = new Pen(this);
     this.hand = new Hand(this);
+    this.changing = new Changing(this);
     this.painter.parts = this;
+    this.steps.itemOf = (drawing) => (this.painter.isInk && this.ink.kept.itemOf(drawing.source, drawing.seq)?.drawings) || [drawing];
     this.typing = new Typing(this);
     this.pointing = new Pointing(this.view, this.hand);
     this.traffic = new Traffic(this.session);
@@ -183,7 +186,7 @@ export class Whiteboard {
   }
 
   undo() {
-    if (!this.pen.undo()) this.steps.undo();
+    if (!this.changing.drop() && !this.pen.undo()) this.steps.undo();
   }
 
   /** Erases all that the page shows, as one step. */

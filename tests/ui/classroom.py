@@ -20,10 +20,11 @@ LOSSY = 0.33
 def class_of(browser: Browser, room: Path, ports: int, people: Sequence[tuple[str, float]]) -> Iterator[list[Sheet]]:
     """A window for each of these, who have a name and lose a part of all datagrams."""
     members: list[Member] = []
+    sheets: list[Sheet] = []
     try:
         for _, lost in people:
             members.append(Member(room, ports, words=["--ports", str(ports), "--teach", "--lose", str(lost)]))
-        sheets = [Sheet(browser.open(member.address, first=BY_CELLS)) for member in members]
+        sheets += [Sheet(browser.open(member.address, first=BY_CELLS)) for member in members]
         for sheet, (name, _), colour in zip(sheets, people, ("blue", "red", "green", "violet")):
             if not sheet.page.wait("typeof wb !== 'undefined' && wb.session.hello.ready && wb.session.board.page"):
                 raise BrowserFault("a member may not draw")
@@ -39,6 +40,9 @@ def class_of(browser: Browser, room: Path, ports: int, people: Sequence[tuple[st
             sheet.page.until(f"wb.session.called.size === {len(people)}")
         yield sheets
     finally:
+        # a page whose member has ended looks for it
+        for sheet in sheets:
+            sheet.page.close()
         for member in members:
             member.end()
 

@@ -92,9 +92,11 @@ def is_off(sheet: Sheet) -> bool | Missed:
 def test_switch(tally: Tally, browser: Browser, room: Path, ports: int) -> None:
     """The window of who keeps the board says whether others may clear pages."""
     keeper = Member(room, ports, f"127.0.0.1:{ports % 20_000 + 30_000}")
+    sheets: list[Sheet] = []
     try:
-        anna, tom = (Sheet(browser.open(keeper.address, first=BY_CELLS, is_apart=True)) for _ in range(2))
-        for sheet in (anna, tom):
+        sheets += [Sheet(browser.open(keeper.address, first=BY_CELLS, is_apart=True)) for _ in range(2)]
+        anna, tom = sheets
+        for sheet in sheets:
             sheet.page.until("typeof wb !== 'undefined' && wb.session.hello.ready && wb.session.board.page")
         anna.unfold("#others-clear")
         tally.check("the keeper's window has a switch", anna.page.value("document.getElementById('others-clear').checked") is True)
@@ -107,8 +109,11 @@ def test_switch(tally: Tally, browser: Browser, room: Path, ports: int) -> None:
         tally.check("that is refused", len(browser.faults) == 1 and "403" in browser.faults[0], str(browser.faults))
         browser.faults.clear()
         late = Sheet(browser.open(keeper.address, first=BY_CELLS, is_apart=True))
+        sheets.append(late)
         tally.check("nor does who comes later", is_off(late))
         anna.press("#others-clear")
         tally.check("switched on, they do again", tom.page.wait("!document.getElementById('clear').disabled") and late.page.wait("!document.getElementById('clear').disabled"))
     finally:
+        for sheet in sheets:
+            sheet.page.close()
         keeper.end()

@@ -9,7 +9,7 @@ import { Items, itemsOf } from '../../live/ui/inkitems.js';
 import { readLetters, writeLetters } from '../../live/ui/inkletters.js';
 import { svgOfInk } from '../../live/ui/inksvg.js';
 import { FIRST_ROW, PAGE_HIGH, PAGE_WIDE, numberOf, spelled, valueFor, wayOf } from '../../live/ui/inksigns.js';
-import { isAgain, keptInks, movedInk, placed, recoloured, writeLink, writeShape, writeStroke, writeWords } from '../../live/ui/inkwriting.js';
+import { isAgain, keptInks, movedInk, placed, recoloured, restyled, writeLink, writeShape, writeStroke, writeWords } from '../../live/ui/inkwriting.js';
 import { awayFrom } from './away.mjs';
 
 const wrong = [];
@@ -189,6 +189,9 @@ function testMoves({ reads }) {
   check('as far as all stay on the page', keptInks([readInk('~s$1!hV#HJ'), readInk('~hC2!!!!!!sOsP')], -50, 1e6), [0, 479519]);
   check('places of inks', [0, 62, 63, 6047, 6048].map((n) => placed('', n)).map(({ x, y }) => [x, y]), [[0, 4000], [3968, 4000], [0, 4001], [3968, 4095], [0, 4000]]);
   check('of one that stands for others', [placed('', 62, true).x, isAgain(placed('', 62, true)), isAgain(placed('', 62)), isAgain({ ...placed('', 1, true), y: 3999 })], [3969, true, false, false]);
+  const look = { colour: 1, width: 4, size: 5, font: 2, isDashed: true, fill: 2 }, anew = (text) => (({ kind, colour, width, flag, goesOn }) => [kind, colour, width, flag, goesOn].join(' '))(readInk(restyled(text, look)));
+  check('in another look, what each kind has of it', ['~sHb!->!XBYYYE', '~l11!!!!!!!!!!!!', '~r11!!!!!!!!!!!!', '~n11!!!!!!!!!!!!', "~t'2@|E](YE = mc~!T", '~hC2!!!!!!sOsP'].map(anew),
+    ['s 1 4 1 true', 'l 1 4 5 false', 'r 1 4 6 false', 'n 1 6 1 false', 't 1 5 2 false', 'h 1 6 2 false']);
   check('in another colour', [recoloured('~s-1!hV#HJTJkis,r,', 6), recoloured('plain', 6)], ['~sZ1!hV#HJTJkis,r,', null]);
 }
 

@@ -185,7 +185,7 @@ function testErased() {
   const three = [1, 2, 3].map((seq) => erased(ink(seq, 7), 8, 10 + seq, 9e6 + seq * 1e5, seq === 1 ? null : 'delete'));
   check('what one erased at once is one row, by who erased', rows([], ...three), [[8, 9.1e6, [1, 2, 3]]]);
   check('one that was restored since is missing in it', rows([ink(2, 7)], three[0], three[2]), [[8, 9.1e6, [1, 3]]]);
-  check('a second later it is another one, which comes first', rows([], three[0], erased(ink(4, 7), 8, 12, 11e6, 'delete')), [[8, 11e6, [4]], [8, 9.1e6, [1]]]);
+  check('later it is another one, which comes first', rows([], three[0], erased(ink(4, 7), 8, 12, 11e6, 'delete')), [[8, 11e6, [4]], [8, 9.1e6, [1]]]);
   check('after something else it is another one', rows([], three[0], erased(ink(4, 7), 8, 13, 9.2e6, 'text')), [[8, 9.2e6, [4]], [8, 9.1e6, [1]]]);
   check('of two members two', rows([], three[0], erased(ink(4, 7), 9, 12, 9.1e6, 'delete')).length, 2);
   check('what was moved was not erased', rows([ink(5, 8, true)], erased(ink(1, 7), 8, 6, 6e6, 'text'), erased(ink(2, 7), 8, 7, 6e6, 'delete')), []);
