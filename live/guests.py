@@ -65,6 +65,7 @@ class Guest:
         self.has_looked = False
         self.seen_at = time.monotonic()
         options = copy.copy(keeper.options)
+        options.me = None  # names the keeper alone
         carrier = Worse(hub.place(), options)
         record = Record(None)
         try:
@@ -166,10 +167,6 @@ class Guests:
         for guest in list(self.guests.values()):
             guest.member.may_clear = guest.keeps or self.others_may_clear
             guest.member.others_may = self.others_may_clear if guest.keeps else None
-
-    def keep(self, guest: Guest) -> None:
-        """A browser has another number now."""
-        self.keeper.kept.admit(guest.cookie, guest.member.me)
 
     def is_leaving(self, cookie: str) -> bool:
         """Whether the member that a browser had before has not ended yet: two would have one number."""

@@ -453,12 +453,10 @@ class Handler(BaseHTTPRequestHandler):
         self.send_json(200, dict(guests.let_clear(body["others"]), ok=True))
 
     def renumber(self) -> None:
-        body, people, guests = self.body(), self.member.people, self.server.guests
+        body, people = self.body(), self.member.people
         if body != {"new": True}:
             raise Fault(400, "fields")
         self.give(people.call(people.renumber))
-        if guests and self.guest:
-            guests.keep(self.guest)
 
     def worsen(self) -> None:
         people = self.member.people

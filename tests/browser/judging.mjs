@@ -83,7 +83,7 @@ function memberOf({ isReady = true, cells = 1_000, strange = [] } = {}) {
   const member = { me: 1, page: '7/1', isReady, drawn: new Drawn(), alarms: new Alarms(), wire: new Wire(), host, record, sent, ticks, at: 0 };
   const board = new Board(null, record, { rate: 4_000, many: NEAR }, { here: null, strangers: null }, (drawop) => member.hold(drawop));
   Object.assign(board, { host, me: 1, cells, readyAt: isReady ? 0 : SECOND, strange: new Set(strange), wall: Date.now() * 1_000, now: () => member.at });
-  Object.assign(member, { board, hold: (drawop) => member.drawn.add(drawop), obey: (answer) => answer, wake: () => {}, begin: async () => { member.isReady = true; },
+  Object.assign(member, { board, hold: (drawop) => member.drawn.add(drawop), obey: (answer) => answer, wake: () => {}, mayPart: () => false, begin: async () => { member.isReady = true; },
     tick: async () => { ticks.push(member.at); }, send: (bytes) => { sent.push(hex(bytes)); return readDatagram(bytes); } });
   member.telling = new Telling(member, (name, news) => { member[name] = news; });
   member.people = new People(member);
@@ -253,6 +253,16 @@ async function testMoves() {
   check('it has moved', [present(), [X, Y].map((origin) => judging.heard.isMember(origin))], [[[9, null]], [false, true]]);
   await judging.leave(Y);
   check('it has left', [present(), judging.heard.isMember(Y)], [[], false]);
+}
+
+/** Nobody is nearer than here, though a clock gains. */
+async function testNear() {
+  const member = memberOf(), { judging, host, board } = member;
+  board.moment = member.at = 25;
+  member.says();
+  host.members(`9 ${wordOf(X)} 25 25`);
+  await heed(member, 'session-message 9 77 7/1 1@5+25', X);
+  check('it is as near as can be', judging.present().map(([, { delay }]) => delay), [0]);
 }
 
 /** The member tells its host other constants in the next turn, when a fourth other is heard, and when all are gone. */
@@ -448,7 +458,7 @@ async function testMembers() {
   check('by their numbers', [member.members.members.length, member.members.members.slice(-2)], [500, [{ member: 500, delay: null, heard: 0 }, { member: 900, delay: 0.002, heard: 0 }]]);
 }
 
-const TESTS = [testOrigins, testReports, testWarnings, testClash, testRefused, testRecord, testHeard, testMoves, testFollowed, testPatience, testTime, testRoom, testKeptCells, testWaiting, testNewPage, testLast, testPages, testHealth, testShowings, testMembers];
+const TESTS = [testOrigins, testReports, testWarnings, testClash, testRefused, testRecord, testHeard, testMoves, testNear, testFollowed, testPatience, testTime, testRoom, testKeptCells, testWaiting, testNewPage, testLast, testPages, testHealth, testShowings, testMembers];
 
 export async function testJudging() {
   for (const test of TESTS) await test();

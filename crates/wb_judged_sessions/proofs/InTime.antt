@@ -14,7 +14,7 @@ use Rattle.wb_judge.specs.declared.verdict.Why.{Why}
 use Rattle.wb_progress.specs.Turns.{Terms, settled_by}
 use Rattle.wb_member.specs.Judged.{is_full}
 use Rattle.wb_member.specs.Opened.{Opened}
-use Rattle.wb_keeping.specs.Laws.{Added, Came, KeptLine, Tuned, doing_of}
+use Rattle.wb_keeping.specs.Laws.{Added, Came, KeptLine, doing_of}
 use Rattle.wb_keeping.specs.Performing.{Keeping, due, sent_by_doing}
 use Rattle.wb_judging.specs.Echoing.{echoing}
 use Rattle.wb_judging.specs.Handing.{handed, handed_for, verdict_on}
@@ -327,7 +327,7 @@ module _ (numbers : ℕ → ℕ) (terms : Terms) (calls : List JudgedCallAt) (s 
     taken = taken_kept numbers calls s.taken;
     order = order_kept numbers calls s.order;
     covered = s.covered;
-    far = s.far;
+    delays = s.delays;
     fitting = λ i live. fit_kept numbers terms i calls (s.fitting i live);
     alone = λ newer older e split late. alone_kept newer older e split late;
     drawn = λ newer older e now page time op split late is. drawn_kept newer older e split late now page time op is;

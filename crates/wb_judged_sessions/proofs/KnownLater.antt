@@ -606,7 +606,7 @@ module _ (numbers : ℕ → ℕ) (origins : ℕ → ℕ → Origin) (terms : Ter
     taken = s.taken;
     order = s.order;
     covered = s.covered;
-    far = s.far;
+    delays = s.delays;
     fitting = s.fitting;
     alone = s.alone;
     drawn = s.drawn;
