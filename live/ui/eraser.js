@@ -14,11 +14,9 @@ import { placed, writeStroke } from './inkwriting.js';
 /** The items that were touched, and which parts of each, by the places of their first points.
  * @typedef {Map<Item, Set<number>>} Touched */
 
-/** Points of the screen that the eraser reaches. */
-const REACH = 7;
-
-/** @type {(view: import('./view.js').View) => number} in units */
-export const reachOf = (view) => REACH * (CELL_WIDE / view.wide);
+/** How far the hand reaches, in units.
+ * @type {(view: import('./view.js').View) => number} */
+export const reachOf = (view) => view.reach * (CELL_WIDE / view.wide);
 
 /** Takes note of what the eraser touches between two points.
  * @type {(gesture: Gesture, hand: Hand, from: Point, to: Point) => void} */

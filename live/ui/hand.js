@@ -20,8 +20,8 @@ import { TOOLS } from './tools.js';
  * @type {(cell: Cell) => Point} */
 export const middleOf = ({ x, y }) => ({ x: (x + 0.5) * CELL_WIDE, y: (y + 0.5) * CELL_HIGH });
 
-/** How a gesture begins or goes on: with Shift, and by a pen that tells its pressure.
- * @typedef {{ isShifted?: boolean, isPressed?: boolean }} How */
+/** How a gesture begins or goes on: with Shift, by a pen that tells its pressure, and with another tool than the one that is chosen.
+ * @typedef {{ isShifted?: boolean, isPressed?: boolean, tool?: string }} How */
 
 export class Hand {
   /** @param {import('./whiteboard.js').Whiteboard} board */
@@ -136,8 +136,8 @@ export class Hand {
   begin(cell, point, how = {}) {
     this.parts.sight.stay();
     this.parts.changing.settle();
-    this.gesture = Object.assign(this.gestureAt(cell, point), { isShifted: Boolean(how.isShifted) });
-    this.toolOf(this.tool).begin?.(this.gesture, this, how);
+    this.gesture = Object.assign(this.gestureAt(cell, point), { isShifted: Boolean(how.isShifted), tool: how.tool ?? this.tool });
+    this.toolOf(this.gesture.tool).begin?.(this.gesture, this, how);
     this.changed();
   }
 

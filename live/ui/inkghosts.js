@@ -37,7 +37,7 @@ export class InkGhosts {
     this.paintShapes(hand.ghosts(), me);
     if (gesture?.tool === 'select' && !gesture.isMove) this.paintBox(gesture.points[0], gesture.points[gesture.points.length - 1]);
     if (hand.cursor.on) this.painter.cells.paintPointer();
-    else if (hand.point && hand.tool === 'erase') this.paintRubber(hand.point);
+    else if (hand.point && (gesture?.tool ?? hand.tool) === 'erase') this.paintRubber(hand.point);
   }
 
   /** Shapes that are not held yet, as they will be.

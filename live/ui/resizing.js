@@ -10,12 +10,12 @@ import { placed, writeLink, writeShape, writeStroke, writeWords } from './inkwri
 /** @typedef {import('./types.js').Shape} Shape */
 /** @typedef {import('./ink.js').Point} Point */
 /** @typedef {import('./inkitems.js').Item} Item */
-/** A corner of the box, and the one opposite to it; or the grip by which it is turned, and the middle.
+/** A corner of the box, and the one opposite to it; or the grip that turns it, and the middle.
  * @typedef {{ at: Point, still: Point, isTurn?: boolean }} Grip */
 /** Where each point of the page comes to lie, and how many times as large it all becomes.
  * @typedef {{ to: (point: Point) => Point, times: number, isTurn?: boolean }} Stretch */
 
-/** Points of the screen within which a grip is taken, and from the box to the one by which it is turned. */
+/** Points of the screen within which a grip is taken, and from the box to the one that turns it. */
 const REACH = 16, ABOVE = 30;
 
 /** With Shift it is turned in steps of 15 degrees. */
@@ -28,7 +28,7 @@ const LEAST = 0.1;
  * @type {(items: Item[]) => import('./inkpaint.js').Box | null} */
 export const frameAbout = (items) => boxAboutAll(items, closeBoxOf);
 
-/** The corners of the box about some items, and above it the grip by which they are turned about their middle: none if there are no items.
+/** The corners of the box about some items, and above it the grip that turns them about their middle: none if there are no items.
  * @type {(items: Item[], point: number) => Grip[]} */
 export function gripsOf(items, point) {
   const box = frameAbout(items);

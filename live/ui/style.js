@@ -28,6 +28,8 @@ export class Style {
   constructor(board) {
     this.board = board;
     /** @type {Look} */
+    $('style-open').addEventListener('click', () => this.open(!$('style').classList.contains('open')));
+    $('sheet').addEventListener('pointerdown', () => this.open(false));
     this.look = { ...USUAL, ...JSON.parse(localStorage.getItem(KEPT) ?? '{}') };
   }
 
@@ -74,10 +76,27 @@ export class Style {
     return { rows, look, isMarker: items.every((item) => item.kind === 'h') };
   }
 
+  /** On a narrow window one button has the colour and the width, and opens the rows.
+   * @param {number} colour @param {any[][]} widths @param {number} width @param {boolean} isBright */
+  showButton(colour, widths, width, isBright) {
+    const button = $('style-open'), at = Math.max(0, widths.findIndex(([each]) => each === width));
+    button.style.setProperty('--c', isBright ? BRIGHT[colour] : this.tintOf(colour));
+    button.style.setProperty('--w', `${MARKS[at] + 7}px`);
+    button.setAttribute('aria-label', `Colour and width: ${COLOURS[colour]}, ${widths[at][1]}`);
+  }
+
+  /** Opens or closes the rows on a narrow window.
+   * @param {boolean} is */
+  open(is) {
+    $('style').classList.toggle('open', is);
+    $('style-open').setAttribute('aria-expanded', String(is));
+  }
+
   /** Shows what can be chosen. */
   show() {
     const { rows, look, isMarker } = this.offered(), bar = $('style'), isBright = this.isBright();
     bar.hidden = !rows.length && this.board.painter.isInk;
+    this.showButton(isBright ? look.bright : look.colour, isMarker ? BROAD : WIDTHS, isMarker ? look.broad : look.width, isBright);
     for (const row of ['colours', 'widths', 'fonts', 'looks']) bar.querySelector(`.${row}`).hidden = !rows.includes(row);
     bar.querySelector('.bar').hidden = rows.length < 2;
     /** @param {string} row @param {any[]} buttons */

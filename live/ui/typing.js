@@ -131,7 +131,8 @@ export class Typing {
    * @param {Letters} letters @param {string} page */
   drawLetters({ kind, colour, width, flag, points, was, old }, page) {
     const text = this.box.value.trimEnd(), look = { colour, width }, [at] = points, link = kind === 't' ? writeLink(look, at, text.trim()) : null;
-    if (old.length && text === was.trimEnd()) return;
+    // a note without letters is none
+    if ((old.length ? text === was.trimEnd() : kind === 'n' && !text)) return;
     const shape = kind === 'n' ? [at, this.cornerOf({ kind, colour, width, flag, points, was, old })] : points;
     const texts = link ? [link] : isClosed(kind) ? writeShape(kind, look, flag, shape, text) : writeWords(look, flag, at, text);
     this.board.hand.change(texts.map((each) => placed(each, 0)), old, { page, isAgain: old.length > 0 });

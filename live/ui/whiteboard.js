@@ -12,6 +12,7 @@ import { Hand, middleOf } from './hand.js';
 import { History, kindOf } from './history.js';
 import { itemAt } from './inkfind.js';
 import { reachOf } from './eraser.js';
+import { stayAbove } from './keyboard.js';
 import { keysOf } from './keymap.js';
 import { Keys } from './keys.js';
 import { Layout } from './layout.js';
@@ -224,6 +225,7 @@ export class Whiteboard {
     $('others-clear').addEventListener('change', () => this.session.member.clearing?.($('others-clear').checked));
     this.view.sheet.addEventListener('dblclick', (event) => this.edit(event));
     listenToClipboard(this.hand, () => this.place());
+    stayAbove(this);
     new Keys(this.view, this.hand, this.pointing, { keys, undo, redo, describe: (cell) => this.describe(cell) });
     this.painter.night.addEventListener('change', () => this.changeColours());
     new ResizeObserver(() => { this.view.resize(); this.follow.goAfter(); }).observe($('sheet'));
