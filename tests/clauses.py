@@ -91,7 +91,7 @@ def clause_of(edit: Path, goal: str, function: str, at: int, texts: dict[str, st
         fits = [it for it in all_found if it.name == wanted] if wanted else all_found if len(all_found) == 1 else []
         if fits:
             return fits[0]
-    return f"no clause {wanted or 'alone'} stands at {owner}: it is a trait's, or its goal is of another function"
+    return f"no clause {wanted or 'alone'} stands at {owner}: it is a trait's, or of another function, or its goal does not tell which"
 
 
 def answers_of(crate: Path, clause: Clause, function: str) -> list[Path]:
