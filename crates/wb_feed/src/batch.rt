@@ -90,6 +90,7 @@ pub fn run_batch<R: Threads + Wait + Sync, S: Arrivals, G: Gate + Sync>(
         → (desk.new ≡ desk.old) × (arrivals.new ≡ arrivals.old) }
     ensures started { result ≡ Err FeedFault.Start
         → (arrivals.new ≡ arrivals.old) × AddsNothing desk.old desk.new }
+    ensures arrived { (given : List DrawopValue) × S.gives arrivals.old given arrivals.new }
     ensures given { IfOk result (λ r. S.gives arrivals.old r.1.items arrivals.new) }
     ensures few { IfOk result
         (λ r. length r.1.items + S.most_to_come arrivals.new ≤ S.most_to_come arrivals.old) }
