@@ -32,7 +32,7 @@ use Rattle.wb_laws_kept.proofs.Steps.{kept_is_session}
 use Rattle.wb_laws_sessions.specs.Drawn.{drawn_at as drawn_by_steps, drawn_by as drawn_in_deed, new_where}
 use Rattle.wb_laws_sessions.specs.Sessions.{Does, Opens, Step, host_at, steps_then}
 use Rattle.wb_laws_sessions.proofs.Honest.{IsGiven, given_draws_none}
-use Rattle.wb_judged_sessions.specs.Sessions.{DrawsAsKept, JudgedCall, JudgedCallAt, Start, Starts, Takes, drawn_at, drawn_by, judged_at, kept_calls, kept_then, lines_then, plain_line, started}
+use Rattle.wb_judged_sessions.specs.Sessions.{DrawsAsKept, JudgedCall, JudgedCallAt, Start, Starts, Takes, Tunes, drawn_at, drawn_by, judged_at, kept_calls, kept_then, lines_then, plain_line, started}
 use Rattle.wb_judged_sessions.proofs.Kept.{at, judged_is_kept}
 
 -- ---- lines that draw nothing
@@ -183,6 +183,7 @@ module _ (numbers : ℕ → ℕ) (time place : ℕ) (h : Judged) (older : List C
       ∙ start_draws numbers time place start older i
       ∙ sym (if_none (nat_eq place i) [] drawn refl)
   call_draws (Takes line) = line_draws line
+  call_draws (Tunes constants) = nothing (Tuned constants) tt
 
 module _ (numbers : ℕ → ℕ) where
   one_call : (e : JudgedCallAt) (older : List JudgedCallAt) (i : ℕ) → drawn_at numbers older i ≡ drawn_by_steps numbers (steps_of numbers (kept_calls numbers older)) i

@@ -38,7 +38,7 @@ use Rattle.wb_judged_sessions.specs.Knowing.{HasRoom, IsKnownSince, is_heard_sin
 use Rattle.wb_judged_sessions.specs.Meeting.{HaveMet, again, answered, both_know, came_again, echo, one_knows, origin_of, reports, sent_again, terms, told_again}
 use Rattle.wb_judged_sessions.specs.Sessions.{JudgedCallAt, Starts, Takes, judged_at}
 use Rattle.wb_judged_sessions.specs.Terms.{AreTaken}
-use Rattle.wb_judged_sessions.specs.Timely.{AreFittingSince, AreInOrder, WasSentBy, called_at}
+use Rattle.wb_judged_sessions.specs.Timely.{AreFittingSince, AreInOrder, IsNoStart, WasSentBy, called_at}
 use Rattle.wb_judged_sessions.proofs.Staying.{known_since_earlier}
 
 -- ---- what they do
@@ -366,9 +366,7 @@ they_come = record {
   covered = omega arith;
   far = omega arith;
   fitting = by_place (λ i. AreFittingSince terms numbers i told_again) fit_0 fit_1;
-  alone = at_late (λ newer e older. terms.quiet < e.time → Contains terms.live e.place × ((line : Call) × (e.call ≡ Takes line))) (λ late. (live_1, (Passed 5000002 Nothing, refl)))
-      (λ late. (live_0, (CameFrom 5000001 (origin_of 1) again, refl)))
-      (λ late. (live_1, (Passed 5000000 Nothing, refl)))
+  alone = at_late (λ newer e older. terms.quiet < e.time → Contains terms.live e.place × IsNoStart e.call) (λ late. (live_1, tt)) (λ late. (live_0, tt)) (λ late. (live_1, tt))
       (λ newer e older le late. absurd (omega (arith, le, late)));
   drawn = λ newer older e now page op split.
       at_late (λ newer e older. terms.quiet < e.time → e.call ≢ Takes (UserDrew now page op)) (λ late same. absurd cc) (λ late same. absurd cc) (λ late same. absurd cc)

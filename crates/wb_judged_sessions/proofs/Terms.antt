@@ -3,14 +3,17 @@ use Rattle.std.proofs.Common.{◌≡◌, ◌≤◌, ℕ, Bool, true, false, cond
 use Rattle.std.specs.Prelude.{Contains, Option, Some, nat_eq}
 use Rattle.std.specs.Option.{option_map}
 use Rattle.std.proofs.lemmas.List.Elements.{Contains-append_left, Contains-append_right}
-use Rattle.wb_names.specs.Faults.{first_of}
+use Rattle.wb_names.specs.Faults.{fault_unless, first_of}
 use Rattle.wb_names.specs.Values.{DrawopValue}
 use Rattle.wb_names.specs.declared.name.PageId.{PageId}
 use Rattle.wb_names.specs.declared.parts.Op.{Op}
 use Rattle.wb_names.proofs.Listings.{Contains-here, Contains-none}
 use Rattle.wb_codec.specs.declared.datagram.Datagram.{Datagram}
 use Rattle.wb_codec.specs.declared.datagram.Datagram.TheVariants.{Draw}
+use Rattle.wb_recovery.specs.Timing.{are_constants}
+use Rattle.wb_recovery.specs.declared.tuning.Tuning.{Tuning}
 use Rattle.wb_member.specs.Opened.{Opened, last_number, present}
+use Rattle.wb_keeper.specs.declared.keep_fault.KeepFault.TheVariants.{Range}
 use Rattle.wb_judge.specs.Adding.{adding_fault}
 use Rattle.wb_judge.specs.Days.{time_of_day}
 use Rattle.wb_judge.specs.Judging.{draws}
@@ -18,6 +21,7 @@ use Rattle.wb_keeping.specs.Laws.{Added, AreTaken as AreKeptLinesTaken, Came, Ke
 use Rattle.wb_keeping.specs.Performing.{Keeping, after_doing}
 use Rattle.wb_keeping.specs.Refusing.{add_fault}
 use Rattle.wb_keeping.specs.declared.kept_fault.KeptFault.{KeptFault}
+use Rattle.wb_keeping.specs.declared.kept_fault.KeptFault.TheVariants.{Host}
 use Rattle.wb_judging.specs.Handing.{handed, recalled, verdict_on}
 use Rattle.wb_judging.specs.Judged.{Judged}
 use Rattle.wb_judging.specs.declared.call.Call.{Call}
@@ -38,7 +42,7 @@ use Rattle.wb_laws_kept.proofs.Steps.{kept_is_session}
 use Rattle.wb_laws_sessions.specs.Drawn.{WasHeld as HeldBySteps}
 use Rattle.wb_laws_sessions.specs.Sessions.{Step, host_at}
 use Rattle.wb_judged_sessions.specs.Laws.{JudgedKeepKeptTerms}
-use Rattle.wb_judged_sessions.specs.Sessions.{JudgedCall, JudgedCallAt, Start, Starts, Takes, WasHeld, after_call, judged_at, kept_calls, kept_then, lines_then, plain_line, started}
+use Rattle.wb_judged_sessions.specs.Sessions.{JudgedCall, JudgedCallAt, Start, Starts, Takes, Tunes, WasHeld, after_call, judged_at, kept_calls, kept_then, lines_then, plain_line, started}
 use Rattle.wb_judged_sessions.specs.Terms.{AreLinesTaken, AreTaken, DrawopsWereHeld, IsLineTaken, IsTaken, KnowTheirOwn, KnowsItsOwn, brought_by, came_in}
 use Rattle.wb_judged_sessions.proofs.Drawn.{DrawNone, DrawsNone, came_draws, draws_as_kept, plain_draws, record_draws}
 use Rattle.wb_judged_sessions.proofs.Kept.{at, calls_split, judged_is_kept}
@@ -57,6 +61,7 @@ own_through (line ∷ lines) h own = own_through lines (after_judged line h) (ow
 call_own : (call : JudgedCall) (h : Judged) → IsOwn h → IsOwn (after_call call h)
 call_own (Starts start given) h own = own_through (map Held given) (started h.kept.host.is.number start) refl
 call_own (Takes line) h own = own_stays line h own
+call_own (Tunes constants) h own = own
 
 own_if : (b : Bool) (one other : Judged) → IsOwn one → IsOwn other → IsOwn (cond b one other)
 own_if true one other a c = a
@@ -106,6 +111,9 @@ module _ (numbers : ℕ → ℕ) (time place : ℕ) where
       ap (λ (k : Keeping). opened k.host.is.number start.opening) same
       ∙ ap (λ (b : Bool). cond b (opened (kept_at numbers older place).host.is.number start.opening) (kept_at numbers older place)) (sym (eq-eqb place place refl))
 
+  in_range : (constants : Tuning) (k : Keeping) → are_constants constants ≡ true → fault_of (Tuned constants) k ≡ None
+  in_range constants k is = ap (λ (b : Bool). fault_unless b (Host Range)) is
+
   call_taken : (call : JudgedCall) (h : Judged) (older : List CallAt) → h.kept ≡ kept_at numbers older place → IsOwn h → IsTaken call h → AreKeptTaken numbers older
       → AreKeptTaken numbers (kept_then time place call h older)
   call_taken (Starts start given) h older same own taken rest =
@@ -115,6 +123,7 @@ module _ (numbers : ℕ → ℕ) (time place : ℕ) where
   call_taken (Takes line) h older same own taken rest =
       lines_taken (plain_line (handed line h) ∷ []) older
       (plain_fault (handed line h) (kept_at numbers older place) ∙ subst (λ (k : Keeping). fault_of (handed line h) k ≡ None) same (fault_none line h own taken), tt) rest
+  call_taken (Tunes constants) h older same own taken rest = lines_taken (Tuned constants ∷ []) older (in_range constants (kept_at numbers older place) taken, tt) rest
 
 -- ---- what comes was held
 
@@ -204,6 +213,7 @@ module _ (numbers : ℕ → ℕ) (time place : ℕ) where
       (begun_held start older, rest)
   call_held (Takes line) h older were rest =
       (came_held (plain_line (handed line h)) older (λ d c. were d (subst (λ (ds : List DrawopValue). Contains ds d) (plain_came (handed line h)) c)), rest)
+  call_held (Tunes constants) h older were rest = (came_held (Tuned constants) older were, rest)
 
   -- ---- members know their own numbers
 
@@ -244,6 +254,7 @@ module _ (numbers : ℕ → ℕ) (time place : ℕ) where
       lines_know (expanded (map Held given) first) (begins numbers time place start ∷ older) (record_draws given first) (knows_for (Begins start.opening []) older tt, rest)
   call_know (Takes line) h older knows rest =
       (knows_for (Handed (plain_line (handed line h))) older (line_know line h older knows), rest)
+  call_know (Tunes constants) h older knows rest = (knows_for (Handed (Tuned constants)) older tt, rest)
 
 module _ (numbers : ℕ → ℕ) where
   pub knows_kept : (older : List JudgedCallAt) (place : ℕ) (page : PageId) → KnowsItsOwn numbers older place page → KeptKnowsItsOwn numbers (kept_calls numbers older) place page

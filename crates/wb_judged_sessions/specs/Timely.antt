@@ -29,7 +29,7 @@ use Rattle.wb_kept_progress.specs.Filling.{OnlyHolesAreLacked, filled_by}
 use Rattle.wb_kept_progress.specs.Rounds.{OneLacksAtMost, PlacesAreFilled, rounds_by}
 use Rattle.wb_kept_progress.specs.Since.{IsTimelyWithStarts, hosts_of, since}
 use Rattle.wb_kept_progress.specs.Whole.{AreSoon, AreWithin, HolesAreHeld, IsHeldBySome, LackAtMost, NewAreKept, ReportWithin, Sizes, WaitAtMost, minute, request_span, whole_by}
-use Rattle.wb_judged_sessions.specs.Sessions.{JudgedCall, JudgedCallAt, Starts, Takes, judged_at, kept_calls}
+use Rattle.wb_judged_sessions.specs.Sessions.{JudgedCall, JudgedCallAt, Starts, Takes, Tunes, judged_at, kept_calls}
 use Rattle.wb_judged_sessions.specs.Terms.{AreTaken, IsSession}
 
 -- ---- what they keep to
@@ -44,12 +44,19 @@ AreInOrder [] = Unit {0}
 AreInOrder (e ∷ older) = (called_at older ≤ e.time) × AreInOrder older
 
 -- The last start was at `quiet` or before, at a moment that the clock may tell then, and with such constants. Each line since then says a moment of
--- its time.
+-- its time, and constants that are set have no longer waits than the terms say.
 abbrev pub IsFittingSince : Terms → ℕ → ℕ → Bool → ℕ → JudgedCall → Judged → Type 0 → Type 0
 IsFittingSince terms number place false time call h before = before
 IsFittingSince terms number place true time (Starts start given) h before =
     (time ≤ terms.quiet) × IsNowAt terms time place (present (opened_host number start.opening)) × IsUnder (longest terms) start.opening.constants
 IsFittingSince terms number place true time (Takes line) h before = IsNowAt terms time place (moment_of line h) × before
+IsFittingSince terms number place true time (Tunes constants) h before = IsUnder (longest terms) constants × before
+
+-- The program does not start by a call.
+abbrev pub IsNoStart : JudgedCall → Type 0
+IsNoStart (Starts start given) = ⊥
+IsNoStart (Takes line) = Unit {0}
+IsNoStart (Tunes constants) = Unit {0}
 
 abbrev pub AreFittingSince : Terms → (ℕ → ℕ) → ℕ → List JudgedCallAt → Type 0
 AreFittingSince terms numbers place [] = ⊥
@@ -92,7 +99,7 @@ pub record IsTimelyBy (Arrived : (newer base : List JudgedCallAt) (i j by : ℕ)
   pub covered : terms.drift ≤ terms.late
   pub far : MOST_DELAY ≤ terms.far
   pub fitting : (i : ℕ) → Contains terms.live i → AreFittingSince terms numbers i calls
-  pub alone : (newer older : List JudgedCallAt) (e : JudgedCallAt) → calls ≡ newer ++ e ∷ older → terms.quiet < e.time → Contains terms.live e.place × ((line : Call) × (e.call ≡ Takes line))
+  pub alone : (newer older : List JudgedCallAt) (e : JudgedCallAt) → calls ≡ newer ++ e ∷ older → terms.quiet < e.time → Contains terms.live e.place × IsNoStart e.call
   pub drawn : (newer older : List JudgedCallAt) (e : JudgedCallAt) (now : ℕ) (page : PageId) (op : Op) → calls ≡ newer ++ e ∷ older → terms.quiet < e.time → e.call ≢ Takes (UserDrew now page op)
   pub recalled : (newer older : List JudgedCallAt) (e : JudgedCallAt) (line : RecordLine) → calls ≡ newer ++ e ∷ older → terms.quiet < e.time → e.call ≢ Takes (Held line)
   pub soon : (newer older : List JudgedCallAt) (e : JudgedCallAt) (i : ℕ) → calls ≡ newer ++ e ∷ older → Contains terms.live i → terms.quiet < e.time
