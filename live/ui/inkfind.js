@@ -2,7 +2,7 @@
 import { isClosed, isStroke } from './ink.js';
 import { off } from './inkcurves.js';
 import { isLetters } from './inkfonts.js';
-import { boxOf } from './inkpaint.js';
+import { boxOf, overlap } from './inkpaint.js';
 import { WIDTHS } from './inksigns.js';
 
 /** @typedef {import('./ink.js').Point} Point */
@@ -14,9 +14,6 @@ const BORDER = 200, BESIDE = 400;
 
 /** Items that lie up to this many units beyond a rectangle are within it still. */
 const BEYOND = 40;
-
-/** @type {(a: Box, b: Box) => boolean} */
-const overlap = (a, b) => a.x0 <= b.x1 && a.x1 >= b.x0 && a.y0 <= b.y1 && a.y1 >= b.y0;
 
 /** Whether an item can leave a mark in a box: what is only about it does not.
  * @type {(item: Item, box: Box) => boolean} */
@@ -30,10 +27,6 @@ export function meets(item, box) {
   }
   return true;
 }
-
-/** The items that can leave a mark in a box, in the order of painting.
- * @type {(items: Item[], box: Box) => Item[]} */
-export const itemsIn = (items, box) => items.filter((item) => meets(item, box));
 
 /** The items that lie in a rectangle as a whole.
  * @type {(items: Item[], from: Point, to: Point) => Item[]} */
@@ -81,6 +74,6 @@ function strokesAt({ kind, points }, at, by) {
   return [...found];
 }
 
-/** The item on top at a point.
+/** The item on top of a few at a point.
  * @type {(items: Item[], at: Point, near: number) => Item | undefined} */
 export const itemAt = (items, at, near) => items.findLast((item) => partsAt(item, at, near).length > 0);

@@ -19,6 +19,9 @@ const BROAD = 2.4, THIN = 0.45;
 /** How much of its colour the inside of a tinted shape has, and of a note by day and by night. */
 const TINT = 0.22, NOTE = { day: 0.42, night: 0.3 };
 
+/** @type {(a: Box, b: Box) => boolean} */
+export const overlap = (a, b) => a.x0 <= b.x1 && a.x1 >= b.x0 && a.y0 <= b.y1 && a.y1 >= b.y0;
+
 /** @type {WeakMap<Item, Path2D[]>} */
 const known = new WeakMap();
 

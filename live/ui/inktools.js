@@ -116,7 +116,7 @@ function take(gesture, hand, { isShifted }) {
     Object.assign(gesture, { grip, isMove: true });
     return;
   }
-  const item = itemAt(ink.items, gesture.points[0], reachOf(view)), names = item ? item.drawings.map(nameOf) : [];
+  const item = ink.grid.itemAt(gesture.points[0], reachOf(view)), names = item ? item.drawings.map(nameOf) : [];
   const isTaken = names.length > 0 && hand.selection.has(names[0]);
   if (!isTaken && !isShifted) hand.selection.clear();
   names.forEach((name) => (isTaken && isShifted ? hand.selection.delete(name) : hand.selection.add(name)));

@@ -8,7 +8,6 @@ import { Files } from './files.js';
 import { FilmBar } from './film.js';
 import { Follow } from './follow.js';
 import { Hand, middleOf } from './hand.js';
-import { itemAt } from './inkfind.js';
 import { reachOf } from './eraser.js';
 import { keysOf } from './keymap.js';
 import { Keys } from './keys.js';
@@ -89,7 +88,7 @@ export class Whiteboard {
   describe(cell) {
     const { session, layout, ink } = this, place = `${cell.x}, ${cell.y}`;
     if (this.painter.isInk) {
-      const item = itemAt(ink.items, middleOf(cell), reachOf(this.view));
+      const item = ink.grid.itemAt(middleOf(cell), reachOf(this.view));
       return item ? `${place}   ${kindOf(item.drawings[0])} by ${session.who(item.source)}` : place;
     }
     const drawing = this.hand.tool === 'restore' ? layout.hiddenAt(cell) : layout.drawingAt(cell);
@@ -100,7 +99,7 @@ export class Whiteboard {
   under() {
     const { hand, ink, session } = this, cell = hand.at(), { gesture, point } = hand;
     if (this.painter.isInk) {
-      const item = point && !gesture ? itemAt(ink.items, point, reachOf(this.view)) : undefined;
+      const item = point && !gesture ? ink.grid.itemAt(point, reachOf(this.view)) : undefined;
       return item ? `${session.who(item.source)}, ${when(item.drawings[0].time)}` : '';
     }
     const size = gesture ? `   ${Math.abs(gesture.to.x - gesture.from.x) + 1} by ${Math.abs(gesture.to.y - gesture.from.y) + 1}` : '';
@@ -188,7 +187,7 @@ export class Whiteboard {
    * @param {MouseEvent} event */
   edit(event) {
     if (!this.painter.isInk || event.target instanceof HTMLTextAreaElement || !['select', 'text'].includes(this.hand.tool)) return;
-    const item = itemAt(this.ink.items, this.view.pointAt(event), reachOf(this.view));
+    const item = this.ink.grid.itemAt(this.view.pointAt(event), reachOf(this.view));
     if (item && ['t', 'n', 'r', 'o', 'd'].includes(item.kind)) this.typing.edit(item);
   }
 
